@@ -10,15 +10,16 @@ use Rattle.arm_decode.specs.declared.action.Action.TheVariants as action
 use Rattle.arm_decode.specs.declared.action.BlockTransfer.{BlockTransfer}
 use Rattle.arm_decode.specs.declared.address.BlockMode.{BlockMode}
 use Rattle.arm_decode.specs.declared.address.BlockMode.TheVariants.{DecrementAfter, IncrementAfter, DecrementBefore, IncrementBefore}
-use Rattle.arm_step.specs.declared.psr.Mode.{Mode}
-use Rattle.arm_step.specs.State.{State, IsCore, register_in}
-use Rattle.arm_step.specs.Effect.{advanced, plain_operand}
+use Rattle.arm_core.specs.declared.psr.Mode.{Mode}
+use Rattle.arm_core.specs.State.{State, IsCore, register_in}
+use Rattle.arm_core.specs.Effect.{advanced, plain_operand}
 use Rattle.arm_step.specs.Words.{words_at, with_words}
-use Rattle.arm_step.specs.Blocks.{listed_below, listed, lowest, stepped_base, block_size, block_start, block_base, bank_of, with_block_base, with_loaded, with_block_status, block_loaded, stores_new_base, block_value, block_values, block_stored, block_transferred}
+use Rattle.arm_core.specs.Listed.{listed_below, listed}
+use Rattle.arm_step.specs.Blocks.{lowest, stepped_base, block_size, block_start, block_base, bank_of, with_block_base, with_loaded, with_block_status, block_loaded, stores_new_base, block_value, block_values, block_stored, block_transferred}
 use Rattle.arm_step.specs.Step.{acted, or_fault}
 use Rattle.arm_step.specs.Back.{PutsAway, opposite, brought_back, ComesBack}
-use Rattle.arm_step.proofs.Listing.{few_of_all}
-use Rattle.arm_step.proofs.OperandWords.{is_word}
+use Rattle.arm_core.proofs.Listing.{few_of_all}
+use Rattle.arm_core.proofs.OperandWords.{is_word}
 use Rattle.arm_step.proofs.Restoring.{placed, same_read, size_kept, no_pc, and_false}
 
 -- a byte below the words keeps its value

@@ -12,10 +12,10 @@ use Rattle.arm_decode.specs.declared.action.Action.TheVariants as action
 use Rattle.arm_decode.specs.declared.action.Transfer.{Transfer}
 use Rattle.arm_decode.specs.declared.action.BlockTransfer.{BlockTransfer}
 use Rattle.arm_decode.specs.declared.condition.Condition.{Condition}
-use Rattle.arm_step.specs.declared.turn.Turn.{Turn}
-use Rattle.arm_step.specs.Conditions.{holds}
-use Rattle.arm_step.specs.State.{State}
-use Rattle.arm_step.specs.Effect.{advanced}
+use Rattle.arm_core.specs.declared.turn.Turn.{Turn}
+use Rattle.arm_core.specs.Conditions.{holds}
+use Rattle.arm_core.specs.State.{State}
+use Rattle.arm_core.specs.Effect.{advanced}
 use Rattle.arm_step.specs.Words.{are_free, are_mapped, with_words, words_stored}
 use Rattle.arm_step.specs.Transfers.{loaded, stored, transferred, value_stored, transfer_address}
 use Rattle.arm_step.specs.Blocks.{block_loaded, block_stored, block_transferred, block_start, block_values}

@@ -7,14 +7,15 @@ use Rattle.address_map.specs.Bytes.{Bytes, word_at}
 use Rattle.arm_decode.specs.declared.action.BlockTransfer.{BlockTransfer}
 use Rattle.arm_decode.specs.declared.address.BlockMode.{BlockMode}
 use Rattle.arm_decode.specs.declared.address.BlockMode.TheVariants.{DecrementAfter, IncrementAfter, DecrementBefore, IncrementBefore}
-use Rattle.arm_step.specs.declared.psr.Mode.{Mode}
-use Rattle.arm_step.specs.State.{State, IsCore, register_in}
-use Rattle.arm_step.specs.Effect.{advanced, plain_operand, with_result}
+use Rattle.arm_core.specs.declared.psr.Mode.{Mode}
+use Rattle.arm_core.specs.State.{State, IsCore, register_in}
+use Rattle.arm_core.specs.Effect.{advanced, plain_operand, with_result}
 use Rattle.arm_step.specs.Words.{words_at, with_words}
-use Rattle.arm_step.specs.Blocks.{listed_below, listed, stepped_base, block_size, block_start, block_base, bank_of, with_block_base, with_loaded, with_status_if, with_block_status, block_value, block_values}
+use Rattle.arm_core.specs.Listed.{listed_below, listed}
+use Rattle.arm_step.specs.Blocks.{stepped_base, block_size, block_start, block_base, bank_of, with_block_base, with_loaded, with_status_if, with_block_status, block_value, block_values}
 use Rattle.arm_step.specs.BlockOrder.{LoadsInOrder, StoresInOrder}
 use Rattle.arm_step.proofs.Back.{AreWords, words_back, store_left, load_left}
-use Rattle.arm_step.proofs.OperandWords.{status_word}
+use Rattle.arm_core.proofs.OperandWords.{status_word}
 use Rattle.arm_step.proofs.Restoring.{placed, size_kept}
 
 -- one word more, and the words of the registers so far

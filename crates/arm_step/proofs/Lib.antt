@@ -1,12 +1,8 @@
 pub mod Back
-pub mod Comparing
-pub mod InOrder
-pub mod OperandWords
 pub mod Framing
-pub mod Listing
-pub mod Lowest
+pub mod InOrder
+pub mod PageBlocks
 pub mod PageWords
-pub mod RegisterWords
+pub mod Placing
 pub mod Restoring
 pub mod SeveralWords
-pub mod Turning

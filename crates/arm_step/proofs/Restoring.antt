@@ -3,11 +3,12 @@ use Rattle.std.proofs.Common.{◌≡◌, ◌≢◌, ℕ, zero, suc, ◌+◌, ◌
 use Rattle.std.proofs.Math.ListN.{length-set}
 use Rattle.std.proofs.lemmas.Bool.Decides.{nat_tests}
 use Rattle.profile.specs.Word.{bit_of}
-use Rattle.arm_step.specs.declared.psr.Mode.{Mode}
-use Rattle.arm_step.specs.declared.psr.Mode.TheVariants.{User, FastInterrupt, Interrupt, Supervisor}
-use Rattle.arm_step.specs.State.{State, slot_of, register_in, with_register_in, with_pc}
-use Rattle.arm_step.specs.Effect.{with_result_in}
-use Rattle.arm_step.specs.Blocks.{listed_below, with_loaded}
+use Rattle.arm_core.specs.declared.psr.Mode.{Mode}
+use Rattle.arm_core.specs.declared.psr.Mode.TheVariants.{User, FastInterrupt, Interrupt, Supervisor}
+use Rattle.arm_core.specs.State.{State, slot_of, register_in, with_register_in, with_pc}
+use Rattle.arm_core.specs.Effect.{with_result_in}
+use Rattle.arm_core.specs.Listed.{listed_below}
+use Rattle.arm_step.specs.Blocks.{with_loaded}
 
 not_below : (q k : ℕ) → nat_lt q k ≡ false → k ≤ q
 not_below q k e = grind (arith, nat_tests)

@@ -7,7 +7,7 @@ use Rattle.arm_decode.specs.declared.action.Action.TheVariants as action
 use Rattle.arm_decode.specs.declared.action.BlockTransfer.{BlockTransfer}
 use Rattle.arm_decode.specs.declared.address.BlockMode.{BlockMode}
 use Rattle.arm_decode.specs.declared.address.BlockMode.TheVariants.{DecrementAfter, IncrementAfter, DecrementBefore, IncrementBefore}
-use Rattle.arm_step.specs.State.{State, IsCore, register_in}
+use Rattle.arm_core.specs.State.{State, IsCore, register_in}
 use Rattle.arm_step.specs.Step.{acted}
 
 -- STM with `!` and without S, whose list has neither its base nor R15.

@@ -7,8 +7,9 @@ use Rattle.arm_decode.specs.declared.action.Action.TheVariants as action
 use Rattle.arm_decode.specs.declared.action.BlockTransfer.{BlockTransfer}
 use Rattle.arm_decode.specs.declared.address.BlockMode.{BlockMode}
 use Rattle.arm_decode.specs.declared.address.BlockMode.TheVariants.{DecrementAfter, IncrementAfter, DecrementBefore, IncrementBefore}
-use Rattle.arm_step.specs.Blocks.{listed_below, listed, lowest, block_size, block_start, bank_of, block_value}
-use Rattle.arm_step.specs.State.{State, IsCore, register_in}
+use Rattle.arm_core.specs.Listed.{listed_below, listed}
+use Rattle.arm_step.specs.Blocks.{lowest, block_size, block_start, bank_of, block_value}
+use Rattle.arm_core.specs.State.{State, IsCore, register_in}
 use Rattle.arm_step.specs.Step.{acted}
 use Rattle.arm_step.specs.Words.{words_at}
 

@@ -1,5 +1,5 @@
 -- LDM and STM (ARM2 data sheet, "Block data transfer"). Which base is stored, and that a fault moves nothing, are this project's choice.
-use Rattle.std.specs.Prelude.{ℕ, zero, suc, ◌++◌, Bool, not, ◌&&◌, ◌+◌, ◌-◌, ◌*◌, ◌%◌, ◌^◌, ◌==◌, if◌then◌else◌, List, [], ◌∷◌, length, map, slice_get, Option, Some, None, Result, Ok}
+use Rattle.std.specs.Prelude.{ℕ, Bool, not, ◌&&◌, ◌+◌, ◌-◌, ◌*◌, ◌%◌, ◌^◌, ◌==◌, if◌then◌else◌, List, [], ◌∷◌, length, map, slice_get, Option, Some, None, Result, Ok}
 use Rattle.profile.specs.Outcome.{bind}
 use Rattle.profile.specs.Word.{bit_of}
 use Rattle.profile.specs.declared.fault.Fault.{Fault}
@@ -7,19 +7,12 @@ use Rattle.address_map.specs.Bytes.{Bytes, word_start}
 use Rattle.arm_decode.specs.declared.action.BlockTransfer.{BlockTransfer}
 use Rattle.arm_decode.specs.declared.address.BlockMode.{BlockMode}
 use Rattle.arm_decode.specs.declared.address.BlockMode.TheVariants.{DecrementAfter, IncrementAfter, DecrementBefore, IncrementBefore}
-use Rattle.arm_step.specs.declared.psr.Mode.{Mode}
-use Rattle.arm_step.specs.declared.psr.Mode.TheVariants.{User}
-use Rattle.arm_step.specs.State.{State}
-use Rattle.arm_step.specs.Effect.{advanced, plain_operand, status_operand, with_result, with_result_in, with_status}
+use Rattle.arm_core.specs.declared.psr.Mode.{Mode}
+use Rattle.arm_core.specs.declared.psr.Mode.TheVariants.{User}
+use Rattle.arm_core.specs.Listed.{listed}
+use Rattle.arm_core.specs.State.{State}
+use Rattle.arm_core.specs.Effect.{advanced, plain_operand, status_operand, with_result, with_result_in, with_status}
 use Rattle.arm_step.specs.Words.{words_loaded, words_stored}
-
--- The registers of a list below a number, lowest first; all of them.
-unfoldable pub listed_below : ℕ → ℕ → List ℕ
-listed_below zero list = []
-listed_below (suc n) list = listed_below n list ++ (if bit_of list n then n ∷ [] else [])
-
-unfoldable pub listed : ℕ → List ℕ
-listed list = listed_below 16 list
 
 -- The lowest address, with the base and the number of registers; its bits 1 and 0 are ignored.
 abbrev pub lowest : BlockMode → ℕ → ℕ → ℕ

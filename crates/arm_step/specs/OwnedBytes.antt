@@ -1,7 +1,7 @@
 -- No instruction writes to the bytes that the store calls keep their records in.
 use Rattle.std.specs.Prelude.{◌≡◌, ◌<◌, ◌+◌, ◌%◌, ℕ, Bool, true, Ok}
 use Rattle.address_map.specs.Bytes.{Bytes}
-use Rattle.arm_step.specs.State.{State}
+use Rattle.arm_core.specs.State.{State}
 use Rattle.arm_step.specs.Step.{stepped}
 
 -- The four bytes of a word are owned together.

@@ -12,12 +12,12 @@ use Rattle.arm_decode.specs.declared.action.Multiply.{Multiply}
 use Rattle.arm_decode.specs.declared.action.Operate.{Operate}
 use Rattle.arm_decode.specs.declared.address.Address.{Address}
 use Rattle.arm_decode.specs.declared.condition.Condition.{Condition}
-use Rattle.arm_step.specs.declared.turn.Turn.{Turn}
-use Rattle.arm_step.specs.declared.turn.Turn.TheVariants as turn
-use Rattle.arm_step.specs.Conditions.{holds}
-use Rattle.arm_step.specs.State.{State}
-use Rattle.arm_step.specs.Effect.{advanced}
-use Rattle.arm_step.specs.Operate.{operated, multiplied, branched}
+use Rattle.arm_core.specs.declared.turn.Turn.{Turn}
+use Rattle.arm_core.specs.declared.turn.Turn.TheVariants as turn
+use Rattle.arm_core.specs.Conditions.{holds}
+use Rattle.arm_core.specs.State.{State}
+use Rattle.arm_core.specs.Effect.{advanced}
+use Rattle.arm_core.specs.Operate.{operated, multiplied, branched}
 use Rattle.arm_step.specs.Transfers.{transferred}
 use Rattle.arm_step.specs.Blocks.{block_transferred}
 

@@ -2,7 +2,7 @@
 use Rattle.std.specs.Prelude.{ℕ, Bool, Option, Some, None, if◌then◌else◌}
 use Rattle.arm_decode.specs.declared.action.BlockTransfer.{BlockTransfer}
 use Rattle.arm_step.specs.Blocks.{stores_new_base, block_base}
-use Rattle.arm_step.specs.State.{State}
+use Rattle.arm_core.specs.State.{State}
 
 abbrev pub changed_base : State → BlockTransfer → Option ℕ
 changed_base s t = if stores_new_base t then Some (block_base s t) else None

@@ -13,9 +13,9 @@ use Rattle.arm_decode.specs.declared.address.Indexing.{Indexing}
 use Rattle.arm_decode.specs.declared.address.Indexing.TheVariants.{Pre, Post}
 use Rattle.arm_decode.specs.declared.address.Offset.{Offset}
 use Rattle.arm_decode.specs.declared.address.Offset.TheVariants as offset
-use Rattle.arm_step.specs.State.{State}
-use Rattle.arm_step.specs.Effect.{advanced, plain_operand, status_operand, with_result}
-use Rattle.arm_step.specs.Operand.{shifted_register}
+use Rattle.arm_core.specs.State.{State}
+use Rattle.arm_core.specs.Effect.{advanced, plain_operand, status_operand, with_result}
+use Rattle.arm_core.specs.Operand.{shifted_register}
 
 abbrev pub offset_of : State → Offset → ℕ
 offset_of s (offset.Immediate n) = n

@@ -8,10 +8,11 @@ ghost use Rattle.arm_decode.specs.Fields.{operate_in, multiply_in};
 ghost use Rattle.arm_step.specs.Step.{or_fault, acted_if_decoded, Operates, Multiplies, acted_at, acted_on_block, executed, stepped};
 ghost use Rattle.profile.specs.Outcome.{Leaves};
 
-use crate::condition::is_met;
-use crate::cpu::Cpu;
-use crate::turn::Turn;
+use crate::block::transfer_block;
+use crate::transfer::transfer_one;
 use address_map::AddressMap;
+use arm_core::condition::is_met;
+use arm_core::{Cpu, Turn};
 use arm_decode::{
     Address, Bits, BlockTransfer, Condition, Form, Multiply, Offset, Operand, Operate,
     ShiftedRegister, Transfer, row_of,
@@ -24,8 +25,8 @@ use profile::word::is_bit_set;
 ///
 /// The turn is the first of these that applies: the gate; a fetch where nothing is mapped; nothing
 /// done, where the condition fails; a word that is refused; a software interrupt;
-/// `AddressException`, `DataUnmapped`, `OwnedWord`, each over all words of the transfer. All but `Done` leave core and
-/// memory as they were.
+/// `AddressException`, `DataUnmapped`, `OwnedWord`, each over all words of the transfer. All but
+/// `Done` leave core and memory as they were.
 #[tactic(auto, unfolding(crate::specs::Step::stepped))]
 #[inline(always)]
 pub fn step(cpu: &mut Cpu, memory: &mut AddressMap) -> Turn
@@ -33,155 +34,154 @@ pub fn step(cpu: &mut Cpu, memory: &mut AddressMap) -> Turn
         (stepped (is_owned memory.old) cpu.old (bytes_of memory.old)) result (cpu.new, bytes_of memory.new) }
     ensures layout { layout memory.new ≡ layout memory.old }
     ensures marks { class_of memory.new ≡ class_of memory.old }
-    ensures unchanged { result ≢ Turn.Done → (cpu.new ≡ cpu.old) × (bytes_of memory.new ≡ bytes_of memory.old) }
+    ensures unchanged { result ≢ Turn.Done →
+        (cpu.new ≡ cpu.old) × (bytes_of memory.new ≡ bytes_of memory.old) }
 {
     let pc = cpu.pc();
     if pc == RETURN_GATE {
         return Turn::Gate;
     }
     match memory.fetch_word(pc) {
-        Ok(word) => cpu.execute(memory, word),
+        Ok(word) => execute(cpu, memory, word),
         Err(_) => Turn::Fault(Fault::FetchUnmapped),
     }
 }
 
-impl Cpu {
-    /// Carries out a word where its condition holds, and else goes on to the next.
-    #[inline(always)]
-    fn execute(&mut self, memory: &mut AddressMap, word: u32) -> Turn
-        ensures turn { let executed = executed (is_owned memory.old) self.old (bytes_of memory.old) word in
-            Turns (self.old, bytes_of memory.old) executed result (self.new, bytes_of memory.new) }
-        ensures layout { layout memory.new ≡ layout memory.old }
-        ensures marks { class_of memory.new ≡ class_of memory.old }
-    {
-        if !is_met(Condition::in_word(word), self.psr()) {
-            self.advance();
-            return Turn::Done;
+/// Carries out a word where its condition holds, and else goes on to the next.
+#[inline(always)]
+fn execute(cpu: &mut Cpu, memory: &mut AddressMap, word: u32) -> Turn
+    ensures turn { let executed = executed (is_owned memory.old) cpu.old (bytes_of memory.old) word in
+        Turns (cpu.old, bytes_of memory.old) executed result (cpu.new, bytes_of memory.new) }
+    ensures layout { layout memory.new ≡ layout memory.old }
+    ensures marks { class_of memory.new ≡ class_of memory.old }
+{
+    if !is_met(Condition::in_word(word), cpu.psr()) {
+        cpu.advance();
+        return Turn::Done;
+    }
+    match execute_always(cpu, memory, word) {
+        Ok(()) => Turn::Done,
+        Err(turn) => turn,
+    }
+}
+
+/// Carries out a word whose condition holds. Each form reads the fields that it needs from
+/// the word; no instruction is built and copied.
+#[tactic(auto, unfolding(crate::specs::Step::acted, arm_decode::specs::Decoded::decoded))]
+#[inline(always)]
+fn execute_always(cpu: &mut Cpu, memory: &mut AddressMap, word: u32) -> Result<(), Turn>
+    ensures state { let acted = acted_if_decoded (is_owned memory.old) cpu.old (bytes_of memory.old)
+        (decoded word) in
+        Leaves (cpu.old, bytes_of memory.old) acted result (cpu.new, bytes_of memory.new) }
+    ensures layout { layout memory.new ≡ layout memory.old }
+    ensures marks { class_of memory.new ≡ class_of memory.old }
+{
+    match row_of(word)? {
+        Form::Multiply => multiply_word(cpu, word)?,
+        Form::ShiftByNumber => {
+            let second = Operand::Shifted(ShiftedRegister::in_word(word));
+            operate_word(cpu, second, word)?;
         }
-        match self.execute_always(memory, word) {
-            Ok(()) => Turn::Done,
-            Err(turn) => turn,
+        Form::ShiftByRegister => operate_word(cpu, Operand::by_register_in(word), word)?,
+        Form::Immediate => operate_word(cpu, Operand::immediate_in(word), word)?,
+        Form::OffsetByNumber => {
+            let offset = Offset::Immediate(Bits::in_word(word, 0));
+            transfer_word(cpu, memory, Address::in_word(offset, word), word)?;
+        }
+        Form::OffsetByRegister => {
+            let offset = Offset::Shifted(ShiftedRegister::in_word(word));
+            transfer_word(cpu, memory, Address::in_word(offset, word), word)?;
+        }
+        Form::BlockTransfer => transfer_block_word(cpu, memory, word)?,
+        Form::Branch => {
+            let distance: Bits<24> = Bits::in_word(word, 0);
+            cpu.branch(is_bit_set(word, 24), distance.number());
+        }
+        Form::SoftwareInterrupt => {
+            let number: Bits<24> = Bits::in_word(word, 0);
+            return Err(Turn::Swi(number.number()));
         }
     }
+    Ok(())
+}
 
-    /// Carries out a word whose condition holds. Each form reads the fields that it needs from
-    /// the word; no instruction is built and copied.
-    #[tactic(auto, unfolding(crate::specs::Step::acted, arm_decode::specs::Decoded::decoded))]
-    #[inline(always)]
-    fn execute_always(&mut self, memory: &mut AddressMap, word: u32) -> Result<(), Turn>
-        ensures state { let acted = acted_if_decoded (is_owned memory.old) self.old (bytes_of memory.old)
-            (decoded word) in
-            Leaves (self.old, bytes_of memory.old) acted result (self.new, bytes_of memory.new) }
-        ensures layout { layout memory.new ≡ layout memory.old }
-        ensures marks { class_of memory.new ≡ class_of memory.old }
-    {
-        match row_of(word)? {
-            Form::Multiply => self.multiply_word(word)?,
-            Form::ShiftByNumber => {
-                let second = Operand::Shifted(ShiftedRegister::in_word(word));
-                self.operate_word(second, word)?;
-            }
-            Form::ShiftByRegister => self.operate_word(Operand::by_register_in(word), word)?,
-            Form::Immediate => self.operate_word(Operand::immediate_in(word), word)?,
-            Form::OffsetByNumber => {
-                let offset = Offset::Immediate(Bits::in_word(word, 0));
-                self.transfer_word(memory, Address::in_word(offset, word), word)?;
-            }
-            Form::OffsetByRegister => {
-                let offset = Offset::Shifted(ShiftedRegister::in_word(word));
-                self.transfer_word(memory, Address::in_word(offset, word), word)?;
-            }
-            Form::BlockTransfer => self.transfer_block_word(memory, word)?,
-            Form::Branch => {
-                let distance: Bits<24> = Bits::in_word(word, 0);
-                self.branch(is_bit_set(word, 24), distance.number());
-            }
-            Form::SoftwareInterrupt => {
-                let number: Bits<24> = Bits::in_word(word, 0);
-                return Err(Turn::Swi(number.number()));
-            }
-        }
-        Ok(())
+/// Data processing, by the fields of a word and this second operand.
+///
+/// # Errors
+///
+/// The fault by which the table refuses the word. The core is then as before.
+#[inline(always)]
+fn operate_word(cpu: &mut Cpu, second: Operand, word: u32) -> Result<(), Fault>
+    ensures { Operates cpu.old (operate_in second word) result cpu.new }
+{
+    let operate = Operate::in_word(second, word);
+    if let Some(fault) = operate.refusal() {
+        return Err(fault);
     }
+    cpu.operate(&operate);
+    Ok(())
+}
 
-    /// Data processing, by the fields of a word and this second operand.
-    ///
-    /// # Errors
-    ///
-    /// The fault by which the table refuses the word. The core is then as before.
-    #[inline(always)]
-    fn operate_word(&mut self, second: Operand, word: u32) -> Result<(), Fault>
-        ensures { Operates self.old (operate_in second word) result self.new }
-    {
-        let operate = Operate::in_word(second, word);
-        if let Some(fault) = operate.refusal() {
-            return Err(fault);
-        }
-        self.operate(&operate);
-        Ok(())
+/// MUL and MLA, by the fields of a word.
+///
+/// # Errors
+///
+/// The fault by which the table refuses the word. The core is then as before.
+#[inline(always)]
+fn multiply_word(cpu: &mut Cpu, word: u32) -> Result<(), Fault>
+    ensures { Multiplies cpu.old (multiply_in word) result cpu.new }
+{
+    let multiply = Multiply::in_word(word);
+    if let Some(fault) = multiply.refusal() {
+        return Err(fault);
     }
+    cpu.multiply(&multiply);
+    Ok(())
+}
 
-    /// MUL and MLA, by the fields of a word.
-    ///
-    /// # Errors
-    ///
-    /// The fault by which the table refuses the word. The core is then as before.
-    #[inline(always)]
-    fn multiply_word(&mut self, word: u32) -> Result<(), Fault>
-        ensures { Multiplies self.old (multiply_in word) result self.new }
-    {
-        let multiply = Multiply::in_word(word);
-        if let Some(fault) = multiply.refusal() {
-            return Err(fault);
-        }
-        self.multiply(&multiply);
-        Ok(())
+/// LDR and STR at this address, by the fields of a word.
+///
+/// # Errors
+///
+/// The fault by which the table refuses the word, or else that of the transfer. Core and
+/// memory are then as before.
+#[tactic(auto, unfolding(crate::specs::Step::acted))]
+#[inline(always)]
+fn transfer_word(
+    cpu: &mut Cpu,
+    memory: &mut AddressMap,
+    address: Address,
+    word: u32,
+) -> Result<(), Fault>
+    ensures state { let acted = acted_at (is_owned memory.old) cpu.old (bytes_of memory.old) address word in
+        Leaves (cpu.old, bytes_of memory.old) acted (or_fault result) (cpu.new, bytes_of memory.new) }
+    ensures layout { layout memory.new ≡ layout memory.old }
+    ensures marks { class_of memory.new ≡ class_of memory.old }
+{
+    let transfer = Transfer::in_word(address, word);
+    match transfer.refusal() {
+        Some(fault) => Err(fault),
+        None => transfer_one(cpu, memory, &transfer),
     }
+}
 
-    /// LDR and STR at this address, by the fields of a word.
-    ///
-    /// # Errors
-    ///
-    /// The fault by which the table refuses the word, or else that of the transfer. Core and
-    /// memory are then as before.
-    #[tactic(auto, unfolding(crate::specs::Step::acted))]
-    #[inline(always)]
-    fn transfer_word(
-        &mut self,
-        memory: &mut AddressMap,
-        address: Address,
-        word: u32,
-    ) -> Result<(), Fault>
-        ensures state { let acted = acted_at (is_owned memory.old) self.old (bytes_of memory.old) address word in
-            Leaves (self.old, bytes_of memory.old) acted (or_fault result) (self.new, bytes_of memory.new) }
-        ensures layout { layout memory.new ≡ layout memory.old }
-        ensures marks { class_of memory.new ≡ class_of memory.old }
-    {
-        let transfer = Transfer::in_word(address, word);
-        match transfer.refusal() {
-            Some(fault) => Err(fault),
-            None => self.transfer(memory, &transfer),
-        }
-    }
-
-    /// LDM and STM, by the fields of a word.
-    ///
-    /// # Errors
-    ///
-    /// The fault by which the table refuses the word, or else that of the transfer. Core and
-    /// memory are then as before.
-    #[tactic(auto, unfolding(crate::specs::Step::acted))]
-    #[inline(always)]
-    fn transfer_block_word(&mut self, memory: &mut AddressMap, word: u32) -> Result<(), Fault>
-        ensures state { let acted = acted_on_block (is_owned memory.old) self.old (bytes_of memory.old) word in
-            Leaves (self.old, bytes_of memory.old) acted (or_fault result) (self.new, bytes_of memory.new) }
-        ensures layout { layout memory.new ≡ layout memory.old }
-        ensures marks { class_of memory.new ≡ class_of memory.old }
-    {
-        let block = BlockTransfer::in_word(word);
-        match block.refusal() {
-            Some(fault) => Err(fault),
-            None => self.transfer_block(memory, word, &block),
-        }
+/// LDM and STM, by the fields of a word.
+///
+/// # Errors
+///
+/// The fault by which the table refuses the word, or else that of the transfer. Core and
+/// memory are then as before.
+#[tactic(auto, unfolding(crate::specs::Step::acted))]
+#[inline(always)]
+fn transfer_block_word(cpu: &mut Cpu, memory: &mut AddressMap, word: u32) -> Result<(), Fault>
+    ensures state { let acted = acted_on_block (is_owned memory.old) cpu.old (bytes_of memory.old) word in
+        Leaves (cpu.old, bytes_of memory.old) acted (or_fault result) (cpu.new, bytes_of memory.new) }
+    ensures layout { layout memory.new ≡ layout memory.old }
+    ensures marks { class_of memory.new ≡ class_of memory.old }
+{
+    let block = BlockTransfer::in_word(word);
+    match block.refusal() {
+        Some(fault) => Err(fault),
+        None => transfer_block(cpu, memory, word, &block),
     }
 }

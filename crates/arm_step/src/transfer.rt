@@ -5,8 +5,8 @@ ghost use Rattle.profile.specs.Outcome.{Leaves};
 ghost use Rattle.address_map.specs.Memory.{bytes_of, is_owned, layout, class_of};
 ghost use Rattle.arm_step.specs.Transfers.{offset_of, moved_base, transfer_address, with_base, value_loaded, value_stored, loaded, stored, transferred};
 
-use crate::cpu::Cpu;
 use address_map::AddressMap;
+use arm_core::Cpu;
 use arm_decode::{Address, Direction, Indexing, Offset, Transfer};
 use profile::Fault;
 use profile::shift::rotate_right;
@@ -45,113 +45,111 @@ fn store_value(
     }
 }
 
-impl Cpu {
-    /// The offset of a transfer.
-    #[inline(always)]
-    fn offset(&self, offset: &Offset) -> u32
-        ensures { result ≡ offset_of self.now offset.now }
-    {
-        match offset {
-            Offset::Immediate(number) => number.number(),
-            Offset::Shifted(shifted) => self.shifted_register(*shifted).value,
-        }
+/// The offset of a transfer.
+#[inline(always)]
+fn offset_of(cpu: &Cpu, offset: &Offset) -> u32
+    ensures { result ≡ offset_of cpu.now offset.now }
+{
+    match offset {
+        Offset::Immediate(number) => number.number(),
+        Offset::Shifted(shifted) => cpu.shifted_register(*shifted).value,
     }
+}
 
-    /// The base of a transfer changed by its offset.
-    #[inline(always)]
-    fn moved_base(&self, address: &Address) -> u32
-        ensures { result ≡ moved_base self.now address.now }
-    {
-        let base = self.plain_operand(address.rn, 2);
-        let offset = self.offset(&address.offset);
-        match address.direction {
-            Direction::Up => base.wrapping_add(offset),
-            Direction::Down => base.wrapping_sub(offset),
-        }
+/// The base of a transfer changed by its offset.
+#[inline(always)]
+fn moved_base(cpu: &Cpu, address: &Address) -> u32
+    ensures { result ≡ moved_base cpu.now address.now }
+{
+    let base = cpu.plain_operand(address.rn, 2);
+    let offset = offset_of(cpu, &address.offset);
+    match address.direction {
+        Direction::Up => base.wrapping_add(offset),
+        Direction::Down => base.wrapping_sub(offset),
     }
+}
 
-    /// Where a transfer reads or writes.
-    #[inline(always)]
-    fn transfer_address(&self, address: &Address) -> u32
-        ensures { result ≡ transfer_address self.now address.now }
-    {
-        match address.indexing {
-            Indexing::Pre { .. } => self.moved_base(address),
-            Indexing::Post { .. } => self.plain_operand(address.rn, 2),
-        }
+/// Where a transfer reads or writes.
+#[inline(always)]
+fn transfer_address(cpu: &Cpu, address: &Address) -> u32
+    ensures { result ≡ transfer_address cpu.now address.now }
+{
+    match address.indexing {
+        Indexing::Pre { .. } => moved_base(cpu, address),
+        Indexing::Post { .. } => cpu.plain_operand(address.rn, 2),
     }
+}
 
-    /// Writes the changed base back where the transfer does that.
-    #[inline(always)]
-    fn write_base(&mut self, address: &Address, moved: u32)
-        ensures { self.new ≡ with_base self.old address.now moved }
-    {
-        if address.indexing.writes_base() {
-            self.set_result(address.rn, moved);
-        }
+/// Writes the changed base back where the transfer does that.
+#[inline(always)]
+fn write_base(cpu: &mut Cpu, address: &Address, moved: u32)
+    ensures { cpu.new ≡ with_base cpu.old address.now moved }
+{
+    if address.indexing.writes_base() {
+        cpu.set_result(address.rn, moved);
     }
+}
 
-    /// LDR: the base is written first, so a loaded base wins.
-    #[inline(always)]
-    fn load(&mut self, memory: &AddressMap, transfer: &Transfer) -> Result<(), Fault>
-        ensures { let loaded = loaded self.old (bytes_of memory.now) transfer.now in
-            Leaves (self.old, bytes_of memory.now) loaded result (self.new, bytes_of memory.now) }
-    {
-        let value = load_value(
-            memory,
-            transfer.is_byte,
-            self.transfer_address(&transfer.address),
-        )?;
-        let moved = self.moved_base(&transfer.address);
-        self.advance();
-        self.write_base(&transfer.address, moved);
-        self.set_result(transfer.rd, value);
-        Ok(())
-    }
+/// LDR: the base is written first, so a loaded base wins.
+#[inline(always)]
+fn load(cpu: &mut Cpu, memory: &AddressMap, transfer: &Transfer) -> Result<(), Fault>
+    ensures { let loaded = loaded cpu.old (bytes_of memory.now) transfer.now in
+        Leaves (cpu.old, bytes_of memory.now) loaded result (cpu.new, bytes_of memory.now) }
+{
+    let value = load_value(
+        memory,
+        transfer.is_byte,
+        transfer_address(cpu, &transfer.address),
+    )?;
+    let moved = moved_base(cpu, &transfer.address);
+    cpu.advance();
+    write_base(cpu, &transfer.address, moved);
+    cpu.set_result(transfer.rd, value);
+    Ok(())
+}
 
-    /// STR: R15 is stored three words ahead with the status, the base with its old value.
-    #[inline(always)]
-    fn store(&mut self, memory: &mut AddressMap, transfer: &Transfer) -> Result<(), Fault>
-        ensures state { let stored = stored (is_owned memory.old) self.old (bytes_of memory.old) transfer.now in
-            Leaves (self.old, bytes_of memory.old) stored result (self.new, bytes_of memory.new) }
-        ensures layout { layout memory.new ≡ layout memory.old }
-        ensures marks { class_of memory.new ≡ class_of memory.old }
-    {
-        let value = self.status_operand(self.psr().mode, transfer.rd, 3);
-        store_value(
-            memory,
-            transfer.is_byte,
-            self.transfer_address(&transfer.address),
-            value,
-        )?;
-        let moved = self.moved_base(&transfer.address);
-        self.advance();
-        self.write_base(&transfer.address, moved);
-        Ok(())
-    }
+/// STR: R15 is stored three words ahead with the status, the base with its old value.
+#[inline(always)]
+fn store(cpu: &mut Cpu, memory: &mut AddressMap, transfer: &Transfer) -> Result<(), Fault>
+    ensures state { let stored = stored (is_owned memory.old) cpu.old (bytes_of memory.old) transfer.now in
+        Leaves (cpu.old, bytes_of memory.old) stored result (cpu.new, bytes_of memory.new) }
+    ensures layout { layout memory.new ≡ layout memory.old }
+    ensures marks { class_of memory.new ≡ class_of memory.old }
+{
+    let value = cpu.status_operand(cpu.psr().mode, transfer.rd, 3);
+    store_value(
+        memory,
+        transfer.is_byte,
+        transfer_address(cpu, &transfer.address),
+        value,
+    )?;
+    let moved = moved_base(cpu, &transfer.address);
+    cpu.advance();
+    write_base(cpu, &transfer.address, moved);
+    Ok(())
+}
 
-    /// LDR and STR.
-    ///
-    /// # Errors
-    ///
-    /// `AddressException`, `DataUnmapped`, and for a store `OwnedWord`, in this order. Core and
-    /// memory are then as before.
-    #[tactic(auto, unfolding(crate::specs::Transfers::transferred))]
-    #[inline(always)]
-    pub(crate) fn transfer(
-        &mut self,
-        memory: &mut AddressMap,
-        transfer: &Transfer,
-    ) -> Result<(), Fault>
-        ensures state { let moved = transferred (is_owned memory.old) self.old (bytes_of memory.old) transfer.now in
-            Leaves (self.old, bytes_of memory.old) moved result (self.new, bytes_of memory.new) }
-        ensures layout { layout memory.new ≡ layout memory.old }
-        ensures marks { class_of memory.new ≡ class_of memory.old }
-    {
-        if transfer.loads {
-            self.load(memory, transfer)
-        } else {
-            self.store(memory, transfer)
-        }
+/// LDR and STR: one register is loaded or stored.
+///
+/// # Errors
+///
+/// `AddressException`, `DataUnmapped`, and for a store `OwnedWord`, in this order. Core and
+/// memory are then as before.
+#[tactic(auto, unfolding(crate::specs::Transfers::transferred))]
+#[inline(always)]
+pub(crate) fn transfer_one(
+    cpu: &mut Cpu,
+    memory: &mut AddressMap,
+    transfer: &Transfer,
+) -> Result<(), Fault>
+    ensures state { let moved = transferred (is_owned memory.old) cpu.old (bytes_of memory.old) transfer.now in
+        Leaves (cpu.old, bytes_of memory.old) moved result (cpu.new, bytes_of memory.new) }
+    ensures layout { layout memory.new ≡ layout memory.old }
+    ensures marks { class_of memory.new ≡ class_of memory.old }
+{
+    if transfer.loads {
+        load(cpu, memory, transfer)
+    } else {
+        store(cpu, memory, transfer)
     }
 }

@@ -3,8 +3,8 @@
 use Rattle.std.proofs.Common.{ℕ, ◌≡◌, ◌≤◌, ◌==◌, Bool, true, false, length, Option, Some, None, refl, sym, subst}
 use Rattle.std.specs.Prelude.{IfSome, if◌then◌else◌}
 use Rattle.profile.specs.declared.fault.Fault.TheVariants.{StackChanged}
-use Rattle.arm_step.specs.State.{register_in}
-use Rattle.arm_step.specs.declared.psr.Mode.TheVariants.{Supervisor}
+use Rattle.arm_core.specs.State.{register_in}
+use Rattle.arm_core.specs.declared.psr.Mode.TheVariants.{Supervisor}
 use Rattle.os_heap_lists.specs.Heap.{HeapList}
 use Rattle.instances.proofs.Turning.{going_back}
 use Rattle.instances.specs.Turns.{IsUnderWay, MayGoOn}

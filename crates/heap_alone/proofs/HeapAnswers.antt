@@ -5,11 +5,11 @@ use Rattle.profile.specs.Outcome.{bind}
 use Rattle.profile.specs.declared.error.ErrorNumber.{ErrorNumber}
 use Rattle.profile.specs.declared.reason.HeapReason.{HeapReason}
 use Rattle.profile.specs.declared.reason.HeapReason.TheVariants as reason
-use Rattle.arm_step.specs.declared.psr.Mode.{Mode}
-use Rattle.arm_step.specs.declared.psr.Mode.TheVariants.{User, FastInterrupt, Interrupt, Supervisor}
-use Rattle.arm_step.specs.declared.psr.Psr.{Psr}
+use Rattle.arm_core.specs.declared.psr.Mode.{Mode}
+use Rattle.arm_core.specs.declared.psr.Mode.TheVariants.{User, FastInterrupt, Interrupt, Supervisor}
+use Rattle.arm_core.specs.declared.psr.Psr.{Psr}
 use Rattle.std.proofs.lemmas.List.{length-set}
-use Rattle.arm_step.specs.State.{State, register_of, slot_of, with_register}
+use Rattle.arm_core.specs.State.{State, register_of, slot_of, with_register}
 use Rattle.os_heap.specs.Calls.{begun, block_sized, changed, described, gave_back, got, resized}
 use Rattle.os_heap.specs.Store.{Store}
 use Rattle.swi_dispatch_answers.specs.Refusals.{or_error}

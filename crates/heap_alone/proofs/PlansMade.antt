@@ -7,7 +7,7 @@ use Rattle.profile.specs.declared.error.ErrorNumber.{ErrorNumber}
 use Rattle.profile.specs.declared.error.ErrorNumber.TheVariants.{BadString, InstanceTableFull}
 use Rattle.address_map.specs.Bytes.{Bytes, bytes_between}
 use Rattle.address_map.specs.declared.region.Kind.TheVariants as kind
-use Rattle.arm_step.specs.State.{register_of}
+use Rattle.arm_core.specs.State.{register_of}
 use Rattle.image_loader.specs.Entries.{Entry}
 use Rattle.dynamic_areas.specs.Ground.{Estate}
 use Rattle.rma.specs.Copies.{may_be_copied}

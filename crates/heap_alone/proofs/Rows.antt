@@ -9,7 +9,7 @@ use Rattle.profile.specs.declared.reason.AreaReason.TheVariants as area
 use Rattle.profile.specs.declared.swi.SwiName.{SwiName}
 use Rattle.profile.specs.declared.swi.SwiName.TheVariants as swi
 use Rattle.address_map.specs.Bytes.{in_range}
-use Rattle.arm_step.specs.State.{State, register_of}
+use Rattle.arm_core.specs.State.{State, register_of}
 use Rattle.os_heap_lists.specs.Heap.{HeapList}
 use Rattle.os_heap.specs.Calls.{has_own_size}
 use Rattle.os_heap.specs.Store.{Store, find_heap}

@@ -1,7 +1,7 @@
 -- What a machine's state says of its store and its core.
 use Rattle.std.proofs.Common.{ℕ, ◌≡◌, ◌≤◌, ◌+◌, Bool, true, false, lit≤, List, [], ◌∷◌, length, Option, Some, None, refl, sym, ap, subst}
 use Rattle.address_map.specs.declared.region.Region.{Region}
-use Rattle.arm_step.specs.State.{State}
+use Rattle.arm_core.specs.State.{State}
 use Rattle.os_heap_lists.specs.Heap.{HeapList}
 use Rattle.os_heap.specs.Store.{IsSound, store_of}
 use Rattle.dynamic_areas.proofs.HeapCalls.{system_mapped}

@@ -12,11 +12,12 @@ use Rattle.arm_decode.specs.declared.action.Action.TheVariants as action
 use Rattle.arm_decode.specs.declared.action.BlockTransfer.{BlockTransfer}
 use Rattle.arm_decode.specs.declared.action.Transfer.{Transfer}
 use Rattle.arm_decode.specs.declared.condition.Condition.{Condition}
-use Rattle.arm_step.specs.declared.turn.Turn.{Turn}
-use Rattle.arm_step.specs.Blocks.{block_base, block_loaded, block_size, block_start, block_stored, block_transferred, block_value, block_values, listed, with_block_base}
-use Rattle.arm_step.specs.Conditions.{holds}
-use Rattle.arm_step.specs.Effect.{advanced}
-use Rattle.arm_step.specs.State.{State}
+use Rattle.arm_core.specs.declared.turn.Turn.{Turn}
+use Rattle.arm_core.specs.Listed.{listed}
+use Rattle.arm_step.specs.Blocks.{block_base, block_loaded, block_size, block_start, block_stored, block_transferred, block_value, block_values, with_block_base}
+use Rattle.arm_core.specs.Conditions.{holds}
+use Rattle.arm_core.specs.Effect.{advanced}
+use Rattle.arm_core.specs.State.{State}
 use Rattle.arm_step.specs.Step.{acted, acted_if_decoded, executed_if_fetched, or_fault, stepped}
 use Rattle.arm_step.specs.Transfers.{moved_base, transfer_address, transferred, value_stored, with_base}
 use Rattle.arm_step.specs.Words.{with_words, words_store_fault}

@@ -1,4 +1,5 @@
 -- A guest's heap in a whole machine. Begin with Moves, then Laws.
+pub use Rattle.arm_core
 pub use Rattle.arm_step
 pub use Rattle.os_heap
 pub use Rattle.heap_turns

@@ -3,9 +3,9 @@ use Rattle.std.specs.Prelude.{◌||◌, Bool, true, false, Option, Some, Result,
 use Rattle.profile.specs.declared.swi.SwiName.{SwiName}
 use Rattle.profile.specs.declared.swi.SwiName.TheVariants as swi
 use Rattle.address_map.specs.Bytes.{Bytes}
-use Rattle.arm_step.specs.State.{State}
-use Rattle.arm_step.specs.declared.turn.Turn.{Turn}
-use Rattle.arm_step.specs.declared.turn.Turn.TheVariants as turn
+use Rattle.arm_core.specs.State.{State}
+use Rattle.arm_core.specs.declared.turn.Turn.{Turn}
+use Rattle.arm_core.specs.declared.turn.Turn.TheVariants as turn
 use Rattle.swi_dispatch.specs.MachineState.{MachineState}
 use Rattle.swi_dispatch.specs.Step.{instructed}
 use Rattle.heap_alone.specs.Moves.{Call, Move, Step, swi_made}

@@ -8,9 +8,9 @@ use Rattle.profile.specs.declared.reason.HeapReason.{HeapReason}
 use Rattle.profile.specs.declared.swi.SwiName.{SwiName}
 use Rattle.profile.specs.declared.swi.SwiName.TheVariants as swi
 use Rattle.address_map.specs.Bytes.{Bytes}
-use Rattle.arm_step.specs.State.{State, register_of}
-use Rattle.arm_step.specs.declared.turn.Turn.{Turn}
-use Rattle.arm_step.specs.declared.turn.Turn.TheVariants as turn
+use Rattle.arm_core.specs.State.{State, register_of}
+use Rattle.arm_core.specs.declared.turn.Turn.{Turn}
+use Rattle.arm_core.specs.declared.turn.Turn.TheVariants as turn
 use Rattle.image_loader.specs.Entries.{Entry}
 use Rattle.os_heap_lists.specs.Heap.{HeapList}
 use Rattle.os_heap.specs.Store.{Store, find_heap}

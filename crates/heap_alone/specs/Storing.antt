@@ -9,8 +9,8 @@ use Rattle.arm_decode.specs.declared.action.Action.{Action}
 use Rattle.arm_decode.specs.declared.action.Action.TheVariants as action
 use Rattle.arm_decode.specs.declared.condition.Condition.{Condition}
 use Rattle.arm_step.specs.Blocks.{block_size, block_start}
-use Rattle.arm_step.specs.Conditions.{holds}
-use Rattle.arm_step.specs.State.{State}
+use Rattle.arm_core.specs.Conditions.{holds}
+use Rattle.arm_core.specs.State.{State}
 use Rattle.arm_step.specs.Step.{stepped}
 use Rattle.arm_step.specs.Transfers.{transfer_address}
 

@@ -9,7 +9,7 @@ use Rattle.profile.specs.declared.error.ErrorNumber.{ErrorNumber}
 use Rattle.profile.specs.declared.error.ErrorNumber.TheVariants.{FrameLimit, SwiUnknown}
 use Rattle.profile.specs.declared.swi.SwiName.{SwiName}
 use Rattle.profile.specs.declared.swi.SwiName.TheVariants as swi
-use Rattle.arm_step.specs.State.{register_of, with_register}
+use Rattle.arm_core.specs.State.{register_of, with_register}
 use Rattle.image_loader.specs.Entries.{Entry}
 use Rattle.os_heap.specs.Store.{Store}
 use Rattle.dynamic_areas.specs.Areas.{extent_asked}

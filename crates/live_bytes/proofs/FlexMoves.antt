@@ -14,9 +14,9 @@ use Rattle.profile.specs.declared.reason.HeapReason.TheVariants as reason
 use Rattle.profile.specs.declared.swi.SwiName.{SwiName}
 use Rattle.profile.specs.declared.swi.SwiName.TheVariants as swi
 use Rattle.address_map.specs.Bytes.{Bytes, in_range}
-use Rattle.arm_step.specs.State.{State, register_of}
-use Rattle.arm_step.specs.declared.turn.Turn.{Turn}
-use Rattle.arm_step.specs.declared.turn.Turn.TheVariants as turn
+use Rattle.arm_core.specs.State.{State, register_of}
+use Rattle.arm_core.specs.declared.turn.Turn.{Turn}
+use Rattle.arm_core.specs.declared.turn.Turn.TheVariants as turn
 use Rattle.image_loader.specs.Entries.{Entry}
 use Rattle.os_heap.specs.Calls.{begun, block_sized, changed, described, gave_back, got, resized}
 use Rattle.os_heap.specs.Store.{IsSound, Store, is_in_flex_store}

@@ -7,7 +7,7 @@ use Rattle.profile.specs.declared.error.ErrorNumber.{ErrorNumber}
 use Rattle.profile.specs.declared.swi.SwiName.{SwiName}
 use Rattle.profile.specs.declared.swi.SwiName.TheVariants as swi
 use Rattle.address_map.specs.Bytes.{in_range}
-use Rattle.arm_step.specs.State.{register_of}
+use Rattle.arm_core.specs.State.{register_of}
 use Rattle.os_heap.specs.Store.{Store, is_in_flex_store}
 use Rattle.flex_store.specs.Calls.{FlexState, allocated, begun, extended, mid_extended, released}
 use Rattle.flex_store.specs.Runs.{Alloc, Extend, FlexCall, MidExtend, Release}

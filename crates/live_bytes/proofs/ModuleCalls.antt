@@ -8,7 +8,7 @@ use Rattle.profile.specs.declared.error.ErrorNumber.{ErrorNumber}
 use Rattle.profile.specs.declared.reason.ModuleReason.{ModuleReason}
 use Rattle.profile.specs.declared.reason.ModuleReason.TheVariants as reason
 use Rattle.profile.specs.declared.swi.SwiName.TheVariants as swi
-use Rattle.arm_step.specs.State.{State, register_of}
+use Rattle.arm_core.specs.State.{State, register_of}
 use Rattle.image_loader.specs.Entries.{Entry}
 use Rattle.os_heap.specs.Store.{Store}
 use Rattle.instances_ground.specs.World.{World}

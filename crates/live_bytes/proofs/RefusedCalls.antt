@@ -12,9 +12,9 @@ use Rattle.profile.specs.declared.reason.ModuleReason.TheVariants as reason
 use Rattle.profile.specs.declared.swi.SwiName.{SwiName}
 use Rattle.profile.specs.declared.swi.SwiName.TheVariants as swi
 use Rattle.address_map.specs.Bytes.{Bytes, in_range, with_bytes_at, with_word_at}
-use Rattle.arm_step.specs.State.{IsCore, State, register_of, slot_of}
-use Rattle.arm_step.specs.declared.turn.Turn.{Turn}
-use Rattle.arm_step.specs.declared.turn.Turn.TheVariants as turn
+use Rattle.arm_core.specs.State.{IsCore, State, register_of, slot_of}
+use Rattle.arm_core.specs.declared.turn.Turn.{Turn}
+use Rattle.arm_core.specs.declared.turn.Turn.TheVariants as turn
 use Rattle.image_loader.specs.Entries.{Entry}
 use Rattle.swi_dispatch_answers.specs.Returns.{return_word, returned}
 use Rattle.swi_dispatch_answers.specs.declared.refusal.Refusal.{Refusal}

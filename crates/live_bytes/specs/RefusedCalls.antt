@@ -8,8 +8,8 @@ use Rattle.profile.specs.declared.reason.ModuleReason.TheVariants as reason
 use Rattle.profile.specs.declared.swi.SwiName.{SwiName}
 use Rattle.profile.specs.declared.swi.SwiName.TheVariants as swi
 use Rattle.address_map.specs.Bytes.{in_range}
-use Rattle.arm_step.specs.State.{register_in, register_of, slot_of}
-use Rattle.arm_step.specs.declared.psr.Mode.TheVariants.{Supervisor}
+use Rattle.arm_core.specs.State.{register_in, register_of, slot_of}
+use Rattle.arm_core.specs.declared.psr.Mode.TheVariants.{Supervisor}
 use Rattle.image_loader.specs.Entries.{Entry}
 use Rattle.swi_dispatch_answers.specs.Returns.{return_word}
 use Rattle.swi_dispatch.specs.MachineState.{MachineState}

@@ -2,7 +2,7 @@
 use Rattle.std.proofs.Common.{ℕ, ◌≡◌, List, Option, Some, None, Result, Ok, Err, refl}
 use Rattle.profile.specs.declared.swi.SwiName.{SwiName}
 use Rattle.profile.specs.declared.swi.SwiName.TheVariants as swi
-use Rattle.arm_step.specs.State.{State, register_of}
+use Rattle.arm_core.specs.State.{State, register_of}
 use Rattle.os_heap.specs.Store.{Store}
 use Rattle.flex_ground.specs.instances_ground.specs.dynamic_areas.specs.Ground.{Estate}
 use Rattle.flex_ground.specs.instances_ground.specs.World.{World}

@@ -9,7 +9,7 @@ use Rattle.profile.specs.declared.reason.ModuleReason.TheVariants as reason
 use Rattle.profile.specs.declared.swi.SwiName.{SwiName}
 use Rattle.profile.specs.declared.swi.SwiName.TheVariants as swi
 use Rattle.address_map.specs.Bytes.{in_range}
-use Rattle.arm_step.specs.State.{register_of}
+use Rattle.arm_core.specs.State.{register_of}
 use Rattle.image_loader.specs.Entries.{Entry}
 use Rattle.swi_dispatch.specs.MachineState.{MachineState}
 use Rattle.swi_dispatch.specs.Step.{called}

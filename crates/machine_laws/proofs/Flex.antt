@@ -9,7 +9,7 @@ use Rattle.profile.specs.declared.error.ErrorNumber.{ErrorNumber}
 use Rattle.profile.specs.declared.swi.SwiName.{SwiName}
 use Rattle.address_map.proofs.Stores.{in_range-cases}
 use Rattle.address_map.specs.Bytes.{Bytes, in_range, with_word_at}
-use Rattle.arm_step.specs.State.{IsCore, State, register_of, slot_of}
+use Rattle.arm_core.specs.State.{IsCore, State, register_of, slot_of}
 use Rattle.image_loader.specs.Entries.{Entry}
 use Rattle.instances_table.specs.declared.parts.Image.{Image}
 use Rattle.os_heap.specs.Store.{Store}

@@ -3,9 +3,9 @@ use Rattle.std.proofs.Common.{ℕ, true, ◌+◌, ◌%◌, ◌^◌, ◌≡◌, �
 use Rattle.std.specs.Prelude.{IfSome, ◌≤◌, length}
 use Rattle.profile.specs.Word.{bit_of}
 use Rattle.address_map.specs.Bytes.{Bytes}
-use Rattle.arm_step.specs.State.{State}
-use Rattle.arm_step.specs.declared.turn.Turn.{Turn}
-use Rattle.arm_step.specs.declared.turn.Turn.TheVariants as turn
+use Rattle.arm_core.specs.State.{State}
+use Rattle.arm_core.specs.declared.turn.Turn.{Turn}
+use Rattle.arm_core.specs.declared.turn.Turn.TheVariants as turn
 use Rattle.image_loader.specs.Entries.{Entry}
 use Rattle.instances_plans.specs.Plans.{Plan}
 use Rattle.swi_dispatch_plans.specs.instances.specs.Turns.{MayGoOn}

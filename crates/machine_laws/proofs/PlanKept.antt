@@ -12,9 +12,9 @@ use Rattle.profile.specs.declared.swi.SwiName.{SwiName}
 use Rattle.profile.specs.declared.swi.SwiName.TheVariants as swi
 use Rattle.profile.specs.Reasons.{module_reason}
 use Rattle.address_map.specs.Bytes.{Bytes}
-use Rattle.arm_step.specs.State.{State, register_of}
-use Rattle.arm_step.specs.declared.turn.Turn.{Turn}
-use Rattle.arm_step.specs.declared.turn.Turn.TheVariants as turn
+use Rattle.arm_core.specs.State.{State, register_of}
+use Rattle.arm_core.specs.declared.turn.Turn.{Turn}
+use Rattle.arm_core.specs.declared.turn.Turn.TheVariants as turn
 use Rattle.image_loader.specs.Entries.{Entry, bytes_of}
 use Rattle.os_heap.specs.Store.{Store}
 use Rattle.flex_ground.specs.instances_ground.specs.dynamic_areas.specs.Ground.{Estate}

@@ -5,8 +5,8 @@ use Rattle.profile.specs.declared.swi.SwiName.TheVariants as swi
 use Rattle.profile.specs.declared.reason.ModuleReason.TheVariants as reason
 use Rattle.profile.specs.Reasons.{module_reason}
 use Rattle.profile.specs.SwiNames.{swi_of}
-use Rattle.arm_step.specs.State.{register_of}
-use Rattle.arm_step.specs.declared.turn.Turn.TheVariants as turn
+use Rattle.arm_core.specs.State.{register_of}
+use Rattle.arm_core.specs.declared.turn.Turn.TheVariants as turn
 use Rattle.image_loader.specs.Entries.{Entry}
 use Rattle.instances_plans.specs.declared.code.Outcome.TheVariants.{Well, Refused}
 use Rattle.instances_plans.specs.Plans.{Plan}

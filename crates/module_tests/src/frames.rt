@@ -1,7 +1,7 @@
 //! The status that a frame leaves: a script sees it only once the call has ended, with V by how it
 //! went.
 
-use arm_step::{Cpu, Mode, Psr};
+use arm_core::{Cpu, Mode, Psr};
 use instances_plans::{Code, CodeKind};
 use swi_dispatch_frames::{Call, Frame, FrameKind, enter_code};
 

@@ -1,6 +1,6 @@
 -- A call's answer, and then what the machine does with it, are the written call.
 use Rattle.std.proofs.Common.{◌≡◌, ℕ, Bool, true, false, Ok, Err, refl, sym, ◌∙◌, ap}
-use Rattle.arm_step.specs.declared.psr.Psr.{Psr}
+use Rattle.arm_core.specs.declared.psr.Psr.{Psr}
 use Rattle.swi_dispatch_answers.specs.declared.refusal.Refusal.{Refusal}
 use Rattle.swi_dispatch.specs.MachineState.{MachineState, Outcome, quiet}
 use Rattle.swi_dispatch.specs.Answers.{Answer}

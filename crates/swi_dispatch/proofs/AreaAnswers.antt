@@ -8,7 +8,7 @@ use Rattle.profile.specs.declared.fault.Fault.TheVariants.{ErrorStop}
 use Rattle.profile.specs.declared.swi.SwiName.{SwiName}
 use Rattle.profile.specs.declared.swi.SwiName.TheVariants as swi
 use Rattle.profile.specs.ErrorNames.{error_code}
-use Rattle.arm_step.specs.State.{State, register_of, slot_of, with_register}
+use Rattle.arm_core.specs.State.{State, register_of, slot_of, with_register}
 use Rattle.dynamic_areas.specs.declared.area.Area.{Area}
 use Rattle.dynamic_areas.specs.Areas.{find_area}
 use Rattle.dynamic_areas.specs.Ground.{AreAreas}

@@ -6,7 +6,7 @@ use Rattle.std.proofs.lemmas.Bool.{true≢false}
 use Rattle.profile.specs.Outcome.{Leaves}
 use Rattle.address_map.specs.declared.map.AddressMap.{AddressMap}
 use Rattle.address_map.specs.Memory.{free_pages}
-use Rattle.arm_step.specs.State.{State}
+use Rattle.arm_core.specs.State.{State}
 use Rattle.flex_ground.specs.flex_store.specs.declared.flex.Flex.{Flex}
 use Rattle.flex_ground.specs.instances_ground.proofs.Worlds.{few_records}
 use Rattle.flex_ground.specs.instances_ground.specs.Sound.{IsWorld}

@@ -1,9 +1,9 @@
 -- A SWI of a module goes back: what that leaves is what a step at the gate leaves.
 use Rattle.std.proofs.Common.{◌≡◌, ℕ, true, false, Some, List, [], ◌∷◌, refl, ap, ◌∙◌}
 use Rattle.std.specs.Prelude.{if◌then◌else◌, Bool, Option, ◌==◌, ◌&&◌, not, slice_index, slice_set}
-use Rattle.arm_step.specs.declared.psr.Mode.{Mode}
-use Rattle.arm_step.specs.declared.psr.Mode.TheVariants.{User, FastInterrupt, Interrupt, Supervisor}
-use Rattle.arm_step.specs.State.{State, register_in, register_of, slot_of}
+use Rattle.arm_core.specs.declared.psr.Mode.{Mode}
+use Rattle.arm_core.specs.declared.psr.Mode.TheVariants.{User, FastInterrupt, Interrupt, Supervisor}
+use Rattle.arm_core.specs.State.{State, register_in, register_of, slot_of}
 use Rattle.instances_plans.specs.declared.code.CodeKind.{CodeKind}
 use Rattle.instances_plans.specs.Plans.{Plan}
 use Rattle.profile.specs.declared.fault.Fault.TheVariants.{ErrorStop}

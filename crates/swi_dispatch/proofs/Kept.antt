@@ -12,7 +12,7 @@ use Rattle.address_map.specs.declared.map.AddressMap.{AddressMap}
 use Rattle.address_map.specs.Bytes.{Bytes, in_range, unless, store_fault, word_stored, with_word, with_word_at, with_bytes_at, with_bytes}
 use Rattle.address_map.specs.Memory.{bytes_of, byte_at, free_pages, Layout, layout, class_of, is_owned}
 use Rattle.address_map.proofs.Equations.{stored_bytes}
-use Rattle.arm_step.specs.State.{State}
+use Rattle.arm_core.specs.State.{State}
 use Rattle.arm_step.specs.OwnedBytes.{IsByWords, Keeps}
 use Rattle.address_map.specs.declared.region.Kind.TheVariants.{Rma}
 use Rattle.address_map.specs.declared.region.Region.{Region}

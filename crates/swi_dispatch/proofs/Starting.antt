@@ -3,7 +3,7 @@ use Rattle.std.proofs.Common.{inl, ◌≡◌, Bool, false, true, IsSome, [], Opt
 use Rattle.profile.specs.Sizes.{Sizes}
 use Rattle.address_map.specs.declared.map.AddressMap.{AddressMap}
 use Rattle.address_map.specs.Memory.{free_pages}
-use Rattle.arm_step.specs.State.{start_state}
+use Rattle.arm_core.specs.State.{start_state}
 use Rattle.flex_ground.specs.instances_ground.specs.Sound.{IsWorld}
 use Rattle.flex_ground.specs.instances_ground.specs.World.{world_of}
 use Rattle.flex_ground.specs.instances_ground.proofs.Starting.{start_world}

@@ -3,7 +3,7 @@ use Rattle.std.proofs.Common.{◌≡◌, false, Option, Result, Ok, Err, sym, �
 use Rattle.profile.specs.Outcome.{Leaves}
 use Rattle.address_map.specs.declared.map.AddressMap.{AddressMap}
 use Rattle.address_map.specs.Memory.{free_pages}
-use Rattle.arm_step.specs.State.{State}
+use Rattle.arm_core.specs.State.{State}
 use Rattle.os_heap.specs.Store.{Store, store_of}
 use Rattle.dynamic_areas.specs.Areas.{Land}
 use Rattle.dynamic_areas.specs.Ground.{Estate, IsEstate, estate_of}

@@ -1,6 +1,6 @@
 -- What store calls answer, in words that all of them share.
 use Rattle.std.specs.Prelude.{ℕ, Option, Some, None, Result, Ok, Err, List, []}
-use Rattle.arm_step.specs.State.{with_register}
+use Rattle.arm_core.specs.State.{with_register}
 use Rattle.swi_dispatch_answers.specs.declared.refusal.Refusal.{Refusal}
 use Rattle.swi_dispatch.specs.MachineState.{MachineState, Outcome, quiet}
 

@@ -8,7 +8,7 @@ use Rattle.swi_dispatch.specs.declared.boot_error.BootError.TheVariants.{Booted,
 use Rattle.address_map.specs.Bytes.{word_stored}
 use Rattle.profile.specs.Outcome.{bind}
 use Rattle.profile.specs.declared.fault.Fault.{Fault}
-use Rattle.arm_step.specs.State.{with_register}
+use Rattle.arm_core.specs.State.{with_register}
 use Rattle.os_heap.specs.Store.{owned_in}
 use Rattle.swi_dispatch.specs.MachineState.{MachineState, with_memory}
 

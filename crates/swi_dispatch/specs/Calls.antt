@@ -9,8 +9,8 @@ use Rattle.profile.specs.declared.error.ErrorNumber.TheVariants.{BadString, BadP
 use Rattle.profile.specs.declared.swi.SwiName.{SwiName}
 use Rattle.profile.specs.declared.swi.SwiName.TheVariants as swi
 use Rattle.address_map.specs.Bytes.{Bytes}
-use Rattle.arm_step.specs.declared.psr.Mode.TheVariants.{Supervisor}
-use Rattle.arm_step.specs.State.{State, register_of, with_mode}
+use Rattle.arm_core.specs.declared.psr.Mode.TheVariants.{Supervisor}
+use Rattle.arm_core.specs.State.{State, register_of, with_mode}
 use Rattle.os_heap.specs.Store.{Store}
 use Rattle.dynamic_areas.specs.Ground.{Estate}
 use Rattle.flex_ground.specs.instances_ground.specs.World.{World}

@@ -2,7 +2,7 @@
 -- "Generating and handling errors").
 use Rattle.std.specs.Prelude.{ℕ}
 use Rattle.profile.specs.ErrorNames.{error_code, error_name}
-use Rattle.arm_step.specs.State.{register_of, with_register}
+use Rattle.arm_core.specs.State.{register_of, with_register}
 use Rattle.swi_dispatch_answers.specs.declared.refusal.Refusal.{Refusal}
 use Rattle.swi_dispatch_answers.specs.declared.refusal.Refusal.TheVariants as refusal
 use Rattle.swi_dispatch_answers.specs.Errors.{error_at, error_block}

@@ -5,6 +5,7 @@ pub use Rattle.swi_dispatch_breaks
 pub use Rattle.swi_dispatch_flex
 pub use Rattle.swi_dispatch_plans.specs.swi_dispatch_store
 pub use Rattle.swi_dispatch_plans.specs.swi_dispatch_modules
+pub use Rattle.arm_core
 pub use Rattle.arm_step
 pub use Rattle.os_heap.specs.os_heap_lists
 pub use Rattle.os_heap

@@ -8,8 +8,8 @@ use Rattle.os_heap.specs.Store.{AreClasses, store_of}
 use Rattle.dynamic_areas.specs.Ground.{AreAreas, IsRecorded, system_pages}
 use Rattle.dynamic_areas.specs.Rooms.{IsAreaTable}
 use Rattle.flex_ground.specs.Ground.{HasFlex}
-use Rattle.arm_step.specs.declared.turn.Turn.{Turn}
-use Rattle.arm_step.specs.State.{IsCore, State}
+use Rattle.arm_core.specs.declared.turn.Turn.{Turn}
+use Rattle.arm_core.specs.State.{IsCore, State}
 use Rattle.flex_ground.specs.instances_ground.specs.World.{World, world_of}
 use Rattle.instances_plans.specs.Plans.{Plan}
 use Rattle.instances_table.specs.Modules.{AreModules}

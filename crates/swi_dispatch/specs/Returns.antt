@@ -3,7 +3,7 @@
 -- that nothing is done then is this project's own).
 use Rattle.std.specs.Prelude.{ℕ, Bool, true, false, Some}
 use Rattle.profile.specs.declared.fault.Fault.TheVariants.{ErrorStop}
-use Rattle.arm_step.specs.declared.psr.Psr.{Psr}
+use Rattle.arm_core.specs.declared.psr.Psr.{Psr}
 use Rattle.swi_dispatch.specs.declared.halt.Halt.{Halt}
 use Rattle.swi_dispatch.specs.declared.halt.Halt.TheVariants as halt
 use Rattle.swi_dispatch_answers.specs.declared.refusal.Refusal.{Refusal}

@@ -5,7 +5,7 @@ use Rattle.std.specs.Prelude.{◌≡◌, ℕ, zero, suc, ◌+◌, Option, Some, 
 use Rattle.profile.specs.declared.stop.Stop.{Stop}
 use Rattle.profile.specs.declared.stop.Stop.TheVariants as stop
 use Rattle.image_loader.specs.Entries.{Entry}
-use Rattle.arm_step.specs.declared.turn.Turn.{Turn}
+use Rattle.arm_core.specs.declared.turn.Turn.{Turn}
 unfoldable pub use Rattle.swi_dispatch_breaks.specs.Breaks.{is_among}
 use Rattle.swi_dispatch.specs.declared.halt.Halt.{Halt}
 use Rattle.swi_dispatch.specs.declared.halt.Halt.TheVariants as halt

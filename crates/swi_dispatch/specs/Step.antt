@@ -13,9 +13,9 @@ use Rattle.profile.specs.declared.reason.ModuleReason.TheVariants as reason
 use Rattle.profile.specs.Outcome.{bind}
 use Rattle.profile.specs.Word.{bit_of}
 use Rattle.address_map.specs.Bytes.{Bytes}
-use Rattle.arm_step.specs.declared.turn.Turn.{Turn}
-use Rattle.arm_step.specs.declared.turn.Turn.TheVariants as turn
-use Rattle.arm_step.specs.State.{State, register_of}
+use Rattle.arm_core.specs.declared.turn.Turn.{Turn}
+use Rattle.arm_core.specs.declared.turn.Turn.TheVariants as turn
+use Rattle.arm_core.specs.State.{State, register_of}
 use Rattle.arm_step.specs.Step.{stepped}
 use Rattle.os_heap.specs.Store.{owned_in}
 use Rattle.image_loader.specs.Entries.{Entry}

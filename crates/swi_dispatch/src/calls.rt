@@ -5,7 +5,7 @@ ghost use Rattle.swi_dispatch.specs.Step.{called, ended, is_exit, os_module_call
 
 use crate::halt::Halt;
 use crate::machine::{MOST_PRINTED, Machine};
-use arm_step::{Mode, Psr};
+use arm_core::{Mode, Psr};
 use arrayvec::ArrayVec;
 use image_loader::Images;
 use profile::{ErrorNumber, Fault, ModuleReason, SwiName};
@@ -20,7 +20,7 @@ impl Machine {
     ghost use Rattle.swi_dispatch.specs.Calls.{call_answer, moving_error, wrote_text_after, wrote_text_at};
     ghost use Rattle.swi_dispatch.specs.Calls.{printable_at, in_supervisor};
     ghost use Rattle.swi_dispatch.specs.Returns.{gone_back};
-    ghost use Rattle.arm_step.specs.State.{register_of};
+    ghost use Rattle.arm_core.specs.State.{register_of};
 
     /// A store call by its number without the X bit. `is_x` says whether an error goes back to the
     /// guest, and `next` where the guest goes on.

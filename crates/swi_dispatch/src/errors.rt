@@ -5,7 +5,7 @@ ghost use Rattle.std.specs.Prelude.{ℕ, ◌≡◌, false, true};
 
 use crate::halt::Halt;
 use crate::machine::Machine;
-use arm_step::Psr;
+use arm_core::Psr;
 use profile::memory_map::ERROR_BLOCK;
 use profile::{ErrorNumber, Fault};
 use swi_dispatch_answers::Refusal;
@@ -16,8 +16,8 @@ impl Machine {
     ghost use Rattle.swi_dispatch.specs.Calls.{generated};
     ghost use Rattle.swi_dispatch.specs.Errors.{error_number, with_error};
     ghost use Rattle.swi_dispatch.specs.Returns.{gone_back, error_answered, erred};
-    ghost use Rattle.arm_step.specs.State.{register_of};
-    ghost use Rattle.arm_step.specs.declared.psr.Psr.{Psr};
+    ghost use Rattle.arm_core.specs.State.{register_of};
+    ghost use Rattle.arm_core.specs.declared.psr.Psr.{Psr};
 
     /// The number of the error that R0 points to, or that of `BadPointer` where no block can stand
     /// there.

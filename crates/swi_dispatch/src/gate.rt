@@ -10,7 +10,7 @@ use crate::halt::Halt;
 use crate::machine::Machine;
 use crate::module_steps::open_code;
 use address_map::AddressMap;
-use arm_step::Cpu;
+use arm_core::Cpu;
 use instances_plans::{Outcome, Plan};
 use profile::Fault;
 use swi_dispatch_answers::errors::error_at;

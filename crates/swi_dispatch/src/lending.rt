@@ -10,7 +10,7 @@ ghost use Rattle.flex_ground.specs.flex_store.specs.State.{IsFlex};
 use crate::halt::Halt;
 use crate::machine::Machine;
 use address_map::AddressMap;
-use arm_step::Cpu;
+use arm_core::Cpu;
 use dynamic_areas::Areas;
 use flex_ground::flex_store::Flex;
 use os_heap::Heaps;

@@ -8,7 +8,8 @@ ghost use Rattle.swi_dispatch.specs.Step.{machine_step, module_loaded, store_cal
 use crate::boot_error::BootError;
 use crate::halt::Halt;
 use address_map::AddressMap;
-use arm_step::{Cpu, Turn, step};
+use arm_core::{Cpu, Turn};
+use arm_step::step;
 use arrayvec::ArrayVec;
 use dynamic_areas::{Areas, start_memory};
 use flex_ground::flex_store::Flex;

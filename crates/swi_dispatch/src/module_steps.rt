@@ -7,7 +7,7 @@ ghost use Rattle.swi_dispatch.specs.Gates.{kept_by, loaded_entered, opened};
 ghost use Rattle.swi_dispatch_plans.specs.Trials.{world_carried};
 
 use crate::machine::Machine;
-use arm_step::Cpu;
+use arm_core::Cpu;
 use instances_plans::{Code, Ended, Given, Outcome, Plan};
 use profile::ErrorNumber;
 use swi_dispatch_frames::{Call, Frame, FrameKind, Frames, enter_code};

@@ -12,7 +12,7 @@ ghost use Rattle.profile.specs.Output.{AddsPart};
 ghost use Rattle.swi_dispatch.specs.Ending.{Ends, StandsAfter};
 
 use crate::machine::Machine;
-use arm_step::Turn;
+use arm_core::Turn;
 use image_loader::Images;
 use profile::{Sink, Stop, WriteFault, push_all};
 use swi_dispatch_breaks::Breaks;

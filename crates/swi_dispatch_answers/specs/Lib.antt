@@ -1,5 +1,5 @@
 -- What all store calls share. Begin with Strings and Errors.
-pub use Rattle.arm_step
+pub use Rattle.arm_core
 pub use Rattle.address_map
 pub mod Errors
 pub mod Refusals

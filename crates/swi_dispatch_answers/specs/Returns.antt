@@ -1,10 +1,10 @@
 -- How a call goes back to its caller (RISC OS 3 Programmer's Reference Manual, "An introduction to
 -- SWIs").
 use Rattle.std.specs.Prelude.{ℕ, Bool, ◌+◌, ◌*◌, ◌/◌, ◌%◌, ◌^◌}
-use Rattle.arm_step.specs.declared.psr.Mode.TheVariants.{Supervisor}
-use Rattle.arm_step.specs.declared.psr.Psr.{Psr}
-use Rattle.arm_step.specs.Psr.{psr_bits}
-use Rattle.arm_step.specs.State.{State, with_register_in, with_overflow, with_pc}
+use Rattle.arm_core.specs.declared.psr.Mode.TheVariants.{Supervisor}
+use Rattle.arm_core.specs.declared.psr.Psr.{Psr}
+use Rattle.arm_core.specs.Psr.{psr_bits}
+use Rattle.arm_core.specs.State.{State, with_register_in, with_overflow, with_pc}
 
 -- The return address in the link register of supervisor mode, with the caller's status (the status
 -- before the call).

@@ -7,7 +7,7 @@ use Rattle.arrayvec.specs.ArrayVec.{ArrayVec}
 use Rattle.profile.specs.declared.error.ErrorNumber.{ErrorNumber}
 use Rattle.profile.specs.declared.error.ErrorNumber.TheVariants.{BadString}
 use Rattle.address_map.specs.Bytes.{Bytes}
-use Rattle.arm_step.specs.State.{State, register_of}
+use Rattle.arm_core.specs.State.{State, register_of}
 use Rattle.swi_dispatch_answers.specs.declared.strings.TextEnd.{TextEnd}
 use Rattle.swi_dispatch_answers.specs.declared.strings.TextEnd.TheVariants as end
 

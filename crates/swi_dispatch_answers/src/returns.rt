@@ -4,7 +4,7 @@
 ghost use Rattle.std.specs.Prelude.{◌≡◌, ◌<◌, ◌^◌};
 ghost use Rattle.swi_dispatch_answers.specs.Returns.{returned};
 
-use arm_step::{Cpu, Mode, Psr};
+use arm_core::{Cpu, Mode, Psr};
 use profile::memory_map::ADDRESS_LIMIT;
 
 /// The return address, with the caller's status, goes to the link register of supervisor mode.

@@ -6,7 +6,7 @@ ghost use Rattle.address_map.specs.Memory.{bytes_of};
 ghost use Rattle.swi_dispatch_answers.specs.Strings.{bytes_read, ends, next_word, string_in, text_at};
 
 use address_map::AddressMap;
-use arm_step::Cpu;
+use arm_core::Cpu;
 use arrayvec::ArrayVec;
 use profile::ErrorNumber;
 use profile::memory_map::ADDRESS_LIMIT;

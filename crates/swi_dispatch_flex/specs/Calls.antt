@@ -9,7 +9,7 @@ use Rattle.profile.specs.declared.error.ErrorNumber.TheVariants.{SwiUnknown}
 use Rattle.profile.specs.declared.swi.SwiName.{SwiName}
 use Rattle.profile.specs.declared.swi.SwiName.TheVariants as swi
 use Rattle.address_map.specs.declared.map.AddressMap.{AddressMap}
-use Rattle.arm_step.specs.State.{State, register_of, with_register}
+use Rattle.arm_core.specs.State.{State, register_of, with_register}
 use Rattle.flex_ground.specs.Ground.{flex_of, flex_state, store_flexed, with_flex_record}
 use Rattle.flex_ground.specs.flex_store.specs.Calls.{FlexState, allocated, begun, extended, mid_extended, released}
 use Rattle.flex_ground.specs.flex_store.specs.Calls.{sized}

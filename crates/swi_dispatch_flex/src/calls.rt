@@ -9,7 +9,7 @@ ghost use Rattle.swi_dispatch_flex.specs.Calls.{left_by, memory_of, state_in, wo
 ghost use Rattle.swi_dispatch_flex.specs.Leaving.{CanCallFlex, LeavesFlex};
 
 use address_map::AddressMap;
-use arm_step::Cpu;
+use arm_core::Cpu;
 use flex_ground::flex_store::Flex;
 use profile::{ErrorNumber, SwiName};
 use swi_dispatch_answers::Refusal;

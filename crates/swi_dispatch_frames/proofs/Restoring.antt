@@ -1,7 +1,7 @@
 -- How registers get their old words, one by one.
 use Rattle.std.proofs.Common.{◌≡◌, ℕ, suc, ◌+◌, ◌-◌, ◌<◌, ◌≤◌, List, slice_index, ap, arith}
-use Rattle.arm_step.specs.declared.psr.Mode.TheVariants.{User}
-use Rattle.arm_step.specs.State.{State, with_register_in}
+use Rattle.arm_core.specs.declared.psr.Mode.TheVariants.{User}
+use Rattle.arm_core.specs.State.{State, with_register_in}
 use Rattle.swi_dispatch_frames.specs.Leaving.{restored}
 
 pub one_restored : (n : ℕ) (saved : List ℕ) (cpu : State) → n < 13

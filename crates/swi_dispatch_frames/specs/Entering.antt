@@ -3,9 +3,9 @@
 -- project's own): supervisor mode, V clear, the other flags and the masks as the caller has them,
 -- and R14 of supervisor mode the gate with that status.
 use Rattle.std.specs.Prelude.{ℕ, false, ◌+◌, ◌%◌}
-use Rattle.arm_step.specs.declared.psr.Mode.TheVariants.{User, Supervisor}
-use Rattle.arm_step.specs.Psr.{psr_bits}
-use Rattle.arm_step.specs.State.{State, with_mode, with_overflow, with_pc, with_register_in}
+use Rattle.arm_core.specs.declared.psr.Mode.TheVariants.{User, Supervisor}
+use Rattle.arm_core.specs.Psr.{psr_bits}
+use Rattle.arm_core.specs.State.{State, with_mode, with_overflow, with_pc, with_register_in}
 use Rattle.instances_plans.specs.Code.{private_of}
 use Rattle.instances_plans.specs.declared.code.Code.{Code}
 

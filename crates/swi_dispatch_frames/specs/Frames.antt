@@ -1,8 +1,8 @@
 -- Frames of module code that is under way, the innermost last, and what each keeps (this project's
 -- own).
 use Rattle.std.specs.Prelude.{ℕ, ◌-◌, Option, List, length, take, slice_get}
-use Rattle.arm_step.specs.declared.psr.Mode.TheVariants.{Supervisor}
-use Rattle.arm_step.specs.State.{State, register_in}
+use Rattle.arm_core.specs.declared.psr.Mode.TheVariants.{Supervisor}
+use Rattle.arm_core.specs.State.{State, register_in}
 use Rattle.swi_dispatch_frames.specs.declared.call.Call.{Call}
 use Rattle.swi_dispatch_frames.specs.declared.frame.Frame.{Frame}
 use Rattle.swi_dispatch_frames.specs.declared.frame.FrameKind.{FrameKind}

@@ -3,9 +3,9 @@
 -- words, R0 to R9 and the flags stay as the code left them, and the mode and the masks are the
 -- caller's. After another entry R0 to R12 and the whole status are the caller's.
 use Rattle.std.specs.Prelude.{ℕ, zero, suc, ◌+◌, ◌-◌, List, slice_index}
-use Rattle.arm_step.specs.declared.psr.Mode.TheVariants.{User}
-use Rattle.arm_step.specs.declared.psr.Psr.{Psr}
-use Rattle.arm_step.specs.State.{State, with_pc, with_psr, with_register_in}
+use Rattle.arm_core.specs.declared.psr.Mode.TheVariants.{User}
+use Rattle.arm_core.specs.declared.psr.Psr.{Psr}
+use Rattle.arm_core.specs.State.{State, with_pc, with_psr, with_register_in}
 use Rattle.swi_dispatch_frames.specs.declared.frame.Frame.{Frame}
 use Rattle.swi_dispatch_frames.specs.declared.frame.FrameKind.{FrameKind}
 use Rattle.swi_dispatch_frames.specs.declared.frame.FrameKind.TheVariants.{Swi, Entry}

@@ -1,6 +1,6 @@
 //! What a store call keeps from its start to its end.
 
-use arm_step::{Mode, Psr};
+use arm_core::{Mode, Psr};
 
 /// What the end of a call needs to know of its start.
 #[derive(Clone, Copy, Debug, PartialEq, Eq)]

@@ -3,8 +3,8 @@
 ghost use Rattle.std.specs.Prelude.{◌≡◌, ◌<◌};
 ghost use Rattle.swi_dispatch_frames.specs.Entering.{entered, swi_entered, code_entered};
 
-use arm_step::profile::memory_map::RETURN_GATE;
-use arm_step::{Cpu, Mode};
+use arm_core::profile::memory_map::RETURN_GATE;
+use arm_core::{Cpu, Mode};
 use instances_plans::{Code, private_word};
 
 /// The core goes to the SWI handler of a module: R11 is the number of the SWI in its chunk, R12 the

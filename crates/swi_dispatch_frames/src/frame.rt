@@ -1,12 +1,12 @@
 //! A frame: what was saved as module code was entered.
 
 ghost use Rattle.std.specs.Prelude.{◌≡◌, ◌==◌};
-ghost use Rattle.arm_step.specs.State.{register_in};
-ghost use Rattle.arm_step.specs.declared.psr.Mode.TheVariants.{Supervisor};
+ghost use Rattle.arm_core.specs.State.{register_in};
+ghost use Rattle.arm_core.specs.declared.psr.Mode.TheVariants.{Supervisor};
 ghost use Rattle.swi_dispatch_frames.specs.Frames.{frame_of, shared_registers};
 
 use crate::call::Call;
-use arm_step::{Cpu, Mode};
+use arm_core::{Cpu, Mode};
 use instances_plans::CodeKind;
 
 /// How many registers a frame can restore: R0 to R12.

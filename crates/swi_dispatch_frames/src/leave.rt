@@ -4,7 +4,7 @@ ghost use Rattle.std.specs.Prelude.{◌≡◌, ◌≤◌, ◌-◌, length};
 ghost use Rattle.swi_dispatch_frames.specs.Leaving.{first_restored, left, restored, status_left};
 
 use crate::frame::{Frame, FrameKind, SAVED_REGISTERS};
-use arm_step::{Cpu, Mode, Psr};
+use arm_core::{Cpu, Mode, Psr};
 
 impl Frame {
     /// The core comes back from module code to where the call goes on. After a SWI, R0 to R9 and

@@ -2,7 +2,7 @@
 -- Programmer's Reference Manual, "OS_Module").
 use Rattle.std.specs.Prelude.{ℕ, Result, Ok}
 use Rattle.profile.specs.Outcome.{bind}
-use Rattle.swi_dispatch_store.specs.swi_dispatch_answers.specs.arm_step.specs.State.{State, register_of, with_register}
+use Rattle.swi_dispatch_store.specs.swi_dispatch_answers.specs.arm_core.specs.State.{State, register_of, with_register}
 use Rattle.swi_dispatch_store.specs.swi_dispatch_answers.specs.declared.refusal.Refusal.{Refusal}
 use Rattle.swi_dispatch_store.specs.swi_dispatch_answers.specs.Refusals.{or_error}
 use Rattle.instances_ground.specs.rma.specs.Calls.{rma_described, rma_claimed, rma_freed, rma_extended}

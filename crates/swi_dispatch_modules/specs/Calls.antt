@@ -6,7 +6,7 @@ use Rattle.profile.specs.Reasons.{module_reason}
 use Rattle.profile.specs.declared.error.ErrorNumber.TheVariants.{ModuleBadReason}
 use Rattle.profile.specs.declared.reason.ModuleReason.{ModuleReason}
 use Rattle.profile.specs.declared.reason.ModuleReason.TheVariants as reason
-use Rattle.swi_dispatch_store.specs.swi_dispatch_answers.specs.arm_step.specs.State.{State, register_of}
+use Rattle.swi_dispatch_store.specs.swi_dispatch_answers.specs.arm_core.specs.State.{State, register_of}
 use Rattle.swi_dispatch_store.specs.swi_dispatch_answers.specs.declared.refusal.Refusal.{Refusal}
 use Rattle.swi_dispatch_store.specs.swi_dispatch_answers.specs.Refusals.{system_error}
 use Rattle.instances_ground.specs.World.{World}

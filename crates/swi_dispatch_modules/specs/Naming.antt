@@ -4,7 +4,7 @@
 use Rattle.std.specs.Prelude.{Result, Ok, List, ℕ}
 use Rattle.profile.specs.Outcome.{bind}
 use Rattle.profile.specs.declared.error.ErrorNumber.{ErrorNumber}
-use Rattle.swi_dispatch_store.specs.swi_dispatch_answers.specs.arm_step.specs.State.{State, register_of, with_register}
+use Rattle.swi_dispatch_store.specs.swi_dispatch_answers.specs.arm_core.specs.State.{State, register_of, with_register}
 use Rattle.swi_dispatch_store.specs.swi_dispatch_answers.specs.declared.refusal.Refusal.{Refusal}
 use Rattle.swi_dispatch_store.specs.swi_dispatch_answers.specs.Refusals.{or_error}
 use Rattle.swi_dispatch_store.specs.swi_dispatch_answers.specs.Strings.{string_in}

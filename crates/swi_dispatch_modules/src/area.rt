@@ -11,7 +11,7 @@ ghost use Rattle.instances_ground.specs.World.{world_of};
 ghost use Rattle.swi_dispatch_store.specs.Leaving.{LeavesSound};
 ghost use Rattle.swi_dispatch_modules.specs.Area.{area_described, block_claimed, block_extended, block_freed};
 
-use arm_step::Cpu;
+use arm_core::Cpu;
 use instances_ground::rma::Rma;
 use instances_ground::rma::address_map::AddressMap;
 use instances_ground::rma::dynamic_areas::Areas;

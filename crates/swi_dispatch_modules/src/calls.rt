@@ -11,7 +11,7 @@ ghost use Rattle.swi_dispatch_modules.specs.Leaving.{LeavesWorld};
 use crate::area::{claim_block, describe_area, extend_block, free_block};
 use crate::naming::{find_instance, prefer_instance, rename_instance, tell_instance};
 use address_map::AddressMap;
-use arm_step::Cpu;
+use arm_core::Cpu;
 use instances::Instances;
 use instances_ground::rma::dynamic_areas::Areas;
 use profile::{ErrorNumber, ModuleReason};

@@ -14,7 +14,7 @@ ghost use Rattle.instances_ground.specs.World.{world_of};
 ghost use Rattle.swi_dispatch_modules.specs.Naming.{instance_found, instance_preferred, instance_renamed, instance_told};
 
 use address_map::AddressMap;
-use arm_step::Cpu;
+use arm_core::Cpu;
 use instances::{Instances, Place};
 use swi_dispatch_store::swi_dispatch_answers::Refusal;
 use swi_dispatch_store::swi_dispatch_answers::strings::string_in;

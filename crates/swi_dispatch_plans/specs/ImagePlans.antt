@@ -7,7 +7,7 @@ use Rattle.profile.specs.Outcome.{bind}
 use Rattle.profile.specs.declared.error.ErrorNumber.{ErrorNumber}
 use Rattle.profile.specs.declared.error.ErrorNumber.TheVariants.{BadPointer, BadString, ImageUnknown, ModuleNotFound}
 use Rattle.address_map.specs.Bytes.{bytes_between}
-use Rattle.arm_step.specs.State.{register_of}
+use Rattle.arm_core.specs.State.{register_of}
 use Rattle.image_loader.specs.Entries.{Entry, bytes_of}
 use Rattle.instances_ground.specs.rma.specs.Copies.{may_be_copied}
 use Rattle.instances_ground.specs.rma.specs.NewImages.{may_be_in_place}

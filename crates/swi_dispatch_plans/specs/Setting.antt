@@ -2,7 +2,7 @@
 use Rattle.std.specs.Prelude.{ℕ, Option, Result, List}
 use Rattle.profile.specs.declared.error.ErrorNumber.{ErrorNumber}
 use Rattle.address_map.specs.declared.map.AddressMap.{AddressMap}
-use Rattle.arm_step.specs.State.{State}
+use Rattle.arm_core.specs.State.{State}
 use Rattle.instances_ground.specs.World.{World, world_of}
 use Rattle.instances_ground.specs.dynamic_areas.specs.Areas.{Land}
 use Rattle.instances_plans.specs.Plans.{Plan}

@@ -7,7 +7,7 @@ ghost use Rattle.swi_dispatch_plans.specs.Openings.{as_user, opening_asked};
 ghost use Rattle.swi_dispatch_plans.specs.Setting.{setting_in};
 
 use crate::planner::Planner;
-use arm_step::{Cpu, Mode, Psr};
+use arm_core::{Cpu, Mode, Psr};
 use arrayvec::ArrayVec;
 use instances_plans::private_word;
 use profile::ErrorNumber;

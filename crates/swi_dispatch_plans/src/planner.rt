@@ -7,7 +7,7 @@ ghost use Rattle.swi_dispatch_plans.specs.Beginning.{IsSetting};
 ghost use Rattle.swi_dispatch_plans.specs.Setting.{setting_in, string_asked};
 
 use address_map::AddressMap;
-use arm_step::Cpu;
+use arm_core::Cpu;
 use arrayvec::ArrayVec;
 use instances_ground::dynamic_areas::Areas;
 use instances_plans::Plan;

@@ -7,7 +7,7 @@ use Rattle.profile.specs.Reasons.{area_reason}
 use Rattle.profile.specs.declared.error.ErrorNumber.TheVariants.{AreaBadReason, BadString}
 use Rattle.profile.specs.declared.reason.AreaReason.{AreaReason}
 use Rattle.profile.specs.declared.reason.AreaReason.TheVariants as reason
-use Rattle.swi_dispatch_answers.specs.arm_step.specs.State.{State, register_of, with_register}
+use Rattle.swi_dispatch_answers.specs.arm_core.specs.State.{State, register_of, with_register}
 use Rattle.os_heap.specs.Store.{Store}
 use Rattle.flex_kept.specs.dynamic_areas.specs.declared.area.Area.{Area}
 use Rattle.flex_kept.specs.dynamic_areas.specs.declared.area.Changed.{Changed}

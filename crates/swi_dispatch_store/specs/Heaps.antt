@@ -6,7 +6,7 @@ use Rattle.profile.specs.Reasons.{heap_reason}
 use Rattle.profile.specs.declared.error.ErrorNumber.TheVariants.{HeapBadReason}
 use Rattle.profile.specs.declared.reason.HeapReason.{HeapReason}
 use Rattle.profile.specs.declared.reason.HeapReason.TheVariants as reason
-use Rattle.swi_dispatch_answers.specs.arm_step.specs.State.{State, register_of, with_register}
+use Rattle.swi_dispatch_answers.specs.arm_core.specs.State.{State, register_of, with_register}
 use Rattle.os_heap.specs.Calls.{resized, changed, block_sized, got, gave_back, described, begun}
 use Rattle.os_heap.specs.Store.{Store}
 use Rattle.swi_dispatch_answers.specs.declared.refusal.Refusal.{Refusal}

@@ -11,7 +11,7 @@ ghost use Rattle.swi_dispatch_store.specs.Areas.{area_called, area_changed, area
 ghost use Rattle.swi_dispatch_store.specs.Leaving.{LeavesSound};
 
 use address_map::AddressMap;
-use arm_step::Cpu;
+use arm_core::Cpu;
 use flex_kept::dynamic_areas::{Areas, Changed, Wanted};
 use profile::memory_map::PAGE_SIZE;
 use profile::{AreaReason, ErrorNumber};

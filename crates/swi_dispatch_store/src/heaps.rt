@@ -7,7 +7,7 @@ ghost use Rattle.swi_dispatch_store.specs.Heaps.{block_freed, block_got, block_m
 ghost use Rattle.swi_dispatch_store.specs.Leaving.{LeavesAreas};
 
 use address_map::AddressMap;
-use arm_step::Cpu;
+use arm_core::Cpu;
 use os_heap::Heaps;
 use profile::{ErrorNumber, HeapReason};
 use swi_dispatch_answers::Refusal;

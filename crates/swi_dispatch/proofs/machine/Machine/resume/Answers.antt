@@ -1,6 +1,6 @@
 use Rattle.std.proofs.Common.{refl, ap, subst, sym, ◌∙◌}
 use Rattle.swi_dispatch_frames.specs.Frames.{innermost}
-use Rattle.arm_step.specs.State.{State}
+use Rattle.arm_core.specs.State.{State}
 use Rattle.flex_ground.specs.instances_ground.specs.World.{world_of}
 use Rattle.swi_dispatch.specs.Gates.{Resumes, come_back, core_by, frames_by, with_code}
 use Rattle.swi_dispatch.specs.MachineState.{MachineState, with_world}

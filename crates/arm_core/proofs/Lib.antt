@@ -1,0 +1,6 @@
+pub mod Comparing
+pub mod Listing
+pub mod Lowest
+pub mod OperandWords
+pub mod RegisterWords
+pub mod Turning

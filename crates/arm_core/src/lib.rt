@@ -1,0 +1,18 @@
+//! The core of the ARM2: its registers and status, and what an instruction that needs no memory
+//! leaves of them.
+#![tactic(auto)]
+
+pub mod condition;
+pub mod cpu;
+pub mod effect;
+pub mod laws;
+pub mod operand;
+pub mod operate;
+pub mod psr;
+pub mod registers;
+pub mod turn;
+
+pub use cpu::Cpu;
+pub use profile;
+pub use psr::{Mode, Psr};
+pub use turn::Turn;

@@ -1,0 +1,30 @@
+//! How a step of the core ended.
+
+ghost use Rattle.std.specs.Prelude.{◌≡◌};
+
+use profile::Fault;
+
+/// How a step ended. On every answer but `Done` the core and the memory are as they were.
+#[derive(Clone, Copy, Debug, PartialEq, Eq)]
+pub enum Turn {
+    /// One instruction was carried out.
+    Done,
+    /// The instruction is a software interrupt, with the number in its bits 23 to 0. The program
+    /// counter still stands on it.
+    Swi(u32),
+    /// The program counter stands on the address that module code returns to.
+    Gate,
+    /// The instruction can't be fetched or carried out.
+    Fault(Fault),
+}
+
+impl From<Fault> for Turn {
+    ghost use Rattle.arm_core.specs.declared.turn.Turn.TheVariants.{Fault};
+
+    ghost from_gives = { λ fault turn. turn ≡ Fault fault };
+
+    #[inline(always)]
+    fn from(fault: Fault) -> Turn {
+        Turn::Fault(fault)
+    }
+}
