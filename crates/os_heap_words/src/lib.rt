@@ -7,12 +7,12 @@ pub mod by_links;
 pub mod claim;
 pub mod counted;
 pub mod free;
+pub mod free_items;
 mod links;
 pub mod marks;
 pub mod neighbour;
 pub mod refit;
 mod sums;
-pub mod free_items;
 pub mod walk;
 pub mod words;
 

@@ -16,13 +16,7 @@ use crate::words::{BASE, END, put, put_free, put_link, word};
 use address_map::{AddressMap, Item};
 
 /// Gives a block another total where it stands, if it can, and tells whether it did.
-pub fn refit(
-    map: &mut AddressMap,
-    heap: u32,
-    block: u32,
-    cursor: &Cursor,
-    needed: u64,
-) -> bool
+pub fn refit(map: &mut AddressMap, heap: u32, block: u32, cursor: &Cursor, needed: u64) -> bool
     requires place { IsAtBlock map.old heap block cursor.now }
     requires needed { IsNewTotal needed }
     ensures { RefitsBlock map.old map.new heap block needed result }
