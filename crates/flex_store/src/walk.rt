@@ -22,7 +22,7 @@ pub(crate) const HEADER: u32 = 8;
 pub(crate) const SIZE: u32 = 4;
 
 /// The word at an address.
-#[tactic(auto, using(os_heap::proofs::Writing::word_mapped))]
+#[tactic(auto, using(os_heap_words::proofs::Writing::word_mapped))]
 pub(crate) fn word(map: &AddressMap, at: u32) -> u32
     requires aligned { at % 4 ≡ 0 }
     requires mapped { is_mapped map.now at ≡ true }

@@ -7,7 +7,7 @@ use Rattle.rma.specs.address_map.specs.Memory.{Layout, byte_at, bytes_of, class_
 use Rattle.rma.specs.address_map.proofs.Equations.{same_bytes}
 use Rattle.rma.specs.os_heap.specs.Store.{Store, store_of}
 use Rattle.rma.specs.os_heap.proofs.Frame.{IsKept}
-use Rattle.rma.specs.os_heap.proofs.Writing.{word_mapped}
+use Rattle.rma.specs.os_heap.specs.os_heap_words.proofs.Writing.{word_mapped}
 use Rattle.rma.specs.dynamic_areas.specs.Areas.{Land}
 use Rattle.rma.specs.dynamic_areas.specs.Ground.{IsEstate, IsRecorded, estate_of, system_pages}
 use Rattle.rma.specs.dynamic_areas.proofs.HeapCalls.{areas_written, system_mapped}

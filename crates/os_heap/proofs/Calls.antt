@@ -30,7 +30,8 @@ use Rattle.os_heap.proofs.Nesting.{KeepsHeaps, keeps_by_blocks}
 use Rattle.os_heap.proofs.Stores.{AreOthers, KeepsImages, are_others, sound_held, store_held}
 use Rattle.os_heap.specs.Forgetting.{forgot}
 use Rattle.os_heap.specs.Sound.{Forgets, GivesBack, IsSoundMap, KeepsRest}
-use Rattle.os_heap.specs.Outcomes.{Becomes, items_at, HasHeapAt, Claims, end_at, Releases, has_anchor_in}
+use Rattle.os_heap_words.specs.Outcomes.{Becomes, items_at, HasHeapAt, Claims, end_at, Releases}
+use Rattle.os_heap.specs.GuestBlocks.{has_anchor_in}
 use Rattle.os_heap.specs.Store.{heap_in, find_heap, store_of, IsSound, AreClasses, heaps_in, others_in, has_image, is_image, Store}
 use Rattle.os_heap.specs.Calls.{got, gave_back, holding, holds_anchor, total_or_0, unless_image}
 use Rattle.os_heap.specs.Probes.{get_probes, counted_of, walk_probes}

@@ -30,7 +30,7 @@ use Rattle.os_heap.proofs.FlexWords.{AreSameFlex, same_flex}
 use Rattle.os_heap.proofs.Stores.{SamePlaces, same_limits, AreOthers, clear_both_ways, are_others, bytes_held}
 use Rattle.os_heap.specs.Calls.{with_end, has_own_size, ending}
 use Rattle.os_heap.specs.Ranges.{MayEnd, is_in_way, is_obstructed, overgrows}
-use Rattle.os_heap.specs.Outcomes.{Becomes, items_at}
+use Rattle.os_heap_words.specs.Outcomes.{Becomes, items_at}
 use Rattle.os_heap.specs.Nesting.{StandApart, StandsApart}
 use Rattle.os_heap.specs.Store.{AreClear, AreHeapsIn, ArePlaced, IsPlacedIn, find_heap, Store, others_in, heap_in, heaps_in, IsSound, AreClasses, store_of}
 use Rattle.address_map.specs.declared.region.Kind.TheVariants as kind

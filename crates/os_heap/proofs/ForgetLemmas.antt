@@ -27,13 +27,13 @@ use Rattle.os_heap.proofs.Held.{AreBy}
 use Rattle.os_heap.proofs.GuestKinds.{guest_kind, plain_kind}
 use Rattle.os_heap.proofs.LostHeaps.{forgot_beyond, forgot_none, forgot_spelled, forgot_unspelled, none_without}
 use Rattle.os_heap.proofs.LostRecords.{loses_range, rest_kept}
-use Rattle.os_heap.proofs.Replace.{heap_below}
+use Rattle.os_heap_words.proofs.Replace.{heap_below}
 use Rattle.os_heap.specs.Forgetting.{forgot, holds_heap, lowest_lost, starts_in, without_heaps}
-use Rattle.os_heap.specs.Marks.{SetsClasses, unheaded, with_no_heads}
-use Rattle.os_heap.specs.Cursors.{IsAtBlock}
-use Rattle.os_heap.specs.Outcomes.{HasHeapAt}
+use Rattle.os_heap_words.specs.Marks.{SetsClasses, unheaded, with_no_heads}
+use Rattle.os_heap_words.specs.Cursors.{IsAtBlock}
+use Rattle.os_heap_words.specs.Outcomes.{HasHeapAt}
 use Rattle.os_heap.specs.Sound.{Forgets, HasBlock, IsSoundMap}
-use Rattle.os_heap.specs.declared.walk.Cursor.{Cursor}
+use Rattle.os_heap_words.specs.declared.walk.Cursor.{Cursor}
 use Rattle.os_heap.specs.Store.{IsSound, Store, heap_in, heaps_in, others_in, store_of}
 
 -- the totals of blocks are multiples of 8

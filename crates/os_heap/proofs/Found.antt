@@ -11,7 +11,7 @@ use Rattle.address_map.specs.declared.map.AddressMap.{AddressMap}
 use Rattle.address_map.specs.declared.region.Region.{Region}
 use Rattle.os_heap_lists.specs.Counts.{larger, largest_free, free_total, round_down_8, free_count}
 use Rattle.os_heap_lists.specs.Heap.{HeapList, IsHeapIn}
-use Rattle.os_heap.specs.Outcomes.{IsHeapAt, items_at}
+use Rattle.os_heap_words.specs.Outcomes.{IsHeapAt, items_at}
 use Rattle.os_heap.specs.Store.{heaps_in, find_heap, AreHeapsIn, IsSound, heap_in, store_of, Store}
 use Rattle.os_heap.specs.Calls.{described, items_of, with_end}
 use Rattle.os_heap.specs.Nesting.{is_crossed}

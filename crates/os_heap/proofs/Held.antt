@@ -10,6 +10,7 @@ use Rattle.address_map.specs.declared.item.Item.{Item}
 use Rattle.os_heap_lists.proofs.HeadWords.{head_inside}
 use Rattle.os_heap_lists.specs.Heap.{HeapList, IsHeapIn}
 use Rattle.os_heap_lists.specs.Marks.{marked, Remarks, AreMarked, spells_any}
+use Rattle.os_heap_words.proofs.Marking.{heap_class}
 use Rattle.os_heap.proofs.Found.{found_heap}
 use Rattle.os_heap.proofs.Nesting.{words_apart}
 use Rattle.os_heap.proofs.RangeTests.{or_none}
@@ -20,12 +21,6 @@ use Rattle.os_heap.specs.Store.{AreHeapsIn, find_heap}
 -- the bytes that are classed as a heap's are those that the lists spell
 abbrev pub AreBy : (ℕ → Class) → List HeapList → Type 0
 AreBy classes hs = (a : ℕ) → is_heap_class (classes a) ≡ spells_any hs (word_start a)
-
-pub heap_class : (own : Class) → is_heap_class own ≡ true → own ≡ class.Heap
-heap_class class.Heap is = refl
-heap_class class.Plain is = absurd (false≢true is)
-heap_class class.FlexHeader is = absurd (false≢true is)
-heap_class class.Anchor is = absurd (false≢true is)
 
 -- a heap's words are marked
 found_spelled : (hs : List HeapList) (start : ℕ) (h : HeapList) (p : ℕ) → find_heap start hs ≡ Some h → is_heap_word h.start h.items p ≡ true

@@ -6,7 +6,6 @@ pub mod Bounds
 pub mod Calls
 pub mod ClaimFacts
 pub mod ClaimedBlocks
-pub mod Claiming
 pub mod Ending
 pub mod FlexSound
 pub mod FlexWords
@@ -14,7 +13,6 @@ pub mod ForgetLemmas
 pub mod Forgetting
 pub mod Found
 pub mod Frame
-pub mod Freeing
 pub mod Held
 pub mod Holding
 pub mod ImageBlocks
@@ -22,11 +20,9 @@ pub mod Innermost
 pub mod KeptPayloads
 pub mod GuestKinds
 pub mod Limits
-pub mod Linking
 pub mod LossLaw
 pub mod LostHeaps
 pub mod LostRecords
-pub mod Marking
 pub mod MoveRefusals
 pub mod Moving
 pub mod Nesting
@@ -38,15 +34,7 @@ pub mod PayloadLists
 pub mod PayloadWrites
 pub mod RangeTests
 pub mod Recorded
-pub mod Refitted
-pub mod Refitting
 pub mod Refusals
-pub mod Replace
 pub mod Resizing
-pub mod Rest
-pub mod Searching
 pub mod Sized
 pub mod Stores
-pub mod Tally
-pub mod Walking
-pub mod Writing

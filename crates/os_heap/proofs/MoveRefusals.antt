@@ -14,7 +14,7 @@ use Rattle.os_heap.proofs.LostRecords.{rest_kept}
 use Rattle.os_heap.specs.Calls.{moved}
 use Rattle.os_heap.specs.Probes.{move_probes}
 use Rattle.os_heap.specs.Forgetting.{holds_heap}
-use Rattle.os_heap.specs.Outcomes.{items_at, end_at, Claims, room_of}
+use Rattle.os_heap_words.specs.Outcomes.{items_at, end_at, Claims, room_of}
 use Rattle.os_heap.specs.Sound.{IsSoundMap, KeepsRest}
 use Rattle.os_heap.specs.Store.{IsSound, find_heap, store_of, Store}
 use Rattle.os_heap.proofs.Moving.{part_known}

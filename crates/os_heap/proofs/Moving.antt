@@ -27,8 +27,8 @@ use Rattle.os_heap.proofs.Calls.{part_at, heap_there, free_given, IsHeld, is_hel
 use Rattle.os_heap.proofs.ForgetLemmas.{forgets_unheld}
 use Rattle.os_heap.proofs.Found.{found_heap, found_start}
 use Rattle.os_heap.proofs.Frame.{store_bytes, heads_kept, IsKept, classes_same, layout-others, layout-regions}
-use Rattle.os_heap.proofs.Replace.{heap_below}
-use Rattle.os_heap.proofs.Searching.{looked-below}
+use Rattle.os_heap_words.proofs.Replace.{heap_below}
+use Rattle.os_heap_words.proofs.Searching.{looked-below}
 use Rattle.os_heap.proofs.Nesting.{keeps_by_blocks, within_unspelled}
 use Rattle.os_heap.proofs.Stores.{AreOthers, are_others}
 use Rattle.os_heap.specs.Calls.{holds_anchor, copied, moved, handed_over, holding, with_items, gave_back}
@@ -36,7 +36,8 @@ use Rattle.os_heap.specs.Probes.{move_probes}
 use Rattle.os_heap.specs.Forgetting.{holds_heap, starts_in}
 use Rattle.os_heap.specs.Nesting.{IsWithin, StandsApart}
 use Rattle.os_heap.specs.Order.{stays}
-use Rattle.os_heap.specs.Outcomes.{has_anchor_in, items_at, end_at, Becomes, Claims, HasHeapAt, Releases}
+use Rattle.os_heap_words.specs.Outcomes.{items_at, end_at, Becomes, Claims, HasHeapAt, Releases}
+use Rattle.os_heap.specs.GuestBlocks.{has_anchor_in}
 use Rattle.os_heap.specs.Sound.{HasBlock, IsSoundMap, KeepsRest}
 use Rattle.os_heap.specs.Store.{has_image, IsSound, AreClasses, find_heap, store_of, AreHeapsIn, Store}
 

@@ -26,15 +26,17 @@ use Rattle.os_heap_lists.specs.Walks.{IsBlock}
 use Rattle.os_heap.proofs.Anchored.{refit_keeps}
 use Rattle.os_heap.proofs.Bounds.{move_most}
 use Rattle.os_heap.proofs.Calls.{part_at, heap_of-part, heap_there, IsLeft, is_left, image_recorded}
-use Rattle.os_heap.proofs.Freeing.{block_facts}
+use Rattle.os_heap_words.proofs.Freeing.{block_facts}
 use Rattle.os_heap.proofs.LostHeaps.{KeepsBlocks}
 use Rattle.os_heap.proofs.Moving.{part_there, HasPart}
-use Rattle.os_heap.proofs.Replace.{heap_mapped, heap_below}
-use Rattle.os_heap.proofs.Sized.{block_total}
+use Rattle.os_heap_words.proofs.Replace.{heap_mapped, heap_below}
+use Rattle.os_heap_words.proofs.Refitted.{block_total}
 use Rattle.os_heap.specs.Calls.{gave_back, holds_anchor, unless_image, resized, resized_or_moved, moved}
 use Rattle.os_heap.specs.Probes.{resize_probes, probes_after_walk, refit_probes, move_probes}
-use Rattle.os_heap.specs.Outcomes.{IsGuestBlock, has_anchor_in, items_at, end_at, Refits}
-use Rattle.os_heap.specs.Cursors.{RefitsBlock, ResizesInPlace}
+use Rattle.os_heap_words.specs.Outcomes.{items_at, end_at, Refits}
+use Rattle.os_heap.specs.GuestBlocks.{IsGuestBlock, has_anchor_in}
+use Rattle.os_heap_words.specs.Cursors.{RefitsBlock}
+use Rattle.os_heap.specs.GuestBlocks.{ResizesInPlace}
 use Rattle.os_heap.specs.Sound.{Forgets, GivesBack, HasBlock, IsSoundMap, KeepsRest}
 use Rattle.os_heap.specs.Store.{has_image, heap_in, heaps_in, find_heap, store_of, IsSound, Store}
 

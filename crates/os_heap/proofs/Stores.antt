@@ -22,7 +22,7 @@ use Rattle.os_heap.proofs.FlexWords.{AreSameFlex}
 use Rattle.os_heap.proofs.Found.{found_heap}
 use Rattle.os_heap.proofs.Nesting.{KeepsHeaps, KeepsWithin, apart_starts, apart_turned, listed, not_itself, stands_own, words_apart}
 use Rattle.os_heap.specs.Nesting.{StandApart, StandsApart}
-use Rattle.os_heap.specs.Outcomes.{Becomes}
+use Rattle.os_heap_words.specs.Outcomes.{Becomes}
 use Rattle.os_heap.specs.Store.{AreClear, IsClearOfHeaps, find_heap, AreHeapsIn, ArePlaced, Store, heap_in, heaps_in, others_in, IsSound, store_of, has_image, is_image, is_area, IsImageBlock, IsImageIn, IsPlacedIn, IsAnchorPlace, guest_count, area_count, StandAreas, AreInLimits}
 use Rattle.os_heap.specs.Calls.{with_items, holding}
 

@@ -1,60 +1,12 @@
 //! The items of a heap in order of address, one after another.
 
-ghost use Rattle.std.specs.Prelude.{◌≡◌, ◌+◌, ◌≤◌, List};
-ghost use Rattle.std.specs.Iterator.{YieldsFirst, item_count};
-ghost use Rattle.address_map.specs.declared.item.Item.{Item};
-ghost use Rattle.address_map.specs.Memory.{bytes_of};
-ghost use Rattle.os_heap_lists.specs.Walks.{rest_from, IsRest};
-ghost use Rattle.os_heap.specs.Outcomes.{IsHeapAt, items_at};
+ghost use Rattle.std.specs.Prelude.{◌≡◌};
 ghost use Rattle.os_heap.specs.Store.{store_of, IsSound};
 ghost use Rattle.os_heap.specs.Calls.{items_of};
 
 use crate::heaps::{Heaps, find};
-use crate::links::linked;
-use crate::words::{BASE, LINK, word};
-use address_map::{AddressMap, Item};
-use profile::memory_map::HEAP_DESCRIPTOR;
-use std::marker::Model;
-
-/// The items of a heap, live and free, in the order of their addresses.
-#[derive(Drop)]
-pub struct Blocks<'a> {
-    map: &'a AddressMap,
-    at: u32,
-    free: u32,
-    base: u32,
-}
-
-impl<'a> Model for Blocks<'a> {
-    ghost Value = { List Item };
-
-    ghost view = { λ b. rest_from (bytes_of b.map.now) b.at b.free b.base };
-
-    ghost invariant = { λ b. IsRest (bytes_of b.map.now) b.at b.free b.base };
-}
-
-impl<'a> Iterator for Blocks<'a> {
-    type Item = Item;
-
-    ghost next_gives = { YieldsFirst (λ s. s) };
-
-    ghost remaining = { item_count (λ s. s) };
-
-    fn next(&mut self) -> Option<Item> {
-        if self.at >= self.base {
-            return None;
-        }
-        if self.at == self.free {
-            let total = word(self.map, self.at + 4);
-            self.free = linked(self.at, word(self.map, self.at));
-            self.at += total;
-            return Some(Item::Free(total));
-        }
-        let total = word(self.map, self.at);
-        self.at += total;
-        Some(Item::Live(total))
-    }
-}
+use address_map::AddressMap;
+use os_heap_words::blocks::{Blocks, blocks_of};
 
 impl Heaps {
     /// The items of the heap that starts at an address, or `None` where none starts there.
@@ -64,18 +16,5 @@ impl Heaps {
     {
         let region = find(map, heap)?;
         Some(blocks_of(map, heap, region.len))
-    }
-}
-
-/// The items of a heap that memory spells.
-pub(crate) fn blocks_of<'a>(map: &'a AddressMap, heap: u32, end: u32) -> Blocks<'a>
-    requires { IsHeapAt map.now heap end }
-    ensures { result ≡ items_at map.now heap }
-{
-    Blocks {
-        map,
-        at: heap + HEAP_DESCRIPTOR,
-        free: linked(heap, word(map, heap + LINK)),
-        base: heap + word(map, heap + BASE),
     }
 }

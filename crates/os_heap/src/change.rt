@@ -9,17 +9,17 @@ ghost use Rattle.os_heap.specs.Calls.{changed, end_changed, ending, has_own_size
 ghost use Rattle.os_heap.specs.Order.{KeepsOrder};
 ghost use Rattle.os_heap.specs.Probes.{change_probes, end_probes, growth_probes};
 ghost use Rattle.os_heap.specs.Ranges.{MayEnd, overgrows};
-ghost use Rattle.os_heap.specs.Outcomes.{IsHeapAt};
+ghost use Rattle.os_heap_words.specs.Outcomes.{IsHeapAt};
 ghost use Rattle.os_heap.specs.Sound.{IsSoundMap, KeepsOthers};
 ghost use Rattle.os_heap.specs.Store.{store_of, heap_in, find_heap, AreClasses, IsSound};
 
-use crate::counted::{Counted, refused};
 use crate::heaps::{Heaps, find};
 use crate::init::{MOST_HEAP, is_heap_region};
 use crate::obstacles::{Tested, is_obstructed};
-use crate::sums::changed_by;
-use crate::words::{BASE, END, put, word};
 use address_map::{AddressMap, Kind, Region};
+use os_heap_words::changed_by;
+use os_heap_words::counted::{Counted, refused};
+use os_heap_words::words::{BASE, END, put, word};
 use profile::ErrorNumber;
 use profile::memory_map::RMA_START;
 

@@ -7,8 +7,8 @@ ghost use Rattle.os_heap.specs.Sound.{Forgets, HasBlock, IsSoundMap};
 ghost use Rattle.os_heap.specs.Store.{heaps_in, store_of};
 
 use crate::heaps::Heaps;
-use crate::marks::unmark_heads;
 use address_map::{AddressMap, Region};
+use os_heap_words::marks::unmark_heads;
 
 impl Heaps {
     /// Whether a guest's heap starts among the `len` bytes from `at` on.

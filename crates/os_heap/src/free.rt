@@ -1,55 +1,26 @@
 //! OS_Heap 3: a block is given back, and joins the free items that touch it.
 
-ghost use Rattle.std.specs.Prelude.{◌≡◌, ◌+◌, Ok, true, false, is_some};
+ghost use Rattle.std.specs.Prelude.{◌≡◌, Ok, true, false, is_some};
 ghost use Rattle.profile.specs.Outcome.{Gives};
 ghost use Rattle.address_map.specs.Memory.{mapping, regions};
-ghost use Rattle.os_heap_lists.specs.Lists.{released};
-ghost use Rattle.os_heap.specs.Outcomes.{IsGuestBlock, end_at, has_anchor_in, items_at, Releases};
-ghost use Rattle.os_heap.specs.Cursors.{IsAtBlock};
+ghost use Rattle.os_heap_words.specs.Outcomes.{items_at};
+ghost use Rattle.os_heap.specs.GuestBlocks.{IsGuestBlock, has_anchor_in};
+ghost use Rattle.os_heap_words.specs.Cursors.{IsAtBlock};
 ghost use Rattle.os_heap.specs.Order.{LosesHeaps};
 ghost use Rattle.os_heap.specs.Sound.{GivesBack, IsSoundMap, KeepsRest};
 ghost use Rattle.os_heap.specs.Store.{store_of, find_heap, AreClasses, IsSound};
 ghost use Rattle.os_heap.specs.Calls.{gave_back};
 ghost use Rattle.os_heap.specs.Probes.{walk_probes};
 
-use crate::counted::{Counted, refused};
 use crate::forget::forget_inner;
+use crate::guests::find_guest_block;
 use crate::heaps::{Heaps, find};
-use crate::marks::remark_gap;
-use crate::neighbour::{free_behind, own_total};
-use crate::walk::{Cursor, find_guest_block};
-use crate::words::{BASE, put, put_free, put_link, word};
-use address_map::{AddressMap, Item};
+use address_map::AddressMap;
+use os_heap_words::counted::{Counted, refused};
+use os_heap_words::free::give_back;
+use os_heap_words::neighbour::own_total;
+use os_heap_words::walk::Cursor;
 use profile::ErrorNumber;
-
-/// Makes a block free room. It joins the free items that touch it; at the base it is dropped, with that before it.
-pub(crate) fn give_back(map: &mut AddressMap, heap: u32, block: u32, cursor: &Cursor)
-    requires { IsAtBlock map.old heap block cursor.now }
-    ensures { Releases map.old map.new heap (end_at map.old heap) (Ok tt)
-        (released block (heap + 16) (items_at map.old heap)) }
-{
-    let base = heap + word(map, heap + BASE);
-    let own = own_total(map, heap, block, cursor);
-    let behind = cursor.at + own;
-    let at = cursor.at - cursor.gap;
-    let total = cursor.gap + own;
-    if behind == base {
-        put_link(map, heap, cursor.from, 0);
-        put(map, heap + BASE, at - heap);
-        remark_gap(map, cursor, &[Item::Live(own)], &[]);
-        return;
-    }
-    if behind == cursor.free {
-        let item = free_behind(map, heap, block, cursor);
-        let joined = total + item.total;
-        put_free(map, heap, cursor.from, at, joined, item.next);
-        let olds = [Item::Live(own), Item::Free(item.total)];
-        remark_gap(map, cursor, &olds, &[Item::Free(joined)]);
-        return;
-    }
-    put_free(map, heap, cursor.from, at, total, cursor.free);
-    remark_gap(map, cursor, &[Item::Live(own)], &[Item::Free(total)]);
-}
 
 /// Whether the block at the cursor holds an anchor, its length word counted with it.
 pub(crate) fn holds_anchor(map: &AddressMap, heap: u32, block: u32, cursor: &Cursor) -> bool

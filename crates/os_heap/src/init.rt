@@ -14,12 +14,12 @@ ghost use Rattle.os_heap.specs.Sound.{IsSoundMap, KeepsOthers};
 ghost use Rattle.os_heap.specs.Store.{store_of, heaps_in, guest_count, AreClasses, IsSound};
 ghost use Rattle.os_heap.specs.Calls.{begun, begun_with};
 
-use crate::counted::{Counted, refused};
 use crate::heaps::Heaps;
-use crate::marks::mark_descriptor;
 use crate::obstacles::is_obstructed;
-use crate::words::{BASE, END, LINK};
 use address_map::{AddressMap, Kind, Region};
+use os_heap_words::counted::{Counted, refused};
+use os_heap_words::marks::mark_descriptor;
+use os_heap_words::words::{BASE, END, LINK};
 use profile::ErrorNumber;
 use profile::memory_map::{HEAP_DESCRIPTOR, HEAP_NAME};
 

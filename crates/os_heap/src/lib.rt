@@ -4,33 +4,22 @@
 
 pub mod blocks;
 pub mod change;
-mod claim;
-pub mod counted;
 pub mod describe;
 mod forget;
 mod free;
+mod get;
+mod guests;
 pub mod heaps;
 pub mod init;
 pub mod laws;
-mod links;
-pub mod marks;
-mod neighbour;
 mod obstacles;
 pub mod payload;
-mod refit;
 mod relocate;
 pub mod resize;
 pub mod room;
 pub mod size;
-mod sums;
-mod walk;
-pub mod words;
 
-pub use address_map::Item;
-pub use blocks::Blocks;
-pub use claim::total_for;
-pub use counted::Counted;
 pub use heaps::Heaps;
+pub use os_heap_words::{Blocks, Counted, Item, changed_by, round_up_8, total_for};
 pub use payload::Payload;
 pub use profile;
-pub use sums::{changed_by, round_up_8};

@@ -10,15 +10,15 @@ ghost use Rattle.address_map.specs.Records.{is_heap_kind};
 ghost use Rattle.os_heap_lists.specs.Heap.{AreTotals};
 ghost use Rattle.os_heap.specs.Bars.{IsInnermost, bars_record};
 ghost use Rattle.os_heap.specs.Nesting.{holds_range, is_round, later};
-ghost use Rattle.os_heap.specs.Outcomes.{IsHeapAt, items_at};
+ghost use Rattle.os_heap_words.specs.Outcomes.{IsHeapAt, items_at};
 ghost use Rattle.os_heap.specs.Probes.{region_probes, walked_to};
 ghost use Rattle.os_heap.specs.Ranges.{is_obstructed};
 ghost use Rattle.os_heap.specs.Sound.{IsSoundMap};
 ghost use Rattle.os_heap.specs.Store.{heap_in, store_of};
 
-use crate::blocks::{Blocks, blocks_of};
 use crate::payload::holds_byte;
 use address_map::{AddressMap, Region, do_meet};
+use os_heap_words::blocks::{Blocks, blocks_of};
 use profile::memory_map::HEAP_DESCRIPTOR;
 
 /// What a test of a range answers, and how many items it looked at.

@@ -5,24 +5,27 @@ ghost use Rattle.profile.specs.Outcome.{Gives};
 ghost use Rattle.address_map.specs.Memory.{anchor_of, mapping, regions};
 ghost use Rattle.address_map.specs.Records.{anchor_among};
 ghost use Rattle.os_heap.specs.Calls.{resized};
-ghost use Rattle.os_heap.specs.Cursors.{IsNewTotal, ResizesInPlace};
-ghost use Rattle.os_heap.specs.Outcomes.{IsGuestBlock, items_at};
+ghost use Rattle.os_heap_words.specs.Cursors.{IsNewTotal};
+ghost use Rattle.os_heap.specs.GuestBlocks.{ResizesInPlace};
+ghost use Rattle.os_heap_words.specs.Outcomes.{items_at};
+ghost use Rattle.os_heap.specs.GuestBlocks.{IsGuestBlock};
 ghost use Rattle.os_heap.specs.Probes.{resize_probes, AreInBounds};
 ghost use Rattle.os_heap.specs.Order.{LosesHeaps};
 ghost use Rattle.os_heap.specs.Sound.{IsSoundMap, KeepsRest};
 ghost use Rattle.os_heap.specs.Store.{store_of, find_heap, AreClasses, IsSound};
 
-use crate::counted::{Counted, refused};
 use crate::forget::forget_cut;
 use crate::free::{give_up, holds_anchor};
+use crate::guests::find_guest_block;
 use crate::heaps::{Heaps, find};
-use crate::neighbour::own_total;
-use crate::refit::refit;
 use crate::relocate::relocate;
-use crate::sums::{changed_by, round_up_8};
-use crate::walk::{Cursor, find_guest_block};
-use crate::words::word;
 use address_map::AddressMap;
+use os_heap_words::counted::{Counted, refused};
+use os_heap_words::neighbour::own_total;
+use os_heap_words::refit::refit;
+use os_heap_words::walk::Cursor;
+use os_heap_words::words::word;
+use os_heap_words::{changed_by, round_up_8};
 use profile::ErrorNumber;
 
 impl Heaps {

@@ -2,17 +2,17 @@
 
 ghost use Rattle.std.specs.Prelude.{◌≡◌, ◌+◌};
 ghost use Rattle.os_heap.specs.Calls.{bytes_held, guests_total, block_sized};
-ghost use Rattle.os_heap.specs.Outcomes.{HasHeapAt, items_at};
+ghost use Rattle.os_heap_words.specs.Outcomes.{HasHeapAt, items_at};
 ghost use Rattle.os_heap_lists.specs.Counts.{begun_below};
 ghost use Rattle.address_map.specs.Memory.{regions};
 ghost use Rattle.os_heap.specs.Store.{store_of, IsSound};
 ghost use Rattle.os_heap.specs.Probes.{walk_probes};
 
-use crate::counted::{Counted, refused};
+use crate::guests::find_guest_block;
 use crate::heaps::{Heaps, find};
-use crate::walk::find_guest_block;
-use crate::words::word;
 use address_map::AddressMap;
+use os_heap_words::counted::{Counted, refused};
+use os_heap_words::words::word;
 use profile::ErrorNumber;
 
 impl Heaps {

@@ -7,7 +7,7 @@ use Rattle.address_map.specs.declared.map.AddressMap.{AddressMap}
 use Rattle.os_heap_lists.proofs.LastLink.{link_of-heap, replaced}
 use Rattle.os_heap_lists.specs.Heap.{IsHeapIn, next_free}
 use Rattle.os_heap_lists.specs.Words.{IsWritten, link_at}
-use Rattle.os_heap.specs.Outcomes.{end_at, HasHeapAt, items_at}
+use Rattle.os_heap_words.specs.Outcomes.{end_at, HasHeapAt, items_at}
 use Rattle.os_heap_slide.proofs.Laying.{IsRead, read}
 use Rattle.os_heap_slide.specs.Slide.{AreBlocks}
 use Rattle.os_heap_slide.specs.Steps.{IsSliding}

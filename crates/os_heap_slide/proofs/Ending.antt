@@ -28,7 +28,7 @@ use Rattle.os_heap.proofs.FlexWords.{AreSameFlex, flex_held, flex_on, same_flex}
 use Rattle.os_heap.proofs.Held.{heads_marked, marks_held}
 use Rattle.os_heap.proofs.Stores.{are_others, AreOthers, layout-regions, places-held, same_limits}
 use Rattle.os_heap.specs.Calls.{OfHeap, holds_anchor, with_items}
-use Rattle.os_heap.specs.Outcomes.{end_at, HasHeapAt, items_at}
+use Rattle.os_heap_words.specs.Outcomes.{end_at, HasHeapAt, items_at}
 use Rattle.os_heap.specs.Store.{AreClasses, AreHeapsIn, find_heap, heaps_in, IsSound, is_flex_store, is_in_flex_store, others_in, store_of}
 use Rattle.os_heap_slide.proofs.Beside.{AreBeside, heaps_beside, heaps_stay, KeepsBytes, parts_beside, read_beside}
 use Rattle.os_heap_slide.proofs.KeptBlocks.{bytes_fixed}

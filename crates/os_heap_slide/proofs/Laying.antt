@@ -14,7 +14,7 @@ use Rattle.os_heap_lists.proofs.HeadWords.{head_inside, heaps_kept}
 use Rattle.os_heap_lists.proofs.Reading.{items_in-heap}
 use Rattle.os_heap_lists.specs.Heap.{IsHeapIn}
 use Rattle.os_heap_lists.specs.Marks.{head_class, marked, with_item_marked}
-use Rattle.os_heap.specs.Outcomes.{end_at, HasHeapAt, items_at}
+use Rattle.os_heap_words.specs.Outcomes.{end_at, HasHeapAt, items_at}
 use Rattle.os_heap_slide.specs.Steps.{IsLaid, IsRoom, IsSetDown, laid}
 
 -- bytes that a copy leaves alone

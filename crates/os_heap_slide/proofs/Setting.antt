@@ -14,9 +14,9 @@ use Rattle.os_heap_lists.proofs.Spelling.{size_of-append, size_of-multiple, spac
 use Rattle.os_heap_lists.specs.Heap.{AreSpaced, AreTotals, IsHeapIn, last_free}
 use Rattle.os_heap_lists.specs.Marks.{Remarks}
 use Rattle.os_heap_lists.specs.Words.{IsFreed, IsWritten, link_at}
-use Rattle.os_heap.proofs.Claiming.{appended}
-use Rattle.os_heap.proofs.Replace.{becomes, heap_below}
-use Rattle.os_heap.specs.Outcomes.{Becomes, end_at, items_at}
+use Rattle.os_heap_words.proofs.Claiming.{appended}
+use Rattle.os_heap_words.proofs.Replace.{becomes, heap_below}
+use Rattle.os_heap_words.specs.Outcomes.{Becomes, end_at, items_at}
 use Rattle.os_heap_slide.specs.Steps.{IsRoom, IsSetDown, laid}
 
 -- what the room for a block says

@@ -21,10 +21,10 @@ use Rattle.os_heap_lists.specs.Heap.{AreTotals, IsHeapIn, last_free, next_free}
 use Rattle.os_heap_lists.specs.Lists.{left_free}
 use Rattle.os_heap_lists.specs.Marks.{head_class, marked, Remarks, with_item_marked}
 use Rattle.os_heap_lists.specs.Words.{IsOutside}
-use Rattle.os_heap.proofs.Marking.{can_stand}
-use Rattle.os_heap.proofs.Searching.{FreeFacts, free_facts}
-use Rattle.os_heap.proofs.Walking.{LiveFacts, live_facts}
-use Rattle.os_heap.specs.Outcomes.{end_at, HasHeapAt, items_at}
+use Rattle.os_heap_words.proofs.Marking.{can_stand}
+use Rattle.os_heap_words.proofs.Searching.{FreeFacts, free_facts}
+use Rattle.os_heap_words.proofs.Walking.{LiveFacts, live_facts}
+use Rattle.os_heap_words.specs.Outcomes.{end_at, HasHeapAt, items_at}
 use Rattle.os_heap_slide.proofs.Laying.{IsRead, moved_past, read}
 use Rattle.os_heap_slide.proofs.Listing.{listed_first, listed_rest, more_moves, room_for_move}
 use Rattle.os_heap_slide.proofs.Setting.{laid_alone, laid_behind}

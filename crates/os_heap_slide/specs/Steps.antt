@@ -12,7 +12,7 @@ use Rattle.os_heap_lists.specs.Heap.{IsHeapIn, last_free, next_free}
 use Rattle.os_heap_lists.specs.Lists.{left_free}
 use Rattle.os_heap_lists.specs.Marks.{marked, Remarks}
 use Rattle.os_heap_lists.specs.Words.{AreApart, IsOutside}
-use Rattle.os_heap.specs.Outcomes.{CanStand, end_at, HasHeapAt, items_at}
+use Rattle.os_heap_words.specs.Outcomes.{CanStand, end_at, HasHeapAt, items_at}
 use Rattle.os_heap_slide.specs.Slide.{AreBlocks, is_listed, moves_of, slid, slid_bytes}
 
 -- what is laid at the end of a list: a block, and the gap before it, if there is one

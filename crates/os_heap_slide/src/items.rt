@@ -6,12 +6,12 @@ ghost use Rattle.address_map.specs.Memory.{byte_at, class_of, layout};
 ghost use Rattle.address_map.specs.Bytes.{word_at};
 ghost use Rattle.address_map.specs.declared.item.Item.TheVariants.{Free};
 ghost use Rattle.os_heap_lists.specs.Marks.{head_class, with_item_marked};
-ghost use Rattle.os_heap.specs.Outcomes.{CanStand, end_at};
+ghost use Rattle.os_heap_words.specs.Outcomes.{CanStand, end_at};
 ghost use Rattle.os_heap_slide.specs.Steps.{IsFreeHere, IsLaid, IsRoom, IsSetDown};
 
 use address_map::{AddressMap, Item};
-use os_heap::marks::{make, mark_item};
-use os_heap::words::{BASE, follow, put, put_free, word};
+use os_heap_words::marks::{make, mark_item};
+use os_heap_words::words::{BASE, follow, put, put_free, word};
 
 /// Where a slide stands.
 #[derive(Clone, Copy)]

@@ -3,7 +3,7 @@
 ghost use Rattle.std.specs.Prelude.{ℕ, List, [], ◌≡◌, ◌≢◌, ◌≤◌, ◌<◌, ◌+◌, ◌++◌, ◌^◌, length};
 ghost use Rattle.address_map.specs.Bytes.{word_at};
 ghost use Rattle.address_map.specs.Memory.{byte_at};
-ghost use Rattle.os_heap.specs.Outcomes.{HasHeapAt, items_at};
+ghost use Rattle.os_heap_words.specs.Outcomes.{HasHeapAt, items_at};
 ghost use Rattle.os_heap_slide.specs.Slide.{AreBlocks, begins, move_of, place_of, without_first};
 ghost use Rattle.os_heap_slide.specs.Steps.{IsAllSlid, IsSliding};
 
@@ -11,7 +11,7 @@ use crate::items::{Cursor, lay, pass_free};
 use crate::moves::Moves;
 use address_map::{AddressMap, Move};
 use os_heap::profile::memory_map::HEAP_DESCRIPTOR;
-use os_heap::words::{BASE, follow, put, put_link, word};
+use os_heap_words::words::{BASE, follow, put, put_link, word};
 
 /// Slides the items of a heap, one after another upwards. The records of images stay as they are.
 pub(crate) fn slide_items(map: &mut AddressMap, heap: u32, movable: &[u32]) -> Moves

@@ -16,7 +16,7 @@ use Rattle.os_heap.specs.Forgetting.{holds_heap}
 use Rattle.os_heap.specs.Room.{base_offset}
 use Rattle.os_heap.specs.Store.{Store, IsSound, find_heap, has_image, store_of}
 use Rattle.os_heap.proofs.Found.{found_heap, found_start}
-use Rattle.os_heap.proofs.Replace.{heap_below}
+use Rattle.os_heap.specs.os_heap_words.proofs.Replace.{heap_below}
 use Rattle.flex_kept.specs.dynamic_areas.specs.Changing.{pages_had}
 use Rattle.flex_kept.specs.dynamic_areas.specs.Ground.{Estate, IsEstate}
 use Rattle.rma.specs.Calls.{area_pages, block_holds, end_if_moved, end_in_place, grown_in_place, grown_to, in_area, in_grown_area, is_full, or_as_before, rma_base, total_changed}

@@ -2,11 +2,11 @@ use Rattle.std.proofs.Common.{◌≡◌, ◌+◌, ◌≤◌, true, false, arith,
 use Rattle.std.proofs.lemmas.Bool.{le-ltb}
 use Rattle.address_map.specs.Items.{size_of}
 use Rattle.address_map.specs.Memory.{bytes_of}
-use Rattle.os_heap.specs.Outcomes.{items_at}
+use Rattle.os_heap_words.specs.Outcomes.{items_at}
 use Rattle.os_heap.specs.Store.{store_of, heap_in}
 use Rattle.os_heap.specs.Ranges.{is_heap_region, overgrows}
 use Rattle.os_heap.proofs.Refusals.{bad_probes, end_bad, end_over, end_short, good_probes}
-use Rattle.os_heap.proofs.Tally.{heap_below}
+use Rattle.os_heap_words.proofs.Tally.{heap_below}
 use Rattle.os_heap.proofs.change.may_end.Goals as goal
 
 pub returns-then-not-is_heap_region-clause-answer : goal.returns-then-not-is_heap_region-clause-answer

@@ -1,5 +1,5 @@
 use Rattle.std.proofs.Common.{arith}
-use Rattle.os_heap.proofs.Tally.{heap_below}
+use Rattle.os_heap_words.proofs.Tally.{heap_below}
 use Rattle.os_heap.proofs.change.overgrows.Goals as goal
 
 pub overflow_add-region : goal.overflow_add-region

@@ -2,14 +2,14 @@ use Rattle.std.proofs.Common.{◌∙◌, ap, ◌≡◌, ◌+◌, is_some, refl, 
 use Rattle.address_map.specs.Memory.{bytes_of}
 use Rattle.address_map.proofs.Stores.{layout-mapping}
 use Rattle.os_heap_lists.specs.Heap.{HeapList}
-use Rattle.os_heap.specs.Outcomes.{IsHeapAt}
+use Rattle.os_heap_words.specs.Outcomes.{IsHeapAt}
 use Rattle.os_heap.specs.Store.{store_of, heap_in}
 use Rattle.os_heap.proofs.RangeTests.{CanHold, can_hold, range_end}
 use Rattle.os_heap.proofs.Ending.{EndsAt, store_ended, sound_ended, classes_ended}
 use Rattle.os_heap.proofs.Found.{found_at}
 use Rattle.os_heap.proofs.Frame.{layout-regions}
 use Rattle.os_heap.proofs.Order.{end_order}
-use Rattle.os_heap.proofs.Tally.{heap_below}
+use Rattle.os_heap_words.proofs.Tally.{heap_below}
 use Rattle.os_heap.proofs.change.set_end.Goals as goal
 
 pub overflow_add-region : goal.overflow_add-region

@@ -2,9 +2,9 @@ use Rattle.std.proofs.Common.{ℕ, ◌≡◌, ◌-◌, Option, ap, sym, ◌∙�
 use Rattle.address_map.specs.Memory.{anchor_of}
 use Rattle.address_map.specs.Records.{anchor_among}
 use Rattle.os_heap.specs.Calls.{holds_anchor}
-use Rattle.os_heap.specs.Outcomes.{end_at}
-use Rattle.os_heap.proofs.Freeing.{block_facts}
-use Rattle.os_heap.proofs.Sized.{block_total}
+use Rattle.os_heap_words.specs.Outcomes.{end_at}
+use Rattle.os_heap_words.proofs.Freeing.{block_facts}
+use Rattle.os_heap_words.proofs.Refitted.{block_total}
 use Rattle.os_heap.proofs.free.holds_anchor.Goals as goal
 
 pub returns : goal.returns

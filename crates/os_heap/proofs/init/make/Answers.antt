@@ -16,9 +16,9 @@ use Rattle.os_heap.proofs.Frame.{layout-regions}
 use Rattle.os_heap.proofs.Added.{begun_unflexed, recorded, store_begun, begun_sound, classes_begun}
 use Rattle.os_heap.proofs.RangeTests.{CanHold, can_hold, range_end}
 use Rattle.os_heap.proofs.Limits.{records_room}
-use Rattle.os_heap.proofs.Marking.{heap_unmarked}
+use Rattle.os_heap_words.proofs.Marking.{heap_unmarked}
 use Rattle.os_heap.proofs.Order.{order_added}
-use Rattle.os_heap.proofs.Writing.{still_mapped}
+use Rattle.os_heap_words.proofs.Writing.{still_mapped}
 use Rattle.os_heap.proofs.init.make.Goals as goal
 
 pub write_descriptor-requires-clause-aligned : goal.write_descriptor-requires-clause-aligned

@@ -1,6 +1,6 @@
 use Rattle.std.proofs.Common.{arith, ap}
 use Rattle.address_map.specs.Items.{size_of}
-use Rattle.os_heap.proofs.Tally.{heap_below}
+use Rattle.os_heap_words.proofs.Tally.{heap_below}
 use Rattle.os_heap.proofs.obstacles.holds_range.Goals as goal
 
 pub overflow_add-heap : goal.overflow_add-heap

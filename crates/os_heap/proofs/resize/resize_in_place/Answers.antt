@@ -1,5 +1,5 @@
 use Rattle.std.proofs.Common.{◌≡◌, ◌+◌, ◌∙◌, Some, ap, sym}
-use Rattle.os_heap.specs.Outcomes.{items_at}
+use Rattle.os_heap_words.specs.Outcomes.{items_at}
 use Rattle.os_heap_lists.proofs.Reading.{total_facts}
 use Rattle.os_heap_lists.specs.Lists.{live_total}
 use Rattle.os_heap.proofs.ForgetLemmas.{at_block_still}

@@ -1,6 +1,6 @@
 use Rattle.std.proofs.Common.{arith}
-use Rattle.os_heap.specs.Outcomes.{end_at}
-use Rattle.os_heap.proofs.Replace.{heap_below}
+use Rattle.os_heap_words.specs.Outcomes.{end_at}
+use Rattle.os_heap_words.proofs.Replace.{heap_below}
 use Rattle.os_heap.proofs.room.base_of.Goals as goal
 
 pub overflow_add-heap : goal.overflow_add-heap

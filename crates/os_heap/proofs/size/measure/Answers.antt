@@ -1,9 +1,10 @@
 use Rattle.std.proofs.Common.{◌∙◌, sym, arith}
 use Rattle.address_map.specs.Memory.{regions}
-use Rattle.os_heap.specs.Outcomes.{end_at, items_at}
-use Rattle.os_heap.proofs.Replace.{heap_mapped}
-use Rattle.os_heap.proofs.Freeing.{block_facts}
-use Rattle.os_heap.proofs.Sized.{unsized, sized_of, block_total}
+use Rattle.os_heap_words.specs.Outcomes.{end_at, items_at}
+use Rattle.os_heap_words.proofs.Replace.{heap_mapped}
+use Rattle.os_heap_words.proofs.Freeing.{block_facts}
+use Rattle.os_heap_words.proofs.Refitted.{block_total}
+use Rattle.os_heap.proofs.Sized.{unsized, sized_of}
 use Rattle.os_heap.proofs.size.measure.Goals as goal
 
 pub word-requires-clause-aligned : goal.word-requires-clause-aligned

@@ -1,8 +1,8 @@
 use Rattle.std.proofs.Common.{◌∙◌, ◌-◌, [], ◌∷◌, refl, inl, arith}
 use Rattle.address_map.specs.Memory.{class_of}
 use Rattle.address_map.specs.declared.item.Item.TheVariants.{Free, Live}
-use Rattle.os_heap.proofs.Marking.{can_stand, remarks_after, still_written}
-use Rattle.os_heap.specs.Outcomes.{end_at}
+use Rattle.os_heap_words.proofs.Marking.{can_stand, remarks_after, still_written}
+use Rattle.os_heap_words.specs.Outcomes.{end_at}
 use Rattle.os_heap_lists.proofs.Spelling.{total_of-numbers}
 use Rattle.os_heap_slide.proofs.Setting.{room_facts, set_alone, set_behind}
 use Rattle.os_heap_slide.proofs.items.set_down.Goals as goal

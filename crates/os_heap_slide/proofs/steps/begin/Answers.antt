@@ -1,7 +1,7 @@
 use Rattle.std.proofs.Common.{◌∙◌, arith}
-use Rattle.os_heap.proofs.Replace.{heap_below}
-use Rattle.os_heap.proofs.Searching.{first_below, first_link}
-use Rattle.os_heap.specs.Outcomes.{end_at}
+use Rattle.os_heap_words.proofs.Replace.{heap_below}
+use Rattle.os_heap_words.proofs.Searching.{first_below, first_link}
+use Rattle.os_heap_words.specs.Outcomes.{end_at}
 use Rattle.os_heap_slide.proofs.Beginning.{begun}
 use Rattle.os_heap_slide.proofs.steps.begin.Goals as goal
 

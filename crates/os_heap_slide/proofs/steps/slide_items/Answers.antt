@@ -1,6 +1,6 @@
 use Rattle.std.proofs.Common.{◌∙◌, arith}
-use Rattle.os_heap.proofs.Replace.{heap_below}
-use Rattle.os_heap.specs.Outcomes.{end_at}
+use Rattle.os_heap_words.proofs.Replace.{heap_below}
+use Rattle.os_heap_words.specs.Outcomes.{end_at}
 use Rattle.os_heap_slide.proofs.Sliding.{all_slid, at_free, at_live, free_went, live_room, live_went}
 use Rattle.os_heap_slide.proofs.steps.slide_items.Goals as goal
 

@@ -1,0 +1,40 @@
+//! The call that claims a block.
+
+ghost use Rattle.std.specs.Prelude.{◌≡◌};
+ghost use Rattle.profile.specs.Outcome.{Gives};
+ghost use Rattle.address_map.specs.Memory.{layout};
+ghost use Rattle.os_heap.specs.Store.{store_of, AreClasses, IsSound};
+ghost use Rattle.os_heap.specs.Calls.{got};
+ghost use Rattle.os_heap.specs.Probes.{get_probes};
+
+use crate::heaps::{Heaps, find};
+use address_map::AddressMap;
+use os_heap_words::claim::{claim_total, total_for};
+use os_heap_words::counted::{Counted, refused};
+use profile::ErrorNumber;
+
+impl Heaps {
+    /// Claims a block of `size` bytes in the heap that starts at `heap`, and answers the address of its first byte. The
+    /// block is the front of the first free block, along the links, that has room; else it is made at the base.
+    ///
+    /// # Errors
+    ///
+    /// `HeapBadDesc` where no heap starts at `heap`; `HeapNoRoom` where neither a free block nor the room above the
+    /// base suffices. Nothing is changed then.
+    ///
+    /// RISC OS 3 Programmer's Reference Manual, "OS_Heap", reason 2.
+    pub fn get(&self, map: &mut AddressMap, heap: u32, size: u32) -> Counted<u32>
+        requires sound { IsSound (store_of map.old) }
+        requires classes { AreClasses map.old }
+        ensures store { Gives (store_of map.old) (got (store_of map.old) heap size) result.answer (store_of map.new) }
+        ensures sound { IsSound (store_of map.new) }
+        ensures classes { AreClasses map.new }
+        ensures layout { layout map.new ≡ layout map.old }
+        ensures probes { result.probes ≡ get_probes (store_of map.old) heap size }
+    {
+        match find(map, heap) {
+            Some(_) => claim_total(map, heap, total_for(size)),
+            None => refused(ErrorNumber::HeapBadDesc, 0),
+        }
+    }
+}

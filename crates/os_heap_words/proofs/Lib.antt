@@ -1,0 +1,12 @@
+pub mod Claiming
+pub mod Freeing
+pub mod Linking
+pub mod Marking
+pub mod Refitted
+pub mod Refitting
+pub mod Replace
+pub mod Rest
+pub mod Searching
+pub mod Tally
+pub mod Walking
+pub mod Writing

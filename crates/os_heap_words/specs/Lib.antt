@@ -1,0 +1,4 @@
+pub use Rattle.os_heap_lists
+pub mod Cursors
+pub mod Marks
+pub mod Outcomes
