@@ -1,1 +1,2 @@
+pub mod BreakErrors
 pub mod Breaks
