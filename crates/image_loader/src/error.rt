@@ -1,29 +1,25 @@
 //! Why an image is not taken.
 
-ghost use Rattle.std.specs.Prelude.{◌≡◌};
+ghost use Rattle.std.specs.Prelude.{◌≡◌, Some};
 ghost use Rattle.image_loader.specs.declared.error.ImageError.TheVariants.{Memory};
 ghost use Rattle.image_loader.specs.ErrorNames.{image_error_name};
 
 use std::alloc::AllocError;
-use thiserror::Error;
+use std::error::Error;
+use std::fmt;
 
 /// Why an image is not taken. Where several reasons hold, the first of this list is given.
-#[derive(Clone, Copy, Debug, PartialEq, Eq, Error)]
+#[derive(Clone, Copy, Debug, PartialEq, Eq)]
 pub enum ImageError {
     /// The name is not of 1 to 63 printing ASCII characters, or holds a space.
-    #[error("BadName")]
     BadName,
     /// An image of that name is there already.
-    #[error("NameTaken")]
     NameTaken,
     /// The image has more than 1,048,576 bytes.
-    #[error("TooLarge")]
     TooLarge,
     /// There are 64 images already.
-    #[error("TableFull")]
     TableFull,
     /// The host has no memory for the bytes.
-    #[error("Memory")]
     Memory,
 }
 
@@ -41,6 +37,17 @@ impl ImageError {
         }
     }
 }
+
+/// The refusal's name.
+impl fmt::Display for ImageError {
+    ghost output = { λ error. Some (image_error_name error) };
+
+    fn fmt<W: fmt::Write>(&self, f: &mut fmt::Formatter<W>) -> fmt::Result {
+        f.write_str(self.name())
+    }
+}
+
+impl Error for ImageError {}
 
 impl From<AllocError> for ImageError {
     ghost from_gives = { λ _ e. e ≡ Memory };

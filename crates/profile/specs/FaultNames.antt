@@ -1,5 +1,6 @@
--- The names of the faults, as the script language prints them.
-use Rattle.std.specs.Prelude.{ℕ, List, codes}
+-- The names of the faults, as the script language prints them, and their texts.
+use Rattle.std.specs.Prelude.{ℕ, List, ◌++◌, codes}
+use Rattle.std.specs.Fmt.{decimal}
 use Rattle.profile.specs.declared.fault.Fault.{Fault}
 use Rattle.profile.specs.declared.fault.Fault.TheVariants.{FetchUnmapped, UndefinedInstruction, Unallocated, PcOperand, MultiplySame, EmptyList, UserBankWriteback, AddressException, DataUnmapped, OwnedWord, StackChanged, ErrorStop}
 
@@ -16,3 +17,8 @@ fault_name DataUnmapped = codes "DataUnmapped"
 fault_name OwnedWord = codes "OwnedWord"
 fault_name StackChanged = codes "StackChanged"
 fault_name (ErrorStop number) = codes "ErrorStop"
+
+-- A fault's text is its name, and behind `ErrorStop` the error's number.
+abbrev pub fault_text : Fault → List ℕ
+fault_text (ErrorStop number) = codes "ErrorStop " ++ decimal number
+fault_text fault = fault_name fault

@@ -1,51 +1,40 @@
 //! The faults that stop a machine, and their names.
 
-ghost use Rattle.std.specs.Prelude.{◌≡◌};
-ghost use Rattle.profile.specs.FaultNames.{fault_name};
+ghost use Rattle.std.specs.Prelude.{◌≡◌, Some};
+ghost use Rattle.profile.specs.FaultNames.{fault_name, fault_text};
 
-use thiserror::Error;
+use std::error::Error;
+use std::fmt;
 
 /// Why a step stopped the machine. A step that ends so has changed nothing.
 ///
 /// The faults of the instruction set are the undefined and unpredictable cases of the ARM2 data
 /// sheet, under names of this project's own.
-#[derive(Clone, Copy, Debug, PartialEq, Eq, Error)]
+#[derive(Clone, Copy, Debug, PartialEq, Eq)]
 pub enum Fault {
     /// The program counter stands where no memory is mapped.
-    #[error("FetchUnmapped")]
     FetchUnmapped,
     /// The word lies in the part of the instruction set that traps.
-    #[error("UndefinedInstruction")]
     UndefinedInstruction,
     /// The word meets no form of the ARM2, or has a field that must be zero.
-    #[error("Unallocated")]
     Unallocated,
     /// R15 stands where the data sheet forbids it.
-    #[error("PcOperand")]
     PcOperand,
     /// A multiply whose destination is its first operand.
-    #[error("MultiplySame")]
     MultiplySame,
     /// A block transfer of no register.
-    #[error("EmptyList")]
     EmptyList,
     /// A user bank transfer that writes its base back.
-    #[error("UserBankWriteback")]
     UserBankWriteback,
     /// An address of 2^26 or more.
-    #[error("AddressException")]
     AddressException,
     /// An address where no memory is mapped.
-    #[error("DataUnmapped")]
     DataUnmapped,
     /// A store to a word that the store calls keep their records in.
-    #[error("OwnedWord")]
     OwnedWord,
     /// Module code came back with another stack pointer than it was entered with.
-    #[error("StackChanged")]
     StackChanged,
     /// A call without the X bit ended in the error of this number.
-    #[error("ErrorStop {0}")]
     ErrorStop(u32),
 }
 
@@ -70,3 +59,17 @@ impl Fault {
         }
     }
 }
+
+/// The fault's name, and after `ErrorStop` the error's number.
+impl fmt::Display for Fault {
+    ghost output = { λ fault. Some (fault_text fault) };
+
+    fn fmt<W: fmt::Write>(&self, f: &mut fmt::Formatter<W>) -> fmt::Result {
+        match self {
+            Fault::ErrorStop(number) => write!(f, "ErrorStop {number}"),
+            _ => f.write_str(self.name()),
+        }
+    }
+}
+
+impl Error for Fault {}

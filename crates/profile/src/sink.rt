@@ -1,20 +1,30 @@
 //! What answers are written to, and how bytes are written to it whole.
 
-ghost use Rattle.std.specs.Prelude.{◌≡◌, ◌≤◌, ◌<◌, ◌-◌, ℕ, Bool, true, false, not, [], List, length, take, Option, Some, None, IfOk, OnOk, OnErr, is_err};
+ghost use Rattle.std.specs.Prelude.{◌≡◌, ◌≤◌, ◌<◌, ◌-◌, ℕ, Bool, true, false, not, [], List, length, take, codes, Option, Some, None, IfOk, OnOk, OnErr, is_err};
 ghost use Rattle.std.specs.List.{flat_map};
 ghost use Rattle.std.specs.Io.KnownBytes.{Appends, WriteAppends};
 ghost use Rattle.profile.specs.Output.{AddsPart};
 ghost use Rattle.profile.specs.MemoryDevices.{SinkState, can_push, pushed, push_count};
 
 use crate::device::{Device, is_passing};
+use std::error::Error;
+use std::fmt;
 use std::io::Write;
 use std::marker::Model;
-use thiserror::Error;
 
 /// A writer failed.
-#[derive(Clone, Copy, Debug, PartialEq, Eq, Error)]
-#[error("the output can't be written")]
+#[derive(Clone, Copy, Debug, PartialEq, Eq)]
 pub struct WriteFault;
+
+impl fmt::Display for WriteFault {
+    ghost output = { λ _. Some (codes "the output can't be written") };
+
+    fn fmt<W: fmt::Write>(&self, f: &mut fmt::Formatter<W>) -> fmt::Result {
+        f.write_str("the output can't be written")
+    }
+}
+
+impl Error for WriteFault {}
 
 /// What answers are written to.
 ///
@@ -155,6 +165,7 @@ pub fn push_all<W: Sink>(sink: &mut W, bytes: &[u8]) -> Result<(), WriteFault>
     ensures part { OnErr result (AddsPart (W.contents sink.old) (W.contents sink.new) bytes.now) }
     ensures flag { OnErr result (W.has_failed sink.new ≡ true) }
     ensures same_flag { OnOk result (W.has_failed sink.new ≡ W.has_failed sink.old) }
+    ensures well { OnOk result (W.has_failed sink.old ≡ true → bytes.now ≡ []) }
 {
     let mut rest = bytes;
     while !rest.is_empty() {
@@ -172,6 +183,7 @@ pub fn push_parts<W: Sink>(sink: &mut W, parts: &[&[u8]]) -> Result<(), WriteFau
         (AddsPart (W.contents sink.old) (W.contents sink.new) (flat_map (λ p. p.now) parts.now)) }
     ensures flag { OnErr result (W.has_failed sink.new ≡ true) }
     ensures same_flag { OnOk result (W.has_failed sink.new ≡ W.has_failed sink.old) }
+    ensures well { OnOk result (W.has_failed sink.old ≡ true → flat_map (λ p. p.now) parts.now ≡ []) }
 {
     for part in parts {
         push_all(sink, part)?;

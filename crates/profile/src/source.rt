@@ -1,19 +1,29 @@
 //! What a script is read from.
 
-ghost use Rattle.std.specs.Prelude.{◌≡◌, ◌≤◌, ◌<◌, ◌-◌, ℕ, Bool, true, false, not, List, length, Option, Some, None, IfOk, is_err};
+ghost use Rattle.std.specs.Prelude.{◌≡◌, ◌≤◌, ◌<◌, ◌-◌, ℕ, Bool, true, false, not, List, length, codes, Option, Some, None, IfOk, is_err};
 ghost use Rattle.std.specs.Io.KnownBytes.{ReadConsumes};
 ghost use Rattle.profile.specs.Pulls.{PullsOnce};
 ghost use Rattle.profile.specs.MemoryDevices.{SourceState, can_pull, pulled, pull_count, filled};
 
 use crate::device::{Device, is_passing};
+use std::error::Error;
+use std::fmt;
 use std::io::Read;
 use std::marker::Model;
-use thiserror::Error;
 
 /// A reader failed.
-#[derive(Clone, Copy, Debug, PartialEq, Eq, Error)]
-#[error("the input can't be read")]
+#[derive(Clone, Copy, Debug, PartialEq, Eq)]
 pub struct ReadFault;
+
+impl fmt::Display for ReadFault {
+    ghost output = { λ _. Some (codes "the input can't be read") };
+
+    fn fmt<W: fmt::Write>(&self, f: &mut fmt::Formatter<W>) -> fmt::Result {
+        f.write_str("the input can't be read")
+    }
+}
+
+impl Error for ReadFault {}
 
 /// What a script is read from.
 ///

@@ -1,2 +1,3 @@
 -- The addresses at which a run stops.
+pub mod BreakErrors
 pub mod Breaks

@@ -6,22 +6,38 @@ ghost use Rattle.profile.specs.Outcome.{Leaves};
 ghost use Rattle.swi_dispatch_breaks.specs.Breaks.{mark_of};
 
 use arrayvec::ArrayVec;
+use std::error::Error;
+use std::fmt;
 use std::marker::Model;
-use thiserror::Error;
 
 /// Why a break was not set or not taken away.
-#[derive(Clone, Copy, Debug, PartialEq, Eq, Error)]
+#[derive(Clone, Copy, Debug, PartialEq, Eq)]
 pub enum BreakError {
     /// The address is no multiple of 4.
-    #[error("Unaligned")]
     Unaligned,
     /// There are as many breaks as the table holds.
-    #[error("BreakTableFull")]
     BreakTableFull,
     /// There is no break at the address.
-    #[error("NoBreak")]
     NoBreak,
 }
+
+/// The refusal's name.
+impl fmt::Display for BreakError {
+    ghost use Rattle.std.specs.Prelude.{Some};
+    ghost use Rattle.swi_dispatch_breaks.specs.BreakErrors.{break_error_name};
+
+    ghost output = { λ error. Some (break_error_name error) };
+
+    fn fmt<W: fmt::Write>(&self, f: &mut fmt::Formatter<W>) -> fmt::Result {
+        match self {
+            BreakError::Unaligned => f.write_str("Unaligned"),
+            BreakError::BreakTableFull => f.write_str("BreakTableFull"),
+            BreakError::NoBreak => f.write_str("NoBreak"),
+        }
+    }
+}
+
+impl Error for BreakError {}
 
 const MOST_BREAKS: usize = 16;
 
