@@ -1,4 +1,5 @@
--- The blocks of one heap that are a guest's: no module image is recorded there. What a walk finds of them, and what is done to one among all heaps.
+-- The blocks of one heap that are a guest's: no module image is recorded there. What a walk finds
+-- of them, and what is done to one among all heaps.
 use Rattle.std.specs.Prelude.{ℕ, ◌≡◌, ◌+◌, ◌-◌, Bool, true, false, None, Option, Some, List, MatchOption, is_some}
 use Rattle.address_map.specs.Memory.{anchor_of, regions}
 use Rattle.address_map.specs.declared.item.Item.{Item}
@@ -28,7 +29,8 @@ FindsGuestBlock m start block hit = MatchOption hit
     (unless_image (has_image block (regions m)) (released block (start + 16) (items_at m start)) ≡ None)
     (λ c. IsGuestBlock (regions m) start (items_at m start) block c.from c.at c.free c.gap)
 
--- The block got another total where it stands, after the heaps that go with what is cut off were forgotten.
+-- The block got another total where it stands, after the heaps that go with what is cut off were
+-- forgotten.
 pub record IsResizedInPlace (old new : AddressMap) (start block total : ℕ) : Type 0 where
   pub between : AddressMap
   pub own : ℕ

@@ -20,7 +20,7 @@ use Rattle.os_heap_words.proofs.Freeing.{NextFree}
 use Rattle.os_heap_words.proofs.Refitting.{rebased, place_facts, PlaceFacts, divided, swallowed}
 use Rattle.os_heap_words.specs.Outcomes.{IsHeapAt, items_at, Refits, Becomes}
 
--- the total of the block that a walk comes to, and what a change of it in place makes of the list
+-- the total of the block that a walk comes to, and what a change of it in place makes of a list
 pub block_total : (m : AddressMap) (start end block from at free gap : ℕ) → IsHeapAt m start end
     → (b : IsBlock start (items_at m start) block from at free gap) → live_total block (start + 16) (items_at m start) ≡ Some b.total
 block_total m start end block from at free gap heap b =

@@ -1,5 +1,5 @@
-//! One heap as the words of memory that spell it: its items, found by the words before them, and its free room, linked by words kept in it. Nothing is
-//! said here of other heaps.
+//! One heap as the words of memory that spell it: its items, found by the words before them, and
+//! its free room, linked by words kept in it. Nothing is said here of other heaps.
 #![tactic(auto)]
 
 pub mod blocks;
