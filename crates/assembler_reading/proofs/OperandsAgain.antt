@@ -160,7 +160,7 @@ by_amount : (labels : Lookup) (rm n : ℕ) (s : Shift) (rest : List ℕ) → n <
 unfolding byte
 by_amount labels rm n s rest h ends = rw (amount_again labels n rest h ends.apart ends.no_sign) refl
 
-hash_after_space : (text : List ℕ) → after_spaces (35 ∷ text) ≡ 35 ∷ text
+pub hash_after_space : (text : List ℕ) → after_spaces (35 ∷ text) ≡ 35 ∷ text
 unfolding after_spaces
 hash_after_space text = refl
 

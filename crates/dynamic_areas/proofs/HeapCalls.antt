@@ -45,7 +45,7 @@ areas_kept s t free l areas sound mapped others kept = record {
   heap = kept _ areas.heap;
 }
 
-same_end : (g h : HeapList) (area : Option Area) → h.kind ≡ g.kind → h.end ≡ g.end → EndsWithArea (Some g) area → EndsWithArea (Some h) area
+pub same_end : (g h : HeapList) (area : Option Area) → h.kind ≡ g.kind → h.end ≡ g.end → EndsWithArea (Some g) area → EndsWithArea (Some h) area
 same_end g h None kind end ends = ends
 same_end g h (Some a) kind end ends = (kind ∙ ends.0, end ∙ ends.1)
 

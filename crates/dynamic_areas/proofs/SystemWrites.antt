@@ -13,7 +13,7 @@ use Rattle.os_heap.proofs.Frame.{IsKept, classes_same, clear_kept}
 use Rattle.os_heap.proofs.Stores.{image_kind, placed_either}
 use Rattle.dynamic_areas.specs.Ground.{IsRecorded, system_pages}
 
-system_clear : (hs : List HeapList) (rs : List Region) → ArePlaced hs rs → IsRecorded system_pages rs → IsClearOfHeaps 0x01C00000 0x3000 hs
+pub system_clear : (hs : List HeapList) (rs : List Region) → ArePlaced hs rs → IsRecorded system_pages rs → IsClearOfHeaps 0x01C00000 0x3000 hs
 system_clear hs [] placed there = absurd there
 system_clear hs (r ∷ rs) placed there = elim there [
   | inr later ↦ system_clear hs rs placed.1 later

@@ -35,14 +35,14 @@ use Rattle.flex_store.specs.os_heap_lists.specs.Heap.{IsHeapIn}
 use Rattle.flex_ground.specs.Laws.{BlocksKept, StoreIsApart, FlexKept, FlexStarted, FlexStored, FlexUnmade}
 
 -- The records beside module images: how many there are, and the store's is one of these.
-count_is : (rs : List Region) → count_beside rs ≡ length (beside_images rs)
+pub count_is : (rs : List Region) → count_beside rs ≡ length (beside_images rs)
 count_is [] = refl
 count_is (r ∷ rs) = elim (cases_Bool (is_image r.kind)) [
   | inl image ↦ rw image (count_is rs)
   | inr other ↦ rw other (ap suc (count_is rs))
 ]
 
-no_store : (k : Kind) → is_image k ≡ true → is_flex_store k ≡ false
+pub no_store : (k : Kind) → is_image k ≡ true → is_flex_store k ≡ false
 no_store kind.FlexStore image = absurd (false≢true image)
 no_store kind.Image image = refl
 no_store kind.Heap image = refl
@@ -52,7 +52,7 @@ no_store kind.HeadWord image = refl
 no_store kind.FlexHeader image = refl
 no_store kind.Anchor image = refl
 
-recorded_beside : (rs : List Region) (start end : ℕ) → is_recorded rs start end ≡ is_recorded (beside_images rs) start end
+pub recorded_beside : (rs : List Region) (start end : ℕ) → is_recorded rs start end ≡ is_recorded (beside_images rs) start end
 recorded_beside [] start end = refl
 recorded_beside (r ∷ rs) start end = elim (cases_Bool (is_image r.kind)) [
   | inl image ↦ rw (image, no_store r.kind image) (recorded_beside rs start end)
@@ -147,7 +147,7 @@ store_apart m f e h block total a has there sound found live low high =
     false_from_ne_true _ (λ inside. both_ways (in_range h.start h.end a) outside (block_inside (store_of m).bytes h block total a heap live inside))
 
 -- A guest's store: a byte of one of the store's words is marked as the whole word is.
-whole_word : (a : ℕ) → word_start (word_start a) ≡ word_start a
+pub whole_word : (a : ℕ) → word_start (word_start a) ≡ word_start a
 whole_word a = omega arith
 
 word_marks : (m : AddressMap) (o : Option Extent) → IsFlexAt m o → (a : ℕ) → is_flex_word (store_of m) (word_start a) ≡ is_flex_word (store_of m) a

@@ -34,7 +34,7 @@ mapped_keeps : (s : Store) (at len : ℕ) → KeepsFlex s (with_pages_at s at le
 mapped_keeps s at len = writes_keep s (with_pages_at s at len).bytes s.heaps (λ a is. refl)
 
 -- a range that shares no byte with a recorded one has none of the flex store's
-flex_clear : (at len : ℕ) (rs : List Region) (a : ℕ) → AreRangesClear at len rs → is_in_flex_store rs a ≡ true → in_range at len a ≡ false
+pub flex_clear : (at len : ℕ) (rs : List Region) (a : ℕ) → AreRangesClear at len rs → is_in_flex_store rs a ≡ true → in_range at len a ≡ false
 flex_clear at len [] a clear is = absurd (false≢true is)
 flex_clear at len (r ∷ rs) a clear is = elim (or_cases (is_flex_store r.kind && in_range r.at r.len a) (is_in_flex_store rs a) is) [
   | inr later ↦ flex_clear at len rs a clear.1 later

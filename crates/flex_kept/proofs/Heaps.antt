@@ -43,19 +43,19 @@ unfolding KeepsFlex AreAnchorsFree
 writes_keep s c hs kept free = (record { bytes = kept; anchors = λ a. refl; headers = λ a. refl; beside = refl }, λ a is. free a is)
 
 -- what a call that is done leaves has a property; a refusal leaves all as it was
-abbrev OnDone : {A : Type 0} → (Store × A → Type 0) → Result (Store × A) ErrorNumber → Type 0
+abbrev pub OnDone : {A : Type 0} → (Store × A → Type 0) → Result (Store × A) ErrorNumber → Type 0
 OnDone P (Ok x) = P x
 OnDone P (Err e) = Unit {0}
 
 abbrev KeepsIfSound : {A : Type 0} → Store → Store × A → Type 0
 KeepsIfSound s x = IsSound x.0 → KeepsFlex s x.0
 
-on_some : (A B : Type 0) (P : Store × B → Type 0) (o : Option A) (e : ErrorNumber) (next : A → Result (Store × B) ErrorNumber)
+pub on_some : (A B : Type 0) (P : Store × B → Type 0) (o : Option A) (e : ErrorNumber) (next : A → Result (Store × B) ErrorNumber)
     → ((x : A) → o ≡ Some x → OnDone P (next x)) → OnDone P (bind (ok_or o e) next)
 on_some A B P None e next each = tt
 on_some A B P (Some x) e next each = each x refl
 
-on_if : (B : Type 0) (P : Store × B → Type 0) (b : Bool) (e : ErrorNumber) (r : Result (Store × B) ErrorNumber) → (b ≡ false → OnDone P r)
+pub on_if : (B : Type 0) (P : Store × B → Type 0) (b : Bool) (e : ErrorNumber) (r : Result (Store × B) ErrorNumber) → (b ≡ false → OnDone P r)
     → OnDone P (if b then Err e else r)
 on_if B P true e r passed = tt
 on_if B P false e r passed = passed refl

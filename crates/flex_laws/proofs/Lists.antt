@@ -134,7 +134,7 @@ in_word w a here = rw (le-leb w a (omega (arith, here)), lt-ltb a (w + 4) (omega
 pub word_in : (w a : ℕ) → w % 4 ≡ 0 → in_range w 4 a ≡ true → word_start a ≡ w
 word_in w a aligned inside = let p = range_parts w 4 a inside in omega (arith, aligned, p.0, p.1)
 
-shifted : (w offset at i : ℕ) → at + offset ≡ w + i → in_range offset 4 i ≡ in_range w 4 at
+pub shifted : (w offset at i : ℕ) → at + offset ≡ w + i → in_range offset 4 i ≡ in_range w 4 at
 shifted w offset at i e = elim (cases_lt at w) [
   | inl low ↦ rw (lt-leb offset i (omega (arith, e, low)), lt-leb w at low) refl
   | inr up ↦ elim (cases_lt at (w + 4)) [

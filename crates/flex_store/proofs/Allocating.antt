@@ -144,7 +144,7 @@ place_word m e places anchor mapped place =
     record { aligned = p.aligned; there = there; low = mapped_below m anchor there }
 
 -- beside the store
-beside : (start end anchor : ℕ) → start ≤ end → start % 4 ≡ 0 → anchor % 4 ≡ 0 → meets anchor 4 start (end - start) ≡ false → (anchor + 4 ≤ start) ⊎ (end ≤ anchor)
+pub beside : (start end anchor : ℕ) → start ≤ end → start % 4 ≡ 0 → anchor % 4 ≡ 0 → meets anchor 4 start (end - start) ≡ false → (anchor + 4 ≤ start) ⊎ (end ≤ anchor)
 beside start end anchor some aligned aligned' clear = elim (cases_lt start (anchor + 4)) [
   | inr low ↦ inl low
   | inl up ↦ elim (cases_lt anchor end) [

@@ -29,7 +29,7 @@ range_clear at len other other_len apart a inside = elim (cases_Bool (in_range o
       absurd (true≢false (sym both ∙ apart))
 ]
 
-range_clear_back : (at len other other_len : ℕ) → meets at len other other_len ≡ false → AreClear other other_len at len
+pub range_clear_back : (at len other other_len : ℕ) → meets at len other other_len ≡ false → AreClear other other_len at len
 range_clear_back at len other other_len apart a inside = elim (cases_Bool (in_range at len a)) [
   | inr clear ↦ clear
   | inl there ↦ absurd (true≢false (sym inside ∙ range_clear at len other other_len apart a there))
@@ -54,7 +54,7 @@ ranges_clear (q ∷ rs) r apart =
     ]
 
 -- the range at the end of the record is there
-last_recorded : (rs : List Region) (start end : ℕ) → is_recorded (rs ++ flex_record start end ∷ []) start end ≡ true
+pub last_recorded : (rs : List Region) (start end : ℕ) → is_recorded (rs ++ flex_record start end ∷ []) start end ≡ true
 last_recorded [] start end = rw (eq-eqb start start refl, eq-eqb (end - start) (end - start) refl) refl
 last_recorded (r ∷ rs) start end = or_right (is_store_record start end r) (is_recorded (rs ++ flex_record start end ∷ []) start end) (last_recorded rs start end)
 

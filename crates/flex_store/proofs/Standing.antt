@@ -47,7 +47,7 @@ standing_words mapped now start end f at (b ∷ bs) there words = (
 abbrev pub KeepsHeaders : (ℕ → ℕ) → (ℕ → ℕ) → ℕ → List Block → Type 0
 KeepsHeaders f g at bs = (a : ℕ) → is_header at bs (word_start a) ≡ true → g a ≡ f a
 
-first_word : (at a : ℕ) → at % 4 ≡ 0 → at ≤ a → a < at + 4 → word_start a ≡ at
+pub first_word : (at a : ℕ) → at % 4 ≡ 0 → at ≤ a → a < at + 4 → word_start a ≡ at
 first_word at a aligned low high = omega arith
 
 pub standing_text : (f g : ℕ → ℕ) (at : ℕ) (bs : List Block) → at % 4 ≡ 0 → AreWhole bs → KeepsHeaders f g at bs → Holds f at (text_of bs)

@@ -38,17 +38,17 @@ refused_given p (act.Instantiate slot) r0 = refl
 refused_given p act.GiveUp r0 = refl
 refused_given p act.Slide r0 = refl
 
-given_by : (p : Plan) (o : CodeOutcome) (a : Option Action) → (settled_by p o a).given ≡ p.given
+pub given_by : (p : Plan) (o : CodeOutcome) (a : Option Action) → (settled_by p o a).given ≡ p.given
 given_by p Well None = refl
 given_by p (Refused r0) None = refl
 given_by p Well (Some a) = refl
 given_by p (Refused r0) (Some a) = refused_given p a r0
 
-given_if : (runs : Bool) (p q : Plan) → q.given ≡ p.given → (if runs then q else p).given ≡ p.given
+pub given_if : (runs : Bool) (p q : Plan) → q.given ≡ p.given → (if runs then q else p).given ≡ p.given
 given_if true p q same = same
 given_if false p q same = refl
 
-settled_given : (p : Plan) (o : CodeOutcome) → (settled p o).given ≡ p.given
+pub settled_given : (p : Plan) (o : CodeOutcome) → (settled p o).given ≡ p.given
 unfolding settled
 settled_given p o = given_if p.runs p (settled_by p o (first_of p.actions)) (given_by p o (first_of p.actions))
 

@@ -51,7 +51,7 @@ word_same e slot value f =
     beside_same (4096 * f.area.pages) e.store (record { mapped = e.store.bytes.mapped; at = with_word_at e.store.bytes.at (private_of slot) value }) f.store
     (λ a low high. word_low e.store.bytes.at (private_of slot) value a (omega (arith, high)))
 
-text_same : (e : Estate) (text : List ℕ) → IsFitEstate e → AreSame e.store (with_text e text).store
+pub text_same : (e : Estate) (text : List ℕ) → IsFitEstate e → AreSame e.store (with_text e text).store
 text_same e text f =
     beside_same (4096 * f.area.pages) e.store (record { mapped = e.store.bytes.mapped; at = with_bytes_at e.store.bytes.at 0x01C02200 (text ++ 0 ∷ []) }) f.store
     (λ a low high. rw (lt-leb 0x01C02200 a (omega (arith, high))) refl)

@@ -72,18 +72,18 @@ system_clear hs (r ∷ rs) placed recorded = elim recorded [
 ]
 
 -- an area that was created lies behind the system pages
-created_low : (a : Area) → IsRoom a → a.number ≢ 1 → 0x02000000 ≤ a.base
+pub created_low : (a : Area) → IsRoom a → a.number ≢ 1 → 0x02000000 ≤ a.base
 created_low a room other = leb-true 0x02000000 a.base (and_parts (nat_le 0x02000000 a.base) (nat_le (a.base + a.maximum) 0x03000000)
     (in_window a.number a.base a.maximum other room.place)).0
 
 -- the area that has a byte
-record IsHeldBy (areas : List Area) (a : ℕ) : Type 0 where
-  area : Area
-  found : find_area area.number areas ≡ Some area
-  room : IsRoom area
-  held : in_range area.base (4096 * area.pages) a ≡ true
+pub record IsHeldBy (areas : List Area) (a : ℕ) : Type 0 where
+  pub area : Area
+  pub found : find_area area.number areas ≡ Some area
+  pub room : IsRoom area
+  pub held : in_range area.base (4096 * area.pages) a ≡ true
 
-held_by : (areas : List Area) (a : ℕ) → AreRooms areas → list_any (is_held a) areas ≡ true → IsHeldBy areas a
+pub held_by : (areas : List Area) (a : ℕ) → AreRooms areas → list_any (is_held a) areas ≡ true → IsHeldBy areas a
 held_by [] a rooms is = absurd (false≢true is)
 held_by (g ∷ areas) a rooms is = elim (or_cases (is_held a g) (list_any (is_held a) areas) is) [
   | inl here ↦ record { area = g; found = rw (eq-eqb g.number g.number refl) refl; room = rooms.0; held = here }

@@ -170,7 +170,7 @@ slots_slid old new slid = sym (slots_outlined new) ∙ ap slots_of slid ∙ slot
 used_by_held : (s : ℕ) (old new : List Module) → is_held s new ≡ is_held s old → is_used s (slots_of new) ≡ is_used s (slots_of old)
 used_by_held s old new same = used_slots s new ∙ same ∙ sym (used_slots s old)
 
-apart_from : (s slot : ℕ) → is_used s (slot ∷ []) ≡ false → (slot == s) ≡ false
+pub apart_from : (s slot : ℕ) → is_used s (slot ∷ []) ≡ false → (slot == s) ≡ false
 apart_from s slot none = (or_parts (slot == s) false none).0
 
 used_removed : (s slot : ℕ) (w : World) → (slot == s) ≡ false → is_used s (slots_of (removed w slot).modules) ≡ is_used s (slots_of w.modules)

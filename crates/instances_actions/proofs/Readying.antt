@@ -138,7 +138,7 @@ used_another g s ms titled t =
     used_both t (x ∷ xs) = ap (λ (b : Bool). x == t || b) (used_both t xs) ∙ nested (x == t) (is_used t xs) (s == t || false)
 
 -- a slide leaves all slots
-slots_outlined : (ms : List Module) → slots_of (map outline ms) ≡ slots_of ms
+pub slots_outlined : (ms : List Module) → slots_of (map outline ms) ≡ slots_of ms
 slots_outlined [] = refl
 slots_outlined (m ∷ ms) = ap (λ (xs : List ℕ). slots_in m.instances ++ xs) (slots_outlined ms)
 
@@ -231,7 +231,7 @@ refused_names g ms instead runs error actions (Instantiate s) r0 names none = (n
 refused_names g ms instead runs error actions GiveUp r0 names none = (names, none)
 refused_names g ms instead runs error actions Slide r0 names none = (names, none)
 
-given_stays : (p : Plan) (a : Action) (r0 : ℕ) → (refused p a r0).given ≡ p.given
+pub given_stays : (p : Plan) (a : Action) (r0 : ℕ) → (refused p a r0).given ≡ p.given
 given_stays p (Finalise s f) r0 = refl
 given_stays p (Remove s) r0 = refl
 given_stays p (FreePrivate s) r0 = refl

@@ -92,10 +92,10 @@ pub system_kept : (m n : AddressMap) → layout n ≡ layout m → class_of n �
 system_kept m n same marks sound there kept =
     clear_kept m n 0x01C00000 0x3000 same marks sound (system_clear (store_of m).heaps (store_of m).others sound.placed there) kept
 
-outside_word : (old : ℕ → ℕ) (a number : ℕ) → in_range 0x01C00000 0x3000 a ≡ false → with_word_at old 0x01C02100 number a ≡ old a
+pub outside_word : (old : ℕ → ℕ) (a number : ℕ) → in_range 0x01C00000 0x3000 a ≡ false → with_word_at old 0x01C02100 number a ≡ old a
 outside_word old a number out = grind (arith, nat_tests)
 
-outside_bytes : (old : ℕ → ℕ) (a : ℕ) (text : List ℕ) → length text ≤ 128 → in_range 0x01C00000 0x3000 a ≡ false → with_bytes_at old 0x01C02104 text a ≡ old a
+pub outside_bytes : (old : ℕ → ℕ) (a : ℕ) (text : List ℕ) → length text ≤ 128 → in_range 0x01C00000 0x3000 a ≡ false → with_bytes_at old 0x01C02104 text a ≡ old a
 outside_bytes old a text short out = grind (arith, nat_tests)
 
 -- the bytes of a store to a word are none that a heap owns
