@@ -5,6 +5,7 @@ use Rattle.std.proofs.lemmas.Bool.{cases_Bool, eqb-true, eq-eqb, false≢true}
 use Rattle.profile.specs.Outcome.{bind, Gives}
 use Rattle.profile.specs.declared.error.ErrorNumber.{ErrorNumber}
 use Rattle.profile.specs.declared.error.ErrorNumber.TheVariants.{BlockHoldsHeap, HeapBadDesc, HeapHoldsAnchor, HeapNoRoom, HeapNotABlock}
+use Rattle.address_map.proofs.InRange.{range_inside}
 use Rattle.address_map.specs.Bytes.{Bytes, in_range, AreMapped}
 use Rattle.address_map.specs.Memory.{Layout, Mapping, bytes_of, regions, layout, mapping, is_mapped, place, free_pages}
 use Rattle.address_map.specs.Records.{anchor_among, is_heap_kind}
@@ -25,7 +26,6 @@ use Rattle.dynamic_areas.specs.declared.area.Area.{Area}
 use Rattle.dynamic_areas.specs.Areas.{Land, pages_of}
 use Rattle.dynamic_areas.specs.Ground.{AreAreas, EndsWithArea, pool_of}
 use Rattle.dynamic_areas.proofs.GroundLemmas.{or_true}
-use Rattle.dynamic_areas.proofs.Remapped.{here}
 
 -- the heap of the module area keeps its kind and its end
 abbrev pub KeepsEnd : List HeapList → List HeapList → Type 0
@@ -295,7 +295,7 @@ system_mapped s free l areas a inside =
 
 pub system_room : (s : Store) (free : ℕ) (l : Land) → AreAreas s free l → AreMapped s.bytes.mapped 0x01C02100 256
 system_room s free l areas a low high =
-    system_mapped s free l areas a (here 0x01C00000 0x3000 a (omega arith) (omega arith))
+    system_mapped s free l areas a (range_inside 0x01C00000 0x3000 a (omega arith) (omega arith))
 
 pub pool_is : (s : Store) (free : ℕ) (l : Land) → AreAreas s free l → free ≡ pool_of l
 pool_is s free l areas =

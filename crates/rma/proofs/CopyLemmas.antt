@@ -3,6 +3,7 @@ use Rattle.std.proofs.Common.{◌≡◌, ◌≢◌, ℕ, ◌+◌, ◌-◌, ◌*�
 use Rattle.std.specs.Prelude.{Option, nat_lt}
 use Rattle.std.specs.List.{list_any, range_with_len}
 use Rattle.std.proofs.lemmas.Bool.{cases_Bool, cases_lt, le-leb, le-ltb, lt-leb, lt-ltb, or_left, or_right}
+use Rattle.address_map.proofs.InRange.{range_inside}
 use Rattle.address_map.specs.Bytes.{in_range}
 use Rattle.address_map.specs.declared.item.Item.{Item}
 use Rattle.address_map.specs.declared.item.Item.TheVariants.{Live, Free}
@@ -15,7 +16,6 @@ use Rattle.os_heap.proofs.Apart.{range_parts}
 use Rattle.flex_kept.specs.dynamic_areas.specs.Changing.{pages_had}
 use Rattle.flex_kept.specs.dynamic_areas.specs.Ground.{Estate, IsEstate}
 use Rattle.flex_kept.specs.dynamic_areas.specs.declared.area.Area.{Area}
-use Rattle.flex_kept.specs.dynamic_areas.proofs.Remapped.{here}
 use Rattle.rma.specs.Calls.{area_pages}
 use Rattle.rma.specs.Copies.{has_bare, is_bare}
 use Rattle.rma.proofs.GrowthLemmas.{HasArea, area_there}
@@ -48,7 +48,7 @@ first_payload at t xs a least inside =
       low = omega arith;
       here = parts.0;
       below = parts.1;
-      same = λ x low high. rw (here (at + 4) (t - 4) x low high) refl;
+      same = λ x low high. rw (range_inside (at + 4) (t - 4) x low high) refl;
       behind = rw (behind_range (at + 4) (t - 4) (at + 4 + (t - 4)) (omega arith))
           (ap is_other (none_before (at + t) xs (at + 4 + (t - 4)) (omega (arith, end))));
     }
@@ -143,7 +143,7 @@ none_met e at len from to part empty = none_in (is_bare e) at len (λ a low high
 
 in_area : (e : Estate) (at len from to a : ℕ) → IsPart e at len from to → from ≤ a → a < to → in_range 0x01800000 (4096 * area_pages e) a ≡ true
 in_area e at len from to a part low high =
-    here 0x01800000 (4096 * area_pages e) a (omega (arith, part.first, low)) (omega (arith, part.end, high))
+    range_inside 0x01800000 (4096 * area_pages e) a (omega (arith, part.first, low)) (omega (arith, part.end, high))
 
 first_told : (e : Estate) (h : HeapList) (at len from to : ℕ) → IsArea e h → IsPart e at len from to → from < to
     → area_payload e.store from ≡ payload_in h from

@@ -1,12 +1,12 @@
 -- What the calls on modules leave, by what is said of memory and areas, or of the modules.
 use Rattle.std.proofs.Common.{◌≡◌, ℕ, List, Option, refl, arith}
+use Rattle.address_map.proofs.InRange.{range_inside}
 use Rattle.address_map.specs.declared.map.AddressMap.{AddressMap}
 use Rattle.address_map.specs.Bytes.{AreMapped}
 use Rattle.instances_ground.specs.rma.specs.os_heap.specs.Store.{AreClasses, Store, store_of}
 use Rattle.instances_ground.specs.rma.specs.dynamic_areas.specs.Areas.{Land}
 use Rattle.instances_ground.specs.rma.specs.dynamic_areas.specs.Ground.{AreAreas, IsEstate, estate_of}
 use Rattle.instances_ground.specs.rma.specs.dynamic_areas.proofs.HeapCalls.{system_mapped}
-use Rattle.instances_ground.specs.rma.specs.dynamic_areas.proofs.Remapped.{here}
 use Rattle.instances_ground.specs.rma.specs.flex_kept.proofs.Keeping.{keeps_same}
 use Rattle.instances_plans.specs.Plans.{Plan}
 use Rattle.instances_table.specs.Modules.{Module, slots_of}
@@ -40,4 +40,4 @@ nothing_left m l modules estate classes = world_left m m l l modules (same_memor
 -- the private words of the modules are mapped
 pub private_room : (m : AddressMap) (l : Land) → IsEstate (estate_of m l) → AreMapped (store_of m).bytes.mapped 0x01C02000 256
 private_room m l estate a low high =
-    system_mapped _ _ l estate a (here 0x01C00000 0x3000 a (omega arith) (omega arith))
+    system_mapped _ _ l estate a (range_inside 0x01C00000 0x3000 a (omega arith) (omega arith))
