@@ -10,6 +10,7 @@ use Rattle.os_heap_slide.specs.address_map.specs.Bytes.{in_range}
 use Rattle.os_heap_slide.specs.address_map.specs.declared.region.Region.{Region}
 use Rattle.os_heap_slide.specs.os_heap_lists.specs.Heap.{HeapList}
 use Rattle.os_heap_slide.specs.os_heap.proofs.Apart.{range_parts}
+use Rattle.os_heap_slide.specs.os_heap.proofs.PayloadLists.{own_start}
 use Rattle.os_heap_slide.specs.os_heap.specs.Calls.{ending}
 use Rattle.os_heap_slide.specs.os_heap.specs.Store.{IsSound, Store, find_heap, is_flex_store, is_in_flex_store}
 use Rattle.dynamic_areas.proofs.LooseLemmas.{loose_created}
@@ -24,7 +25,7 @@ use Rattle.dynamic_areas.specs.Changing.{AreLoose, AreRangesClear, change_answer
 use Rattle.dynamic_areas.specs.Creating.{created, pages_for}
 use Rattle.dynamic_areas.specs.Ground.{Estate, IsEstate}
 use Rattle.dynamic_areas.specs.Remapped.{with_pages_at, without_pages_at}
-use Rattle.flex_kept.proofs.Heaps.{ended_keeps, own_start, writes_keep}
+use Rattle.flex_kept.proofs.Heaps.{ended_keeps, writes_keep}
 use Rattle.flex_kept.proofs.Keeping.{keeps_same, keeps_then}
 use Rattle.flex_kept.specs.Keeping.{KeepsFlex, is_flex_byte}
 use Rattle.flex_kept.specs.Laws.{AreaCallsKeepFlex}
