@@ -7,7 +7,7 @@ use Rattle.flex_store.specs.Blocks.{Block, FlexStore, has_anchor, is_held_word, 
 use Rattle.flex_store.specs.Calls.{FlexState}
 use Rattle.flex_store.specs.Memory.{Holds, laid_out, standing, text_of}
 use Rattle.flex_store.specs.Shifts.{following, Shifts}
-use Rattle.flex_store.specs.State.{AreAnchorWords, AreWhole}
+use Rattle.flex_store.specs.State.{AreAnchorWords}
 use Rattle.flex_store.proofs.Anchoring.{anchors_beside}
 use Rattle.flex_store.proofs.Holding.{bytes_beside, bytes_held}
 use Rattle.flex_store.proofs.Lists.{anchor-append}
@@ -111,10 +111,6 @@ drop_same (suc n) (x ∷ xs) (y ∷ ys) len each =
 abbrev pub AreFilled : List Block → Type 0
 AreFilled [] = Unit {0}
 AreFilled (b ∷ bs) = (length b.bytes ≡ whole_words b.size) × AreFilled bs
-
-pub whole_filled : (bs : List Block) → AreWhole bs → AreFilled bs
-whole_filled [] whole = tt
-whole_filled (b ∷ bs) whole = (whole.0.0, whole_filled bs whole.1)
 
 -- blocks whose padding stands in memory as in a text
 read_again : (g f : ℕ → ℕ) (h : ℕ) (bs : List Block) → AreFilled bs → Holds f h (text_of bs) → Each (λ a. g a ≡ f a) h bs
