@@ -13,6 +13,7 @@ use Rattle.os_heap_lists.specs.Heap.{AreTotals, HeapList, IsHeapIn}
 use Rattle.os_heap_lists.specs.Lists.{Claim, live_total, total_for}
 use Rattle.os_heap.proofs.Forgetting.{AreFound, are_found}
 use Rattle.os_heap.proofs.Found.{found_ended, found_heap}
+use Rattle.os_heap.proofs.Moving.{held_listed}
 use Rattle.os_heap.specs.Calls.{block_sized, ending, got, holding, resized, with_end, with_items}
 use Rattle.os_heap.specs.Forgetting.{forgot, holds_heap, lowest_lost, starts_in, without_heaps}
 use Rattle.os_heap.specs.Laws.{IsLost}
@@ -28,7 +29,7 @@ use Rattle.rma.specs.NewImages.{image_copied, image_made}
 use Rattle.heap_turns.proofs.DoneCalls.{FreesBytes, MovesBlock, OnDone, got_done, moved_to, resized_done}
 use Rattle.heap_turns.proofs.Forgotten.{AreBoth, lost_told, same_freed}
 use Rattle.heap_turns.proofs.Likeness.{with_last, with_list}
-use Rattle.heap_turns.proofs.NoHeapInside.{forgot_unheld, found_holds, held_ended, held_listed}
+use Rattle.heap_turns.proofs.NoHeapInside.{forgot_unheld, found_holds, held_ended}
 use Rattle.heap_turns.specs.Forgotten.{IsForgotten, freed_from}
 use Rattle.heap_turns.specs.Laws.{IsNotForgotten}
 use Rattle.heaps_kept.proofs.AreaReleases.{HasArea, area_there, freed_told}
