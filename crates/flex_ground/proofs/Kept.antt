@@ -1,10 +1,11 @@
 -- The flex store of a machine over calls that are none of its own, over what guests store, and at the start.
-use Rattle.std.proofs.Common.{◌≡◌, ◌≤◌, ◌<◌, ℕ, ◌+◌, ◌-◌, ◌&&◌, ◌||◌, ◌==◌, Bool, true, false, List, [], ◌∷◌, Option, Some, None, length, suc, inl, inr, is_some, refl, sym, ap, subst, ◌∙◌, arith}
+use Rattle.std.proofs.Common.{◌≡◌, ◌≤◌, ◌<◌, ℕ, ◌+◌, ◌-◌, ◌&&◌, ◌||◌, ◌==◌, Bool, true, false, List, [], ◌∷◌, Option, Some, None, length, suc, inl, inr, refl, sym, ap, subst, ◌∙◌, arith}
 use Rattle.std.proofs.lemmas.Bool.{and_parts, both_ways, cases_Bool, false_from_ne_true, eqb-true, false≢true, or_left, or_right}
 use Rattle.instances_ground.specs.profile.specs.Sizes.{Sizes}
+use Rattle.address_map.proofs.Bytes.{is_mapped-layout}
 use Rattle.address_map.specs.Bytes.{AreMapped, Bytes, word_start}
 use Rattle.address_map.specs.Classes.{is_anchor, is_flex_header}
-use Rattle.address_map.specs.Memory.{Layout, byte_at, bytes_of, class_of, is_mapped, layout}
+use Rattle.address_map.specs.Memory.{byte_at, bytes_of, class_of, is_mapped}
 use Rattle.address_map.specs.declared.class.Class.{Class}
 use Rattle.address_map.specs.declared.map.AddressMap.{AddressMap}
 use Rattle.address_map.specs.declared.region.Kind.{Kind}
@@ -161,9 +162,6 @@ word_owned : (m : AddressMap) (f : Flex) → IsFlex m f → (a : ℕ) → is_fle
 unfolding owned_in
 word_owned m f is a word = or_right _ (is_flex_word (store_of m) (word_start a)) (word_marks m f.extent is a ∙ word)
 
-same_mapped : (m n : AddressMap) → layout n ≡ layout m → is_mapped n ≡ is_mapped m
-same_mapped m n same = ap (λ (y : Layout). λ (a : ℕ). is_some (y.place a)) same
-
 extent_stays : (m : AddressMap) (mapped : ℕ → Bool) (o : Option Extent) → IsFlexAt m o → mapped ≡ is_mapped m → IsExtentThere mapped o
 extent_stays m mapped None is same = tt
 extent_stays m mapped (Some e) is same = λ a low high. ap (λ (p : ℕ → Bool). p a) same ∙ is.held.store.range.there a low high
@@ -194,7 +192,7 @@ flex_stored m n f has sound same marks kept =
         anchors = same_anchors m n marks;
         headers = same_headers m n marks;
         mapped = λ a anchor. sound_mapped n sound a (same_anchors m n marks a ∙ anchor);
-        range = extent_stays m (is_mapped n) f.extent has.is (same_mapped m n same);
+        range = extent_stays m (is_mapped n) f.extent has.is (is_mapped-layout m n same);
         recorded = λ start end there. ap (λ (rs : List Region). is_recorded rs start end) others ∙ there;
       });
       free = still_free m n marks others has.free;
