@@ -25,9 +25,10 @@ use Rattle.dynamic_areas.specs.Ground.{Estate}
 use Rattle.rma.specs.Calls.{area_pages, area_room, grown_by, grown_to, in_area, is_full, pages_short, rma_base, rma_claimed, rma_freed, with_store}
 use Rattle.rma.specs.Images.{image_recorded, with_image}
 use Rattle.rma.specs.NewImages.{image_copied, image_made}
+use Rattle.rma.specs.flex_kept.proofs.Heaps.{OnDone, on_if, on_some}
 use Rattle.heap_turns.proofs.Plain.{unlive}
 use Rattle.heaps_kept.proofs.Blocks.{AreSame, beside_same, held_total, release_were, same_all, same_both, same_stay, stay_both, unspelled}
-use Rattle.heaps_kept.proofs.HeapCalls.{OnDone, items_of_fit, on_if, on_some, unless_some}
+use Rattle.heaps_kept.proofs.HeapCalls.{items_of_fit, unless_some}
 use Rattle.heaps_kept.proofs.Holding.{written_is_fit}
 use Rattle.heaps_kept.proofs.Lists.{HasRoomFor, HasRoomIfSome, released_room}
 use Rattle.heaps_kept.proofs.ModuleArea.{OnEstate, OnGrown, to_fit}

@@ -5,19 +5,19 @@ use Rattle.std.specs.Prelude.{nat_le}
 use Rattle.std.specs.List.{list_any}
 use Rattle.address_map.specs.Bytes.{in_range}
 use Rattle.address_map.specs.declared.region.Kind.TheVariants.{Rma}
-use Rattle.address_map.specs.declared.region.Region.{Region}
 use Rattle.os_heap_lists.specs.Heap.{HeapList, IsHeapIn}
 use Rattle.os_heap.proofs.Apart.{found_other, range_parts}
 use Rattle.os_heap.proofs.Found.{found_heap, found_start}
-use Rattle.os_heap.proofs.Stores.{are_others, clear_of-found, image_kind, placed_either}
+use Rattle.os_heap.proofs.Stores.{are_others, clear_of-found}
 use Rattle.os_heap.specs.Calls.{has_own_size}
 use Rattle.os_heap.specs.Nesting.{IsWithin, is_area}
-use Rattle.os_heap.specs.Store.{AreClear, ArePlaced, IsClearOfHeaps, Store, find_heap, is_image}
+use Rattle.os_heap.specs.Store.{AreClear, Store, find_heap}
 use Rattle.dynamic_areas.proofs.ModuleArea.{IsModuleArea, module_area_known}
 use Rattle.dynamic_areas.proofs.RoomLemmas.{found_behind, found_room, in_window}
+use Rattle.dynamic_areas.proofs.SystemWrites.{system_clear}
 use Rattle.dynamic_areas.specs.declared.area.Area.{Area}
 use Rattle.dynamic_areas.specs.Areas.{find_area}
-use Rattle.dynamic_areas.specs.Ground.{Estate, IsEstate, IsRecorded, is_fixed, is_held, is_land, system_pages}
+use Rattle.dynamic_areas.specs.Ground.{Estate, IsEstate, is_fixed, is_held, is_land}
 use Rattle.dynamic_areas.specs.Rooms.{AreRooms, IsRoom}
 use Rattle.heaps_kept.specs.Fits.{is_module_byte}
 use Rattle.heaps_kept.specs.GuestLaws.{EstatesAreFit, GuestHeapsLieOutside, HasGuestHeap, OutsideKeepsHeap}
@@ -59,17 +59,6 @@ estates_fit e estate =
         place = estate.ground.sound.limits.place;
       };
     }
-
--- the system pages are clear of all heaps
-pub system_clear : (hs : List HeapList) (rs : List Region) → ArePlaced hs rs → IsRecorded system_pages rs → IsClearOfHeaps 0x01C00000 0x3000 hs
-system_clear hs [] placed recorded = absurd recorded
-system_clear hs (r ∷ rs) placed recorded = elim recorded [
-  | inr later ↦ system_clear hs rs placed.1 later
-  | inl same ↦ elim (placed_either hs r placed.0) [
-    | inl clear ↦ subst (λ (x : Region). IsClearOfHeaps x.at x.len hs) same clear
-    | inr image ↦ absurd (false≢true (ap (λ (x : Region). is_image x.kind) (sym same) ∙ image_kind hs r image))
-  ]
-]
 
 -- an area that was created lies behind the system pages
 pub created_low : (a : Area) → IsRoom a → a.number ≢ 1 → 0x02000000 ≤ a.base
