@@ -4,6 +4,7 @@ pub mod Copying
 pub mod Counting
 pub mod Equations
 pub mod Following
+pub mod InRange
 pub mod Lanes
 pub mod Lengths
 pub mod Lending

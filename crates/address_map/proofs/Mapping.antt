@@ -1,6 +1,7 @@
 -- What a page that is mapped or taken away leaves: which addresses are mapped, where they lie, and
 -- their bytes.
 use Rattle.std.proofs.Common.{◌≡◌, ◌≢◌, ℕ, ◌+◌, ◌-◌, ◌*◌, ◌/◌, ◌%◌, ◌<◌, ◌≤◌, Bool, true, false, ◌||◌, ◌&&◌, not, List, length, replicate, set, Option, Some, None, is_some, arith, refl, sym, ◌∙◌, ap, inl, inr}
+use Rattle.std.proofs.Math.Bool.{and-true}
 use Rattle.std.proofs.lemmas.Bool.{false≢true, cases_lt}
 use Rattle.std.proofs.lemmas.List.{get_or-replicate, get_or_append_left}
 use Rattle.raw_store.specs.Region.{zeroed, grown}
@@ -73,10 +74,6 @@ and_no : (x : Bool) → false ≡ (x && false)
 and_no true = refl
 and_no false = refl
 
-and_yes : (x : Bool) → x ≡ (x && true)
-and_yes true = refl
-and_yes false = refl
-
 module _ (frames : List (Option ℕ)) (addr : ℕ) (aligned : addr % 4096 ≡ 0) (below : addr / 4096 < length frames) where
   abbrev less : List (Option ℕ)
   less = set frames (addr / 4096) None
@@ -95,7 +92,7 @@ module _ (frames : List (Option ℕ)) (addr : ℕ) (aligned : addr % 4096 ≡ 0)
   mapped_less a =
       elim (in_range-cases addr 4096 a) [
         | inl r ↦ rw (r.0, inside a r.1 r.2) (and_no (is_some (place_in frames a)))
-        | inr r ↦ rw (r.0, outside a r.0) (and_yes (is_some (place_in frames a)))
+        | inr r ↦ rw (r.0, outside a r.0) (sym (and-true (is_some (place_in frames a))))
       ]
 
   pub stays_less : (a : ℕ) → is_some (place_in less a) ≡ true → place_in less a ≡ place_in frames a

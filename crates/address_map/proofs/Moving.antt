@@ -1,5 +1,5 @@
 -- Bytes that are copied in the store, piece by piece, and what that leaves in memory.
-use Rattle.std.proofs.Common.{◌≡◌, ℕ, ◌+◌, ◌-◌, ◌<◌, ◌≤◌, List, length, take, drop, get_or, arith, refl, sym, ◌∙◌, inl, inr}
+use Rattle.std.proofs.Common.{◌≡◌, ℕ, ◌+◌, ◌-◌, ◌<◌, ◌≤◌, List, length, take, drop, get_or, arith, refl, sym, ap, ◌∙◌, inl, inr}
 use Rattle.std.specs.List.{All}
 use Rattle.std.proofs.lemmas.Bool.Decides.{nat_tests}
 use Rattle.std.proofs.lemmas.List.{places}
@@ -9,6 +9,9 @@ use Rattle.address_map.specs.Bytes.{with_moved_at}
 use Rattle.address_map.specs.Memory.{byte_at, layout, IsSpan}
 use Rattle.address_map.proofs.Loads.{byte_found}
 use Rattle.address_map.proofs.Stores.{in_range-cases, bytes_written, layout-place, store_written}
+
+pub moved_in : (f : ℕ → ℕ) (from to len k : ℕ) → k < len → with_moved_at f from to len (to + k) ≡ f (from + k)
+moved_in f from to len k below = let e : from + (to + k - to) ≡ from + k = omega arith in grind (arith, nat_tests, ap f e)
 
 pub length-piece : (store : List ℕ) (from len : ℕ) → from + len ≤ length store → length (take len (drop from store)) ≡ len
 length-piece store from len fits = grind (arith, places)

@@ -1,5 +1,5 @@
 -- What a write to the store leaves in memory.
-use Rattle.std.proofs.Common.{◌≡◌, ℕ, ◌+◌, ◌-◌, ◌/◌, ◌%◌, ◌<◌, ◌≤◌, ◌⊎◌, true, false, List, [], ◌∷◌, length, replicate, slice_set, Option, Some, None, arith, refl, ◌∙◌, ap, inl, inr, add-zero}
+use Rattle.std.proofs.Common.{◌≡◌, ℕ, ◌+◌, ◌-◌, ◌/◌, ◌%◌, ◌<◌, ◌≤◌, ◌⊎◌, true, false, List, [], ◌∷◌, ◌++◌, length, replicate, slice_set, Option, Some, None, arith, refl, ◌∙◌, ap, inl, inr, add-zero}
 use Rattle.std.specs.List.{All}
 use Rattle.std.proofs.lemmas.Bool.{cases_lt, le-leb, lt-ltb, lt-leb, le-ltb}
 use Rattle.std.proofs.lemmas.List.Elements.{All-cons, All-nil, All-append, All-replicate}
@@ -174,3 +174,8 @@ zeros_written bytes store at len is fit =
       All-written (grown bytes (at + len)) (zeros len) at fits (All-grown bytes (at + len) fit) (All-replicate (λ b. b < 256) len 0 (omega arith)),
       length-written (grown bytes (at + len)) (zeros len) at fits,
     )
+
+-- two writes side by side are one
+pub two_writes : (old : ℕ → ℕ) (at : ℕ) (xs : List ℕ) (y a : ℕ)
+    → with_bytes_at (with_bytes_at old at xs) (at + length xs) (y ∷ []) a ≡ with_bytes_at old at (xs ++ y ∷ []) a
+two_writes old at xs y a = grind (arith, nat_tests, places, length-append)

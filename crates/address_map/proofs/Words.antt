@@ -69,3 +69,10 @@ store_by_class m a k clear h = by_limit (nat_le (2 ^ 26) a) (is_mapped m a) clea
   by_limit true mapped e = cc
   by_limit false false e = cc
   by_limit false true e = rw (class_found m a k h) (turned (is_plain (class_at m.marks (k / 4))))
+
+-- what a byte's store was not refused for
+pub unowned : (far mapped owned : Bool) → cond far (Some AddressException) (cond mapped (cond owned (Some OwnedWord) None) (Some DataUnmapped)) ≡ None → owned ≡ false
+unowned true mapped owned h = cc
+unowned false false owned h = cc
+unowned false true true h = cc
+unowned false true false h = refl

@@ -1,5 +1,5 @@
 -- How the value of digits goes on, by the digits so far and those that are left, up to a limit.
-use Rattle.std.proofs.Common.{◌≡◌, ℕ, ◌+◌, ◌*◌, ◌≤◌, ◌<◌, Bool, true, false, List, [], ◌∷◌, length, drop, get_or, Option, Some, None, sym, ap, ◌∙◌, arith, refl, drop-cons, add-one, length-drop}
+use Rattle.std.proofs.Common.{◌≡◌, ℕ, ◌+◌, ◌*◌, ◌≤◌, ◌<◌, Bool, true, false, List, [], ◌∷◌, length, drop, get_or, Option, Some, None, sym, ap, ◌∙◌, arith, refl, length-drop}
 use Rattle.std.proofs.Math.Nat.{mul-le-mul_left}
 use Rattle.std.proofs.lemmas.Bool.Decides.{nat_tests}
 use Rattle.std.specs.Prelude.{nat_lt, min, ◌&&◌, if◌then◌else◌}
@@ -7,6 +7,7 @@ use Rattle.std.specs.Char.{is_digit, digit_value}
 use Rattle.std.specs.List.{list_all}
 use Rattle.std.specs.Str.Parse.{digits_value_after}
 use Rattle.assembler.specs.Directives.{size_of, with_digit}
+use Rattle.assembler_names.proofs.Digits.{at_place, is_some}
 
 -- digits after those of `size`
 unfoldable pub digits_onto : ℕ → ℕ → List ℕ → Option ℕ
@@ -42,9 +43,6 @@ pub no_digits : (radix : ℕ) (digits : List ℕ) → length digits ≡ 0 → si
 unfolding size_of
 no_digits radix [] none = refl
 no_digits radix (d ∷ ds) none = absurd (omega (arith, none))
-
-is_some : (n : ℕ) → 0 < n → nat_lt 0 n ≡ true
-is_some n some = grind (arith, nat_tests, some)
 
 pub first_digits : (radix size : ℕ) (digits : List ℕ) → 0 < length digits → size ≡ 0 → size_of radix digits ≡ digits_onto radix size digits
 unfolding size_of digits_onto
@@ -84,9 +82,6 @@ breaks_off radix size d ds e =
     (min (digits_value_after radix (size * radix + digit_value d) ds) 1048577) e
 
 -- the same at a place of all digits
-at_place : (i : ℕ) (all : List ℕ) → i < length all → drop i all ≡ get_or all i 0 ∷ drop (i + 1) all
-at_place i all within = drop-cons all i 0 within ∙ ap (λ (k : ℕ). get_or all i 0 ∷ drop k all) (sym (add-one i))
-
 pub goes_on_at : (radix size next i : ℕ) (all : List ℕ) → i < length all → 2 ≤ radix → with_digit radix size (get_or all i 0) ≡ Some next
     → digits_onto radix size (drop i all) ≡ digits_onto radix next (drop (i + 1) all)
 goes_on_at radix size next i all within some e =

@@ -32,7 +32,7 @@ unfolding numeral
 no_digits radix [] none = refl
 no_digits radix (d ∷ ds) none = absurd (omega (arith, none))
 
-is_some : (n : ℕ) → 0 < n → nat_lt 0 n ≡ true
+pub is_some : (n : ℕ) → 0 < n → nat_lt 0 n ≡ true
 is_some n some = grind (arith, nat_tests, some)
 
 pub first_digits : (radix value : ℕ) (digits : List ℕ) → 0 < length digits → value ≡ 0 → numeral radix digits ≡ digits_onto radix value digits
@@ -70,7 +70,7 @@ unfolding with_digit digits_onto
 breaks_off radix value d ds e = rw (by_no_test (is_digit d radix) ((value * radix + digit_value d) % 2 ^ 32) e) refl
 
 -- the same at a place of all digits
-at_place : (i : ℕ) (all : List ℕ) → i < length all → drop i all ≡ get_or all i 0 ∷ drop (i + 1) all
+pub at_place : (i : ℕ) (all : List ℕ) → i < length all → drop i all ≡ get_or all i 0 ∷ drop (i + 1) all
 at_place i all within = drop-cons all i 0 within ∙ ap (λ (k : ℕ). get_or all i 0 ∷ drop k all) (sym (add-one i))
 
 pub goes_on_at : (radix value next i : ℕ) (all : List ℕ) → i < length all → with_digit radix value (get_or all i 0) ≡ Some next

@@ -1,8 +1,9 @@
 -- The printed operands of LDR and STR are read back.
 use Rattle.std.proofs.Common.{◌≡◌, ◌<◌, ◌^◌, ℕ, Bool, true, false, List, [], ◌∷◌, ◌++◌, Option, Some, None, Ok, refl, sym, ap, subst, ◌∙◌, arith, append_assoc}
+use Rattle.std.proofs.lemmas.Bool.{eqb-true}
 use Rattle.std.proofs.lemmas.Bool.Decides.{nat_tests}
 use Rattle.std.proofs.lemmas.List.{append-nil}
-use Rattle.std.specs.Prelude.{◌==◌, ◌&&◌, not, nat_lt, codes, if◌then◌else◌}
+use Rattle.std.specs.Prelude.{◌&&◌, not, nat_lt, codes, if◌then◌else◌}
 use Rattle.arm_decode.specs.Ranges.{FitsFields, FitsOffset}
 use Rattle.arm_decode.specs.Refusals.{refusal}
 use Rattle.arm_decode.specs.Diagrams.{word_of}
@@ -32,7 +33,7 @@ use Rattle.assembler_reading.specs.Operands.{Outcome, shifted}
 use Rattle.assembler_reading.proofs.InstructionsAgain.{read_again, word_for_again}
 use Rattle.assembler_reading.proofs.MnemonicsAgain.{kind_text, transfer_word}
 use Rattle.assembler_reading.proofs.Numbers.{number_again}
-use Rattle.assembler_reading.proofs.OperandsAgain.{shifted_again, shifted_shape}
+use Rattle.assembler_reading.proofs.OperandsAgain.{hash_after_space, shifted_again, shifted_shape}
 use Rattle.assembler_reading.proofs.Pieces.{Ends, comma_then, ends_bracket, ends_nothing, is_register, register_again}
 
 -- an offset with its sign, as it is read
@@ -89,16 +90,12 @@ offset_again labels Up (offset.Shifted s) rest fits ends =
 offset_again labels Down (offset.Shifted s) rest fits ends =
     down_register labels (shifted_text s ++ rest) ∙ register_read labels Down s (shifted_text s ++ rest) rest (shifted_again labels s rest fits ends)
 
-hash_no_space : (x : List ℕ) → after_spaces (35 ∷ x) ≡ 35 ∷ x
-unfolding after_spaces
-hash_no_space x = refl
-
 minus_no_space : (x : List ℕ) → after_spaces (45 ∷ x) ≡ 45 ∷ x
 unfolding after_spaces
 minus_no_space x = refl
 
 offset_no_space : (d : Direction) (o : Offset) (rest : List ℕ) → FitsOffset o → after_spaces (offset_text d o ++ rest) ≡ offset_text d o ++ rest
-offset_no_space d (offset.Immediate n) rest fits = hash_no_space ((sign_text d ++ number_text n) ++ rest)
+offset_no_space d (offset.Immediate n) rest fits = hash_after_space ((sign_text d ++ number_text n) ++ rest)
 offset_no_space Down (offset.Shifted s) rest fits = minus_no_space (shifted_text s ++ rest)
 offset_no_space Up (offset.Shifted s) rest fits =
     subst (λ (t : List ℕ). after_spaces t ≡ t) (sym (shifted_shape s rest)) (is_register s.rm (shifting_text s.shift s.amount ++ rest) fits.0).no_space
@@ -196,13 +193,10 @@ address_shape : (way : Indexing) (d : Direction) (rn : ℕ) (o : Offset) → add
 address_shape (Post user) d rn o = post_shape user d rn o
 address_shape (Pre w) d rn o = before_shape w d rn o
 
-is_zero : (n : ℕ) → (n == 0) ≡ true → n ≡ 0
-is_zero n e = grind (arith, nat_tests, e)
-
 nothing_is : (w : Bool) (d : Direction) (rn : ℕ) (o : Offset) → (not w && is_nothing d o) ≡ true
     → placed (Pre false) Up rn (offset.Immediate 0) ≡ placed (Pre w) d rn o
 nothing_is true d rn o e = absurd cc
-nothing_is false Up rn (offset.Immediate n) e = ap (λ (k : ℕ). placed (Pre false) Up rn (offset.Immediate k)) (sym (is_zero n e))
+nothing_is false Up rn (offset.Immediate n) e = ap (λ (k : ℕ). placed (Pre false) Up rn (offset.Immediate k)) (sym (eqb-true n 0 e))
 nothing_is false Down rn (offset.Immediate n) e = absurd cc
 nothing_is false d rn (offset.Shifted s) e = absurd cc
 

@@ -24,6 +24,7 @@ use Rattle.assembler_reading.specs.RegisterLists.{block_at, block_transferred, l
 use Rattle.assembler_reading.proofs.InstructionsAgain.{read_again, word_for_again}
 use Rattle.assembler_reading.proofs.MnemonicsAgain.{block_word}
 use Rattle.assembler_reading.proofs.Pieces.{comma_then, is_register, register_again}
+use Rattle.assembler_reading.proofs.Ranges.{no_bit_value}
 
 -- registers have numbers below 16
 abbrev AreRegisters : List ℕ → Type 0
@@ -101,9 +102,6 @@ in_range list first (suc count) within = by (bit_of list first) refl (in_range l
 
 bit_value : (list n : ℕ) → bit_of list n ≡ true → list / 2 ^ n % 2 ≡ 1
 bit_value list n e = grind (arith, nat_tests, e)
-
-no_bit_value : (x : ℕ) → (x % 2 == 1) ≡ false → x % 2 ≡ 0
-no_bit_value x e = grind (arith, nat_tests, e)
 
 one_bit_more : (list n : ℕ) → list % 2 ^ (n + 1) ≡ (list / 2 ^ n % 2) * 2 ^ n + list % 2 ^ n
 one_bit_more list n = ap (λ (k : ℕ). list % 2 ^ k) (swapped n) ∙ mod-pow-add list 1 n

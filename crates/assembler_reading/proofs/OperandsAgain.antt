@@ -1,5 +1,6 @@
 -- A printed second operand is read back.
 use Rattle.std.proofs.Common.{◌≡◌, ◌<◌, ◌≤◌, ◌*◌, ◌%◌, ◌^◌, ℕ, zero, suc, Bool, true, false, List, ◌∷◌, ◌++◌, Option, Some, None, Result, Ok, refl, sym, ap, subst, ◌∙◌, arith, append_assoc}
+use Rattle.std.proofs.lemmas.Bool.{eqb-true}
 use Rattle.std.proofs.lemmas.Bool.Decides.{nat_tests}
 use Rattle.std.specs.Prelude.{◌==◌, nat_le, codes, decimal}
 use Rattle.std.specs.List.{prefix_len}
@@ -160,7 +161,7 @@ by_amount : (labels : Lookup) (rm n : ℕ) (s : Shift) (rest : List ℕ) → n <
 unfolding byte
 by_amount labels rm n s rest h ends = rw (amount_again labels n rest h ends.apart ends.no_sign) refl
 
-hash_after_space : (text : List ℕ) → after_spaces (35 ∷ text) ≡ 35 ∷ text
+pub hash_after_space : (text : List ℕ) → after_spaces (35 ∷ text) ≡ 35 ∷ text
 unfolding after_spaces
 hash_after_space text = refl
 
@@ -208,9 +209,6 @@ extended_shifts labels rm rest ends =
     rw (comma_then (codes "RRX" ++ rest) (no_space_extended rest))
     (extended_read labels rm rest (word_before (codes "RRX") rest refl ends.apart) (after_before (codes "RRX") rest refl ends.apart))
 
-is_none_left : (n : ℕ) → (n == 0) ≡ true → n ≡ 0
-is_none_left n e = grind (arith, nat_tests, e)
-
 is_some_left : (n : ℕ) → (n == 0) ≡ false → 1 ≤ n
 is_some_left n e = grind (arith, nat_tests, e)
 
@@ -223,10 +221,10 @@ shifting_again labels rm n s rest h ends = by s (n == 0) refl
 
     by : (s : Shift) (t : Bool) → (n == 0) ≡ t
         → shift_at labels rm (shifting_text s n ++ rest) (comma (shifting_text s n ++ rest)) ≡ Some (Ok (operand.Shifted (shifted_by rm s n)), rest)
-    by shift.LogicalLeft true e = let z = is_none_left n e in rw z (plain_shifts labels rm rest ends)
-    by shift.LogicalRight true e = let z = is_none_left n e in rw z (amount_shifts labels rm 32 shift.LogicalRight rest (omega arith) (omega arith) (omega arith) ends)
-    by shift.ArithmeticRight true e = let z = is_none_left n e in rw z (amount_shifts labels rm 32 shift.ArithmeticRight rest (omega arith) (omega arith) (omega arith) ends)
-    by shift.RotateRight true e = let z = is_none_left n e in rw z (extended_shifts labels rm rest ends)
+    by shift.LogicalLeft true e = let z = eqb-true n 0 e in rw z (plain_shifts labels rm rest ends)
+    by shift.LogicalRight true e = let z = eqb-true n 0 e in rw z (amount_shifts labels rm 32 shift.LogicalRight rest (omega arith) (omega arith) (omega arith) ends)
+    by shift.ArithmeticRight true e = let z = eqb-true n 0 e in rw z (amount_shifts labels rm 32 shift.ArithmeticRight rest (omega arith) (omega arith) (omega arith) ends)
+    by shift.RotateRight true e = let z = eqb-true n 0 e in rw z (extended_shifts labels rm rest ends)
     by shift.LogicalLeft false e =
         rw e (amount_shifts labels rm n shift.LogicalLeft rest (omega arith) (is_some_left n e) (omega arith) ends
         ∙ ap (λ (k : ℕ). Some (Ok (operand.Shifted (shifted_by rm shift.LogicalLeft k)), rest)) same)

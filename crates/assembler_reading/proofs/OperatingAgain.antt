@@ -1,5 +1,6 @@
 -- The printed operands of data processing and of multiplication are read back.
 use Rattle.std.proofs.Common.{◌≡◌, ◌<◌, ℕ, Bool, true, false, List, [], ◌∷◌, ◌++◌, Option, Some, None, Ok, refl, ap, subst, ◌∙◌, arith, append_assoc}
+use Rattle.std.proofs.lemmas.Bool.{eqb-true}
 use Rattle.std.proofs.lemmas.Bool.Decides.{nat_tests}
 use Rattle.std.proofs.lemmas.List.{append-nil}
 use Rattle.std.specs.Prelude.{◌==◌, ◌&&◌, ◌||◌, not, codes, if◌then◌else◌}
@@ -44,9 +45,6 @@ of_move first true e = refl
 of_move false false e = absurd cc
 of_move true false e = absurd cc
 
-is_zero : (n : ℕ) → (n == 0) ≡ true → n ≡ 0
-is_zero n e = grind (arith, nat_tests, e)
-
 is_fifteen : (n : ℕ) → (n == 15) ≡ true → n ≡ 15
 is_fifteen n e = grind (arith, nat_tests, e)
 
@@ -56,7 +54,7 @@ test_field d e = by (is_pc d) (d == 0) refl refl
   where
     by : (b z : Bool) → is_pc d ≡ b → (d == 0) ≡ z → d ≡ (if is_pc d then 15 else 0)
     by true z f g = rw f (is_fifteen d f)
-    by false true f g = rw f (is_zero d g)
+    by false true f g = rw f (eqb-true d 0 g)
     by false false f g = let both = rw (g, f) at e in absurd cc
 
 same_operate : (o : Operate) (sets : Bool) (n d : ℕ) → o.sets_flags ≡ sets → o.rn ≡ n → o.rd ≡ d → operating o.operation sets n d o.operand ≡ o
@@ -129,7 +127,7 @@ move_again : (labels : Lookup) (o : Operate) → is_test o.operation ≡ false �
 move_again labels o t m fits free =
     let known = of_move false (o.rn == 0) (rw (t, m) at free) in
     rw (t, m) (with_operand labels o.operation o.sets_flags 0 o.rd o.operand fits
-    ∙ done o o.sets_flags 0 o.rd refl (is_zero o.rn known) refl)
+    ∙ done o o.sets_flags 0 o.rd refl (eqb-true o.rn 0 known) refl)
 
 other_again : (labels : Lookup) (o : Operate) → is_test o.operation ≡ false → is_move o.operation ≡ false → o.rn < 16 → FitsOperand o.operand
     → operate_behind labels o.operation o.sets_flags o.rd (register_text o.rn ++ (44 ∷ operand_text o.operand)) ≡ Some (Ok (action.Operate o), [])
@@ -198,7 +196,7 @@ pub multiply_again : (m : Multiply) → FitsFields (action.Multiply m) → unall
 multiply_again m fits free = multiply_read m.rd m.rn m.rs m.rm m.accumulates m.sets_flags fits.0 fits.1 fits.2 fits.3 no_rn
   where
     no_rn : m.accumulates ≡ false → m.rn ≡ 0
-    no_rn e = is_zero m.rn (of_move false (m.rn == 0) (rw e at free))
+    no_rn e = eqb-true m.rn 0 (of_move false (m.rn == 0) (rw e at free))
 
 pub multiply_no_space : (m : Multiply) → FitsFields (action.Multiply m) → after_spaces (multiply_operands m) ≡ multiply_operands m
 multiply_no_space m fits = register_no_space _ m.rd fits.0

@@ -50,25 +50,25 @@ one_range count i list first last text behind after h e c = let k : count - i �
 
 pub ruleset list_steps = (list_ends, no_range, open_list, closed_list, one_range)
 
-clear : (x : ℕ) → (x % 2 == 1) ≡ false → x % 2 ≡ 0
-clear x e = grind (arith, nat_tests, e)
+pub no_bit_value : (x : ℕ) → (x % 2 == 1) ≡ false → x % 2 ≡ 0
+no_bit_value x e = grind (arith, nat_tests, e)
 
 -- a bit that is clear can be added
 pub fits : (list n : ℕ) → n < 16 → list < 2 ^ 16 → bit_of list n ≡ false → list + 2 ^ n < 2 ^ 16
-fits list zero within low e = let bit : list / 1 % 2 ≡ 0 = clear (list / 1) e in omega arith
-fits list (suc zero) within low e = let bit : list / 2 % 2 ≡ 0 = clear (list / 2) e in omega arith
-fits list (suc (suc zero)) within low e = let bit : list / 4 % 2 ≡ 0 = clear (list / 4) e in omega arith
-fits list (suc (suc (suc zero))) within low e = let bit : list / 8 % 2 ≡ 0 = clear (list / 8) e in omega arith
-fits list (suc (suc (suc (suc zero)))) within low e = let bit : list / 16 % 2 ≡ 0 = clear (list / 16) e in omega arith
-fits list (suc (suc (suc (suc (suc zero))))) within low e = let bit : list / 32 % 2 ≡ 0 = clear (list / 32) e in omega arith
-fits list (suc (suc (suc (suc (suc (suc zero)))))) within low e = let bit : list / 64 % 2 ≡ 0 = clear (list / 64) e in omega arith
-fits list (suc (suc (suc (suc (suc (suc (suc zero))))))) within low e = let bit : list / 128 % 2 ≡ 0 = clear (list / 128) e in omega arith
-fits list (suc (suc (suc (suc (suc (suc (suc (suc zero)))))))) within low e = let bit : list / 256 % 2 ≡ 0 = clear (list / 256) e in omega arith
-fits list (suc (suc (suc (suc (suc (suc (suc (suc (suc zero))))))))) within low e = let bit : list / 512 % 2 ≡ 0 = clear (list / 512) e in omega arith
-fits list (suc (suc (suc (suc (suc (suc (suc (suc (suc (suc zero)))))))))) within low e = let bit : list / 1024 % 2 ≡ 0 = clear (list / 1024) e in omega arith
-fits list (suc (suc (suc (suc (suc (suc (suc (suc (suc (suc (suc zero))))))))))) within low e = let bit : list / 2048 % 2 ≡ 0 = clear (list / 2048) e in omega arith
-fits list (suc (suc (suc (suc (suc (suc (suc (suc (suc (suc (suc (suc zero)))))))))))) within low e = let bit : list / 4096 % 2 ≡ 0 = clear (list / 4096) e in omega arith
-fits list (suc (suc (suc (suc (suc (suc (suc (suc (suc (suc (suc (suc (suc zero))))))))))))) within low e = let bit : list / 8192 % 2 ≡ 0 = clear (list / 8192) e in omega arith
-fits list (suc (suc (suc (suc (suc (suc (suc (suc (suc (suc (suc (suc (suc (suc zero)))))))))))))) within low e = let bit : list / 16384 % 2 ≡ 0 = clear (list / 16384) e in omega arith
-fits list (suc (suc (suc (suc (suc (suc (suc (suc (suc (suc (suc (suc (suc (suc (suc zero))))))))))))))) within low e = let bit : list / 32768 % 2 ≡ 0 = clear (list / 32768) e in omega arith
+fits list zero within low e = let bit : list / 1 % 2 ≡ 0 = no_bit_value (list / 1) e in omega arith
+fits list (suc zero) within low e = let bit : list / 2 % 2 ≡ 0 = no_bit_value (list / 2) e in omega arith
+fits list (suc (suc zero)) within low e = let bit : list / 4 % 2 ≡ 0 = no_bit_value (list / 4) e in omega arith
+fits list (suc (suc (suc zero))) within low e = let bit : list / 8 % 2 ≡ 0 = no_bit_value (list / 8) e in omega arith
+fits list (suc (suc (suc (suc zero)))) within low e = let bit : list / 16 % 2 ≡ 0 = no_bit_value (list / 16) e in omega arith
+fits list (suc (suc (suc (suc (suc zero))))) within low e = let bit : list / 32 % 2 ≡ 0 = no_bit_value (list / 32) e in omega arith
+fits list (suc (suc (suc (suc (suc (suc zero)))))) within low e = let bit : list / 64 % 2 ≡ 0 = no_bit_value (list / 64) e in omega arith
+fits list (suc (suc (suc (suc (suc (suc (suc zero))))))) within low e = let bit : list / 128 % 2 ≡ 0 = no_bit_value (list / 128) e in omega arith
+fits list (suc (suc (suc (suc (suc (suc (suc (suc zero)))))))) within low e = let bit : list / 256 % 2 ≡ 0 = no_bit_value (list / 256) e in omega arith
+fits list (suc (suc (suc (suc (suc (suc (suc (suc (suc zero))))))))) within low e = let bit : list / 512 % 2 ≡ 0 = no_bit_value (list / 512) e in omega arith
+fits list (suc (suc (suc (suc (suc (suc (suc (suc (suc (suc zero)))))))))) within low e = let bit : list / 1024 % 2 ≡ 0 = no_bit_value (list / 1024) e in omega arith
+fits list (suc (suc (suc (suc (suc (suc (suc (suc (suc (suc (suc zero))))))))))) within low e = let bit : list / 2048 % 2 ≡ 0 = no_bit_value (list / 2048) e in omega arith
+fits list (suc (suc (suc (suc (suc (suc (suc (suc (suc (suc (suc (suc zero)))))))))))) within low e = let bit : list / 4096 % 2 ≡ 0 = no_bit_value (list / 4096) e in omega arith
+fits list (suc (suc (suc (suc (suc (suc (suc (suc (suc (suc (suc (suc (suc zero))))))))))))) within low e = let bit : list / 8192 % 2 ≡ 0 = no_bit_value (list / 8192) e in omega arith
+fits list (suc (suc (suc (suc (suc (suc (suc (suc (suc (suc (suc (suc (suc (suc zero)))))))))))))) within low e = let bit : list / 16384 % 2 ≡ 0 = no_bit_value (list / 16384) e in omega arith
+fits list (suc (suc (suc (suc (suc (suc (suc (suc (suc (suc (suc (suc (suc (suc (suc zero))))))))))))))) within low e = let bit : list / 32768 % 2 ≡ 0 = no_bit_value (list / 32768) e in omega arith
 fits list (suc (suc (suc (suc (suc (suc (suc (suc (suc (suc (suc (suc (suc (suc (suc (suc n)))))))))))))))) within low e = absurd (omega (arith, within))

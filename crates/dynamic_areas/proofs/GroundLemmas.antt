@@ -1,10 +1,13 @@
 -- The ground of the areas where one of them grows or shrinks.
-use Rattle.std.proofs.Common.{◌≡◌, ℕ, ◌+◌, ◌-◌, ◌*◌, ◌<◌, ◌≤◌, ◌==◌, ◌%◌, ◌&&◌, ◌||◌, not, Bool, true, false, leb, List, [], ◌∷◌, refl, sym, ap, ◌∙◌, Some, None, inl, inr, arith}
+use Rattle.std.proofs.Common.{◌≡◌, ℕ, ◌+◌, ◌-◌, ◌*◌, ◌<◌, ◌≤◌, ◌==◌, ◌%◌, ◌&&◌, ◌||◌, not, Bool, true, false, List, [], ◌∷◌, refl, sym, ap, ◌∙◌, Some, None, inl, inr, arith}
+use Rattle.std.proofs.Math.Bool.{and-true}
 use Rattle.std.specs.List.{list_any}
-use Rattle.std.proofs.lemmas.Bool.{cases_Bool, le-ltb, and_right}
+use Rattle.std.proofs.lemmas.Bool.{cases_Bool}
+use Rattle.address_map.proofs.InRange.{range_inside, range_past}
 use Rattle.address_map.specs.declared.region.Region.{Region}
 use Rattle.address_map.specs.Records.{anchor_among}
 use Rattle.address_map.specs.Bytes.{in_range, AreUnmapped}
+use Rattle.os_heap.proofs.RangeTests.{or_middle, range_high, range_low}
 use Rattle.os_heap.specs.Store.{Store, IsClearOfHeaps}
 use Rattle.os_heap.proofs.Stores.{clear_both_ways}
 use Rattle.dynamic_areas.specs.declared.area.Area.{Area}
@@ -13,31 +16,24 @@ use Rattle.dynamic_areas.specs.Changing.{AreRangesClear}
 use Rattle.dynamic_areas.specs.Ground.{is_fixed, is_held, IsGround, AreRangesMapped}
 use Rattle.dynamic_areas.specs.Remapped.{with_pages_at, without_pages_at}
 use Rattle.dynamic_areas.specs.Rooms.{IsRoom}
-use Rattle.dynamic_areas.proofs.LandLemmas.{or_middle, land_grown, held_alone, pages_same, pages_counted, rooms_paged, some_paged, fixed_outside, lies_apart}
-use Rattle.dynamic_areas.proofs.Remapped.{here, range_low, range_high, sound_grown, sound_shrunk}
+use Rattle.dynamic_areas.proofs.LandLemmas.{land_grown, held_alone, pages_same, pages_counted, rooms_paged, some_paged, fixed_outside, lies_apart}
+use Rattle.dynamic_areas.proofs.Remapped.{sound_grown, sound_shrunk}
 use Rattle.dynamic_areas.proofs.RoomLemmas.{found_room, pages_none, room_small}
 
 pub or_true : (t : Bool) → (t || true) ≡ true
 or_true true = refl
 or_true false = refl
 
-and_true : (t : Bool) → (t && true) ≡ t
-and_true true = refl
-and_true false = refl
-
 -- below its top an area holds its pages alone, and above it nothing is mapped up to its maximum
-past_end : (base len x : ℕ) → base + len ≤ x → in_range base len x ≡ false
-past_end base len x past = rw (le-ltb x (base + len) past) (and_right (leb base x) false refl)
-
 pub unmapped_above : (s : Store) (free : ℕ) (l : Land) (number : ℕ) (a : Area) (count : ℕ) → IsGround s free l → find_area number l.areas ≡ Some a
     → 4096 * (a.pages + count) ≤ a.maximum → AreUnmapped s.bytes.mapped (a.base + 4096 * a.pages) (4096 * count)
 unmapped_above s free l number a count ground e fits x low high =
     let room : IsRoom a = found_room number l.areas a ground.table.rooms e in
-    let inside : in_range a.base a.maximum x ≡ true = here a.base a.maximum x (omega arith) (omega arith) in
+    let inside : in_range a.base a.maximum x ≡ true = range_inside a.base a.maximum x (omega arith) (omega arith) in
     let alone : list_any (is_held x) (with_pages number a.pages l.areas) ≡ in_range a.base (4096 * a.pages) x =
     held_alone number l.areas a a.pages x ground.table.rooms e inside in
     let none : list_any (is_held x) l.areas ≡ false =
-    ap (λ (xs : List Area). list_any (is_held x) xs) (sym (pages_same number l.areas a e)) ∙ (alone ∙ past_end a.base (4096 * a.pages) x low) in
+    ap (λ (xs : List Area). list_any (is_held x) xs) (sym (pages_same number l.areas a e)) ∙ (alone ∙ range_past a.base (4096 * a.pages) x low) in
     ground.land x ∙ rw (fixed_outside l.sizes a x ground.sizes room inside, none) refl
 
 ranges_more : (s : Store) (at len : ℕ) (rs : List Region) → AreRangesMapped s.bytes.mapped rs
@@ -94,14 +90,14 @@ ranges_less : (s : Store) (at len : ℕ) (rs : List Region) → AreRangesMapped 
     → AreRangesMapped (λ a. s.bytes.mapped a && not (in_range at len a)) rs
 ranges_less s at len [] mapped clear = tt
 ranges_less s at len (r ∷ rs) mapped clear = (
-  λ a low high. rw (mapped.0 a low high, clear_both_ways at len r.at r.len clear.0 a (here r.at r.len a low high)) refl,
+  λ a low high. rw (mapped.0 a low high, clear_both_ways at len r.at r.len clear.0 a (range_inside r.at r.len a low high)) refl,
   ranges_less s at len rs mapped.1 clear.1,
 )
 
 -- the land without the pages at the top
 land_less : (f t k : Bool) → (t ≡ true → (f ≡ false) × (k ≡ false)) → ((f || (t || k)) && not t) ≡ (f || k)
 land_less f true k none = let both = none refl in rw (both.0, both.1) refl
-land_less f false k none = and_true (f || k)
+land_less f false k none = and-true (f || k)
 
 module _ (s : Store) (free : ℕ) (l : Land) (number : ℕ) (a : Area) (count : ℕ) (ground : IsGround s free l) (e : find_area number l.areas ≡ Some a)
     (fits : count ≤ a.pages) where
@@ -136,9 +132,9 @@ module _ (s : Store) (free : ℕ) (l : Land) (number : ℕ) (a : Area) (count : 
             (list_any (is_held x) (with_pages number (a.pages - count) l.areas)) (λ there.
             let low : a.base + 4096 * (a.pages - count) ≤ x = range_low (a.base + 4096 * (a.pages - count)) (4096 * count) x there in
             let high : x < a.base + 4096 * (a.pages - count) + 4096 * count = range_high (a.base + 4096 * (a.pages - count)) (4096 * count) x there in
-            let inside : in_range a.base a.maximum x ≡ true = here a.base a.maximum x (omega arith) (omega arith) in (
+            let inside : in_range a.base a.maximum x ≡ true = range_inside a.base a.maximum x (omega arith) (omega arith) in (
               fixed_outside l.sizes a x ground.sizes room inside,
-              held_alone number l.areas a (a.pages - count) x ground.table.rooms e inside ∙ past_end a.base (4096 * (a.pages - count)) x low,
+              held_alone number l.areas a (a.pages - count) x ground.table.rooms e inside ∙ range_past a.base (4096 * (a.pages - count)) x low,
             )));
         pages = omega arith;
         ranges = ranges_less s (a.base + 4096 * (a.pages - count)) (4096 * count) s.others ground.ranges ranges;
@@ -150,11 +146,11 @@ pub mapped_held : (s : Store) (free : ℕ) (l : Land) (number : ℕ) (a : Area) 
 mapped_held s free l number a ground e x low high =
     let room : IsRoom a = found_room number l.areas a ground.table.rooms e in
     let within : 4096 * a.pages ≤ a.maximum = room.within in
-    let inside : in_range a.base a.maximum x ≡ true = here a.base a.maximum x low (omega arith) in
+    let inside : in_range a.base a.maximum x ≡ true = range_inside a.base a.maximum x low (omega arith) in
     let alone : list_any (is_held x) (with_pages number a.pages l.areas) ≡ in_range a.base (4096 * a.pages) x =
     held_alone number l.areas a a.pages x ground.table.rooms e inside in
     let held : list_any (is_held x) l.areas ≡ true =
-    ap (λ (xs : List Area). list_any (is_held x) xs) (sym (pages_same number l.areas a e)) ∙ (alone ∙ here a.base (4096 * a.pages) x low high) in
+    ap (λ (xs : List Area). list_any (is_held x) xs) (sym (pages_same number l.areas a e)) ∙ (alone ∙ range_inside a.base (4096 * a.pages) x low high) in
     ground.land x ∙ rw held (or_true (is_fixed l.sizes x))
 
 -- pages of an area's room lie in the address space

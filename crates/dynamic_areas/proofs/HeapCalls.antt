@@ -6,6 +6,7 @@ use Rattle.std.proofs.lemmas.Bool.{cases_Bool, eqb-true, eq-eqb, false≢true}
 use Rattle.profile.specs.Outcome.{bind, Gives}
 use Rattle.profile.specs.declared.error.ErrorNumber.{ErrorNumber}
 use Rattle.profile.specs.declared.error.ErrorNumber.TheVariants.{BlockHoldsHeap, HeapBadDesc, HeapHoldsAnchor, HeapNoRoom, HeapNotABlock}
+use Rattle.address_map.proofs.InRange.{range_inside}
 use Rattle.address_map.specs.Bytes.{Bytes, in_range, AreMapped}
 use Rattle.address_map.specs.Memory.{Layout, Mapping, bytes_of, regions, layout, mapping, is_mapped, place, free_pages}
 use Rattle.address_map.specs.Records.{anchor_among, is_heap_kind}
@@ -26,7 +27,6 @@ use Rattle.dynamic_areas.specs.declared.area.Area.{Area}
 use Rattle.dynamic_areas.specs.Areas.{Land, pages_of}
 use Rattle.dynamic_areas.specs.Ground.{AreAreas, EndsWithArea, pool_of}
 use Rattle.dynamic_areas.proofs.GroundLemmas.{or_true}
-use Rattle.dynamic_areas.proofs.Remapped.{here}
 
 -- the heap of the module area keeps its kind and its end
 abbrev pub KeepsEnd : List HeapList → List HeapList → Type 0
@@ -46,7 +46,7 @@ areas_kept s t free l areas sound mapped others kept = record {
   heap = kept _ areas.heap;
 }
 
-same_end : (g h : HeapList) (area : Option Area) → h.kind ≡ g.kind → h.end ≡ g.end → EndsWithArea (Some g) area → EndsWithArea (Some h) area
+pub same_end : (g h : HeapList) (area : Option Area) → h.kind ≡ g.kind → h.end ≡ g.end → EndsWithArea (Some g) area → EndsWithArea (Some h) area
 same_end g h None kind end ends = ends
 same_end g h (Some a) kind end ends = (kind ∙ ends.0, end ∙ ends.1)
 
@@ -297,7 +297,7 @@ system_mapped s free l areas a inside =
 
 pub system_room : (s : Store) (free : ℕ) (l : Land) → AreAreas s free l → AreMapped s.bytes.mapped 0x01C02100 256
 system_room s free l areas a low high =
-    system_mapped s free l areas a (here 0x01C00000 0x3000 a (omega arith) (omega arith))
+    system_mapped s free l areas a (range_inside 0x01C00000 0x3000 a (omega arith) (omega arith))
 
 pub pool_is : (s : Store) (free : ℕ) (l : Land) → AreAreas s free l → free ≡ pool_of l
 pool_is s free l areas =

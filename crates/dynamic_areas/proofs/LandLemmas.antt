@@ -1,5 +1,6 @@
 -- Which addresses the areas hold where one of them gets another count of pages.
-use Rattle.std.proofs.Common.{◌≡◌, ℕ, ◌+◌, ◌*◌, ◌<◌, ◌≤◌, ◌==◌, ◌||◌, Bool, true, false, leb, List, [], ◌∷◌, ◌⊎◌, refl, sym, ap, subst, ◌∙◌, Some, None, inl, inr, arith}
+use Rattle.std.proofs.Common.{◌≡◌, ℕ, ◌+◌, ◌*◌, ◌<◌, ◌≤◌, ◌==◌, ◌||◌, true, false, leb, List, [], ◌∷◌, ◌⊎◌, refl, sym, ap, subst, ◌∙◌, Some, None, inl, inr, arith}
+use Rattle.std.proofs.Math.Bool.{or-false, or_assoc}
 use Rattle.std.specs.Prelude.{is_some}
 use Rattle.std.specs.List.{list_any}
 use Rattle.std.proofs.lemmas.Bool.{cases_Bool, cases_eq, cases_lt, eqb-true, eq-eqb, lt-ltb, le-ltb, le-leb, lt-leb, leb-true, and_parts, and_right, false≢true, false_from_ne_true}
@@ -9,22 +10,8 @@ use Rattle.dynamic_areas.specs.declared.area.Area.{Area}
 use Rattle.dynamic_areas.specs.Areas.{find_area, with_pages, paged, pages_of}
 use Rattle.dynamic_areas.specs.Ground.{is_fixed, is_held}
 use Rattle.dynamic_areas.specs.Rooms.{IsRoom, IsBefore, AreRooms}
-use Rattle.dynamic_areas.proofs.Remapped.{range_low, range_high}
 use Rattle.dynamic_areas.proofs.RoomLemmas.{meets_turned, found_behind, in_window}
-
-pub or_next : (a b c : Bool) → ((a || b) || c) ≡ (a || (b || c))
-or_next true b c = refl
-or_next false b c = refl
-
-pub or_middle : (a b c : Bool) → (a || (b || c)) ≡ (b || (a || c))
-or_middle true true c = refl
-or_middle true false c = refl
-or_middle false true c = refl
-or_middle false false c = refl
-
-or_nothing : (t : Bool) → (t || false) ≡ t
-or_nothing true = refl
-or_nothing false = refl
+use Rattle.os_heap.proofs.RangeTests.{or_middle, range_high, range_low}
 
 -- the addresses of the first pages, and of those after them
 pub held_split : (base p c x : ℕ) → in_range base (4096 * (p + c)) x ≡ (in_range (base + 4096 * p) (4096 * c) x || in_range base (4096 * p) x)
@@ -64,7 +51,7 @@ land_grown number (g ∷ others) a count x e =
           subst (λ (y : Area). list_any (is_held x) (with_pages number (y.pages + count) (g ∷ others))
           ≡ (in_range (y.base + 4096 * y.pages) (4096 * count) x || list_any (is_held x) (g ∷ others))) same
           (rw (this, held_split g.base g.pages count x)
-          (or_next (in_range (g.base + 4096 * g.pages) (4096 * count) x) (is_held x g) (list_any (is_held x) others)))
+          (or_assoc (in_range (g.base + 4096 * g.pages) (4096 * count) x) (is_held x g) (list_any (is_held x) others)))
       | inr other ↦
           let rest = land_grown number others a count x (rw other at e) in
           rw (other, rest) (or_middle (is_held x g) (in_range (a.base + 4096 * a.pages) (4096 * count) x) (list_any (is_held x) others))
@@ -105,7 +92,7 @@ held_alone number (g ∷ others) a pages x rooms e inside =
           let same : g ≡ a = cc in
           let base : g.base ≡ a.base = ap (λ (y : Area). y.base) same in
           let inside' : in_range g.base g.maximum x ≡ true = subst (λ (y : Area). in_range y.base y.maximum x ≡ true) (sym same) inside in
-          rw (this, rest_outside g others x rooms.1.1 rooms.1.0 inside', ← base) (or_nothing (in_range g.base (4096 * pages) x))
+          rw (this, rest_outside g others x rooms.1.1 rooms.1.0 inside', ← base) (or-false (in_range g.base (4096 * pages) x))
       | inr other ↦
           let e' = rw other at e in
           let no : is_held x g ≡ false = outside g a x rooms.0 (found_behind g a number others rooms.1.0 e').1 inside in

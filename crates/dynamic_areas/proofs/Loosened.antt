@@ -8,8 +8,10 @@ use Rattle.os_heap.specs.os_heap_lists.specs.Heap.{HeapList, IsHeapIn}
 use Rattle.os_heap.specs.os_heap_lists.proofs.LiveBlocks.{LiveBytes, live_bytes}
 use Rattle.os_heap.specs.Store.{Store, IsSound, IsClearOfHeaps, AreClear, ArePlaced, find_heap, is_area}
 use Rattle.address_map.proofs.Anchors.{among_none}
+use Rattle.address_map.proofs.InRange.{range_inside}
 use Rattle.address_map.specs.Records.{anchor_among}
 use Rattle.os_heap.proofs.Anchored.{place_in}
+use Rattle.os_heap.proofs.RangeTests.{range_high, range_low}
 use Rattle.os_heap.specs.Calls.{with_end}
 use Rattle.os_heap.specs.Nesting.{StandsApart}
 use Rattle.os_heap.proofs.Stores.{AreOthers, are_others, clear_both_ways, placed_by}
@@ -18,7 +20,6 @@ use Rattle.dynamic_areas.specs.Areas.{Land, find_area}
 use Rattle.dynamic_areas.specs.Changing.{AreLoose, AreRangesClear, loose_pages}
 use Rattle.dynamic_areas.specs.Ground.{AreAreas}
 use Rattle.dynamic_areas.proofs.ModuleArea.{IsModuleArea, heap_below}
-use Rattle.dynamic_areas.proofs.Remapped.{here, range_low, range_high}
 use Rattle.dynamic_areas.proofs.RoomLemmas.{found_number}
 
 -- a part of the module area's heap that lies after its new end, and so after its last item: a heap
@@ -43,7 +44,7 @@ heaps_ended b top len end h (g ∷ hs) heap area others fits low high =
       beside (inl clear) = λ x inside.
           let past : top ≤ x = range_low top len x inside in
           let below : x < top + len = range_high top len x inside in
-          clear x (here h.start h.end x (omega arith) (omega arith))
+          clear x (range_inside h.start h.end x (omega arith) (omega arith))
       beside (inr (inr within)) = absurd (both_ways (is_area h.kind) within.guest area)
       beside (inr (inl within)) = λ x inside. false_from_ne_true (in_range g.start g.end x) (λ there.
           let past : top ≤ x = range_low top len x inside in
@@ -63,7 +64,7 @@ ranges_behind top len h hs (r ∷ rs) b found spelled low high placed = (
         (λ x inside.
         let past : top ≤ x = range_low top len x inside in
         let below : x < top + len = range_high top len x inside in
-        apart x (here h.start h.end x (omega arith) (omega arith)))
+        apart x (range_inside h.start h.end x (omega arith) (omega arith)))
     | inr image ↦
         let lies : LiveBytes r.at (r.len + 4) (h.start + 16) (h.start + 16 + size_of h.items) =
         live_bytes r.at (r.len + 4) (h.start + 16) h.items spelled.totals image.live in
@@ -82,7 +83,7 @@ anchors_behind : (s : Store) (h : HeapList) (top len : ℕ) → IsSound s → fi
 anchors_behind s h top len sound found start spelled low high =
     among_none s.anchor top len (λ a above below. false_from_ne_true (s.anchor a) (λ is.
     elim (place_in 0x01800000 s.heaps h a found (sound.anchors a is).1) [
-      | inl out ↦ both_ways (in_range h.start h.end a) out (here h.start h.end a (omega (arith, above)) (omega (arith, below)))
+      | inl out ↦ both_ways (in_range h.start h.end a) out (range_inside h.start h.end a (omega (arith, above)) (omega (arith, below)))
       | inr held ↦
           let lies : LiveBytes held.block held.total (h.start + 16) (h.start + 16 + size_of h.items) =
           live_bytes held.block held.total (h.start + 16) h.items spelled.totals held.live in

@@ -13,7 +13,7 @@ use Rattle.os_heap.specs.os_heap_lists.specs.Heap.{HeapList, IsHeapIn}
 use Rattle.os_heap.specs.Store.{Store, IsSound, IsClearOfHeaps, find_heap, is_area}
 use Rattle.os_heap.specs.Ranges.{is_heap_region, is_in_heap, is_obstructed, MayEnd}
 use Rattle.os_heap.specs.Calls.{ending, with_end, MayEndArea, IsAreaEnded}
-use Rattle.os_heap.proofs.RangeTests.{region_tested}
+use Rattle.os_heap.proofs.RangeTests.{range_high, range_low, region_tested}
 use Rattle.os_heap.proofs.Beside.{area_alone, grown_alone}
 use Rattle.os_heap.proofs.Found.{found_heap, found_start}
 use Rattle.os_heap.proofs.Stores.{AreOthers, are_others}
@@ -26,7 +26,7 @@ use Rattle.dynamic_areas.specs.Rooms.{IsRoom}
 use Rattle.dynamic_areas.proofs.GroundLemmas.{ground_grown, unmapped_above, mapped_held, find_paged}
 use Rattle.dynamic_areas.proofs.LooseLemmas.{page_free}
 use Rattle.dynamic_areas.proofs.RecordLemmas.{unmet}
-use Rattle.dynamic_areas.proofs.Remapped.{clear_unmapped, range_low, range_high}
+use Rattle.dynamic_areas.proofs.Remapped.{clear_unmapped}
 use Rattle.dynamic_areas.proofs.RoomLemmas.{found_number, found_room}
 
 -- what is known of the area and its heap

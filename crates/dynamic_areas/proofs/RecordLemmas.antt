@@ -3,14 +3,14 @@ use Rattle.std.proofs.Common.{◌≡◌, ℕ, ◌+◌, ◌-◌, ◌*◌, ◌/◌
 use Rattle.std.specs.List.{list_any}
 use Rattle.std.proofs.Math.Dec.{ltb}
 use Rattle.std.proofs.lemmas.Bool.{cases_Bool, cases_lt, ltb-true, and_parts, or_parts, false≢true, false_from_ne_true}
+use Rattle.address_map.proofs.InRange.{range_inside}
 use Rattle.address_map.specs.declared.region.Region.{Region}
 use Rattle.address_map.specs.Bytes.{Bytes, meets}
 use Rattle.address_map.specs.Records.{is_heap_kind, meets_record}
 use Rattle.os_heap.specs.Store.{AreClear, IsClearOfHeaps, heaps_in, others_in}
-use Rattle.os_heap.proofs.RangeTests.{clear_unless}
+use Rattle.os_heap.proofs.RangeTests.{clear_unless, range_high, range_low}
 use Rattle.os_heap.specs.os_heap_lists.specs.Heap.{HeapList}
 use Rattle.dynamic_areas.specs.Changing.{AreRangesClear}
-use Rattle.dynamic_areas.proofs.Remapped.{here, range_low, range_high}
 
 pub unmet : (at len other other_len : ℕ) → AreClear at len other other_len → meets at len other other_len ≡ false
 unmet at len other other_len clear =
@@ -23,8 +23,8 @@ unmet at len other other_len clear =
     let before : at < other + other_len = ltb-true at (other + other_len) cross.0 in
     let after : other < at + len = ltb-true other (at + len) cross.1 in
     elim (cases_lt at other) [
-      | inl first ↦ false≢true (sym (clear other (here at len other (omega arith) after)) ∙ here other other_len other (omega arith) (omega arith))
-      | inr later ↦ false≢true (sym (clear at (here at len at (omega arith) (omega arith))) ∙ here other other_len at later before)
+      | inl first ↦ false≢true (sym (clear other (range_inside at len other (omega arith) after)) ∙ range_inside other other_len other (omega arith) (omega arith))
+      | inr later ↦ false≢true (sym (clear at (range_inside at len at (omega arith) (omega arith))) ∙ range_inside other other_len at later before)
     ])
 
 pub unmet_records : (b : Bytes) (at len : ℕ) (rs : List Region) → IsClearOfHeaps at len (heaps_in b rs) → AreRangesClear at len (others_in rs)
@@ -52,7 +52,7 @@ pub clear_by_pages : (base first count other other_len : ℕ)
     → AreClear (base + 4096 * first) (4096 * count) other other_len
 clear_by_pages base first count other other_len all x inside =
     let p = page_of base first count x (range_low (base + 4096 * first) (4096 * count) x inside) (range_high (base + 4096 * first) (4096 * count) x inside) in
-    all p.0 p.1 p.2 x (here (base + 4096 * p.0) 4096 x p.3 p.4)
+    all p.0 p.1 p.2 x (range_inside (base + 4096 * p.0) 4096 x p.3 p.4)
 
 pub heaps_by_pages : (base first count : ℕ) (hs : List HeapList) → ((k : ℕ) → first ≤ k → k < first + count → IsClearOfHeaps (base + 4096 * k) 4096 hs)
     → IsClearOfHeaps (base + 4096 * first) (4096 * count) hs

@@ -1,8 +1,7 @@
 -- The store after pages were mapped, or taken away: memory spells the same heaps, and the store
 -- stays sound.
-use Rattle.std.proofs.Common.{Bool, ◌≡◌, ℕ, ◌+◌, ◌<◌, ◌≤◌, ◌&&◌, ◌||◌, not, leb, true, false, List, [], ◌∷◌, refl, sym, ap, ◌∙◌, inl, inr}
-use Rattle.std.proofs.lemmas.Bool.{cases_Bool, or_from, le-leb, lt-ltb, leb-true, ltb-true, and_parts, false≢true, false_from_ne_true}
-use Rattle.std.proofs.Math.Dec.{ltb}
+use Rattle.std.proofs.Common.{Bool, ◌≡◌, ℕ, ◌+◌, ◌<◌, ◌≤◌, ◌&&◌, ◌||◌, not, true, false, List, [], ◌∷◌, refl, sym, ap, ◌∙◌, inl, inr}
+use Rattle.std.proofs.lemmas.Bool.{cases_Bool, or_from, and_parts, false≢true, false_from_ne_true}
 use Rattle.address_map.specs.declared.map.AddressMap.{AddressMap}
 use Rattle.address_map.specs.declared.item.Item.{Item}
 use Rattle.address_map.specs.Bytes.{Bytes, in_range, AreMapped, AreUnmapped, with_zeros_at}
@@ -16,16 +15,10 @@ use Rattle.os_heap.specs.os_heap_lists.proofs.HeapWords.{heap_kept}
 use Rattle.os_heap.specs.Store.{Store, store_of, IsSound, AreHeapsIn, IsClearOfHeaps, AreClear, is_flex_store, is_in_flex_store}
 use Rattle.os_heap.proofs.FlexWords.{AreSameFlex, same_flex}
 use Rattle.os_heap.proofs.Frame.{store_spelled}
+use Rattle.os_heap.proofs.RangeTests.{range_high, range_low}
 use Rattle.os_heap.proofs.Stores.{clear_both_ways}
 use Rattle.dynamic_areas.specs.Changing.{AreRangesClear}
 use Rattle.dynamic_areas.specs.Remapped.{with_pages_at, without_pages_at}
-
--- what the test of a range says
-pub range_low : (at len a : ℕ) → in_range at len a ≡ true → at ≤ a
-range_low at len a inside = leb-true at a (and_parts (leb at a) (ltb a (at + len)) inside).0
-
-pub range_high : (at len a : ℕ) → in_range at len a ≡ true → a < at + len
-range_high at len a inside = ltb-true a (at + len) (and_parts (leb at a) (ltb a (at + len)) inside).1
 
 -- a heap whose range is mapped, and has the same bytes
 pub heap_remapped : (b c : Bytes) (start end : ℕ) (items : List Item) → IsHeapIn b start end items → AreMapped c.mapped start end
@@ -51,9 +44,6 @@ heap_remapped b c start end items heap mapped kept =
 pub record ChangesWithin (b c : Bytes) (at len : ℕ) : Type 0 where
   pub bytes : (a : ℕ) → in_range at len a ≡ false → c.at a ≡ b.at a
   pub mapped : (a : ℕ) → in_range at len a ≡ false → b.mapped a ≡ true → c.mapped a ≡ true
-
-pub here : (start end a : ℕ) → start ≤ a → a < start + end → in_range start end a ≡ true
-here start end a low high = rw (le-leb start a low, lt-ltb a (start + end) high) refl
 
 pub heaps_remapped : (b c : Bytes) (at len : ℕ) (hs : List HeapList) → ChangesWithin b c at len → IsClearOfHeaps at len hs → AreHeapsIn b hs → AreHeapsIn c hs
 heaps_remapped b c at len [] change clear parts = tt

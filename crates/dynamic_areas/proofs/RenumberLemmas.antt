@@ -6,12 +6,12 @@ use Rattle.std.proofs.lemmas.Bool.{cases_Bool, cases_lt, eq-eqb, lt-ltb, le-ltb,
 use Rattle.profile.specs.Outcome.{bind, Leaves}
 use Rattle.profile.specs.declared.error.ErrorNumber.{ErrorNumber}
 use Rattle.profile.specs.declared.error.ErrorNumber.TheVariants.{AreaUnknown, AreaBad, AreaTaken}
+use Rattle.os_heap.proofs.RangeTests.{or_middle}
 use Rattle.os_heap.specs.Store.{Store}
 use Rattle.dynamic_areas.specs.declared.area.Area.{Area}
 use Rattle.dynamic_areas.specs.Areas.{Land, find_area, with_area, without_area, with_areas, with_number, pages_of, is_created, renumbered}
 use Rattle.dynamic_areas.specs.Ground.{is_fixed, is_held, AreAreas}
 use Rattle.dynamic_areas.specs.Rooms.{IsAreaTable}
-use Rattle.dynamic_areas.proofs.LandLemmas.{or_middle}
 use Rattle.dynamic_areas.proofs.PutLemmas.{pages_with, pages_without}
 use Rattle.dynamic_areas.proofs.RoomLemmas.{find_with_other, find_without_other}
 

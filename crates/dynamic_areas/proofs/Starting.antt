@@ -1,28 +1,29 @@
 -- The memory of a machine at its start: the areas stand on it.
-use Rattle.std.proofs.Common.{◌≡◌, ℕ, ◌+◌, ◌*◌, ◌<◌, ◌≤◌, ◌++◌, false, leb, List, [], ◌∷◌, length, refl, ap, ◌∙◌, arith, Option, Some, None}
+use Rattle.std.proofs.Common.{◌≡◌, ℕ, ◌+◌, ◌*◌, ◌<◌, ◌≤◌, ◌++◌, false, leb, List, [], ◌∷◌, length, refl, ap, ◌∙◌, arith}
 use Rattle.std.specs.Prelude.{is_some}
 use Rattle.std.proofs.lemmas.Bool.{le-ltb, and_right}
 use Rattle.profile.specs.Sizes.{Sizes, AreGood}
 use Rattle.address_map.specs.declared.map.AddressMap.{AddressMap}
 use Rattle.address_map.specs.declared.region.Kind.TheVariants.{Heap, Rma}
 use Rattle.address_map.proofs.Anchors.{among_none}
+use Rattle.address_map.proofs.InRange.{range_inside}
 use Rattle.address_map.specs.Bytes.{in_range}
 use Rattle.address_map.specs.Classes.{is_anchor, is_flex_header}
 use Rattle.address_map.specs.Records.{anchor_among}
 use Rattle.address_map.specs.declared.class.Class.TheVariants as class
-use Rattle.address_map.specs.Memory.{anchor_of, Mapping, mapping, is_mapped, byte_at, bytes_of, regions, free_pages, class_of, byte_in, place}
+use Rattle.address_map.specs.Memory.{anchor_of, Mapping, mapping, is_mapped, byte_at, bytes_of, regions, free_pages, class_of, place}
 use Rattle.os_heap.specs.os_heap_lists.specs.Heap.{HeapList}
 use Rattle.os_heap.specs.Calls.{begun_with}
 use Rattle.os_heap.specs.Ranges.{MayBegin}
 use Rattle.os_heap.specs.Store.{Store, store_of, AreClasses, IsSound, AreClear, heaps_in, others_in}
 use Rattle.os_heap.proofs.Limits.{records_room}
 use Rattle.os_heap.proofs.Frame.{classes_same}
+use Rattle.os_heap.proofs.RangeTests.{range_low}
 use Rattle.os_heap.proofs.Recorded.{store_recorded, recorded_sound}
 use Rattle.dynamic_areas.specs.Areas.{start_land}
 use Rattle.dynamic_areas.specs.Ground.{AreAreas, is_fixed, is_land, system_pages}
 use Rattle.dynamic_areas.proofs.GroundLemmas.{or_true}
 use Rattle.dynamic_areas.proofs.ModuleArea.{region_known}
-use Rattle.dynamic_areas.proofs.Remapped.{here, range_low}
 use Rattle.dynamic_areas.specs.Start.{bare_store, start_store}
 
 no_heaps : (m : AddressMap) → regions m ≡ [] → (store_of m).heaps ≡ []
@@ -45,7 +46,7 @@ may_begin_area m s good none mapped plain =
     let fits : s.app + s.rma + 3 ≤ s.pages = good.has_room in
     record {
       region = region_known (bytes_of m) 0x01800000 (4096 * s.rma) refl (omega arith) (omega arith) (omega arith)
-          (λ x low high. mapped x ∙ rw (here 0x01800000 (4096 * s.rma) x low high) (or_true (is_fixed s x)));
+          (λ x low high. mapped x ∙ rw (range_inside 0x01800000 (4096 * s.rma) x low high) (or_true (is_fixed s x)));
       clear = rw (none, plain_among m 0x01800000 (4096 * s.rma) plain) refl;
       room = rw none (refl, refl);
     }
@@ -84,7 +85,7 @@ start_areas m n o s good none mapped pool begun sound map_n records map_o bytes 
         land = there;
         pages = omega arith;
         ranges = rw others (
-          (λ x low high. there x ∙ rw (here 0x01C00000 0x3000 x low high, or_true (in_range 0x8000 (4096 * s.app) x)) refl),
+          (λ x low high. there x ∙ rw (range_inside 0x01C00000 0x3000 x low high, or_true (in_range 0x8000 (4096 * s.app) x)) refl),
           tt,
         );
         sound = kept;
@@ -106,15 +107,6 @@ start_classes n o classes records map_o bytes marks =
     let same : bytes_of o ≡ bytes_of n = λ i. record { mapped = λ a. is_some ((map_o i).place a); at = bytes i } in
     let store = store_recorded n o system_pages refl records same marks in
     classes_same n o (ap (λ (t : Store). t.heaps) store) marks classes
-
-none_zero : (store : List ℕ) (o : Option ℕ) → is_some o ≡ false → byte_in store o ≡ 0
-none_zero store None e = refl
-none_zero store (Some k) e = cc
-
--- an address that is not mapped counts as 0
-pub unmapped_zero : (m : AddressMap) (a : ℕ) → is_mapped m a ≡ false → byte_at m a ≡ 0
-unfolding byte_at
-unmapped_zero m a e = none_zero m.store.items (place m a) e
 
 -- the memory of a machine before anything is recorded
 bare : (m : AddressMap) (s : Sizes) → ((a : ℕ) → is_mapped m a ≡ is_land (start_land s) a) → ((a : ℕ) → byte_at m a ≡ 0) → regions m ≡ []

@@ -2,7 +2,9 @@
 use Rattle.std.proofs.Common.{◌≡◌, ℕ, ◌+◌, ◌-◌, ◌*◌, ◌/◌, ◌≤◌, ◌==◌, ◌||◌, Bool, true, false, Some, None, refl, sym, ap, ◌∙◌, inl, inr, arith}
 use Rattle.std.specs.Prelude.{Option}
 use Rattle.std.proofs.lemmas.Bool.{cases_Bool, false≢true, false_from_ne_true}
+use Rattle.address_map.proofs.InRange.{range_inside}
 use Rattle.address_map.specs.Bytes.{in_range}
+use Rattle.os_heap.proofs.RangeTests.{range_high, range_low}
 use Rattle.os_heap.specs.os_heap_lists.specs.Heap.{HeapList}
 use Rattle.os_heap.specs.Store.{Store, find_heap}
 use Rattle.dynamic_areas.specs.declared.area.Area.{Area}
@@ -14,7 +16,6 @@ use Rattle.dynamic_areas.specs.Rooms.{IsRoom}
 use Rattle.dynamic_areas.proofs.GroundLemmas.{or_true}
 use Rattle.dynamic_areas.proofs.HeapCalls.{system_mapped}
 use Rattle.dynamic_areas.proofs.LandLemmas.{fixed_outside}
-use Rattle.dynamic_areas.proofs.Remapped.{here, range_low, range_high}
 use Rattle.dynamic_areas.proofs.RoomLemmas.{found_room}
 
 -- no page of an area is a system page
@@ -25,7 +26,7 @@ outside s free l number a count x areas e fits system = false_from_ne_true _ (λ
     let within : 4096 * a.pages ≤ a.maximum = room.within in
     let low : a.base + 4096 * (a.pages - count) ≤ x = range_low (a.base + 4096 * (a.pages - count)) (4096 * count) x there in
     let high = range_high (a.base + 4096 * (a.pages - count)) (4096 * count) x there in
-    let inside : in_range a.base a.maximum x ≡ true = here a.base a.maximum x (omega arith) (omega (arith, high)) in
+    let inside : in_range a.base a.maximum x ≡ true = range_inside a.base a.maximum x (omega arith) (omega (arith, high)) in
     false≢true (sym (fixed_outside l.sizes a x areas.ground.sizes room inside) ∙ rw system (or_true (in_range 0x8000 (4096 * l.sizes.app) x))))
 
 ended_mapped : (s : Store) (end : ℕ) (found : Option HeapList) → (ended_by s end found).bytes.mapped ≡ s.bytes.mapped

@@ -1,11 +1,9 @@
 -- What writes to the system pages leave of the store: every heap keeps its list.
-use Rattle.std.proofs.Common.{inl, inr, ◌≡◌, ℕ, ◌+◌, false, List, [], ◌∷◌, length, ◌++◌, sym, ap, arith, length-append}
-use Rattle.std.proofs.lemmas.List.{places}
+use Rattle.std.proofs.Common.{inl, inr, ◌≡◌, ℕ, false, List, [], ◌∷◌, sym, ap}
 use Rattle.std.proofs.lemmas.Bool.{true≢false}
-use Rattle.std.proofs.lemmas.Bool.Decides.{nat_tests}
 use Rattle.address_map.specs.declared.map.AddressMap.{AddressMap}
 use Rattle.address_map.specs.declared.region.Region.{Region}
-use Rattle.address_map.specs.Bytes.{in_range, with_bytes_at}
+use Rattle.address_map.specs.Bytes.{in_range}
 use Rattle.address_map.specs.Memory.{byte_at, class_of, layout}
 use Rattle.os_heap.specs.os_heap_lists.specs.Heap.{HeapList}
 use Rattle.os_heap.specs.Store.{Store, AreClasses, ArePlaced, IsClearOfHeaps, IsSound, store_of}
@@ -13,7 +11,7 @@ use Rattle.os_heap.proofs.Frame.{IsKept, classes_same, clear_kept}
 use Rattle.os_heap.proofs.Stores.{image_kind, placed_either}
 use Rattle.dynamic_areas.specs.Ground.{IsRecorded, system_pages}
 
-system_clear : (hs : List HeapList) (rs : List Region) → ArePlaced hs rs → IsRecorded system_pages rs → IsClearOfHeaps 0x01C00000 0x3000 hs
+pub system_clear : (hs : List HeapList) (rs : List Region) → ArePlaced hs rs → IsRecorded system_pages rs → IsClearOfHeaps 0x01C00000 0x3000 hs
 system_clear hs [] placed there = absurd there
 system_clear hs (r ∷ rs) placed there = elim there [
   | inr later ↦ system_clear hs rs placed.1 later
@@ -31,8 +29,3 @@ system_kept m n same marks sound there kept =
 -- where every heap keeps its list, the marks stay those of the lists
 pub kept_classes : (m n : AddressMap) → IsKept m n → class_of n ≡ class_of m → AreClasses m → AreClasses n
 kept_classes m n kept marks same = classes_same m n (ap (λ (s : Store). s.heaps) kept.store) (λ a i. marks i a) same
-
--- two writes side by side are one
-pub two_writes : (old : ℕ → ℕ) (at : ℕ) (xs : List ℕ) (y a : ℕ)
-    → with_bytes_at (with_bytes_at old at xs) (at + length xs) (y ∷ []) a ≡ with_bytes_at old at (xs ++ y ∷ []) a
-two_writes old at xs y a = grind (arith, nat_tests, places, length-append)

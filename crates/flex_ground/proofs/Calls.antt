@@ -96,7 +96,7 @@ past_if : (B : Type 0) (b : Bool) (e : ErrorNumber) (x : Result B ErrorNumber) (
 past_if B true e x r h = absurd (let no : Err e ≡ Ok r = h in cc)
 past_if B false e x r h = h
 
-ok_is : (A : Type 0) (x y : A) → (let one : Result A ErrorNumber = Ok x in let two : Result A ErrorNumber = Ok y in one ≡ two) → x ≡ y
+pub ok_is : (A : Type 0) (x y : A) → (let one : Result A ErrorNumber = Ok x in let two : Result A ErrorNumber = Ok y in one ≡ two) → x ≡ y
 ok_is A x y e = cc
 
 -- what is done on a store leaves one

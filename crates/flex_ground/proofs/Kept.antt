@@ -1,11 +1,12 @@
 -- The flex store of a machine over calls other than its own, over what guests store, and at
 -- the start.
-use Rattle.std.proofs.Common.{◌≡◌, ◌≤◌, ◌<◌, ℕ, ◌+◌, ◌-◌, ◌&&◌, ◌||◌, ◌==◌, Bool, true, false, List, [], ◌∷◌, Option, Some, None, length, suc, inl, inr, is_some, refl, sym, ap, subst, ◌∙◌, arith}
+use Rattle.std.proofs.Common.{◌≡◌, ◌≤◌, ◌<◌, ℕ, ◌+◌, ◌-◌, ◌&&◌, ◌||◌, ◌==◌, Bool, true, false, List, [], ◌∷◌, Option, Some, None, length, suc, inl, inr, refl, sym, ap, subst, ◌∙◌, arith}
 use Rattle.std.proofs.lemmas.Bool.{and_parts, both_ways, cases_Bool, false_from_ne_true, eqb-true, false≢true, or_left, or_right}
 use Rattle.instances_ground.specs.profile.specs.Sizes.{Sizes}
+use Rattle.address_map.proofs.Bytes.{is_mapped-layout}
 use Rattle.address_map.specs.Bytes.{AreMapped, Bytes, word_start}
 use Rattle.address_map.specs.Classes.{is_anchor, is_flex_header}
-use Rattle.address_map.specs.Memory.{Layout, byte_at, bytes_of, class_of, is_mapped, layout}
+use Rattle.address_map.specs.Memory.{byte_at, bytes_of, class_of, is_mapped}
 use Rattle.address_map.specs.declared.class.Class.{Class}
 use Rattle.address_map.specs.declared.map.AddressMap.{AddressMap}
 use Rattle.address_map.specs.declared.region.Kind.{Kind}
@@ -36,14 +37,14 @@ use Rattle.flex_store.specs.os_heap_lists.specs.Heap.{IsHeapIn}
 use Rattle.flex_ground.specs.Laws.{BlocksKept, StoreIsApart, FlexKept, FlexStarted, FlexStored, FlexUnmade}
 
 -- The records beside module images: how many there are, and the store's is one of these.
-count_is : (rs : List Region) → count_beside rs ≡ length (beside_images rs)
+pub count_is : (rs : List Region) → count_beside rs ≡ length (beside_images rs)
 count_is [] = refl
 count_is (r ∷ rs) = elim (cases_Bool (is_image r.kind)) [
   | inl image ↦ rw image (count_is rs)
   | inr other ↦ rw other (ap suc (count_is rs))
 ]
 
-no_store : (k : Kind) → is_image k ≡ true → is_flex_store k ≡ false
+pub no_store : (k : Kind) → is_image k ≡ true → is_flex_store k ≡ false
 no_store kind.FlexStore image = absurd (false≢true image)
 no_store kind.Image image = refl
 no_store kind.Heap image = refl
@@ -53,7 +54,7 @@ no_store kind.HeadWord image = refl
 no_store kind.FlexHeader image = refl
 no_store kind.Anchor image = refl
 
-recorded_beside : (rs : List Region) (start end : ℕ) → is_recorded rs start end ≡ is_recorded (beside_images rs) start end
+pub recorded_beside : (rs : List Region) (start end : ℕ) → is_recorded rs start end ≡ is_recorded (beside_images rs) start end
 recorded_beside [] start end = refl
 recorded_beside (r ∷ rs) start end = elim (cases_Bool (is_image r.kind)) [
   | inl image ↦ rw (image, no_store r.kind image) (recorded_beside rs start end)
@@ -148,7 +149,7 @@ store_apart m f e h block total a has there sound found live low high =
     false_from_ne_true _ (λ inside. both_ways (in_range h.start h.end a) outside (block_inside (store_of m).bytes h block total a heap live inside))
 
 -- A guest's store: a byte of one of the store's words is marked as the whole word is.
-whole_word : (a : ℕ) → word_start (word_start a) ≡ word_start a
+pub whole_word : (a : ℕ) → word_start (word_start a) ≡ word_start a
 whole_word a = omega arith
 
 word_marks : (m : AddressMap) (o : Option Extent) → IsFlexAt m o → (a : ℕ) → is_flex_word (store_of m) (word_start a) ≡ is_flex_word (store_of m) a
@@ -161,9 +162,6 @@ word_marks m (Some e) is a =
 word_owned : (m : AddressMap) (f : Flex) → IsFlex m f → (a : ℕ) → is_flex_word (store_of m) a ≡ true → owned_in (store_of m) a ≡ true
 unfolding owned_in
 word_owned m f is a word = or_right _ (is_flex_word (store_of m) (word_start a)) (word_marks m f.extent is a ∙ word)
-
-same_mapped : (m n : AddressMap) → layout n ≡ layout m → is_mapped n ≡ is_mapped m
-same_mapped m n same = ap (λ (y : Layout). λ (a : ℕ). is_some (y.place a)) same
 
 extent_stays : (m : AddressMap) (mapped : ℕ → Bool) (o : Option Extent) → IsFlexAt m o → mapped ≡ is_mapped m → IsExtentThere mapped o
 extent_stays m mapped None is same = tt
@@ -195,7 +193,7 @@ flex_stored m n f has sound same marks kept =
         anchors = same_anchors m n marks;
         headers = same_headers m n marks;
         mapped = λ a anchor. sound_mapped n sound a (same_anchors m n marks a ∙ anchor);
-        range = extent_stays m (is_mapped n) f.extent has.is (same_mapped m n same);
+        range = extent_stays m (is_mapped n) f.extent has.is (is_mapped-layout m n same);
         recorded = λ start end there. ap (λ (rs : List Region). is_recorded rs start end) others ∙ there;
       });
       free = still_free m n marks others has.free;

@@ -1,12 +1,10 @@
 -- What the making of the flex store leaves: a record more, and an empty store.
-use Rattle.std.proofs.Common.{ℕ, ◌≡◌, ◌-◌, is_some, Bool, true, false, List, [], ◌∷◌, ◌++◌, suc, Option, Some, None, refl, sym, ap, subst, ◌∙◌, inl, inr}
-use Rattle.std.proofs.lemmas.Bool.{both_ways, cases_Bool, false≢true, true≢false}
+use Rattle.std.proofs.Common.{ℕ, ◌≡◌, ◌-◌, is_some, Bool, true, false, [], ◌∷◌, ◌++◌, suc, Option, Some, None, refl, sym, ap, subst, ◌∙◌}
+use Rattle.std.proofs.lemmas.Bool.{both_ways, false≢true, true≢false}
 use Rattle.address_map.specs.Bytes.{AreMapped}
 use Rattle.address_map.specs.Classes.{is_anchor}
 use Rattle.address_map.specs.Memory.{Mapping, class_of, free_pages, is_mapped, mapping, regions}
 use Rattle.address_map.specs.declared.map.AddressMap.{AddressMap}
-use Rattle.address_map.specs.declared.region.Region.{Region}
-use Rattle.address_map.specs.Records.{is_heap_kind}
 use Rattle.instances_ground.specs.os_heap.specs.Store.{IsSound, others_in, store_of}
 use Rattle.instances_ground.specs.dynamic_areas.specs.Areas.{Land}
 use Rattle.instances_ground.specs.dynamic_areas.specs.Ground.{AreAreas}
@@ -18,6 +16,7 @@ use Rattle.flex_store.specs.declared.flex.Extent.{Extent}
 use Rattle.flex_store.specs.declared.flex.Flex.{Flex}
 use Rattle.flex_store.proofs.Starting.{good_range}
 use Rattle.instances_ground.specs.Sound.{count_beside}
+use Rattle.instances_ground.specs.rma.specs.os_heap.proofs.Recorded.{others_in-other}
 use Rattle.flex_ground.proofs.Worlds.{beside_begun}
 use Rattle.flex_ground.proofs.Calls.{flex_is, flex_stays_by, store_spelled}
 use Rattle.flex_ground.specs.Ground.{HasFlex, flex_of, records_with, store_flexed, with_flex_record}
@@ -34,17 +33,10 @@ pub flex_made : (m n : AddressMap) (g : Flex) → IsFlex n g → mapping n ≡ m
     → IsSound (store_of n) → IsFlexMade m n g
 flex_made m n g flex mapping marks heaps sound = record { flex = flex; mapping = mapping; marks = marks; heaps = heaps; sound = sound }
 
-others_more : (rs : List Region) (r : Region) → is_heap_kind r.kind ≡ false → others_in (rs ++ r ∷ []) ≡ others_in rs ++ r ∷ []
-others_more [] r other = rw other refl
-others_more (q ∷ rs) r other = elim (cases_Bool (is_heap_kind q.kind)) [
-  | inl heap ↦ rw heap (others_more rs r other)
-  | inr other_kind ↦ rw other_kind (ap (λ (xs : List Region). q ∷ xs) (others_more rs r other))
-]
-
 pub others_made : (m n : AddressMap) (start end : ℕ) → regions n ≡ regions m ++ flex_record start end ∷ []
     → (store_of n).others ≡ (store_of m).others ++ flex_record start end ∷ []
 unfolding store_of
-others_made m n start end records = ap others_in records ∙ others_more (regions m) (flex_record start end) refl
+others_made m n start end records = ap others_in records ∙ others_in-other (regions m) (flex_record start end) refl
 
 others_same : (m n : AddressMap) → regions n ≡ regions m → (store_of n).others ≡ (store_of m).others
 unfolding store_of

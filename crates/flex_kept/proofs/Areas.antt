@@ -10,6 +10,7 @@ use Rattle.os_heap_slide.specs.address_map.specs.Bytes.{in_range}
 use Rattle.os_heap_slide.specs.address_map.specs.declared.region.Region.{Region}
 use Rattle.os_heap_slide.specs.os_heap_lists.specs.Heap.{HeapList}
 use Rattle.os_heap_slide.specs.os_heap.proofs.Apart.{range_parts}
+use Rattle.os_heap_slide.specs.os_heap.proofs.PayloadLists.{own_start}
 use Rattle.os_heap_slide.specs.os_heap.specs.Calls.{ending}
 use Rattle.os_heap_slide.specs.os_heap.specs.Store.{IsSound, Store, find_heap, is_flex_store, is_in_flex_store}
 use Rattle.dynamic_areas.proofs.LooseLemmas.{loose_created}
@@ -24,7 +25,7 @@ use Rattle.dynamic_areas.specs.Changing.{AreLoose, AreRangesClear, change_answer
 use Rattle.dynamic_areas.specs.Creating.{created, pages_for}
 use Rattle.dynamic_areas.specs.Ground.{Estate, IsEstate}
 use Rattle.dynamic_areas.specs.Remapped.{with_pages_at, without_pages_at}
-use Rattle.flex_kept.proofs.Heaps.{ended_keeps, own_start, writes_keep}
+use Rattle.flex_kept.proofs.Heaps.{ended_keeps, writes_keep}
 use Rattle.flex_kept.proofs.Keeping.{keeps_same, keeps_then}
 use Rattle.flex_kept.specs.Keeping.{KeepsFlex, is_flex_byte}
 use Rattle.flex_kept.specs.Laws.{AreaCallsKeepFlex}
@@ -34,7 +35,7 @@ mapped_keeps : (s : Store) (at len : ℕ) → KeepsFlex s (with_pages_at s at le
 mapped_keeps s at len = writes_keep s (with_pages_at s at len).bytes s.heaps (λ a is. refl)
 
 -- a range that shares no byte with a recorded one has none of the flex store's
-flex_clear : (at len : ℕ) (rs : List Region) (a : ℕ) → AreRangesClear at len rs → is_in_flex_store rs a ≡ true → in_range at len a ≡ false
+pub flex_clear : (at len : ℕ) (rs : List Region) (a : ℕ) → AreRangesClear at len rs → is_in_flex_store rs a ≡ true → in_range at len a ≡ false
 flex_clear at len [] a clear is = absurd (false≢true is)
 flex_clear at len (r ∷ rs) a clear is = elim (or_cases (is_flex_store r.kind && in_range r.at r.len a) (is_in_flex_store rs a) is) [
   | inr later ↦ flex_clear at len rs a clear.1 later

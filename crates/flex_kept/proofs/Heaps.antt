@@ -23,10 +23,11 @@ use Rattle.os_heap_slide.specs.os_heap.proofs.RangeTests.{can_hold}
 use Rattle.os_heap_slide.specs.os_heap.proofs.Anchored.{IsPlacedBy, header_outside, place_in}
 use Rattle.os_heap_slide.specs.os_heap.proofs.Apart.{range_parts}
 use Rattle.os_heap_slide.specs.os_heap.proofs.FlexSound.{flex_unspelled, place_unspelled}
-use Rattle.os_heap_slide.specs.os_heap.proofs.Found.{found_heap, found_start}
+use Rattle.os_heap_slide.specs.os_heap.proofs.Found.{found_heap}
 use Rattle.os_heap_slide.specs.os_heap.proofs.Forgetting.{own_left}
-use Rattle.os_heap_slide.specs.os_heap.proofs.KeptPayloads.{IsClaim, is_claim, own_there}
+use Rattle.os_heap_slide.specs.os_heap.proofs.KeptPayloads.{IsClaim, is_claim, own_there, unheld_image}
 use Rattle.os_heap_slide.specs.os_heap.proofs.Moving.{found_held}
+use Rattle.os_heap_slide.specs.os_heap.proofs.PayloadLists.{own_start}
 use Rattle.os_heap_slide.specs.os_heap.proofs.Resizing.{larger_where_none}
 use Rattle.os_heap_slide.specs.os_heap.specs.Calls.{begun, begun_with, changed, copied, end_changed, ending, gave_back, got, handed_over, has_own_size, holding, holds_anchor, moved, own_size, resized, resized_or_moved, total_or_0, unless_image}
 use Rattle.os_heap_slide.specs.os_heap.specs.Forgetting.{forgot, holds_heap}
@@ -43,19 +44,19 @@ unfolding KeepsFlex AreAnchorsFree
 writes_keep s c hs kept free = (record { bytes = kept; anchors = λ a. refl; headers = λ a. refl; beside = refl }, λ a is. free a is)
 
 -- what a call that is done leaves has a property; a refusal leaves all as it was
-abbrev OnDone : {A : Type 0} → (Store × A → Type 0) → Result (Store × A) ErrorNumber → Type 0
+abbrev pub OnDone : {A : Type 0} → (Store × A → Type 0) → Result (Store × A) ErrorNumber → Type 0
 OnDone P (Ok x) = P x
 OnDone P (Err e) = Unit {0}
 
 abbrev KeepsIfSound : {A : Type 0} → Store → Store × A → Type 0
 KeepsIfSound s x = IsSound x.0 → KeepsFlex s x.0
 
-on_some : (A B : Type 0) (P : Store × B → Type 0) (o : Option A) (e : ErrorNumber) (next : A → Result (Store × B) ErrorNumber)
+pub on_some : (A B : Type 0) (P : Store × B → Type 0) (o : Option A) (e : ErrorNumber) (next : A → Result (Store × B) ErrorNumber)
     → ((x : A) → o ≡ Some x → OnDone P (next x)) → OnDone P (bind (ok_or o e) next)
 on_some A B P None e next each = tt
 on_some A B P (Some x) e next each = each x refl
 
-on_if : (B : Type 0) (P : Store × B → Type 0) (b : Bool) (e : ErrorNumber) (r : Result (Store × B) ErrorNumber) → (b ≡ false → OnDone P r)
+pub on_if : (B : Type 0) (P : Store × B → Type 0) (b : Bool) (e : ErrorNumber) (r : Result (Store × B) ErrorNumber) → (b ≡ false → OnDone P r)
     → OnDone P (if b then Err e else r)
 on_if B P true e r passed = tt
 on_if B P false e r passed = passed refl
@@ -138,10 +139,6 @@ made_keeps k s at size aligned sound =
     let t : Store = begun_with k s at size in
     writes_keep s t.bytes t.heaps (λ a is. heap_beside s.bytes.at at size [] a aligned tt
     (last_unspelled s.heaps (record { kind = k; start = at; end = size; items = [] }) (word_start a) (unspelled t a sound is)))
-
--- the heap that a call finds, by its own start
-pub own_start : (heap : ℕ) (s : Store) (h : HeapList) → find_heap heap s.heaps ≡ Some h → find_heap h.start s.heaps ≡ Some h
-own_start heap s h found = subst (λ (p : ℕ). find_heap p s.heaps ≡ Some h) (sym (found_start heap s.heaps h found)) found
 
 pub begun_keeps : (s t : Store) (heap size : ℕ) (r : Result (Unit {0}) ErrorNumber) → IsSound s → IsSound t → Gives s (begun s heap size) r t → KeepsFlex s t
 unfolding begun
@@ -299,10 +296,6 @@ in_place_keeps s h block old new (Some items) sound found total less live =
     on_if ℕ (KeepsIfSound s) (anchor_among s.anchor from (old - new)) HeapHoldsAnchor (Ok (holding (forgot s block old from) h items, block))
     (λ none. forgot_keeps s h block old from items
     (own_left s h block old from found (omega (arith, lies.low)) (omega (arith, lies.low, (total_facts new total).0))))
-
-unheld_image : (b : Bool) (o : Option ℕ) (t : ℕ) → unless_image b o ≡ Some t → o ≡ Some t
-unheld_image true o t e = absurd (let none : None ≡ Some t = e in cc)
-unheld_image false o t e = e
 
 sized_keeps : (s : Store) (h : HeapList) (heap block change old : ℕ) → IsSound s → find_heap h.start s.heaps ≡ Some h
     → live_total block (h.start + 16) h.items ≡ Some old

@@ -23,14 +23,14 @@ use Rattle.flex_kept.specs.Keeping.{AreAnchorsFree, IsUnanchored, KeepsFlex, bes
 use Rattle.flex_kept.specs.Laws.{WritesKeepFlex}
 
 -- a recorded range that is not the flex store's has no byte of it
-clear_of_recorded : (q r : Region) (rs : List Region) → IsClearOfRanges q rs → IsRecorded r rs → AreClear q.at q.len r.at r.len
+pub clear_of_recorded : (q r : Region) (rs : List Region) → IsClearOfRanges q rs → IsRecorded r rs → AreClear q.at q.len r.at r.len
 clear_of_recorded q r [] clear recorded = absurd recorded
 clear_of_recorded q r (p ∷ rs) clear recorded = elim recorded [
   | inl same ↦ subst (λ (x : Region). AreClear q.at q.len x.at x.len) same clear.0
   | inr later ↦ clear_of_recorded q r rs clear.1 later
 ]
 
-clear_of_flex : (q : Region) (rs : List Region) (a : ℕ) → IsClearOfRanges q rs → is_in_flex_store rs a ≡ true → in_range q.at q.len a ≡ false
+pub clear_of_flex : (q : Region) (rs : List Region) (a : ℕ) → IsClearOfRanges q rs → is_in_flex_store rs a ≡ true → in_range q.at q.len a ≡ false
 clear_of_flex q [] a clear is = absurd (false≢true is)
 clear_of_flex q (r ∷ rs) a clear is = elim (or_cases (is_flex_store r.kind && in_range r.at r.len a) (is_in_flex_store rs a) is) [
   | inr later ↦ clear_of_flex q rs a clear.1 later

@@ -1,13 +1,14 @@
 -- A block that comes, by the numbers of blocks.
 use Rattle.std.proofs.Common.{◌≡◌, ℕ, Bool, ◌+◌, ◌-◌, ◌%◌, ◌^◌, ◌<◌, ◌≤◌, true, false, not, ◌&&◌, ◌||◌, nat_eq, List, [], ◌∷◌, ◌++◌, length, replicate, take, Option, Some, None, Result, Ok, Err, ok_or, arith, refl, sym, ◌∙◌, ap, inl, inr, ◌⊎◌, subst}
 use Rattle.std.specs.Prelude.{if◌then◌else◌, nat_le}
-use Rattle.std.proofs.lemmas.Bool.{and_parts, both_ways, cases_Bool, cases_lt, eqb-true, eq-eqb, false_from_ne_true, false≢true, lt-ltb, ne_eqb, not-true, or_cases, or_left, or_parts, or_right, true≢false}
-use Rattle.std.proofs.lemmas.List.{take-replicate}
+use Rattle.std.proofs.lemmas.Bool.{and_parts, both_ways, cases_Bool, eqb-true, eq-eqb, false_from_ne_true, false≢true, ne_eqb, not-true, or_cases, or_left, or_parts, or_right}
+use Rattle.std.proofs.lemmas.List.{append-nil, take-replicate}
 use Rattle.profile.specs.declared.error.ErrorNumber.{ErrorNumber}
 use Rattle.profile.specs.declared.error.ErrorNumber.TheVariants.{FlexAnchorInUse, FlexBadAnchor, FlexNotReady}
 use Rattle.profile.specs.Outcome.{bind}
-use Rattle.address_map.specs.Bytes.{Bytes, bytes_between, in_range, meets, with_bytes_at, word_start}
+use Rattle.address_map.specs.Bytes.{Bytes, bytes_between, in_range, with_bytes_at, word_start}
 use Rattle.os_heap.specs.Store.{Store}
+use Rattle.flex_store.proofs.Allocating.{beside}
 use Rattle.flex_store.specs.Blocks.{Block, FlexStore, has_anchor, is_in_contents, new_block, taken, used, whole_words}
 use Rattle.flex_store.specs.Calls.{allocated, fitted, FlexState, is_anchor_place, is_in_store, may_stand}
 use Rattle.flex_store.specs.Memory.{Holds, laid_out, standing, text_of}
@@ -30,26 +31,6 @@ use Rattle.flex_laws.proofs.Relaying.{relaid_spelled}
 use Rattle.flex_laws.proofs.Seeing.{block_seen, standing_append, zeros_seen}
 use Rattle.flex_laws.proofs.Small.{laid_small, small_zeros}
 use Rattle.flex_laws.proofs.Room.{fitted_by, IsFitted, ok_same, refused}
-
-append_none : (bs : List Block) → bs ++ [] ≡ bs
-append_none [] = refl
-append_none (b ∷ bs) = ap (λ (l : List Block). b ∷ l) (append_none bs)
-
--- a word that meets no byte of a range
-outside_range : (start end anchor : ℕ) → start ≤ end → start % 4 ≡ 0 → anchor % 4 ≡ 0 → meets anchor 4 start (end - start) ≡ false
-    → (anchor + 4 ≤ start) ⊎ (end ≤ anchor)
-outside_range start end anchor some aligned whole clear = elim (cases_lt start (anchor + 4)) [
-  | inr low ↦ inl low
-  | inl up ↦ elim (cases_lt anchor end) [
-    | inr high ↦ inr high
-    | inl below ↦
-        let len = lt-ltb 0 (end - start) (omega (arith, some, aligned, whole, up, below)) in
-        let one = lt-ltb anchor (start + (end - start)) (omega (arith, some, below)) in
-        let two = lt-ltb start (anchor + 4) up in
-        let both : meets anchor 4 start (end - start) ≡ true = rw (len, one, two) refl in
-        absurd (true≢false (sym both ∙ clear))
-  ]
-]
 
 -- a word that may be a new anchor
 pub record IsNewWord (t : FlexState) (s : FlexStore) (anchor : ℕ) : Type 0 where
@@ -100,7 +81,7 @@ module _ (t u : FlexState) (s : FlexStore) (anchor size : ℕ) (sp : IsSpelledSt
   word_at : (is_in_contents s.start s.blocks anchor ≡ true) ⊎ ((anchor + 4 ≤ s.start) ⊎ (s.end ≤ anchor))
   word_at = elim (or_cases (not (is_in_store s anchor)) (is_in_contents s.start s.blocks anchor) w.stands) [
     | inr held ↦ inl held
-    | inl clear ↦ inr (outside_range s.start s.end anchor (omega (arith, room)) sp.range.start_aligned w.aligned (not-true (is_in_store s anchor) clear))
+    | inl clear ↦ inr (beside s.start s.end anchor (omega (arith, room)) sp.range.start_aligned w.aligned (not-true (is_in_store s anchor) clear))
   ]
 
   word_out : (anchor + 4 ≤ s.start + used s.blocks) ⊎ (s.end ≤ anchor)
@@ -241,8 +222,8 @@ module _ (t u : FlexState) (s : FlexStore) (anchor size : ℕ) (sp : IsSpelledSt
     flex = done.flex;
     spelled = subst (λ (v : FlexState). IsSpelledState v (record { start = s.start; end = s.end; blocks = standing bytes_then s.start (s.blocks ++ news) })) (sym done.is)
         (relaid_spelled t.bytes.mapped s.start s.end t.bytes.at s.blocks [] news sp.range low_end sp.whole
-        (subst (λ (l : List Block). AreAnchorWords t.bytes.mapped s.start s.end l) (sym (append_none s.blocks)) sp.words)
-        (subst (λ (l : List Block). AreInner s.start s.end l) (sym (append_none s.blocks)) sp.inner)
+        (subst (λ (l : List Block). AreAnchorWords t.bytes.mapped s.start s.end l) (sym (append-nil s.blocks)) sp.words)
+        (subst (λ (l : List Block). AreInner s.start s.end l) (sym (append-nil s.blocks)) sp.inner)
         (subst (λ (l : List Block). Holds t.bytes.at s.start (text_of l)) (sym (standing_same t.bytes.at s.start s.blocks sp.whole sp.text)) sp.text)
         sp.anchored may_follow (Some (record { start = s.start; end = s.end; blocks = standing bytes_then s.start (s.blocks ++ news) })));
     seen = list_then;

@@ -10,16 +10,16 @@ use Rattle.flex_laws.specs.Laws.{AnchorsAreApart}
 use Rattle.flex_laws.specs.Numbered.{Anchor, anchor_from, AreElsewhere, AreNumbered, Fixed, Inside, IsBeforeBlock, list_seen, place_of}
 use Rattle.flex_laws.proofs.Numbers.{AtWord, found, from_front, from_none, InBlock, IsFound}
 
-fixed_same : (a c : ℕ) → Fixed a ≡ Fixed c → a ≡ c
+pub fixed_same : (a c : ℕ) → Fixed a ≡ Fixed c → a ≡ c
 fixed_same a c e = cc
 
-fixed_inside : (a m o : ℕ) → Fixed a ≡ Inside m o → ⊥
+pub fixed_inside : (a m o : ℕ) → Fixed a ≡ Inside m o → ⊥
 fixed_inside a m o e = cc
 
-inside_number : (m o n p : ℕ) → Inside m o ≡ Inside n p → m ≡ n
+pub inside_number : (m o n p : ℕ) → Inside m o ≡ Inside n p → m ≡ n
 inside_number m o n p e = cc
 
-inside_offset : (m o n p : ℕ) → Inside m o ≡ Inside n p → o ≡ p
+pub inside_offset : (m o n p : ℕ) → Inside m o ≡ Inside n p → o ≡ p
 inside_offset m o n p e = cc
 
 -- a place in a block that is none in those after it

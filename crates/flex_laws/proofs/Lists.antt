@@ -3,7 +3,7 @@
 use Rattle.std.proofs.Common.{◌≡◌, ℕ, Bool, ◌+◌, ◌-◌, ◌%◌, ◌<◌, ◌≤◌, true, false, nat_eq, zero, suc, List, [], ◌∷◌, ◌++◌, length, map, take, Option, None, Some, arith, refl, sym, ◌∙◌, ap, inl, inr, ◌⊎◌}
 use Rattle.std.specs.Prelude.{if◌then◌else◌}
 use Rattle.std.specs.List.{range_with_len}
-use Rattle.std.proofs.lemmas.Bool.{cases_Bool, cases_lt, false_from_ne_true, false≢true, eq-eqb, le-leb, lt-leb, lt-ltb, le-ltb, or_left, or_right, and_parts, leb-true, ltb-true}
+use Rattle.std.proofs.lemmas.Bool.{cases_Bool, cases_lt, false_from_ne_true, false≢true, eq-eqb, le-leb, lt-leb, lt-ltb, le-ltb, or_left, or_right}
 use Rattle.address_map.specs.Bytes.{bytes_between, in_range, word_start}
 use Rattle.flex_store.specs.Blocks.{Block, contents, has_anchor, is_held_word, is_in_contents, taken, used, whole_words}
 use Rattle.flex_store.specs.Memory.{Holds, standing, text_of}
@@ -16,6 +16,7 @@ use Rattle.flex_laws.specs.Numbered.{Anchor, anchor_from, Fixed, Inside, list_se
 use Rattle.flex_laws.specs.Seen.{seen_bytes}
 use Rattle.flex_laws.proofs.Numbers.{from_further, from_none, further}
 use Rattle.flex_laws.proofs.Seeing.{block_seen, own_between}
+use Rattle.os_heap.proofs.Apart.{range_parts}
 
 pub list_append : (A : ℕ → Bool) (P : ℕ → Anchor) (h : ℕ) (xs ys : List Block) → list_seen A P h (xs ++ ys) ≡ list_seen A P h xs ++ list_seen A P (h + used xs) ys
 list_append A P h [] ys = let e : h ≡ h + 0 = omega arith in ap (λ (p : ℕ). list_seen A P p ys) e
@@ -121,9 +122,6 @@ list_rest go ss A B P Q f f1 g h to (b ∷ ys) whole old new marks same places =
     λ i. record { anchor = own i; bytes = bytes i } ∷ rest i
 
 -- A word of blocks that is seen otherwise.
-range_parts : (at len a : ℕ) → in_range at len a ≡ true → (at ≤ a) × (a < at + len)
-range_parts at len a is = let p = and_parts _ _ is in (leb-true at a p.0, ltb-true a (at + len) p.1)
-
 pub out_of_word : (w a : ℕ) → (a < w) ⊎ (w + 4 ≤ a) → in_range w 4 a ≡ false
 out_of_word w a out = false_from_ne_true (in_range w 4 a) (λ is.
     let p = range_parts w 4 a is in
@@ -135,7 +133,7 @@ in_word w a here = rw (le-leb w a (omega (arith, here)), lt-ltb a (w + 4) (omega
 pub word_in : (w a : ℕ) → w % 4 ≡ 0 → in_range w 4 a ≡ true → word_start a ≡ w
 word_in w a aligned inside = let p = range_parts w 4 a inside in omega (arith, aligned, p.0, p.1)
 
-shifted : (w offset at i : ℕ) → at + offset ≡ w + i → in_range offset 4 i ≡ in_range w 4 at
+pub shifted : (w offset at i : ℕ) → at + offset ≡ w + i → in_range offset 4 i ≡ in_range w 4 at
 shifted w offset at i e = elim (cases_lt at w) [
   | inl low ↦ rw (lt-leb offset i (omega (arith, e, low)), lt-leb w at low) refl
   | inr up ↦ elim (cases_lt at (w + 4)) [

@@ -16,9 +16,11 @@ use Rattle.flex_store.specs.Places.{IsSplit}
 use Rattle.flex_store.specs.Runs.{Alloc, Extend, FlexCall, MidExtend, Release}
 use Rattle.flex_store.specs.Shifts.{following, removal_shifts, Shifts, splice_shifts}
 use Rattle.flex_store.proofs.Anchoring.{other_word}
+use Rattle.flex_store.proofs.Filled.{whole_filled}
 use Rattle.flex_store.proofs.Following.{following_whole}
 use Rattle.flex_store.proofs.Holding.{word_beside}
 use Rattle.flex_store.proofs.LawLemmas.{contents_size}
+use Rattle.flex_store.proofs.Room.{some_same}
 use Rattle.flex_store.proofs.Splicing.{filled_length, spliced_length}
 use Rattle.flex_laws.specs.Laws.{anchor_of, IsDoneIn, IsLeftBy, IsOfWords, IsSpelledState, outside_of}
 use Rattle.flex_laws.specs.Numbered.{Anchor, anchor_from, blocks_seen, IsCalledSeen, list_seen, place_of}
@@ -28,7 +30,7 @@ use Rattle.flex_laws.proofs.Allocs.{alloc_done, IsAllocated}
 use Rattle.flex_laws.proofs.Calls.{calls_go_by_numbers, changed, some_change}
 use Rattle.flex_laws.proofs.Lists.{list_length, seen_length}
 use Rattle.flex_laws.proofs.OneBlock.{found_has, IsOneBlock, one_block, split_found}
-use Rattle.flex_laws.proofs.Paddings.{AreFilled, Each, each_all, each_left, each_two, laid_paddings, paddings_append, paddings_count, paddings_following, plain, whole_filled}
+use Rattle.flex_laws.proofs.Paddings.{AreFilled, Each, each_all, each_left, each_two, laid_paddings, paddings_append, paddings_count, paddings_following, plain}
 use Rattle.flex_laws.proofs.Releases.{release_found}
 use Rattle.flex_laws.proofs.Room.{fitted_by, IsFitted, ok_same, refused}
 use Rattle.flex_laws.proofs.Splices.{done_by}
@@ -41,9 +43,6 @@ held_padding : (b : Block) (c : List ℕ) → padding (holding b c) ≡ zero_pad
 held_padding b c = drop-append_seam c (replicate (whole_words (length c) - length c) 0)
 
 -- A call left blocks, some of them laid out anew.
-store_same : (x y : FlexStore) → (let o : Option FlexStore = Some x in o ≡ Some y) → x ≡ y
-store_same x y e = cc
-
 abbrev laid_store : FlexStore → (ℕ → ℕ) → List Block → List Block → FlexStore
 laid_store s cleared olds news = record {
   start = s.start;
@@ -62,7 +61,7 @@ paddings_then : (t u : FlexState) (s : FlexStore) (cleared : ℕ → ℕ) (olds 
     → all_paddings u.flex ≡ paddings olds ++ paddings news
 paddings_then t u s cleared olds news left flex old_filled old_text new_filled same =
     let was : FlexStore = record { start = s.start; end = s.end; blocks = left.blocks } in
-    let is : was ≡ laid_store s cleared olds news = store_same was (laid_store s cleared olds news) (sym left.flex ∙ flex) in
+    let is : was ≡ laid_store s cleared olds news = some_same was (laid_store s cleared olds news) (sym left.flex ∙ flex) in
     ap all_paddings flex
     ∙ laid_paddings u s.start s.end t.bytes.at cleared olds news (subst (IsSpelledState u) is left.spelled) old_filled old_text new_filled same
 

@@ -2,17 +2,18 @@
 -- out.
 use Rattle.std.proofs.Common.{◌≡◌, ℕ, Bool, ◌+◌, ◌%◌, ◌<◌, ◌≤◌, false, ◌||◌, zero, suc, List, [], ◌∷◌, ◌++◌, length, drop, slice_index, arith, refl, sym, ◌∙◌, ap, inl, inr}
 use Rattle.std.proofs.lemmas.Bool.{both_ways, false_from_ne_true, or_from, or_parts}
+use Rattle.address_map.proofs.Viewing.{bytes_counted}
 use Rattle.address_map.specs.Bytes.{bytes_between, with_bytes_at, word_start}
 use Rattle.flex_store.specs.Blocks.{Block, FlexStore, has_anchor, is_held_word, is_in_contents, taken, used, whole_words}
 use Rattle.flex_store.specs.Calls.{FlexState}
 use Rattle.flex_store.specs.Memory.{Holds, laid_out, standing, text_of}
 use Rattle.flex_store.specs.Shifts.{following, Shifts}
-use Rattle.flex_store.specs.State.{AreAnchorWords, AreWhole}
+use Rattle.flex_store.specs.State.{AreAnchorWords}
 use Rattle.flex_store.proofs.Anchoring.{anchors_beside}
 use Rattle.flex_store.proofs.Holding.{bytes_beside, bytes_held}
 use Rattle.flex_store.proofs.Lists.{anchor-append}
 use Rattle.flex_store.proofs.Reading.{IsSpelled, spelled}
-use Rattle.flex_store.proofs.Splicing.{between_held, between_length}
+use Rattle.flex_store.proofs.Splicing.{between_held}
 use Rattle.flex_store.proofs.Standing.{standing_has}
 use Rattle.flex_store.proofs.Words.{contents_within, IsHeld, words_right}
 use Rattle.flex_laws.specs.Laws.{IsSpelledState}
@@ -112,17 +113,13 @@ abbrev pub AreFilled : List Block → Type 0
 AreFilled [] = Unit {0}
 AreFilled (b ∷ bs) = (length b.bytes ≡ whole_words b.size) × AreFilled bs
 
-pub whole_filled : (bs : List Block) → AreWhole bs → AreFilled bs
-whole_filled [] whole = tt
-whole_filled (b ∷ bs) whole = (whole.0.0, whole_filled bs whole.1)
-
 -- blocks whose padding stands in memory as in a text
 read_again : (g f : ℕ → ℕ) (h : ℕ) (bs : List Block) → AreFilled bs → Holds f h (text_of bs) → Each (λ a. g a ≡ f a) h bs
     → paddings (standing g h bs) ≡ paddings bs
 read_again g f h [] whole text same = refl
 read_again g f h (b ∷ bs) whole text same =
     let s : IsSpelled f h b bs = spelled f h b bs whole.0 text in
-    let size : length (bytes_between g (h + 8) (whole_words b.size)) ≡ whole_words b.size = between_length g (h + 8) (whole_words b.size) in
+    let size : length (bytes_between g (h + 8) (whole_words b.size)) ≡ whole_words b.size = bytes_counted g (h + 8) (whole_words b.size) in
     let own : drop b.size (bytes_between g (h + 8) (whole_words b.size)) ≡ drop b.size b.bytes =
     drop_same b.size (bytes_between g (h + 8) (whole_words b.size)) b.bytes (size ∙ sym whole.0) (λ k low below.
     sym (between_held g (h + 8) (whole_words b.size) k below) ∙ (same.0 k low (omega (arith, below, size)) ∙ s.bytes k (omega (arith, below, size, whole.0)))) in

@@ -3,6 +3,7 @@
 use Rattle.std.proofs.Common.{◌≡◌, ℕ, Bool, ◌+◌, ◌<◌, ◌≤◌, true, false, nat_eq, List, [], ◌∷◌, ◌++◌, length, take, drop, replicate, Option, Some, None, arith, refl, sym, ◌∙◌, ap, inl, inr, suc, zero}
 use Rattle.std.specs.Prelude.{if◌then◌else◌, slice_index}
 use Rattle.std.proofs.lemmas.Bool.{both_ways, cases_Bool, false≢true, eqb-true, eqb-false, eq-eqb, ne_eqb, or_left, or_parts, or_right}
+use Rattle.address_map.proofs.Viewing.{bytes_counted}
 use Rattle.address_map.specs.Bytes.{bytes_between}
 use Rattle.flex_store.specs.Blocks.{Block, contents, has_anchor, taken, used, whole_words}
 use Rattle.flex_store.specs.Memory.{Holds, standing, text_of}
@@ -12,7 +13,7 @@ use Rattle.flex_store.specs.State.{AreWhole}
 use Rattle.flex_store.proofs.Following.{ArePlaced, IsMove, Move, places_apart}
 use Rattle.flex_store.proofs.Laying.{contents_between}
 use Rattle.flex_store.proofs.Reading.{bytes_read, IsSpelled, spelled}
-use Rattle.flex_store.proofs.Splicing.{between_held, between_length}
+use Rattle.flex_store.proofs.Splicing.{between_held}
 
 -- bytes that are the same where they are of no anchor
 pub same_seen : (A B : ℕ → Bool) (at to : ℕ) (xs ys : List ℕ) → length xs ≡ length ys
@@ -46,8 +47,8 @@ same_seen A B at to (x ∷ xs) (y ∷ ys) len marks same =
 pair_seen : (A B : ℕ → Bool) (f g : ℕ → ℕ) (p q n : ℕ) → ((i : ℕ) → i < n → B (q + i) ≡ A (p + i))
     → ((i : ℕ) → i < n → B (q + i) ≡ false → g (q + i) ≡ f (p + i)) → seen_bytes B q (bytes_between g q n) ≡ seen_bytes A p (bytes_between f p n)
 pair_seen A B f g p q n marks same =
-    let one : length (bytes_between g q n) ≡ n = between_length g q n in
-    let two : length (bytes_between f p n) ≡ n = between_length f p n in
+    let one : length (bytes_between g q n) ≡ n = bytes_counted g q n in
+    let two : length (bytes_between f p n) ≡ n = bytes_counted f p n in
     same_seen B A q p (bytes_between g q n) (bytes_between f p n) (one ∙ sym two) (λ i below. marks i (omega arith))
     (λ i below none. sym (between_held g q n i below) ∙ (same i (omega arith) none ∙ between_held f p n i (omega arith)))
 

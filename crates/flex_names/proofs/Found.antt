@@ -2,6 +2,7 @@
 use Rattle.std.proofs.Common.{◌≡◌, ℕ, suc, ◌≤◌, true, false, nat_eq, List, [], ◌∷◌, Option, None, Some, arith, refl, sym, ◌∙◌, ap, inl, inr}
 use Rattle.std.specs.Option.{option_and_then}
 use Rattle.std.proofs.lemmas.Bool.{and_parts, cases_Bool, eq-eqb, eqb-true, false_from_ne_true, false≢true}
+use Rattle.flex_laws.proofs.Apart.{fixed_inside, fixed_same, inside_number, inside_offset}
 use Rattle.flex_laws.specs.Numbered.{Anchor, AreElsewhere, Fixed, Inside, SeenBlock}
 use Rattle.flex_names.specs.Names.{At, In, Name, number_from, number_named, same_name, same_place}
 
@@ -44,18 +45,6 @@ name_self (In y o) = rw (name_self y, eq-eqb o o refl) refl
 
 pub name_not : (y z : Name) → (y ≡ z → ⊥) → same_name y z ≡ false
 name_not y z apart = false_from_ne_true (same_name y z) (λ is. apart (name_is y z is))
-
-pub inside_number : (m o n p : ℕ) → Inside m o ≡ Inside n p → m ≡ n
-inside_number m o n p e = cc
-
-pub inside_offset : (m o n p : ℕ) → Inside m o ≡ Inside n p → o ≡ p
-inside_offset m o n p e = cc
-
-pub fixed_same : (a c : ℕ) → Fixed a ≡ Fixed c → a ≡ c
-fixed_same a c e = cc
-
-pub fixed_inside : (a m o : ℕ) → Fixed a ≡ Inside m o → ⊥
-fixed_inside a m o e = cc
 
 -- a block that is found has a number among those of the list
 pub number_low : (n m : ℕ) (x : Anchor) (bs : List SeenBlock) → number_from n x bs ≡ Some m → n ≤ m

@@ -1,6 +1,7 @@
 -- Calls one after another, by names.
-use Rattle.std.proofs.Common.{◌≡◌, ℕ, Bool, ◌+◌, ◌-◌, ◌%◌, ◌^◌, ◌<◌, ◌≤◌, true, nat_eq, List, [], ◌∷◌, Option, Some, arith, refl, sym, ◌∙◌, ap, inl, inr, subst}
-use Rattle.std.proofs.lemmas.Bool.{eq-eqb, le-leb, lt-ltb, or_left, or_right}
+use Rattle.std.proofs.Common.{◌≡◌, ℕ, Bool, ◌+◌, ◌-◌, ◌^◌, ◌<◌, ◌≤◌, true, nat_eq, List, [], ◌∷◌, Option, Some, arith, refl, sym, ◌∙◌, ap, inl, inr, subst}
+use Rattle.std.proofs.lemmas.Bool.{eq-eqb, or_left, or_right}
+use Rattle.address_map.proofs.InRange.{range_inside}
 use Rattle.address_map.specs.raw_store.specs.Region.{word_bytes}
 use Rattle.address_map.specs.Bytes.{in_range, word_start}
 use Rattle.os_heap.specs.Store.{Store}
@@ -11,6 +12,7 @@ use Rattle.flex_store.specs.Runs.{Alloc, Extend, FlexCall, MidExtend, Release}
 use Rattle.flex_store.specs.State.{AreAnchorWords}
 use Rattle.flex_store.proofs.Holding.{holds_kept}
 use Rattle.flex_store.proofs.Lists.{text_used}
+use Rattle.flex_store.proofs.Standing.{first_word}
 use Rattle.flex_laws.specs.Laws.{anchor_of, IsDoneIn, IsOfWords, IsSpelledState}
 use Rattle.flex_laws.specs.Numbered.{blocks_seen, place_of}
 use Rattle.flex_laws.proofs.Calls.{calls_go_by_numbers, no_room_changes_nothing}
@@ -26,16 +28,13 @@ abbrev IsLow : FlexState → Type 0
 IsLow t = (a : ℕ) → t.bytes.mapped a ≡ true → a < 2 ^ 26
 
 -- anchors are what they were where their bytes are
-first_of : (at a : ℕ) → at % 4 ≡ 0 → at ≤ a → a < at + 4 → word_start a ≡ at
-first_of at a aligned low high = omega arith
-
 module _ (mapped now : ℕ → Bool) (f g : ℕ → ℕ) where
   words_stay : (at end : ℕ) (bs : List Block) → ((a : ℕ) → has_anchor bs (word_start a) ≡ true → now a ≡ mapped a) → AreAnchorWords mapped at end bs
       → AreAnchorWords now at end bs
   words_stay at end [] same words = tt
   words_stay at end (b ∷ bs) same words =
       let own = words.0.0 in
-      let here : word_start b.anchor ≡ b.anchor = first_of b.anchor b.anchor own.aligned (omega arith) (omega arith) in (
+      let here : word_start b.anchor ≡ b.anchor = first_word b.anchor b.anchor own.aligned (omega arith) (omega arith) in (
         (
           record {
             aligned = own.aligned;
@@ -53,7 +52,7 @@ module _ (mapped now : ℕ → Bool) (f g : ℕ → ℕ) where
   anchored_stay start end at [] same words anchored = tt
   anchored_stay start end at (b ∷ bs) same words anchored = (
     holds_kept f g b.anchor (word_bytes (at + 8)) (λ a low high.
-        let here : word_start a ≡ b.anchor = first_of b.anchor a words.0.0.aligned low high in
+        let here : word_start a ≡ b.anchor = first_word b.anchor a words.0.0.aligned low high in
         same a (rw here (or_left (nat_eq b.anchor b.anchor) (has_anchor bs b.anchor) (eq-eqb b.anchor b.anchor refl))))
         anchored.0,
     anchored_stay (start + taken b.size) end (at + taken b.size) bs
@@ -61,14 +60,11 @@ module _ (mapped now : ℕ → Bool) (f g : ℕ → ℕ) where
   )
 
 -- what leaves the store alone leaves it spelled
-in_the_range : (start len a : ℕ) → start ≤ a → a < start + len → in_range start len a ≡ true
-in_the_range start len a low high = rw (le-leb start a low, lt-ltb a (start + len) high) refl
-
 stays_spelled : (t u : FlexState) (s : FlexStore) → IsSpelledState t s → IsLeftAlone t u s → IsSpelledState u s
 stays_spelled t u s sp alone =
     let n : ℕ = s.end - s.start in
     let within : (a : ℕ) → s.start ≤ a → a < s.start + n → is_of_store s a ≡ true =
-    λ a low high. or_left (in_range s.start n a) (is_anchor_byte s a) (in_the_range s.start n a low high) in
+    λ a low high. or_left (in_range s.start n a) (is_anchor_byte s a) (range_inside s.start n a low high) in
     let word : (a : ℕ) → has_anchor s.blocks (word_start a) ≡ true → is_of_store s a ≡ true =
     λ a is. or_right (in_range s.start n a) (is_anchor_byte s a) is in
     record {

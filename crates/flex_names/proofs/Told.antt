@@ -3,9 +3,10 @@ use Rattle.std.proofs.Common.{◌≡◌, ℕ, Bool, zero, suc, ◌<◌, ◌≤�
 use Rattle.std.specs.Prelude.{if◌then◌else◌}
 use Rattle.std.specs.Option.{option_map}
 use Rattle.std.proofs.lemmas.Bool.{cases_Bool, eq-eqb, eqb-true, false_from_ne_true, false≢true, ne_eqb}
+use Rattle.flex_laws.proofs.Apart.{fixed_inside, fixed_same, inside_number, inside_offset}
 use Rattle.flex_laws.specs.Numbered.{Anchor, block_told, Fixed, Inside, IsBeforeBlock, place_told, SeenBlock, word_told}
 use Rattle.flex_names.specs.Names.{At, bytes_at, In, Name, number_from, number_named, place_named, same_name, same_place, told_named}
-use Rattle.flex_names.proofs.Found.{fixed_inside, fixed_same, inside_number, inside_offset, name_is, name_self, none_some, one_name, some_same}
+use Rattle.flex_names.proofs.Found.{name_is, name_self, none_some, one_name, some_same}
 
 block_numbers : (byte : Option ℕ) (m o n : ℕ) (y : Anchor) (bs ys : List SeenBlock) → number_from n y (block_told byte m o bs ++ ys) ≡ number_from n y (bs ++ ys)
 block_numbers byte m o n y [] ys = refl

@@ -19,12 +19,12 @@ use Rattle.flex_store.proofs.Words.{held_word}
 use Rattle.flex_laws.specs.Laws.{IsSpelledState}
 use Rattle.flex_laws.specs.Numbered.{Anchor, anchor_from, AreNumbered, Inside, list_seen, place_of, SeenBlock}
 use Rattle.flex_laws.specs.Seen.{seen_bytes}
-use Rattle.flex_laws.proofs.Apart.{anchors_are_apart, place_same}
+use Rattle.flex_laws.proofs.Apart.{anchors_are_apart, fixed_inside, inside_number, inside_offset, place_same}
 use Rattle.flex_laws.proofs.Lists.{list_append, list_length, seen_length}
 use Rattle.flex_laws.proofs.Numbers.{AtWord, found, InBlock, IsFound}
 use Rattle.flex_laws.proofs.OneBlock.{found_has, same_block}
 use Rattle.flex_names.specs.Names.{bytes_at, contents_named, In, Name, number_from, number_named, place_named}
-use Rattle.flex_names.proofs.Found.{fixed_inside, inside_number, inside_offset, place_not, some_same}
+use Rattle.flex_names.proofs.Found.{place_not, some_same}
 use Rattle.flex_names.proofs.Moving.{bytes_own, found_at, named_by_place}
 
 -- no block has its anchor where no anchor is

@@ -2,6 +2,7 @@
 use Rattle.std.proofs.Common.{◌≡◌, ℕ, Bool, ◌+◌, ◌-◌, ◌%◌, ◌^◌, ◌<◌, ◌≤◌, ◌||◌, ◌&&◌, not, true, false, nat_eq, nat_lt, Ok, Err, List, [], ◌∷◌, ◌++◌, arith, refl, sym, ◌∙◌, ap, inl, inr, ◌⊎◌, ◌↔◌, subst}
 use Rattle.std.specs.List.{list_any}
 use Rattle.std.proofs.lemmas.Bool.{and_parts, both_ways, cases_Bool, false_from_ne_true, cases_lt, eqb-true, eq-eqb, lt-ltb, ne_eqb, not-true, or_cases, or_left, true≢false, false≢true}
+use Rattle.std.proofs.lemmas.List.{append-nil}
 use Rattle.address_map.proofs.Words.{class_of-word}
 use Rattle.address_map.proofs.Spans.{mapped_below}
 use Rattle.profile.specs.Outcome.{Gives}
@@ -32,10 +33,6 @@ use Rattle.flex_store.proofs.Sliding.{new_whole}
 use Rattle.flex_store.proofs.Storing.{IsBefore}
 use Rattle.flex_store.proofs.Words.{contents_within, IsHeld, words_within}
 
-append_none : (bs : List Block) → bs ++ [] ≡ bs
-append_none [] = refl
-append_none (b ∷ bs) = ap (λ (l : List Block). b ∷ l) (append_none bs)
-
 own_only : (p anchor : ℕ) → (nat_eq p anchor || false) ≡ true → p ≡ anchor
 own_only p anchor has = elim (or_cases (nat_eq p anchor) false has) [
   | inl here ↦ eqb-true p anchor here
@@ -63,7 +60,7 @@ pub alloc_before : (m : AddressMap) (e : Extent) (anchor size : ℕ) → IsStore
     → e.start + (e.used + taken size) ≤ e.end → IsBefore m e.start e.end (standing (byte_at m) e.start (blocks_of m e)) [] (new_block anchor size ∷ [])
 alloc_before m e anchor size s may none small fits =
     before_laid m m e.start e.end (blocks_of m e) [] (new_block anchor size ∷ [])
-    (subst (λ (l : List Block). IsFlexStore m e.start e.end l) (sym (append_none (blocks_of m e))) s.store) refl refl (λ a is. refl) s.store.anchored
+    (subst (λ (l : List Block). IsFlexStore m e.start e.end l) (sym (append-nil (blocks_of m e))) s.store) refl refl (λ a is. refl) s.store.anchored
     (alloc_follows m e anchor size s may none small fits)
 
 pub alloc_may : (m : AddressMap) (e : Extent) (anchor size header : ℕ) → IsStoreAt m e → IsNewAnchor m e anchor
@@ -144,7 +141,7 @@ place_word m e places anchor mapped place =
     record { aligned = p.aligned; there = there; low = mapped_below m anchor there }
 
 -- beside the store
-beside : (start end anchor : ℕ) → start ≤ end → start % 4 ≡ 0 → anchor % 4 ≡ 0 → meets anchor 4 start (end - start) ≡ false → (anchor + 4 ≤ start) ⊎ (end ≤ anchor)
+pub beside : (start end anchor : ℕ) → start ≤ end → start % 4 ≡ 0 → anchor % 4 ≡ 0 → meets anchor 4 start (end - start) ≡ false → (anchor + 4 ≤ start) ⊎ (end ≤ anchor)
 beside start end anchor some aligned aligned' clear = elim (cases_lt start (anchor + 4)) [
   | inr low ↦ inl low
   | inl up ↦ elim (cases_lt anchor end) [

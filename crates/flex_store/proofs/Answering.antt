@@ -3,6 +3,7 @@ use Rattle.std.proofs.Common.{◌≡◌, ℕ, Bool, ◌+◌, ◌-◌, ◌^◌, �
 use Rattle.std.specs.Prelude.{if◌then◌else◌}
 use Rattle.std.proofs.lemmas.Bool.{cases_Bool, cases_lt, eqb-true, or_cases, or_left, or_right, le-leb, lt-leb, lt-ltb, le-ltb, eq-eqb, ne_eqb}
 use Rattle.std.proofs.Math.Seq.{take-length, drop-length}
+use Rattle.std.proofs.lemmas.List.{append-nil}
 use Rattle.profile.specs.Outcome.{Gives}
 use Rattle.profile.specs.declared.error.ErrorNumber.{ErrorNumber}
 use Rattle.profile.specs.declared.error.ErrorNumber.TheVariants.{FlexBadAnchor, FlexBadRange, FlexHoldsAnchor}
@@ -139,10 +140,6 @@ take_past (suc n) [] fits = refl
 take_past zero (x ∷ c) fits = absurd (omega arith)
 take_past (suc n) (x ∷ c) fits = ap (λ (l : List ℕ). x ∷ l) (take_past n c (omega arith))
 
-append_nil : (xs : List ℕ) → xs ++ [] ≡ xs
-append_nil [] = refl
-append_nil (x ∷ xs) = ap (λ (l : List ℕ). x ∷ l) (append_nil xs)
-
 -- a new size as a splice at the end
 pub resized_is : (c : List ℕ) (old size : ℕ) → length c ≡ old → resized c size ≡ spliced c old (old - size) (size - old)
 resized_is c old size len =
@@ -151,7 +148,7 @@ resized_is c old size len =
     elim (cases_lt old size) [
       | inl up ↦
           let whole : old - (old - size) ≡ length c = omega arith in
-          rw (none, more, whole, take-length c, take_past size c (omega arith)) (ap (λ (l : List ℕ). c ++ l) (sym (append_nil (replicate (size - old) 0))))
+          rw (none, more, whole, take-length c, take_past size c (omega arith)) (ap (λ (l : List ℕ). c ++ l) (sym (append-nil (replicate (size - old) 0))))
       | inr down ↦
           let part : old - (old - size) ≡ size = omega arith in
           let zero_more : size - old ≡ 0 = omega arith in

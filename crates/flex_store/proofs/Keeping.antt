@@ -56,7 +56,7 @@ place_headless m anchor sound classes place =
     (anchor_placed (store_of m).bytes (store_of m).heaps anchor anchor sound.heaps p.aligned here p.held)
 
 -- the recorded range of the store
-in_record : (start end a : ℕ) (r : Region) → is_store_record start end r ≡ true → start ≤ a → a < end → (is_flex_store r.kind && in_range r.at r.len a) ≡ true
+pub in_record : (start end a : ℕ) (r : Region) → is_store_record start end r ≡ true → start ≤ a → a < end → (is_flex_store r.kind && in_range r.at r.len a) ≡ true
 in_record start end a r is low high =
     let parts = and_parts (is_flex_store r.kind) (r.at == start && r.len == end - start) is in
     let place = and_parts (r.at == start) (r.len == end - start) parts.1 in
@@ -64,7 +64,7 @@ in_record start end a r is low high =
     let len : r.len ≡ end - start = eqb-true r.len (end - start) place.1 in
     rw (parts.0, le-leb r.at a (omega arith), lt-ltb a (r.at + r.len) (omega arith)) refl
 
-in_store : (rs : List Region) (start end a : ℕ) → is_recorded rs start end ≡ true → start ≤ a → a < end → is_in_flex_store rs a ≡ true
+pub in_store : (rs : List Region) (start end a : ℕ) → is_recorded rs start end ≡ true → start ≤ a → a < end → is_in_flex_store rs a ≡ true
 in_store [] start end a is low high = absurd (false≢true is)
 in_store (r ∷ rs) start end a is low high = elim (cases_Bool (is_store_record start end r)) [
   | inl here ↦ or_left (is_flex_store r.kind && in_range r.at r.len a) (is_in_flex_store rs a) (in_record start end a r here low high)

@@ -1,7 +1,7 @@
 -- What calls answered, the block that one found, and changes that change nothing.
-use Rattle.std.proofs.Common.{◌≡◌, ℕ, ◌-◌, nat_eq, List, [], ◌∷◌, ◌++◌, length, take, Some, None, Result, Ok, Err, arith, refl, sym, ◌∙◌, ap, subst, inl, inr}
+use Rattle.std.proofs.Common.{◌≡◌, ℕ, ◌-◌, nat_eq, List, [], ◌∷◌, length, take, Some, None, Result, Ok, Err, arith, sym, ◌∙◌, ap, subst, inl, inr}
 use Rattle.std.proofs.lemmas.Bool.{cases_Bool, eqb-true}
-use Rattle.std.proofs.lemmas.List.{length-take-le, take-append-drop}
+use Rattle.std.proofs.lemmas.List.{append-nil, length-take-le, take-append-drop}
 use Rattle.std.proofs.Math.Seq.{take-length}
 use Rattle.profile.specs.declared.error.ErrorNumber.{ErrorNumber}
 use Rattle.flex_store.specs.Blocks.{Block, contents, cut_of, find_block, more_of, resized, spliced, whole_words}
@@ -41,15 +41,11 @@ found_filled anchor (x ∷ bs) b whole found = elim (cases_Bool (nat_eq x.anchor
 ]
 
 -- sizes that stay
-append_nil : (xs : List ℕ) → xs ++ [] ≡ xs
-append_nil [] = refl
-append_nil (x ∷ xs) = ap (λ (l : List ℕ). x ∷ l) (append_nil xs)
-
 pub resized_same : (c : List ℕ) (size : ℕ) → length c ≡ size → resized c size ≡ c
 resized_same c size len =
     let none : size - length c ≡ 0 = omega arith in
     let all : take size c ≡ c = ap (λ (n : ℕ). take n c) (sym len) ∙ take-length c in
-    rw (none, all) (append_nil c)
+    rw (none, all) (append-nil c)
 
 pub contents_size : (b : Block) → length b.bytes ≡ whole_words b.size → length (contents b) ≡ b.size
 contents_size b whole = length-take-le b.size b.bytes (omega (arith, whole))

@@ -4,13 +4,15 @@ use Rattle.std.proofs.Common.{◌≡◌, ℕ, ◌+◌, ◌-◌, ◌≤◌, List,
 use Rattle.std.proofs.lemmas.List.{length-replicate}
 use Rattle.std.proofs.lemmas.List.FromFn.{take-map-range_with_len}
 use Rattle.std.proofs.Math.ListN.{length-append}
+use Rattle.address_map.proofs.Moving.{moved_in}
+use Rattle.address_map.proofs.Viewing.{bytes_counted}
 use Rattle.address_map.specs.raw_store.specs.Region.{word_bytes}
 use Rattle.address_map.specs.Bytes.{bytes_between, with_bytes_at, with_moved_at, with_word_at, with_zeros_at}
 use Rattle.flex_store.specs.Blocks.{Block, filled, spliced, whole_words}
 use Rattle.flex_store.specs.Memory.{Holds}
 use Rattle.flex_store.proofs.Holding.{bytes_beside, bytes_held, bytes_written, holds_append, holds_kept, holds_moved, holds_word, holds_zeros, word_beside}
 use Rattle.flex_store.proofs.Reading.{bytes_read}
-use Rattle.flex_store.proofs.Splicing.{between_held, between_length, filled_length, moved_in, moved_out, spliced_length, zeros_in, zeros_out}
+use Rattle.flex_store.proofs.Splicing.{between_held, filled_length, moved_out, spliced_length, zeros_in, zeros_out}
 
 -- the bytes after a block move up before its own change, or down after it
 pub respaced_up : (f g : ℕ → ℕ) (c size w w' r at cut more : ℕ) → at ≤ size → size ≤ w → w ≤ w' → w' ≡ whole_words (at - cut + more + (size - at))
@@ -18,22 +20,22 @@ pub respaced_up : (f g : ℕ → ℕ) (c size w w' r at cut more : ℕ) → at �
     → (a : ℕ) → g a ≡ with_bytes_at f c (filled (spliced (bytes_between f c size) at cut more) ++ bytes_between f (c + w) r) a
 respaced_up f g c size w w' r at cut more inside fits up new h =
     let f1 : ℕ → ℕ = with_moved_at f (c + w) (c + w') r in
-    let same : bytes_between f1 c size ≡ bytes_between f c size = bytes_read f1 c size (bytes_between f c size) (between_length f c size)
-    (holds_kept f f1 c (bytes_between f c size) (λ a low high. moved_out f (c + w) (c + w') r a (inl (omega (arith, between_length f c size)))) (between_held f c size)) in
+    let same : bytes_between f1 c size ≡ bytes_between f c size = bytes_read f1 c size (bytes_between f c size) (bytes_counted f c size)
+    (holds_kept f f1 c (bytes_between f c size) (λ a low high. moved_out f (c + w) (c + w') r a (inl (omega (arith, bytes_counted f c size)))) (between_held f c size)) in
     let l : List ℕ = filled (spliced (bytes_between f c size) at cut more) in
     let rest : List ℕ = bytes_between f (c + w) r in
     let h' : (a : ℕ) → g a ≡ with_bytes_at f1 c l a = λ a. h a ∙ ap (λ (xs : List ℕ). with_bytes_at f1 c (filled (spliced xs at cut more)) a) same in
     let size_is : length l ≡ w' = filled_length (spliced (bytes_between f c size) at cut more)
-    ∙ ap whole_words (spliced_length (bytes_between f c size) at cut more (omega (arith, between_length f c size)) ∙ ap (λ (n : ℕ). at - cut + more + (n - at)) (between_length f c size)) ∙ sym new in
+    ∙ ap whole_words (spliced_length (bytes_between f c size) at cut more (omega (arith, bytes_counted f c size)) ∙ ap (λ (n : ℕ). at - cut + more + (n - at)) (bytes_counted f c size)) ∙ sym new in
     let e : c + length l ≡ c + w' = omega arith in
     bytes_written f g c (l ++ rest)
     (holds_append g c l rest
     (λ k below. h' (c + k) ∙ bytes_held f1 c l k below)
     (rw e (holds_moved f g (c + w) (c + w') rest
-    (λ k below. h' (c + w' + k) ∙ (bytes_beside f1 c l (c + w' + k) (inr (omega arith)) ∙ moved_in f (c + w) (c + w') r k (omega (arith, between_length f (c + w) r))))
+    (λ k below. h' (c + w' + k) ∙ (bytes_beside f1 c l (c + w' + k) (inr (omega arith)) ∙ moved_in f (c + w) (c + w') r k (omega (arith, bytes_counted f (c + w) r))))
     (between_held f (c + w) r))))
     (λ a out. h' a ∙ (bytes_beside f1 c l a (elim out [ inl low ↦ inl low | inr high ↦ inr (omega (arith, length-append l rest)) ])
-    ∙ moved_out f (c + w) (c + w') r a (elim out [ inl low ↦ inl (omega arith) | inr high ↦ inr (omega (arith, length-append l rest, between_length f (c + w) r)) ])))
+    ∙ moved_out f (c + w) (c + w') r a (elim out [ inl low ↦ inl (omega arith) | inr high ↦ inr (omega (arith, length-append l rest, bytes_counted f (c + w) r)) ])))
 
 pub respaced_down : (f g : ℕ → ℕ) (c size w w' r at cut more : ℕ) → at ≤ size → w' ≤ w → w' ≡ whole_words (at - cut + more + (size - at))
     → ((a : ℕ) → g a ≡ with_moved_at (with_bytes_at f c (filled (spliced (bytes_between f c size) at cut more))) (c + w) (c + w') r a)
@@ -43,15 +45,15 @@ respaced_down f g c size w w' r at cut more inside down new h =
     let rest : List ℕ = bytes_between f (c + w) r in
     let f1 : ℕ → ℕ = with_bytes_at f c l in
     let size_is : length l ≡ w' = filled_length (spliced (bytes_between f c size) at cut more)
-    ∙ ap whole_words (spliced_length (bytes_between f c size) at cut more (omega (arith, between_length f c size)) ∙ ap (λ (n : ℕ). at - cut + more + (n - at)) (between_length f c size)) ∙ sym new in
+    ∙ ap whole_words (spliced_length (bytes_between f c size) at cut more (omega (arith, bytes_counted f c size)) ∙ ap (λ (n : ℕ). at - cut + more + (n - at)) (bytes_counted f c size)) ∙ sym new in
     let e : c + length l ≡ c + w' = omega arith in
     bytes_written f g c (l ++ rest)
     (holds_append g c l rest
     (λ k below. h (c + k) ∙ (moved_out f1 (c + w) (c + w') r (c + k) (inl (omega arith)) ∙ bytes_held f c l k below))
     (rw e (holds_moved f g (c + w) (c + w') rest
-    (λ k below. h (c + w' + k) ∙ (moved_in f1 (c + w) (c + w') r k (omega (arith, between_length f (c + w) r)) ∙ bytes_beside f c l (c + w + k) (inr (omega arith))))
+    (λ k below. h (c + w' + k) ∙ (moved_in f1 (c + w) (c + w') r k (omega (arith, bytes_counted f (c + w) r)) ∙ bytes_beside f c l (c + w + k) (inr (omega arith))))
     (between_held f (c + w) r))))
-    (λ a out. h a ∙ (moved_out f1 (c + w) (c + w') r a (elim out [ inl low ↦ inl (omega arith) | inr high ↦ inr (omega (arith, length-append l rest, between_length f (c + w) r)) ])
+    (λ a out. h a ∙ (moved_out f1 (c + w) (c + w') r a (elim out [ inl low ↦ inl (omega arith) | inr high ↦ inr (omega (arith, length-append l rest, bytes_counted f (c + w) r)) ])
     ∙ bytes_beside f c l a (elim out [ inl low ↦ inl low | inr high ↦ inr (omega (arith, length-append l rest)) ])))
 
 -- the bytes of a block that are its guest's own, as memory holds them

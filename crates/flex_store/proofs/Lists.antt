@@ -1,5 +1,6 @@
 -- Lists of blocks end to end: what they use, their text, their anchors.
-use Rattle.std.proofs.Common.{◌≡◌, ℕ, ◌+◌, ◌%◌, Bool, true, false, ◌||◌, nat_eq, List, [], ◌∷◌, ◌++◌, length, arith, refl, sym, ◌∙◌, ap, append_assoc, inl, inr, Some, None}
+use Rattle.std.proofs.Common.{◌≡◌, ℕ, ◌+◌, ◌%◌, true, false, ◌||◌, nat_eq, List, [], ◌∷◌, ◌++◌, length, arith, refl, sym, ◌∙◌, ap, append_assoc, inl, inr, Some, None}
+use Rattle.std.proofs.Math.Bool.{or_assoc}
 use Rattle.std.proofs.lemmas.Bool.{cases_Bool, eqb-true, or_parts, true≢false}
 use Rattle.std.proofs.lemmas.Bool.Decides.{nat_tests}
 use Rattle.std.proofs.Math.ListN.{length-append}
@@ -23,26 +24,22 @@ text-append (b ∷ xs) ys =
     ap (λ (t : List ℕ). word_bytes b.anchor ++ (word_bytes b.size ++ t))
     (ap (λ (t : List ℕ). b.bytes ++ t) (text-append xs ys) ∙ sym (append_assoc b.bytes (text_of xs) (text_of ys)))
 
-or_assoc : (x y z : Bool) → (x || (y || z)) ≡ ((x || y) || z)
-or_assoc true y z = refl
-or_assoc false y z = refl
-
 pub anchor-append : (xs ys : List Block) (a : ℕ) → has_anchor (xs ++ ys) a ≡ (has_anchor xs a || has_anchor ys a)
 anchor-append [] ys a = refl
-anchor-append (b ∷ xs) ys a = rw (anchor-append xs ys a) (or_assoc (nat_eq a b.anchor) (has_anchor xs a) (has_anchor ys a))
+anchor-append (b ∷ xs) ys a = rw (anchor-append xs ys a) (sym (or_assoc (nat_eq a b.anchor) (has_anchor xs a) (has_anchor ys a)))
 
 pub header-append : (at : ℕ) (xs ys : List Block) (a : ℕ) → is_header at (xs ++ ys) a ≡ (is_header at xs a || is_header (at + used xs) ys a)
 header-append at [] ys a =
     let e : at ≡ at + 0 = omega arith in ap (λ p. is_header p ys a) e
 header-append at (b ∷ xs) ys a =
     let e : at + taken b.size + used xs ≡ at + (taken b.size + used xs) = omega arith in
-    rw (header-append (at + taken b.size) xs ys a, e) (or_assoc (nat_eq a at || nat_eq a (at + 4)) (is_header (at + taken b.size) xs a) (is_header (at + (taken b.size + used xs)) ys a))
+    rw (header-append (at + taken b.size) xs ys a, e) (sym (or_assoc (nat_eq a at || nat_eq a (at + 4)) (is_header (at + taken b.size) xs a) (is_header (at + (taken b.size + used xs)) ys a)))
 
 pub contents-append : (at : ℕ) (xs ys : List Block) (a : ℕ) → is_in_contents at (xs ++ ys) a ≡ (is_in_contents at xs a || is_in_contents (at + used xs) ys a)
 contents-append at [] ys a = let e : at ≡ at + 0 = omega arith in ap (λ p. is_in_contents p ys a) e
 contents-append at (b ∷ xs) ys a =
     let e : at + taken b.size + used xs ≡ at + (taken b.size + used xs) = omega arith in
-    rw (contents-append (at + taken b.size) xs ys a, e) (or_assoc (is_held_word at b a) (is_in_contents (at + taken b.size) xs a) (is_in_contents (at + (taken b.size + used xs)) ys a))
+    rw (contents-append (at + taken b.size) xs ys a, e) (sym (or_assoc (is_held_word at b a) (is_in_contents (at + taken b.size) xs a) (is_in_contents (at + (taken b.size + used xs)) ys a)))
 
 pub whole-append : (xs ys : List Block) → AreWhole xs → AreWhole ys → AreWhole (xs ++ ys)
 whole-append [] ys p q = q

@@ -1,7 +1,7 @@
 -- The record of a flex store: it shares no byte with a heap or a range that is recorded already,
 -- and keeps all heaps.
-use Rattle.std.proofs.Common.{◌≡◌, ℕ, ◌+◌, ◌-◌, ◌<◌, ◌≤◌, ◌++◌, true, false, List, [], ◌∷◌, length, refl, sym, ap, subst, ◌∙◌, arith, inl, inr}
-use Rattle.std.proofs.lemmas.Bool.{and_parts, cases_Bool, leb-true, ltb-true, lt-ltb, eq-eqb, or_parts, or_right, true≢false}
+use Rattle.std.proofs.Common.{◌≡◌, ℕ, ◌+◌, ◌-◌, ◌<◌, ◌++◌, true, false, List, [], ◌∷◌, length, refl, sym, ap, subst, ◌∙◌, inl, inr}
+use Rattle.std.proofs.lemmas.Bool.{cases_Bool, eq-eqb, or_parts, or_right, true≢false}
 use Rattle.address_map.specs.Bytes.{Bytes, in_range, meets}
 use Rattle.address_map.specs.Memory.{byte_at, bytes_of, class_of, is_mapped, mapping, regions}
 use Rattle.address_map.specs.Records.{is_heap_kind, meets_record}
@@ -9,31 +9,17 @@ use Rattle.address_map.specs.declared.class.Class.{Class}
 use Rattle.address_map.specs.declared.map.AddressMap.{AddressMap}
 use Rattle.address_map.specs.declared.region.Region.{Region}
 use Rattle.os_heap.proofs.Frame.{classes_same}
+use Rattle.os_heap.proofs.RangeTests.{clear_unless}
 use Rattle.os_heap.proofs.Recorded.{IsClearOfAll, recorded_sound, store_recorded}
 use Rattle.os_heap.specs.Store.{AreClasses, AreClear, heaps_in, IsClearOfHeaps, IsSound, others_in, Store, store_of}
 use Rattle.flex_store.specs.Calls.{flex_record, is_flex_range}
 use Rattle.flex_store.specs.State.{is_recorded, is_store_record}
 use Rattle.flex_store.proofs.Starting.{mapped_same, range_apart}
 
-range_clear : (at len other other_len : ℕ) → meets at len other other_len ≡ false → AreClear at len other other_len
-range_clear at len other other_len apart a inside = elim (cases_Bool (in_range other other_len a)) [
-  | inr clear ↦ clear
-  | inl there ↦
-      let one = and_parts _ _ inside in
-      let two = and_parts _ _ there in
-      let low : at ≤ a = leb-true at a one.0 in
-      let high : a < at + len = ltb-true a (at + len) one.1 in
-      let from : other ≤ a = leb-true other a two.0 in
-      let below : a < other + other_len = ltb-true a (other + other_len) two.1 in
-      let both : meets at len other other_len ≡ true =
-      rw (lt-ltb 0 len (omega arith), lt-ltb 0 other_len (omega arith), lt-ltb at (other + other_len) (omega arith), lt-ltb other (at + len) (omega arith)) refl in
-      absurd (true≢false (sym both ∙ apart))
-]
-
-range_clear_back : (at len other other_len : ℕ) → meets at len other other_len ≡ false → AreClear other other_len at len
+pub range_clear_back : (at len other other_len : ℕ) → meets at len other other_len ≡ false → AreClear other other_len at len
 range_clear_back at len other other_len apart a inside = elim (cases_Bool (in_range at len a)) [
   | inr clear ↦ clear
-  | inl there ↦ absurd (true≢false (sym inside ∙ range_clear at len other other_len apart a there))
+  | inl there ↦ absurd (true≢false (sym inside ∙ clear_unless at len other other_len apart a there))
 ]
 
 heaps_clear : (b : Bytes) (rs : List Region) (at len : ℕ) → meets_record rs at len ≡ false → IsClearOfHeaps at len (heaps_in b rs)
@@ -41,7 +27,7 @@ heaps_clear b [] at len apart = tt
 heaps_clear b (r ∷ rs) at len apart =
     let parts = or_parts (meets at len r.at r.len) (meets_record rs at len) apart in
     elim (cases_Bool (is_heap_kind r.kind)) [
-      | inl heap ↦ rw heap (range_clear at len r.at r.len parts.0, heaps_clear b rs at len parts.1)
+      | inl heap ↦ rw heap (clear_unless at len r.at r.len parts.0, heaps_clear b rs at len parts.1)
       | inr other ↦ rw other (heaps_clear b rs at len parts.1)
     ]
 
@@ -55,7 +41,7 @@ ranges_clear (q ∷ rs) r apart =
     ]
 
 -- the range at the end of the record is there
-last_recorded : (rs : List Region) (start end : ℕ) → is_recorded (rs ++ flex_record start end ∷ []) start end ≡ true
+pub last_recorded : (rs : List Region) (start end : ℕ) → is_recorded (rs ++ flex_record start end ∷ []) start end ≡ true
 last_recorded [] start end = rw (eq-eqb start start refl, eq-eqb (end - start) (end - start) refl) refl
 last_recorded (r ∷ rs) start end = or_right (is_store_record start end r) (is_recorded (rs ++ flex_record start end ∷ []) start end) (last_recorded rs start end)
 

@@ -138,7 +138,7 @@ some_or : FlexStore → Option FlexStore → FlexStore
 some_or y None = y
 some_or y (Some z) = z
 
-some_same : (x s : FlexStore) → (let o : Option FlexStore = Some x in o ≡ Some s) → x ≡ s
+pub some_same : (x s : FlexStore) → (let o : Option FlexStore = Some x in o ≡ Some s) → x ≡ s
 unfolding some_or
 some_same x s is = ap (some_or x) is
 

@@ -4,6 +4,7 @@ use Rattle.std.proofs.Common.{◌≡◌, ℕ, Bool, ◌+◌, ◌-◌, ◌%◌, �
 use Rattle.std.proofs.lemmas.List.{length-replicate}
 use Rattle.address_map.proofs.Bytes.{is_mapped-layout}
 use Rattle.address_map.proofs.Spans.{mapped_below}
+use Rattle.address_map.proofs.Viewing.{bytes_counted}
 use Rattle.address_map.specs.Bytes.{AreMapped, Bytes, bytes_between, with_bytes_at, with_moved_at, with_word_at, with_zeros_at}
 use Rattle.address_map.specs.Memory.{byte_at, bytes_of, class_of, is_mapped, layout}
 use Rattle.address_map.specs.declared.class.Class.{Class}
@@ -23,7 +24,7 @@ use Rattle.flex_store.proofs.Following.{following_used, following_whole}
 use Rattle.flex_store.proofs.Lists.{text_used}
 use Rattle.flex_store.proofs.Placing.{gone_past}
 use Rattle.flex_store.proofs.Reading.{bytes_read}
-use Rattle.flex_store.proofs.Splicing.{between_length, filled_length, spliced_length}
+use Rattle.flex_store.proofs.Splicing.{filled_length, spliced_length}
 use Rattle.flex_store.proofs.Texts.{IsFirst, text_first, text_read}
 
 -- what lies there lies below 2^26
@@ -100,7 +101,7 @@ pub record AreNumbers (m : AddressMap) (h end at cut more : ℕ) : Type 0 where
 
 pub contents_length : (m : AddressMap) (h : ℕ) → length (contents (first_at m h)) ≡ (first_at m h).size
 contents_length m h =
-    ap length (contents_between (byte_at m) (h + 8) (first_at m h).size) ∙ between_length (byte_at m) (h + 8) (first_at m h).size
+    ap length (contents_between (byte_at m) (h + 8) (first_at m h).size) ∙ bytes_counted (byte_at m) (h + 8) (first_at m h).size
 
 pub new_length : (m : AddressMap) (h at cut more : ℕ) → at ≤ (first_at m h).size
     → length (spliced (contents (first_at m h)) at cut more) ≡ at - cut + more + ((first_at m h).size - at)

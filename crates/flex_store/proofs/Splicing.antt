@@ -5,13 +5,12 @@ use Rattle.std.proofs.lemmas.Bool.Decides.{nat_tests}
 use Rattle.std.proofs.lemmas.List.{length-replicate, get_or-take, get_or-drop, length-take}
 use Rattle.std.proofs.lemmas.List.FromFn.{get_or-map-range_with_len, length-map-range_with_len}
 use Rattle.std.proofs.Math.ListN.{length-append}
+use Rattle.address_map.proofs.Moving.{moved_in}
+use Rattle.address_map.proofs.Viewing.{bytes_counted}
 use Rattle.address_map.specs.Bytes.{bytes_between, with_bytes_at, with_moved_at, with_zeros_at}
 use Rattle.flex_store.specs.Blocks.{filled, spliced, whole_words}
 use Rattle.flex_store.specs.Memory.{Holds}
 use Rattle.flex_store.proofs.Holding.{bytes_written, holds_append, holds_zeros}
-
-pub moved_in : (f : ℕ → ℕ) (from to len k : ℕ) → k < len → with_moved_at f from to len (to + k) ≡ f (from + k)
-moved_in f from to len k below = let e : from + (to + k - to) ≡ from + k = omega arith in grind (arith, nat_tests, ap f e)
 
 pub moved_out : (f : ℕ → ℕ) (from to len a : ℕ) → (a < to) ⊎ (to + len ≤ a) → with_moved_at f from to len a ≡ f a
 moved_out f from to len a out = grind (arith, nat_tests)
@@ -27,9 +26,6 @@ pub between_held : (f : ℕ → ℕ) (at n : ℕ) → Holds f at (bytes_between 
 between_held f at n k below =
     let low : k < n = omega (arith, length-map-range_with_len f at n) in
     sym (get_or-map-range_with_len f at n k (at + k) 0 low refl)
-
-pub between_length : (f : ℕ → ℕ) (at n : ℕ) → length (bytes_between f at n) ≡ n
-between_length f at n = length-map-range_with_len f at n
 
 -- a part of a list is held
 held_front : (f g : ℕ → ℕ) (at n : ℕ) (xs : List ℕ) → n ≤ length xs → ((j : ℕ) → j < n → g (at + j) ≡ f (at + j)) → Holds f at xs → Holds g at (take n xs)
@@ -110,7 +106,7 @@ pub splice_done : (f : ℕ → ℕ) (c size at cut more : ℕ) → at ≤ size
 splice_done f c size at cut more fits =
     let g : ℕ → ℕ = after_splice f c size at cut more in
     let xs : List ℕ = bytes_between f c size in
-    let len : length xs ≡ size = between_length f c size in
+    let len : length xs ≡ size = bytes_counted f c size in
     let new : length (spliced xs at cut more) ≡ at - cut + more + (size - at) = rw len at (spliced_length xs at cut more (omega arith)) in
     let pad : ℕ = whole_words (length (spliced xs at cut more)) - length (spliced xs at cut more) in
     bytes_written f g c (filled (spliced xs at cut more))

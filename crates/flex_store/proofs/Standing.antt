@@ -2,6 +2,7 @@
 -- spells them where the words of headers stay.
 use Rattle.std.proofs.Common.{◌≡◌, ℕ, Bool, ◌+◌, ◌%◌, ◌<◌, ◌≤◌, ◌||◌, true, nat_eq, List, [], ◌∷◌, ◌++◌, length, refl, ap, ◌∙◌, arith}
 use Rattle.std.proofs.lemmas.Bool.{eq-eqb, or_left, or_right}
+use Rattle.address_map.proofs.Viewing.{bytes_counted}
 use Rattle.address_map.specs.raw_store.specs.Region.{word_bytes}
 use Rattle.address_map.specs.Bytes.{bytes_between, word_start}
 use Rattle.flex_store.specs.Blocks.{Block, has_anchor, is_header, is_in_contents, is_held_word, taken, used, whole_words}
@@ -9,7 +10,7 @@ use Rattle.flex_store.specs.Memory.{AreAnchored, Holds, standing, text_of}
 use Rattle.flex_store.specs.State.{AreAnchorWords, AreWhole}
 use Rattle.flex_store.proofs.Holding.{holds_append, holds_kept}
 use Rattle.flex_store.proofs.Reading.{IsSpelled, bytes_read, spelled}
-use Rattle.flex_store.proofs.Splicing.{between_held, between_length}
+use Rattle.flex_store.proofs.Splicing.{between_held}
 
 pub standing_used : (f : ℕ → ℕ) (at : ℕ) (bs : List Block) → used (standing f at bs) ≡ used bs
 standing_used f at [] = refl
@@ -26,7 +27,7 @@ standing_header f at (b ∷ bs) a =
 
 pub standing_whole : (f : ℕ → ℕ) (at : ℕ) (bs : List Block) → AreWhole bs → AreWhole (standing f at bs)
 standing_whole f at [] whole = tt
-standing_whole f at (b ∷ bs) whole = ((between_length f (at + 8) (whole_words b.size), whole.0.1), standing_whole f (at + taken b.size) bs whole.1)
+standing_whole f at (b ∷ bs) whole = ((bytes_counted f (at + 8) (whole_words b.size), whole.0.1), standing_whole f (at + taken b.size) bs whole.1)
 
 -- anchors that are mapped still
 abbrev pub AreThere : (ℕ → Bool) → List Block → Type 0
@@ -48,7 +49,7 @@ standing_words mapped now start end f at (b ∷ bs) there words = (
 abbrev pub KeepsHeaders : (ℕ → ℕ) → (ℕ → ℕ) → ℕ → List Block → Type 0
 KeepsHeaders f g at bs = (a : ℕ) → is_header at bs (word_start a) ≡ true → g a ≡ f a
 
-first_word : (at a : ℕ) → at % 4 ≡ 0 → at ≤ a → a < at + 4 → word_start a ≡ at
+pub first_word : (at a : ℕ) → at % 4 ≡ 0 → at ≤ a → a < at + 4 → word_start a ≡ at
 first_word at a aligned low high = omega arith
 
 pub standing_text : (f g : ℕ → ℕ) (at : ℕ) (bs : List Block) → at % 4 ≡ 0 → AreWhole bs → KeepsHeaders f g at bs → Holds f at (text_of bs)
@@ -60,7 +61,7 @@ standing_text f g at (b ∷ bs) aligned whole same text =
     let s : IsSpelled f at b bs = spelled f at b bs whole.0.0 text in
     let tail : List Block = standing g next bs in
     let held : List ℕ = bytes_between g (at + 8) n in
-    let size : length held ≡ n = between_length g (at + 8) n in
+    let size : length held ≡ n = bytes_counted g (at + 8) n in
     let rest : Holds g next (text_of tail) =
     standing_text f g next bs (omega arith) whole.1
     (λ a is. same a (or_right (nat_eq (word_start a) at || nat_eq (word_start a) (at + 4)) (is_header next bs (word_start a)) is)) s.rest in

@@ -1,11 +1,11 @@
 -- A guest's stores, which leave all words alone that the store calls keep, keep the flex store.
-use Rattle.std.proofs.Common.{◌≡◌, ℕ, Bool, true, false, not, Option, Some, None, Result, Ok, Err, refl, sym, ap, ◌∙◌, cond, inl, inr, arith}
+use Rattle.std.proofs.Common.{◌≡◌, ℕ, Bool, true, false, not, Option, Some, None, Result, Ok, Err, refl, sym, ap, ◌∙◌, inl, inr, arith}
 use Rattle.std.proofs.lemmas.Bool.{cases_Bool, eqb-true, false≢true, true≢false}
 use Rattle.std.specs.Prelude.{nat_eq, nat_le, ◌^◌}
 use Rattle.profile.specs.Outcome.{Leaves}
 use Rattle.profile.specs.declared.fault.Fault.{Fault}
-use Rattle.profile.specs.declared.fault.Fault.TheVariants.{AddressException, DataUnmapped, OwnedWord}
 use Rattle.address_map.proofs.Bytes.{is_mapped-layout, is_mapped-page}
+use Rattle.address_map.proofs.Words.{unowned}
 use Rattle.address_map.specs.Bytes.{byte_stored, Bytes, store_fault, unless, with_byte, word_start}
 use Rattle.address_map.specs.Classes.{is_anchor, is_flex_header}
 use Rattle.address_map.specs.Memory.{byte_at, bytes_of, class_of, is_mapped, is_owned, is_plain, layout}
@@ -75,12 +75,6 @@ not_met owned x a is free = elim (cases_Bool (nat_eq x a)) [
   | inr other ↦ other
   | inl same ↦ absurd (true≢false (sym is ∙ (ap owned (eqb-true x a same) ∙ free)))
 ]
-
-unowned : (far mapped owned : Bool) → cond far (Some AddressException) (cond mapped (cond owned (Some OwnedWord) None) (Some DataUnmapped)) ≡ None → owned ≡ false
-unowned true mapped owned h = cc
-unowned false false owned h = cc
-unowned false true true h = cc
-unowned false true false h = refl
 
 kept_by : (owned : ℕ → Bool) (b c : Bytes) (a v : ℕ) (f : Option Fault) (r : Result Unit Fault) → (f ≡ None → owned a ≡ false)
     → Leaves b (unless f (with_byte b a v)) r c → (x : ℕ) → owned x ≡ true → c.at x ≡ b.at x

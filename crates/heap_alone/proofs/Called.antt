@@ -37,10 +37,11 @@ use Rattle.swi_dispatch.specs.MachineState.{MachineState, Outcome, machine_estat
 use Rattle.swi_dispatch.specs.Returns.{halted}
 use Rattle.swi_dispatch.specs.Step.{call_of, call_refused, called, called_by, ended, handler_entered, is_exit, module_called as handler_called}
 use Rattle.heap_alone.proofs.HeapAnswers.{Agree, heap_agrees}
-use Rattle.heap_alone.proofs.Keeping.{AnswerKeeps, IsOffSystem, KeepsWhole, Went, ended_keeps, kept_same, off_system}
+use Rattle.heap_alone.proofs.Keeping.{AnswerKeeps, IsOffSystem, KeepsWhole, Went, ended_keeps, off_system}
 use Rattle.heap_alone.proofs.Rows.{NamesNone, area_went, change_keeps, flex_went, is_flex_call}
 use Rattle.heap_alone.proofs.States.{HasStore, sound_store}
 use Rattle.heap_alone.specs.ModuleMoves.{is_module_name}
+use Rattle.heaps_kept.proofs.Areas.{heap_same}
 
 -- OS_Heap, if that is the call, isn't called on the heap
 abbrev pub IsElsewhere : MachineState → HeapList → Option HeapReason → Type 0
@@ -59,7 +60,7 @@ handler_if s x next number handler full =
 module _ (images : List Entry) (s : MachineState) (h : HeapList) (has : HasStore s) (found : find_heap h.start s.store.heaps ≡ Some h)
     (own : has_own_size h.kind ≡ true) (anchors : HasNoAnchor s.store h) where
   same : KeepsHeap h s.store s.store
-  same = kept_same h s.store found
+  same = heap_same h s.store found
 
   off : IsOffSystem h
   off = off_system s h has found

@@ -36,6 +36,7 @@ use Rattle.swi_dispatch_flex.specs.Calls.{fit_told, flex_called, left_by, state_
 use Rattle.swi_dispatch_store.specs.Areas.{area_called, area_changed, area_read, with_extent}
 use Rattle.swi_dispatch_store.specs.Heaps.{heap_called, heap_called_for}
 use Rattle.swi_dispatch.specs.declared.halt.Halt.TheVariants as halt
+use Rattle.swi_dispatch.proofs.NextTurn.{awake_step}
 use Rattle.swi_dispatch.specs.Answers.{Answer, refused, went_on}
 use Rattle.swi_dispatch.specs.Calls.{call_answer, machine_flex, on_estate, on_flex, on_store, printable_at, with_guest, wrote_text_after, wrote_text_at}
 use Rattle.swi_dispatch.specs.MachineState.{MachineState, Outcome, machine_estate, quiet}
@@ -47,7 +48,7 @@ use Rattle.heap_alone.proofs.ModuleMoves.{module_moves_keep}
 use Rattle.heap_alone.proofs.OwnCalls.{heap_swi}
 use Rattle.heap_alone.proofs.Rows.{Left, area_left, change_keeps}
 use Rattle.heap_alone.proofs.States.{HasStore, IsGiven, given_goes, given_same, given_stays, given_store, has_store, sound_store}
-use Rattle.heap_alone.proofs.Steps.{call_is, step_is}
+use Rattle.heap_alone.proofs.Steps.{call_is}
 use Rattle.heap_alone.specs.FoundLaws.{FreesHeap, HeapCallsForgetFreed, OtherMovesForgetNone, OuterHeapsStay}
 use Rattle.heap_alone.specs.ModuleMoves.{is_at_gate, is_module_move, is_module_name}
 use Rattle.heap_alone.specs.Moves.{Call, Step, core_of, given, is_heap_swi, moved, outside_name, swi_made, swi_of_turn}
@@ -258,7 +259,7 @@ module _ (images : List Entry) (s : MachineState) (h : HeapList) (has : HasStore
 
 pub moves_forget_none : OtherMovesForgetNone
 moves_forget_none images s h Step has other another =
-    subst (λ (o : Outcome). IsNotForgotten o.now.store h.start) (sym (step_is images s has.goes))
+    subst (λ (o : Outcome). IsNotForgotten o.now.store h.start) (sym (awake_step images s has.goes))
     (turn_stays images s h (has_store s has.state) has.found has.own (instructed s) other another)
 moves_forget_none images s h (Call number words) has other another =
     let u : MachineState = given s words in
@@ -272,7 +273,7 @@ moves_forget_none images s h (Call number words) has other another =
 pub heap_calls_forget : HeapCallsForgetFreed
 heap_calls_forget images s h Step has name none =
     turn_loses images s h (has_store s has.state) has.found has.own (instructed s) name
-    (ap (λ (o : Outcome). find_heap h.start o.now.store.heaps) (sym (step_is images s has.goes)) ∙ none)
+    (ap (λ (o : Outcome). find_heap h.start o.now.store.heaps) (sym (awake_step images s has.goes)) ∙ none)
 heap_calls_forget images s h (Call number words) has name none =
     let u : MachineState = given s words in
     let store : HasStore s = has_store s has.state in

@@ -9,11 +9,10 @@ use Rattle.os_heap_lists.specs.Heap.{HeapList}
 use Rattle.instances.proofs.Turning.{going_back}
 use Rattle.instances.specs.Turns.{IsUnderWay, MayGoOn}
 use Rattle.instances_plans.specs.declared.action.Action.{Action}
-use Rattle.instances_plans.specs.declared.action.Action.TheVariants as act
 use Rattle.instances_plans.specs.declared.code.Outcome.{Outcome as CodeOutcome}
 use Rattle.instances_plans.specs.declared.code.Outcome.TheVariants.{Refused, Well}
 use Rattle.instances_plans.specs.declared.given.Given.{Given}
-use Rattle.instances_plans.specs.Plans.{Plan, first_of, refused, settled, settled_by}
+use Rattle.instances_plans.specs.Plans.{Plan, first_of, settled, settled_by}
 use Rattle.swi_dispatch_frames.specs.declared.frame.Frame.{Frame}
 use Rattle.swi_dispatch_frames.specs.declared.frame.FrameKind.{FrameKind}
 use Rattle.swi_dispatch_frames.specs.declared.frame.FrameKind.TheVariants as frame_kind
@@ -22,40 +21,31 @@ use Rattle.swi_dispatch.specs.declared.halt.Halt.TheVariants as halt
 use Rattle.swi_dispatch.specs.Gates.{carried_on, come_back, entry_left, fault_ahead, frame_closed, frame_left, gated, gated_by, outcome_left, plan_left, unless_fault}
 use Rattle.swi_dispatch.specs.MachineState.{MachineState, machine_world, quiet}
 use Rattle.swi_dispatch.specs.Returns.{erred, halted}
+use Rattle.heaps_kept.proofs.Areas.{heap_same}
 use Rattle.heaps_kept.proofs.Slots.{doable_below}
 use Rattle.heaps_kept.specs.PlanLaws.{IsFitWorld}
-use Rattle.heap_alone.proofs.Keeping.{kept_same}
 use Rattle.heap_alone.proofs.ModuleHosts.{IsHost, KeepsRecorded, carried_out, fit_world, outside_stays}
 use Rattle.heap_alone.proofs.ModulePlans.{IsFitPlan}
+use Rattle.instances_actions.proofs.Readying.{given_stays}
 
 -- code that comes back leaves what its plan was given
-refused_given : (p : Plan) (a : Action) (r0 : ℕ) → (refused p a r0).given ≡ p.given
-refused_given p (act.Finalise slot fatal) r0 = refl
-refused_given p (act.Initialise slot) r0 = refl
-refused_given p (act.Remove slot) r0 = refl
-refused_given p (act.FreePrivate slot) r0 = refl
-refused_given p (act.Insert slot) r0 = refl
-refused_given p (act.Instantiate slot) r0 = refl
-refused_given p act.GiveUp r0 = refl
-refused_given p act.Slide r0 = refl
-
-given_by : (p : Plan) (o : CodeOutcome) (a : Option Action) → (settled_by p o a).given ≡ p.given
+pub given_by : (p : Plan) (o : CodeOutcome) (a : Option Action) → (settled_by p o a).given ≡ p.given
 given_by p Well None = refl
 given_by p (Refused r0) None = refl
 given_by p Well (Some a) = refl
-given_by p (Refused r0) (Some a) = refused_given p a r0
+given_by p (Refused r0) (Some a) = given_stays p a r0
 
-given_if : (runs : Bool) (p q : Plan) → q.given ≡ p.given → (if runs then q else p).given ≡ p.given
+pub given_if : (runs : Bool) (p q : Plan) → q.given ≡ p.given → (if runs then q else p).given ≡ p.given
 given_if true p q same = same
 given_if false p q same = refl
 
-settled_given : (p : Plan) (o : CodeOutcome) → (settled p o).given ≡ p.given
+pub settled_given : (p : Plan) (o : CodeOutcome) → (settled p o).given ≡ p.given
 unfolding settled
 settled_given p o = given_if p.runs p (settled_by p o (first_of p.actions)) (given_by p o (first_of p.actions))
 
 module _ (s : MachineState) (h : HeapList) (host : IsHost s h) where
   same : KeepsRecorded h s.store s.store
-  same still = kept_same h s.store host.found
+  same still = heap_same h s.store host.found
 
   fit : IsFitWorld (machine_world s)
   fit = fit_world s host.modules

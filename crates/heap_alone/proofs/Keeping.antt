@@ -1,39 +1,28 @@
 -- What keeps a heap: nothing that happens to its store, or an error of the system, whose block no
 -- heap has a byte of.
-use Rattle.std.proofs.Common.{ℕ, ◌≡◌, ◌≤◌, ◌∙◌, Bool, true, false, List, [], ◌∷◌, ◌++◌, length, option_map, Option, Some, None, Result, Ok, Err, refl, sym, ap, inl, inr, arith}
-use Rattle.std.proofs.lemmas.Bool.{both_ways, false_from_ne_true, true≢false}
-use Rattle.std.proofs.lemmas.Bool.Decides.{nat_tests}
+use Rattle.std.proofs.Common.{ℕ, ◌≡◌, ◌∙◌, Bool, true, false, [], ◌∷◌, ◌++◌, option_map, Option, Some, None, Result, Ok, Err, ap}
+use Rattle.std.proofs.lemmas.Bool.{both_ways, false_from_ne_true}
 use Rattle.profile.specs.ErrorNames.{error_code, error_name}
 use Rattle.profile.specs.declared.error.ErrorNumber.{ErrorNumber}
-use Rattle.address_map.specs.Bytes.{Bytes, in_range, with_bytes_at, with_word_at}
-use Rattle.address_map.specs.declared.region.Region.{Region}
+use Rattle.address_map.specs.Bytes.{Bytes, in_range, with_word_at}
 use Rattle.os_heap_lists.specs.Heap.{HeapList}
-use Rattle.os_heap.proofs.Stores.{clear_of-found, image_kind, placed_either}
-use Rattle.os_heap.specs.Store.{ArePlaced, IsClearOfHeaps, IsSound, Store, find_heap}
-use Rattle.dynamic_areas.specs.Ground.{IsRecorded, system_pages}
+use Rattle.os_heap.proofs.Stores.{clear_of-found}
+use Rattle.os_heap.specs.Store.{IsSound, Store, find_heap}
+use Rattle.dynamic_areas.proofs.SystemWrites.{system_clear}
 use Rattle.heap_turns.proofs.Likeness.{bytes_like}
 use Rattle.heap_turns.specs.Alone.{Alone, alone_in}
 use Rattle.heap_turns.specs.Laws.{IsLeftWhole, KeepsHeap}
 use Rattle.swi_dispatch_answers.specs.Errors.{error_block}
 use Rattle.swi_dispatch_answers.specs.declared.refusal.Refusal.{Refusal}
 use Rattle.swi_dispatch_answers.specs.declared.refusal.Refusal.TheVariants as refusal
-use Rattle.swi_dispatch.proofs.Kept.{short_name}
+use Rattle.swi_dispatch.proofs.Kept.{outside_bytes, outside_word, short_name}
 use Rattle.swi_dispatch.specs.Answers.{Answer}
 use Rattle.swi_dispatch.specs.Errors.{with_error}
 use Rattle.swi_dispatch.specs.MachineState.{MachineState}
 use Rattle.swi_dispatch.specs.Step.{ended, ended_by}
 use Rattle.heap_alone.proofs.States.{HasStore, sound_store}
 use Rattle.heap_alone.specs.Laws.{alone_at}
-
-pub kept_same : (h : HeapList) (s : Store) → find_heap h.start s.heaps ≡ Some h → KeepsHeap h s s
-kept_same h s found = record { found = found; bytes = λ a here. refl; anchors = λ a here. refl }
-
-pub kept_then : (h : HeapList) (s t u : Store) → KeepsHeap h s t → KeepsHeap h t u → KeepsHeap h s u
-kept_then h s t u one two = record {
-  found = two.found;
-  bytes = λ a here. two.bytes a here ∙ one.bytes a here;
-  anchors = λ a here. two.anchors a here ∙ one.anchors a here;
-}
+use Rattle.heaps_kept.proofs.Areas.{heap_same}
 
 pub kept_alone : (h : HeapList) (s t : Store) → KeepsHeap h s t → alone_in t h ≡ alone_in s h
 kept_alone h s t kept =
@@ -47,30 +36,14 @@ found_alone h s found = ap (option_map (alone_in s)) found
 abbrev pub IsOffSystem : HeapList → Type 0
 IsOffSystem h = (a : ℕ) → in_range h.start h.end a ≡ true → in_range 0x01C00000 0x3000 a ≡ false
 
-system_clear : (hs : List HeapList) (rs : List Region) → ArePlaced hs rs → IsRecorded system_pages rs → IsClearOfHeaps 0x01C00000 0x3000 hs
-system_clear hs [] placed there = absurd there
-system_clear hs (r ∷ rs) placed there = elim there [
-  | inr later ↦ system_clear hs rs placed.1 later
-  | inl here ↦ elim (placed_either hs system_pages (rw here at placed.0)) [
-    | inl clear ↦ clear
-    | inr image ↦ absurd (true≢false (sym (image_kind hs system_pages image)))
-  ]
-]
-
 pub off_system : (s : MachineState) (h : HeapList) → HasStore s → find_heap h.start s.store.heaps ≡ Some h → IsOffSystem h
 off_system s h has found = λ a here. false_from_ne_true (in_range 0x01C00000 0x3000 a) (λ there.
     both_ways (in_range h.start h.end a)
     (clear_of-found 0x01C00000 0x3000 h.start s.store.heaps h (system_clear s.store.heaps s.store.others (sound_store s has).placed has.system) found a there) here)
 
-word_off : (f : ℕ → ℕ) (a number : ℕ) → in_range 0x01C00000 0x3000 a ≡ false → with_word_at f 0x01C02100 number a ≡ f a
-word_off f a number out = grind (arith, nat_tests)
-
-bytes_off : (f : ℕ → ℕ) (a : ℕ) (text : List ℕ) → length text ≤ 128 → in_range 0x01C00000 0x3000 a ≡ false → with_bytes_at f 0x01C02104 text a ≡ f a
-bytes_off f a text short out = grind (arith, nat_tests)
-
 block_off : (b : Bytes) (e : ErrorNumber) (a : ℕ) → in_range 0x01C00000 0x3000 a ≡ false → (error_block b (error_code e) (error_name e)).at a ≡ b.at a
 block_off b e a out =
-    bytes_off (with_word_at b.at 0x01C02100 (error_code e)) a (error_name e ++ 0 ∷ []) (short_name e) out ∙ word_off b.at a (error_code e) out
+    outside_bytes (with_word_at b.at 0x01C02100 (error_code e)) a (error_name e ++ 0 ∷ []) (short_name e) out ∙ outside_word b.at a (error_code e) out
 
 pub error_kept : (h : HeapList) (s : Store) (t : MachineState) (e : Refusal) → IsOffSystem h → KeepsHeap h s t.store → KeepsHeap h s (with_error t e).store
 error_kept h s t refusal.Own off kept = kept
@@ -98,7 +71,7 @@ by_error : (h : HeapList) (s : MachineState) (x : Bool) (a : Answer) (error : Op
     → AnswerKeeps h s.store a.left.now.store error → KeepsWhole h s.store (ended_by s x a error).now.store
 by_error h s x a None off found keeps sound left = keeps sound left
 by_error h s true a (Some e) off found keeps sound left = error_kept h s.store a.left.now e off keeps
-by_error h s false a (Some e) off found keeps sound left = kept_same h s.store found
+by_error h s false a (Some e) off found keeps sound left = heap_same h s.store found
 
 pub ended_keeps : (h : HeapList) (s : MachineState) (x : Bool) (a : Answer) → IsOffSystem h → find_heap h.start s.store.heaps ≡ Some h
     → AnswerKeeps h s.store a.left.now.store a.error → KeepsWhole h s.store (ended s x a).now.store

@@ -35,6 +35,7 @@ use Rattle.heap_turns.specs.Turns.{call_on}
 use Rattle.swi_dispatch_answers.specs.declared.refusal.Refusal.{Refusal}
 use Rattle.swi_dispatch_store.specs.Heaps.{heap_called, heap_called_for}
 use Rattle.swi_dispatch.proofs.Kept.{by_words}
+use Rattle.swi_dispatch.proofs.NextTurn.{awake_step}
 use Rattle.swi_dispatch.specs.declared.halt.Halt.TheVariants as halt
 use Rattle.swi_dispatch.specs.Answers.{went_on}
 use Rattle.swi_dispatch.specs.Calls.{call_answer, on_store}
@@ -43,13 +44,14 @@ use Rattle.swi_dispatch.specs.MachineState.{MachineState, Outcome}
 use Rattle.swi_dispatch.specs.Returns.{halted}
 use Rattle.swi_dispatch.specs.Step.{called, called_by, ended, instructed, is_exit, machine_step, store_called, turned, without_x}
 use Rattle.heap_alone.proofs.HeapAnswers.{Agree, heap_agrees}
-use Rattle.heap_alone.proofs.Keeping.{error_kept, kept_same, off_system}
+use Rattle.heap_alone.proofs.Keeping.{error_kept, off_system}
 use Rattle.heap_alone.proofs.States.{HasStore, IsGiven, given_goes, given_same, given_stays, given_store, has_store, sound_store}
-use Rattle.heap_alone.proofs.Steps.{call_is, step_is}
+use Rattle.heap_alone.proofs.Steps.{call_is}
 use Rattle.heap_alone.proofs.Storing.{step_past}
 use Rattle.heap_alone.specs.ByteLaws.{HeapCallsKeepLiveBytes, InstructionsChangeStored, IsStoredPlain}
 use Rattle.heap_alone.specs.Moves.{Call, Step, given, is_heap_swi, moved, swi_of_turn}
 use Rattle.heap_alone.specs.Storing.{is_stored}
+use Rattle.heaps_kept.proofs.Areas.{heap_same}
 
 -- an instruction
 pub byte_done : (s : MachineState) (w : State × Bytes) (a : ℕ) → instructed s ≡ Ok w → (w.1.at a ≡ s.store.bytes.at a) ⊎ IsStoredPlain s a
@@ -63,7 +65,7 @@ byte_done s w a is = elim (cases_Bool (is_stored s.cpu s.store.bytes a)) [
 
 pub instructions_change_stored : InstructionsChangeStored
 instructions_change_stored images s w a goes is =
-    let step : machine_step images s ≡ turned images s (Ok w) = step_is images s goes ∙ ap (turned images s) is in
+    let step : machine_step images s ≡ turned images s (Ok w) = awake_step images s goes ∙ ap (turned images s) is in
     subst (λ (o : Outcome). (o.now.store.bytes.at a ≡ s.store.bytes.at a) ⊎ IsStoredPlain s a) (sym step) (byte_done s w a is)
 
 -- a byte of a block, in its heap's range
@@ -139,15 +141,15 @@ module _ (s : MachineState) (has : HasStore s) where
   error_leaves : (e : Refusal) → HeapCallLeaves s.store (register_of s.cpu 1) (with_error s e).store
   error_leaves e = record {
     payloads = λ h g block total new_total a found found' live live' here there apart.
-        (error_kept h s.store s e (off_system s h has found) (kept_same h s.store found)).bytes a
+        (error_kept h s.store s e (off_system s h has found) (heap_same h s.store found)).bytes a
         (payload_inside s.store h block total a (sound_store s has) found live here);
-    others = λ h found apart outside still. error_kept h s.store s e (off_system s h has found) (kept_same h s.store found);
+    others = λ h found apart outside still. error_kept h s.store s e (off_system s h has found) (heap_same h s.store found);
   }
 
   same_leaves : HeapCallLeaves s.store (register_of s.cpu 1) s.store
   same_leaves = record {
     payloads = same_payloads s.store (register_of s.cpu 1);
-    others = λ h found apart outside still. kept_same h s.store found;
+    others = λ h found apart outside still. heap_same h s.store found;
   }
 
   ended_leaves : (x : Bool) (next : ℕ) (r : Result MachineState Refusal) → Goes r
@@ -203,7 +205,7 @@ module _ (s : MachineState) (has : HasStore s) where
 
 pub heap_calls_keep : HeapCallsKeepLiveBytes
 heap_calls_keep images s Step state goes name after =
-    let step : machine_step images s ≡ turned images s (instructed s) = step_is images s goes in
+    let step : machine_step images s ≡ turned images s (instructed s) = awake_step images s goes in
     let sound : IsSound (turned images s (instructed s)).now.store =
     subst (λ (o : Outcome). IsSound o.now.store) step (sound_store (moved images s Step) (has_store (moved images s Step) after)) in
     subst (λ (o : Outcome). KeepsPayloads s.store o.now.store (register_of s.cpu 1)) (sym step)

@@ -21,11 +21,12 @@ use Rattle.swi_dispatch.specs.Calls.{call_answer, on_world}
 use Rattle.swi_dispatch.specs.Errors.{with_error}
 use Rattle.swi_dispatch.specs.MachineState.{MachineState, machine_estate, machine_world}
 use Rattle.swi_dispatch.specs.Step.{ended, os_module_called, os_module_called_for}
+use Rattle.heaps_kept.proofs.Areas.{heap_same}
 use Rattle.heaps_kept.proofs.BlockCalls.{block_calls_keep}
 use Rattle.heaps_kept.proofs.Guests.{estates_fit}
 use Rattle.heaps_kept.specs.BlockLaws.{StayLive, WereLive, total_in}
 use Rattle.heaps_kept.specs.FitEstates.{IsFitEstate}
-use Rattle.heap_alone.proofs.Keeping.{error_kept, kept_same, off_system}
+use Rattle.heap_alone.proofs.Keeping.{error_kept, off_system}
 use Rattle.heap_alone.proofs.LiveBytes.{payload_inside}
 use Rattle.heap_alone.proofs.States.{HasStore, IsGiven, given_same, given_stays, given_store, has_store, sound_store}
 use Rattle.heap_alone.specs.AreaByteLaws.{ClaimsKeepLiveBytes, KeepsAreaBlocks}
@@ -49,7 +50,7 @@ module _ (s : MachineState) (has : HasStore s) where
   error_keeps e h g block total new_total a found found' live live' here there =
       let own : find_heap h.start s.store.heaps ≡ Some h =
       subst (λ (p : ℕ). find_heap p s.store.heaps ≡ Some h) (sym (found_start 0x01800000 s.store.heaps h found)) found in
-      (error_kept h s.store s e (off_system s h has own) (kept_same h s.store own)).bytes a
+      (error_kept h s.store s e (off_system s h has own) (heap_same h s.store own)).bytes a
       (payload_inside s.store h block total a (sound_store s has) own live here)
 
   world_keeps : (x : Bool) (next : ℕ) (r : Result (State × World) Refusal) → Keeps r

@@ -17,6 +17,7 @@ use Rattle.os_heap.specs.Calls.{OfHeap, has_own_size}
 use Rattle.os_heap.specs.Store.{IsSound, Store, find_heap}
 use Rattle.heap_turns.proofs.NoHeapInside.{whole_recorded}
 use Rattle.heap_turns.specs.Laws.{HasNoAnchor, HoldsNoHeap, IsLeftWhole}
+use Rattle.swi_dispatch.proofs.NextTurn.{awake_step}
 use Rattle.swi_dispatch.specs.MachineState.{MachineState, Outcome}
 use Rattle.swi_dispatch.specs.Step.{called, instructed, machine_step, store_called, turned, without_x}
 use Rattle.heap_alone.proofs.Gates.{gate_keeps}
@@ -25,7 +26,7 @@ use Rattle.heap_alone.proofs.ModuleHosts.{IsHost}
 use Rattle.heap_alone.proofs.ModuleLaws.{any_heap, asked, host as host_of}
 use Rattle.heap_alone.proofs.OwnCalls.{heap_swi}
 use Rattle.heap_alone.proofs.States.{HasStore, IsGiven, given_goes, given_same, given_stays, given_store, has_store, sound_store}
-use Rattle.heap_alone.proofs.Steps.{call_is, from_inside, names_none, step_is, swi_keeps}
+use Rattle.heap_alone.proofs.Steps.{call_is, from_inside, names_none, swi_keeps}
 use Rattle.heap_alone.specs.ByteLaws.{IsStoredPlain, MovesKeepLiveBytes}
 use Rattle.heap_alone.specs.Moves.{Call, Step, given, is_heap_swi, moved, swi_of_turn}
 
@@ -82,7 +83,7 @@ by_step s a A (inr stored) = inr (refl, stored)
 
 pub moves_keep : MovesKeepLiveBytes
 moves_keep images s h g Step block total new_total a has after named found bare live live' here there =
-    let step : machine_step images s ≡ turned images s (instructed s) = step_is images s has.goes in
+    let step : machine_step images s ≡ turned images s (instructed s) = awake_step images s has.goes in
     let sound : IsSound (turned images s (instructed s)).now.store =
     subst (λ (o : Outcome). IsSound o.now.store) step (sound_store (moved images s Step) (has_store (moved images s Step) after)) in
     let bare' : IsBareIn h g (turned images s (instructed s)).now.store = subst (λ (o : Outcome). IsBareIn h g o.now.store) step (found, bare) in

@@ -14,6 +14,7 @@ use Rattle.image_loader.specs.Entries.{Entry}
 use Rattle.os_heap_lists.specs.Heap.{HeapList}
 use Rattle.dynamic_areas.specs.Ground.{Estate}
 use Rattle.rma.specs.Calls.{rma_claimed, rma_extended, rma_freed}
+use Rattle.instances.proofs.GoingOn.{bound as bound_any}
 use Rattle.instances.specs.Reading.{told}
 use Rattle.instances_ground.specs.World.{World}
 use Rattle.instances_plans.specs.Plans.{Plan}
@@ -39,15 +40,16 @@ use Rattle.swi_dispatch.specs.Gates.{carried_on}
 use Rattle.swi_dispatch.specs.ModuleStart.{module_opened}
 use Rattle.swi_dispatch.specs.Returns.{gone_back}
 use Rattle.swi_dispatch.specs.Step.{begun, begun_alone, call_of, call_refused, ended, handler_entered, module_called, module_entered, os_module_called, os_module_called_for}
+use Rattle.heaps_kept.proofs.Areas.{heap_same}
 use Rattle.heaps_kept.proofs.Holding.{keeps_all, keeps_both}
 use Rattle.heaps_kept.proofs.ModuleArea.{module_area_calls_fit}
 use Rattle.heaps_kept.specs.FitEstates.{EstateStaysFit, IsFitEstate}
 use Rattle.heaps_kept.specs.Fits.{KeepsOutside}
 use Rattle.heaps_kept.specs.PlanLaws.{IsFitWorld}
 use Rattle.heap_turns.specs.Laws.{KeepsHeap}
-use Rattle.heap_alone.proofs.Keeping.{error_kept, kept_same}
+use Rattle.heap_alone.proofs.Keeping.{error_kept}
 use Rattle.heap_alone.proofs.ModuleHosts.{IsHost, KeepsRecorded, carried_out, fit_world, host_off, opened_out, outside_stays}
-use Rattle.heap_alone.proofs.ModulePlans.{IsFitPlan, bound_any}
+use Rattle.heap_alone.proofs.ModulePlans.{IsFitPlan}
 use Rattle.heap_alone.proofs.PlansMade.{IsFitPlanned, alone_planned, clear_made, copy_made, delete_made, insertion_made, instantiation_made, load_made, named_load_made, opening_made, reinit_made, tidy_made}
 
 -- calls that run no module code: what they leave of the world
@@ -133,7 +135,7 @@ module _ (cpu : State) (w : World) (fit : IsFitEstate w.estate) where
 
 module _ (s : MachineState) (h : HeapList) (host : IsHost s h) where
   same : KeepsHeap h s.store s.store
-  same = kept_same h s.store host.found
+  same = heap_same h s.store host.found
 
   abbrev Keeps : Outcome → Type 0
   Keeps o = KeepsRecorded h s.store o.now.store

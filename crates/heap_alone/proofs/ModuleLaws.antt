@@ -12,13 +12,13 @@ use Rattle.swi_dispatch.specs.Additions.{load_planned}
 use Rattle.swi_dispatch.specs.MachineState.{MachineState, Outcome}
 use Rattle.swi_dispatch.specs.Step.{begun, module_called, module_loaded, os_module_called, unless_halted}
 use Rattle.heap_alone.proofs.Gates.{gate_keeps}
-use Rattle.heap_alone.proofs.Keeping.{kept_same}
 use Rattle.heap_alone.proofs.ModuleCalls.{loaded_keeps, module_swi_keeps, os_module_keeps}
 use Rattle.heap_alone.proofs.ModuleHosts.{HasModules, IsHost, KeepsRecorded, given_modules, has_modules}
 use Rattle.heap_alone.proofs.States.{IsGiven, given_goes, given_same, given_stays}
 use Rattle.heap_alone.specs.Laws.{HasHeap}
 use Rattle.heap_alone.specs.ModuleLaws.{GatesKeepHeap, HasAnyHeap, LoadsKeepHeap, ModuleCallsKeepHeap, ModuleSwisKeepHeap}
 use Rattle.heap_alone.specs.Moves.{given}
+use Rattle.heaps_kept.proofs.Areas.{heap_same}
 
 pub any_heap : (s : MachineState) (h : HeapList) → HasHeap s h → HasAnyHeap s h
 any_heap s h has = record { state = has.state; goes = has.goes; found = has.found; own = has.own }
@@ -63,7 +63,7 @@ module_swis_keep s h words x next number handler has =
 awake : (s : MachineState) (h : HeapList) (o : Option Halt) (a : Outcome) → find_heap h.start s.store.heaps ≡ Some h
     → KeepsRecorded h s.store a.now.store → KeepsRecorded h s.store (unless_halted s o a).now.store
 awake s h None a found kept = kept
-awake s h (Some why) a found kept = λ _. kept_same h s.store found
+awake s h (Some why) a found kept = λ _. heap_same h s.store found
 
 pub loads_keep : LoadsKeepHeap
 unfolding module_loaded

@@ -6,6 +6,7 @@ use Rattle.std.proofs.lemmas.Bool.Decides.{nat_tests}
 use Rattle.profile.specs.Outcome.{bind}
 use Rattle.profile.specs.declared.error.ErrorNumber.{ErrorNumber}
 use Rattle.profile.specs.declared.error.ErrorNumber.TheVariants.{BadString, InstanceTableFull, ModuleNotFound}
+use Rattle.instances.proofs.GoingOn.{bound as bound_any}
 use Rattle.instances.specs.Given.{is_too_long}
 use Rattle.instances.specs.Plans.{clearing, deletion, reinitialisation, tidying}
 use Rattle.instances.specs.Adding.{instantiation}
@@ -20,6 +21,7 @@ use Rattle.instances_table.specs.Changes.{free_slot, instance_room, is_held, is_
 use Rattle.instances_table.specs.Lookup.{looked_up, module_at, number_of_title, slot_at, slot_in}
 use Rattle.instances_table.specs.Modules.{Instance, Module, has_title, slots_of}
 use Rattle.instances_table.specs.Names.{name_given, new_name, parted}
+use Rattle.heaps_kept.proofs.Slots.{back_below, front_below, joined_below}
 use Rattle.heaps_kept.specs.PlanLaws.{AreActionsBelow, AreBelow}
 
 pub record IsFitPlan (p : Plan) : Type 0 where
@@ -31,10 +33,6 @@ pub bound : {A B E : Type 0} (Q : A → Type 0) (P : B → Type 0) (r : Result A
     → ((a : A) → Q a → IfOk (next a) P) → IfOk (bind r next) P
 bound Q P (Ok a) next found each = each a found
 bound Q P (Err e) next found each = tt
-
-pub bound_any : {A B E : Type 0} (P : B → Type 0) (r : Result A E) (next : A → Result B E) → ((a : A) → IfOk (next a) P) → IfOk (bind r next) P
-bound_any P (Ok a) next each = each a
-bound_any P (Err e) next each = tt
 
 pub bound_if : {A E : Type 0} (P : A → Type 0) (t : Bool) (e : E) (r : Result A E) → IfOk r P
     → IfOk (let q : Result A E = if t then Err e else r in q) P
@@ -57,18 +55,6 @@ bound_short P text r each = elim (cases_Bool (is_too_long text)) [
 ]
 
 -- slots of instances that are there
-front_below : (xs ys : List ℕ) → AreBelow (xs ++ ys) → AreBelow xs
-front_below [] ys all = tt
-front_below (x ∷ xs) ys all = (all.0, front_below xs ys all.1)
-
-back_below : (xs ys : List ℕ) → AreBelow (xs ++ ys) → AreBelow ys
-back_below [] ys all = all
-back_below (x ∷ xs) ys all = back_below xs ys all.1
-
-joined_below : (xs ys : List ℕ) → AreBelow xs → AreBelow ys → AreBelow (xs ++ ys)
-joined_below [] ys one two = two
-joined_below (x ∷ xs) ys one two = (one.0, joined_below xs ys one.1 two)
-
 abbrev slots_in : List Instance → List ℕ
 slots_in instances = map (λ (i : Instance). i.slot) instances
 

@@ -30,11 +30,12 @@ use Rattle.swi_dispatch.specs.MachineState.{MachineState, Outcome}
 use Rattle.swi_dispatch.specs.Returns.{halted}
 use Rattle.swi_dispatch.specs.Step.{called, called_by, ended, is_exit, without_x}
 use Rattle.heap_alone.proofs.HeapAnswers.{Agree, heap_agrees, overflow_back, three_back, two_back}
-use Rattle.heap_alone.proofs.Keeping.{error_kept, kept_alone, kept_same, off_system}
+use Rattle.heap_alone.proofs.Keeping.{error_kept, kept_alone, off_system}
 use Rattle.heap_alone.proofs.States.{HasStore, IsGiven, given_goes, given_same, given_stays, given_store, guest_heap, has_store, mapped_block}
 use Rattle.heap_alone.proofs.Steps.{call_is}
 use Rattle.heap_alone.specs.Laws.{HasHeap, IsMoveDone, IsState}
 use Rattle.heap_alone.specs.Moves.{Call, Move, Step, asked, asked_by, given, is_call_to, is_for_heap, is_heap_swi, is_own, moved, outside_name, reply_of}
+use Rattle.heaps_kept.proofs.Areas.{heap_same}
 
 -- a machine in which the heap at a place stands, and is this one
 pub record Stands (s : MachineState) (start : ℕ) (w : Alone) : Type 0 where
@@ -101,7 +102,7 @@ module _ (u : MachineState) (h : HeapList) (store : HasStore u) (guest : IsGuest
   error_replied number =
       let t : MachineState = after u next (Err (refusal.System number)) in
       let kept : KeepsHeap h u.store t.store =
-      error_kept h u.store u (refusal.System number) (off_system u h store guest.found) (kept_same h u.store guest.found) in
+      error_kept h u.store u (refusal.System number) (off_system u h store guest.found) (heap_same h u.store guest.found) in
       record {
         reply =
             overflow_by true t (overflow_back u.cpu.psr (with_error u (refusal.System number)).cpu true next)

@@ -14,6 +14,7 @@ use Rattle.rma.specs.Copies.{may_be_copied}
 use Rattle.rma.specs.NewImages.{image_copied, image_made, may_be_in_place}
 use Rattle.module_header.specs.Header.{header_of}
 use Rattle.module_header.specs.declared.header.Header.{Header}
+use Rattle.instances.proofs.GoingOn.{bound as bound_any}
 use Rattle.instances.specs.Adding.{adding_plan, copying, good_header, inserting, instantiation, loading, slot_for}
 use Rattle.instances.specs.Given.{given_module}
 use Rattle.instances.specs.Reading.{slot_meant, start_found}
@@ -36,7 +37,7 @@ use Rattle.heaps_kept.proofs.ModuleArea.{fit_same, module_area_calls_fit}
 use Rattle.heaps_kept.proofs.Words.{writes_fit}
 use Rattle.heaps_kept.specs.FitEstates.{EstateStaysFit, IsFitEstate}
 use Rattle.heaps_kept.specs.PlanLaws.{AreBelow, IsFitWorld, WorldStaysFit}
-use Rattle.heap_alone.proofs.ModulePlans.{IsFitPlan, bound, bound_any, bound_if, bound_short, clearing_fit, deletion_fit, found_or, free_low, instantiation_fit, load_fit, reinitialisation_fit, tidying_fit, titled_below}
+use Rattle.heap_alone.proofs.ModulePlans.{IsFitPlan, bound, bound_if, bound_short, clearing_fit, deletion_fit, found_or, free_low, instantiation_fit, load_fit, reinitialisation_fit, tidying_fit, titled_below}
 
 -- strings in memory have at most so many bytes
 one_more : (most v : ℕ) (o : Option (List ℕ)) → IfSome o (λ text. length text ≤ most) → IfSome (option_map (λ text. v ∷ text) o) (λ text. length text ≤ suc most)

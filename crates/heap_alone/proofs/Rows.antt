@@ -25,7 +25,7 @@ use Rattle.flex_store.specs.Calls.{FlexState, allocated, begun, extended, mid_ex
 use Rattle.flex_store.specs.Runs.{Alloc, Extend, MidExtend, Release}
 use Rattle.flex_ground.specs.Ground.{flex_state, with_flex_record}
 use Rattle.heap_turns.specs.Laws.{HasNoAnchor, KeepsHeap}
-use Rattle.heaps_kept.proofs.Areas.{area_calls_keep}
+use Rattle.heaps_kept.proofs.Areas.{area_calls_keep, heap_same}
 use Rattle.heaps_kept.proofs.Turns.{turns_keep}
 use Rattle.heaps_kept.specs.FlexLaws.{IsFreeOfAnchors}
 use Rattle.heaps_kept.specs.GuestLaws.{HasGuestHeap}
@@ -39,7 +39,7 @@ use Rattle.swi_dispatch_flex.specs.Calls.{fit_told, flex_called, left_by as memo
 use Rattle.swi_dispatch_store.specs.Areas.{area_called_for, area_changed, area_made, area_named, area_resized, change_asked, change_left, wanted_of, with_land}
 use Rattle.swi_dispatch.specs.Calls.{machine_flex, on_estate, on_flex, with_guest}
 use Rattle.swi_dispatch.specs.MachineState.{MachineState, machine_estate}
-use Rattle.heap_alone.proofs.Keeping.{Went, kept_same}
+use Rattle.heap_alone.proofs.Keeping.{Went}
 use Rattle.heap_alone.proofs.States.{HasStore, sound_store, stores_in}
 
 -- the calls that change the flex store; an alloc names no anchor in the heap
@@ -68,7 +68,7 @@ module _ (s : MachineState) (h : HeapList) (has : HasStore s) (found : find_heap
   guest = record { estate = has.stores.world.estate; system = has.stores.world.system; found = found; own = own }
 
   same : KeepsHeap h s.store s.store
-  same = kept_same h s.store found
+  same = heap_same h s.store found
 
   free : HasNoAnchor s.store h → IsFreeOfAnchors h s.store
   free none = record { sound = sound_store s has; found = found; anchors = none }

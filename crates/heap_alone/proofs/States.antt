@@ -1,12 +1,11 @@
 -- What a machine's state says of its store and its core.
-use Rattle.std.proofs.Common.{ℕ, ◌≡◌, ◌≤◌, ◌+◌, Bool, true, false, lit≤, List, [], ◌∷◌, length, Option, Some, None, refl, sym, ap, subst}
+use Rattle.std.proofs.Common.{ℕ, ◌≡◌, ◌≤◌, ◌+◌, true, lit≤, List, [], ◌∷◌, length, Option, Some, None, refl, sym, ap, subst}
 use Rattle.address_map.specs.declared.region.Region.{Region}
 use Rattle.arm_core.specs.State.{State}
 use Rattle.os_heap_lists.specs.Heap.{HeapList}
 use Rattle.os_heap.specs.Store.{IsSound, store_of}
 use Rattle.dynamic_areas.proofs.HeapCalls.{system_mapped}
 use Rattle.dynamic_areas.specs.Ground.{IsEstate, IsRecorded, system_pages}
-use Rattle.instances_plans.specs.declared.given.Given.{Given}
 use Rattle.instances_plans.specs.Plans.{Plan}
 use Rattle.instances_table.specs.Modules.{AreModules}
 use Rattle.instances_table.specs.declared.parts.Image.{Image}
@@ -16,8 +15,9 @@ use Rattle.flex_ground.specs.instances_ground.specs.World.{World}
 use Rattle.store_laws.proofs.Turns.{machines_have}
 use Rattle.store_laws.specs.Meaning.{AreStores, Stores}
 use Rattle.swi_dispatch_plans.specs.instances.specs.Turns.{MayGoOn}
-use Rattle.swi_dispatch_plans.specs.instances.specs.instances_actions.specs.Pending.{is_pending, pending_by, pending_of}
+use Rattle.swi_dispatch_plans.specs.instances.specs.instances_actions.specs.Pending.{is_pending, pending_of}
 use Rattle.heap_turns.specs.Laws.{AreImagesFull, IsGuestHeap}
+use Rattle.swi_dispatch.proofs.FlexCalls.{pending_one}
 use Rattle.swi_dispatch.specs.Boot.{registered}
 use Rattle.swi_dispatch.specs.MachineState.{MachineState, machine_estate, machine_world}
 use Rattle.swi_dispatch.specs.Parts.{IsMachine, Parts, parts_world, state_of}
@@ -51,10 +51,6 @@ images_full (r ∷ rs) solid = ((λ image. (solid.0 image).some), images_full rs
 going_solid : (w : World) (plan : Option Plan) → MayGoOn w plan → AreSolid w.estate.store.others
 going_solid w None going = going.solid
 going_solid w (Some p) going = going.1.world.solid
-
-pending_one : (b : Bool) (g : Given) → length (pending_by b g []) ≤ 1
-pending_one true g = lit≤ tt
-pending_one false g = lit≤ tt
 
 pending_in : Option Plan → List Image
 pending_in None = []

@@ -17,12 +17,13 @@ use Rattle.os_heap.specs.Calls.{has_own_size}
 use Rattle.os_heap.specs.Store.{IsSound, Store, find_heap, owned_in}
 use Rattle.heap_turns.proofs.NoHeapInside.{whole_recorded}
 use Rattle.heap_turns.specs.Laws.{HasNoAnchor, IsLeftWhole, KeepsHeap}
+use Rattle.swi_dispatch.proofs.NextTurn.{awake_step}
 use Rattle.swi_dispatch.specs.declared.halt.Halt.{Halt}
 use Rattle.swi_dispatch.specs.MachineState.{MachineState, Outcome}
 use Rattle.swi_dispatch.specs.Step.{called, instructed, machine_step, store_called, turned, unless_halted, without_x}
 use Rattle.heap_alone.proofs.Called.{IsElsewhere, IsHeapElsewhere, called_keeps}
 use Rattle.heap_alone.proofs.Gates.{gate_keeps}
-use Rattle.heap_alone.proofs.Keeping.{KeepsWhole, kept_same}
+use Rattle.heap_alone.proofs.Keeping.{KeepsWhole}
 use Rattle.heap_alone.proofs.ModuleHosts.{IsHost}
 use Rattle.heap_alone.proofs.ModuleLaws.{any_heap, asked, host as host_of}
 use Rattle.heap_alone.proofs.ModuleMoves.{module_called_keeps}
@@ -33,6 +34,7 @@ use Rattle.heap_alone.specs.Laws.{HasHeap, IsAside, IsMoveDone}
 use Rattle.heap_alone.specs.ModuleMoves.{is_module_name}
 use Rattle.heap_alone.specs.Moves.{Call, Move, Step, given, is_call_to as is_core_call_to, is_for_heap, is_heap_swi, is_own, moved, outside_name, swi_of_turn}
 use Rattle.heap_alone.specs.Storing.{is_stored}
+use Rattle.heaps_kept.proofs.Areas.{heap_same}
 
 -- where OS_Heap isn't called on the heap at a place
 elsewhere_by : (o : Option HeapReason) (s : MachineState) (h : HeapList) → (is_for_heap o && register_of s.cpu 1 == h.start) ≡ false → IsElsewhere s h o
@@ -64,7 +66,7 @@ names_none (Some name) s h named = tt
 module _ (images : List Entry) (s : MachineState) (h : HeapList) (has : HasStore s) (found : find_heap h.start s.store.heaps ≡ Some h)
     (own : has_own_size h.kind ≡ true) (anchors : HasNoAnchor s.store h) (host : IsHost s h) where
   same : KeepsHeap h s.store s.store
-  same = kept_same h s.store found
+  same = heap_same h s.store found
 
   -- a call, of OS_Module or another
   pub swi_keeps : (x : Bool) (next number : ℕ) → IsHeapElsewhere s h (swi_of number) → NamesNone s h (swi_of number)
@@ -94,10 +96,6 @@ module _ (images : List Entry) (s : MachineState) (h : HeapList) (has : HasStore
       gate_keeps s h host (λ lies. whole_recorded (turned images s (Err turn.Gate)).now.store h.start left)
   turn_keeps (Err (turn.Fault f)) is stores calls named sound left = same
 
-pub step_is : (images : List Entry) (s : MachineState) → s.halt ≡ None → machine_step images s ≡ turned images s (instructed s)
-unfolding machine_step
-step_is images s goes = ap (λ (o : Option Halt). unless_halted s o (turned images s (instructed s))) goes
-
 pub call_is : (images : List Entry) (s : MachineState) (number : ℕ) → s.halt ≡ None
     → store_called images s number ≡ called images s true s.cpu.pc (without_x (number % 2 ^ 24))
 unfolding store_called
@@ -107,7 +105,7 @@ call_is images s number goes =
 pub move_keeps : (images : List Entry) (s : MachineState) (h : HeapList) (m : Move) → HasHeap s h → IsMoveDone images h.start s m
     → is_own h.start s m ≡ false → KeepsHeap h s.store (moved images s m).store
 move_keeps images s h Step has move other =
-    let step : machine_step images s ≡ turned images s (instructed s) = step_is images s has.goes in
+    let step : machine_step images s ≡ turned images s (instructed s) = awake_step images s has.goes in
     let aside : IsAside s h Step = move.aside h has.found in
     let sound : IsSound (turned images s (instructed s)).now.store =
     subst (λ (o : Outcome). IsSound o.now.store) step (sound_store (moved images s Step) (has_store (moved images s Step) move.state)) in

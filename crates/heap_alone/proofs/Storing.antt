@@ -42,7 +42,7 @@ left_or b a (Err f) same = tt
 byte_past : (f : ℕ → ℕ) (at byte a : ℕ) → in_range at 1 a ≡ false → with_byte_at f at byte a ≡ f a
 byte_past f at byte a out = grind (arith, nat_tests)
 
-word_past : (f : ℕ → ℕ) (at word a : ℕ) → in_range at 4 a ≡ false → with_word_at f at word a ≡ f a
+pub word_past : (f : ℕ → ℕ) (at word a : ℕ) → in_range at 4 a ≡ false → with_word_at f at word a ≡ f a
 word_past f at word a out = grind (arith, nat_tests)
 
 first_word : (at n a : ℕ) → in_range at (4 * (n + 1)) a ≡ false → in_range at 4 a ≡ false

@@ -16,7 +16,7 @@ use Rattle.os_heap.proofs.Apart.{found_other, range_parts}
 use Rattle.os_heap.proofs.Forgetting.{find_gone, find_left, own_left as heap_left}
 use Rattle.os_heap.proofs.Found.{found_heap, uncrossed_found}
 use Rattle.os_heap.proofs.KeptPayloads.{IsClaim, is_claim}
-use Rattle.os_heap.proofs.Moving.{found_held}
+use Rattle.os_heap.proofs.Moving.{found_held, held_listed}
 use Rattle.os_heap.proofs.Nesting.{within_low}
 use Rattle.os_heap.proofs.Stores.{are_others}
 use Rattle.os_heap.specs.Calls.{begun_with, ending, holding, with_end, with_items}
@@ -26,7 +26,7 @@ use Rattle.os_heap.specs.Ranges.{is_heap_region, overlaps}
 use Rattle.os_heap.specs.Store.{AreClear, AreHeapsIn, IsSound, Store, find_heap}
 use Rattle.heap_turns.proofs.DoneCalls.{FreesBytes, MovesBlock, Leave, OnDone, call_done, moved_to}
 use Rattle.heap_turns.proofs.Likeness.{with_list}
-use Rattle.heap_turns.proofs.NoHeapInside.{forgot_unheld, held_listed}
+use Rattle.heap_turns.proofs.NoHeapInside.{forgot_unheld}
 use Rattle.heap_turns.specs.Laws.{IsNotForgotten, KeepsHeap, starts_inside}
 use Rattle.heap_turns.specs.Lists.{is_call_to, is_on_heap}
 use Rattle.heap_turns.specs.Turns.{call_on}

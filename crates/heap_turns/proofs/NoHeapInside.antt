@@ -3,12 +3,11 @@ use Rattle.std.proofs.Common.{ℕ, ◌≡◌, ◌+◌, ◌-◌, ◌≤◌, ◌<�
 use Rattle.std.proofs.lemmas.Bool.{both_ways, cases_Bool, cases_lt, false_from_ne_true, le-leb, le-ltb, lt-ltb, or_from, or_left, or_parts, or_right}
 use Rattle.std.specs.List.{list_any}
 use Rattle.address_map.specs.Bytes.{Bytes, in_range}
-use Rattle.address_map.specs.declared.item.Item.{Item}
 use Rattle.os_heap_lists.specs.Heap.{HeapList}
 use Rattle.os_heap.proofs.RangeTests.{clear_unless}
 use Rattle.os_heap.proofs.Forgetting.{StartsIn, so_starts, starts_so}
-use Rattle.os_heap.proofs.LostHeaps.{none_without}
-use Rattle.os_heap.specs.Calls.{OfHeap, with_end, with_items}
+use Rattle.os_heap.proofs.LostHeaps.{none_lowest, none_without, same_heaps}
+use Rattle.os_heap.specs.Calls.{OfHeap, with_end}
 use Rattle.os_heap.specs.Forgetting.{forgot, holds_heap, lowest_lost, starts_in}
 use Rattle.os_heap.specs.Ranges.{is_in_way}
 use Rattle.os_heap.specs.Store.{AreHeapsIn, Store, find_heap}
@@ -27,15 +26,6 @@ none_in_part at len from more (g ∷ hs) within none =
     both_ways (starts_in at len g) parts.0 (so_starts at len g (record { guest = starts.guest; low = there.0; high = there.1 }))))
     (none_in_part at len from more hs within parts.1)
 
-none_lowest : (block len from : ℕ) (hs : List HeapList) → holds_heap hs block len ≡ false → lowest_lost block len from hs ≡ from
-none_lowest block len from [] none = refl
-none_lowest block len from (g ∷ hs) none =
-    let parts = or_parts (starts_in block len g) (holds_heap hs block len) none in
-    rw parts.0 (none_lowest block len from hs parts.1)
-
-same_heaps : (s : Store) (hs : List HeapList) → hs ≡ s.heaps → (let t : Store = record s { heaps = hs } in t ≡ s)
-same_heaps s hs same = λ i. record s { heaps = same i }
-
 -- what goes with bytes of a block in which no heap lies
 pub forgot_unheld : (s : Store) (block total from : ℕ) → 4 ≤ block → 4 ≤ total → block ≤ from → holds_heap s.heaps block (total - 4) ≡ false
     → forgot s block total from ≡ s
@@ -46,14 +36,7 @@ forgot_unheld s block total from above some past none =
     (λ a least most. (omega (arith, past, least), omega (arith, least, most, above, some))) none in
     same_heaps s _ (rw low (none_without from (block - 4 + total - from) s.heaps rest))
 
--- the heaps start where they did after one of them got another list, or another end
-pub held_listed : (start at len : ℕ) (items : List Item) (hs : List HeapList) → holds_heap (with_items start items hs) at len ≡ holds_heap hs at len
-held_listed start at len items [] = refl
-held_listed start at len items (g ∷ hs) = elim (cases_Bool (g.start == start)) [
-  | inl here ↦ rw (here, held_listed start at len items hs) refl
-  | inr other ↦ rw (other, held_listed start at len items hs) refl
-]
-
+-- the heaps start where they did after one of them got another end
 pub held_ended : (start at len end : ℕ) (hs : List HeapList) → holds_heap (with_end start end hs) at len ≡ holds_heap hs at len
 held_ended start at len end [] = refl
 held_ended start at len end (g ∷ hs) = elim (cases_Bool (g.start == start)) [

@@ -23,14 +23,13 @@ use Rattle.os_heap.proofs.Calls.{claimed_in}
 use Rattle.os_heap.proofs.Forgetting.{StartsIn, starts_so}
 use Rattle.os_heap.proofs.Found.{found_heap}
 use Rattle.os_heap.proofs.KeptPayloads.{IsClaim, is_claim}
-use Rattle.os_heap.proofs.Moving.{found_held}
+use Rattle.os_heap.proofs.Moving.{found_held, held_listed}
 use Rattle.os_heap.specs.Calls.{block_sized, bytes_held, changed, copied, described, gave_back, got, guests_total, handed_over, holding, moved, resized, resized_or_moved}
 use Rattle.os_heap.specs.Forgetting.{forgot, holds_heap, starts_in}
 use Rattle.os_heap.specs.Store.{Store, find_heap, has_image}
 use Rattle.heap_turns.proofs.ChangedSize.{changed_alike, found_alone}
 use Rattle.heap_turns.proofs.GuestImages.{guest_images}
 use Rattle.heap_turns.proofs.Likeness.{AreAlike, AreLike, IsSameHeap, bound_alike, by_both, alone_alike, heap_like, held_alike, with_list}
-use Rattle.heap_turns.proofs.NoHeapInside.{held_listed}
 use Rattle.heap_turns.proofs.Plain.{IsBare, IsGuests, block_bare, block_forgot, block_unheld, freed_in, gave_plain, got_plain, part_bare, sized_to}
 use Rattle.heap_turns.specs.Alone.{Alone, Growth, alone_in, bytes_in, growth_given}
 use Rattle.heap_turns.specs.Laws.{IsGuestHeap, OwnCallsAreTurns}

@@ -12,14 +12,14 @@ use Rattle.os_heap.proofs.Apart.{range_parts}
 use Rattle.os_heap.proofs.Ending.{may_grow, unobstructed}
 use Rattle.os_heap.proofs.Found.{found_ended, found_heap}
 use Rattle.os_heap.proofs.KeptPayloads.{IsClaim, is_claim}
-use Rattle.os_heap.proofs.Moving.{found_held}
+use Rattle.os_heap.proofs.Moving.{found_held, held_listed}
 use Rattle.os_heap.specs.Calls.{ending, has_own_size, holding}
 use Rattle.os_heap.specs.Forgetting.{forgot}
 use Rattle.os_heap.specs.Ranges.{is_in_way, overgrows}
 use Rattle.os_heap.specs.Store.{Store}
 use Rattle.heap_turns.proofs.DoneCalls.{FreesBytes, Leave, OnDone, heap_done, moved_to}
 use Rattle.heap_turns.proofs.Likeness.{with_last, with_list}
-use Rattle.heap_turns.proofs.NoHeapInside.{held_ended, held_listed, none_grown}
+use Rattle.heap_turns.proofs.NoHeapInside.{held_ended, none_grown}
 use Rattle.heap_turns.proofs.Plain.{IsBare, block_forgot}
 use Rattle.heap_turns.specs.Laws.{HasHeapStill, HasNoAnchor, HoldsNoHeap, IsGuestHeap, OwnCallsKeepHeap}
 

@@ -13,6 +13,8 @@ use Rattle.os_heap_lists.specs.Heap.{AreTotals, HeapList, IsHeapIn}
 use Rattle.os_heap_lists.specs.Lists.{Claim, live_total, total_for}
 use Rattle.os_heap.proofs.Forgetting.{AreFound, are_found}
 use Rattle.os_heap.proofs.Found.{found_ended, found_heap}
+use Rattle.os_heap.proofs.LostRecords.{found_listed}
+use Rattle.os_heap.proofs.Moving.{held_listed}
 use Rattle.os_heap.specs.Calls.{block_sized, ending, got, holding, resized, with_end, with_items}
 use Rattle.os_heap.specs.Forgetting.{forgot, holds_heap, lowest_lost, starts_in, without_heaps}
 use Rattle.os_heap.specs.Laws.{IsLost}
@@ -28,7 +30,7 @@ use Rattle.rma.specs.NewImages.{image_copied, image_made}
 use Rattle.heap_turns.proofs.DoneCalls.{FreesBytes, MovesBlock, OnDone, got_done, moved_to, resized_done}
 use Rattle.heap_turns.proofs.Forgotten.{AreBoth, lost_told, same_freed}
 use Rattle.heap_turns.proofs.Likeness.{with_last, with_list}
-use Rattle.heap_turns.proofs.NoHeapInside.{forgot_unheld, found_holds, held_ended, held_listed}
+use Rattle.heap_turns.proofs.NoHeapInside.{forgot_unheld, found_holds, held_ended}
 use Rattle.heap_turns.specs.Forgotten.{IsForgotten, freed_from}
 use Rattle.heap_turns.specs.Laws.{IsNotForgotten}
 use Rattle.heaps_kept.proofs.AreaReleases.{HasArea, area_there, freed_told}
@@ -89,15 +91,6 @@ ended_some end start [] = refl
 ended_some end start (g ∷ hs) =
     let rest : is_some (find_heap start (with_end 0x01800000 end hs)) ≡ is_some (find_heap start hs) = ended_some end start hs in
     elim (cases_Bool (g.start == 0x01800000)) [
-      | inl here ↦ rw here (elim (cases_Bool (g.start == start)) [ inl own ↦ rw own refl | inr other ↦ rw other rest ])
-      | inr away ↦ rw away (elim (cases_Bool (g.start == start)) [ inl own ↦ rw own refl | inr other ↦ rw other rest ])
-    ]
-
-pub listed_some : (at start : ℕ) (items : List Item) (hs : List HeapList) → is_some (find_heap start (with_items at items hs)) ≡ is_some (find_heap start hs)
-listed_some at start items [] = refl
-listed_some at start items (g ∷ hs) =
-    let rest : is_some (find_heap start (with_items at items hs)) ≡ is_some (find_heap start hs) = listed_some at start items hs in
-    elim (cases_Bool (g.start == at)) [
       | inl here ↦ rw here (elim (cases_Bool (g.start == start)) [ inl own ↦ rw own refl | inr other ↦ rw other rest ])
       | inr away ↦ rw away (elim (cases_Bool (g.start == start)) [ inl own ↦ rw own refl | inr other ↦ rw other rest ])
     ]
@@ -232,7 +225,7 @@ module _ (d : Store) (o k : HeapList) (base : IsBase d o k) where
   got_stays : (size : ℕ) (s : Store) → Like s → OnDone ℕ Stays (got s 0x01800000 size)
   got_stays size s like =
       subst (λ (p : ℕ). OnDone ℕ Stays (got s p size)) base.start
-      (got_done Stays s (with_last o like.end) size (placed s like) (λ items. listed_some o.start k.start items s.heaps ∙ like_there s like))
+      (got_done Stays s (with_last o like.end) size (placed s like) (λ items. found_listed o.start k.start items s.heaps ∙ like_there s like))
 
   claimed_stays : (e : Estate) (size : ℕ) → Like e.store → OnEstate Stays (rma_claimed e size)
   unfolding rma_claimed
@@ -269,7 +262,7 @@ module _ (d : Store) (o k : HeapList) (base : IsBase d o k) where
       like.left low (block - 4 + total - low) k.start
       ∙ ap (λ (n : ℕ). is_some (find_heap k.start (without_heaps n (block - 4 + total - n) d.heaps))) (like.lowest block (total - 4) from) in
       let same : is_some (find_heap k.start (with_items o.start items v.heaps)) ≡ is_some (find_heap k.start (with_items o.start items w.heaps)) =
-      listed_some o.start k.start items v.heaps ∙ left ∙ sym (listed_some o.start k.start items w.heaps) in
+      found_listed o.start k.start items v.heaps ∙ left ∙ sym (found_listed o.start k.start items w.heaps) in
       let told : (find_heap k.start (with_items o.start items w.heaps) ≡ None) ↔ IsForgotten d o.start reason.Resize block change k.start =
       lost_told d o k reason.Resize block change total from items base.both (record { live = given.live; past = given.past }) frees in (
         λ none. told.0 (none_by (find_heap k.start (with_items o.start items v.heaps)) (find_heap k.start (with_items o.start items w.heaps)) same none),
@@ -293,7 +286,7 @@ module _ (d : Store) (o k : HeapList) (base : IsBase d o k) where
       let same : forgot u block total block ≡ u =
       forgot_unheld u block total block (omega (arith, lies.low)) (omega (arith, lies.size, size)) (omega arith) none in
       let there : is_some (find_heap k.start (with_items o.start items u.heaps)) ≡ true =
-      listed_some o.start k.start items u.heaps ∙ listed_some o.start k.start c.items s.heaps ∙ like_there s like in
+      found_listed o.start k.start items u.heaps ∙ found_listed o.start k.start c.items s.heaps ∙ like_there s like in
       let kept : IsForgotten d o.start reason.Resize block change k.start → ⊥ = λ l.
       (let lost : IsLost d block old (block - 4 + new) k.start =
       same_freed d o reason.Resize block change old (block - 4 + new) k.start base.both.owner is.live frees l in

@@ -21,12 +21,12 @@ use Rattle.dynamic_areas.specs.Changing.{AreLoose, change_answer, change_of, end
 use Rattle.dynamic_areas.specs.Creating.{pages_for}
 use Rattle.dynamic_areas.specs.Ground.{Estate}
 use Rattle.dynamic_areas.specs.Remapped.{with_pages_at, without_pages_at}
-use Rattle.heaps_kept.proofs.FoundHeaps.{other_ended}
 use Rattle.heaps_kept.proofs.Growing.{ended_outside}
 use Rattle.heaps_kept.proofs.Guests.{estates_fit, guest_elsewhere, outside_keeps}
 use Rattle.heaps_kept.specs.AreaLaws.{AreaCallsKeepHeap}
 use Rattle.heaps_kept.specs.FitEstates.{IsFitEstate}
 use Rattle.heaps_kept.specs.GuestLaws.{HasGuestHeap}
+use Rattle.heap_turns.proofs.KeptHeaps.{found_past}
 use Rattle.heap_turns.specs.Laws.{IsNotForgotten, KeepsHeap}
 
 -- nothing is changed, or one change after another
@@ -70,7 +70,7 @@ module _ (d : Estate) (h : HeapList) (g : HasGuestHeap d h) where
       let k : HeapList = f.store.heap in
       let start : k.start ≡ 0x01800000 = found_start 0x01800000 d.store.heaps k f.store.found in
       let still : IsNotForgotten (ending d.store k end) h.start =
-      ap is_some (other_ended h.start k.start end d.store.heaps (λ is. guest_elsewhere d h g (is ∙ start)) ∙ g.found) in
+      ap is_some (found_past h.start k.start end d.store.heaps (λ is. guest_elsewhere d h g (is ∙ start)) ∙ g.found) in
       let kept : KeepsHeap h d.store (ending d.store k end) =
       outside_keeps d (ending d.store k end) h g (ended_outside (4096 * f.area.pages) end d.store k f.store f.store.found) (λ lies. still) in
       subst (λ (o : Option HeapList). KeepsHeap h d.store (ended_by d.store end o)) (sym f.store.found) kept

@@ -25,9 +25,10 @@ use Rattle.dynamic_areas.specs.Ground.{Estate}
 use Rattle.rma.specs.Calls.{area_pages, area_room, grown_by, grown_to, in_area, is_full, pages_short, rma_base, rma_claimed, rma_freed, with_store}
 use Rattle.rma.specs.Images.{image_recorded, with_image}
 use Rattle.rma.specs.NewImages.{image_copied, image_made}
+use Rattle.rma.specs.flex_kept.proofs.Heaps.{OnDone, on_if, on_some}
 use Rattle.heap_turns.proofs.Plain.{unlive}
 use Rattle.heaps_kept.proofs.Blocks.{AreSame, beside_same, held_total, release_were, same_all, same_both, same_stay, stay_both, unspelled}
-use Rattle.heaps_kept.proofs.HeapCalls.{OnDone, items_of_fit, on_if, on_some, unless_some}
+use Rattle.heaps_kept.proofs.HeapCalls.{items_of_fit, unless_some}
 use Rattle.heaps_kept.proofs.Holding.{written_is_fit}
 use Rattle.heaps_kept.proofs.Lists.{HasRoomFor, HasRoomIfSome, released_room}
 use Rattle.heaps_kept.proofs.ModuleArea.{OnEstate, OnGrown, to_fit}
@@ -110,7 +111,7 @@ gave_were limit block s f =
     were_by_total limit block s h items o f found (unless_some (has_image block s.others) left items is) refl)))
 
 -- growth leaves the blocks
-ended_same : (limit end : ℕ) (s : Store) (h : HeapList) (f : IsFitStore limit s) → find_heap 0x01800000 s.heaps ≡ Some h → AreSame s (ending s h end)
+pub ended_same : (limit end : ℕ) (s : Store) (h : HeapList) (f : IsFitStore limit s) → find_heap 0x01800000 s.heaps ≡ Some h → AreSame s (ending s h end)
 ended_same limit end s h f found =
     let start : h.start ≡ 0x01800000 = found_start 0x01800000 s.heaps h found in
     let own = items_of_fit limit s h f found in
@@ -120,7 +121,7 @@ ended_same limit end s h f found =
           unspelled s.bytes.at h.start end h.items block total a start own.0 (sym (ap (total_in block) found) ∙ live) inside;
     }
 
-extended_same : (limit count : ℕ) (s : Store) (a : Area) → IsFitStore limit s → AreSame s (store_extended s 1 count (Some a))
+pub extended_same : (limit count : ℕ) (s : Store) (a : Area) → IsFitStore limit s → AreSame s (store_extended s 1 count (Some a))
 extended_same limit count s a f =
     let t : Store = store_more s count (Some a) in
     let one : AreSame s t = beside_same limit s t.bytes f (λ x low high. refl) in
@@ -128,18 +129,18 @@ extended_same limit count s a f =
     let two : AreSame t (ending t f.heap (4096 * (a.pages + count))) = ended_same limit (4096 * (a.pages + count)) t f.heap g f.found in
     rw f.found (same_both s t (ending t f.heap (4096 * (a.pages + count))) one two)
 
-abbrev SameGrown : Estate → Result Estate ErrorNumber → Type 0
+abbrev pub SameGrown : Estate → Result Estate ErrorNumber → Type 0
 SameGrown e (Ok g) = AreSame e.store g.store
 SameGrown e (Err f) = Unit {0}
 
-by_same : (e : Estate) (count : ℕ) → IsFitEstate e → SameGrown e (grown_by e count)
+pub by_same : (e : Estate) (count : ℕ) → IsFitEstate e → SameGrown e (grown_by e count)
 by_same e count f = elim (cases_Bool (nat_lt (area_room e) count)) [
   | inl short ↦ rw short tt
   | inr enough ↦ rw enough (subst (λ (o : Option Area). AreSame e.store (store_extended e.store 1 count o)) (sym f.found)
       (extended_same (4096 * f.area.pages) count e.store f.area f.store))
 ]
 
-to_same : (e : Estate) (end : ℕ) → IsFitEstate e → SameGrown e (grown_to e end)
+pub to_same : (e : Estate) (end : ℕ) → IsFitEstate e → SameGrown e (grown_to e end)
 unfolding grown_to
 to_same e end f = elim (cases_Bool (nat_le end (4096 * area_pages e))) [
   | inl enough ↦ rw enough (same_all e.store)

@@ -8,6 +8,7 @@ use Rattle.os_heap.specs.Store.{Store}
 use Rattle.dynamic_areas.specs.Ground.{Estate}
 use Rattle.rma.specs.Calls.{rma_freed}
 use Rattle.rma.specs.Images.{image_dropped, image_freed, or_kept}
+use Rattle.rma.specs.flex_kept.proofs.Heaps.{OnDone}
 use Rattle.instances_table.specs.Changes.{module_without}
 use Rattle.instances_table.specs.ModuleArea.{is_in_module_area}
 use Rattle.instances_table.specs.Modules.{Module, has_instance}
@@ -25,7 +26,6 @@ use Rattle.instances_actions.specs.Actions.{acted, code_of, image_given}
 use Rattle.instances.specs.Turns.{module_doing}
 use Rattle.heaps_kept.proofs.BlockCalls.{WereIn, WereLiveIn, freed_were, gave_were}
 use Rattle.heaps_kept.proofs.Blocks.{AreSame, beside_same, same_all, same_were, were_both}
-use Rattle.heaps_kept.proofs.HeapCalls.{OnDone}
 use Rattle.heaps_kept.proofs.ModuleArea.{OnEstate, freed_fit, records_fit}
 use Rattle.heaps_kept.proofs.Plans.{acts_fit}
 use Rattle.heaps_kept.proofs.Words.{block_fit, or_same_fit}
@@ -51,7 +51,7 @@ word_same e slot value f =
     beside_same (4096 * f.area.pages) e.store (record { mapped = e.store.bytes.mapped; at = with_word_at e.store.bytes.at (private_of slot) value }) f.store
     (λ a low high. word_low e.store.bytes.at (private_of slot) value a (omega (arith, high)))
 
-text_same : (e : Estate) (text : List ℕ) → IsFitEstate e → AreSame e.store (with_text e text).store
+pub text_same : (e : Estate) (text : List ℕ) → IsFitEstate e → AreSame e.store (with_text e text).store
 text_same e text f =
     beside_same (4096 * f.area.pages) e.store (record { mapped = e.store.bytes.mapped; at = with_bytes_at e.store.bytes.at 0x01C02200 (text ++ 0 ∷ []) }) f.store
     (λ a low high. rw (lt-leb 0x01C02200 a (omega (arith, high))) refl)

@@ -3,7 +3,7 @@
 -- word.
 use Rattle.std.proofs.Common.{ℕ, ◌||◌, ◌+◌, ◌-◌, ◌%◌, ◌&&◌, ◌≡◌, ◌≤◌, ◌<◌, ◌∙◌, ◌⊎◌, nat_eq, Bool, true, false, List, [], ◌∷◌, ◌++◌, length, Option, Some, None, refl, sym, ap, subst, inl, inr, arith}
 use Rattle.std.specs.Prelude.{if◌then◌else◌, nat_le, nat_lt}
-use Rattle.std.proofs.lemmas.Bool.{and_parts, both_ways, cases_Bool, eq-eqb, eqb-false, leb-true, ltb-true, ne_eqb, or_parts, or_right, true_from_ne_false}
+use Rattle.std.proofs.lemmas.Bool.{and_parts, both_ways, cases_Bool, eq-eqb, eqb-false, leb-true, ltb-true, ne_eqb, or_parts, or_right}
 use Rattle.std.proofs.Math.ListN.{length-append}
 use Rattle.address_map.specs.Bytes.{with_bytes_at, with_word_at, word_start}
 use Rattle.flex_ground.specs.Ground.{anchors_in}
@@ -12,7 +12,7 @@ use Rattle.flex_store.proofs.Filled.{AreFilled, holding_filled, whole_filled}
 use Rattle.flex_store.proofs.Following.{following_used}
 use Rattle.flex_store.proofs.Holding.{bytes_beside, word_beside}
 use Rattle.flex_store.proofs.LawLemmas.{Answers, contents_size, same_answer}
-use Rattle.flex_store.proofs.Lists.{anchor-append, none_found, split, used-append, whole_right}
+use Rattle.flex_store.proofs.Lists.{anchor-append, split, used-append, whole_right}
 use Rattle.flex_store.proofs.Splicing.{spliced_length}
 use Rattle.flex_store.proofs.Standing.{standing_has}
 use Rattle.flex_store.specs.Blocks.{Block, FlexStore, before, behind_of, contents, find_block, has_anchor, holding, spliced, taken, used}
@@ -21,6 +21,7 @@ use Rattle.flex_store.specs.Memory.{laid_out, text_of, with_anchors}
 use Rattle.flex_store.specs.Places.{Split}
 use Rattle.flex_store.specs.Shifts.{Shifts, following, gone_to, removal_shifts, splice_shifts}
 use Rattle.flex_store.specs.State.{AreWhole}
+use Rattle.flex_laws.proofs.OneBlock.{found_has, same_block}
 
 -- what goes to its place stays in a range
 AreWithin : ℕ → ℕ → Shifts → Type 0
@@ -121,12 +122,6 @@ pub record IsSpliced (t v : FlexState) (s : FlexStore) (answer : Bool) (place cu
   pub done : Answers (fitted t s front (holding b (spliced (contents b) place cut more)
       ∷ following (splice_shifts (s.start + used front) (s.start + used s.blocks) b.size place cut more) after)) (answered v answer)
 
-same_block : (x y : Block) → (let o : Option Block = Some x in o ≡ Some y) → x ≡ y
-same_block x y is = cc
-
-found_has : (anchor : ℕ) (bs : List Block) (b : Block) → find_block anchor bs ≡ Some b → has_anchor bs anchor ≡ true
-found_has anchor bs b found = true_from_ne_false (has_anchor bs anchor) (λ none.
-    let lost : None ≡ Some b = sym (none_found anchor bs none) ∙ found in cc)
 
 -- a block that was found, with those before it and after it
 pub split_list : (anchor : ℕ) (bs : List Block) (b : Block) → find_block anchor bs ≡ Some b → bs ≡ before anchor bs ++ b ∷ behind_of anchor bs

@@ -1,7 +1,7 @@
 -- Which heaps are found after the module area's heap got another list or another end, and after
 -- heaps were forgotten.
 use Rattle.std.proofs.Common.{ℕ, ◌≡◌, ◌≢◌, ◌+◌, ◌-◌, ◌==◌, ◌≤◌, ◌<◌, ◌∙◌, true, false, List, [], ◌∷◌, None, is_some, refl, sym, ap, inl, inr, arith}
-use Rattle.std.proofs.lemmas.Bool.{both_ways, cases_Bool, eqb-true, false_from_ne_true, false≢true, le-leb, lt-ltb, ne_eqb}
+use Rattle.std.proofs.lemmas.Bool.{both_ways, cases_Bool, eqb-true, false_from_ne_true, false≢true, le-leb, lt-ltb}
 use Rattle.address_map.specs.Bytes.{in_range}
 use Rattle.address_map.specs.declared.item.Item.{Item}
 use Rattle.os_heap_lists.specs.Heap.{HeapList}
@@ -11,31 +11,6 @@ use Rattle.os_heap.specs.Calls.{with_end, with_items}
 use Rattle.os_heap.specs.Forgetting.{forgot, lowest_lost, starts_in, without_heaps}
 use Rattle.os_heap.specs.Store.{StandAreas, Store, find_heap, is_area}
 use Rattle.heap_turns.specs.Laws.{IsNotForgotten}
-
--- other heaps stay
-pub other_held : (at start : ℕ) (items : List Item) (hs : List HeapList) → at ≢ start → find_heap at (with_items start items hs) ≡ find_heap at hs
-other_held at start items [] other = refl
-other_held at start items (h ∷ hs) other = elim (cases_Bool (h.start == start)) [
-  | inl here ↦
-      let away : (h.start == at) ≡ false = ne_eqb h.start at (λ same. other (sym same ∙ eqb-true h.start start here)) in
-      rw (here, away) (other_held at start items hs other)
-  | inr apart ↦ elim (cases_Bool (h.start == at)) [
-    | inl own ↦ rw (apart, own) refl
-    | inr away ↦ rw (apart, away) (other_held at start items hs other)
-  ]
-]
-
-pub other_ended : (at start end : ℕ) (hs : List HeapList) → at ≢ start → find_heap at (with_end start end hs) ≡ find_heap at hs
-other_ended at start end [] other = refl
-other_ended at start end (h ∷ hs) other = elim (cases_Bool (h.start == start)) [
-  | inl here ↦
-      let away : (h.start == at) ≡ false = ne_eqb h.start at (λ same. other (sym same ∙ eqb-true h.start start here)) in
-      rw (here, away) (other_ended at start end hs other)
-  | inr apart ↦ elim (cases_Bool (h.start == at)) [
-    | inl own ↦ rw (apart, own) refl
-    | inr away ↦ rw (apart, away) (other_ended at start end hs other)
-  ]
-]
 
 -- no other place gets a module area
 pub held_areas : (start : ℕ) (items : List Item) (hs : List HeapList) → StandAreas hs → StandAreas (with_items start items hs)
@@ -52,12 +27,6 @@ ended_areas start end (h ∷ hs) place = elim (cases_Bool (h.start == start)) [
   | inr other ↦ rw other (place.0, ended_areas start end hs place.1)
 ]
 
-pub left_areas : (at len : ℕ) (hs : List HeapList) → StandAreas hs → StandAreas (without_heaps at len hs)
-left_areas at len [] place = tt
-left_areas at len (h ∷ hs) place = elim (cases_Bool (starts_in at len h)) [
-  | inl gone ↦ rw gone (left_areas at len hs place.1)
-  | inr kept ↦ rw kept (place.0, left_areas at len hs place.1)
-]
 
 -- a guest's heap that starts in a range is found no more once the heaps there were forgotten, and
 -- all others are

@@ -14,11 +14,12 @@ use Rattle.dynamic_areas.specs.declared.area.Area.{Area}
 use Rattle.dynamic_areas.specs.Areas.{find_area, paged, with_pages}
 use Rattle.dynamic_areas.specs.Changing.{growth_room, land_more, pages_had, store_extended, store_more}
 use Rattle.dynamic_areas.specs.Ground.{Estate}
-use Rattle.heaps_kept.proofs.FoundHeaps.{ended_areas, other_ended}
+use Rattle.heaps_kept.proofs.FoundHeaps.{ended_areas}
 use Rattle.heaps_kept.proofs.Holding.{area_of, stays_both, words_within, written_fit}
 use Rattle.heaps_kept.proofs.InnerHeaps.{ended_inner}
 use Rattle.heaps_kept.specs.Fits.{IsFitStore, KeepsOutside, StaysFit}
 use Rattle.heaps_kept.specs.FitEstates.{EstateStaysFit, IsFitEstate}
+use Rattle.heap_turns.proofs.KeptHeaps.{found_past}
 
 -- the items of the heap that is found
 own_items : (limit : ℕ) (s : Store) (h : HeapList) (f : IsFitStore limit s) → find_heap 0x01800000 s.heaps ≡ Some h
@@ -36,7 +37,7 @@ ended_outside limit end s h f found =
     let own : AreTotals h.items × (16 + size_of h.items ≤ limit) = own_items limit s h f found in
     record {
       bytes = λ a out. words_within s.bytes.at h.start end h.items a start own.0 (omega (arith, own.1, f.room)) out;
-      heaps = λ at other still. other_ended at h.start end s.heaps (λ is. other (is ∙ start));
+      heaps = λ at other still. found_past at h.start end s.heaps (λ is. other (is ∙ start));
       anchors = λ a. refl;
       inner = ended_inner s h end (area_of limit s h f found);
     }

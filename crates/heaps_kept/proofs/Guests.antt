@@ -6,19 +6,19 @@ use Rattle.std.specs.Prelude.{nat_le}
 use Rattle.std.specs.List.{list_any}
 use Rattle.address_map.specs.Bytes.{in_range}
 use Rattle.address_map.specs.declared.region.Kind.TheVariants.{Rma}
-use Rattle.address_map.specs.declared.region.Region.{Region}
 use Rattle.os_heap_lists.specs.Heap.{HeapList, IsHeapIn}
 use Rattle.os_heap.proofs.Apart.{found_other, range_parts}
 use Rattle.os_heap.proofs.Found.{found_heap, found_start}
-use Rattle.os_heap.proofs.Stores.{are_others, clear_of-found, image_kind, placed_either}
+use Rattle.os_heap.proofs.Stores.{are_others, clear_of-found}
 use Rattle.os_heap.specs.Calls.{has_own_size}
 use Rattle.os_heap.specs.Nesting.{IsWithin, is_area}
-use Rattle.os_heap.specs.Store.{AreClear, ArePlaced, IsClearOfHeaps, Store, find_heap, is_image}
+use Rattle.os_heap.specs.Store.{AreClear, Store, find_heap}
 use Rattle.dynamic_areas.proofs.ModuleArea.{IsModuleArea, module_area_known}
 use Rattle.dynamic_areas.proofs.RoomLemmas.{found_behind, found_room, in_window}
+use Rattle.dynamic_areas.proofs.SystemWrites.{system_clear}
 use Rattle.dynamic_areas.specs.declared.area.Area.{Area}
 use Rattle.dynamic_areas.specs.Areas.{find_area}
-use Rattle.dynamic_areas.specs.Ground.{Estate, IsEstate, IsRecorded, is_fixed, is_held, is_land, system_pages}
+use Rattle.dynamic_areas.specs.Ground.{Estate, IsEstate, is_fixed, is_held, is_land}
 use Rattle.dynamic_areas.specs.Rooms.{AreRooms, IsRoom}
 use Rattle.heaps_kept.specs.Fits.{is_module_byte}
 use Rattle.heaps_kept.specs.GuestLaws.{EstatesAreFit, GuestHeapsLieOutside, HasGuestHeap, OutsideKeepsHeap}
@@ -61,30 +61,19 @@ estates_fit e estate =
       };
     }
 
--- the system pages are clear of all heaps
-pub system_clear : (hs : List HeapList) (rs : List Region) → ArePlaced hs rs → IsRecorded system_pages rs → IsClearOfHeaps 0x01C00000 0x3000 hs
-system_clear hs [] placed recorded = absurd recorded
-system_clear hs (r ∷ rs) placed recorded = elim recorded [
-  | inr later ↦ system_clear hs rs placed.1 later
-  | inl same ↦ elim (placed_either hs r placed.0) [
-    | inl clear ↦ subst (λ (x : Region). IsClearOfHeaps x.at x.len hs) same clear
-    | inr image ↦ absurd (false≢true (ap (λ (x : Region). is_image x.kind) (sym same) ∙ image_kind hs r image))
-  ]
-]
-
 -- an area that was created lies after the system pages
-created_low : (a : Area) → IsRoom a → a.number ≢ 1 → 0x02000000 ≤ a.base
+pub created_low : (a : Area) → IsRoom a → a.number ≢ 1 → 0x02000000 ≤ a.base
 created_low a room other = leb-true 0x02000000 a.base (and_parts (nat_le 0x02000000 a.base) (nat_le (a.base + a.maximum) 0x03000000)
     (in_window a.number a.base a.maximum other room.place)).0
 
 -- the area that has a byte
-record IsHeldBy (areas : List Area) (a : ℕ) : Type 0 where
-  area : Area
-  found : find_area area.number areas ≡ Some area
-  room : IsRoom area
-  held : in_range area.base (4096 * area.pages) a ≡ true
+pub record IsHeldBy (areas : List Area) (a : ℕ) : Type 0 where
+  pub area : Area
+  pub found : find_area area.number areas ≡ Some area
+  pub room : IsRoom area
+  pub held : in_range area.base (4096 * area.pages) a ≡ true
 
-held_by : (areas : List Area) (a : ℕ) → AreRooms areas → list_any (is_held a) areas ≡ true → IsHeldBy areas a
+pub held_by : (areas : List Area) (a : ℕ) → AreRooms areas → list_any (is_held a) areas ≡ true → IsHeldBy areas a
 held_by [] a rooms is = absurd (false≢true is)
 held_by (g ∷ areas) a rooms is = elim (or_cases (is_held a g) (list_any (is_held a) areas) is) [
   | inl here ↦ record { area = g; found = rw (eq-eqb g.number g.number refl) refl; room = rooms.0; held = here }

@@ -1,5 +1,5 @@
 -- Get, free and resize in the module area, and a move that a resize makes.
-use Rattle.std.proofs.Common.{if◌then◌else◌, Bool, List, ℕ, ◌≡◌, ◌+◌, ◌-◌, ◌≤◌, ◌<◌, Option, Some, None, ok_or, Result, Ok, Err, true, false, refl, sym, subst, ◌∙◌, inl, inr, arith}
+use Rattle.std.proofs.Common.{if◌then◌else◌, Bool, List, ℕ, ◌≡◌, ◌+◌, ◌-◌, ◌≤◌, ◌<◌, Option, Some, None, Result, Ok, Err, true, false, refl, sym, subst, ◌∙◌, inl, inr, arith}
 use Rattle.std.proofs.lemmas.Bool.{cases_Bool, leb-false}
 use Rattle.std.specs.Prelude.{nat_le}
 use Rattle.profile.specs.Outcome.{bind}
@@ -22,17 +22,14 @@ use Rattle.os_heap.specs.Forgetting.{forgot, holds_heap}
 use Rattle.os_heap.specs.Store.{Store, find_heap, has_image}
 use Rattle.heap_turns.proofs.Plain.{unlive}
 use Rattle.heaps_kept.proofs.Holding.{area_of, freed_fit, held_fit, range_within, stays_both, written_is_fit}
-use Rattle.heaps_kept.proofs.InnerHeaps.{HasArea, carried_inner, claimed_beside, claimed_inner, freed_inner, part_out, refitted_inner}
+use Rattle.heaps_kept.proofs.InnerHeaps.{HasArea, carried_inner, claimed_beside, claimed_inner, freed_inner, refitted_inner}
 use Rattle.heaps_kept.proofs.Lists.{HasRoomFor, HasRoomIfSome, released_room, resized_room}
 use Rattle.heaps_kept.specs.Fits.{IsFitStore, LiesInArea, StaysFit}
 use Rattle.heaps_kept.specs.HeapLaws.{HeapCallsStayFit}
 use Rattle.heap_turns.specs.Laws.{IsNotForgotten}
+use Rattle.rma.proofs.NewImageLemmas.{shorter}
+use Rattle.rma.specs.flex_kept.proofs.Heaps.{OnDone, on_if, on_some}
 
--- what a call that is done leaves, with its answer, has a property; of a refusal there is nothing
--- to say
-abbrev pub OnDone : {A : Type 0} → (Store × A → Type 0) → Result (Store × A) ErrorNumber → Type 0
-OnDone P (Ok x) = P x
-OnDone P (Err e) = Unit {0}
 
 abbrev pub LeavesFit : {A : Type 0} → ℕ → Store → Store × A → Type 0
 LeavesFit limit s x = StaysFit limit s x.0
@@ -47,16 +44,6 @@ pub record IsNewBlock (len : ℕ) (s t : Store) (block : ℕ) : Type 0 where
 
 abbrev pub LeavesBlock : ℕ → ℕ → Store → Store × ℕ → Type 0
 LeavesBlock len limit s x = StaysFit limit s x.0 × IsNewBlock len s x.0 x.1
-
-pub on_some : (A B : Type 0) (P : Store × B → Type 0) (o : Option A) (e : ErrorNumber) (next : A → Result (Store × B) ErrorNumber)
-    → ((x : A) → o ≡ Some x → OnDone P (next x)) → OnDone P (bind (ok_or o e) next)
-on_some A B P None e next each = tt
-on_some A B P (Some x) e next each = each x refl
-
-pub on_if : (B : Type 0) (P : Store × B → Type 0) (b : Bool) (e : ErrorNumber) (r : Result (Store × B) ErrorNumber) → (b ≡ false → OnDone P r)
-    → OnDone P (if b then Err e else r)
-on_if B P true e r passed = tt
-on_if B P false e r passed = passed refl
 
 on_answer : (A B : Type 0) (limit : ℕ) (s : Store) (r : Result (Store × A) ErrorNumber) (answer : B) → OnDone (LeavesFit limit s) r
     → OnDone (LeavesFit limit s) (bind r (λ x. Ok (x.0, answer)))
@@ -115,7 +102,7 @@ got_fit limit size s f =
         low = omega (arith, start, r.low);
         high = omega (arith, start, r.high, f.room);
         beside = λ g a some lies still here.
-            part_out at size (total_for size - 4) a (omega arith) (claimed_beside s h (total_for size) c has total is g a lies here);
+            shorter at size (total_for size - 4) a (omega arith) (claimed_beside s h (total_for size) c has total is g a lies here);
       },
     )))
 

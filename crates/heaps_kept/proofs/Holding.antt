@@ -9,16 +9,17 @@ use Rattle.os_heap_lists.proofs.LiveBlocks.{LiveBytes, live_bytes}
 use Rattle.os_heap_lists.proofs.Payloads.{heap_beside, spelled_inside}
 use Rattle.os_heap_lists.specs.Heap.{AreTotals, HeapList, with_heap}
 use Rattle.os_heap.proofs.Apart.{range_parts}
-use Rattle.os_heap.proofs.Forgetting.{lowest_least, own_left}
+use Rattle.os_heap.proofs.Forgetting.{areas_stand, lowest_least, own_left}
 use Rattle.os_heap.proofs.Found.{found_start}
 use Rattle.os_heap.proofs.Moving.{found_held}
 use Rattle.os_heap.specs.Calls.{holding, with_items}
 use Rattle.os_heap.specs.Forgetting.{forgot, lowest_lost}
 use Rattle.os_heap.specs.Nesting.{IsWithin}
 use Rattle.os_heap.specs.Store.{Store, find_heap}
-use Rattle.heaps_kept.proofs.FoundHeaps.{held_areas, left_areas, left_in, other_held, same_unless}
+use Rattle.heaps_kept.proofs.FoundHeaps.{held_areas, left_in, same_unless}
 use Rattle.heaps_kept.proofs.InnerHeaps.{HasArea, inner_both, inner_elsewhere, within_area, written_inner}
 use Rattle.heaps_kept.specs.Fits.{IsFitStore, KeepsInner, KeepsOutside, LiesInArea, StaysFit, WritesThere, is_module_byte}
+use Rattle.heap_turns.proofs.KeptHeaps.{found_beside}
 use Rattle.heap_turns.specs.Laws.{IsNotForgotten}
 
 -- nothing is changed, or one change after another
@@ -99,7 +100,7 @@ held_fit limit s h items f found totals fits inner =
       fit = held_is_fit limit s h items f found totals fits;
       outside = record {
         bytes = λ a out. words_within s.bytes.at h.start h.end items a start totals (omega (arith, fits, f.room)) out;
-        heaps = λ at other still. other_held at h.start items s.heaps (λ is. other (is ∙ start));
+        heaps = λ at other still. found_beside at h.start items s.heaps (λ is. other (is ∙ start));
         anchors = λ a. refl;
         inner = inner;
       };
@@ -124,7 +125,7 @@ forgot_is_fit limit s h block total from f found before above =
         inside = f.inside;
         end = f.end;
         room = f.room;
-        place = left_areas low (block - 4 + total - low) s.heaps f.place;
+        place = areas_stand low (block - 4 + total - low) s.heaps f.place;
       },
       left,
     )
@@ -158,7 +159,7 @@ freed_fit limit s h block total from items f found before within above totals fi
       outside = record {
         bytes = λ a out. words_within s.bytes.at h.start h.end items a start totals (omega (arith, fits, f.room)) out;
         heaps = λ at other still.
-            let same : find_heap at (holding v h items).heaps ≡ find_heap at v.heaps = other_held at h.start items v.heaps (λ is. other (is ∙ start)) in
+            let same : find_heap at (holding v h items).heaps ≡ find_heap at v.heaps = found_beside at h.start items v.heaps (λ is. other (is ∙ start)) in
             same ∙ elim (cases_Bool (is_module_byte at)) [
               | inl there ↦ (left_in s block total from at f.place other (sym (ap is_some same) ∙ still there)).found
               | inr out ↦ elsewhere_left s block total from at (omega (arith, start, before)) (omega (arith, start, within, f.room)) above out

@@ -23,9 +23,11 @@ use Rattle.os_heap.specs.Forgetting.{forgot, lowest_lost}
 use Rattle.os_heap.specs.Nesting.{IsWithin}
 use Rattle.os_heap.specs.Store.{StandAreas, Store, find_heap}
 use Rattle.dynamic_areas.proofs.ModuleArea.{find_ended}
-use Rattle.heaps_kept.proofs.FoundHeaps.{IsLeftIn, left_in, other_ended, other_held}
+use Rattle.heaps_kept.proofs.FoundHeaps.{IsLeftIn, left_in}
 use Rattle.heaps_kept.specs.Fits.{KeepsInner, LiesInArea, StaysInArea}
+use Rattle.heap_turns.proofs.KeptHeaps.{found_beside, found_past}
 use Rattle.heap_turns.specs.Laws.{IsNotForgotten}
+use Rattle.rma.proofs.NewImageLemmas.{shorter}
 
 -- what is known of the store
 pub record HasArea (s : Store) (k : HeapList) : Type 0 where
@@ -75,7 +77,7 @@ held_inner s v k h items same found start found' totals within =
       lies = record {
         area = listed k items;
         round = subst (λ (p : ℕ). find_heap p t.heaps ≡ Some (listed k items)) start (found_held k.start items v.heaps k found);
-        found = other_held h.start k.start items v.heaps (λ is. omega (arith, low, is)) ∙ found';
+        found = found_beside h.start k.start items v.heaps (λ is. omega (arith, low, is)) ∙ found';
         within = within;
       };
       bytes = λ a here.
@@ -88,7 +90,7 @@ held_inner s v k h items same found start found' totals within =
 
 -- where the heap is found after the call, it was not forgotten before
 still_before : (v : Store) (k h : HeapList) (items : List Item) → h.start ≢ k.start → IsNotForgotten (holding v k items) h.start → IsNotForgotten v h.start
-still_before v k h items other still = sym (ap is_some (other_held h.start k.start items v.heaps other)) ∙ still
+still_before v k h items other still = sym (ap is_some (found_beside h.start k.start items v.heaps other)) ∙ still
 
 -- a list in which all blocks stay
 pub claimed_inner : (s : Store) (k : HeapList) (new : ℕ) (c : Claim) → HasArea s k → is_total new ≡ true → claimed new (k.end - 16) k.items ≡ Some c
@@ -233,12 +235,6 @@ claimed_beside s k new c has good is h a lies here =
       | inr high ↦ omega (arith, high, byte.0, w.low, target.1)
     ])
 
--- and of a part of that
-pub part_out : (at less more a : ℕ) → less ≤ more → in_range at more a ≡ false → in_range at less a ≡ false
-part_out at less more a fits out = false_from_ne_true (in_range at less a) (λ is.
-    let parts : (at ≤ a) × (a < at + less) = range_parts at less a is in
-    both_ways (in_range at more a) out (rw (le-leb at a parts.0, lt-ltb a (at + more) (omega (arith, parts.1, fits))) refl))
-
 -- the list after the claim, and the bytes copied
 pub carried_inner : (s : Store) (k : HeapList) (old new block : ℕ) (c : Claim) → HasArea s k → is_total new ≡ true → old ≤ new
     → claimed new (k.end - 16) k.items ≡ Some c
@@ -250,7 +246,7 @@ carried_inner s k old new block c has good less is h some lies still =
       lies = record { area = one.lies.area; round = one.lies.round; found = one.lies.found; within = one.lies.within };
       bytes = λ a here.
           let apart : in_range at (old - 4) a ≡ false =
-          part_out at (old - 4) (new - 4) a (omega (arith, less)) (claimed_beside s k new c has good is h a lies here) in
+          shorter at (old - 4) (new - 4) a (omega (arith, less)) (claimed_beside s k new c has good is h a lies here) in
           (rw apart refl) ∙ one.bytes a here;
     }
 
@@ -264,7 +260,7 @@ ended_inner s k end has h some lies still =
       lies = record {
         area = record { kind = k.kind; start = k.start; end = end; items = k.items };
         round = find_ended s.heaps k 0x01800000 end has.found;
-        found = other_ended h.start k.start end s.heaps (λ e. omega (arith, low, e)) ∙ lies.found;
+        found = found_past h.start k.start end s.heaps (λ e. omega (arith, low, e)) ∙ lies.found;
         within = record { guest = w.guest; block = w.block; total = w.total; live = w.live; low = w.low; high = w.high };
       };
       bytes = λ a here.

@@ -4,6 +4,7 @@ use Rattle.std.proofs.lemmas.Bool.{false≢true}
 use Rattle.address_map.specs.Moves.{moved_to}
 use Rattle.address_map.specs.declared.follow.Move.{Move}
 use Rattle.os_heap_lists.specs.Heap.{HeapList}
+use Rattle.os_heap.proofs.LostRecords.{found_listed}
 use Rattle.os_heap.specs.Store.{Store, find_heap}
 use Rattle.os_heap_slide.specs.Slide.{is_listed, slid, with_slid}
 use Rattle.dynamic_areas.specs.Ground.{Estate}
@@ -14,7 +15,6 @@ use Rattle.instances_ground.specs.World.{World, private_word, with_private}
 use Rattle.instances_slide.specs.Movable.{movable_blocks}
 use Rattle.instances_slide.specs.Slid.{moves_in, private_words, words_moved, world_slid, world_slid_in}
 use Rattle.heap_turns.specs.Laws.{IsNotForgotten}
-use Rattle.heaps_kept.proofs.AreaForgetting.{listed_some}
 use Rattle.heaps_kept.specs.ForgettingLaws.{OtherActsForgetNone}
 
 -- the actions that give no block back
@@ -30,7 +30,7 @@ slide_stays w return_address start (Some h) stays =
     let movable : List ℕ = movable_blocks w.estate.store w.modules (private_words w) return_address h in
     let t : Store = with_slid w.estate.store h movable in
     words_stay (moves_in h movable) (slots_of w.modules) (with_store w.estate t) start
-    (listed_some h.start start (slid (is_listed movable) (h.start + 16) (h.start + 16) h.items) w.estate.store.heaps ∙ stays)
+    (found_listed h.start start (slid (is_listed movable) (h.start + 16) (h.start + 16) h.items) w.estate.store.heaps ∙ stays)
 
 slid_stays : (w : World) (return_address start : ℕ) → IsNotForgotten w.estate.store start → IsNotForgotten (world_slid return_address w).estate.store start
 unfolding world_slid

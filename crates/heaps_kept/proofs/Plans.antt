@@ -19,12 +19,12 @@ use Rattle.instances_plans.specs.Carrying.{carried, carried_by, carried_from}
 use Rattle.instances_plans.specs.Plans.{Plan, owed}
 use Rattle.instances_ground.specs.World.{World, image_gone_of, image_gone_with, private_freed, private_word, removed, with_private}
 use Rattle.instances_slide.proofs.Choosing.{IsChosen, chosen}
+use Rattle.instances_slide.proofs.LawLemmas.{words_heaps}
 use Rattle.instances_slide.proofs.Tidying.{holds_none, payload_empty}
 use Rattle.instances_slide.specs.Movable.{can_move, movable_blocks}
 use Rattle.instances_slide.specs.Slid.{moves_in, private_words, words_moved, world_moved, world_slid, world_slid_in}
 use Rattle.instances_actions.specs.Actions.{acted, code_of, image_given}
 use Rattle.instances.specs.Turns.{module_doing}
-use Rattle.heaps_kept.proofs.FoundHeaps.{other_held}
 use Rattle.heaps_kept.proofs.Holding.{area_of}
 use Rattle.heaps_kept.proofs.ModuleArea.{fit_both, fit_same, store_fit}
 use Rattle.heaps_kept.proofs.Sliding.{slid_fit}
@@ -32,6 +32,7 @@ use Rattle.heaps_kept.proofs.Slots.{another_below, moved_below, new_below, remov
 use Rattle.heaps_kept.proofs.Words.{block_fit, image_gone_fit, text_fit, word_fit}
 use Rattle.heaps_kept.specs.FitEstates.{EstateStaysFit, IsFitEstate}
 use Rattle.heaps_kept.specs.PlanLaws.{ActsStayFit, AreActionsBelow, AreBelow, IsFitWorld, PlansStayFit, WorldStaysFit, slot_named}
+use Rattle.heap_turns.proofs.KeptHeaps.{found_beside}
 
 -- with the last instance of a module its image goes
 image_of_fit : (e : Estate) (m : Module) (left : List Module) → IsFitEstate e → EstateStaysFit e (image_gone_of e m left)
@@ -99,10 +100,6 @@ slid_world_fit return_address w f = of_heap (find_heap 0x01800000 w.estate.store
       (movable_empty s w.modules (private_words w) return_address h (area_of (4096 * f.estate.area.pages) s h f.estate.store found).totals)
 
 -- and it forgets no heap
-words_heaps : (moves : List Move) (slots : List ℕ) (e : Estate) → (words_moved moves slots e).store.heaps ≡ e.store.heaps
-words_heaps moves [] e = refl
-words_heaps moves (slot ∷ slots) e = words_heaps moves slots (with_private e slot (moved_to moves (private_word e slot)))
-
 pub slid_world_found : (return_address : ℕ) (w : World) (start : ℕ) → start ≢ 0x01800000
     → find_heap start (world_slid return_address w).estate.store.heaps ≡ find_heap start w.estate.store.heaps
 unfolding world_slid
@@ -116,7 +113,7 @@ slid_world_found return_address w start other = of_heap (find_heap 0x01800000 w.
       let e : Estate = with_store w.estate (with_slid s h movable) in
       let place : h.start ≡ 0x01800000 = found_start 0x01800000 s.heaps h found in
       ap (find_heap start) (words_heaps (moves_in h movable) (slots_of w.modules) e)
-      ∙ other_held start h.start (slid (is_listed movable) (h.start + 16) (h.start + 16) h.items) s.heaps (λ is. other (is ∙ place))
+      ∙ found_beside start h.start (slid (is_listed movable) (h.start + 16) (h.start + 16) h.items) s.heaps (λ is. other (is ∙ place))
 
 pub acts_fit : ActsStayFit
 acts_fit w g (act.Finalise slot fatal) f below few = world_same w f

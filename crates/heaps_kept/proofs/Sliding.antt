@@ -21,8 +21,8 @@ use Rattle.os_heap_slide.proofs.KeptBlocks.{bytes_fixed, slide_keeps_blocks}
 use Rattle.os_heap_slide.proofs.LawLemmas.{slid_totals, slide_fits}
 use Rattle.os_heap_slide.proofs.Places.{bytes_low, bytes_past, moved_stays}
 use Rattle.os_heap_slide.specs.Slide.{HoldNoHeap, is_listed, moves_of, slid, slid_bytes, with_slid}
+use Rattle.heap_turns.proofs.KeptHeaps.{found_beside}
 use Rattle.heap_turns.proofs.NoHeapInside.{found_holds}
-use Rattle.heaps_kept.proofs.FoundHeaps.{other_held}
 use Rattle.heaps_kept.proofs.Holding.{area_of, held_is_fit, words_within}
 use Rattle.heaps_kept.proofs.InnerHeaps.{HasArea, inner_elsewhere, within_area}
 use Rattle.heaps_kept.specs.Fits.{IsFitStore, KeepsInner, is_module_byte}
@@ -69,7 +69,7 @@ slid_inner s k movable has none h some lies still =
       lies = record {
         area = listed k items;
         round = subst (λ (p : ℕ). find_heap p t.heaps ≡ Some (listed k items)) start (found_held k.start items s.heaps k own);
-        found = other_held h.start k.start items s.heaps (λ is. inner_elsewhere s h lies (is ∙ start)) ∙ lies.found;
+        found = found_beside h.start k.start items s.heaps (λ is. inner_elsewhere s h lies (is ∙ start)) ∙ lies.found;
         within = record { guest = w.guest; block = w.block; total = w.total; live = live; low = w.low; high = w.high };
       };
       bytes = λ a here.
@@ -106,7 +106,7 @@ slid_fit limit s h movable f found none =
         bytes = λ a out.
             words_within (slid_bytes mv first first h.items s.bytes.at) h.start h.end items a start totals (omega (arith, inside, f.room)) out
             ∙ slid_within mv first h.items s.bytes.at a (omega (arith, start)) (omega (arith, start, own.1, f.room)) out;
-        heaps = λ at other still. other_held at h.start items s.heaps (λ is. other (is ∙ start));
+        heaps = λ at other still. found_beside at h.start items s.heaps (λ is. other (is ∙ start));
         anchors = λ a. refl;
         inner = slid_inner s h movable (area_of limit s h f found) none;
       };

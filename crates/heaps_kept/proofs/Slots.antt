@@ -16,15 +16,15 @@ use Rattle.address_map.specs.declared.follow.Move.{Move}
 use Rattle.store_laws.proofs.SlidWorlds.{slots_below}
 use Rattle.heaps_kept.specs.PlanLaws.{AreActionsBelow, AreBelow, DoablePlansAreBelow, ModulesAreBelow}
 
-joined_below : (xs ys : List ℕ) → AreBelow xs → AreBelow ys → AreBelow (xs ++ ys)
+pub joined_below : (xs ys : List ℕ) → AreBelow xs → AreBelow ys → AreBelow (xs ++ ys)
 joined_below [] ys one two = two
 joined_below (x ∷ xs) ys one two = (one.0, joined_below xs ys one.1 two)
 
-front_below : (xs ys : List ℕ) → AreBelow (xs ++ ys) → AreBelow xs
+pub front_below : (xs ys : List ℕ) → AreBelow (xs ++ ys) → AreBelow xs
 front_below [] ys all = tt
 front_below (x ∷ xs) ys all = (all.0, front_below xs ys all.1)
 
-back_below : (xs ys : List ℕ) → AreBelow (xs ++ ys) → AreBelow ys
+pub back_below : (xs ys : List ℕ) → AreBelow (xs ++ ys) → AreBelow ys
 back_below [] ys all = all
 back_below (x ∷ xs) ys all = back_below xs ys all.1
 

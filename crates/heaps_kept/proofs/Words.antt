@@ -11,11 +11,12 @@ use Rattle.os_heap.specs.Store.{Store}
 use Rattle.dynamic_areas.specs.Ground.{Estate}
 use Rattle.rma.specs.Calls.{rma_freed, with_store}
 use Rattle.rma.specs.Images.{image_dropped, image_freed, or_kept}
+use Rattle.rma.specs.flex_kept.proofs.Heaps.{OnDone}
 use Rattle.instances_table.specs.ModuleArea.{is_in_module_area}
 use Rattle.instances_table.specs.declared.parts.Image.{Image}
 use Rattle.instances_plans.specs.Code.{private_of}
 use Rattle.instances_ground.specs.World.{freed, image_gone, or_same, private_freed, private_word, with_private, with_text}
-use Rattle.heaps_kept.proofs.HeapCalls.{LeavesFit, OnDone, gave_fit}
+use Rattle.heaps_kept.proofs.HeapCalls.{LeavesFit, gave_fit}
 use Rattle.heaps_kept.proofs.Holding.{keeps_all, stays_both, system_writes, written_fit}
 use Rattle.heaps_kept.proofs.ModuleArea.{IsAny, Leaves, OnEstate, fit_both, fit_same, freed_fit, records_fit, store_fit}
 use Rattle.heaps_kept.specs.FitEstates.{EstateStaysFit, IsFitEstate}

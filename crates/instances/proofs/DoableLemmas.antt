@@ -1,6 +1,6 @@
 -- The plans of calls find what they name: the slots that they are made of are those of instances,
 -- and the slot of a new instance is free.
-use Rattle.std.proofs.Common.{◌≡◌, ℕ, ◌<◌, ◌≤◌, ◌==◌, ◌||◌, Bool, true, false, List, [], ◌∷◌, ◌++◌, map, refl, sym, ap, ◌∙◌, inl, inr, zero, suc, arith}
+use Rattle.std.proofs.Common.{◌≡◌, ℕ, ◌<◌, ◌≤◌, ◌==◌, ◌||◌, Bool, true, false, List, [], ◌∷◌, refl, sym, ap, ◌∙◌, inl, inr, zero, suc, arith}
 use Rattle.std.specs.Prelude.{slice_get}
 use Rattle.std.specs.List.{list_any}
 use Rattle.std.proofs.lemmas.Bool.{cases_Bool, eqb-true, eq-eqb, or_left, or_parts, or_right, false≢true, both_ways, false_from_ne_true}
@@ -8,29 +8,15 @@ use Rattle.instances_plans.specs.Calls.{clear_plan, delete_plan, instantiate_pla
 use Rattle.instances_plans.specs.Doable.{AreSlots, IsDoable, is_used, without, without_all}
 use Rattle.instances_plans.specs.declared.given.Given.{Given}
 use Rattle.instances_plans.proofs.Doable.{clear_is_doable, instantiate_is_doable, load_is_doable, reinit_is_doable, tidy_is_doable}
-use Rattle.instances_table.specs.Modules.{AreModules, Instance, Module, has_instance, has_slot, has_title, number_of, slot_count, slots_of}
+use Rattle.instances_table.specs.Modules.{AreModules, Module, has_instance, has_title, number_of, slot_count, slots_of}
 use Rattle.instances_table.specs.Changes.{holds, is_held, titled, titled_otherwise}
 use Rattle.instances_table.proofs.Counting.{none_counted}
 use Rattle.instances_table.proofs.RoomLemmas.{at_most_one, slots_counted}
+use Rattle.instances_actions.proofs.Slots.{used_slots}
 
 -- a slot is used exactly where an instance has it
-used_append : (s : ℕ) (xs ys : List ℕ) → is_used s (xs ++ ys) ≡ (is_used s xs || is_used s ys)
-used_append s [] ys = refl
-used_append s (x ∷ xs) ys = elim (cases_Bool (x == s)) [
-  | inl is ↦ rw is refl
-  | inr other ↦ rw other (used_append s xs ys)
-]
-
-used_map : (s : ℕ) (is : List Instance) → is_used s (map (λ (i : Instance). i.slot) is) ≡ list_any (has_slot s) is
-used_map s [] = refl
-used_map s (i ∷ is) = ap (λ (b : Bool). i.slot == s || b) (used_map s is)
-
-pub used_held : (s : ℕ) (ms : List Module) → is_used s (slots_of ms) ≡ is_held s ms
-used_held s [] = refl
-used_held s (m ∷ ms) = rw (used_append s (map (λ (i : Instance). i.slot) m.instances) (slots_of ms), used_map s m.instances, used_held s ms) refl
-
 used_here : (s k : ℕ) (ms : List Module) → holds s (slice_get ms k) ≡ true → is_used s (slots_of ms) ≡ true
-used_here s k ms here = used_held s ms ∙ go k ms here where
+used_here s k ms here = used_slots s ms ∙ go k ms here where
   go : (k : ℕ) (ms : List Module) → holds s (slice_get ms k) ≡ true → is_held s ms ≡ true
   go k [] here = here
   go zero (m ∷ ms) here = or_left (has_instance s m) (is_held s ms) here
@@ -96,7 +82,7 @@ otherwise_held s title (m ∷ ms) beside own = elim (cases_Bool (has_title title
 pub titled_slots : (title : List ℕ) (ms : List Module) → AreModules ms → AreSlots (slots_of ms) (slots_of (titled title ms))
 titled_slots title ms are =
     are_slots (slots_of ms) (slots_of (titled title ms))
-    (λ s is. used_held s ms ∙ titled_held s title ms (sym (used_held s (titled title ms)) ∙ is))
+    (λ s is. used_slots s ms ∙ titled_held s title ms (sym (used_slots s (titled title ms)) ∙ is))
     (λ s. omega (arith, slots_counted s (titled title ms), titled_count s title ms, at_most_one s (slot_count s ms) (are.slots s)))
 
 -- what is used still, once some slots are not
@@ -132,8 +118,8 @@ pub free_then : (slot : ℕ) (title : List ℕ) (ms : List Module) → is_held s
 free_then slot title ms beside =
     false_from_ne_true (is_used slot (without_all (slots_of (titled title ms)) (slots_of ms))) (λ is.
     let both = still_used_all slot (slots_of (titled title ms)) (slots_of ms) is in
-    both_ways (is_held slot ms) (otherwise_held slot title ms beside (sym (used_held slot (titled title ms)) ∙ both.1))
-    (sym (used_held slot ms) ∙ both.0))
+    both_ways (is_held slot ms) (otherwise_held slot title ms beside (sym (used_slots slot (titled title ms)) ∙ both.1))
+    (sym (used_slots slot ms) ∙ both.0))
 
 -- the plans
 pub load_doable : (given : Given) (title : List ℕ) (slot : ℕ) (ms : List Module) → AreModules ms → slot < 64 → is_held slot (titled_otherwise title ms) ≡ false
@@ -143,7 +129,7 @@ load_doable given title slot ms are below free =
 
 pub instantiate_doable : (given : Given) (slot : ℕ) (ms : List Module) → slot < 64 → is_held slot ms ≡ false
     → IsDoable (slots_of ms) (instantiate_plan given slot)
-instantiate_doable given slot ms below free = instantiate_is_doable given (slots_of ms) slot (used_held slot ms ∙ free) below
+instantiate_doable given slot ms below free = instantiate_is_doable given (slots_of ms) slot (used_slots slot ms ∙ free) below
 
 pub clear_doable : (given : Given) (ms : List Module) → AreModules ms → IsDoable (slots_of ms) (clear_plan given (slots_of ms))
 clear_doable given ms are = clear_is_doable given (slots_of ms) (slots_of ms) (all_slots ms are)

@@ -32,6 +32,7 @@ use Rattle.instances.specs.Naming.{NamesOnly, NamesTitled, slots_of_actions}
 use Rattle.instances.specs.Plans.{deletion, reinitialisation}
 use Rattle.instances.specs.Reading.{slot_meant}
 use Rattle.instances.proofs.GoingOn.{bound}
+use Rattle.instances.proofs.Naming.{apart_from}
 
 -- a slot that isn't used is none that is
 pub apart_used : (s slot : ℕ) (used : List ℕ) → is_used s used ≡ true → is_used slot used ≡ false → (slot == s) ≡ false
@@ -143,15 +144,12 @@ inserting_names w at len =
 abbrev pub NamesOne : List Module → Result Plan ErrorNumber → ℕ → Type 0
 NamesOne ms r slot = IfOk r (NamesOnly (slot ∷ []) ms)
 
-one_slot : (s slot : ℕ) → is_used s (slot ∷ []) ≡ false → (slot == s) ≡ false
-one_slot s slot none = (or_parts (slot == s) false none).0
-
 pub deletion_names : (ms : List Module) (full : List ℕ) → IfOk (slot_meant ms full) (NamesOne ms (deletion ms full))
 unfolding deletion slot_meant
 deletion_names ms full = by (looked_up ms full) where
   at : (r : Result ℕ ErrorNumber) → IfOk r (NamesOne ms (bind r (λ slot. Ok (delete_plan (given_only [] 0) slot))))
   at (Err e) = tt
-  at (Ok slot) = λ s there none. rw (one_slot s slot none) refl
+  at (Ok slot) = λ s there none. rw (apart_from s slot none) refl
 
   by : (r : Result Place ErrorNumber)
       → IfOk (bind r (λ place. slot_at ms place)) (NamesOne ms (bind r (λ place. bind (slot_at ms place) (λ slot. Ok (delete_plan (given_only [] 0) slot)))))
@@ -169,7 +167,7 @@ reinitialisation_names ms full text = kept (is_too_long text) (bind (looked_up m
 
   at : (r : Result ℕ ErrorNumber) → IfOk r (NamesOne ms (bind r (λ slot. Ok (reinit_plan (given_only text 0) slot))))
   at (Err e) = tt
-  at (Ok slot) = λ s there none. rw (one_slot s slot none) refl
+  at (Ok slot) = λ s there none. rw (apart_from s slot none) refl
 
   by : (r : Result Place ErrorNumber)
       → IfOk (bind r (λ place. slot_at ms place)) (NamesOne ms (bind r (λ place. bind (slot_at ms place) (λ slot. Ok (reinit_plan (given_only text 0) slot)))))

@@ -1,11 +1,13 @@
 -- A call that is carried on comes to no instance that its plan doesn't name: such a slot is not
 -- named later, and is used after as before.
-use Rattle.std.proofs.Common.{◌≡◌, ℕ, ◌==◌, ◌||◌, Bool, true, false, Some, None, List, [], ◌∷◌, ◌++◌, map, refl, sym, ap, subst, ◌∙◌, inl, inr, zero, suc, arith}
+use Rattle.std.proofs.Common.{◌≡◌, ℕ, ◌==◌, ◌||◌, Bool, true, false, Some, None, List, [], ◌∷◌, ◌++◌, refl, sym, ap, subst, ◌∙◌, inl, inr, zero, suc, arith}
+use Rattle.std.proofs.Math.Bool.{or-false}
 use Rattle.std.specs.Prelude.{IfSome, Option, if◌then◌else◌, slice_get}
 use Rattle.std.specs.List.{list_any}
 use Rattle.std.proofs.lemmas.Bool.{cases_Bool, or_parts}
 use Rattle.std.proofs.lemmas.Bool.Decides.{nat_tests}
 use Rattle.std.proofs.lemmas.List.Folds.{list_any-append}
+use Rattle.instances_plans.proofs.Doable.{some_head}
 use Rattle.instances_plans.specs.declared.action.Action.{Action}
 use Rattle.instances_plans.specs.declared.action.Action.TheVariants.{Finalise, Remove, FreePrivate, Insert, Instantiate, GiveUp, Slide, Initialise}
 use Rattle.instances_plans.specs.declared.code.Code.{Code}
@@ -23,10 +25,11 @@ use Rattle.instances_table.specs.Changes.{is_held, is_new, new_module, still, wi
 use Rattle.instances_table.specs.Lookup.{number_of_title, place_of_slot}
 use Rattle.instances_table.specs.Modules.{Instance, Module, changed_at, has_instance, has_slot, slots_of}
 use Rattle.instances_slide.specs.instances_ground.specs.World.{World, removed}
+use Rattle.instances_actions.proofs.Readying.{slots_outlined}
 use Rattle.instances_actions.specs.Actions.{acted, image_given, with_another, with_new}
 use Rattle.instances_actions.specs.Codes.{code_among, code_at, entered, entered_at, entered_in, entry_of, fatal_word}
-use Rattle.instances_actions.specs.Ready.{IsSlid, outline}
-use Rattle.instances_actions.proofs.Slots.{slots_in, used_append, used_slots}
+use Rattle.instances_actions.specs.Ready.{IsSlid}
+use Rattle.instances_actions.proofs.Slots.{used_append, used_slots}
 use Rattle.instances_slide.specs.Slid.{world_slid}
 use Rattle.instances.specs.Naming.{KeepsOthers, slot_of_action, slots_of_actions, slots_of_plan}
 use Rattle.instances.specs.Turns.{IsUnderWay, module_doing}
@@ -62,9 +65,6 @@ last_aside s [] a none one = more_aside s a [] one refl
 last_aside s (b ∷ others) a none one =
     let parts = rest_aside s b others none in
     more_aside s b (others ++ a ∷ []) parts.0 (last_aside s others a parts.1 one)
-
-some_head : (a b : Action) → Some b ≡ Some a → b ≡ a
-some_head a b same = cc
 
 first_aside : (s : ℕ) (actions : List Action) (a : Action) → first_of actions ≡ Some a → is_used s (slots_of_actions actions) ≡ false
     → (is_used s (slot_of_action a) ≡ false) × (is_used s (slots_of_actions (all_but_first actions)) ≡ false)
@@ -137,14 +137,10 @@ held_less s slot (m ∷ ms) apart = elim (cases_Bool (has_instance slot m)) [
   | inr its ↦ rw its (ap (λ (b : Bool). has_instance s m || b) (held_less s slot ms apart))
 ]
 
-or_false : (b : Bool) → (b || false) ≡ b
-or_false true = refl
-or_false false = refl
-
 held_new : (s slot : ℕ) (g : Given) (ms : List Module) → (slot == s) ≡ false → is_held s (with_new g slot ms) ≡ is_held s ms
 unfolding with_module
 held_new s slot g ms apart = elim (cases_Bool (is_new g.header.title.items slot ms)) [
-  | inl new ↦ rw new (list_any-append (has_instance s) ms (new_module g.header (image_given g) slot ∷ []) ∙ rw apart (or_false (is_held s ms)))
+  | inl new ↦ rw new (list_any-append (has_instance s) ms (new_module g.header (image_given g) slot ∷ []) ∙ rw apart (or-false (is_held s ms)))
   | inr none ↦ rw none refl
 ]
 
@@ -153,7 +149,7 @@ held_more : (s slot number : ℕ) (name : List ℕ) (ms : List Module) → (slot
 held_more s slot number name [] apart = refl
 held_more s slot zero name (m ∷ ms) apart =
     ap (λ (b : Bool). b || is_held s ms)
-    (list_any-append (has_slot s) m.instances (record { name = name; slot = slot } ∷ []) ∙ rw apart (or_false (has_instance s m)))
+    (list_any-append (has_slot s) m.instances (record { name = name; slot = slot } ∷ []) ∙ rw apart (or-false (has_instance s m)))
 held_more s slot (suc number) name (m ∷ ms) apart = ap (λ (b : Bool). has_instance s m || b) (held_more s slot number name ms apart)
 
 held_added : (s slot : ℕ) (number : Option ℕ) (name : List ℕ) (ms : List Module) → (slot == s) ≡ false
@@ -161,17 +157,13 @@ held_added : (s slot : ℕ) (number : Option ℕ) (name : List ℕ) (ms : List M
 held_added s slot None name ms apart = refl
 held_added s slot (Some number) name ms apart = held_more s slot number name ms apart
 
-slots_outlined : (ms : List Module) → slots_of (map outline ms) ≡ slots_of ms
-slots_outlined [] = refl
-slots_outlined (m ∷ ms) = ap (λ (xs : List ℕ). slots_in m.instances ++ xs) (slots_outlined ms)
-
 slots_slid : (old new : List Module) → IsSlid old new → slots_of new ≡ slots_of old
 slots_slid old new slid = sym (slots_outlined new) ∙ ap slots_of slid ∙ slots_outlined old
 
 used_by_held : (s : ℕ) (old new : List Module) → is_held s new ≡ is_held s old → is_used s (slots_of new) ≡ is_used s (slots_of old)
 used_by_held s old new same = used_slots s new ∙ same ∙ sym (used_slots s old)
 
-apart_from : (s slot : ℕ) → is_used s (slot ∷ []) ≡ false → (slot == s) ≡ false
+pub apart_from : (s slot : ℕ) → is_used s (slot ∷ []) ≡ false → (slot == s) ≡ false
 apart_from s slot none = (or_parts (slot == s) false none).0
 
 used_removed : (s slot : ℕ) (w : World) → (slot == s) ≡ false → is_used s (slots_of (removed w slot).modules) ≡ is_used s (slots_of w.modules)

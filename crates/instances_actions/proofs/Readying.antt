@@ -1,5 +1,6 @@
 -- Plans that stay ready, action by action.
 use Rattle.std.proofs.Common.{◌≡◌, ◌≢◌, ℕ, ◌<◌, ◌≤◌, ◌==◌, ◌||◌, Bool, true, false, Some, None, List, [], ◌∷◌, ◌++◌, length, map, refl, sym, ap, subst, ◌∙◌, zero, suc, inl, inr, arith, length-append}
+use Rattle.std.proofs.Math.Bool.{or_assoc}
 use Rattle.std.specs.Prelude.{Option}
 use Rattle.std.specs.List.{list_any, position}
 use Rattle.std.proofs.lemmas.Bool.{cases_Bool, false≢true, or_parts, lt-ltb}
@@ -11,7 +12,7 @@ use Rattle.instances_plans.specs.declared.action.Action.TheVariants.{Finalise, R
 use Rattle.instances_plans.specs.declared.given.Given.{Given}
 use Rattle.instances_plans.specs.Doable.{CanDo, is_used, used_after, without}
 use Rattle.instances_plans.specs.Plans.{Plan, all_but_first, first_of, owed, refused}
-use Rattle.instances_plans.proofs.Doable.{stays_doable, stays_doable_refused}
+use Rattle.instances_plans.proofs.Doable.{some_head, stays_doable, stays_doable_refused}
 use Rattle.instances_table.specs.Additions.{added_to}
 use Rattle.instances_table.specs.Lookup.{number_of_title}
 use Rattle.instances_table.specs.Modules.{AreModules, EachIsModule, Instance, Module, changed_at, has_instance, has_slot, has_title, slots_of}
@@ -63,9 +64,6 @@ acts g ms instead GiveUp others are can once names other = tt
 acts g ms instead Slide others are can once names other = absurd (other refl)
 acts g ms instead (Initialise s) others are can once names other = tt
 
-some_head : (a b : Action) → Some b ≡ Some a → b ≡ a
-some_head a b same = cc
-
 acts_from : (g : Given) (ms : List Module) (instead actions : List Action) (a : Action) → first_of actions ≡ Some a → AreModules ms
     → CanDo (slots_of ms) instead actions → SettlesOnce (slots_titled g.header.title.items ms) instead actions → CanNameFirst g ms actions → a ≢ Slide
     → CanAct g ms a
@@ -105,17 +103,13 @@ swapped false true false = refl
 swapped false false true = refl
 swapped false false false = refl
 
-nested : (a b c : Bool) → (a || (b || c)) ≡ ((a || b) || c)
-nested true b c = refl
-nested false b c = refl
-
 held_more : (t s k : ℕ) (name : List ℕ) (ms : List Module) → k < length ms
     → is_held t (changed_at k (with_instance name s) ms) ≡ (is_held t ms || (s == t || false))
 held_more t s k name [] within = absurd (omega arith)
 held_more t s zero name (m ∷ ms) within =
     rw (list_any-append (has_slot t) m.instances (record { name = name; slot = s } ∷ [])) (swapped (has_instance t m) (s == t || false) (is_held t ms))
 held_more t s (suc k) name (m ∷ ms) within =
-    ap (λ (b : Bool). has_instance t m || b) (held_more t s k name ms (omega arith)) ∙ nested (has_instance t m) (is_held t ms) (s == t || false)
+    ap (λ (b : Bool). has_instance t m || b) (held_more t s k name ms (omega arith)) ∙ sym (or_assoc (has_instance t m) (is_held t ms) (s == t || false))
 
 another_at : (t s : ℕ) (number : Option ℕ) (name title : List ℕ) (ms : List Module) → position (has_title title) ms ≡ number
     → list_any (has_title title) ms ≡ true → is_held t (added_to number name s ms) ≡ (is_held t ms || (s == t || false))
@@ -135,10 +129,10 @@ used_another g s ms titled t =
   where
     used_both : (t : ℕ) (xs : List ℕ) → is_used t (xs ++ s ∷ []) ≡ (is_used t xs || (s == t || false))
     used_both t [] = refl
-    used_both t (x ∷ xs) = ap (λ (b : Bool). x == t || b) (used_both t xs) ∙ nested (x == t) (is_used t xs) (s == t || false)
+    used_both t (x ∷ xs) = ap (λ (b : Bool). x == t || b) (used_both t xs) ∙ sym (or_assoc (x == t) (is_used t xs) (s == t || false))
 
 -- a slide leaves all slots
-slots_outlined : (ms : List Module) → slots_of (map outline ms) ≡ slots_of ms
+pub slots_outlined : (ms : List Module) → slots_of (map outline ms) ≡ slots_of ms
 slots_outlined [] = refl
 slots_outlined (m ∷ ms) = ap (λ (xs : List ℕ). slots_in m.instances ++ xs) (slots_outlined ms)
 
@@ -231,7 +225,7 @@ refused_names g ms instead runs error actions (Instantiate s) r0 names none = (n
 refused_names g ms instead runs error actions GiveUp r0 names none = (names, none)
 refused_names g ms instead runs error actions Slide r0 names none = (names, none)
 
-given_stays : (p : Plan) (a : Action) (r0 : ℕ) → (refused p a r0).given ≡ p.given
+pub given_stays : (p : Plan) (a : Action) (r0 : ℕ) → (refused p a r0).given ≡ p.given
 given_stays p (Finalise s f) r0 = refl
 given_stays p (Remove s) r0 = refl
 given_stays p (FreePrivate s) r0 = refl

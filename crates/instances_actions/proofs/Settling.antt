@@ -1,6 +1,7 @@
 -- Plans that settle once what becomes of a new image.
 use Rattle.std.proofs.Common.{◌≡◌, ℕ, Bool, true, false, Some, List, [], ◌∷◌, ◌++◌, refl, sym, ap, subst, ◌∙◌}
 use Rattle.std.proofs.lemmas.Bool.{true≢false, false≢true}
+use Rattle.instances_plans.proofs.Doable.{some_head}
 use Rattle.instances_plans.specs.declared.action.Action.{Action}
 use Rattle.instances_plans.specs.declared.action.Action.TheVariants.{Finalise, Remove, FreePrivate, Insert, Instantiate, GiveUp, Slide, Initialise}
 use Rattle.instances_plans.specs.declared.given.Given.{Given}
@@ -113,9 +114,6 @@ stays old new instead (Instantiate s) others same once = no_matter old new inste
 stays old new instead GiveUp others same once = same_titled old new instead others same once.1
 stays old new instead Slide others same once = same_titled old new instead others same once.1
 stays old new instead (Initialise s) others same once = same_titled old new instead others same once.0
-
-some_head : (a b : Action) → Some b ≡ Some a → b ≡ a
-some_head a b same = cc
 
 stays_from : (old new : List ℕ) (instead actions : List Action) (a : Action) → first_of actions ≡ Some a → AreTitledAfter a old new
     → SettlesOnce old instead actions → SettlesOnce new (owed instead a) (all_but_first actions)

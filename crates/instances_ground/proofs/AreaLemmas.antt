@@ -4,6 +4,7 @@ use Rattle.std.proofs.Common.{◌≡◌, ◌⊎◌, ◌<◌, ◌≤◌, ◌+◌,
 use Rattle.std.specs.Prelude.{Option, is_some}
 use Rattle.std.proofs.lemmas.Bool.{both_ways, cases_Bool, false≢true, false_from_ne_true, ltb-false, ltb-true}
 use Rattle.std.proofs.Math.Dec.{ltb}
+use Rattle.rma.specs.address_map.proofs.InRange.{range_inside}
 use Rattle.rma.specs.address_map.specs.Bytes.{AreMapped, Bytes, in_range}
 use Rattle.rma.specs.address_map.specs.declared.region.Region.{Region}
 use Rattle.rma.specs.os_heap_lists.specs.Heap.{HeapList}
@@ -16,8 +17,8 @@ use Rattle.rma.specs.dynamic_areas.specs.Ground.{Estate, IsEstate}
 use Rattle.rma.specs.dynamic_areas.specs.declared.area.Area.{Area}
 use Rattle.rma.specs.dynamic_areas.proofs.GroundLemmas.{unmapped_above}
 use Rattle.rma.specs.dynamic_areas.proofs.ModuleArea.{IsModuleArea, module_area_known}
-use Rattle.rma.specs.dynamic_areas.proofs.Remapped.{here, range_high, range_low}
 use Rattle.rma.specs.dynamic_areas.proofs.RoomLemmas.{found_room}
+use Rattle.rma.specs.os_heap.proofs.RangeTests.{range_high, range_low}
 use Rattle.instances_table.specs.ModuleArea.{is_in_module_area}
 
 -- an image in a heap is a block of the module area's
@@ -55,7 +56,7 @@ module _ (e : Estate) (good : IsEstate e) (a : Area) (found : find_area 1 e.land
       elim (cases_Bool (ltb r.at (0x01800000 + 4096 * a.pages))) [
         | inl below ↦
             let under = ltb-true r.at (0x01800000 + 4096 * a.pages) below in
-            here known.heap.start known.heap.end r.at (omega (arith, low, start)) (omega (arith, under, start, end))
+            range_inside known.heap.start known.heap.end r.at (omega (arith, low, start)) (omega (arith, under, start, end))
         | inr above ↦
             let past = ltb-false r.at (0x01800000 + 4096 * a.pages) above in
             let free = unmapped_above e.store e.pool e.land 1 a (1024 - a.pages) good.ground found (omega (arith, within, maximum)) r.at
@@ -67,7 +68,7 @@ module _ (e : Estate) (good : IsEstate e) (a : Area) (found : find_area 1 e.land
   not_clear inside mapped clear =
       let heap = known.heap in
       both_ways (in_range heap.start heap.end r.at)
-      (clear_of-found r.at r.len 0x01800000 e.store.heaps heap clear known.found r.at (here r.at r.len r.at (omega arith) (omega (arith, some))))
+      (clear_of-found r.at r.len 0x01800000 e.store.heaps heap clear known.found r.at (range_inside r.at r.len r.at (omega arith) (omega (arith, some))))
       (heap_has inside mapped)
 
   area_has : IsImageIn e.store.heaps r → is_in_module_area r.at ≡ true
@@ -76,13 +77,13 @@ module _ (e : Estate) (good : IsEstate e) (a : Area) (found : find_area 1 e.land
       let heap = known.heap in
       let own = image_found e.store.bytes e.store.heaps heap r sound.heaps sound.limits.place known.found image in
       let inside = block_inside e.store.bytes heap r.at (r.len + 4) r.at known.spelled own.live
-      (here (r.at - 4) (r.len + 4) r.at (omega arith) (omega (arith, some))) in
+      (range_inside (r.at - 4) (r.len + 4) r.at (omega arith) (omega (arith, some))) in
       let low = range_low heap.start heap.end r.at inside in
       let high = range_high heap.start heap.end r.at inside in
       let start = known.start in
       let end = known.end in
       let maximum = known.maximum in
-      here 0x01800000 4194304 r.at (omega (arith, low, start)) (omega (arith, high, start, end, maximum, within))
+      range_inside 0x01800000 4194304 r.at (omega (arith, low, start)) (omega (arith, high, start, end, maximum, within))
 
 -- so of each record
 pub record IsInPlace (e : Estate) (r : Region) : Type 0 where

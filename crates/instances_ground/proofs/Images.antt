@@ -3,13 +3,13 @@
 use Rattle.std.proofs.Common.{◌≡◌, ℕ, Bool, true, false, inl, inr, suc, ◌+◌, ◌%◌, ◌<◌, ◌==◌, List, [], ◌∷◌, ◌++◌, length, refl, ap, arith}
 use Rattle.std.specs.List.{list_any}
 use Rattle.std.proofs.lemmas.Bool.{cases_Bool, eqb-true, false_from_ne_true, both_ways}
+use Rattle.rma.specs.address_map.proofs.InRange.{range_inside}
 use Rattle.rma.specs.address_map.specs.Bytes.{in_range}
 use Rattle.rma.specs.address_map.specs.Records.{is_record, without_region}
 use Rattle.rma.specs.address_map.specs.declared.region.Kind.TheVariants as kind
 use Rattle.rma.specs.address_map.specs.declared.region.Region.{Region}
 use Rattle.rma.specs.os_heap.specs.Store.{AreRangesApart, IsClearOfRanges, is_image}
 use Rattle.rma.specs.dynamic_areas.specs.Ground.{IsRecorded, system_pages}
-use Rattle.rma.specs.dynamic_areas.proofs.Remapped.{here}
 use Rattle.instances_table.specs.Changes.{without_first}
 use Rattle.instances_ground.specs.Sound.{AreSolid, count_beside, image_ranges}
 
@@ -34,8 +34,8 @@ starts_differ : (r q : Region) → 0 < r.len → 0 < q.len → ((a : ℕ) → in
 starts_differ r q mine its clear = false_from_ne_true (q.at == r.at) (λ same.
     let at : q.at ≡ r.at = eqb-true q.at r.at same in
     both_ways (in_range q.at q.len r.at)
-    (clear r.at (here r.at r.len r.at (omega arith) (omega (arith, mine))))
-    (here q.at q.len r.at (omega (arith, at)) (omega (arith, at, its))))
+    (clear r.at (range_inside r.at r.len r.at (omega arith) (omega (arith, mine))))
+    (range_inside q.at q.len r.at (omega (arith, at)) (omega (arith, at, its))))
 
 no_later : (r : Region) (rs : List Region) → 0 < r.len → AreSolid rs → IsClearOfRanges r rs → list_any (starts_at r.at) (image_ranges rs) ≡ false
 no_later r [] long solid clear = refl

@@ -5,14 +5,15 @@ use Rattle.rma.specs.address_map.specs.declared.map.AddressMap.{AddressMap}
 use Rattle.rma.specs.address_map.specs.Bytes.{Bytes, AreMapped, in_range, with_bytes_at, with_word_at, word_at, word_loaded}
 use Rattle.rma.specs.address_map.specs.Memory.{Layout, byte_at, bytes_of, class_of, free_pages, is_mapped, layout}
 use Rattle.rma.specs.address_map.proofs.Equations.{same_bytes}
+use Rattle.rma.specs.address_map.proofs.InRange.{range_inside}
+use Rattle.rma.specs.address_map.proofs.Stores.{two_writes}
 use Rattle.rma.specs.os_heap.specs.Store.{Store, store_of}
 use Rattle.rma.specs.os_heap.proofs.Frame.{IsKept}
 use Rattle.rma.specs.os_heap.specs.os_heap_words.proofs.Writing.{word_mapped}
 use Rattle.rma.specs.dynamic_areas.specs.Areas.{Land}
 use Rattle.rma.specs.dynamic_areas.specs.Ground.{IsEstate, IsRecorded, estate_of, system_pages}
 use Rattle.rma.specs.dynamic_areas.proofs.HeapCalls.{areas_written, system_mapped}
-use Rattle.rma.specs.dynamic_areas.proofs.Remapped.{here}
-use Rattle.rma.specs.dynamic_areas.proofs.SystemWrites.{system_kept, two_writes}
+use Rattle.rma.specs.dynamic_areas.proofs.SystemWrites.{system_kept}
 use Rattle.rma.specs.flex_kept.specs.Keeping.{KeepsFlex}
 use Rattle.rma.specs.flex_kept.proofs.Writes.{system_keeps}
 use Rattle.instances_plans.specs.Code.{private_of}
@@ -24,7 +25,7 @@ use Rattle.instances_ground.proofs.Worlds.{world_kept}
 
 mapped_in : (m : AddressMap) (l : Land) → IsEstate (estate_of m l) → AreMapped (is_mapped m) 0x01C00000 0x3000
 unfolding store_of
-mapped_in m l estate a low high = system_mapped (store_of m) (free_pages m) l estate a (here 0x01C00000 0x3000 a low high)
+mapped_in m l estate a low high = system_mapped (store_of m) (free_pages m) l estate a (range_inside 0x01C00000 0x3000 a low high)
 
 pub has_system : (m : AddressMap) (l : Land) (modules : List Module) (pending : List Image) → IsWorld (world_of m l modules) pending → HasSystemPages m
 has_system m l modules pending world = record {

@@ -128,7 +128,7 @@ stays used instead GiveUp others can = can
 stays used instead Slide others can = can
 stays used instead (Initialise slot) others can = can.1.0
 
-some_head : (a b : Action) → Some b ≡ Some a → b ≡ a
+pub some_head : (a b : Action) → Some b ≡ Some a → b ≡ a
 some_head a b same = cc
 
 stays_from : (used : List ℕ) (instead actions : List Action) (a : Action) → first_of actions ≡ Some a → CanDo used instead actions

@@ -47,27 +47,27 @@ word_small f at v small a = elim (cases_Bool (a == at)) [
   ]
 ]
 
-moved_small : (f : ℕ → ℕ) (from to len : ℕ) → AreBytes f → AreBytes (with_moved_at f from to len)
+pub moved_small : (f : ℕ → ℕ) (from to len : ℕ) → AreBytes f → AreBytes (with_moved_at f from to len)
 moved_small f from to len small a = elim (cases_Bool (in_range to len a)) [
   | inl inside ↦ rw inside (small (from + (a - to)))
   | inr outside ↦ rw outside (small a)
 ]
 
-slid_small : (mv : ℕ → Bool) (top at : ℕ) (xs : List Item) (f : ℕ → ℕ) → AreBytes f → AreBytes (slid_bytes mv top at xs f)
+pub slid_small : (mv : ℕ → Bool) (top at : ℕ) (xs : List Item) (f : ℕ → ℕ) → AreBytes f → AreBytes (slid_bytes mv top at xs f)
 slid_small mv top at [] f small = small
 slid_small mv top at (Free t ∷ xs) f small = slid_small mv top (at + t) xs f small
 slid_small mv top at (Live t ∷ xs) f small =
     let place : ℕ = place_of (mv (at + 4)) top at in
     slid_small mv (place + t) (at + t) xs (with_moved_at f at place t) (moved_small f at place t small)
 
-heads_small : (f : ℕ → ℕ) (at : ℕ) (xs : List Item) (other : ℕ) → AreBytes f → AreBytes (with_heads f at xs other)
+pub heads_small : (f : ℕ → ℕ) (at : ℕ) (xs : List Item) (other : ℕ) → AreBytes f → AreBytes (with_heads f at xs other)
 heads_small f at [] other small = small
 heads_small f at (Live t ∷ xs) other small = word_small (with_heads f (at + t) xs other) at t (heads_small f (at + t) xs other small)
 heads_small f at (Free t ∷ xs) other small =
     let rest : ℕ → ℕ = with_heads f (at + t) xs other in
     word_small (with_word_at rest (at + 4) t) at (next_free (at + t) xs other - at) (word_small rest (at + 4) t (heads_small f (at + t) xs other small))
 
-heap_small : (f : ℕ → ℕ) (start end : ℕ) (items : List Item) → AreBytes f → AreBytes (with_heap f start end items)
+pub heap_small : (f : ℕ → ℕ) (start end : ℕ) (items : List Item) → AreBytes f → AreBytes (with_heap f start end items)
 heap_small f start end items small =
     let h0 : ℕ → ℕ = with_heads f (start + 16) items 0 in
     let h1 : ℕ → ℕ = with_word_at h0 start 0x70616548 in

@@ -2,6 +2,7 @@
 -- that area to another.
 use Rattle.std.proofs.Common.{◌≡◌, ℕ, Bool, true, ◌+◌, ◌≤◌, ◌<◌, ◌==◌, ◌∙◌, List, [], ◌∷◌, refl, sym, Option, Some, None, inl, inr, arith}
 use Rattle.std.proofs.lemmas.Bool.{cases_Bool, eq-eqb, eqb-true}
+use Rattle.address_map.proofs.InRange.{range_inside}
 use Rattle.address_map.specs.Items.{size_of}
 use Rattle.address_map.specs.Moves.{moved_to}
 use Rattle.address_map.specs.declared.item.Item.{Item}
@@ -11,7 +12,6 @@ use Rattle.os_heap_lists.specs.Heap.{AreTotals, HeapList, IsHeapIn}
 use Rattle.instances_ground.specs.os_heap.proofs.Found.{found_heap, found_start}
 use Rattle.instances_ground.specs.os_heap.specs.Store.{find_heap}
 use Rattle.instances_ground.specs.os_heap_slide.specs.Slide.{is_listed, moves_of}
-use Rattle.instances_ground.specs.dynamic_areas.proofs.Remapped.{here}
 use Rattle.instances_ground.specs.dynamic_areas.specs.Ground.{Estate, IsEstate}
 use Rattle.instances_table.specs.ModuleArea.{is_in_module_area}
 use Rattle.instances_slide.proofs.LawLemmas.{is_low}
@@ -20,7 +20,7 @@ use Rattle.instances_slide.specs.Movable.{movable_blocks}
 use Rattle.instances_slide.specs.Slid.{moves_in, private_words}
 
 inside : (a : ℕ) → 0x01800000 ≤ a → a < 0x01C00000 → is_in_module_area a ≡ true
-inside a low high = here 0x01800000 4194304 a low (omega (arith, high))
+inside a low high = range_inside 0x01800000 4194304 a low (omega (arith, high))
 
 -- the items before these end at `top` after the slide; the first of these is at `at` before it
 sides_of : (listed : ℕ → Bool) (top at : ℕ) (xs : List Item) → AreTotals xs → 0x01800000 ≤ top → top ≤ at → at + size_of xs ≤ 0x01C00000

@@ -1,6 +1,6 @@
 -- The world after its module area was tidied, and that it is sound.
 use Rattle.std.proofs.Common.{◌≡◌, ℕ, Bool, true, false, not, ◌+◌, ◌-◌, ◌≤◌, ◌∙◌, ◌&&◌, ◌||◌, List, [], ◌∷◌, length, map, arith, refl, sym, ap, subst, Option, Some, None}
-use Rattle.std.proofs.lemmas.Bool.{and_parts, both_ways, false_from_ne_true, false≢true, or_from, or_parts}
+use Rattle.std.proofs.lemmas.Bool.{and_parts, both_ways, false_from_ne_true, not-true, or_from, or_parts}
 use Rattle.address_map.specs.Bytes.{in_range}
 use Rattle.address_map.specs.Memory.{Mapping, byte_at, free_pages, mapping}
 use Rattle.address_map.specs.Records.{anchor_among}
@@ -17,12 +17,12 @@ use Rattle.instances_ground.specs.os_heap_slide.proofs.Records.{IsSlide, slid_in
 use Rattle.instances_ground.specs.os_heap_slide.specs.Slide.{AreBlocks, HoldNoAnchor, HoldNoHeap, IsSlid, MaySlide, with_slid}
 use Rattle.instances_ground.specs.dynamic_areas.specs.Areas.{Land, find_area}
 use Rattle.instances_ground.specs.dynamic_areas.specs.Ground.{EndsWithArea, Estate, IsEstate, IsGround, estate_of}
-use Rattle.instances_ground.specs.dynamic_areas.specs.declared.area.Area.{Area}
 use Rattle.instances_ground.specs.rma.specs.Calls.{with_store}
 use Rattle.instances_table.specs.Lookup.{has_image_at}
 use Rattle.instances_table.specs.Modules.{Module, slots_of}
 use Rattle.instances_ground.specs.Sound.{IsWorld}
 use Rattle.instances_ground.specs.World.{World, world_of}
+use Rattle.instances_ground.specs.rma.specs.flex_kept.specs.dynamic_areas.proofs.HeapCalls.{same_end}
 use Rattle.instances_slide.proofs.Choosing.{IsChosen, are_blocks, chosen, few_blocks}
 use Rattle.instances_slide.proofs.Following.{beside_moved, images_follow, ranges_mapped, solid_moved, system_moved}
 use Rattle.instances_slide.proofs.Sides.{sides_kept}
@@ -30,10 +30,6 @@ use Rattle.instances_slide.specs.Movable.{can_move, is_named_once, movable_block
 use Rattle.instances_slide.specs.Slid.{image_moved, moves_in, private_words, words_at, words_moved, world_moved, world_slid, world_slid_in}
 
 -- a block that can be moved holds no anchor and no heap
-not_true : (b : Bool) → not b ≡ true → b ≡ false
-not_true true e = absurd (false≢true e)
-not_true false e = refl
-
 pub holds_none : (anchor : ℕ → Bool) (holds : ℕ → ℕ → Bool) (modules : List Module) (words : List ℕ) (return_address at total : ℕ)
     → can_move anchor holds modules words return_address at total ≡ true → (anchor_among anchor at total ≡ false) × (holds at total ≡ false)
 holds_none anchor holds modules words return_address at total can =
@@ -42,7 +38,7 @@ holds_none anchor holds modules words return_address at total can =
     let away : Bool = not (in_range at total return_address) in
     let tied : Bool = has_image_at (at + 4) modules || is_named_once words (at + 4) in
     let both = and_parts free empty (and_parts (free && empty) away (and_parts tied ((free && empty) && away) can).1).0 in
-    (not_true (anchor_among anchor at total) both.0, not_true (holds at total) both.1)
+    (not-true (anchor_among anchor at total) both.0, not-true (holds at total) both.1)
 
 -- so none starts among the bytes that it holds
 pub payload_empty : (hs : List HeapList) (block total : ℕ) → 4 ≤ block → holds_heap hs (block - 4) total ≡ false → holds_heap hs block (total - 4) ≡ false
@@ -109,11 +105,6 @@ may_slide m l modules words movable return_address world images named e =
     (λ h found. found_heap (store_of m).bytes 0x01800000 (store_of m).heaps h world.estate.ground.sound.heaps found)
     (no_heap (find_heap 0x01800000 (store_of m).heaps) a.heap a.found) images named)
 
--- the heap keeps its kind and its end
-ends_same : (h p : HeapList) (o : Option Area) → p.kind ≡ h.kind → p.end ≡ h.end → EndsWithArea (Some h) o → EndsWithArea (Some p) o
-ends_same h p None kind end ends = ends
-ends_same h p (Some a) kind end ends = (kind ∙ ends.0, end ∙ ends.1)
-
 -- the world after the blocks, their records and the images of modules moved
 abbrev pub after_blocks : World → HeapList → List ℕ → World
 after_blocks w h movable = record {
@@ -146,7 +137,7 @@ blocks_sound w h movable world found sound =
           ranges = ranges_mapped s.bytes t.bytes h s.heaps movable s.others slide own refl g.sound.placed g.ranges;
           sound = sound;
         };
-        heap = rw there' (ends_same h p _ refl refl (rw found at world.estate.heap));
+        heap = rw there' (same_end h p _ refl refl (rw found at world.estate.heap));
       };
       system = system_moved (moves_in h movable) s.others world.system;
       images = images_follow (moves_in h movable) s.others w.modules (sides_kept w.estate h movable world.estate found) world.images;

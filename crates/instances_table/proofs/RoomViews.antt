@@ -1,16 +1,16 @@
 -- What a table tells of the modules of a title, and of those of other titles, is what the list
 -- tells.
-use Rattle.std.proofs.Common.{◌≡◌, ℕ, ◌+◌, ◌<◌, ◌≤◌, ◌&&◌, ◌==◌, true, false, List, [], ◌∷◌, append-nil, length, map, drop, get_or, refl, ap, ◌∙◌, not, inl, inr, arith}
+use Rattle.std.proofs.Common.{◌≡◌, ℕ, ◌+◌, ◌<◌, ◌≤◌, ◌&&◌, ◌==◌, true, false, List, [], ◌∷◌, append-nil, length, drop, get_or, refl, ◌∙◌, not, inl, inr, arith}
 use Rattle.std.specs.List.{list_any}
 use Rattle.std.specs.Str.{str_eq_ignore_ascii_case}
 use Rattle.std.proofs.lemmas.Bool.{cases_Bool}
 use Rattle.std.proofs.lemmas.List.{drop_more}
 use Rattle.arrayvec.specs.ArrayVec.{ArrayVec}
 use Rattle.instances_table.specs.declared.loaded.Loaded.{Loaded}
-use Rattle.instances_table.specs.Modules.{Instance, Module, has_slot, has_title, number_of, slots_of}
+use Rattle.instances_table.specs.Modules.{Module, has_slot, has_title, number_of, slots_of}
 use Rattle.instances_table.specs.Changes.{is_held, titled, titled_otherwise}
 use Rattle.instances_table.specs.Table.{instance_of, modules_of, titled_slots}
-use Rattle.instances_table.proofs.ViewLemmas.{list_any-map}
+use Rattle.instances_table.proofs.ViewLemmas.{list_any-map, slots_same}
 
 pub beside_view : (names : List (ArrayVec ℕ)) (title : List ℕ) (slot : ℕ) (ls : List Loaded)
     → is_held slot (titled_otherwise title (modules_of names ls))
@@ -37,10 +37,6 @@ none_titled title (m ∷ ms) none = elim (cases_Bool (has_title title m)) [
   | inr other ↦ rw other (none_titled title ms (let n = rw other at none in omega (arith, n)))
 ]
 
-slots_again : (names : List (ArrayVec ℕ)) (ss : List ℕ) → map (λ (i : Instance). i.slot) (map (instance_of names) ss) ≡ ss
-slots_again names [] = refl
-slots_again names (s ∷ ss) = ap (λ (xs : List ℕ). s ∷ xs) (slots_again names ss)
-
 -- a title is that of one module at most, so its slots are those of the first
 pub titled_view : (names : List (ArrayVec ℕ)) (title : List ℕ) (ls : List Loaded) → number_of (has_title title) (modules_of names ls) ≤ 1
     → slots_of (titled title (modules_of names ls)) ≡ titled_slots title ls
@@ -49,6 +45,6 @@ titled_view names title (l ∷ ls) few = elim (cases_Bool (str_eq_ignore_ascii_c
   | inl is ↦
       let n = rw is at few in
       let none : titled title (modules_of names ls) ≡ [] = none_titled title (modules_of names ls) (omega (arith, n)) in
-      rw (is, none) (append-nil _ ∙ slots_again names l.slots.items)
+      rw (is, none) (append-nil _ ∙ slots_same names l.slots.items)
   | inr other ↦ rw other (titled_view names title ls (let n = rw other at few in omega (arith, n)))
 ]

@@ -307,7 +307,7 @@ none_gone names slot (m ∷ ms) none =
     rw (has_view names slot m, parts.0) (ap (λ (xs : List Module). module_of names m ∷ xs) (none_gone names slot ms parts.1))
 
 -- the slots of all modules
-slots_same : (names : List (ArrayVec ℕ)) (ss : List ℕ) → map (λ (i : Instance). i.slot) (map (instance_of names) ss) ≡ ss
+pub slots_same : (names : List (ArrayVec ℕ)) (ss : List ℕ) → map (λ (i : Instance). i.slot) (map (instance_of names) ss) ≡ ss
 slots_same names [] = refl
 slots_same names (s ∷ ss) = ap (λ (xs : List ℕ). s ∷ xs) (slots_same names ss)
 

@@ -17,12 +17,13 @@ use Rattle.dynamic_areas.specs.Areas.{find_area}
 use Rattle.dynamic_areas.specs.Changing.{AreLoose, ended_by, loose_pages, store_extended, store_less, with_heap_end}
 use Rattle.dynamic_areas.specs.Ground.{Estate, IsEstate}
 use Rattle.dynamic_areas.specs.Remapped.{without_pages_at}
+use Rattle.heaps_kept.proofs.BlockCalls.{ended_same, extended_same}
 use Rattle.heaps_kept.proofs.Blocks.{AreSame}
 use Rattle.heaps_kept.proofs.Guests.{estates_fit}
 use Rattle.heaps_kept.specs.BlockLaws.{total_in}
 use Rattle.heaps_kept.specs.FitEstates.{IsFitEstate}
 use Rattle.live_bytes.proofs.AreaCases.{HoldsAfter, area_call_has}
-use Rattle.live_bytes.proofs.Growing.{ended_same, extended_same, same_kept, same_then}
+use Rattle.live_bytes.proofs.Growing.{same_kept, same_then}
 use Rattle.live_bytes.specs.AreaLaws.{AreaCallsKeepBoth, KeepsBoth}
 
 pub nothing_kept : (s : Store) → KeepsBoth s s

@@ -1,13 +1,11 @@
 -- What a call on modules that is carried on leaves of the module area's blocks, and a step in which
 -- module code comes back, where nothing slides.
-use Rattle.std.proofs.Common.{ℕ, ◌*◌, ◌≡◌, ◌++◌, Bool, true, false, List, [], ◌∷◌, Option, Some, None, Result, Ok, Err, refl, arith}
-use Rattle.std.proofs.lemmas.Bool.{lt-leb, true≢false}
+use Rattle.std.proofs.Common.{ℕ, ◌≡◌, Bool, true, false, List, [], ◌∷◌, Option, Some, None, Result, Ok, Err}
+use Rattle.std.proofs.lemmas.Bool.{true≢false}
 use Rattle.profile.specs.declared.error.ErrorNumber.{ErrorNumber}
-use Rattle.address_map.specs.Bytes.{with_bytes_at}
-use Rattle.dynamic_areas.specs.Ground.{Estate}
 use Rattle.instances.specs.Reading.{start_found}
 use Rattle.instances.specs.declared.answers.Start.{Start}
-use Rattle.instances_ground.specs.World.{World, with_text}
+use Rattle.instances_ground.specs.World.{World}
 use Rattle.instances_plans.specs.Carrying.{Carried}
 use Rattle.instances_plans.specs.Plans.{Plan, settled}
 use Rattle.instances_plans.specs.declared.action.Action.{Action}
@@ -20,8 +18,8 @@ use Rattle.swi_dispatch.specs.Gates.{call_ended_by, carried_on, come_back, ended
 use Rattle.swi_dispatch.specs.MachineState.{MachineState, machine_estate, machine_world}
 use Rattle.swi_dispatch.specs.ModuleStart.{opened_at}
 use Rattle.swi_dispatch.specs.Returns.{gone_back}
-use Rattle.heaps_kept.proofs.BlockPlans.{plans_keep_blocks}
-use Rattle.heaps_kept.proofs.Blocks.{AreSame, beside_same, same_all, same_were, were_both}
+use Rattle.heaps_kept.proofs.BlockPlans.{plans_keep_blocks, text_same}
+use Rattle.heaps_kept.proofs.Blocks.{AreSame, same_all, same_were, were_both}
 use Rattle.heaps_kept.proofs.Plans.{plans_fit}
 use Rattle.heaps_kept.specs.BlockLaws.{HaveNoSlide, WereLive}
 use Rattle.heaps_kept.specs.FitEstates.{IsFitEstate}
@@ -30,12 +28,6 @@ use Rattle.heap_alone.proofs.ModuleHosts.{HasModules, fit_world}
 use Rattle.heap_alone.proofs.ModulePlans.{IsFitPlan}
 use Rattle.live_bytes.proofs.Gates.{Goes, gate_has}
 use Rattle.live_bytes.specs.Changes.{has_slide, slides_on}
-
--- the environment text
-text_same : (e : Estate) (text : List ℕ) → IsFitEstate e → AreSame e.store (with_text e text).store
-text_same e text f =
-    beside_same (4096 * f.area.pages) e.store (record { mapped = e.store.bytes.mapped; at = with_bytes_at e.store.bytes.at 0x01C02200 (text ++ 0 ∷ []) }) f.store
-    (λ a low high. rw (lt-leb 0x01C02200 a (omega (arith, high))) refl)
 
 pub opened_same : (s : MachineState) (text : List ℕ) (slot : ℕ) (o : Option ℕ) → IsFitEstate (machine_estate s)
     → AreSame s.store (opened_at s text slot o).store

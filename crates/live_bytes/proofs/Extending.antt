@@ -23,17 +23,18 @@ use Rattle.os_heap.specs.Forgetting.{forgot, holds_heap}
 use Rattle.os_heap.specs.Store.{Store, find_heap, has_image}
 use Rattle.dynamic_areas.specs.Ground.{Estate}
 use Rattle.rma.specs.Calls.{end_if_moved, end_in_place, grown_in_place, grown_to, in_area, is_full, or_as_before, resized_or_grown, rma_base, rma_extended}
-use Rattle.heaps_kept.proofs.BlockCalls.{WereLiveIn, gave_were}
+use Rattle.heaps_kept.proofs.BlockCalls.{SameGrown, WereLiveIn, gave_were, to_same}
 use Rattle.heaps_kept.proofs.Blocks.{AreSame, held_total, same_all, same_both, unspelled}
-use Rattle.heaps_kept.proofs.HeapCalls.{OnDone, items_of_fit, on_if, on_some, unless_some}
+use Rattle.heaps_kept.proofs.HeapCalls.{items_of_fit, unless_some}
 use Rattle.heaps_kept.proofs.Holding.{forgot_is_fit, held_is_fit, written_is_fit}
 use Rattle.heaps_kept.proofs.Lists.{HasRoomIfSome, resized_room}
 use Rattle.heaps_kept.proofs.ModuleArea.{OnEstate, OnGrown, to_fit}
 use Rattle.heaps_kept.specs.BlockLaws.{StayLive, WereLive, total_in}
 use Rattle.heaps_kept.specs.FitEstates.{IsFitEstate}
 use Rattle.heaps_kept.specs.Fits.{IsFitStore}
-use Rattle.live_bytes.proofs.Growing.{SameGrown, same_then, to_same}
+use Rattle.live_bytes.proofs.Growing.{same_then}
 use Rattle.live_bytes.specs.AreaLaws.{ExtendsKeepBlocks, KeepsBoth}
+use Rattle.flex_kept.proofs.Heaps.{OnDone, on_if, on_some}
 
 -- blocks that stay, and then blocks that were there
 pub stay_were : (s t u : Store) → StayLive s t → WereLive t u → KeepsBoth s u

@@ -34,6 +34,7 @@ use Rattle.instances_plans.specs.Plans.{Plan, settled}
 use Rattle.swi_dispatch_answers.specs.declared.refusal.Refusal.{Refusal}
 use Rattle.swi_dispatch_answers.specs.declared.refusal.Refusal.TheVariants as refusal
 use Rattle.swi_dispatch_store.specs.Heaps.{heap_called, heap_called_for}
+use Rattle.swi_dispatch.proofs.NextTurn.{awake_step}
 use Rattle.swi_dispatch.specs.declared.halt.Halt.{Halt}
 use Rattle.swi_dispatch.specs.declared.halt.Halt.TheVariants as halt
 use Rattle.swi_dispatch_answers.specs.Words.{host_string}
@@ -49,12 +50,11 @@ use Rattle.heap_alone.proofs.HeapAnswers.{Agree, heap_agrees}
 use Rattle.heap_alone.proofs.LiveBytes.{byte_done}
 use Rattle.heap_alone.proofs.ModuleCalls.{area_call_out}
 use Rattle.heap_alone.proofs.ModuleHosts.{HasModules, carried_out, fit_world, opened_out}
-use Rattle.heap_alone.proofs.ModulePlans.{bound_any}
 use Rattle.heap_alone.proofs.OwnCalls.{heap_swi}
 use Rattle.heap_alone.proofs.PlansMade.{IsFitPlanned, load_made}
 use Rattle.heap_alone.proofs.Rows.{is_flex_call}
 use Rattle.heap_alone.proofs.States.{IsGiven, given_goes, given_same, given_stays, has_store, sound_store}
-use Rattle.heap_alone.proofs.Steps.{call_is, step_is}
+use Rattle.heap_alone.proofs.Steps.{call_is}
 use Rattle.heap_alone.specs.ByteLaws.{IsStoredPlain}
 use Rattle.heap_alone.specs.Laws.{IsState}
 use Rattle.heap_alone.specs.ModuleMoves.{is_module_name}
@@ -70,6 +70,7 @@ use Rattle.live_bytes.proofs.Moves.{call_halted, named_call, named_step, step_ha
 use Rattle.live_bytes.proofs.Rows.{error_off}
 use Rattle.live_bytes.specs.Changes.{FlexBytesStay, is_flex_name}
 use Rattle.live_bytes.specs.AreaLaws.{AreaCallHas}
+use Rattle.instances.proofs.GoingOn.{bound as bound_any}
 
 -- an error's block lies in the system pages
 error_out : (s : MachineState) (e : Refusal) → IsFitEstate (machine_estate s) → KeepsOutside s.store (with_error s e).store
@@ -296,7 +297,7 @@ step_stays : (images : List Entry) (s : MachineState) (a : ℕ) (o : Option Halt
     ⊎ (((Step ≡ Step) × IsStoredPlain s a) ⊎ (is_flex_name (swi_of_turn (instructed s)) ≡ true))
 step_stays images s a (Some h) is state after flex = inl (ap (λ (o : Outcome). o.now.store.bytes.at a) (step_halted images s h is))
 step_stays images s a None goes state after flex =
-    let step : machine_step images s ≡ turned images s (instructed s) = step_is images s goes in
+    let step : machine_step images s ≡ turned images s (instructed s) = awake_step images s goes in
     let sound : IsSound (turned images s (instructed s)).now.store =
     subst (λ (o : Outcome). IsSound o.now.store) step (sound_store (moved images s Step) (has_store (moved images s Step) after)) in
     subst (λ (o : Outcome). (o.now.store.bytes.at a ≡ s.store.bytes.at a)

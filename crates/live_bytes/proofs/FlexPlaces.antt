@@ -18,6 +18,7 @@ use Rattle.flex_store.specs.Memory.{block_at, blocks_from, blocks_in}
 use Rattle.flex_store.specs.declared.blocks.FlexBlock.{FlexBlock}
 use Rattle.flex_store.specs.declared.flex.Extent.{Extent}
 use Rattle.flex_store.specs.declared.flex.Flex.{Flex}
+use Rattle.flex_ground.proofs.Kept.{whole_word}
 use Rattle.flex_ground.specs.Ground.{spelled_store}
 use Rattle.heaps_kept.specs.Fits.{is_module_byte}
 use Rattle.store_laws.specs.FlexStore.{HasFlexStore, IsSpelled, IsSpelledAt, spelled_blocks}
@@ -110,9 +111,6 @@ record AreAlike (s t : Store) (o : Option Extent) : Type 0 where
 abbrev HeadersStay : Store → Store → Type 0
 HeadersStay s t = (a : ℕ) → s.header a ≡ true → s.header (word_start a) ≡ true → t.bytes.at a ≡ s.bytes.at a
 
-word_twice : (a : ℕ) → word_start (word_start a) ≡ word_start a
-word_twice a = omega arith
-
 stores_alike : (s t : Store) (o : Option Extent) → IsSpelledAt s o → IsSpelledAt t o → HeadersStay s t → AreAlike s t o
 stores_alike s t None was is kept = record {
   blocks = refl;
@@ -123,7 +121,7 @@ stores_alike s t (Some e) was is kept =
     let alike : LieAlike e.start (spelled_blocks s e) (spelled_blocks t e) =
     blocks_alike s.bytes.at t.bytes.at e.start (e.start + e.used) was.range.start_aligned
     (λ a header. kept a (was.headers a ∙ header)
-    (was.headers (word_start a) ∙ ap (is_header e.start (spelled_blocks s e)) (word_twice a) ∙ header)) in
+    (was.headers (word_start a) ∙ ap (is_header e.start (spelled_blocks s e)) (whole_word a) ∙ header)) in
     record {
       blocks = alike.listed;
       anchors = λ a. is.anchors a ∙ alike.anchors (word_start a) ∙ sym (was.anchors a);

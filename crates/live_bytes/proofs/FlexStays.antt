@@ -1,9 +1,8 @@
 -- A byte of the flex store's range: what the calls on areas leave of it, and that it lies outside
 -- the module area and the system pages.
-use Rattle.std.proofs.Common.{ℕ, ◌+◌, ◌-◌, ◌*◌, ◌==◌, ◌&&◌, ◌≡◌, ◌≢◌, ◌≤◌, ◌<◌, ◌∙◌, Bool, true, false, List, [], ◌∷◌, Option, Some, refl, sym, ap, subst, inl, inr, arith}
-use Rattle.std.proofs.lemmas.Bool.{and_parts, both_ways, cases_eq, eq-eqb, false_from_ne_true, false≢true, leb-true, ne_eqb, or_cases}
+use Rattle.std.proofs.Common.{ℕ, ◌+◌, ◌-◌, ◌*◌, ◌&&◌, ◌≡◌, ◌≢◌, ◌≤◌, ◌<◌, ◌∙◌, Bool, true, false, List, [], ◌∷◌, Option, Some, refl, sym, ap, subst, inl, inr, arith}
+use Rattle.std.proofs.lemmas.Bool.{and_parts, both_ways, cases_eq, false_from_ne_true, false≢true, or_cases}
 use Rattle.std.specs.List.{list_any}
-use Rattle.std.specs.Prelude.{nat_le}
 use Rattle.address_map.specs.Bytes.{in_range}
 use Rattle.address_map.specs.Items.{is_heap_word}
 use Rattle.address_map.specs.Bytes.{word_start}
@@ -16,35 +15,17 @@ use Rattle.os_heap.specs.Calls.{ending}
 use Rattle.os_heap.specs.Store.{AreClear, AreRangesApart, IsClearOfRanges, Store, is_flex_store, is_in_flex_store}
 use Rattle.dynamic_areas.proofs.Loosened.{loose_ended}
 use Rattle.dynamic_areas.proofs.ModuleArea.{IsModuleArea, module_area_known}
-use Rattle.dynamic_areas.proofs.RoomLemmas.{found_behind, in_window}
 use Rattle.dynamic_areas.specs.declared.area.Area.{Area}
 use Rattle.dynamic_areas.specs.Areas.{find_area}
-use Rattle.dynamic_areas.specs.Changing.{AreLoose, AreRangesClear, ended_by, loose_pages, store_less, with_heap_end}
+use Rattle.dynamic_areas.specs.Changing.{AreLoose, ended_by, loose_pages, store_less, with_heap_end}
 use Rattle.dynamic_areas.specs.Ground.{AreRangesMapped, Estate, IsEstate, IsRecorded, is_fixed, is_held, is_land, system_pages}
-use Rattle.dynamic_areas.specs.Rooms.{AreRooms, IsRoom}
+use Rattle.heaps_kept.proofs.Guests.{IsHeldBy, created_low, held_by}
 use Rattle.heaps_kept.specs.Fits.{is_module_byte}
 use Rattle.live_bytes.proofs.AreaCases.{HoldsAfter}
-
--- ranges that are clear of all that is recorded have no byte of the flex store
-flex_clear : (at len : ℕ) (rs : List Region) (a : ℕ) → AreRangesClear at len rs → is_in_flex_store rs a ≡ true → in_range at len a ≡ false
-flex_clear at len [] a clear is = absurd (false≢true is)
-flex_clear at len (r ∷ rs) a clear is = elim (or_cases (is_flex_store r.kind && in_range r.at r.len a) (is_in_flex_store rs a) is) [
-  | inr later ↦ flex_clear at len rs a clear.1 later
-  | inl here ↦
-      let parts = and_parts (is_flex_store r.kind) (in_range r.at r.len a) here in
-      false_from_ne_true (in_range at len a) (λ inside. both_ways (in_range r.at r.len a) (clear.0 a inside) parts.1)
-]
+use Rattle.flex_kept.proofs.Areas.{flex_clear}
+use Rattle.flex_kept.proofs.Writes.{clear_of_flex}
 
 -- nor have the system pages
-flex_beside : (r : Region) (rs : List Region) (a : ℕ) → IsClearOfRanges r rs → is_in_flex_store rs a ≡ true → in_range r.at r.len a ≡ false
-flex_beside r [] a clear is = absurd (false≢true is)
-flex_beside r (q ∷ rs) a clear is = elim (or_cases (is_flex_store q.kind && in_range q.at q.len a) (is_in_flex_store rs a) is) [
-  | inr later ↦ flex_beside r rs a clear.1 later
-  | inl here ↦
-      let parts = and_parts (is_flex_store q.kind) (in_range q.at q.len a) here in
-      false_from_ne_true (in_range r.at r.len a) (λ inside. both_ways (in_range q.at q.len a) (clear.0 a inside) parts.1)
-]
-
 system_beside : (r : Region) (rs : List Region) → IsClearOfRanges r rs → IsRecorded system_pages rs → AreClear r.at r.len 0x01C00000 0x3000
 system_beside r [] clear recorded = absurd recorded
 system_beside r (q ∷ rs) clear recorded = elim recorded [
@@ -62,7 +43,7 @@ off_system (r ∷ rs) a apart recorded is = elim (or_cases (is_flex_store r.kind
         | inr later ↦ system_beside r rs apart.0 later a parts.1
       ]
   | inr later ↦ elim recorded [
-    | inl same ↦ subst (λ (x : Region). in_range x.at x.len a ≡ false) same (flex_beside r rs a apart.0 later)
+    | inl same ↦ subst (λ (x : Region). in_range x.at x.len a ≡ false) same (clear_of_flex r rs a apart.0 later)
     | inr behind ↦ off_system rs a apart.1 behind later
   ]
 ]
@@ -77,27 +58,6 @@ flex_mapped mapped (r ∷ rs) a all is = elim (or_cases (is_flex_store r.kind &&
       all.0 a byte.0 byte.1
 ]
 
--- an area that was created lies after the system pages
-created_low : (a : Area) → IsRoom a → a.number ≢ 1 → 0x02000000 ≤ a.base
-created_low a room other = leb-true 0x02000000 a.base (and_parts (nat_le 0x02000000 a.base) (nat_le (a.base + a.maximum) 0x03000000)
-    (in_window a.number a.base a.maximum other room.place)).0
-
-record IsHeldBy (areas : List Area) (a : ℕ) : Type 0 where
-  area : Area
-  found : find_area area.number areas ≡ Some area
-  room : IsRoom area
-  held : in_range area.base (4096 * area.pages) a ≡ true
-
-held_by : (areas : List Area) (a : ℕ) → AreRooms areas → list_any (is_held a) areas ≡ true → IsHeldBy areas a
-held_by [] a rooms is = absurd (false≢true is)
-held_by (g ∷ areas) a rooms is = elim (or_cases (is_held a g) (list_any (is_held a) areas) is) [
-  | inl here ↦ record { area = g; found = rw (eq-eqb g.number g.number refl) refl; room = rooms.0; held = here }
-  | inr later ↦
-      let rest : IsHeldBy areas a = held_by areas a rooms.1.1 later in
-      let less : g.number < rest.area.number = (found_behind g rest.area rest.area.number areas rooms.1.0 rest.found).0 in
-      let other : (g.number == rest.area.number) ≡ false = ne_eqb g.number rest.area.number (λ same. omega (arith, less, same)) in
-      record { area = rest.area; found = rw other rest.found; room = rest.room; held = rest.held }
-]
 
 module _ (e : Estate) (good : IsEstate e) (system : IsRecorded system_pages e.store.others) (a : ℕ) (flex : is_in_flex_store e.store.others a ≡ true) where
   pub flex_off : in_range 0x01C00000 0x3000 a ≡ false

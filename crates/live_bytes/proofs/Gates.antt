@@ -1,6 +1,6 @@
 -- What a step leaves in which module code comes back: nothing is changed, or its call is carried
 -- on.
-use Rattle.std.proofs.Common.{ℕ, ◌≡◌, ◌≤◌, ◌==◌, Bool, true, false, length, Option, Some, None, refl, sym, subst}
+use Rattle.std.proofs.Common.{ℕ, ◌≤◌, ◌==◌, Bool, true, false, length, Option, Some, None, sym, subst}
 use Rattle.std.specs.Prelude.{IfSome, if◌then◌else◌}
 use Rattle.profile.specs.declared.fault.Fault.TheVariants.{StackChanged}
 use Rattle.arm_core.specs.State.{register_in}
@@ -8,11 +8,8 @@ use Rattle.arm_core.specs.declared.psr.Mode.TheVariants.{Supervisor}
 use Rattle.os_heap.specs.Store.{Store}
 use Rattle.instances.proofs.Turning.{going_back}
 use Rattle.instances.specs.Turns.{IsUnderWay, MayGoOn}
-use Rattle.instances_plans.specs.Plans.{Plan, first_of, refused, settled, settled_by}
-use Rattle.instances_plans.specs.declared.action.Action.{Action}
-use Rattle.instances_plans.specs.declared.action.Action.TheVariants as act
+use Rattle.instances_plans.specs.Plans.{Plan, settled}
 use Rattle.instances_plans.specs.declared.code.Outcome.{Outcome as CodeOutcome}
-use Rattle.instances_plans.specs.declared.code.Outcome.TheVariants.{Refused, Well}
 use Rattle.instances_plans.specs.declared.given.Given.{Given}
 use Rattle.swi_dispatch_frames.specs.declared.frame.Frame.{Frame}
 use Rattle.swi_dispatch_frames.specs.declared.frame.FrameKind.{FrameKind}
@@ -23,33 +20,9 @@ use Rattle.swi_dispatch.specs.Gates.{carried_on, come_back, fault_ahead, frame_c
 use Rattle.swi_dispatch.specs.MachineState.{MachineState, machine_world, quiet}
 use Rattle.swi_dispatch.specs.Returns.{erred, halted}
 use Rattle.heaps_kept.proofs.Slots.{doable_below}
+use Rattle.heap_alone.proofs.Gates.{settled_given}
 use Rattle.heap_alone.proofs.ModuleHosts.{HasModules}
 use Rattle.heap_alone.proofs.ModulePlans.{IsFitPlan}
-
--- code that comes back leaves what its plan was given
-refused_given : (p : Plan) (a : Action) (r0 : ℕ) → (refused p a r0).given ≡ p.given
-refused_given p (act.Finalise slot fatal) r0 = refl
-refused_given p (act.Initialise slot) r0 = refl
-refused_given p (act.Remove slot) r0 = refl
-refused_given p (act.FreePrivate slot) r0 = refl
-refused_given p (act.Insert slot) r0 = refl
-refused_given p (act.Instantiate slot) r0 = refl
-refused_given p act.GiveUp r0 = refl
-refused_given p act.Slide r0 = refl
-
-given_by : (p : Plan) (o : CodeOutcome) (a : Option Action) → (settled_by p o a).given ≡ p.given
-given_by p Well None = refl
-given_by p (Refused r0) None = refl
-given_by p Well (Some a) = refl
-given_by p (Refused r0) (Some a) = refused_given p a r0
-
-given_if : (runs : Bool) (p q : Plan) → q.given ≡ p.given → (if runs then q else p).given ≡ p.given
-given_if true p q same = same
-given_if false p q same = refl
-
-settled_given : (p : Plan) (o : CodeOutcome) → (settled p o).given ≡ p.given
-unfolding settled
-settled_given p o = given_if p.runs p (settled_by p o (first_of p.actions)) (given_by p o (first_of p.actions))
 
 settled_fit : (s : MachineState) (p : Plan) (o : CodeOutcome) → HasModules s → MayGoOn (machine_world s) (Some p) → length p.given.text.items ≤ 255
     → IsFitPlan (settled p o)

@@ -1,6 +1,6 @@
 -- What a call of OS_Heap writes that is done: words of its heap's list, and where it moves a block,
 -- what it copies.
-use Rattle.std.proofs.Common.{ℕ, ◌≡◌, ◌+◌, ◌-◌, ◌%◌, ◌≤◌, ◌<◌, ◌==◌, ◌&&◌, ◌∙◌, ◌⊎◌, not, Bool, true, false, List, [], ◌∷◌, ◌++◌, Option, Some, None, ok_or, Result, Ok, Err, refl, sym, ap, subst, inl, inr, arith, if◌then◌else◌}
+use Rattle.std.proofs.Common.{ℕ, ◌≡◌, ◌+◌, ◌-◌, ◌%◌, ◌≤◌, ◌<◌, ◌==◌, ◌&&◌, ◌∙◌, ◌⊎◌, not, true, List, [], ◌∷◌, ◌++◌, Option, Some, None, ok_or, Result, Ok, Err, refl, sym, ap, subst, inl, inr, arith, if◌then◌else◌}
 use Rattle.std.specs.Prelude.{nat_le, nat_lt}
 use Rattle.std.proofs.lemmas.Bool.{cases_Bool, leb-false, not-false}
 use Rattle.profile.specs.Outcome.{bind}
@@ -24,7 +24,7 @@ use Rattle.os_heap.proofs.Calls.{claimed_in}
 use Rattle.os_heap.proofs.ClaimFacts.{IsClaim, is_claim}
 use Rattle.os_heap.proofs.Forgetting.{own_left}
 use Rattle.os_heap.proofs.Found.{found_ended, found_heap, found_start, with_other_end}
-use Rattle.os_heap.proofs.KeptPayloads.{found_begun, own_there}
+use Rattle.os_heap.proofs.KeptPayloads.{found_begun, own_there, unheld_image}
 use Rattle.os_heap.proofs.Limits.{empty}
 use Rattle.os_heap.proofs.Moving.{found_held}
 use Rattle.os_heap.proofs.PayloadLists.{FromSome, done_store, new_heap, own_start, past_if, some_of, with_list}
@@ -272,10 +272,6 @@ sized_moves s t h block old change answer a sound sound' found live e =
           (total_of-numbers (round_up_8 sum) (omega (arith, many)) (omega arith)) live (rw more at e)
     ]
 
-unless_held : (b : Bool) (o : Option ℕ) (t : ℕ) → unless_image b o ≡ Some t → o ≡ Some t
-unless_held true o t e = absurd (let none : None ≡ Some t = e in cc)
-unless_held false o t e = e
-
 -- what is asked of a block once it is found, of the heap that starts at `start`
 abbrev sized_at : Store → ℕ → HeapList → ℕ → ℕ → ℕ → Result (Store × ℕ) ErrorNumber
 sized_at s start h block change old =
@@ -296,7 +292,7 @@ resized_moves s t heap block change answer a sound sound' e =
     let two : FromSome ℕ (Store × ℕ) (asked h) (at_heap h) r = some_of ℕ (Store × ℕ) (asked h) HeapNotABlock (at_heap h) r one.done in
     let start : h.start ≡ heap = found_start heap s.heaps h one.is in
     let old : ℕ = two.value in
-    let live : live_total block (h.start + 16) h.items ≡ Some old = unless_held (has_image block s.others) (live_total block (h.start + 16) h.items) old two.is in
+    let live : live_total block (h.start + 16) h.items ≡ Some old = unheld_image (has_image block s.others) (live_total block (h.start + 16) h.items) old two.is in
     let sized : sized_to s h block change old ≡ Ok r = subst (λ (p : ℕ). sized_at s p h block change old ≡ Ok r) (sym start) two.done in
     subst (λ (p : ℕ). Moves s p block change t answer a) start
     (sized_moves s t h block old change answer a sound sound' (own_start heap s h one.is) live sized)

@@ -16,6 +16,7 @@ use Rattle.os_heap.proofs.Found.{found_start}
 use Rattle.os_heap.specs.Store.{find_heap}
 use Rattle.dynamic_areas.specs.Ground.{Estate}
 use Rattle.rma.specs.Calls.{rma_claimed, rma_extended, rma_freed}
+use Rattle.instances.proofs.GoingOn.{bound as bound_any}
 use Rattle.instances.specs.Reading.{told}
 use Rattle.instances_ground.specs.World.{World}
 use Rattle.instances_plans.specs.Plans.{Plan}
@@ -36,15 +37,15 @@ use Rattle.swi_dispatch.specs.MachineState.{MachineState, machine_estate, machin
 use Rattle.swi_dispatch.specs.ModuleStart.{module_opened}
 use Rattle.swi_dispatch.specs.Returns.{gone_back}
 use Rattle.swi_dispatch.specs.Step.{begun, os_module_called}
+use Rattle.heaps_kept.proofs.Areas.{heap_same}
 use Rattle.heaps_kept.proofs.BlockCalls.{block_calls_keep}
 use Rattle.heaps_kept.proofs.Guests.{estates_fit}
 use Rattle.heaps_kept.specs.BlockLaws.{total_in}
 use Rattle.heaps_kept.specs.FitEstates.{IsFitEstate}
 use Rattle.heaps_kept.specs.PlanLaws.{IsFitWorld}
-use Rattle.heap_alone.proofs.Keeping.{error_kept, kept_same, off_system}
+use Rattle.heap_alone.proofs.Keeping.{error_kept, off_system}
 use Rattle.heap_alone.proofs.LiveBytes.{payload_inside}
 use Rattle.heap_alone.proofs.ModuleHosts.{HasModules, fit_world}
-use Rattle.heap_alone.proofs.ModulePlans.{bound_any}
 use Rattle.heap_alone.proofs.PlansMade.{IsFitPlanned, load_made}
 use Rattle.heap_alone.proofs.States.{HasStore, sound_store}
 use Rattle.live_bytes.proofs.AreaBlocks.{nothing_kept}
@@ -64,7 +65,7 @@ error_both s e has block total new_total a live live' here there =
     let own : find_heap h.start s.store.heaps ≡ Some h =
     subst (λ (p : ℕ). find_heap p s.store.heaps ≡ Some h) (sym (found_start 0x01800000 s.store.heaps h fit.store.found)) fit.store.found in
     let was : live_total block (h.start + 16) h.items ≡ Some total = sym (ap (total_in block) fit.store.found) ∙ live in
-    (error_kept h s.store s e (off_system s h has own) (kept_same h s.store own)).bytes a
+    (error_kept h s.store s e (off_system s h has own) (heap_same h s.store own)).bytes a
     (payload_inside s.store h block total a (sound_store s has) own was here)
 
 -- calls that run no module code: what they leave of the world

@@ -13,6 +13,7 @@ use Rattle.arm_core.specs.declared.turn.Turn.TheVariants as turn
 use Rattle.image_loader.specs.Entries.{Entry}
 use Rattle.os_heap.proofs.Anchored.{header_outside}
 use Rattle.os_heap.specs.Store.{IsSound, Store, find_heap, is_in_flex_store}
+use Rattle.swi_dispatch.proofs.NextTurn.{awake_step}
 use Rattle.swi_dispatch.specs.declared.halt.Halt.{Halt}
 use Rattle.swi_dispatch.specs.declared.halt.Halt.TheVariants as halt
 use Rattle.swi_dispatch.specs.MachineState.{MachineState, Outcome, quiet}
@@ -26,7 +27,7 @@ use Rattle.heap_alone.proofs.ModuleMoves.{module_called_keeps}
 use Rattle.heap_alone.proofs.OwnCalls.{heap_swi}
 use Rattle.heap_alone.proofs.Rows.{is_flex_call}
 use Rattle.heap_alone.proofs.States.{IsGiven, given_goes, given_same, given_stays, has_store, sound_store}
-use Rattle.heap_alone.proofs.Steps.{call_is, step_is}
+use Rattle.heap_alone.proofs.Steps.{call_is}
 use Rattle.heap_alone.specs.ByteLaws.{IsStoredPlain}
 use Rattle.heap_alone.specs.ModuleMoves.{is_at_gate, is_module_name}
 use Rattle.heap_alone.specs.Laws.{IsState}
@@ -256,7 +257,7 @@ step_stays : (images : List Entry) (s : MachineState) (start a : ℕ) (o : Optio
     → ((moved images s Step).store.bytes.at a ≡ s.store.bytes.at a) ⊎ MayChange s (moved images s Step) Step start a
 step_stays images s start a (Some h) is state after held = inl (ap (λ (o : Outcome). o.now.store.bytes.at a) (step_halted images s h is))
 step_stays images s start a None goes state after held =
-    let step : machine_step images s ≡ turned images s (instructed s) = step_is images s goes in
+    let step : machine_step images s ≡ turned images s (instructed s) = awake_step images s goes in
     let sound : IsSound (turned images s (instructed s)).now.store =
     subst (λ (o : Outcome). IsSound o.now.store) step (sound_store (moved images s Step) (has_store (moved images s Step) after)) in
     let held' : IsHeld s.store (turned images s (instructed s)).now.store start a =

@@ -8,7 +8,7 @@ use Rattle.profile.specs.Outcome.{bind}
 use Rattle.profile.specs.declared.error.ErrorNumber.TheVariants.{BadString}
 use Rattle.profile.specs.declared.fault.Fault.{Fault}
 use Rattle.address_map.specs.Items.{is_heap_word}
-use Rattle.address_map.specs.Bytes.{Bytes, in_range, with_word_at, word_start, word_stored}
+use Rattle.address_map.specs.Bytes.{Bytes, in_range, word_start, word_stored}
 use Rattle.os_heap.specs.Store.{Store, is_flex_word, owned_in}
 use Rattle.swi_dispatch_answers.specs.Words.{host_string}
 use Rattle.swi_dispatch.specs.declared.halt.Halt.{Halt}
@@ -18,11 +18,13 @@ use Rattle.swi_dispatch.specs.MachineState.{MachineState, Outcome, with_memory}
 use Rattle.swi_dispatch.specs.Step.{begun, module_loaded, unless_halted}
 use Rattle.image_loader.specs.Entries.{Entry}
 use Rattle.heap_alone.proofs.ModuleCalls.{loaded_keeps}
+use Rattle.heap_alone.proofs.Storing.{word_past}
 use Rattle.heap_alone.specs.Laws.{IsState}
 use Rattle.live_bytes.proofs.Heaps.{KeepsBlocks, all_kept, has_heaps, held_all}
 use Rattle.live_bytes.proofs.ModuleRows.{loaded_both}
 use Rattle.live_bytes.proofs.Rows.{all_same}
 use Rattle.live_bytes.specs.Changes.{LoadsKeepLiveBytes, PokesChangeOneWord}
+use Rattle.flex_ground.proofs.Kept.{whole_word}
 
 awake : (s : MachineState) (o : Option Halt) (a : Outcome) → KeepsBlocks s.store a.now.store → KeepsBlocks s.store (unless_halted s o a).now.store
 awake s None a kept = kept
@@ -44,9 +46,6 @@ loads_keep images s text state start a held =
 abbrev OneWord : (ℕ → Bool) → Bytes → ℕ → ℕ → Result Bytes Fault → Type 0
 OneWord owned b at a (Ok c) = (c.at a ≡ b.at a) ⊎ ((in_range (word_start at) 4 a ≡ true) × (owned (word_start at) ≡ false))
 OneWord owned b at a (Err f) = Unit {0}
-
-word_past : (f : ℕ → ℕ) (at word a : ℕ) → in_range at 4 a ≡ false → with_word_at f at word a ≡ f a
-word_past f at word a out = grind (arith, nat_tests)
 
 stored : (owned : ℕ → Bool) (b : Bytes) (at word a : ℕ) → OneWord owned b at a (word_stored owned b at word)
 unfolding word_stored
@@ -80,13 +79,10 @@ poked_byte s t at a (Ok b) one is =
     same one
 poked_byte s t at a (Err f) one is = absurd (cc)
 
-word_twice : (at : ℕ) → word_start (word_start at) ≡ word_start at
-word_twice at = omega arith
-
 own_word : (s : Store) (a at : ℕ) → word_start a ≡ word_start at → owned_in s a ≡ owned_in s (word_start at)
 unfolding owned_in
 own_word s a at same =
-    ap (λ (w : ℕ). list_any (λ h. is_heap_word h.start h.items w) s.heaps || is_flex_word s w) (same ∙ sym (word_twice at))
+    ap (λ (w : ℕ). list_any (λ h. is_heap_word h.start h.items w) s.heaps || is_flex_word s w) (same ∙ sym (whole_word at))
 
 its_word : (s : Store) (at a : ℕ) (A : Type 0) → A ⊎ ((in_range (word_start at) 4 a ≡ true) × (owned_in s (word_start at) ≡ false))
     → A ⊎ ((in_range (word_start at) 4 a ≡ true) × (owned_in s a ≡ false))

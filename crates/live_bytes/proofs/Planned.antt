@@ -11,6 +11,7 @@ use Rattle.rma.specs.Copies.{may_be_copied}
 use Rattle.rma.specs.NewImages.{image_copied, image_made, may_be_in_place}
 use Rattle.module_header.specs.Header.{header_of}
 use Rattle.module_header.specs.declared.header.Header.{Header}
+use Rattle.instances.proofs.GoingOn.{bound as bound_any}
 use Rattle.instances.specs.Adding.{adding_plan, copying, good_header, inserting, instantiation, loading, slot_for}
 use Rattle.instances.specs.Plans.{deletion, reinitialisation}
 use Rattle.instances.specs.Reading.{slot_meant}
@@ -33,7 +34,7 @@ use Rattle.heaps_kept.proofs.BlockCalls.{block_calls_keep}
 use Rattle.heaps_kept.specs.BlockLaws.{HaveNoSlide, StayLive}
 use Rattle.heaps_kept.specs.FitEstates.{IsFitEstate}
 use Rattle.heaps_kept.specs.PlanLaws.{IsFitWorld}
-use Rattle.heap_alone.proofs.ModulePlans.{bound, bound_any, bound_if, bound_short}
+use Rattle.heap_alone.proofs.ModulePlans.{bound, bound_if, bound_short}
 
 -- plans without a slide
 abbrev pub NeverSlides : Plan → Type 0

@@ -24,6 +24,7 @@ use Rattle.swi_dispatch_modules.specs.Calls.{module_called as area_called}
 use Rattle.swi_dispatch_store.specs.Areas.{area_called as area_work, area_read}
 use Rattle.swi_dispatch_store.specs.Heaps.{heap_called}
 use Rattle.swi_dispatch.proofs.Kept.{short_name}
+use Rattle.swi_dispatch.proofs.NextTurn.{awake_step}
 use Rattle.swi_dispatch.specs.declared.halt.Halt.{Halt}
 use Rattle.swi_dispatch.specs.declared.halt.Halt.TheVariants as halt
 use Rattle.swi_dispatch.specs.Answers.{Answer, refused, went_on}
@@ -35,7 +36,7 @@ use Rattle.swi_dispatch.specs.Returns.{halted}
 use Rattle.swi_dispatch.specs.Step.{called, called_by, ended, ended_by, instructed, is_exit, machine_step, os_module_called, os_module_called_for, store_called, turned, without_x}
 use Rattle.heap_alone.proofs.HeapAnswers.{overflow_back, set_length}
 use Rattle.heap_alone.proofs.States.{IsGiven, given_goes, given_same}
-use Rattle.heap_alone.proofs.Steps.{call_is, step_is}
+use Rattle.heap_alone.proofs.Steps.{call_is}
 use Rattle.heap_alone.specs.Laws.{IsState}
 use Rattle.heap_alone.specs.Moves.{Call, Step, given, swi_of_turn, with_registers}
 use Rattle.live_bytes.specs.RefusedCalls.{LeavesAllButError, RefusedCallsLeaveAll, may_change_and_err, runs_modules}
@@ -211,7 +212,7 @@ turn_refuses images s name core (Err (turn.Fault f)) is calm goes set = absurd (
 
 pub refused_calls_leave_all : RefusedCallsLeaveAll
 refused_calls_leave_all images s Step name state awake is calm goes set =
-    let step : machine_step images s ≡ turned images s (instructed s) = step_is images s awake in
+    let step : machine_step images s ≡ turned images s (instructed s) = awake_step images s awake in
     subst (λ (o : Outcome). LeavesAllButError s ((s.cpu.pc + 4) % 2 ^ 26) o.now) (sym step)
     (turn_refuses images s name (core_of_state s state) (instructed s) is calm (ap (λ (o : Outcome). o.now.halt) (sym step) ∙ goes)
     (ap (λ (o : Outcome). o.now.cpu.psr.overflow) (sym step) ∙ set))

@@ -1,10 +1,9 @@
 -- What the calls that are none of OS_Heap, of OS_Module or of flex leave of what live blocks hold:
 -- all of it.
-use Rattle.std.proofs.Common.{ℕ, ◌≡◌, ◌≤◌, ◌∙◌, Bool, false, length, List, [], ◌∷◌, ◌++◌, refl, arith}
-use Rattle.std.proofs.lemmas.Bool.Decides.{nat_tests}
+use Rattle.std.proofs.Common.{ℕ, ◌≡◌, ◌∙◌, Bool, false, List, [], ◌∷◌, ◌++◌, refl}
 use Rattle.profile.specs.ErrorNames.{error_code, error_name}
 use Rattle.profile.specs.SwiNames.{swi_of}
-use Rattle.address_map.specs.Bytes.{in_range, with_bytes_at, with_word_at}
+use Rattle.address_map.specs.Bytes.{in_range, with_word_at}
 use Rattle.image_loader.specs.Entries.{Entry}
 use Rattle.os_heap_lists.specs.Heap.{HeapList}
 use Rattle.os_heap.specs.Store.{Store}
@@ -13,7 +12,7 @@ use Rattle.heaps_kept.proofs.Areas.{area_calls_keep}
 use Rattle.heaps_kept.specs.AreaLaws.{AreaCallKeepsHeap}
 use Rattle.swi_dispatch_answers.specs.declared.refusal.Refusal.{Refusal}
 use Rattle.swi_dispatch_answers.specs.declared.refusal.Refusal.TheVariants as refusal
-use Rattle.swi_dispatch.proofs.Kept.{short_name}
+use Rattle.swi_dispatch.proofs.Kept.{outside_bytes, outside_word, short_name}
 use Rattle.swi_dispatch.specs.Errors.{with_error}
 use Rattle.swi_dispatch.specs.MachineState.{MachineState, machine_estate}
 use Rattle.swi_dispatch.specs.Step.{called}
@@ -27,17 +26,11 @@ use Rattle.live_bytes.proofs.Heaps.{HasHeaps, KeepsBlocks, all_kept}
 use Rattle.live_bytes.specs.AreaLaws.{AreaCallHas, KeepsBoth}
 
 -- an error's block lies in the system pages
-word_off : (f : ℕ → ℕ) (a number : ℕ) → in_range 0x01C00000 0x3000 a ≡ false → with_word_at f 0x01C02100 number a ≡ f a
-word_off f a number out = grind (arith, nat_tests)
-
-bytes_off : (f : ℕ → ℕ) (a : ℕ) (text : List ℕ) → length text ≤ 128 → in_range 0x01C00000 0x3000 a ≡ false → with_bytes_at f 0x01C02104 text a ≡ f a
-bytes_off f a text short out = grind (arith, nat_tests)
-
 pub error_off : (t : MachineState) (e : Refusal) (a : ℕ) → in_range 0x01C00000 0x3000 a ≡ false → (with_error t e).store.bytes.at a ≡ t.store.bytes.at a
 error_off t refusal.Own a out = refl
 error_off t (refusal.System e) a out =
-    bytes_off (with_word_at t.store.bytes.at 0x01C02100 (error_code e)) a (error_name e ++ 0 ∷ []) (short_name e) out
-    ∙ word_off t.store.bytes.at a (error_code e) out
+    outside_bytes (with_word_at t.store.bytes.at 0x01C02100 (error_code e)) a (error_name e ++ 0 ∷ []) (short_name e) out
+    ∙ outside_word t.store.bytes.at a (error_code e) out
 
 pub all_same : (s : Store) → KeepsBlocks s s
 all_same s h g block total new_total a found found' live live' here there = refl

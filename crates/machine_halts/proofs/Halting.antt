@@ -41,6 +41,7 @@ use Rattle.swi_dispatch_plans.specs.Trials.{world_carried}
 use Rattle.swi_dispatch_plans.specs.declared.openings.Opening.{Opening}
 use Rattle.swi_dispatch_plans.specs.instances.specs.declared.answers.Start.{Start}
 use Rattle.swi_dispatch_plans.specs.instances.specs.Reading.{start_found}
+use Rattle.swi_dispatch.proofs.NextTurn.{awake_step}
 use Rattle.swi_dispatch.specs.declared.halt.Halt.{Halt}
 use Rattle.swi_dispatch.specs.declared.halt.Halt.TheVariants as halt
 use Rattle.swi_dispatch.specs.Additions.{Planned, copy_planned, insertion_planned, load_planned, named_load_planned, plan_alone}
@@ -285,10 +286,6 @@ halts_by images s None h is ends = elim (turn_goes images s (instructed s)) [
 pub halts_change_nothing : HaltsChangeNothing
 unfolding machine_step
 halts_change_nothing images s h ends = halts_by images s s.halt h refl ends
-
-awake_step : (images : List Entry) (s : MachineState) → s.halt ≡ None → machine_step images s ≡ turned images s (instructed s)
-unfolding machine_step
-awake_step images s awake = ap (λ (o : Option Halt). unless_halted s o (turned images s (instructed s))) awake
 
 exits_by : (images : List Entry) (s : MachineState) → s.halt ≡ None → (turned images s (instructed s)).now.halt ≡ Some halt.Exit → Exits s
 exits_by images s awake ends = elim (turn_goes images s (instructed s)) [

@@ -14,10 +14,8 @@ use Rattle.profile.specs.declared.swi.SwiName.{SwiName}
 use Rattle.profile.specs.declared.swi.SwiName.TheVariants as swi
 use Rattle.address_map.proofs.Stores.{in_range-cases}
 use Rattle.address_map.specs.Bytes.{Bytes, in_range, with_word_at}
-use Rattle.arm_core.specs.declared.psr.Mode.{Mode}
-use Rattle.arm_core.specs.declared.psr.Mode.TheVariants.{User, FastInterrupt, Interrupt, Supervisor}
-use Rattle.arm_core.specs.declared.psr.Psr.{Psr}
-use Rattle.arm_core.specs.State.{State, register_of, slot_of, with_register}
+use Rattle.arm_step.specs.declared.psr.Psr.{Psr}
+use Rattle.arm_step.specs.State.{State, register_of, slot_of, with_register}
 use Rattle.image_loader.specs.Entries.{Entry}
 use Rattle.instances_table.specs.declared.parts.Handler.{Handler}
 use Rattle.instances_table.specs.Lookup.{handler_of}
@@ -33,6 +31,7 @@ use Rattle.swi_dispatch_flex.specs.Calls.{FlexMemory}
 use Rattle.swi_dispatch_frames.specs.Entering.{swi_entered}
 use Rattle.swi_dispatch_plans.specs.Openings.{opening_asked}
 use Rattle.swi_dispatch_plans.specs.declared.openings.Opening.{Opening}
+use Rattle.swi_dispatch.proofs.GateReturns.{first_slot}
 use Rattle.swi_dispatch.proofs.Kept.{short_name}
 use Rattle.swi_dispatch.specs.Answers.{Answer, refused, went_on}
 use Rattle.swi_dispatch.specs.Calls.{call_answer, generated, on_estate, on_flex, on_store, on_world, wrote_text_after, wrote_text_at}
@@ -55,13 +54,6 @@ error_beside b e a out =
     (elim clear [ inl low ↦ inl (omega (arith, low)) | inr high ↦ inr (omega (arith, high, short_name e)) ])
     ∙ word_beside b.at 0x01C02100 (error_code e) a (elim clear [ inl low ↦ inl low | inr high ↦ inr (omega (arith, high)) ])
 
--- R0 is the first of the core's registers in all modes
-slot_zero : (m : Mode) → slot_of m 0 ≡ 0
-slot_zero User = refl
-slot_zero FastInterrupt = refl
-slot_zero Interrupt = refl
-slot_zero Supervisor = refl
-
 register_back : (caller : Psr) (cpu : State) (next k : ℕ) → (k ≡ 25 → ⊥)
     → slice_index (returned caller cpu true next).file k ≡ slice_index cpu.file k
 unfolding returned
@@ -69,7 +61,7 @@ register_back caller cpu next k other = get_or-set_other cpu.file 25 k (return_w
 
 register_told : (cpu : State) (v k : ℕ) → (k ≡ 0 → ⊥) → slice_index (with_register cpu 0 v).file k ≡ slice_index cpu.file k
 register_told cpu v k other =
-    let at : slot_of cpu.psr.mode 0 ≡ 0 = slot_zero cpu.psr.mode in
+    let at : slot_of cpu.psr.mode 0 ≡ 0 = first_slot cpu.psr.mode in
     get_or-set_other cpu.file (slot_of cpu.psr.mode 0) k v 0 (λ same. other (omega (arith, same, at)))
 
 -- a refusal with the X bit

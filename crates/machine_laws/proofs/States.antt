@@ -1,19 +1,15 @@
 -- What every machine has are stores.
-use Rattle.std.proofs.Common.{◌≤◌, Bool, true, false, [], Option, Some, None, length, lit≤}
-use Rattle.instances_plans.specs.declared.given.Given.{Given}
+use Rattle.std.proofs.Common.{◌≤◌, [], Option, Some, None, lit≤}
 use Rattle.instances_plans.specs.Plans.{Plan}
 use Rattle.instances_table.specs.Modules.{AreModules}
 use Rattle.flex_ground.specs.Ground.{HasFlex}
 use Rattle.swi_dispatch_plans.specs.instances.specs.Turns.{MayGoOn}
-use Rattle.swi_dispatch_plans.specs.instances.specs.instances_actions.specs.Pending.{is_pending, pending_by, pending_of}
+use Rattle.swi_dispatch_plans.specs.instances.specs.instances_actions.specs.Pending.{is_pending, pending_of}
+use Rattle.swi_dispatch.proofs.FlexCalls.{pending_one}
 use Rattle.swi_dispatch.specs.Parts.{Parts, parts_world}
 use Rattle.store_laws.proofs.Turns.{machines_have}
 use Rattle.store_laws.specs.Meaning.{AreStores}
 use Rattle.machine_laws.specs.MachineStores.{StatesHaveStores, pending_in}
-
-pending_one : (b : Bool) (g : Given) → length (pending_by b g []) ≤ 1
-pending_one true g = lit≤ tt
-pending_one false g = lit≤ tt
 
 stores_by : (p : Parts) (plan : Option Plan) → MayGoOn (parts_world p) plan → HasFlex p.map p.tables.flex → AreModules p.tables.modules
     → AreStores (record { world = parts_world p; flex = p.tables.flex; pending = pending_in plan })

@@ -47,7 +47,7 @@ areas_left at len (g ∷ hs) =
       | inr kept ↦ rw kept (elim (cases_Bool (is_area g.kind)) [ inl area ↦ rw area (omega (arith, rest)) | inr guest ↦ rw guest rest ])
     ]
 
-areas_stand : (at len : ℕ) (hs : List HeapList) → StandAreas hs → StandAreas (without_heaps at len hs)
+pub areas_stand : (at len : ℕ) (hs : List HeapList) → StandAreas hs → StandAreas (without_heaps at len hs)
 areas_stand at len [] stand = tt
 areas_stand at len (g ∷ hs) stand = elim (cases_Bool (starts_in at len g)) [
   | inl gone ↦ rw gone (areas_stand at len hs stand.1)

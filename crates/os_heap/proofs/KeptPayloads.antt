@@ -255,7 +255,7 @@ keeps_in_place s t h block old new answer (Some items) sound sound' found total 
     (own_left s h block old (block - 4 + new) found (omega (arith, lies.low)) (omega (arith, lies.low, (total_facts new total).0)))
     (done_store ℕ (holding v h items) t block answer free.1)
 
-unheld_image : (b : Bool) (o : Option ℕ) (t : ℕ) → unless_image b o ≡ Some t → o ≡ Some t
+pub unheld_image : (b : Bool) (o : Option ℕ) (t : ℕ) → unless_image b o ≡ Some t → o ≡ Some t
 unheld_image true o t e = absurd (let none : None ≡ Some t = e in cc)
 unheld_image false o t e = e
 

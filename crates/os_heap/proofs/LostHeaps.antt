@@ -93,13 +93,13 @@ none_without at len (g ∷ hs) none =
     let parts = or_parts (starts_in at len g) (list_any (starts_in at len) hs) none in
     rw parts.0 (ap (λ (xs : List HeapList). g ∷ xs) (none_without at len hs parts.1))
 
-none_lowest : (block len from : ℕ) (hs : List HeapList) → holds_heap hs block len ≡ false → lowest_lost block len from hs ≡ from
+pub none_lowest : (block len from : ℕ) (hs : List HeapList) → holds_heap hs block len ≡ false → lowest_lost block len from hs ≡ from
 none_lowest block len from [] none = refl
 none_lowest block len from (g ∷ hs) none =
     let parts = or_parts (starts_in block len g) (list_any (starts_in block len) hs) none in
     rw parts.0 (none_lowest block len from hs parts.1)
 
-same_heaps : (s : Store) (hs : List HeapList) → hs ≡ s.heaps → (let t : Store = record s { heaps = hs } in t ≡ s)
+pub same_heaps : (s : Store) (hs : List HeapList) → hs ≡ s.heaps → (let t : Store = record s { heaps = hs } in t ≡ s)
 same_heaps s hs same = λ i. record s { heaps = same i }
 
 pub forgot_none : (s : Store) (block total : ℕ) → 4 ≤ block → holds_heap s.heaps block (total - 4) ≡ false → 4 ≤ total → forgot s block total block ≡ s

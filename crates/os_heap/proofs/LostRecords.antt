@@ -64,7 +64,7 @@ loses_range m n at len sound records heaps =
     ∙ ap (λ (gs : List HeapList). filter (stays gs) (regions m)) (sym heaps)
 
 -- another list of a heap changes no record, and takes none away
-found_listed : (start at : ℕ) (items : List Item) (hs : List HeapList) → is_some (find_heap at (with_items start items hs)) ≡ is_some (find_heap at hs)
+pub found_listed : (start at : ℕ) (items : List Item) (hs : List HeapList) → is_some (find_heap at (with_items start items hs)) ≡ is_some (find_heap at hs)
 found_listed start at items [] = refl
 found_listed start at items (g ∷ hs) =
     let rest : is_some (find_heap at (with_items start items hs)) ≡ is_some (find_heap at hs) = found_listed start at items hs in

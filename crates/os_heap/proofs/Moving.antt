@@ -286,7 +286,7 @@ pub record IsMoved (m q : AddressMap) (heap block total needed new : ℕ) : Type
   pub kept : KeepsRest m q
 
 -- a claim leaves the starts of all heaps
-held_listed : (start at len : ℕ) (items : List Item) (hs : List HeapList) → holds_heap (with_items start items hs) at len ≡ holds_heap hs at len
+pub held_listed : (start at len : ℕ) (items : List Item) (hs : List HeapList) → holds_heap (with_items start items hs) at len ≡ holds_heap hs at len
 held_listed start at len items [] = refl
 held_listed start at len items (g ∷ hs) =
     let rest : holds_heap (with_items start items hs) at len ≡ holds_heap hs at len = held_listed start at len items hs in

@@ -19,7 +19,7 @@ heaps_in-other b (g ∷ rs) r other =
       | inr plain ↦ rw (plain, heaps_in-other b rs r other) refl
     ]
 
-others_in-other : (rs : List Region) (r : Region) → is_heap_kind r.kind ≡ false → others_in (rs ++ r ∷ []) ≡ others_in rs ++ r ∷ []
+pub others_in-other : (rs : List Region) (r : Region) → is_heap_kind r.kind ≡ false → others_in (rs ++ r ∷ []) ≡ others_in rs ++ r ∷ []
 others_in-other [] r other = rw other refl
 others_in-other (g ∷ rs) r other =
     elim (cases_Bool (is_heap_kind g.kind)) [
@@ -59,7 +59,7 @@ store_recorded m n r other records bytes marks =
       header = λ a. is_flex_header (marks a i);
     })
 
-in_more : (rs : List Region) (r : Region) (a : ℕ) → is_in_flex_store rs a ≡ true → is_in_flex_store (rs ++ r ∷ []) a ≡ true
+pub in_more : (rs : List Region) (r : Region) (a : ℕ) → is_in_flex_store rs a ≡ true → is_in_flex_store (rs ++ r ∷ []) a ≡ true
 in_more [] r a is = absurd (false≢true is)
 in_more (q ∷ rs) r a is = elim (cases_Bool (is_flex_store q.kind && in_range q.at q.len a)) [
   | inl here ↦ or_left _ (is_in_flex_store (rs ++ r ∷ []) a) here

@@ -147,7 +147,7 @@ pub record IsSlidStore (m q : AddressMap) (h : HeapList) (movable : List ℕ) : 
   pub classes : AreClasses q
 
 -- anchors lie in blocks that stay
-slide_keeps : (anchor mv : ℕ → Bool) (at : ℕ) (xs : List Item) → AreTotals xs
+pub slide_keeps : (anchor mv : ℕ → Bool) (at : ℕ) (xs : List Item) → AreTotals xs
     → ((b : ℕ) → mv b ≡ true → holds_anchor anchor b (live_total b at xs) ≡ false) → KeepsAnchors anchor at xs (slid mv at at xs)
 slide_keeps anchor mv at xs totals free a anchored held = elim (cases_Bool (mv held.block)) [
   | inl moves ↦
@@ -169,7 +169,7 @@ slide_keeps anchor mv at xs totals free a anchored held = elim (cases_Bool (mv h
       }
 ]
 
-moved_flex : (moves : List Move) (rs : List Region) (a : ℕ) → is_in_flex_store rs a ≡ true → is_in_flex_store (moved_regions moves rs) a ≡ true
+pub moved_flex : (moves : List Move) (rs : List Region) (a : ℕ) → is_in_flex_store rs a ≡ true → is_in_flex_store (moved_regions moves rs) a ≡ true
 moved_flex moves [] a is = is
 moved_flex moves (r ∷ rs) a is = elim (cases_Bool (is_flex_store r.kind && in_range r.at r.len a)) [
   | inl here ↦

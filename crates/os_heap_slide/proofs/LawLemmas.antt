@@ -1,7 +1,8 @@
 -- The laws of slides.
-use Rattle.std.proofs.Common.{List, ℕ, Bool, [], ◌∷◌, ◌++◌, ◌≡◌, ◌≤◌, ◌<◌, ◌+◌, ◌-◌, ◌*◌, ◌/◌, ◌%◌, ◌==◌, ◌∙◌, true, false, refl, inl, inr, zero-add, arith}
-use Rattle.std.proofs.lemmas.Bool.{cases_Bool, eq-eqb, le-leb, lt-ltb}
+use Rattle.std.proofs.Common.{List, ℕ, Bool, [], ◌∷◌, ◌++◌, ◌≡◌, ◌≤◌, ◌+◌, ◌-◌, ◌*◌, ◌/◌, ◌%◌, ◌==◌, ◌∙◌, true, false, refl, inl, inr, zero-add, arith}
+use Rattle.std.proofs.lemmas.Bool.{cases_Bool, eq-eqb, le-leb}
 use Rattle.std.proofs.lemmas.Bool.Decides.{nat_tests}
+use Rattle.address_map.proofs.Moving.{moved_in}
 use Rattle.address_map.specs.Bytes.{with_moved_at}
 use Rattle.address_map.specs.Items.{is_total, size_of}
 use Rattle.address_map.specs.declared.item.Item.{Item}
@@ -29,11 +30,6 @@ kept_of mv top at (Live t ∷ xs) f g new same kept = (
   kept_of mv (place_of (mv (at + 4)) top at + t) (at + t) xs f g new (λ a low. same a (omega arith)) kept.1,
 )
 
-moved_here : (f : ℕ → ℕ) (from to len k : ℕ) → k < len → with_moved_at f from to len (to + k) ≡ f (from + k)
-moved_here f from to len k low =
-    let e : to + k - to ≡ k = omega arith in
-    rw (le-leb to (to + k) (omega arith), lt-ltb (to + k) (to + len) (omega arith), e) refl
-
 pub slide_keeps : SlideKeeps
 slide_keeps mv top at [] bytes low = tt
 slide_keeps mv top at (Free t ∷ xs) bytes low = slide_keeps mv top (at + t) xs bytes (omega arith)
@@ -41,7 +37,7 @@ slide_keeps mv top at (Live t ∷ xs) bytes low =
     let place : ℕ = place_of (mv (at + 4)) top at in
     let bounds : (top ≤ place) × (place ≤ at) = between (mv (at + 4)) top at low in
     let next : ℕ → ℕ = with_moved_at bytes at place t in (
-      λ k less. bytes_low mv (place + t) (at + t) xs next (place + k) (omega (arith, bounds.1)) (omega arith) ∙ moved_here bytes at place t k less,
+      λ k less. bytes_low mv (place + t) (at + t) xs next (place + k) (omega (arith, bounds.1)) (omega arith) ∙ moved_in bytes at place t k less,
       kept_of mv (place + t) (at + t) xs bytes next (slid_bytes mv (place + t) (at + t) xs next)
           (λ a high. moved_past bytes at place t a (omega (arith, bounds.1))) (slide_keeps mv (place + t) (at + t) xs next (omega (arith, bounds.1))),
     )

@@ -1,6 +1,7 @@
 -- The records of images follow their blocks, and those of other ranges stay.
 use Rattle.std.proofs.Common.{List, ℕ, Bool, [], ◌∷◌, ◌≡◌, ◌≢◌, ◌≤◌, ◌<◌, ◌⊎◌, ◌+◌, ◌∙◌, true, false, refl, sym, ap, subst, inl, inr, Some, arith}
-use Rattle.std.proofs.lemmas.Bool.{both_ways, cases_Bool, cases_eq, eq-eqb, ne_eqb, false≢true, le-leb, lt-ltb}
+use Rattle.std.proofs.lemmas.Bool.{both_ways, cases_Bool, cases_eq, eq-eqb, ne_eqb, false≢true}
+use Rattle.address_map.proofs.InRange.{range_inside}
 use Rattle.address_map.proofs.Stores.{in_range-cases}
 use Rattle.address_map.specs.Bytes.{Bytes, in_range}
 use Rattle.address_map.specs.Items.{size_of}
@@ -15,7 +16,7 @@ use Rattle.os_heap_lists.proofs.LiveBlocks.{LiveBytes, live_apart, live_bytes}
 use Rattle.os_heap_lists.specs.Heap.{HeapList, IsHeapIn}
 use Rattle.os_heap_lists.specs.Lists.{live_total}
 use Rattle.os_heap.proofs.Apart.{range_parts}
-use Rattle.os_heap.proofs.Nesting.{listed}
+use Rattle.os_heap.proofs.Nesting.{clear_turned, listed}
 use Rattle.os_heap.proofs.Stores.{AreOthers, placed_by}
 use Rattle.os_heap.specs.Calls.{with_items}
 use Rattle.os_heap.specs.Nesting.{IsWithin, StandsApart}
@@ -90,20 +91,11 @@ clear_empty at len b other none a inside = elim (in_range-cases b other a) [
   | inr r ↦ r.0
 ]
 
-inside_range : (at len a : ℕ) → at ≤ a → a < at + len → in_range at len a ≡ true
-inside_range at len a low high = rw (le-leb at a low, lt-ltb a (at + len) high) refl
-
-turned : (at len b other : ℕ) → AreClear at len b other → AreClear b other at len
-turned at len b other clear a there = elim (in_range-cases at len a) [
-  | inl r ↦ absurd (false≢true (sym (clear a r.0) ∙ there))
-  | inr r ↦ r.0
-]
-
 -- a range in another one that is clear of a third
 within_clear : (at len b other c size : ℕ) → b ≤ at → at + len ≤ b + other → AreClear b other c size → AreClear at len c size
 within_clear at len b other c size low high clear a inside =
     let here : (at ≤ a) × (a < at + len) = range_parts at len a inside in
-    clear a (inside_range b other a (omega (arith, here.0)) (omega (arith, here.1)))
+    clear a (range_inside b other a (omega (arith, here.0)) (omega (arith, here.1)))
 
 -- What a record is to the heap that slides: empty, clear of it and unmoved, or that of an image in
 -- it.
@@ -141,8 +133,8 @@ clear_still b c h movable r s clear = elim (cases_eq r.len 0) [
   | inl none ↦ inl none
   | inr some ↦ inr (inl (record {
     place = still_place (moves_in h movable) r.kind r.at
-        (out_still b c h movable r.at s (clear r.at (inside_range r.at r.len r.at (omega arith) (omega (arith, some)))));
-    clear = turned r.at r.len h.start h.end clear;
+        (out_still b c h movable r.at s (clear r.at (range_inside r.at r.len r.at (omega arith) (omega (arith, some)))));
+    clear = clear_turned r.at r.len h.start h.end clear;
   }))
 ]
 
@@ -185,8 +177,8 @@ both_images b c h movable r q s one two clear =
     let range : (h.start ≤ r.at) × ((r.at + r.len ≤ h.start + h.end) × (4 ≤ r.len)) = image_range b h r s.old one in
     let range' : (h.start ≤ q.at) × ((q.at + q.len ≤ h.start + h.end) × (4 ≤ q.len)) = image_range b h q s.old two in
     let other : r.at ≢ q.at = λ (e : r.at ≡ q.at).
-    false≢true (sym (clear r.at (inside_range r.at r.len r.at (omega arith) (omega (arith, range.1.1))))
-    ∙ inside_range q.at q.len r.at (omega (arith, e)) (omega (arith, e, range'.1.1))) in
+    false≢true (sym (clear r.at (range_inside r.at r.len r.at (omega arith) (omega (arith, range.1.1))))
+    ∙ range_inside q.at q.len r.at (omega (arith, e)) (omega (arith, e, range'.1.1))) in
     let distinct : moved_to moves r.at ≢ moved_to moves q.at =
     stay_distinct mv (h.start + 16) (h.start + 16) h.items r.at (r.len + 4) q.at (q.len + 4) (omega arith) s.old.totals one.live two.live other in
     let new : ℕ = moved_place moves r.kind r.at in
@@ -212,7 +204,7 @@ pair_apart b c h movable r q s (inr (inl one)) (inr (inl two)) clear = rw (one.p
 pair_apart b c h movable r q s (inr (inl one)) (inr (inr two)) clear =
     let range : (h.start ≤ moved_place (moves_in h movable) q.kind q.at) × (moved_place (moves_in h movable) q.kind q.at + q.len ≤ h.start + h.end) =
     moved_range b c h movable q s two in
-    rw one.place (turned _ q.len r.at r.len (within_clear _ q.len h.start h.end r.at r.len range.0 range.1 one.clear))
+    rw one.place (clear_turned _ q.len r.at r.len (within_clear _ q.len h.start h.end r.at r.len range.0 range.1 one.clear))
 pair_apart b c h movable r q s (inr (inr one)) (inr (inl two)) clear =
     let range : (h.start ≤ moved_place (moves_in h movable) r.kind r.at) × (moved_place (moves_in h movable) r.kind r.at + r.len ≤ h.start + h.end) =
     moved_range b c h movable r s one in
@@ -255,8 +247,8 @@ not_round b h g r heap image within (inl clear) same =
     let both : Some (r.len + 4) ≡ Some within.total =
     sym (subst (λ (x : ℕ). live_total x (h.start + 16) h.items ≡ Some (r.len + 4)) same image.live) ∙ within.live in
     let size : r.len + 4 ≡ within.total = cc in
-    false≢true (sym (clear g.start (inside_range r.at r.len g.start (omega (arith, within.low, same)) (omega (arith, within.high, same, size, heap.inside))))
-    ∙ inside_range g.start g.end g.start (omega arith) (omega (arith, heap.inside)))
+    false≢true (sym (clear g.start (range_inside r.at r.len g.start (omega (arith, within.low, same)) (omega (arith, within.high, same, size, heap.inside))))
+    ∙ range_inside g.start g.end g.start (omega arith) (omega (arith, heap.inside)))
 
 image_aside : (b c : Bytes) (h g : HeapList) (movable : List ℕ) (r : Region) → IsSlide b c h movable → IsHeapIn b g.start g.end g.items
     → IsImageBlock h r → ((within : IsWithin h g) → is_listed movable within.block ≡ false) → StandsApart h g
@@ -289,7 +281,7 @@ own_placed : (b c : Bytes) (h g : HeapList) (movable : List ℕ) (r : Region) �
     → AreClear (moved_place (moves_in h movable) r.kind r.at) r.len g.start g.end ⊎ IsImageBlock (listed g (slid_in h movable)) (moved_region (moves_in h movable) r)
 own_placed b c h g movable r s same (inl none) = inl (empty_clear _ r.len g.start g.end none)
 own_placed b c h g movable r s same (inr (inl still)) =
-    inl (rw still.place (turned g.start g.end r.at r.len (subst (λ (x : HeapList). AreClear x.start x.end r.at r.len) (sym same) still.clear)))
+    inl (rw still.place (clear_turned g.start g.end r.at r.len (subst (λ (x : HeapList). AreClear x.start x.end r.at r.len) (sym same) still.clear)))
 own_placed b c h g movable r s same (inr (inr image)) =
     let start : g.start ≡ h.start = ap (λ (x : HeapList). x.start) same in
     inr (record {

@@ -3,6 +3,7 @@ use Rattle.std.proofs.Common.{◌≡◌, ℕ, zero, suc, ◌+◌, ◌*◌, ◌<�
 use Rattle.std.specs.Prelude.{Bool, ◌||◌, if◌then◌else◌, nat_le, nat_lt}
 use Rattle.std.proofs.lemmas.Bool.{cases_lt}
 use Rattle.std.proofs.lemmas.Bool.Decides.{nat_tests}
+use Rattle.address_map.proofs.InRange.{range_before, range_inside, range_past}
 use Rattle.address_map.specs.Bytes.{in_range}
 use Rattle.address_map.specs.Counts.{counted}
 
@@ -22,20 +23,11 @@ counted_either f g (suc n) apart =
       sum false b apart = omega arith
       sum true b apart = rw (apart refl) refl
 
--- below a range, within it, and above
-below : (at len k : ℕ) → k < at → in_range at len k ≡ false
-below at len k low = grind (arith, nat_tests)
-
-inside : (at len k : ℕ) → at ≤ k → k < at + len → in_range at len k ≡ true
-inside at len k low high = grind (arith, nat_tests)
-
-above : (at len k : ℕ) → at + len ≤ k → in_range at len k ≡ false
-above at len k high = grind (arith, nat_tests)
-
+-- below a range none, and within it each
 counted_below : (at len n : ℕ) → n ≤ at → counted (in_range at len) n ≡ 0
 unfolding counted
 counted_below at len zero low = refl
-counted_below at len (suc n) low = rw (counted_below at len n (omega (arith, low)), below at len n (omega (arith, low))) refl
+counted_below at len (suc n) low = rw (counted_below at len n (omega (arith, low)), range_before at len n (omega (arith, low))) refl
 
 at_or_below : (a n : ℕ) → a ≤ suc n → (a ≡ suc n) ⊎ (a ≤ n)
 at_or_below a n low =
@@ -51,11 +43,11 @@ counted_inside at len (suc n) low high =
     elim (at_or_below at n low) [
       | inl is ↦
           let none = counted_below at len n (omega (arith, is)) in
-          let last = below at len n (omega (arith, is)) in
+          let last = range_before at len n (omega (arith, is)) in
           rw (none, last) (omega (arith, is))
       | inr there ↦
           let some = counted_inside at len n there (omega (arith, high)) in
-          let last = inside at len n there (omega (arith, high)) in
+          let last = range_inside at len n there (omega (arith, high)) in
           rw last (omega (arith, some))
     ]
 
@@ -65,7 +57,7 @@ counted_range at len zero high = omega (arith, high)
 counted_range at len (suc n) high =
     elim (at_or_below (at + len) n high) [
       | inl is ↦ omega (arith, counted_inside at len (suc n) (omega (arith, is)) (omega (arith, is)), is)
-      | inr there ↦ rw (above at len n there) (omega (arith, counted_range at len n there))
+      | inr there ↦ rw (range_past at len n there) (omega (arith, counted_range at len n there))
     ]
 
 -- pages of a range of whole pages

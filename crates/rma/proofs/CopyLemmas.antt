@@ -2,7 +2,8 @@
 use Rattle.std.proofs.Common.{◌≡◌, ◌≢◌, ℕ, ◌+◌, ◌-◌, ◌*◌, ◌<◌, ◌≤◌, ◌⊎◌, Bool, true, false, Some, List, [], ◌∷◌, max, min, zero, suc, refl, sym, ap, subst, ◌∙◌, inl, inr, arith}
 use Rattle.std.specs.Prelude.{Option, nat_lt}
 use Rattle.std.specs.List.{list_any, range_with_len}
-use Rattle.std.proofs.lemmas.Bool.{cases_Bool, cases_lt, le-leb, le-ltb, lt-leb, lt-ltb, or_left, or_right}
+use Rattle.std.proofs.lemmas.Bool.{cases_Bool, cases_lt, le-ltb, lt-ltb, or_left, or_right}
+use Rattle.address_map.proofs.InRange.{range_before, range_inside, range_past}
 use Rattle.address_map.specs.Bytes.{in_range}
 use Rattle.address_map.specs.declared.item.Item.{Item}
 use Rattle.address_map.specs.declared.item.Item.TheVariants.{Live, Free}
@@ -15,17 +16,10 @@ use Rattle.os_heap.proofs.Apart.{range_parts}
 use Rattle.flex_kept.specs.dynamic_areas.specs.Changing.{pages_had}
 use Rattle.flex_kept.specs.dynamic_areas.specs.Ground.{Estate, IsEstate}
 use Rattle.flex_kept.specs.dynamic_areas.specs.declared.area.Area.{Area}
-use Rattle.flex_kept.specs.dynamic_areas.proofs.Remapped.{here}
 use Rattle.rma.specs.Calls.{area_pages}
 use Rattle.rma.specs.Copies.{has_bare, is_bare}
 use Rattle.rma.proofs.GrowthLemmas.{HasArea, area_there}
 
--- a byte before a range, and one after it
-before_range : (at len a : ℕ) → a < at → in_range at len a ≡ false
-before_range at len a low = rw (lt-leb at a low) refl
-
-behind_range : (at len a : ℕ) → at + len ≤ a → in_range at len a ≡ false
-behind_range at len a high = rw (le-leb at a (omega arith), le-ltb a (at + len) high) refl
 
 -- Among the items of a heap a byte is in no block, or in one, whose bytes all are in it; the one
 -- after these is in none.
@@ -38,7 +32,7 @@ record IsPayload (at : ℕ) (items : List Item) (a block held : ℕ) : Type 0 wh
 
 none_before : (at : ℕ) (items : List Item) (a : ℕ) → a < at + 4 → payload_from at items a ≡ Other
 none_before at [] a low = refl
-none_before at (Live t ∷ xs) a low = rw (before_range (at + 4) (t - 4) a low) (none_before (at + t) xs a (omega arith))
+none_before at (Live t ∷ xs) a low = rw (range_before (at + 4) (t - 4) a low) (none_before (at + t) xs a (omega arith))
 none_before at (Free t ∷ xs) a low = none_before (at + t) xs a (omega arith)
 
 first_payload : (at t : ℕ) (xs : List Item) (a : ℕ) → 8 ≤ t → in_range (at + 4) (t - 4) a ≡ true → IsPayload at (Live t ∷ xs) a (at + 4) (t - 4)
@@ -49,8 +43,8 @@ first_payload at t xs a least inside =
       low = omega arith;
       here = parts.0;
       below = parts.1;
-      same = λ x low high. rw (here (at + 4) (t - 4) x low high) refl;
-      behind = rw (behind_range (at + 4) (t - 4) (at + 4 + (t - 4)) (omega arith))
+      same = λ x low high. rw (range_inside (at + 4) (t - 4) x low high) refl;
+      behind = rw (range_past (at + 4) (t - 4) (at + 4 + (t - 4)) (omega arith))
           (ap is_other (none_before (at + t) xs (at + 4 + (t - 4)) (omega (arith, end))));
     }
 
@@ -73,8 +67,8 @@ is_payload at (Live t ∷ xs) a block held totals told = elim (cases_Bool (in_ra
         low = omega (arith, rest.low);
         here = rest.here;
         below = rest.below;
-        same = λ x low high. rw (behind_range (at + 4) (t - 4) x (omega (arith, (total_facts t totals.0).0, rest.low, low))) (rest.same x low high);
-        behind = rw (behind_range (at + 4) (t - 4) (block + held) (omega (arith, (total_facts t totals.0).0, rest.low))) rest.behind;
+        same = λ x low high. rw (range_past (at + 4) (t - 4) x (omega (arith, (total_facts t totals.0).0, rest.low, low))) (rest.same x low high);
+        behind = rw (range_past (at + 4) (t - 4) (block + held) (omega (arith, (total_facts t totals.0).0, rest.low))) rest.behind;
       }
 ]
 
@@ -132,9 +126,9 @@ pub record IsPart (e : Estate) (at len from to : ℕ) : Type 0 where
 
 outside_part : (e : Estate) (at len from to a : ℕ) → IsPart e at len from to → at ≤ a → a < at + len → (a < from) ⊎ (to ≤ a) → is_bare e a ≡ false
 outside_part e at len from to a part low high (inl before) =
-    rw (before_range 0x01800000 (4096 * area_pages e) a (omega (arith, part.first, before, low))) refl
+    rw (range_before 0x01800000 (4096 * area_pages e) a (omega (arith, part.first, before, low))) refl
 outside_part e at len from to a part low high (inr behind) =
-    rw (behind_range 0x01800000 (4096 * area_pages e) a (omega (arith, part.end, behind, high))) refl
+    rw (range_past 0x01800000 (4096 * area_pages e) a (omega (arith, part.end, behind, high))) refl
 
 pub none_met : (e : Estate) (at len from to : ℕ) → IsPart e at len from to → to ≤ from → has_bare e at len ≡ false
 none_met e at len from to part empty = none_in (is_bare e) at len (λ a low high. outside_part e at len from to a part low high (elim (cases_lt a from) [
@@ -144,7 +138,7 @@ none_met e at len from to part empty = none_in (is_bare e) at len (λ a low high
 
 in_area : (e : Estate) (at len from to a : ℕ) → IsPart e at len from to → from ≤ a → a < to → in_range 0x01800000 (4096 * area_pages e) a ≡ true
 in_area e at len from to a part low high =
-    here 0x01800000 (4096 * area_pages e) a (omega (arith, part.first, low)) (omega (arith, part.end, high))
+    range_inside 0x01800000 (4096 * area_pages e) a (omega (arith, part.first, low)) (omega (arith, part.end, high))
 
 first_told : (e : Estate) (h : HeapList) (at len from to : ℕ) → IsArea e h → IsPart e at len from to → from < to
     → area_payload e.store from ≡ payload_in h from

@@ -3,16 +3,13 @@ use Rattle.std.proofs.Common.{◌≡◌, ℕ, true, false, sym, ap, subst, ◌�
 use Rattle.std.specs.Prelude.{Result, is_ok}
 use Rattle.profile.specs.Outcome.{Gives}
 use Rattle.profile.specs.declared.error.ErrorNumber.{ErrorNumber}
-use Rattle.address_map.specs.Memory.{Mapping, layout, mapping, free_pages}
+use Rattle.address_map.specs.Memory.{Mapping, mapping, free_pages}
 use Rattle.address_map.specs.declared.map.AddressMap.{AddressMap}
 use Rattle.os_heap.specs.Store.{Store, store_of}
 use Rattle.flex_kept.specs.dynamic_areas.specs.Areas.{Land}
 use Rattle.flex_kept.specs.dynamic_areas.specs.Ground.{Estate, estate_of}
 use Rattle.rma.specs.Calls.{in_area, is_full, is_no_room, or_grown, rma_error, with_store}
 use Rattle.rma.specs.Images.{or_kept}
-
-pub layout-mapping : (m n : AddressMap) → layout n ≡ layout m → mapping n ≡ mapping m
-layout-mapping m n same = λ i. record { place = (same i).place; free_pages = (same i).free_pages }
 
 pub estate_same : (m n : AddressMap) (l : Land) (s : Store) → mapping n ≡ mapping m → store_of n ≡ s → estate_of n l ≡ with_store (estate_of m l) s
 estate_same m n l s same e =

@@ -1,12 +1,12 @@
 -- Records of images in the module area: one more, and one less.
 use Rattle.std.proofs.Common.{◌≡◌, ◌≢◌, ℕ, ◌+◌, ◌-◌, ◌==◌, ◌%◌, ◌&&◌, ◌<◌, ◌≤◌, ◌⊎◌, Bool, true, false, List, [], ◌∷◌, ◌++◌, length, refl, sym, ap, subst, ◌∙◌, Some, None, Ok, inl, inr, arith}
-use Rattle.std.specs.Prelude.{Option, is_some}
+use Rattle.std.specs.Prelude.{Option}
 use Rattle.std.proofs.Common.{length-append}
 use Rattle.std.proofs.lemmas.Bool.{and_parts, cases_Bool, both_ways, false_from_ne_true, false≢true, eq-eqb, le-leb, lt-ltb, or_parts}
 use Rattle.address_map.specs.Bytes.{Bytes, AreMapped, in_range}
 use Rattle.address_map.specs.Classes.{is_anchor, is_flex_header}
 use Rattle.address_map.specs.Items.{size_of}
-use Rattle.address_map.specs.Memory.{Mapping, byte_at, bytes_of, class_of, free_pages, mapping, regions}
+use Rattle.address_map.specs.Memory.{Mapping, bytes_of, class_of, free_pages, mapping, regions}
 use Rattle.address_map.specs.Records.{are_same, is_heap_kind, is_record, without_region}
 use Rattle.address_map.specs.declared.map.AddressMap.{AddressMap}
 use Rattle.address_map.specs.declared.region.Kind.{Kind}
@@ -19,7 +19,7 @@ use Rattle.os_heap.specs.Calls.{OfHeap, block_sized}
 use Rattle.os_heap.specs.Store.{AreClear, ArePlaced, AreRangesApart, IsClearOfRanges, IsImageBlock, IsPlacedIn, IsSound, Store, find_heap, has_image, heaps_in, is_area, is_flex_store, is_image, is_in_flex_store, others_in, store_of}
 use Rattle.os_heap.proofs.Apart.{block_inside, one_block, range_parts}
 use Rattle.os_heap.proofs.Found.{found_heap, found_start}
-use Rattle.os_heap.proofs.Recorded.{IsClearOfAll, apart_other}
+use Rattle.os_heap.proofs.Recorded.{IsClearOfAll, apart_other, in_more}
 use Rattle.os_heap.proofs.ImageBlocks.{image_placed}
 use Rattle.os_heap.proofs.Stores.{are_others, placed_by}
 use Rattle.os_heap.specs.Forgetting.{holds_heap}
@@ -74,14 +74,6 @@ pub mapped_more : (f : ℕ → Bool) (rs : List Region) (r : Region) → AreRang
 mapped_more f [] r mapped last = (last, tt)
 mapped_more f (q ∷ rs) r mapped last = (mapped.0, mapped_more f rs r mapped.1 last)
 
--- the flex store's bytes, beside one range more
-flex_more : (rs : List Region) (r : Region) (a : ℕ) → is_in_flex_store rs a ≡ true → is_in_flex_store (rs ++ r ∷ []) a ≡ true
-flex_more [] r a is = absurd (false≢true is)
-flex_more (q ∷ rs) r a is = elim (cases_Bool (is_flex_store q.kind && in_range q.at q.len a)) [
-  | inl here ↦ rw here refl
-  | inr other ↦ rw other (flex_more rs r a (rw other at is))
-]
-
 -- what is so of the record of a block as an image
 pub record IsRecorded (s : Store) (r : Region) : Type 0 where
   pub sound : IsSound (record s { others = s.others ++ r ∷ [] })
@@ -113,7 +105,7 @@ recorded_in s h at len sound can found sized =
         apart = apart_other s.others r sound.apart apart;
         few = omega (arith, length-append {A = Region}, can.room);
         anchors = sound.anchors;
-        headers = λ a is. flex_more s.others r a (sound.headers a is);
+        headers = λ a is. in_more s.others r a (sound.headers a is);
       };
       mapped = λ a low high. heap.mapped a (omega (arith, low, place.low)) (omega (arith, high, total, place.high, heap.inside));
       aligned = place.whole (omega (arith, heap.aligned));
@@ -271,9 +263,6 @@ store_less m n at records bytes marks =
       anchor = λ a. is_anchor (marks a i);
       header = λ a. is_flex_header (marks a i);
     })
-
-pub same_bytes : (m n : AddressMap) → mapping n ≡ mapping m → byte_at n ≡ byte_at m → bytes_of n ≡ bytes_of m
-same_bytes m n same bytes = λ i. record { mapped = λ a. is_some ((same i).place a); at = bytes i }
 
 pub same_pool : (m n : AddressMap) → mapping n ≡ mapping m → free_pages n ≡ free_pages m
 same_pool m n same = ap (λ (q : Mapping). q.free_pages) same

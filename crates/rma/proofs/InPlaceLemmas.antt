@@ -1,26 +1,19 @@
 -- Images in place: a range that meets nothing is recorded.
-use Rattle.std.proofs.Common.{◌≡◌, ℕ, ◌+◌, ◌%◌, ◌==◌, ◌&&◌, ◌||◌, ◌<◌, ◌≤◌, Bool, true, false, List, [], ◌∷◌, length, refl, ap, not, arith}
+use Rattle.std.proofs.Common.{◌≡◌, ℕ, ◌+◌, ◌%◌, ◌==◌, ◌&&◌, ◌||◌, ◌<◌, ◌≤◌, Bool, true, false, List, [], ◌∷◌, length, refl, not, arith}
 use Rattle.std.specs.List.{list_any}
 use Rattle.std.proofs.lemmas.Bool.{and_parts, both_ways, eqb-true, false_from_ne_true, lt-ltb, not-true, or_parts}
 use Rattle.address_map.specs.Bytes.{AreMapped, in_range, meets}
-use Rattle.address_map.specs.Memory.{anchor_of, bytes_of, regions}
 use Rattle.address_map.specs.Records.{IsRegion, anchor_among}
 use Rattle.address_map.specs.declared.map.AddressMap.{AddressMap}
 use Rattle.address_map.specs.declared.region.Kind.TheVariants as kind
 use Rattle.address_map.specs.declared.region.Region.{Region}
-use Rattle.os_heap.proofs.RangeTests.{are_mapped_all, clear_of_heaps, range_end, ranges_split}
+use Rattle.os_heap.proofs.RangeTests.{are_mapped_all, clear_of_heaps, range_end}
 use Rattle.os_heap.proofs.Apart.{range_parts}
 use Rattle.os_heap.proofs.Recorded.{IsClearOfAll, recorded_sound}
 use Rattle.os_heap.specs.Ranges.{are_mapped, meets_any}
 use Rattle.os_heap.specs.Store.{IsSound, Store, store_of}
 use Rattle.rma.specs.NewImages.{may_be_in_place}
 use Rattle.rma.proofs.ImageLemmas.{IsRecorded}
-
--- the test of the map is that of the store
-pub met_in : (m : AddressMap) (at len : ℕ)
-    → (list_any (λ r. meets at len r.at r.len) (regions m) || anchor_among (anchor_of m) at len) ≡ meets_any at len (store_of m)
-unfolding store_of
-met_in m at len = ap (λ (t : Bool). t || anchor_among (anchor_of m) at len) (ranges_split (meets at len) (bytes_of m) (regions m))
 
 -- what is so of a range that may be an image in place
 pub record MayBe (s : Store) (at len : ℕ) : Type 0 where

@@ -5,6 +5,6 @@ mod FlexLemmas
 mod GrowthLemmas
 pub mod ImageLemmas
 pub mod InPlaceLemmas
-mod NewImageLemmas
+pub mod NewImageLemmas
 mod ResizeLemmas
 mod Undoing

@@ -7,6 +7,7 @@ use Rattle.profile.specs.Outcome.{Gives}
 use Rattle.profile.specs.declared.error.ErrorNumber.{ErrorNumber}
 use Rattle.profile.specs.declared.error.ErrorNumber.TheVariants.{RmaNoRoom}
 use Rattle.address_map.proofs.Equations.{stored_bytes, stored_moved}
+use Rattle.address_map.proofs.InRange.{range_inside}
 use Rattle.address_map.specs.Bytes.{AreMapped, Bytes, in_range, with_bytes, with_bytes_at, with_moved, with_moved_at}
 use Rattle.address_map.specs.Items.{is_total, size_of}
 use Rattle.address_map.specs.Memory.{byte_at, bytes_of, class_of, layout}
@@ -30,7 +31,6 @@ use Rattle.os_heap.specs.Forgetting.{holds_heap}
 use Rattle.os_heap.specs.Order.{AddsRecord, KeepsOrder}
 use Rattle.os_heap.specs.Store.{IsSound, Store, find_heap, has_image, store_of}
 use Rattle.flex_kept.specs.dynamic_areas.specs.Ground.{Estate, IsEstate}
-use Rattle.flex_kept.specs.dynamic_areas.proofs.Remapped.{here}
 use Rattle.rma.specs.Calls.{grown_to, rma_base, rma_claimed}
 use Rattle.rma.specs.Images.{image_recorded}
 use Rattle.rma.specs.NewImages.{IsLiveBlock, filled}
@@ -62,7 +62,7 @@ live_inside e block total good is =
     let g : HeapList = h.known.heap in
     let live : live_total block (g.start + 16) g.items ≡ Some total = (let l = rw h.known.found at is in l) in
     let place : LiveBytes block total (g.start + 16) (g.start + 16 + size_of g.items) = live_bytes block total (g.start + 16) g.items h.known.spelled.totals live in
-    here 0x01800000 4194304 block (omega (arith, place.low, h.known.start))
+    range_inside 0x01800000 4194304 block (omega (arith, place.low, h.known.start))
     (omega (arith, place.high, place.size, h.known.spelled.inside, h.known.start, h.known.end, h.room.within, h.known.maximum))
 
 -- the bytes that it holds are mapped

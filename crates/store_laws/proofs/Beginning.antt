@@ -2,20 +2,20 @@
 use Rattle.std.proofs.Common.{ℕ, Bool, true, false, not, nat_eq, suc, ◌+◌, ◌-◌, ◌%◌, ◌&&◌, ◌≡◌, ◌≤◌, ◌<◌, ◌∙◌, List, [], ◌∷◌, ◌++◌, length, Option, Some, None, Result, Ok, Err, option_map, is_some, refl, sym, ap, subst, inl, inr, arith}
 use Rattle.std.specs.Prelude.{nat_lt, if◌then◌else◌}
 use Rattle.std.specs.List.{list_any}
-use Rattle.std.proofs.lemmas.Bool.{and_parts, cases_Bool, eq-eqb, eqb-true, false≢true, lt-ltb, ltb-true, not-true, or_parts, or_right, true≢false}
+use Rattle.std.proofs.lemmas.Bool.{and_parts, cases_Bool, eqb-true, false≢true, ltb-true, not-true, or_parts}
 use Rattle.rma.specs.profile.specs.declared.error.ErrorNumber.{ErrorNumber}
-use Rattle.address_map.specs.Bytes.{AreMapped, in_range, meets, word_start}
+use Rattle.address_map.specs.Bytes.{AreMapped, meets, word_start}
 use Rattle.address_map.specs.declared.region.Region.{Region}
-use Rattle.os_heap.proofs.RangeTests.{are_mapped_all}
-use Rattle.os_heap.proofs.Apart.{range_parts}
+use Rattle.os_heap.proofs.RangeTests.{are_mapped_all, clear_unless}
 use Rattle.os_heap.proofs.Recorded.{IsClearOfAll, recorded_sound}
 use Rattle.os_heap.specs.Ranges.{are_mapped}
-use Rattle.os_heap.specs.Store.{AreClear, IsClearOfHeaps, IsSound, Store, find_heap, is_image}
+use Rattle.os_heap.specs.Store.{IsClearOfHeaps, IsSound, Store, find_heap, is_image}
 use Rattle.os_heap_lists.specs.Heap.{HeapList}
 use Rattle.dynamic_areas.specs.Ground.{IsEstate}
 use Rattle.flex_kept.specs.Keeping.{AreAnchorsFree}
 use Rattle.flex_ground.proofs.Worlds.{begun_world, beside_begun}
 use Rattle.flex_ground.specs.Ground.{flex_state, records_with, spelled_store, with_flex_record}
+use Rattle.flex_store.proofs.Recording.{last_recorded, range_clear_back}
 use Rattle.flex_store.proofs.Starting.{no_blocks}
 use Rattle.flex_store.specs.Blocks.{Block, FlexStore, contents, find_block, has_anchor, is_header, used}
 use Rattle.flex_laws.specs.Numbered.{SeenBlock, blocks_seen}
@@ -23,7 +23,7 @@ use Rattle.flex_laws.specs.Padding.{all_paddings, paddings}
 use Rattle.flex_store.specs.Calls.{FlexState, begun, flex_record, is_flex_range, meets_ranges, with_flex}
 use Rattle.flex_store.specs.Laws.{contents_in}
 use Rattle.flex_store.specs.Memory.{AreAnchored, Holds, text_of}
-use Rattle.flex_store.specs.State.{AreAnchorWords, AreInner, AreWhole, is_recorded, is_store_record}
+use Rattle.flex_store.specs.State.{AreAnchorWords, AreInner, AreWhole}
 use Rattle.flex_store.specs.declared.flex.Extent.{Extent}
 use Rattle.flex_store.specs.declared.flex.Flex.{Flex}
 use Rattle.rma.proofs.ImageLemmas.{mapped_more}
@@ -39,42 +39,17 @@ use Rattle.store_laws.specs.Meaning.{AreStores, Place, Stores, area_names, block
 use Rattle.store_laws.specs.Turning.{Init, answer_of, answered, begun_with, left_by, turned, with_flexed}
 
 -- ranges that share no byte
-range_clear : (at len other other_len : ℕ) → meets at len other other_len ≡ false → AreClear at len other other_len
-range_clear at len other other_len apart a inside = elim (cases_Bool (in_range other other_len a)) [
-  | inr clear ↦ clear
-  | inl there ↦
-      let one = range_parts at len a inside in
-      let two = range_parts other other_len a there in
-      let both : meets at len other other_len ≡ true = rw (
-        lt-ltb 0 len (omega (arith, one.0, one.1)),
-        lt-ltb 0 other_len (omega (arith, two.0, two.1)),
-        lt-ltb at (other + other_len) (omega (arith, one.0, two.1)),
-        lt-ltb other (at + len) (omega (arith, two.0, one.1)),
-      ) refl in
-      absurd (true≢false (sym both ∙ apart))
-]
-
-range_clear_back : (at len other other_len : ℕ) → meets at len other other_len ≡ false → AreClear other other_len at len
-range_clear_back at len other other_len apart a inside = elim (cases_Bool (in_range at len a)) [
-  | inr clear ↦ clear
-  | inl there ↦ absurd (true≢false (sym inside ∙ range_clear at len other other_len apart a there))
-]
-
 heaps_clear : (hs : List HeapList) (at len : ℕ) → list_any (λ h. meets at len h.start h.end) hs ≡ false → IsClearOfHeaps at len hs
 heaps_clear [] at len apart = tt
 heaps_clear (h ∷ hs) at len apart =
     let parts = or_parts (meets at len h.start h.end) (list_any (λ g. meets at len g.start g.end) hs) apart in
-    (range_clear at len h.start h.end parts.0, heaps_clear hs at len parts.1)
+    (clear_unless at len h.start h.end parts.0, heaps_clear hs at len parts.1)
 
 ranges_clear : (rs : List Region) (r : Region) → list_any (λ q. meets r.at r.len q.at q.len) rs ≡ false → IsClearOfAll r rs
 ranges_clear [] r apart = tt
 ranges_clear (q ∷ rs) r apart =
     let parts = or_parts (meets r.at r.len q.at q.len) (list_any (λ p. meets r.at r.len p.at p.len) rs) apart in
     (range_clear_back r.at r.len q.at q.len parts.0, ranges_clear rs r parts.1)
-
-last_recorded : (rs : List Region) (start end : ℕ) → is_recorded (rs ++ flex_record start end ∷ []) start end ≡ true
-last_recorded [] start end = rw (eq-eqb start start refl, eq-eqb (end - start) (end - start) refl) refl
-last_recorded (r ∷ rs) start end = or_right (is_store_record start end r) (is_recorded (rs ++ flex_record start end ∷ []) start end) (last_recorded rs start end)
 
 -- a range that may become the store
 record IsRange (s : Store) (start end : ℕ) : Type 0 where

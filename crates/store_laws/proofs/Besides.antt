@@ -1,15 +1,15 @@
 -- What is written to the system pages after the private words is no part of what the stores mean.
 use Rattle.std.proofs.Common.{ℕ, true, false, ◌+◌, ◌==◌, ◌≡◌, ◌≤◌, ◌<◌, ◌∙◌, List, [], ◌∷◌, Option, Some, None, refl, sym, ap, subst, inl, inr, arith}
 use Rattle.std.specs.Prelude.{if◌then◌else◌}
-use Rattle.std.proofs.lemmas.Bool.{both_ways, cases_Bool, false_from_ne_true, false≢true, le-leb, lt-ltb, true≢false}
+use Rattle.std.proofs.lemmas.Bool.{both_ways, cases_Bool, false_from_ne_true, false≢true, le-leb, lt-ltb}
 use Rattle.address_map.proofs.Stores.{in_range-cases}
 use Rattle.address_map.specs.Bytes.{Bytes, in_range, word_at}
 use Rattle.address_map.specs.Items.{size_of}
 use Rattle.address_map.specs.declared.region.Region.{Region}
 use Rattle.os_heap_lists.specs.Heap.{HeapList, IsHeapIn}
 use Rattle.os_heap.proofs.Found.{found_heap}
-use Rattle.os_heap.proofs.Stores.{image_kind, placed_either}
-use Rattle.os_heap.specs.Store.{ArePlaced, IsClearOfHeaps, IsSound, Store, find_heap, is_image}
+use Rattle.os_heap.specs.Store.{IsClearOfHeaps, IsSound, Store, find_heap, is_image}
+use Rattle.dynamic_areas.proofs.SystemWrites.{system_clear}
 use Rattle.dynamic_areas.specs.Ground.{IsRecorded, system_pages}
 use Rattle.flex_kept.proofs.Writes.{system_keeps}
 use Rattle.flex_kept.specs.Keeping.{IsFlexKept, KeepsFlex}
@@ -39,16 +39,6 @@ clear_of_heap at len start (g ∷ hs) h a clear found inside = elim (cases_Bool 
       let same : g ≡ h = cc in
       subst (λ (x : HeapList). in_range x.start x.end a ≡ false) same (clear.0 a inside)
   | inr other ↦ clear_of_heap at len start hs h a clear.1 (rw other at found) inside
-]
-
-system_clear : (hs : List HeapList) (rs : List Region) → ArePlaced hs rs → IsRecorded system_pages rs → IsClearOfHeaps 0x01C00000 0x3000 hs
-system_clear hs [] placed there = absurd there
-system_clear hs (r ∷ rs) placed there = elim there [
-  | inr later ↦ system_clear hs rs placed.1 later
-  | inl here ↦ elim (placed_either hs system_pages (rw here at placed.0)) [
-    | inl clear ↦ clear
-    | inr image ↦ absurd (true≢false (sym (image_kind hs system_pages image)))
-  ]
 ]
 
 module _ (x : Stores) (c : Bytes) (are : AreStores x)

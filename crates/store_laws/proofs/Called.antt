@@ -2,14 +2,12 @@
 -- store's, and anchors lie in blocks alone.
 use Rattle.std.proofs.Common.{ℕ, Bool, true, false, not, nat_eq, ◌-◌, ◌&&◌, ◌||◌, ◌⊎◌, ◌+◌, ◌%◌, ◌≡◌, ◌≤◌, ◌<◌, ◌∙◌, List, [], ◌∷◌, replicate, Option, Some, None, is_some, option_map, refl, sym, ap, subst, inl, inr, arith}
 use Rattle.std.specs.Prelude.{if◌then◌else◌}
-use Rattle.std.proofs.lemmas.Bool.{both_ways, cases_Bool, cases_lt, eq-eqb, false_from_ne_true, false≢true, le-leb, lt-ltb, ne_eqb, or_left, or_right}
+use Rattle.std.proofs.lemmas.Bool.{both_ways, cases_Bool, cases_lt, eq-eqb, false_from_ne_true, le-leb, lt-ltb, ne_eqb, or_left, or_right}
 use Rattle.address_map.specs.Bytes.{bytes_between, in_range, word_at}
 use Rattle.address_map.specs.Items.{size_of}
 use Rattle.address_map.specs.declared.item.Item.{Item}
 use Rattle.address_map.specs.declared.item.Item.TheVariants.{Free, Live}
 use Rattle.os_heap_lists.proofs.Reading.{total_facts}
-use Rattle.address_map.specs.declared.region.Kind.{Kind}
-use Rattle.address_map.specs.declared.region.Kind.TheVariants as kind
 use Rattle.address_map.specs.declared.region.Region.{Region}
 use Rattle.os_heap_lists.specs.Heap.{AreTotals, HeapList, IsHeapIn}
 use Rattle.os_heap.proofs.Anchored.{header_outside}
@@ -32,6 +30,7 @@ use Rattle.store_laws.proofs.SlidWorlds.{slots_below}
 use Rattle.store_laws.specs.FlexStore.{IsSpelledAt}
 use Rattle.store_laws.specs.Meaning.{BlockNumber, Place, Stores, Value, area_blocks, area_images, area_names, area_places, area_word, blocks_in, contents_of, images_in, meaning_of, number_in, one_further, place_among, place_in, seen, store_in, word_said}
 use Rattle.store_laws.specs.Rules.{AreAnchorsLeft, IsAnchored, IsAnchoredAlike, IsUnanchored, with_place_seen}
+use Rattle.flex_ground.proofs.Kept.{no_store}
 
 said_value : (word value : ℕ) (o : Option ℕ) → word_said word o ≡ Value value → word ≡ value
 said_value word value None is = cc
@@ -57,16 +56,6 @@ images_same f g (r ∷ rs) same =
       | inl image ↦ rw (image, same r (inl refl) image, rest) refl
       | inr other ↦ rw other rest
     ]
-
-pub no_store : (k : Kind) → is_image k ≡ true → is_flex_store k ≡ false
-no_store kind.FlexStore image = absurd (false≢true image)
-no_store kind.Image image = refl
-no_store kind.Heap image = refl
-no_store kind.Rma image = refl
-no_store kind.SystemPage image = refl
-no_store kind.HeadWord image = refl
-no_store kind.FlexHeader image = refl
-no_store kind.Anchor image = refl
 
 in_record : (rs : List Region) (r : Region) (a : ℕ) → is_flex_store r.kind ≡ false → IsRecorded r rs → in_range r.at r.len a ≡ true → is_in_other_record rs a ≡ true
 in_record [] r a other recorded inside = absurd recorded

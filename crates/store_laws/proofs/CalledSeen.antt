@@ -4,10 +4,11 @@ use Rattle.std.proofs.Common.{ℕ, Bool, true, false, not, nat_eq, ◌+◌, ◌%
 use Rattle.std.specs.Prelude.{if◌then◌else◌}
 use Rattle.std.proofs.lemmas.Bool.{both_ways, cases_Bool, cases_lt, eq-eqb, eqb-false, eqb-true, false_from_ne_true, false≢true, le-leb, lt-ltb, ne_eqb}
 use Rattle.address_map.specs.Bytes.{in_range, word_start}
-use Rattle.os_heap.proofs.Apart.{range_parts}
 use Rattle.os_heap.specs.Store.{Store, is_in_flex_store}
 use Rattle.flex_ground.specs.Ground.{anchors_in, spelled_store}
+use Rattle.flex_laws.proofs.Lists.{word_in}
 use Rattle.flex_laws.specs.Laws.{Outside, outside_of}
+use Rattle.flex_store.proofs.Keeping.{in_store}
 use Rattle.flex_store.proofs.Words.{word_of}
 use Rattle.flex_store.specs.Blocks.{Block, FlexStore, contents, find_block, has_anchor}
 use Rattle.flex_store.specs.Calls.{FlexState}
@@ -15,7 +16,6 @@ use Rattle.flex_store.specs.Laws.{contents_in}
 use Rattle.flex_store.specs.Runs.{Alloc, Extend, FlexCall, MidExtend, Release}
 use Rattle.flex_store.specs.declared.flex.Extent.{Extent}
 use Rattle.store_laws.proofs.Leaving.{IsCalledBy}
-use Rattle.store_laws.proofs.Spelled.{in_recorded}
 use Rattle.store_laws.specs.FlexStore.{IsSpelled, IsSpelledAt, spelled_blocks}
 use Rattle.store_laws.specs.Meaning.{seen}
 
@@ -25,9 +25,6 @@ seen_left (Alloc anchor size) a old = if in_range anchor 4 a then None else old
 seen_left (Release anchor) a old = if in_range anchor 4 a then Some 0 else old
 seen_left (Extend anchor size) a old = old
 seen_left (MidExtend anchor at by) a old = old
-
-byte_of : (anchor a : ℕ) → anchor % 4 ≡ 0 → in_range anchor 4 a ≡ true → word_start a ≡ anchor
-byte_of anchor a aligned inside = let p = range_parts anchor 4 a inside in omega (arith, aligned, p.0, p.1)
 
 beside : (anchor a : ℕ) → in_range anchor 4 a ≡ false → word_start a ≡ anchor → ⊥
 beside anchor a outside is =
@@ -53,7 +50,7 @@ seen_by : (call : FlexCall) (a : ℕ) (old new : Bool) (f g : ℕ) → (outside_
     → (new ≡ false → g ≡ (outside_of call).byte a f) → (if new then None else Some g) ≡ seen_left call a (if old then None else Some f)
 seen_by (Alloc anchor size) a old new f g aligned mark byte = elim (cases_Bool (in_range anchor 4 a)) [
   | inl inside ↦
-      let now : new ≡ true = mark ∙ ap (λ (q : Bool). q || old) (eq-eqb (word_start a) anchor (byte_of anchor a aligned inside)) in
+      let now : new ≡ true = mark ∙ ap (λ (q : Bool). q || old) (eq-eqb (word_start a) anchor (word_in anchor a aligned inside)) in
       rw (inside, now) refl
   | inr outside ↦
       let now : new ≡ old = mark ∙ ap (λ (q : Bool). q || old) (ne_eqb (word_start a) anchor (beside anchor a outside)) in
@@ -61,7 +58,7 @@ seen_by (Alloc anchor size) a old new f g aligned mark byte = elim (cases_Bool (
 ]
 seen_by (Release anchor) a old new f g aligned mark byte = elim (cases_Bool (in_range anchor 4 a)) [
   | inl inside ↦
-      let now : new ≡ false = mark ∙ ap (λ (q : Bool). not q && old) (eq-eqb (word_start a) anchor (byte_of anchor a aligned inside)) in
+      let now : new ≡ false = mark ∙ ap (λ (q : Bool). not q && old) (eq-eqb (word_start a) anchor (word_in anchor a aligned inside)) in
       let zero : g ≡ 0 = byte now ∙ ap (λ (q : Bool). if q then 0 else f) inside in
       rw (inside, now) (ap (λ (n : ℕ). let o : Option ℕ = Some n in o) zero)
   | inr outside ↦
@@ -76,7 +73,7 @@ module _ (s : Store) (e : Extent) (is : IsSpelled s e) where
   out_of a outside = elim (cases_lt a e.start) [
     | inl low ↦ inl low
     | inr up ↦ elim (cases_lt a e.end) [
-      | inl below ↦ absurd (both_ways (is_in_flex_store s.others a) outside (in_recorded s.others e.start e.end a is.recorded up below))
+      | inl below ↦ absurd (both_ways (is_in_flex_store s.others a) outside (in_store s.others e.start e.end a is.recorded up below))
       | inr high ↦ inr high
     ]
   ]
@@ -132,7 +129,7 @@ word_unseen s (Some e) anchor a is some = elim (cases_Bool (in_range anchor 4 a)
   | inr outside ↦ rw outside refl
   | inl inside ↦
       let has = sym (some_is anchor (spelled_blocks s e)) ∙ some in
-      let here : word_start a ≡ anchor = byte_of anchor a (anchor_word s (Some e) anchor is some).0 inside in
+      let here : word_start a ≡ anchor = word_in anchor a (anchor_word s (Some e) anchor is some).0 inside in
       let marked : s.anchor a ≡ true = is.anchors a ∙ (ap (has_anchor (spelled_blocks s e)) here ∙ has) in
       rw (inside, marked) refl
 ]

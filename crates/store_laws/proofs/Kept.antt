@@ -1,37 +1,22 @@
 -- The flex store of a store whose words and marks are kept.
-use Rattle.std.proofs.Common.{ℕ, Bool, true, nat_eq, suc, ◌+◌, ◌%◌, ◌||◌, ◌≡◌, ◌≤◌, ◌∙◌, List, [], ◌∷◌, length, Option, Some, None, refl, sym, ap, subst, inl, inr, arith}
-use Rattle.std.proofs.lemmas.Bool.{cases_Bool, eq-eqb, or_left, or_right}
+use Rattle.std.proofs.Common.{ℕ, Bool, true, nat_eq, ◌+◌, ◌%◌, ◌≡◌, ◌≤◌, ◌∙◌, List, [], ◌∷◌, length, Option, Some, None, sym, ap, subst, arith}
+use Rattle.std.proofs.lemmas.Bool.{eq-eqb, or_left, or_right}
 use Rattle.address_map.specs.Bytes.{word_start}
 use Rattle.address_map.specs.raw_store.specs.Region.{word_bytes}
 use Rattle.address_map.specs.declared.region.Region.{Region}
-use Rattle.os_heap.specs.Store.{Store, is_image, is_in_flex_store}
-use Rattle.flex_kept.specs.Keeping.{IsFlexKept, KeepsFlex, beside_images}
+use Rattle.os_heap.specs.Store.{Store, is_in_flex_store}
+use Rattle.flex_kept.specs.Keeping.{IsFlexKept, KeepsFlex}
 use Rattle.flex_store.proofs.Holding.{holds_kept}
+use Rattle.flex_store.proofs.Keeping.{in_store}
 use Rattle.flex_store.proofs.Lists.{text_used}
 use Rattle.flex_store.specs.Blocks.{Block, has_anchor, is_header, taken, used}
 use Rattle.flex_store.specs.Memory.{AreAnchored, Holds, text_of}
-use Rattle.flex_store.specs.State.{AreAnchorWords, AreInner, AreWhole, IsFlexRange, is_recorded, is_store_record}
+use Rattle.flex_store.specs.State.{AreAnchorWords, AreInner, AreWhole, IsFlexRange, is_recorded}
 use Rattle.flex_store.specs.declared.flex.Extent.{Extent}
 use Rattle.flex_store.specs.declared.flex.Flex.{Flex}
-use Rattle.instances_ground.specs.Sound.{count_beside}
-use Rattle.store_laws.proofs.Called.{no_store}
-use Rattle.store_laws.proofs.Spelled.{in_recorded, kept_blocks}
+use Rattle.store_laws.proofs.Spelled.{kept_blocks}
 use Rattle.store_laws.specs.FlexStore.{HasFlexStore, IsSpelled, IsSpelledAt, spelled_blocks}
-
--- the records beside images
-count_is : (rs : List Region) → count_beside rs ≡ length (beside_images rs)
-count_is [] = refl
-count_is (r ∷ rs) = elim (cases_Bool (is_image r.kind)) [
-  | inl image ↦ rw image (count_is rs)
-  | inr other ↦ rw other (ap suc (count_is rs))
-]
-
-recorded_beside : (rs : List Region) (start end : ℕ) → is_recorded rs start end ≡ is_recorded (beside_images rs) start end
-recorded_beside [] start end = refl
-recorded_beside (r ∷ rs) start end = elim (cases_Bool (is_image r.kind)) [
-  | inl image ↦ rw (image, no_store r.kind image) (recorded_beside rs start end)
-  | inr other ↦ rw other (ap (λ (t : Bool). is_store_record start end r || t) (recorded_beside rs start end))
-]
+use Rattle.flex_ground.proofs.Kept.{count_is, recorded_beside}
 
 -- the words of anchors
 anchored_same : (mapped : ℕ → Bool) (start end : ℕ) (f g : ℕ → ℕ) (at : ℕ) (bs : List Block) → AreAnchorWords mapped start end bs
@@ -54,7 +39,7 @@ kept_spelled s t e is kept mapped =
     let size : length (text_of bs) ≡ used bs = text_used bs is.whole in
     let text : Holds t.bytes.at e.start (text_of bs) = holds_kept s.bytes.at t.bytes.at e.start (text_of bs) (λ a low high.
     kept.bytes a (or_left (is_in_flex_store s.others a) (s.anchor a)
-    (in_recorded s.others e.start e.end a is.recorded low (omega (arith, is.fits, size, high))))) is.text in
+    (in_store s.others e.start e.end a is.recorded low (omega (arith, is.fits, size, high))))) is.text in
     let anchored : AreAnchored t.bytes.at e.start bs = anchored_same s.bytes.mapped e.start e.end s.bytes.at t.bytes.at e.start bs is.words (λ a has.
     kept.bytes a (or_right (is_in_flex_store s.others a) (s.anchor a) (is.anchors a ∙ has))) is.anchored in
     record {

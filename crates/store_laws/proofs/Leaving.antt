@@ -15,7 +15,7 @@ use Rattle.flex_ground.specs.Ground.{flex_of, spelled_store, store_flexed}
 use Rattle.flex_laws.specs.Laws.{IsLeftBy, IsSpelledState, anchor_of, outside_of}
 use Rattle.flex_laws.specs.Numbered.{IsCalledSeen, blocks_seen, place_of}
 use Rattle.flex_store.proofs.Headers.{header_within}
-use Rattle.flex_store.proofs.Keeping.{IsPlace, place_parts, store_place}
+use Rattle.flex_store.proofs.Keeping.{IsPlace, in_store, place_parts, store_place}
 use Rattle.flex_store.proofs.Texts.{text_read}
 use Rattle.flex_store.proofs.Words.{words_low}
 use Rattle.flex_store.specs.Blocks.{Block, FlexStore, has_anchor, is_header, used}
@@ -26,7 +26,6 @@ use Rattle.flex_store.specs.State.{AreAnchorWords, AreInner, AreWhole, IsFlexRan
 use Rattle.flex_store.specs.declared.flex.Extent.{Extent}
 use Rattle.flex_store.specs.declared.flex.Flex.{Flex}
 use Rattle.instances_ground.specs.Sound.{count_beside}
-use Rattle.store_laws.proofs.Spelled.{in_recorded}
 use Rattle.store_laws.specs.FlexStore.{HasFlexStore, IsSpelled, spelled_blocks}
 use Rattle.store_laws.specs.Meaning.{IsMemory}
 
@@ -112,8 +111,8 @@ module _ (s : Store) (e : Extent) (b : IsBefore s e) (call : FlexCall) (v : Flex
   }
 
   -- a byte of an anchor that lies in the store
-  in_store : (a : ℕ) → e.start ≤ word_start a → word_start a + 4 ≤ e.end → (e.start ≤ a) × (a < e.end)
-  in_store a low high = (omega (arith, low), omega (arith, high))
+  in_words : (a : ℕ) → e.start ≤ word_start a → word_start a + 4 ≤ e.end → (e.start ≤ a) × (a < e.end)
+  in_words a low high = (omega (arith, low), omega (arith, high))
 
   -- where its anchors are
   placed : (a : ℕ) → has_anchor left.blocks (word_start a) ≡ true → (s.bytes.mapped a ≡ true) × IsAnchorPlace s.heaps a
@@ -126,9 +125,9 @@ module _ (s : Store) (e : Extent) (b : IsBefore s e) (call : FlexCall) (v : Flex
             anchor_placed s.bytes s.heaps (word_start a) a b.sound.heaps p.aligned refl p.held,
           )
       | inr within ↦
-          let at = in_store a within.0 within.1 in (
+          let at = in_words a within.0 within.1 in (
             b.spelled.range.there a at.0 (omega (arith, at.0, at.1)),
-            store_place s.heaps s.others a b.sound.placed (in_recorded s.others e.start e.end a b.spelled.recorded at.0 at.1),
+            store_place s.heaps s.others a b.sound.placed (in_store s.others e.start e.end a b.spelled.recorded at.0 at.1),
           )
     ]
   ]
@@ -140,8 +139,8 @@ module _ (s : Store) (e : Extent) (b : IsBefore s e) (call : FlexCall) (v : Flex
     | inr other ↦ elim other [
       | inl new ↦ place_free s a new
       | inr within ↦
-          let at = in_store a within.0 within.1 in
-          flex_alone s.others a b.sound.apart (in_recorded s.others e.start e.end a b.spelled.recorded at.0 at.1)
+          let at = in_words a within.0 within.1 in
+          flex_alone s.others a b.sound.apart (in_store s.others e.start e.end a b.spelled.recorded at.0 at.1)
     ]
   ]
 
@@ -153,7 +152,7 @@ module _ (s : Store) (e : Extent) (b : IsBefore s e) (call : FlexCall) (v : Flex
       | inr high ↦ inr high
       | inl below ↦ absurd (both_ways (are_owned s.heaps a)
           (flex_unspelled s.bytes s.heaps s.others a b.sound.heaps b.sound.placed
-          (in_recorded s.others e.start e.end a b.spelled.recorded up below)) owned)
+          (in_store s.others e.start e.end a b.spelled.recorded up below)) owned)
     ]
   ]
 
@@ -180,7 +179,7 @@ module _ (s : Store) (e : Extent) (b : IsBefore s e) (call : FlexCall) (v : Flex
     anchors = λ a is. (ap (λ (p : ℕ → Bool). p a) left.mapped ∙ (placed a is).0, (placed a is).1);
     headers = λ a is.
         let within = header_within e.start left.blocks (word_start a) is in
-        in_recorded s.others e.start e.end a b.spelled.recorded (omega (arith, within.from))
+        in_store s.others e.start e.end a b.spelled.recorded (omega (arith, within.from))
         (omega (arith, within.below, left.spelled.fits, b.spelled.range.start_aligned, b.spelled.range.end_aligned));
   }
 

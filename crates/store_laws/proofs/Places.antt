@@ -2,7 +2,7 @@
 use Rattle.std.proofs.Common.{ℕ, Bool, false, zero, suc, ◌+◌, ◌-◌, ◌%◌, ◌≡◌, ◌≤◌, ◌<◌, ◌⊎◌, ◌∙◌, List, [], ◌∷◌, map, Option, Some, None, option_map, refl, sym, ap, inl, inr, arith}
 use Rattle.std.specs.Prelude.{if◌then◌else◌}
 use Rattle.std.specs.List.{range_with_len}
-use Rattle.std.proofs.lemmas.Bool.{cases_lt, false_from_ne_true, le-leb, lt-leb, lt-ltb, le-ltb}
+use Rattle.std.proofs.lemmas.Bool.{false_from_ne_true}
 use Rattle.address_map.proofs.Stores.{in_range-cases}
 use Rattle.address_map.specs.Bytes.{in_range}
 use Rattle.address_map.specs.Items.{size_of}
@@ -14,18 +14,7 @@ use Rattle.os_heap_lists.specs.Heap.{AreTotals}
 use Rattle.store_laws.proofs.SlidLists.{map_same}
 use Rattle.store_laws.specs.Meaning.{Place, one_further, payloads, place_among}
 use Rattle.store_laws.specs.Rules.{with_place_seen, with_word_seen}
-
--- a range of four bytes, and the same counted from elsewhere
-shifted : (w offset at i : ℕ) → at + offset ≡ w + i → in_range offset 4 i ≡ in_range w 4 at
-shifted w offset at i e = elim (cases_lt at w) [
-  | inl low ↦ rw (lt-leb offset i (omega (arith, e, low)), lt-leb w at low) refl
-  | inr up ↦ elim (cases_lt at (w + 4)) [
-    | inl below ↦
-        rw (le-leb offset i (omega (arith, e, up)), lt-ltb i (offset + 4) (omega (arith, e, below)), le-leb w at up, lt-ltb at (w + 4) below) refl
-    | inr past ↦
-        rw (le-leb offset i (omega (arith, e, up)), le-ltb i (offset + 4) (omega (arith, e, past)), le-leb w at up, le-ltb at (w + 4) past) refl
-  ]
-]
+use Rattle.flex_laws.proofs.Lists.{shifted}
 
 pub out_of_range : (at len a : ℕ) → (a < at) ⊎ (at + len ≤ a) → in_range at len a ≡ false
 out_of_range at len a out = false_from_ne_true (in_range at len a) (λ is.

@@ -5,15 +5,9 @@ use Rattle.std.proofs.lemmas.Bool.{and_parts, both_ways, false_from_ne_true, fal
 use Rattle.address_map.specs.Bytes.{in_range}
 use Rattle.address_map.specs.declared.region.Region.{Region}
 use Rattle.os_heap.proofs.Stores.{clear_both_ways}
-use Rattle.os_heap.specs.Store.{AreClear, AreRangesApart, is_flex_store, is_in_flex_store, IsClearOfRanges}
+use Rattle.os_heap.specs.Store.{AreClear, AreRangesApart, is_flex_store, is_in_flex_store}
 use Rattle.dynamic_areas.specs.Ground.{IsRecorded}
-
-clear_of_recorded : (q r : Region) (rs : List Region) → IsClearOfRanges q rs → IsRecorded r rs → AreClear q.at q.len r.at r.len
-clear_of_recorded q r [] clear recorded = absurd recorded
-clear_of_recorded q r (p ∷ rs) clear recorded = elim recorded [
-  | inl same ↦ subst (λ (x : Region). AreClear q.at q.len x.at x.len) same clear.0
-  | inr later ↦ clear_of_recorded q r rs clear.1 later
-]
+use Rattle.flex_kept.proofs.Writes.{clear_of_recorded}
 
 pub recorded_apart : (r q : Region) (rs : List Region) → (r ≡ q → ⊥) → AreRangesApart rs → IsRecorded r rs → IsRecorded q rs → AreClear r.at r.len q.at q.len
 recorded_apart r q [] other apart first second = absurd first

@@ -1,22 +1,19 @@
 -- A world whose module area was tidied holds all that holds of worlds between calls, and its flex
 -- store is kept.
-use Rattle.std.proofs.Common.{ℕ, Bool, true, false, ◌+◌, cond, ◌-◌, ◌^◌, ◌==◌, ◌≡◌, ◌≤◌, ◌<◌, ◌⊎◌, List, [], ◌∷◌, map, length, Some, refl, sym, ap, subst, inl, inr, arith}
-use Rattle.std.proofs.lemmas.Bool.{both_ways, cases_Bool, eq-eqb, false≢true}
+use Rattle.std.proofs.Common.{ℕ, true, false, ◌+◌, cond, ◌-◌, ◌^◌, ◌==◌, ◌≡◌, ◌≤◌, ◌<◌, ◌⊎◌, List, [], ◌∷◌, map, length, Some, refl, sym, ap, subst, inl, inr, arith}
+use Rattle.std.proofs.lemmas.Bool.{both_ways, eq-eqb, false≢true}
 use Rattle.std.proofs.lemmas.List.{length-map}
 use Rattle.address_map.proofs.Stores.{in_range-cases}
-use Rattle.address_map.specs.Bytes.{Bytes, in_range, with_moved_at, with_word_at, word_at}
-use Rattle.address_map.specs.Items.{size_of}
+use Rattle.address_map.specs.Bytes.{Bytes, in_range, with_word_at, word_at}
 use Rattle.address_map.specs.Moves.{moved_to}
 use Rattle.address_map.specs.declared.follow.Move.{Move}
-use Rattle.address_map.specs.declared.item.Item.{Item}
-use Rattle.address_map.specs.declared.item.Item.TheVariants.{Free, Live}
-use Rattle.os_heap_lists.specs.Heap.{HeapList, IsHeapIn, next_free, with_heads, with_heap}
+use Rattle.os_heap_lists.specs.Heap.{HeapList, IsHeapIn}
 use Rattle.os_heap.proofs.Found.{found_heap, found_start}
 use Rattle.os_heap.proofs.Frame.{store_clear}
 use Rattle.os_heap.specs.Forgetting.{holds_heap}
 use Rattle.os_heap.specs.Store.{IsClearOfHeaps, IsImageIn, IsSound, Store, find_heap}
 use Rattle.os_heap.proofs.Stores.{image_kind}
-use Rattle.os_heap_slide.specs.Slide.{HoldNoAnchor, HoldNoHeap, MaySlide, is_listed, place_of, slid_bytes, with_slid}
+use Rattle.os_heap_slide.specs.Slide.{HoldNoAnchor, HoldNoHeap, MaySlide, is_listed, slid_bytes, with_slid}
 use Rattle.os_heap_slide.proofs.Records.{moves_in, slid_in}
 use Rattle.dynamic_areas.specs.Ground.{Estate, IsEstate, IsRecorded, system_pages}
 use Rattle.flex_kept.proofs.Keeping.{keeps_same, keeps_then}
@@ -32,6 +29,7 @@ use Rattle.instances_ground.specs.Sound.{IsWorld}
 use Rattle.instances_ground.specs.World.{World, private_word, with_private}
 use Rattle.instances_slide.proofs.Choosing.{are_blocks, few_blocks}
 use Rattle.instances_slide.proofs.LawLemmas.{slid_where}
+use Rattle.instances_slide.proofs.NameLemmas.{heap_small, slid_small}
 use Rattle.instances_slide.proofs.Tidying.{HasHeap, after_blocks, blocks_sound, heap_there}
 use Rattle.instances_slide.specs.Laws.{AreBytes}
 use Rattle.instances_slide.specs.Movable.{can_move, movable_blocks}
@@ -39,36 +37,6 @@ use Rattle.instances_slide.specs.Slid.{image_moved, private_words, words_moved, 
 use Rattle.store_laws.proofs.SlidStores.{sound_slid}
 use Rattle.store_laws.proofs.SlidWorlds.{holds_no_heap, holds_none, placed_of, slots_below, word_outside}
 use Rattle.flex_laws.proofs.Small.{word_small}
-
--- bytes stay bytes
-moved_small : (f : ℕ → ℕ) (from to len : ℕ) → AreBytes f → AreBytes (with_moved_at f from to len)
-moved_small f from to len small a = elim (cases_Bool (in_range to len a)) [
-  | inl inside ↦ rw inside (small (from + (a - to)))
-  | inr outside ↦ rw outside (small a)
-]
-
-slid_small : (mv : ℕ → Bool) (top at : ℕ) (xs : List Item) (f : ℕ → ℕ) → AreBytes f → AreBytes (slid_bytes mv top at xs f)
-slid_small mv top at [] f small = small
-slid_small mv top at (Free t ∷ xs) f small = slid_small mv top (at + t) xs f small
-slid_small mv top at (Live t ∷ xs) f small =
-    let place : ℕ = place_of (mv (at + 4)) top at in
-    slid_small mv (place + t) (at + t) xs (with_moved_at f at place t) (moved_small f at place t small)
-
-heads_small : (f : ℕ → ℕ) (at : ℕ) (xs : List Item) (other : ℕ) → AreBytes f → AreBytes (with_heads f at xs other)
-heads_small f at [] other small = small
-heads_small f at (Live t ∷ xs) other small = word_small (with_heads f (at + t) xs other) at t (heads_small f (at + t) xs other small)
-heads_small f at (Free t ∷ xs) other small =
-    let rest : ℕ → ℕ = with_heads f (at + t) xs other in
-    word_small (with_word_at rest (at + 4) t) at (next_free (at + t) xs other - at) (word_small rest (at + 4) t (heads_small f (at + t) xs other small))
-
-heap_small : (f : ℕ → ℕ) (start end : ℕ) (items : List Item) → AreBytes f → AreBytes (with_heap f start end items)
-heap_small f start end items small =
-    let h0 : ℕ → ℕ = with_heads f (start + 16) items 0 in
-    let h1 : ℕ → ℕ = with_word_at h0 start 0x70616548 in
-    let h2 : ℕ → ℕ = with_word_at h1 (start + 4) (next_free (start + 16) items 0 - start) in
-    let h3 : ℕ → ℕ = with_word_at h2 (start + 8) (16 + size_of items) in
-    word_small h3 (start + 12) end (word_small h2 (start + 8) (16 + size_of items)
-    (word_small h1 (start + 4) (next_free (start + 16) items 0 - start) (word_small h0 start 0x70616548 (heads_small f (start + 16) items 0 small))))
 
 -- the modules are the same, but for the places of their images
 titles_same : (ms : List Move) (title : List ℕ) (modules : List Module) → number_of (has_title title) (map (image_moved ms) modules) ≡ number_of (has_title title) modules

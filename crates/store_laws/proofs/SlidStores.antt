@@ -1,75 +1,24 @@
 -- A store whose module area was tidied is sound.
-use Rattle.std.proofs.Common.{ℕ, Bool, true, false, ◌+◌, ◌-◌, ◌%◌, ◌^◌, ◌&&◌, ◌≡◌, ◌≤◌, ◌∙◌, List, [], ◌∷◌, Option, Some, refl, sym, ap, subst, inl, inr, arith}
-use Rattle.std.proofs.lemmas.Bool.{and_parts, both_ways, cases_Bool, false≢true, or_left, or_right}
+use Rattle.std.proofs.Common.{ℕ, Bool, false, ◌+◌, ◌-◌, ◌%◌, ◌^◌, ◌≡◌, ◌≤◌, List, Some, refl, inl, inr, arith}
+use Rattle.std.proofs.lemmas.Bool.{both_ways}
 use Rattle.std.proofs.lemmas.List.{length-map}
-use Rattle.address_map.proofs.Anchors.{none_among}
 use Rattle.address_map.proofs.Stores.{in_range-cases}
 use Rattle.address_map.specs.Bytes.{Bytes, in_range}
-use Rattle.address_map.specs.Moves.{moved_place, moved_region, moved_regions, moved_to}
-use Rattle.address_map.specs.Records.{anchor_among}
-use Rattle.address_map.specs.declared.follow.Move.{Move}
-use Rattle.address_map.specs.declared.item.Item.{Item}
-use Rattle.address_map.specs.declared.region.Kind.{Kind}
-use Rattle.address_map.specs.declared.region.Kind.TheVariants as kind
+use Rattle.address_map.specs.Moves.{moved_region}
 use Rattle.address_map.specs.declared.region.Region.{Region}
-use Rattle.os_heap_lists.specs.Heap.{AreTotals, HeapList, IsHeapIn}
-use Rattle.os_heap_lists.specs.Lists.{live_total}
-use Rattle.os_heap.proofs.Anchored.{KeepsAnchors, place_held}
+use Rattle.os_heap_lists.specs.Heap.{HeapList, IsHeapIn}
+use Rattle.os_heap.proofs.Anchored.{place_held}
 use Rattle.os_heap.proofs.Found.{found_heap}
 use Rattle.os_heap.proofs.Stores.{AreOthers, are_others, places-held, same_limits}
-use Rattle.os_heap.specs.Calls.{holds_anchor}
-use Rattle.os_heap.specs.Store.{IsSound, Store, find_heap, is_flex_store, is_in_flex_store}
+use Rattle.os_heap.specs.Store.{IsSound, Store, find_heap}
 use Rattle.os_heap_slide.proofs.Beside.{AreBeside, KeepsBytes, heaps_beside, heaps_stay, parts_beside}
+use Rattle.os_heap_slide.proofs.Ending.{moved_flex, slide_keeps}
 use Rattle.os_heap_slide.proofs.KeptBlocks.{bytes_fixed}
 use Rattle.os_heap_slide.proofs.LawLemmas.{slid_totals, slide_fits}
-use Rattle.os_heap_slide.proofs.Places.{moved_live, moved_stays}
 use Rattle.os_heap_slide.proofs.Records.{IsSlide, all_placed, moves_in, ranges_apart, slid_in}
-use Rattle.os_heap_slide.specs.Slide.{HoldNoAnchor, HoldNoHeap, is_listed, moves_of, slid, slid_bytes, with_slid}
+use Rattle.os_heap_slide.specs.Slide.{HoldNoAnchor, HoldNoHeap, is_listed, slid_bytes, with_slid}
 use Rattle.instances_slide.proofs.NameLemmas.{slid_outside}
 use Rattle.store_laws.proofs.Spelling.{heap_spelled}
-
--- anchors lie in blocks that stay
-anchors_stay : (anchor mv : ℕ → Bool) (at : ℕ) (xs : List Item) → AreTotals xs
-    → ((b : ℕ) → mv b ≡ true → holds_anchor anchor b (live_total b at xs) ≡ false) → KeepsAnchors anchor at xs (slid mv at at xs)
-anchors_stay anchor mv at xs totals free a anchored held = elim (cases_Bool (mv held.block)) [
-  | inl moves ↦
-      let none : anchor_among anchor (held.block - 4) held.total ≡ false =
-      ap (λ (o : Option ℕ). holds_anchor anchor held.block o) (sym held.live) ∙ free held.block moves in
-      let low = held.low in
-      let high = held.high in
-      absurd (both_ways (anchor a) (none_among anchor (held.block - 4) held.total a none (omega (arith, low)) (omega (arith, low, high))) anchored)
-  | inr stays ↦
-      let there : live_total (moved_to (moves_of mv at at xs) held.block) at (slid mv at at xs) ≡ Some held.total =
-      moved_live mv at at xs held.block held.total (omega arith) totals held.live in
-      let same : moved_to (moves_of mv at at xs) held.block ≡ held.block = moved_stays mv at at xs held.block stays in
-      record {
-        block = held.block;
-        total = held.total;
-        live = subst (λ (b : ℕ). live_total b at (slid mv at at xs) ≡ Some held.total) same there;
-        low = held.low;
-        high = held.high;
-      }
-]
-
-store_place : (moves : List Move) (k : Kind) (at : ℕ) → is_flex_store k ≡ true → moved_place moves k at ≡ at
-store_place moves kind.FlexStore at is = refl
-store_place moves kind.Heap at is = refl
-store_place moves kind.Rma at is = refl
-store_place moves kind.FlexHeader at is = refl
-store_place moves kind.Anchor at is = refl
-store_place moves kind.HeadWord at is = refl
-store_place moves kind.Image at is = absurd (false≢true is)
-store_place moves kind.SystemPage at is = refl
-
-store_stays : (moves : List Move) (rs : List Region) (a : ℕ) → is_in_flex_store rs a ≡ true → is_in_flex_store (moved_regions moves rs) a ≡ true
-store_stays moves [] a is = is
-store_stays moves (r ∷ rs) a is = elim (cases_Bool (is_flex_store r.kind && in_range r.at r.len a)) [
-  | inl here ↦
-      let parts = and_parts (is_flex_store r.kind) (in_range r.at r.len a) here in
-      let place : moved_place moves r.kind r.at ≡ r.at = store_place moves r.kind r.at parts.0 in
-      or_left _ (is_in_flex_store (moved_regions moves rs) a) (rw (place, parts.0, parts.1) refl)
-  | inr other ↦ or_right _ (is_in_flex_store (moved_regions moves rs) a) (store_stays moves rs a (rw other at is))
-]
 
 module _ (s : Store) (h : HeapList) (movable : List ℕ) (sound : IsSound s) (found : find_heap h.start s.heaps ≡ Some h) (free : HoldNoAnchor s h movable)
     (empty : HoldNoHeap s.heaps h movable) (low : h.start + h.end ≤ 2 ^ 26) where
@@ -126,7 +75,7 @@ module _ (s : Store) (h : HeapList) (movable : List ℕ) (sound : IsSound s) (fo
     anchors = λ a is. (
       (sound.anchors a is).0,
       place_held h (slid_in h movable) s.heaps a others
-          (anchors_stay s.anchor (is_listed movable) (h.start + 16) h.items old.totals free a is) (sound.anchors a is).1,
+          (slide_keeps s.anchor (is_listed movable) (h.start + 16) h.items old.totals free a is) (sound.anchors a is).1,
     );
-    headers = λ a is. store_stays (moves_in h movable) s.others a (sound.headers a is);
+    headers = λ a is. moved_flex (moves_in h movable) s.others a (sound.headers a is);
   }

@@ -1,17 +1,17 @@
 -- The flex store as the words of a store spell it.
-use Rattle.std.proofs.Common.{ℕ, ◌≡◌, ◌≤◌, ◌<◌, ◌+◌, ◌-◌, ◌==◌, ◌&&◌, Bool, true, List, [], ◌∷◌, Option, Some, None, refl, ap, inl, inr, arith}
-use Rattle.std.proofs.lemmas.Bool.{and_parts, cases_Bool, eqb-true, false≢true, le-leb, lt-ltb, or_left, or_right}
-use Rattle.address_map.specs.Bytes.{Bytes, in_range}
+use Rattle.std.proofs.Common.{ℕ, ◌≡◌, ◌≤◌, ◌<◌, ◌+◌, Bool, List, [], ◌∷◌, Option, Some, None, refl, ap, arith}
+use Rattle.std.proofs.lemmas.Bool.{or_left}
+use Rattle.address_map.specs.Bytes.{Bytes}
 use Rattle.address_map.specs.declared.map.AddressMap.{AddressMap}
-use Rattle.address_map.specs.declared.region.Region.{Region}
-use Rattle.os_heap.specs.Store.{Store, is_flex_store, is_in_flex_store, store_of}
+use Rattle.os_heap.specs.Store.{Store, is_in_flex_store, store_of}
 use Rattle.flex_kept.specs.Keeping.{IsFlexKept}
+use Rattle.flex_store.proofs.Keeping.{in_store}
 use Rattle.flex_store.proofs.Texts.{text_kept, text_read}
 use Rattle.flex_store.proofs.Words.{words_low}
 use Rattle.flex_store.specs.Blocks.{Block, FlexStore, taken}
 use Rattle.flex_store.specs.declared.flex.Flex.{Flex}
 use Rattle.flex_store.specs.Laws.{AreDistinct, HasBlocks}
-use Rattle.flex_store.specs.State.{AreAnchorWords, IsFlexAt, IsText, is_recorded, is_store_record}
+use Rattle.flex_store.specs.State.{AreAnchorWords, IsFlexAt, IsText}
 use Rattle.flex_store.specs.declared.flex.Extent.{Extent}
 use Rattle.flex_ground.specs.Ground.{HasFlex, spelled_store}
 use Rattle.store_laws.specs.FlexStore.{HasFlexStore, IsSpelled, IsSpelledAt, spelled_blocks}
@@ -34,22 +34,6 @@ spelled_at m (Some e) is =
       used_is = is.held.used_is;
       recorded = is.recorded;
     }
-
--- each byte of the range is one of the store's
-in_record : (start end a : ℕ) (r : Region) → is_store_record start end r ≡ true → start ≤ a → a < end → (is_flex_store r.kind && in_range r.at r.len a) ≡ true
-in_record start end a r is low high =
-    let parts = and_parts (is_flex_store r.kind) (r.at == start && r.len == end - start) is in
-    let place = and_parts (r.at == start) (r.len == end - start) parts.1 in
-    let at : r.at ≡ start = eqb-true r.at start place.0 in
-    let len : r.len ≡ end - start = eqb-true r.len (end - start) place.1 in
-    rw (parts.0, le-leb r.at a (omega (arith, at, low)), lt-ltb a (r.at + r.len) (omega (arith, at, len, low, high))) refl
-
-pub in_recorded : (rs : List Region) (start end a : ℕ) → is_recorded rs start end ≡ true → start ≤ a → a < end → is_in_flex_store rs a ≡ true
-in_recorded [] start end a is low high = absurd (false≢true is)
-in_recorded (r ∷ rs) start end a is low high = elim (cases_Bool (is_store_record start end r)) [
-  | inl here ↦ or_left (is_flex_store r.kind && in_range r.at r.len a) (is_in_flex_store rs a) (in_record start end a r here low high)
-  | inr other ↦ or_right (is_flex_store r.kind && in_range r.at r.len a) (is_in_flex_store rs a) (in_recorded rs start end a (rw other at is) low high)
-]
 
 -- the anchors of such blocks differ
 distinct : (mapped : ℕ → Bool) (start end : ℕ) (bs : List Block) → AreAnchorWords mapped start end bs → AreDistinct bs
@@ -79,7 +63,7 @@ kept_blocks s t e is kept =
     let bytes : Bytes = record { mapped = s.bytes.mapped; at = t.bytes.at } in
     let same : (a : ℕ) → e.start ≤ a → a < e.start + e.used → t.bytes.at a ≡ s.bytes.at a = λ a low high.
     kept.bytes a (or_left (is_in_flex_store s.others a) (s.anchor a)
-    (in_recorded s.others e.start e.end a is.recorded low (omega (arith, is.fits, is.used_is, high)))) in
+    (in_store s.others e.start e.end a is.recorded low (omega (arith, is.fits, is.used_is, high)))) in
     text_read bytes e.start (e.start + e.used) (spelled_blocks s e)
     (text_kept s.bytes bytes e.start (e.start + e.used) (spelled_blocks s e) refl same (store_text s e is))
 

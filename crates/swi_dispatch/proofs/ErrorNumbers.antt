@@ -4,13 +4,13 @@ use Rattle.profile.specs.declared.error.ErrorNumber.{ErrorNumber}
 use Rattle.profile.specs.ErrorNames.{error_code, error_name}
 use Rattle.address_map.specs.Bytes.{Bytes, word_loaded}
 use Rattle.address_map.specs.Memory.{free_pages}
-use Rattle.arm_core.specs.declared.psr.Mode.{Mode}
-use Rattle.arm_core.specs.declared.psr.Mode.TheVariants.{User, FastInterrupt, Interrupt, Supervisor}
-use Rattle.arm_core.specs.declared.psr.Psr.{Psr}
-use Rattle.arm_core.specs.State.{State, slot_of, register_of, with_register}
+use Rattle.arm_step.specs.declared.psr.Mode.{Mode}
+use Rattle.arm_step.specs.declared.psr.Psr.{Psr}
+use Rattle.arm_step.specs.State.{State, slot_of, register_of, with_register}
 use Rattle.os_heap.specs.Store.{store_of}
 use Rattle.dynamic_areas.proofs.HeapCalls.{system_mapped}
 use Rattle.swi_dispatch_answers.specs.declared.refusal.Refusal.TheVariants as refusal
+use Rattle.swi_dispatch.proofs.GateReturns.{first_slot}
 use Rattle.swi_dispatch.specs.MachineState.{MachineState}
 use Rattle.swi_dispatch.specs.Errors.{error_number, with_error}
 use Rattle.swi_dispatch_answers.specs.Errors.{error_at, error_block}
@@ -19,14 +19,8 @@ use Rattle.swi_dispatch_answers.specs.Returns.{returned, return_word}
 use Rattle.swi_dispatch.specs.Parts.{Parts, IsWellFormed, state_of}
 
 -- R0 is the same register in all modes
-zero_slot : (m : Mode) → slot_of m 0 ≡ 0
-zero_slot User = refl
-zero_slot FastInterrupt = refl
-zero_slot Interrupt = refl
-zero_slot Supervisor = refl
-
 zero_apart : (m : Mode) → slot_of m 0 ≢ 25
-zero_apart m same = let zero : slot_of m 0 ≡ 0 = zero_slot m in omega (arith, zero, same)
+zero_apart m same = let zero : slot_of m 0 ≡ 0 = first_slot m in omega (arith, zero, same)
 
 zero_kept : (caller : Psr) (cpu : State) (v : Bool) (next : ℕ) → register_of (returned caller cpu v next) 0 ≡ register_of cpu 0
 unfolding returned
@@ -34,7 +28,7 @@ zero_kept caller cpu v next = get_or-set_other cpu.file 25 (slot_of cpu.psr.mode
 
 zero_set : (s : State) (v : ℕ) → length s.file ≡ 26 → register_of (with_register s 0 v) 0 ≡ v
 zero_set s v size =
-    let zero : slot_of s.psr.mode 0 ≡ 0 = zero_slot s.psr.mode in
+    let zero : slot_of s.psr.mode 0 ≡ 0 = first_slot s.psr.mode in
     let inside : slot_of s.psr.mode 0 < length s.file = omega (arith, zero, size) in
     get_or-set_same s.file (slot_of s.psr.mode 0) v 0 inside
 

@@ -31,7 +31,7 @@ use Rattle.swi_dispatch.proofs.OpenFrames.{frames_kept}
 use Rattle.swi_dispatch.proofs.StoreCalls.{same_pages}
 
 -- there is room for one record more
-pending_one : (b : Bool) (g : Given) → length (pending_by b g []) ≤ 1
+pub pending_one : (b : Bool) (g : Given) → length (pending_by b g []) ≤ 1
 pending_one true g = lit≤ tt
 pending_one false g = lit≤ tt
 

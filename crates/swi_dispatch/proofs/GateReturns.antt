@@ -21,7 +21,7 @@ use Rattle.swi_dispatch.specs.MachineState.{MachineState, Outcome, quiet}
 use Rattle.swi_dispatch.specs.Returns.{erred, halted}
 
 -- R0 is in no bank, and no call restores it
-first_slot : (m : Mode) → slot_of m 0 ≡ 0
+pub first_slot : (m : Mode) → slot_of m 0 ≡ 0
 first_slot User = refl
 first_slot FastInterrupt = refl
 first_slot Interrupt = refl

@@ -1,5 +1,5 @@
 -- What writes to memory leave of the store: every heap keeps its list.
-use Rattle.std.proofs.Common.{inl, inr, ◌≡◌, ℕ, ◌+◌, ◌-◌, ◌*◌, ◌%◌, ◌^◌, ◌≤◌, Bool, true, false, cond, nat_le, nat_eq, List, [], ◌∷◌, length, ◌++◌, Option, Some, None, Result, Ok, Err, refl, sym, ◌∙◌, ap, subst, arith, lit<, rules}
+use Rattle.std.proofs.Common.{◌≡◌, ℕ, ◌+◌, ◌-◌, ◌*◌, ◌%◌, ◌^◌, ◌≤◌, Bool, true, false, cond, nat_le, nat_eq, List, [], ◌∷◌, length, ◌++◌, Option, Some, None, Result, Ok, Err, refl, sym, ◌∙◌, ap, subst, arith, lit<, rules}
 use Rattle.std.proofs.lemmas.Bool.{true≢false, le-leb}
 use Rattle.profile.specs.declared.error.ErrorNumber.{ErrorNumber}
 use Rattle.profile.specs.ErrorNames.{error_name}
@@ -7,22 +7,21 @@ use Rattle.std.proofs.lemmas.Bool.Decides.{nat_tests}
 use Rattle.profile.specs.Outcome.{bind, Leaves}
 use Rattle.profile.specs.Sizes.{Sizes, AreGood}
 use Rattle.profile.specs.declared.fault.Fault.{Fault}
-use Rattle.profile.specs.declared.fault.Fault.TheVariants.{AddressException, DataUnmapped, OwnedWord}
 use Rattle.address_map.specs.declared.map.AddressMap.{AddressMap}
 use Rattle.address_map.specs.Bytes.{Bytes, in_range, unless, store_fault, word_stored, with_word, with_word_at, with_bytes_at, with_bytes}
 use Rattle.address_map.specs.Memory.{bytes_of, byte_at, free_pages, Layout, layout, class_of, is_owned}
 use Rattle.address_map.proofs.Equations.{stored_bytes}
-use Rattle.arm_core.specs.State.{State}
+use Rattle.address_map.proofs.Words.{unowned}
+use Rattle.arm_step.specs.State.{State}
 use Rattle.arm_step.specs.OwnedBytes.{IsByWords, Keeps}
 use Rattle.address_map.specs.declared.region.Kind.TheVariants.{Rma}
-use Rattle.address_map.specs.declared.region.Region.{Region}
 use Rattle.os_heap.specs.os_heap_lists.specs.Heap.{HeapList}
-use Rattle.os_heap.specs.Store.{Store, store_of, owned_in, AreClasses, ArePlaced, IsClearOfHeaps, IsSound}
-use Rattle.os_heap.proofs.Frame.{IsKept, classes_same, clear_kept, heads_kept, owned_word, spelled_owned}
-use Rattle.os_heap.proofs.Stores.{image_kind, placed_either}
+use Rattle.os_heap.specs.Store.{Store, store_of, owned_in, AreClasses, IsSound}
+use Rattle.os_heap.proofs.Frame.{IsKept, clear_kept, heads_kept, owned_word, spelled_owned}
 use Rattle.os_heap.proofs.Owned.{owned_marks}
 use Rattle.dynamic_areas.specs.Ground.{AreAreas, IsRecorded, system_pages}
 use Rattle.dynamic_areas.proofs.HeapCalls.{areas_written}
+use Rattle.dynamic_areas.proofs.SystemWrites.{kept_classes, system_kept}
 use Rattle.swi_dispatch.specs.declared.halt.Halt.{Halt}
 use Rattle.swi_dispatch.specs.MachineState.{MachineState, Tables, with_memory, start_of}
 use Rattle.swi_dispatch.specs.Boot.{booted, poked}
@@ -78,34 +77,13 @@ pub flex_after : (m n : AddressMap) (f : Flex) → HasFlex m f → layout n ≡ 
 flex_after m n f has same marks stored = flex_stored m n f has stored.kept.sound same marks stored.owned
 
 -- writes to the system pages
-system_clear : (hs : List HeapList) (rs : List Region) → ArePlaced hs rs → IsRecorded system_pages rs → IsClearOfHeaps 0x01C00000 0x3000 hs
-system_clear hs [] placed there = absurd there
-system_clear hs (r ∷ rs) placed there = elim there [
-  | inr later ↦ system_clear hs rs placed.1 later
-  | inl here ↦ elim (placed_either hs system_pages (rw here at placed.0)) [
-    | inl clear ↦ clear
-    | inr image ↦ absurd (true≢false (sym (image_kind hs system_pages image)))
-  ]
-]
-
-pub system_kept : (m n : AddressMap) → layout n ≡ layout m → class_of n ≡ class_of m → IsSound (store_of m) → IsRecorded system_pages (store_of m).others
-    → ((a : ℕ) → in_range 0x01C00000 0x3000 a ≡ false → byte_at n a ≡ byte_at m a) → IsKept m n
-system_kept m n same marks sound there kept =
-    clear_kept m n 0x01C00000 0x3000 same marks sound (system_clear (store_of m).heaps (store_of m).others sound.placed there) kept
-
-outside_word : (old : ℕ → ℕ) (a number : ℕ) → in_range 0x01C00000 0x3000 a ≡ false → with_word_at old 0x01C02100 number a ≡ old a
+pub outside_word : (old : ℕ → ℕ) (a number : ℕ) → in_range 0x01C00000 0x3000 a ≡ false → with_word_at old 0x01C02100 number a ≡ old a
 outside_word old a number out = grind (arith, nat_tests)
 
-outside_bytes : (old : ℕ → ℕ) (a : ℕ) (text : List ℕ) → length text ≤ 128 → in_range 0x01C00000 0x3000 a ≡ false → with_bytes_at old 0x01C02104 text a ≡ old a
+pub outside_bytes : (old : ℕ → ℕ) (a : ℕ) (text : List ℕ) → length text ≤ 128 → in_range 0x01C00000 0x3000 a ≡ false → with_bytes_at old 0x01C02104 text a ≡ old a
 outside_bytes old a text short out = grind (arith, nat_tests)
 
 -- the bytes of a store to a word are none that a heap owns
-free_by : (far mapped owned : Bool) → cond far (Some AddressException) (cond mapped (cond owned (Some OwnedWord) None) (Some DataUnmapped)) ≡ None → owned ≡ false
-free_by true mapped owned h = cc
-free_by false false owned h = cc
-free_by false true true h = cc
-free_by false true false h = refl
-
 apart_by : (owned : ℕ → Bool) (x a v y z : ℕ) (met : Bool) → nat_eq x a ≡ met → owned x ≡ true → owned a ≡ false → z ≡ y → cond met v z ≡ y
 apart_by owned x a v y z true e o f h =
     let here : x ≡ a = grind (arith, nat_tests) in
@@ -163,7 +141,7 @@ pub pokes : (m n : AddressMap) (cpu : State) (tables : Tables) (halt : Option Ha
 unfolding poked word_stored store_of
 pokes m n cpu tables halt a w result same marks sound classes left =
     poked_by m n cpu tables halt a w result (store_fault (owned_in (store_of m)) (bytes_of m) (a - a % 4)) same marks sound
-    (λ e. free_by (nat_le (2 ^ 26) (a - a % 4)) ((bytes_of m).mapped (a - a % 4)) (owned_in (store_of m) (a - a % 4)) e)
+    (λ e. unowned (nat_le (2 ^ 26) (a - a % 4)) ((bytes_of m).mapped (a - a % 4)) (owned_in (store_of m) (a - a % 4)) e)
     (subst (λ (owned : ℕ → Bool). Leaves (bytes_of m) (word_stored owned (bytes_of m) a w) result (bytes_of n)) (owned_marks m classes) left)
 
 -- the one heap of a machine as it was made
@@ -190,8 +168,6 @@ error_kept m n number text same marks sound others short e =
     system_kept m n same marks sound others (λ a out. ap (λ (b : Bytes). b.at a) e
     ∙ outside_bytes (with_word_at (byte_at m) 0x01C02100 number) a text short out ∙ outside_word (byte_at m) a number out)
 
-pub kept_classes : (m n : AddressMap) → IsKept m n → class_of n ≡ class_of m → AreClasses m → AreClasses n
-kept_classes m n kept marks same = classes_same m n (ap (λ (s : Store). s.heaps) kept.store) (λ a i. marks i a) same
 
 -- the flex store after a call other than its own
 pub flex_by : (old new : Parts) → IsWellFormed old → AreAreas (store_of new.map) (free_pages new.map) new.tables.land

@@ -12,7 +12,7 @@ use Rattle.swi_dispatch.specs.Run.{Run, ran, quiet_run}
 use Rattle.swi_dispatch.proofs.RunLoop.{one_run, ran-none}
 use Rattle.swi_dispatch.proofs.Turning.{turned_by}
 
-awake_step : (images : List Entry) (s : MachineState) → s.halt ≡ None → machine_step images s ≡ turned images s (instructed s)
+pub awake_step : (images : List Entry) (s : MachineState) → s.halt ≡ None → machine_step images s ≡ turned images s (instructed s)
 unfolding machine_step
 awake_step images s awake = ap (λ (o : Option Halt). unless_halted s o (turned images s (instructed s))) awake
 

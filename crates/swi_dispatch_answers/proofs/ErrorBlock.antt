@@ -1,17 +1,11 @@
 -- An error's number, its text and a zero byte, written one after another, are its block.
-use Rattle.std.proofs.Common.{◌≡◌, ℕ, ◌+◌, List, [], ◌∷◌, length, ◌++◌, ◌∙◌, ap, arith, length-append}
-use Rattle.std.proofs.lemmas.List.{places}
-use Rattle.std.proofs.lemmas.Bool.Decides.{nat_tests}
+use Rattle.std.proofs.Common.{◌≡◌, ℕ, ◌+◌, List, [], ◌∷◌, length, ◌++◌, ◌∙◌, ap}
 use Rattle.address_map.specs.declared.map.AddressMap.{AddressMap}
 use Rattle.address_map.specs.Bytes.{Bytes, with_word, with_word_at, with_bytes_at, with_bytes}
 use Rattle.address_map.specs.Memory.{bytes_of, byte_at, is_mapped, layout}
 use Rattle.address_map.proofs.Equations.{stored_word, stored_bytes}
+use Rattle.address_map.proofs.Stores.{two_writes}
 use Rattle.swi_dispatch_answers.specs.Errors.{error_block}
-
--- two writes side by side are one
-two_writes : (old : ℕ → ℕ) (at : ℕ) (xs : List ℕ) (y a : ℕ)
-    → with_bytes_at (with_bytes_at old at xs) (at + length xs) (y ∷ []) a ≡ with_bytes_at old at (xs ++ y ∷ []) a
-two_writes old at xs y a = grind (arith, nat_tests, places, length-append)
 
 pub error_written : (m n1 n2 n : AddressMap) (number code : ℕ) (text name : List ℕ) → number ≡ code → text ≡ name
     → layout n1 ≡ layout m → ((a : ℕ) → byte_at n1 a ≡ with_word_at (byte_at m) 0x01C02100 number a)

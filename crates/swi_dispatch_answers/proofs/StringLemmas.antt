@@ -1,5 +1,5 @@
 -- The text that a loop over memory has read so far, and the rest, are the whole text.
-use Rattle.std.proofs.Common.{◌≡◌, ◌≤◌, ◌<◌, ◌^◌, ℕ, zero, suc, ◌+◌, ◌-◌, Bool, true, false, cond, nat_le, is_some, List, [], ◌∷◌, ◌++◌, length, Option, Some, None, Ok, Err, refl, sym, ◌∙◌, ap, append_assoc, length-append, arith}
+use Rattle.std.proofs.Common.{◌≡◌, ◌≤◌, ◌<◌, ◌^◌, ℕ, zero, suc, ◌+◌, ◌-◌, Bool, true, false, cond, nat_le, List, [], ◌∷◌, ◌++◌, length, Option, Some, None, Ok, Err, refl, sym, ◌∙◌, ap, append_assoc, length-append, arith}
 use Rattle.std.proofs.lemmas.Bool.Decides.{nat_tests}
 use Rattle.std.proofs.lemmas.Bool.{true≢false, false_from_ne_true, and_right}
 use Rattle.std.specs.Option.{option_map}
@@ -7,16 +7,9 @@ use Rattle.profile.specs.declared.fault.Fault.{Fault}
 use Rattle.profile.specs.declared.fault.Fault.TheVariants.{AddressException, DataUnmapped}
 use Rattle.address_map.specs.declared.map.AddressMap.{AddressMap}
 use Rattle.address_map.specs.Bytes.{Bytes, byte_loaded, unless}
-use Rattle.address_map.specs.Memory.{bytes_of, is_mapped, place}
-use Rattle.address_map.proofs.Loads.{place_below}
+use Rattle.address_map.specs.Memory.{bytes_of, is_mapped}
+use Rattle.address_map.proofs.Spans.{mapped_below}
 use Rattle.swi_dispatch_answers.specs.Strings.{text_at}
-
--- where memory is mapped
-pub mapped_below : (m : AddressMap) (a : ℕ) → is_mapped m a ≡ true → a < 2 ^ 26
-mapped_below m a some = below (place m a) refl some where
-  below : (there : Option ℕ) → place m a ≡ there → is_some there ≡ true → a < 2 ^ 26
-  below None e h = cc
-  below (Some k) e h = place_below m a k e
 
 -- what a load of a byte says
 loaded_by : {A : Type 0} (far mapped : Bool) (x v : A) → unless (cond far (Some AddressException) (cond mapped None (Some DataUnmapped))) x ≡ Ok v

@@ -7,7 +7,7 @@ use Rattle.profile.specs.Outcome.{Gives}
 use Rattle.profile.specs.declared.error.ErrorNumber.{ErrorNumber}
 use Rattle.address_map.specs.Memory.{regions}
 use Rattle.address_map.specs.declared.map.AddressMap.{AddressMap}
-use Rattle.flex_ground.proofs.Calls.{state_is}
+use Rattle.flex_ground.proofs.Calls.{ok_is, state_is}
 use Rattle.flex_ground.proofs.Starts.{IsFlexMade, has_made, made_areas, made_left, others_made, room_there}
 use Rattle.flex_ground.proofs.Starts.{unmade_areas, unmade_left}
 use Rattle.flex_ground.proofs.Worlds.{begun_world}
@@ -29,10 +29,6 @@ record IsBegun (places : Store) (t : FlexState) (start end : ℕ) (r : FlexState
   none : t.flex ≡ None
   room : is_flex_range places start end ≡ true
   left : with_flex t start end ≡ r.0
-
-ok_is : (A : Type 0) (x y : A)
-    → (let one : Result A ErrorNumber = Ok x in let two : Result A ErrorNumber = Ok y in one ≡ two) → x ≡ y
-ok_is A x y e = cc
 
 begun_from : (places : Store) (t : FlexState) (start end : ℕ) (o : Option FlexStore) (r : FlexState × Unit {0})
     → begun_by places t start end o ≡ Ok r

@@ -1,5 +1,6 @@
 -- Frames that no SWI of some slots is among.
 use Rattle.std.proofs.Common.{◌≡◌, ◌==◌, ◌||◌, ◌&&◌, ℕ, Bool, true, false, List, [], ◌∷◌, refl, sym, ◌∙◌, ap}
+use Rattle.std.proofs.Math.Bool.{and-false}
 use Rattle.std.specs.List.{All, list_any}
 use Rattle.std.proofs.lemmas.Bool.{or_parts}
 use Rattle.std.proofs.lemmas.List.Elements.{All-head, All-tail}
@@ -30,13 +31,9 @@ none_of used slots more (f ∷ fs) held fewer none =
     let rest = none_of used slots more fs others fewer parts.1 in
     rw (here, rest) refl
 
-none_here : (swi : Bool) → (swi && false) ≡ false
-none_here true = refl
-none_here false = refl
-
 pub none_of_none : (fs : List Frame) → has_swi_of [] fs ≡ false
 none_of_none [] = refl
-none_of_none (f ∷ fs) = rw (none_here (is_swi f.kind), none_of_none fs) refl
+none_of_none (f ∷ fs) = rw (and-false (is_swi f.kind), none_of_none fs) refl
 
 pub none_of_empty : (slots : List ℕ) (fs : List Frame) → fs ≡ [] → has_swi_of slots fs ≡ false
 none_of_empty slots fs none = ap (has_swi_of slots) none

@@ -1,3 +1,3 @@
 mod AreaAnswers
 mod AreasKept
-mod Leaving
+pub mod Leaving

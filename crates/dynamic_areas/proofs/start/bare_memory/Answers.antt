@@ -1,12 +1,12 @@
 use Rattle.std.proofs.Common.{◌∙◌, ℕ, ap}
+use Rattle.address_map.proofs.Bytes.{byte_at-unmapped}
 use Rattle.address_map.specs.declared.class.Class.{Class}
-use Rattle.dynamic_areas.proofs.Starting.{unmapped_zero}
 use Rattle.dynamic_areas.proofs.start.bare_memory.Goals as goal
 
 pub returns-clause-bytes : goal.returns-clause-bytes
 returns-clause-bytes c = λ b.
     c.map_pages-3.ensures.bytes b ∙ c.map_pages-2.ensures.bytes b ∙ c.map_pages.ensures.bytes b
-    ∙ unmapped_zero c.in_ok-memory.memory b (c.in_ok-memory.ensures.mapping b)
+    ∙ byte_at-unmapped c.in_ok-memory.memory b (c.in_ok-memory.ensures.mapping b)
 
 pub returns-clause-marks : goal.returns-clause-marks
 returns-clause-marks c = λ a.

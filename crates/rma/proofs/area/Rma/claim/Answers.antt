@@ -10,8 +10,9 @@ use Rattle.flex_kept.specs.dynamic_areas.proofs.HeapCalls.{areas_written}
 use Rattle.flex_kept.proofs.Heaps.{got_keeps, got_unanchored}
 use Rattle.flex_kept.proofs.Keeping.{keeps_then}
 use Rattle.rma.specs.Calls.{in_grown_area, is_no_room, rma_base, rma_claimed}
-use Rattle.rma.proofs.Estates.{estate_same, full_where, layout-mapping, or_done, or_refused, store_kept}
+use Rattle.rma.proofs.Estates.{estate_same, full_where, or_done, or_refused, store_kept}
 use Rattle.rma.proofs.NewImageLemmas.{block_made, live_inside}
+use Rattle.address_map.proofs.Stores.{layout-mapping}
 use Rattle.rma.proofs.area.Rma.claim.Goals as goal
 
 pub returns-in-Ok-clause-claimed : goal.returns-in-Ok-clause-claimed

@@ -2,6 +2,7 @@ use Rattle.std.proofs.Common.{◌≡◌, Ok, refl, sym, ap, subst, ◌∙◌, ar
 use Rattle.address_map.specs.Memory.{free_pages}
 use Rattle.address_map.specs.declared.region.Kind.TheVariants as kind
 use Rattle.address_map.specs.declared.region.Region.{Region}
+use Rattle.os_heap.proofs.ForgetLemmas.{same_bytes_of}
 use Rattle.os_heap.specs.Calls.{block_sized}
 use Rattle.os_heap.specs.Store.{IsSound, Store, store_of}
 use Rattle.os_heap.proofs.Limits.{range_room}
@@ -13,7 +14,7 @@ use Rattle.flex_kept.proofs.Keeping.{keeps_same}
 use Rattle.flex_kept.proofs.Writes.{recorded_keeps}
 use Rattle.rma.specs.Images.{image_recorded}
 use Rattle.rma.proofs.ExtendLemmas.{lies_below}
-use Rattle.rma.proofs.ImageLemmas.{areas_recorded, is_recorded, same_bytes, same_pool}
+use Rattle.rma.proofs.ImageLemmas.{areas_recorded, is_recorded, same_pool}
 use Rattle.rma.proofs.area.Rma.record_image.Goals as goal
 
 pub own-requires-clause-region : goal.own-requires-clause-region
@@ -34,7 +35,7 @@ returns-in-Ok-clause-store c =
     let sized : block_sized (store_of c.args.map.now) 0x01800000 c.args.at ≡ Ok c.in-Ok.len = sym c.block_size.ensures.answer ∙ c.in-Ok.is in
     let r : Region = record { kind = kind.Image; at = c.args.at; len = c.in-Ok.len } in
     rw sized (store_recorded c.args.map.now c.own.new.self r refl c.own.ensures.regions
-    (same_bytes c.args.map.now c.own.new.self c.own.ensures.mapping c.own.ensures.bytes) c.own.ensures.marks)
+    (same_bytes_of c.args.map.now c.own.new.self c.own.ensures.mapping c.own.ensures.bytes) c.own.ensures.marks)
 
 pub returns-in-Ok-clause-sound : goal.returns-in-Ok-clause-sound
 returns-in-Ok-clause-sound c =
@@ -42,7 +43,7 @@ returns-in-Ok-clause-sound c =
     let sized : block_sized s 0x01800000 c.args.at ≡ Ok c.in-Ok.len = sym c.block_size.ensures.answer ∙ c.in-Ok.is in
     let r : Region = record { kind = kind.Image; at = c.args.at; len = c.in-Ok.len } in
     let store = store_recorded c.args.map.now c.own.new.self r refl c.own.ensures.regions
-    (same_bytes c.args.map.now c.own.new.self c.own.ensures.mapping c.own.ensures.bytes) c.own.ensures.marks in
+    (same_bytes_of c.args.map.now c.own.new.self c.own.ensures.mapping c.own.ensures.bytes) c.own.ensures.marks in
     subst IsSound (sym store) (is_recorded s c.args.at c.in-Ok.len c.requires.sound c.requires.may sized).sound
 
 pub returns-in-Ok-clause-estate : goal.returns-in-Ok-clause-estate
@@ -51,7 +52,7 @@ returns-in-Ok-clause-estate c l areas =
     let sized : block_sized s 0x01800000 c.args.at ≡ Ok c.in-Ok.len = sym c.block_size.ensures.answer ∙ c.in-Ok.is in
     let r : Region = record { kind = kind.Image; at = c.args.at; len = c.in-Ok.len } in
     let store = store_recorded c.args.map.now c.own.new.self r refl c.own.ensures.regions
-    (same_bytes c.args.map.now c.own.new.self c.own.ensures.mapping c.own.ensures.bytes) c.own.ensures.marks in
+    (same_bytes_of c.args.map.now c.own.new.self c.own.ensures.mapping c.own.ensures.bytes) c.own.ensures.marks in
     let pool = same_pool c.args.map.now c.own.new.self c.own.ensures.mapping in
     rw (store, pool) (areas_recorded s (free_pages c.args.map.now) l r areas (is_recorded s c.args.at c.in-Ok.len c.requires.sound c.requires.may sized))
 
@@ -59,7 +60,7 @@ pub returns-in-Ok-clause-classes : goal.returns-in-Ok-clause-classes
 returns-in-Ok-clause-classes c classes =
     let r : Region = record { kind = kind.Image; at = c.args.at; len = c.in-Ok.len } in
     let store = store_recorded c.args.map.now c.own.new.self r refl c.own.ensures.regions
-    (same_bytes c.args.map.now c.own.new.self c.own.ensures.mapping c.own.ensures.bytes) c.own.ensures.marks in
+    (same_bytes_of c.args.map.now c.own.new.self c.own.ensures.mapping c.own.ensures.bytes) c.own.ensures.marks in
     classes_same c.args.map.now c.own.new.self (ap (λ (t : Store). t.heaps) store) c.own.ensures.marks classes
 
 pub returns-in-Err-clause-store : goal.returns-in-Err-clause-store
@@ -72,7 +73,7 @@ returns-in-Ok-clause-flex c = λ unanchored.
     let sized : block_sized s 0x01800000 c.args.at ≡ Ok c.in-Ok.len = sym c.block_size.ensures.answer ∙ c.in-Ok.is in
     let r : Region = record { kind = kind.Image; at = c.args.at; len = c.in-Ok.len } in
     let store = store_recorded c.args.map.now c.own.new.self r refl c.own.ensures.regions
-    (same_bytes c.args.map.now c.own.new.self c.own.ensures.mapping c.own.ensures.bytes) c.own.ensures.marks in
+    (same_bytes_of c.args.map.now c.own.new.self c.own.ensures.mapping c.own.ensures.bytes) c.own.ensures.marks in
     let free = rw sized at unanchored in
     subst (λ (t : Store). KeepsFlex s t) (sym store) (recorded_keeps s c.args.at c.in-Ok.len free)
 

@@ -2,6 +2,7 @@ use Rattle.std.proofs.Common.{refl, sym, ap, subst}
 use Rattle.address_map.specs.Memory.{free_pages}
 use Rattle.address_map.specs.declared.region.Kind.TheVariants as kind
 use Rattle.address_map.specs.declared.region.Region.{Region}
+use Rattle.os_heap.proofs.ForgetLemmas.{same_bytes_of}
 use Rattle.os_heap.specs.Store.{IsSound, Store, store_of}
 use Rattle.os_heap.proofs.Limits.{range_room}
 use Rattle.os_heap.proofs.Frame.{classes_same}
@@ -9,7 +10,7 @@ use Rattle.os_heap.proofs.Order.{order_added}
 use Rattle.os_heap.proofs.Recorded.{store_recorded}
 use Rattle.flex_kept.specs.Keeping.{KeepsFlex}
 use Rattle.flex_kept.proofs.Writes.{recorded_keeps, unanchored_by}
-use Rattle.rma.proofs.ImageLemmas.{areas_recorded, same_bytes, same_pool}
+use Rattle.rma.proofs.ImageLemmas.{areas_recorded, same_pool}
 use Rattle.rma.proofs.InPlaceLemmas.{may_be, placed, region_placed}
 use Rattle.rma.proofs.area.Rma.record_in_place.Goals as goal
 
@@ -23,7 +24,7 @@ pub returns-clause-placed : goal.returns-clause-placed
 returns-clause-placed c l =
     let r : Region = record { kind = kind.Image; at = c.args.at; len = c.args.len } in
     let store = store_recorded c.args.map.now c.own.new.self r refl c.own.ensures.regions
-    (same_bytes c.args.map.now c.own.new.self c.own.ensures.mapping c.own.ensures.bytes) c.own.ensures.marks in
+    (same_bytes_of c.args.map.now c.own.new.self c.own.ensures.mapping c.own.ensures.bytes) c.own.ensures.marks in
     let pool = same_pool c.args.map.now c.own.new.self c.own.ensures.mapping in
     λ i. record { store = store i; pool = pool i; land = l }
 
@@ -31,7 +32,7 @@ pub returns-clause-sound : goal.returns-clause-sound
 returns-clause-sound c =
     let r : Region = record { kind = kind.Image; at = c.args.at; len = c.args.len } in
     let store = store_recorded c.args.map.now c.own.new.self r refl c.own.ensures.regions
-    (same_bytes c.args.map.now c.own.new.self c.own.ensures.mapping c.own.ensures.bytes) c.own.ensures.marks in
+    (same_bytes_of c.args.map.now c.own.new.self c.own.ensures.mapping c.own.ensures.bytes) c.own.ensures.marks in
     subst IsSound (sym store) (placed (store_of c.args.map.now) c.args.at c.args.len c.requires.sound c.requires.may c.requires.some c.requires.room).sound
 
 pub returns-clause-estate : goal.returns-clause-estate
@@ -39,7 +40,7 @@ returns-clause-estate c l areas =
     let s : Store = store_of c.args.map.now in
     let r : Region = record { kind = kind.Image; at = c.args.at; len = c.args.len } in
     let store = store_recorded c.args.map.now c.own.new.self r refl c.own.ensures.regions
-    (same_bytes c.args.map.now c.own.new.self c.own.ensures.mapping c.own.ensures.bytes) c.own.ensures.marks in
+    (same_bytes_of c.args.map.now c.own.new.self c.own.ensures.mapping c.own.ensures.bytes) c.own.ensures.marks in
     let pool = same_pool c.args.map.now c.own.new.self c.own.ensures.mapping in
     rw (store, pool) (areas_recorded s (free_pages c.args.map.now) l r areas
     (placed s c.args.at c.args.len c.requires.sound c.requires.may c.requires.some c.requires.room))
@@ -48,7 +49,7 @@ pub returns-clause-classes : goal.returns-clause-classes
 returns-clause-classes c classes =
     let r : Region = record { kind = kind.Image; at = c.args.at; len = c.args.len } in
     let store = store_recorded c.args.map.now c.own.new.self r refl c.own.ensures.regions
-    (same_bytes c.args.map.now c.own.new.self c.own.ensures.mapping c.own.ensures.bytes) c.own.ensures.marks in
+    (same_bytes_of c.args.map.now c.own.new.self c.own.ensures.mapping c.own.ensures.bytes) c.own.ensures.marks in
     classes_same c.args.map.now c.own.new.self (ap (λ (t : Store). t.heaps) store) c.own.ensures.marks classes
 
 pub returns-clause-flex : goal.returns-clause-flex
@@ -56,7 +57,7 @@ returns-clause-flex c =
     let s : Store = store_of c.args.map.now in
     let r : Region = record { kind = kind.Image; at = c.args.at; len = c.args.len } in
     let store = store_recorded c.args.map.now c.own.new.self r refl c.own.ensures.regions
-    (same_bytes c.args.map.now c.own.new.self c.own.ensures.mapping c.own.ensures.bytes) c.own.ensures.marks in
+    (same_bytes_of c.args.map.now c.own.new.self c.own.ensures.mapping c.own.ensures.bytes) c.own.ensures.marks in
     subst (λ (t : Store). KeepsFlex s t) (sym store)
     (recorded_keeps s c.args.at c.args.len (unanchored_by s c.args.at c.args.len (may_be s c.args.at c.args.len c.requires.may).anchors))
 

@@ -1,9 +1,9 @@
 use Rattle.std.proofs.Common.{◌≤◌, ◌*◌, ◌∙◌, length, ap, refl, arith}
 use Rattle.os_heap.specs.Store.{Store, store_of}
-use Rattle.dynamic_areas.proofs.Remapped.{here}
 use Rattle.flex_ground.proofs.Kept.{flex_unmade}
 use Rattle.swi_dispatch.specs.MachineState.{MachineState, start_of}
 use Rattle.swi_dispatch.proofs.Kept.{well_kept, program_kept, boots}
+use Rattle.address_map.proofs.InRange.{range_inside}
 use Rattle.swi_dispatch.proofs.machine.Machine.boot.Goals as goal
 
 pub invariant_of-self : goal.invariant_of-self
@@ -45,4 +45,4 @@ unfolding start_of store_of
 put_bytes-requires c = λ a low high.
     let mapped = ap (λ (s : MachineState). s.store.bytes.mapped a) (c.self.invariant.fresh c.if-not-self.false) in
     let fits : length c.args.program.now ≤ 4096 * c.self.inside.spare.app = omega (arith, c.if-program-app.false, c.app.ensures.value) in
-    mapped ∙ rw (here 0x8000 (4096 * c.self.inside.spare.app) a low (omega arith)) refl
+    mapped ∙ rw (range_inside 0x8000 (4096 * c.self.inside.spare.app) a low (omega arith)) refl
