@@ -7,6 +7,8 @@ pub mod LandLemmas
 pub mod LooseLemmas
 pub mod Loosened
 pub mod ModuleArea
+pub mod PageCounting
+pub mod PageRanges
 pub mod PutLemmas
 pub mod RecordLemmas
 pub mod Remapped

@@ -5,6 +5,7 @@ pub mod Changing
 pub mod Creating
 pub mod Ground
 pub mod Laws
+pub mod PageCounts
 pub mod Places
 pub mod Remapped
 pub mod Rooms

@@ -2,6 +2,7 @@
 //! contract of a function that does nothing.
 
 ghost use Rattle.dynamic_areas.specs.Laws.{LeastNumberIsChosen, LowestGapIsChosen, ShrinksToFirstHeld};
+ghost use Rattle.dynamic_areas.specs.PageCounts.{AreasCountPages};
 
 /// Where a call is to choose an address, it takes the lowest page address of the window where the
 /// area, with its maximum, meets no other.
@@ -20,4 +21,10 @@ pub fn the_least_number_is_chosen()
 #[tactic(auto, using(crate::proofs::Choices::shrinks_to))]
 pub fn pages_go_down_to_the_first_that_stays()
     ensures { ShrinksToFirstHeld }
+{}
+
+/// Where areas stand on a memory, it has as many pages as the machine that they are of.
+#[tactic(auto, using(crate::proofs::PageCounting::areas_count_pages))]
+pub fn areas_count_pages()
+    ensures { AreasCountPages }
 {}

@@ -15,5 +15,6 @@ mod table;
 
 pub use area::{Area, Changed, Created, Extent, MOST_NAME_BYTES, Wanted};
 pub use areas::Areas;
+pub use laws::areas_count_pages;
 pub use start::start_memory;
 pub use table::MODULE_AREA;

@@ -14,8 +14,8 @@ use Rattle.profile.specs.declared.swi.SwiName.{SwiName}
 use Rattle.profile.specs.declared.swi.SwiName.TheVariants as swi
 use Rattle.address_map.proofs.Stores.{in_range-cases}
 use Rattle.address_map.specs.Bytes.{Bytes, in_range, with_word_at}
-use Rattle.arm_step.specs.declared.psr.Psr.{Psr}
-use Rattle.arm_step.specs.State.{State, register_of, slot_of, with_register}
+use Rattle.arm_core.specs.declared.psr.Psr.{Psr}
+use Rattle.arm_core.specs.State.{State, register_of, slot_of, with_register}
 use Rattle.image_loader.specs.Entries.{Entry}
 use Rattle.instances_table.specs.declared.parts.Handler.{Handler}
 use Rattle.instances_table.specs.Lookup.{handler_of}

@@ -12,7 +12,7 @@ use Rattle.address_map.specs.Bytes.{Bytes, in_range, unless, store_fault, word_s
 use Rattle.address_map.specs.Memory.{bytes_of, byte_at, free_pages, Layout, layout, class_of, is_owned}
 use Rattle.address_map.proofs.Equations.{stored_bytes}
 use Rattle.address_map.proofs.Words.{unowned}
-use Rattle.arm_step.specs.State.{State}
+use Rattle.arm_core.specs.State.{State}
 use Rattle.arm_step.specs.OwnedBytes.{IsByWords, Keeps}
 use Rattle.address_map.specs.declared.region.Kind.TheVariants.{Rma}
 use Rattle.os_heap.specs.os_heap_lists.specs.Heap.{HeapList}
@@ -167,7 +167,6 @@ pub error_kept : (m n : AddressMap) (number : ℕ) (text : List ℕ) → layout 
 error_kept m n number text same marks sound others short e =
     system_kept m n same marks sound others (λ a out. ap (λ (b : Bytes). b.at a) e
     ∙ outside_bytes (with_word_at (byte_at m) 0x01C02100 number) a text short out ∙ outside_word (byte_at m) a number out)
-
 
 -- the flex store after a call other than its own
 pub flex_by : (old new : Parts) → IsWellFormed old → AreAreas (store_of new.map) (free_pages new.map) new.tables.land

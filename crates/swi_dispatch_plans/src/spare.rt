@@ -10,9 +10,8 @@ ghost use Rattle.swi_dispatch_modules.specs.instances.specs.Turns.{IsUnderWay};
 ghost use Rattle.swi_dispatch_plans.specs.Trials.{error_ahead};
 
 use address_map::AddressMap;
-use instances_ground::dynamic_areas::Areas;
+use instances_ground::dynamic_areas::{Areas, areas_count_pages};
 use instances_plans::{Ended, Outcome, Plan};
-use page_counts::areas_count_pages;
 use profile::Config;
 use std::alloc::{AllocError, Global};
 use std::marker::Model;

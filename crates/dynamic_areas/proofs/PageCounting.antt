@@ -16,7 +16,7 @@ use Rattle.dynamic_areas.specs.Ground.{AreAreas, is_fixed, is_held, is_land}
 use Rattle.dynamic_areas.specs.Rooms.{AreRooms, IsBefore, IsRoom}
 use Rattle.dynamic_areas.specs.declared.area.Area.{Area}
 use Rattle.dynamic_areas.proofs.LandLemmas.{fixed_outside, lies_apart}
-use Rattle.page_counts.proofs.Ranges.{counted_either, counted_range, page_in_range}
+use Rattle.dynamic_areas.proofs.PageRanges.{counted_either, counted_range, page_in_range}
 
 -- a range of whole pages
 range_counted : (base at count n : ℕ) → base ≡ 4096 * at → at + count ≤ n → counted (λ page. in_range base (4096 * count) (4096 * page)) n ≡ count
