@@ -1,3 +1,5 @@
+-- The core without memory: its registers, its status, and what one instruction leaves of them. Begin
+-- with State, then Operate.
 pub mod Conditions
 pub mod Effect
 pub mod Laws
