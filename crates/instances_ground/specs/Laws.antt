@@ -1,6 +1,7 @@
 -- What a world says of the images of modules, and of those that are pending.
 use Rattle.std.specs.Prelude.{◌≡◌, ◌≤◌, ◌%◌, true, false, List, ◌++◌, map}
 use Rattle.std.specs.List.{AllByRecursion}
+use Rattle.rma.specs.os_heap.specs.Forgetting.{holds_heap}
 use Rattle.rma.specs.os_heap.specs.Store.{AreRangesApart, IsClearOfHeaps, IsImageIn}
 use Rattle.rma.specs.dynamic_areas.specs.Ground.{IsRecorded}
 use Rattle.instances_table.specs.declared.parts.Image.{Image}
@@ -8,12 +9,14 @@ use Rattle.instances_table.specs.ModuleArea.{is_in_module_area}
 use Rattle.instances_ground.specs.Sound.{IsWorld, images_of, range_of, recorded_len}
 use Rattle.instances_ground.specs.World.{World}
 
--- An image begins at a multiple of 4, and is recorded with its whole length. In the module area the record covers just what a live block holds, and elsewhere bytes that are no heap's.
+-- An image begins at a multiple of 4, and is recorded with its whole length. In the module area the record covers just what a live block holds, and
+-- elsewhere bytes that are no heap's. No guest's heap lies in it, in the module area neither.
 pub record IsHeld (w : World) (image : Image) : Type 0 where
   pub recorded : IsRecorded (range_of image) w.estate.store.others
   pub whole : image.len ≤ recorded_len image
   pub aligned : image.at % 4 ≡ 0
   pub block : is_in_module_area image.at ≡ true → IsImageIn w.estate.store.heaps (range_of image)
+  pub unheaped : holds_heap w.estate.store.heaps image.at (recorded_len image) ≡ false
   pub clear : is_in_module_area image.at ≡ false → IsClearOfHeaps image.at (recorded_len image) w.estate.store.heaps
 
 abbrev pub ImagesAreHeld : Type 0
