@@ -49,9 +49,9 @@ parts_world p = world_of p.map p.tables.land p.tables.modules
 -- What holds of every machine, whatever its guest does: the areas stand on its memory, so that memory spells the lists
 -- of all heaps; the words that these lists spell are those that are marked; the system pages are recorded; the
 -- recorded images are the modules', and the plan that is kept while module code runs finds all that it asks for; one
--- initialisation or finalisation is under way while a plan is kept, and else none; each frame is of an instance
--- that is there, and no SWI that waits for an initialisation or a finalisation is of its instance, nor of one that the
--- plan names; memory spells the flex store, if there is one; a machine that can still be booted stands as at the
+-- initialisation or finalisation is under way while a plan is kept, that of the instance that the plan's first action
+-- names, and else none; each frame is of an instance that is there, and no SWI that waits for an initialisation or a
+-- finalisation is of its instance, nor of one that the plan names; memory spells the flex store, if there is one; a machine that can still be booted stands as at the
 -- start; and the areas are those of a machine of its sizes.
 pub record IsWellFormed (p : Parts) : Type 0 where
   pub areas : AreAreas (store_of p.map) (free_pages p.map) p.tables.land
