@@ -5,5 +5,4 @@ pub mod Changes
 pub mod FlexLaws
 pub mod FlexPlaces
 pub mod HeapWrites
-pub mod RefusedCalls
 pub mod Runs

@@ -1,2 +1,3 @@
 pub mod Halts
+pub mod LateErrors
 pub mod Refusals

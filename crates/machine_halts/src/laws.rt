@@ -1,7 +1,10 @@
 //! Laws over the definitions, each the contract of a function that does nothing.
 
 ghost use Rattle.machine_halts.specs.Halts.{ExitsAreCalls, HaltsChangeNothing, NoFaultFromOutside};
-ghost use Rattle.machine_halts.specs.Refusals.{RefusalsChangeNothing};
+ghost use Rattle.machine_halts.specs.LateErrors.{ErringChangesMovePages};
+ghost use Rattle.machine_halts.specs.LateErrors.{RefusedLoadsChangeNothing, RefusedPlansChangeNothing};
+ghost use Rattle.machine_halts.specs.Refusals.{GoingOnIsDone, RefusalsChangeNothing};
+ghost use Rattle.machine_halts.specs.Refusals.{RefusedStepsChangeNothing, RefusedStoreCallsChangeNothing};
 
 /// A step that ends in a halt changes nothing but that the machine is halted, and prints nothing.
 pub fn halts_change_nothing()
@@ -19,7 +22,23 @@ pub fn no_fault_from_outside()
 {}
 
 /// A store call with the X bit that is refused changes nothing but the block of an error, R0, R14 of supervisor mode, V
-/// and the program counter, unless it is one of those that may end with an error after they did something.
+/// and the program counter, unless it is one of those that may end with an error after they did something. Without the X
+/// bit one that goes on was not refused. So it is of a step that makes such a call, and of a call from outside.
 pub fn refusals_change_nothing()
-    ensures { RefusalsChangeNothing }
+    ensures refused { RefusalsChangeNothing }
+    ensures done { GoingOnIsDone }
+    ensures steps { RefusedStepsChangeNothing }
+    ensures outside { RefusedStoreCallsChangeNothing }
+{}
+
+/// A call on modules that may run module code, and is refused before any of it runs, changes no more than that; nor does
+/// such a load from outside.
+pub fn refused_plans_change_nothing()
+    ensures calls { RefusedPlansChangeNothing }
+    ensures loads { RefusedLoadsChangeNothing }
+{}
+
+/// A change of an area that errs has moved the pages that it could, and changes no more than that beside it.
+pub fn erring_changes_move_pages()
+    ensures { ErringChangesMovePages }
 {}
