@@ -1,3 +1,4 @@
 pub mod Laws
 pub mod MachineStores
+pub mod Told
 pub mod Turns
