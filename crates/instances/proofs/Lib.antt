@@ -6,5 +6,6 @@ pub mod Handling
 pub mod Keeping
 pub mod NamedByCalls
 pub mod Naming
+pub mod NextCode
 pub mod ReadyLemmas
 pub mod Turning

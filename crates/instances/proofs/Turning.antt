@@ -111,7 +111,7 @@ goes_on w v p a first are going acts world =
       code = λ runs. absurd (false≢true runs);
     }
 
-same_modules : (g : Given) (a : Action) (w : World) → calls_module (Some a) ≡ true → (acted world_slid g w a).modules ≡ w.modules
+pub same_modules : (g : Given) (a : Action) (w : World) → calls_module (Some a) ≡ true → (acted world_slid g w a).modules ≡ w.modules
 same_modules g (Finalise s f) w calls = refl
 same_modules g (Initialise s) w calls = refl
 same_modules g (Remove s) w calls = absurd (false≢true calls)
@@ -131,7 +131,7 @@ none_settled (Instantiate s) calls = refl
 none_settled GiveUp calls = absurd (false≢true calls)
 none_settled Slide calls = refl
 
-calls_by : (ms : List Module) (a : Action) (code : Code) → code_among ms a ≡ Some code → calls_module (Some a) ≡ true
+pub calls_by : (ms : List Module) (a : Action) (code : Code) → code_among ms a ≡ Some code → calls_module (Some a) ≡ true
 unfolding code_among
 calls_by ms (Finalise s f) code is = refl
 calls_by ms (Initialise s) code is = refl

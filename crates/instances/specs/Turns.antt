@@ -1,13 +1,16 @@
 -- A call that is under way on the world: its plan finds what its actions ask for, and module code
 -- runs only where an action has some (this project's own).
-use Rattle.std.specs.Prelude.{◌≡◌, Bool, true, false, Option, Some, None, []}
+use Rattle.std.specs.Prelude.{◌≡◌, Bool, true, false, Option, Some, None, List, []}
 use Rattle.instances_plans.specs.declared.action.Action.{Action}
 use Rattle.instances_plans.specs.declared.action.Action.TheVariants.{Finalise, Initialise}
+use Rattle.instances_plans.specs.declared.code.Code.{Code}
 use Rattle.instances_plans.specs.Carrying.{Doing}
 use Rattle.instances_plans.specs.Plans.{Plan, first_of}
 use Rattle.instances_slide.specs.instances_ground.specs.Sound.{IsWorld}
 use Rattle.instances_slide.specs.instances_ground.specs.World.{World}
+use Rattle.instances_table.specs.Modules.{Module}
 use Rattle.instances_actions.specs.Actions.{doing}
+use Rattle.instances_actions.specs.Codes.{code_among}
 use Rattle.instances_actions.specs.Pending.{pending_of}
 use Rattle.instances_actions.specs.Ready.{IsReady}
 use Rattle.instances_slide.specs.Slid.{world_slid}
@@ -21,6 +24,11 @@ abbrev pub calls_module : Option Action → Bool
 calls_module (Some (Finalise slot fatal)) = true
 calls_module (Some (Initialise slot)) = true
 calls_module _ = false
+
+-- the code at that entry, with what it is given in R10 to R12, if the module of its instance has it
+abbrev pub code_called : List Module → Option Action → Option Code
+code_called modules None = None
+code_called modules (Some action) = code_among modules action
 
 pub record IsUnderWay (w : World) (p : Plan) : Type 0 where
   pub world : IsWorld w (pending_of p)

@@ -6,6 +6,7 @@ ghost use Rattle.address_map.specs.Memory.{is_mapped};
 ghost use Rattle.instances_slide.specs.os_heap.specs.Order.{KeepsOrder};
 ghost use Rattle.instances_slide.specs.os_heap.specs.Store.{store_of, AreClasses};
 ghost use Rattle.instances_slide.specs.flex_kept.specs.Keeping.{KeepsFlex};
+ghost use Rattle.instances_slide.specs.rma.specs.Places.{KeepsPlaces};
 ghost use Rattle.instances_plans.specs.module_header.specs.Header.{header_of};
 ghost use Rattle.instances_actions.specs.Pending.{pending_of};
 ghost use Rattle.instances_actions.specs.Ready.{IsReady};
@@ -54,6 +55,7 @@ impl Instances {
         ensures classes { AreClasses map.new }
         ensures order { MatchResult result (λ plan. AddsImage map.old map.new plan.given.image)
             (λ _. KeepsOrder map.old map.new) }
+        ensures places { KeepsPlaces map.old map.new }
         ensures flex { KeepsFlex (store_of map.old) (store_of map.new) }
         ensures ready { IfOk result (λ plan. IsReady self.now plan) }
         ensures rests { IfOk result (λ plan. plan.runs ≡ false) }

@@ -1,7 +1,7 @@
 //! What is left of a call is done, action by action, up to the next entry of module code.
 #![tactic(auto, using(crate::proofs::Keeping::keeps_same))]
 
-ghost use Rattle.std.specs.Prelude.{◌≡◌, [], None, Some};
+ghost use Rattle.std.specs.Prelude.{◌≡◌, [], None, Some, IfSome};
 ghost use Rattle.address_map.specs.Memory.{mapping, regions};
 ghost use Rattle.instances_slide.specs.os_heap.specs.Store.{AreClasses, store_of};
 ghost use Rattle.instances_slide.specs.flex_kept.specs.Keeping.{KeepsFlex};
@@ -14,7 +14,7 @@ ghost use Rattle.instances_actions.specs.Actions.{acted};
 ghost use Rattle.instances_actions.specs.Pending.{pending_of};
 ghost use Rattle.instances_slide.specs.Slid.{world_slid};
 ghost use Rattle.instances.specs.Naming.{KeepsOthers};
-ghost use Rattle.instances.specs.Turns.{IsUnderWay, module_doing};
+ghost use Rattle.instances.specs.Turns.{IsUnderWay, code_called, module_doing};
 
 use crate::instances::Instances;
 use address_map::AddressMap;
@@ -41,6 +41,7 @@ impl Instances {
         requires classes { AreClasses map.old }
         ensures carried { carried module_doing (world_of map.old areas.now self.old) (settled plan.old outcome)
             ≡ record { world = world_of map.new areas.now self.new; rest = plan.new; code = result } }
+        ensures code { IfSome result (λ code. code_called self.new (first_of plan.new.actions) ≡ Some code) }
         ensures ended { result ≡ None → IsWorld (world_of map.new areas.now self.new) [] }
         ensures going { IsUnderWay (world_of map.new areas.now self.new) plan.new }
         ensures others { KeepsOthers self.old self.new plan.old plan.new result }

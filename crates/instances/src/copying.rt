@@ -4,6 +4,7 @@ ghost use Rattle.profile.specs.Outcome.{Gives};
 ghost use Rattle.instances_slide.specs.os_heap.specs.Order.{KeepsOrder};
 ghost use Rattle.instances_slide.specs.os_heap.specs.Store.{AreClasses, store_of};
 ghost use Rattle.instances_slide.specs.flex_kept.specs.Keeping.{KeepsFlex};
+ghost use Rattle.instances_slide.specs.rma.specs.Places.{KeepsPlaces};
 ghost use Rattle.instances_actions.specs.Pending.{pending_of};
 ghost use Rattle.instances_actions.specs.Ready.{IsReady};
 ghost use Rattle.instances_slide.specs.instances_ground.specs.Sound.{IsWorld};
@@ -48,6 +49,7 @@ impl Instances {
         ensures classes { AreClasses map.new }
         ensures order { MatchResult result (λ plan. AddsImage map.old map.new plan.given.image)
             (λ _. KeepsOrder map.old map.new) }
+        ensures places { KeepsPlaces map.old map.new }
         ensures flex { KeepsFlex (store_of map.old) (store_of map.new) }
         ensures ready { IfOk result (λ plan. IsReady self.now plan) }
         ensures rests { IfOk result (λ plan. plan.runs ≡ false) }

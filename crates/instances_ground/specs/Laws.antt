@@ -1,6 +1,7 @@
 -- What a world says of the images of modules, and of those that are pending.
 use Rattle.std.specs.Prelude.{◌≡◌, ◌≤◌, ◌%◌, true, false, List, ◌++◌, map}
 use Rattle.std.specs.List.{AllByRecursion}
+use Rattle.rma.specs.os_heap.specs.Forgetting.{holds_heap}
 use Rattle.rma.specs.os_heap.specs.Store.{AreRangesApart, IsClearOfHeaps, IsImageIn}
 use Rattle.rma.specs.dynamic_areas.specs.Ground.{IsRecorded}
 use Rattle.instances_table.specs.declared.parts.Image.{Image}
@@ -15,6 +16,7 @@ pub record IsHeld (w : World) (image : Image) : Type 0 where
   pub whole : image.len ≤ recorded_len image
   pub aligned : image.at % 4 ≡ 0
   pub block : is_in_module_area image.at ≡ true → IsImageIn w.estate.store.heaps (range_of image)
+  pub unheaped : holds_heap w.estate.store.heaps image.at (recorded_len image) ≡ false
   pub clear : is_in_module_area image.at ≡ false → IsClearOfHeaps image.at (recorded_len image) w.estate.store.heaps
 
 abbrev pub ImagesAreHeld : Type 0

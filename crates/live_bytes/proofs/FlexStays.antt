@@ -58,7 +58,6 @@ flex_mapped mapped (r ∷ rs) a all is = elim (or_cases (is_flex_store r.kind &&
       all.0 a byte.0 byte.1
 ]
 
-
 module _ (e : Estate) (good : IsEstate e) (system : IsRecorded system_pages e.store.others) (a : ℕ) (flex : is_in_flex_store e.store.others a ≡ true) where
   pub flex_off : in_range 0x01C00000 0x3000 a ≡ false
   flex_off = off_system e.store.others a good.ground.sound.apart system flex

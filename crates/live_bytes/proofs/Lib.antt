@@ -21,6 +21,5 @@ pub mod ModuleRows
 pub mod Moves
 pub mod Outside
 pub mod Planned
-pub mod RefusedCalls
 pub mod Rows
 pub mod Runs

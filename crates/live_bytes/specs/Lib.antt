@@ -6,5 +6,4 @@ pub mod Changes
 pub mod FlexLaws
 pub mod FlexPlaces
 pub mod HeapWrites
-pub mod RefusedCalls
 pub mod Runs

@@ -5,7 +5,6 @@ ghost use Rattle.live_bytes.specs.AreaLaws.{AreaCallsKeepBoth, ExtendsKeepBlocks
 ghost use Rattle.live_bytes.specs.Changes.{FlexBytesStay, LiveBytesStay, LoadsKeepLiveBytes, PokesChangeOneWord};
 ghost use Rattle.live_bytes.specs.FlexLaws.{FlexCallsChangeAnchors};
 ghost use Rattle.live_bytes.specs.FlexPlaces.{FlexStoreStays, LoadsKeepFlexStore};
-ghost use Rattle.live_bytes.specs.RefusedCalls.{RefusedCallsLeaveAll};
 ghost use Rattle.live_bytes.specs.Runs.{LiveBytesStayOver, RunsAreSteps};
 
 /// A change of size in the module area, with the growth of the area that it makes: each block there
@@ -64,13 +63,4 @@ pub fn loads_keep_live_bytes()
 /// A word that is stored from outside is one in which no record is kept, and no other byte changes.
 pub fn pokes_change_one_word()
     ensures { PokesChangeOneWord }
-{}
-
-/// A call by its name that goes on with V set leaves all as it was but the error's block, R0 of the
-/// caller's mode, V, R14 of supervisor mode and the program counter: the lists of heaps, areas,
-/// modules and frames, the flex store, memory and all other registers. It is said of all calls but
-/// OS_ChangeDynamicArea, which may move pages and err, and the reasons of OS_Module that may run or
-/// start module code.
-pub fn refused_calls_leave_all()
-    ensures { RefusedCallsLeaveAll }
 {}

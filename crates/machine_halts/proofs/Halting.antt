@@ -196,7 +196,7 @@ exit_cases (Some swi.FlexExtend) = inr ((λ same. cc), refl)
 exit_cases (Some swi.FlexMidExtend) = inr ((λ same. cc), refl)
 
 -- a call by its number
-called_exits : (images : List Entry) (s : MachineState) (x : Bool) (next number : ℕ) → swi_of number ≡ Some swi.Exit
+pub called_exits : (images : List Entry) (s : MachineState) (x : Bool) (next number : ℕ) → swi_of number ≡ Some swi.Exit
     → called images s x next number ≡ halted s halt.Exit
 unfolding called
 called_exits images s x next number is = rw is refl
@@ -286,6 +286,10 @@ halts_by images s None h is ends = elim (turn_goes images s (instructed s)) [
 pub halts_change_nothing : HaltsChangeNothing
 unfolding machine_step
 halts_change_nothing images s h ends = halts_by images s s.halt h refl ends
+
+pub awake_step : (images : List Entry) (s : MachineState) → s.halt ≡ None → machine_step images s ≡ turned images s (instructed s)
+unfolding machine_step
+awake_step images s awake = ap (λ (o : Option Halt). unless_halted s o (turned images s (instructed s))) awake
 
 exits_by : (images : List Entry) (s : MachineState) → s.halt ≡ None → (turned images s (instructed s)).now.halt ≡ Some halt.Exit → Exits s
 exits_by images s awake ends = elim (turn_goes images s (instructed s)) [

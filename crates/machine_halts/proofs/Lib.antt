@@ -1,3 +1,4 @@
 pub mod Answering
 pub mod Halting
+pub mod LateErrors
 pub mod Refusing

@@ -1,11 +1,13 @@
 -- A store call that is refused leaves all but the block of its error, and what it tells in the
 -- core.
-use Rattle.std.proofs.Common.{ℕ, true, false, ◌≡◌, ◌∙◌, ◌+◌, ◌==◌, ◌++◌, List, [], ◌∷◌, length, Option, Some, None, Result, Ok, Err, refl, sym, ap, subst, inl, inr, ◌⊎◌, ◌≤◌, ◌<◌, arith, get_or-set_other}
+use Rattle.std.proofs.Common.{ℕ, Bool, true, false, ◌≡◌, ◌∙◌, ◌+◌, ◌*◌, ◌/◌, ◌%◌, ◌^◌, ◌==◌, ◌++◌, List, [], ◌∷◌, length, Option, Some, None, Result, Ok, Err, refl, sym, ap, subst, inl, inr, ◌⊎◌, ◌≤◌, ◌<◌, arith, get_or-set_other, get_or-set_same}
 use Rattle.std.specs.Prelude.{slice_index}
 use Rattle.std.proofs.lemmas.Bool.{both_ways, cases_Bool, false≢true, true≢false}
+use Rattle.std.proofs.lemmas.List.{length-set}
 use Rattle.profile.specs.ErrorNames.{error_code, error_name}
 use Rattle.profile.specs.SwiNames.{swi_of}
 use Rattle.profile.specs.Reasons.{module_reason}
+use Rattle.profile.specs.Word.{bit_of}
 use Rattle.profile.specs.declared.error.ErrorNumber.{ErrorNumber}
 use Rattle.profile.specs.declared.error.ErrorNumber.TheVariants.{BadString, FrameLimit, SwiUnknown}
 use Rattle.profile.specs.declared.reason.ModuleReason.{ModuleReason}
@@ -14,8 +16,12 @@ use Rattle.profile.specs.declared.swi.SwiName.{SwiName}
 use Rattle.profile.specs.declared.swi.SwiName.TheVariants as swi
 use Rattle.address_map.proofs.Stores.{in_range-cases}
 use Rattle.address_map.specs.Bytes.{Bytes, in_range, with_word_at}
+use Rattle.arm_core.specs.declared.psr.Mode.{Mode}
+use Rattle.arm_core.specs.declared.psr.Mode.TheVariants.{User, FastInterrupt, Interrupt, Supervisor}
 use Rattle.arm_core.specs.declared.psr.Psr.{Psr}
-use Rattle.arm_core.specs.State.{State, register_of, slot_of, with_register}
+use Rattle.arm_core.specs.declared.turn.Turn.{Turn}
+use Rattle.arm_core.specs.declared.turn.Turn.TheVariants as turn
+use Rattle.arm_core.specs.State.{State, register_in, register_of, slot_of, with_register}
 use Rattle.image_loader.specs.Entries.{Entry}
 use Rattle.instances_table.specs.declared.parts.Handler.{Handler}
 use Rattle.instances_table.specs.Lookup.{handler_of}
@@ -35,12 +41,14 @@ use Rattle.swi_dispatch.proofs.GateReturns.{first_slot}
 use Rattle.swi_dispatch.proofs.Kept.{short_name}
 use Rattle.swi_dispatch.specs.Answers.{Answer, refused, went_on}
 use Rattle.swi_dispatch.specs.Calls.{call_answer, generated, on_estate, on_flex, on_store, on_world, wrote_text_after, wrote_text_at}
-use Rattle.swi_dispatch.specs.MachineState.{MachineState, Outcome, setting_of}
+use Rattle.swi_dispatch.specs.MachineState.{MachineState, Outcome, quiet, setting_of}
 use Rattle.swi_dispatch.specs.ModuleStart.{opened_at}
 use Rattle.swi_dispatch.specs.Returns.{gone_back}
-use Rattle.swi_dispatch.specs.Step.{call_refused, called, called_by, ended, ended_by, module_called, module_entered, os_module_called, os_module_called_for}
-use Rattle.machine_halts.proofs.Halting.{exit_cases}
-use Rattle.machine_halts.specs.Refusals.{IsRefusal, RefusalsChangeNothing, may_err_late, may_run_code}
+use Rattle.swi_dispatch.specs.declared.halt.Halt.{Halt}
+use Rattle.swi_dispatch.specs.declared.halt.Halt.TheVariants as halt
+use Rattle.swi_dispatch.specs.Step.{call_of, call_refused, called, called_by, ended, ended_by, handler_entered, instructed, machine_step, module_called, module_entered, os_module_called, os_module_called_for, store_called, turned, unless_halted, without_x}
+use Rattle.machine_halts.proofs.Halting.{awake_step, called_exits, exit_cases}
+use Rattle.machine_halts.specs.Refusals.{GoingOnIsDone, IsRefusal, RefusalsChangeNothing, RefusedStepsChangeNothing, RefusedStoreCallsChangeNothing, may_err_late, may_run_code}
 
 -- an error's block
 error_beside : (b : Bytes) (e : ErrorNumber) (a : ℕ) → in_range 0x01C02100 0x100 a ≡ false
@@ -64,8 +72,20 @@ register_told cpu v k other =
     let at : slot_of cpu.psr.mode 0 ≡ 0 = first_slot cpu.psr.mode in
     get_or-set_other cpu.file (slot_of cpu.psr.mode 0) k v 0 (λ same. other (omega (arith, same, at)))
 
+told_length : (cpu : State) (v : ℕ) → length cpu.file ≡ 26 → length (with_register cpu 0 v).file ≡ 26
+told_length cpu v size = length-set cpu.file (slot_of cpu.psr.mode 0) v ∙ size
+
+-- the return address, which the guest goes on at
+link_told : (caller : Psr) (cpu : State) (next : ℕ) → length cpu.file ≡ 26
+    → register_in Supervisor (returned caller cpu true next) 14 ≡ return_word caller next
+unfolding returned
+link_told caller cpu next size = get_or-set_same cpu.file 25 (return_word caller next) 0 (omega (arith, size))
+
+counter_told : (next : ℕ) → next % 4 ≡ 0 → next < 2 ^ 26 → next / 4 % 2 ^ 24 * 4 ≡ next
+counter_told next whole low = omega (arith, whole, low)
+
 -- a refusal with the X bit
-refused_as : (s : MachineState) (next : ℕ) (e : Refusal) → IsRefusal s (ended s true (refused s next e)).now
+pub refused_as : (s : MachineState) (next : ℕ) (e : Refusal) → IsRefusal s next (ended s true (refused s next e)).now
 unfolding returned
 refused_as s next (refusal.System e) = record {
   bytes = error_beside s.store.bytes e;
@@ -80,6 +100,8 @@ refused_as s next (refusal.System e) = record {
   registers = λ k other last.
       register_back s.cpu.psr (with_register s.cpu 0 0x01C02100) next k last ∙ register_told s.cpu 0x01C02100 k other;
   status = refl;
+  link = λ size. link_told s.cpu.psr (with_register s.cpu 0 0x01C02100) next (told_length s.cpu 0x01C02100 size);
+  counter = λ whole low. counter_told next whole low;
 }
 refused_as s next refusal.Own = record {
   bytes = λ a out. refl;
@@ -93,24 +115,39 @@ refused_as s next refusal.Own = record {
   halt = refl;
   registers = λ k other last. register_back s.cpu.psr s.cpu next k last;
   status = refl;
+  link = λ size. link_told s.cpu.psr s.cpu next size;
+  counter = λ whole low. counter_told next whole low;
 }
 
 -- an answer without an error, or a refusal that changes nothing
 abbrev IsClean : MachineState → ℕ → Answer → Type 0
 IsClean s next a = (a.error ≡ None) ⊎ ((e : Refusal) × (a ≡ refused s next e))
 
--- what the machine is after it, where V is set
-abbrev IsRefusalWhereSet : MachineState → Outcome → Type 0
-IsRefusalWhereSet s o = o.now.cpu.psr.overflow ≡ true → IsRefusal s o.now
+-- what a call says of a refusal, by the X bit
+abbrev TellsRefusal : Bool → MachineState → ℕ → Outcome → Type 0
+TellsRefusal true s next o = o.now.cpu.psr.overflow ≡ true → IsRefusal s next o.now
+TellsRefusal false s next o = o.now.halt ≡ None → o.now.cpu.psr.overflow ≡ false
 
-ended_refusal : (s : MachineState) (next : ℕ) (a : Answer) → IsClean s next a → IsRefusalWhereSet s (ended s true a)
+halted_goes : (h : Halt) → Some h ≡ None → ⊥
+halted_goes h is = cc
+
+clear_tells : (x : Bool) (s : MachineState) (next : ℕ) (o : Outcome) → o.now.cpu.psr.overflow ≡ false → TellsRefusal x s next o
+clear_tells true s next o clear set = absurd (false≢true (sym clear ∙ set))
+clear_tells false s next o clear goes = clear
+
+refused_tells : (x : Bool) (s : MachineState) (next : ℕ) (e : Refusal) → TellsRefusal x s next (ended s x (refused s next e))
+refused_tells true s next e set = refused_as s next e
+refused_tells false s next e goes = absurd (halted_goes _ goes)
+
+ended_tells : (x : Bool) (s : MachineState) (next : ℕ) (a : Answer) → IsClean s next a → TellsRefusal x s next (ended s x a)
 unfolding returned
-ended_refusal s next a (inl none) set =
-    absurd (false≢true (sym (ap (λ (e : Option Refusal). (ended_by s true a e).now.cpu.psr.overflow) none) ∙ set))
-ended_refusal s next a (inr is) set = subst (λ (b : Answer). IsRefusal s (ended s true b).now) (sym is.1) (refused_as s next is.0)
+ended_tells x s next a (inl none) =
+    clear_tells x s next (ended s x a) (ap (λ (e : Option Refusal). (ended_by s x a e).now.cpu.psr.overflow) none)
+ended_tells x s next a (inr is) =
+    subst (λ (b : Answer). TellsRefusal x s next (ended s x b)) (sym is.1) (refused_tells x s next is.0)
 
-call_refusal : (s : MachineState) (next : ℕ) (e : ErrorNumber) → IsRefusalWhereSet s (call_refused s true next e)
-call_refusal s next e set = refused_as s next (refusal.System e)
+call_tells : (x : Bool) (s : MachineState) (next : ℕ) (e : ErrorNumber) → TellsRefusal x s next (call_refused s x next e)
+call_tells x s next e = refused_tells x s next (refusal.System e)
 
 -- calls that run no module code
 store_clean : (s : MachineState) (next : ℕ) (r : Result (State × Store) Refusal) → IsClean s next (went_on s next (on_store s r))
@@ -171,76 +208,125 @@ back_clear : (s : MachineState) (next : ℕ) → (gone_back s.cpu.psr s false ne
 unfolding returned
 back_clear s next = refl
 
-entered_refusal : (s : MachineState) (next : ℕ) (r : Result Opening ErrorNumber) → IsRefusalWhereSet s (module_entered s true next r)
-entered_refusal s next (Err e) set = call_refusal s next e set
-entered_refusal s next (Ok o) set =
-    absurd (false≢true (sym (opened_clear (gone_back s.cpu.psr s false next) o.text.items o.start.slot o.start.at (back_clear s next)) ∙ set))
+entered_tells : (x : Bool) (s : MachineState) (next : ℕ) (r : Result Opening ErrorNumber) → TellsRefusal x s next (module_entered s x next r)
+entered_tells x s next (Err e) = call_tells x s next e
+entered_tells x s next (Ok o) =
+    clear_tells x s next (module_entered s x next (Ok o))
+    (opened_clear (gone_back s.cpu.psr s false next) o.text.items o.start.slot o.start.at (back_clear s next))
 
 handler_clear : (cpu : State) (at number slot : ℕ) → (swi_entered cpu at number slot).psr.overflow ≡ false
 unfolding swi_entered
 handler_clear cpu at number slot = refl
 
-handler_refusal : (s : MachineState) (next number : ℕ) (o : Option Handler) → IsRefusalWhereSet s (module_called s true next number o)
-handler_refusal s next number None set = call_refusal s next SwiUnknown set
-handler_refusal s next number (Some h) set = elim (cases_Bool (length s.tables.frames == 32)) [
-  | inl full ↦ rw full (refused_as s next (refusal.System FrameLimit))
-  | inr room ↦ absurd (false≢true (sym (handler_clear s.cpu h.at number h.slot) ∙ rw room at set))
+handler_tells : (x : Bool) (s : MachineState) (next number : ℕ) (o : Option Handler) → TellsRefusal x s next (module_called s x next number o)
+handler_tells x s next number None = call_tells x s next SwiUnknown
+handler_tells x s next number (Some h) = elim (cases_Bool (length s.tables.frames == 32)) [
+  | inl full ↦ rw full (call_tells x s next FrameLimit)
+  | inr room ↦ rw room (clear_tells x s next (quiet (handler_entered s (call_of s x next false) number h)) (handler_clear s.cpu h.at number h.slot))
 ]
 
-plain_refusal : (s : MachineState) (next number : ℕ) (o : Option SwiName) → (o ≡ Some swi.ChangeDynamicArea → ⊥)
-    → IsRefusalWhereSet s (ended s true (call_answer s next number o))
-plain_refusal s next number o other = ended_refusal s next (call_answer s next number o) (answer_clean s next number o other)
+plain_tells : (x : Bool) (s : MachineState) (next number : ℕ) (o : Option SwiName) → (o ≡ Some swi.ChangeDynamicArea → ⊥)
+    → TellsRefusal x s next (ended s x (call_answer s next number o))
+plain_tells x s next number o other = ended_tells x s next (call_answer s next number o) (answer_clean s next number o other)
 
-module_refusal : (images : List Entry) (s : MachineState) (next number : ℕ) (o : Option ModuleReason) → may_run_code o ≡ false
-    → IsRefusalWhereSet s (os_module_called_for images s true next number o)
-module_refusal images s next number None may = plain_refusal s next number (Some swi.Module) (λ same. cc)
-module_refusal images s next number (Some reason.Run) may = absurd (true≢false may)
-module_refusal images s next number (Some reason.Load) may = absurd (true≢false may)
-module_refusal images s next number (Some reason.Enter) may = entered_refusal s next (opening_asked (setting_of s))
-module_refusal images s next number (Some reason.Reinit) may = absurd (true≢false may)
-module_refusal images s next number (Some reason.Delete) may = absurd (true≢false may)
-module_refusal images s next number (Some reason.DescribeArea) may = plain_refusal s next number (Some swi.Module) (λ same. cc)
-module_refusal images s next number (Some reason.Claim) may = plain_refusal s next number (Some swi.Module) (λ same. cc)
-module_refusal images s next number (Some reason.Free) may = plain_refusal s next number (Some swi.Module) (λ same. cc)
-module_refusal images s next number (Some reason.Tidy) may = absurd (true≢false may)
-module_refusal images s next number (Some reason.Clear) may = absurd (true≢false may)
-module_refusal images s next number (Some reason.Insert) may = absurd (true≢false may)
-module_refusal images s next number (Some reason.InsertCopy) may = absurd (true≢false may)
-module_refusal images s next number (Some reason.Info) may = plain_refusal s next number (Some swi.Module) (λ same. cc)
-module_refusal images s next number (Some reason.Extend) may = plain_refusal s next number (Some swi.Module) (λ same. cc)
-module_refusal images s next number (Some reason.Instantiate) may = absurd (true≢false may)
-module_refusal images s next number (Some reason.Rename) may = plain_refusal s next number (Some swi.Module) (λ same. cc)
-module_refusal images s next number (Some reason.Prefer) may = plain_refusal s next number (Some swi.Module) (λ same. cc)
-module_refusal images s next number (Some reason.Lookup) may = plain_refusal s next number (Some swi.Module) (λ same. cc)
+module_tells : (images : List Entry) (x : Bool) (s : MachineState) (next number : ℕ) (o : Option ModuleReason) → may_run_code o ≡ false
+    → TellsRefusal x s next (os_module_called_for images s x next number o)
+module_tells images x s next number None may = plain_tells x s next number (Some swi.Module) (λ same. cc)
+module_tells images x s next number (Some reason.Run) may = absurd (true≢false may)
+module_tells images x s next number (Some reason.Load) may = absurd (true≢false may)
+module_tells images x s next number (Some reason.Enter) may = entered_tells x s next (opening_asked (setting_of s))
+module_tells images x s next number (Some reason.Reinit) may = absurd (true≢false may)
+module_tells images x s next number (Some reason.Delete) may = absurd (true≢false may)
+module_tells images x s next number (Some reason.DescribeArea) may = plain_tells x s next number (Some swi.Module) (λ same. cc)
+module_tells images x s next number (Some reason.Claim) may = plain_tells x s next number (Some swi.Module) (λ same. cc)
+module_tells images x s next number (Some reason.Free) may = plain_tells x s next number (Some swi.Module) (λ same. cc)
+module_tells images x s next number (Some reason.Tidy) may = absurd (true≢false may)
+module_tells images x s next number (Some reason.Clear) may = absurd (true≢false may)
+module_tells images x s next number (Some reason.Insert) may = absurd (true≢false may)
+module_tells images x s next number (Some reason.InsertCopy) may = absurd (true≢false may)
+module_tells images x s next number (Some reason.Info) may = plain_tells x s next number (Some swi.Module) (λ same. cc)
+module_tells images x s next number (Some reason.Extend) may = plain_tells x s next number (Some swi.Module) (λ same. cc)
+module_tells images x s next number (Some reason.Instantiate) may = absurd (true≢false may)
+module_tells images x s next number (Some reason.Rename) may = plain_tells x s next number (Some swi.Module) (λ same. cc)
+module_tells images x s next number (Some reason.Prefer) may = plain_tells x s next number (Some swi.Module) (λ same. cc)
+module_tells images x s next number (Some reason.Lookup) may = plain_tells x s next number (Some swi.Module) (λ same. cc)
 
-named_refusal : (images : List Entry) (s : MachineState) (next number : ℕ) (o : Option SwiName)
+named_tells : (images : List Entry) (x : Bool) (s : MachineState) (next number : ℕ) (o : Option SwiName)
     → may_err_late o (module_reason (register_of s.cpu 0)) ≡ false → (o ≡ Some swi.Exit → ⊥)
-    → IsRefusalWhereSet s (called_by images s true next number o)
+    → TellsRefusal x s next (called_by images s x next number o)
 unfolding os_module_called
-named_refusal images s next number None late other = handler_refusal s next number (handler_of number s.tables.modules)
-named_refusal images s next number (Some swi.Exit) late other = absurd (other refl)
-named_refusal images s next number (Some swi.Module) late other = module_refusal images s next number (module_reason (register_of s.cpu 0)) late
-named_refusal images s next number (Some swi.ChangeDynamicArea) late other = absurd (true≢false late)
-named_refusal images s next number (Some swi.WriteC) late other = plain_refusal s next number (Some swi.WriteC) (λ same. cc)
-named_refusal images s next number (Some swi.WriteS) late other = plain_refusal s next number (Some swi.WriteS) (λ same. cc)
-named_refusal images s next number (Some swi.Write0) late other = plain_refusal s next number (Some swi.Write0) (λ same. cc)
-named_refusal images s next number (Some swi.NewLine) late other = plain_refusal s next number (Some swi.NewLine) (λ same. cc)
-named_refusal images s next number (Some swi.EnterOs) late other = plain_refusal s next number (Some swi.EnterOs) (λ same. cc)
-named_refusal images s next number (Some swi.Heap) late other = plain_refusal s next number (Some swi.Heap) (λ same. cc)
-named_refusal images s next number (Some swi.GenerateError) late other = plain_refusal s next number (Some swi.GenerateError) (λ same. cc)
-named_refusal images s next number (Some swi.ReadDynamicArea) late other = plain_refusal s next number (Some swi.ReadDynamicArea) (λ same. cc)
-named_refusal images s next number (Some swi.DynamicArea) late other = plain_refusal s next number (Some swi.DynamicArea) (λ same. cc)
-named_refusal images s next number (Some swi.WriteI) late other = plain_refusal s next number (Some swi.WriteI) (λ same. cc)
-named_refusal images s next number (Some swi.FlexInit) late other = plain_refusal s next number (Some swi.FlexInit) (λ same. cc)
-named_refusal images s next number (Some swi.FlexAlloc) late other = plain_refusal s next number (Some swi.FlexAlloc) (λ same. cc)
-named_refusal images s next number (Some swi.FlexFree) late other = plain_refusal s next number (Some swi.FlexFree) (λ same. cc)
-named_refusal images s next number (Some swi.FlexSize) late other = plain_refusal s next number (Some swi.FlexSize) (λ same. cc)
-named_refusal images s next number (Some swi.FlexExtend) late other = plain_refusal s next number (Some swi.FlexExtend) (λ same. cc)
-named_refusal images s next number (Some swi.FlexMidExtend) late other = plain_refusal s next number (Some swi.FlexMidExtend) (λ same. cc)
+named_tells images x s next number None late other = handler_tells x s next number (handler_of number s.tables.modules)
+named_tells images x s next number (Some swi.Exit) late other = absurd (other refl)
+named_tells images x s next number (Some swi.Module) late other = module_tells images x s next number (module_reason (register_of s.cpu 0)) late
+named_tells images x s next number (Some swi.ChangeDynamicArea) late other = absurd (true≢false late)
+named_tells images x s next number (Some swi.WriteC) late other = plain_tells x s next number (Some swi.WriteC) (λ same. cc)
+named_tells images x s next number (Some swi.WriteS) late other = plain_tells x s next number (Some swi.WriteS) (λ same. cc)
+named_tells images x s next number (Some swi.Write0) late other = plain_tells x s next number (Some swi.Write0) (λ same. cc)
+named_tells images x s next number (Some swi.NewLine) late other = plain_tells x s next number (Some swi.NewLine) (λ same. cc)
+named_tells images x s next number (Some swi.EnterOs) late other = plain_tells x s next number (Some swi.EnterOs) (λ same. cc)
+named_tells images x s next number (Some swi.Heap) late other = plain_tells x s next number (Some swi.Heap) (λ same. cc)
+named_tells images x s next number (Some swi.GenerateError) late other = plain_tells x s next number (Some swi.GenerateError) (λ same. cc)
+named_tells images x s next number (Some swi.ReadDynamicArea) late other = plain_tells x s next number (Some swi.ReadDynamicArea) (λ same. cc)
+named_tells images x s next number (Some swi.DynamicArea) late other = plain_tells x s next number (Some swi.DynamicArea) (λ same. cc)
+named_tells images x s next number (Some swi.WriteI) late other = plain_tells x s next number (Some swi.WriteI) (λ same. cc)
+named_tells images x s next number (Some swi.FlexInit) late other = plain_tells x s next number (Some swi.FlexInit) (λ same. cc)
+named_tells images x s next number (Some swi.FlexAlloc) late other = plain_tells x s next number (Some swi.FlexAlloc) (λ same. cc)
+named_tells images x s next number (Some swi.FlexFree) late other = plain_tells x s next number (Some swi.FlexFree) (λ same. cc)
+named_tells images x s next number (Some swi.FlexSize) late other = plain_tells x s next number (Some swi.FlexSize) (λ same. cc)
+named_tells images x s next number (Some swi.FlexExtend) late other = plain_tells x s next number (Some swi.FlexExtend) (λ same. cc)
+named_tells images x s next number (Some swi.FlexMidExtend) late other = plain_tells x s next number (Some swi.FlexMidExtend) (λ same. cc)
 
 pub refusals_change_nothing : RefusalsChangeNothing
 unfolding called
 refusals_change_nothing images s next number late other set = elim (exit_cases (swi_of number)) [
   | inl is ↦ absurd (other is.0)
-  | inr is ↦ rw is.1 (named_refusal images s next number (swi_of number) late other (rw is.1 at set))
+  | inr is ↦ rw is.1 (named_tells images true s next number (swi_of number) late other (rw is.1 at set))
 ]
+
+pub going_on_is_done : GoingOnIsDone
+unfolding called
+going_on_is_done images s next number late goes = elim (exit_cases (swi_of number)) [
+  | inl is ↦ absurd (halted_goes halt.Exit (rw is.1 at goes))
+  | inr is ↦ rw is.1 (named_tells images false s next number (swi_of number) late is.0 (rw is.1 at goes))
+]
+
+-- a call that goes on with V set, with X or without
+exits_not : (images : List Entry) (s : MachineState) (x : Bool) (next number : ℕ) → (called images s x next number).now.halt ≡ None
+    → swi_of number ≡ Some swi.Exit → ⊥
+exits_not images s x next number goes name =
+    halted_goes halt.Exit (sym (ap (λ (o : Outcome). o.now.halt) (called_exits images s x next number name)) ∙ goes)
+
+set_refusal : (images : List Entry) (x : Bool) (s : MachineState) (next number : ℕ)
+    → may_err_late (swi_of number) (module_reason (register_of s.cpu 0)) ≡ false
+    → (called images s x next number).now.halt ≡ None → (called images s x next number).now.cpu.psr.overflow ≡ true
+    → IsRefusal s next (called images s x next number).now
+set_refusal images true s next number late goes set =
+    refusals_change_nothing images s next number late (exits_not images s true next number goes) set
+set_refusal images false s next number late goes set =
+    absurd (false≢true (sym (going_on_is_done images s next number late goes) ∙ set))
+
+-- so for a step, and for a call from outside
+step_calls : (images : List Entry) (s : MachineState) (n : ℕ) → s.halt ≡ None → instructed s ≡ Err (turn.Swi n)
+    → machine_step images s ≡ called images s (bit_of n 17) ((s.cpu.pc + 4) % 2 ^ 26) (without_x n)
+step_calls images s n awake is =
+    awake_step images s awake ∙ ap (λ (r : Result (State × Bytes) Turn). turned images s r) is
+
+pub refused_steps_change_nothing : RefusedStepsChangeNothing
+refused_steps_change_nothing images s n awake is late goes set =
+    let call = step_calls images s n awake is in
+    subst (λ (o : Outcome). IsRefusal s ((s.cpu.pc + 4) % 2 ^ 26) o.now) (sym call)
+    (set_refusal images (bit_of n 17) s ((s.cpu.pc + 4) % 2 ^ 26) (without_x n) late
+    (sym (ap (λ (o : Outcome). o.now.halt) call) ∙ goes) (sym (ap (λ (o : Outcome). o.now.cpu.psr.overflow) call) ∙ set))
+
+outside_calls : (images : List Entry) (s : MachineState) (number : ℕ) → s.halt ≡ None
+    → store_called images s number ≡ called images s true s.cpu.pc (without_x (number % 2 ^ 24))
+unfolding store_called
+outside_calls images s number awake =
+    ap (λ (o : Option Halt). unless_halted s o (called images s true s.cpu.pc (without_x (number % 2 ^ 24)))) awake
+
+pub refused_store_calls_change_nothing : RefusedStoreCallsChangeNothing
+refused_store_calls_change_nothing images s number awake late goes set =
+    let call = outside_calls images s number awake in
+    subst (λ (o : Outcome). IsRefusal s s.cpu.pc o.now) (sym call)
+    (set_refusal images true s s.cpu.pc (without_x (number % 2 ^ 24)) late
+    (sym (ap (λ (o : Outcome). o.now.halt) call) ∙ goes) (sym (ap (λ (o : Outcome). o.now.cpu.psr.overflow) call) ∙ set))

@@ -2,7 +2,10 @@
 //! that does nothing.
 
 ghost use Rattle.machine_halts.specs.Halts.{ExitsAreCalls, HaltsChangeNothing, NoFaultFromOutside};
-ghost use Rattle.machine_halts.specs.Refusals.{RefusalsChangeNothing};
+ghost use Rattle.machine_halts.specs.LateErrors.{ErringChangesMovePages};
+ghost use Rattle.machine_halts.specs.LateErrors.{RefusedLoadsChangeNothing, RefusedPlansChangeNothing};
+ghost use Rattle.machine_halts.specs.Refusals.{GoingOnIsDone, RefusalsChangeNothing};
+ghost use Rattle.machine_halts.specs.Refusals.{RefusedStepsChangeNothing, RefusedStoreCallsChangeNothing};
 
 /// A step that ends in a halt changes nothing but that the machine is halted, and prints nothing.
 pub fn halts_change_nothing()
@@ -23,5 +26,20 @@ pub fn no_fault_from_outside()
 /// of supervisor mode, V and the program counter, unless it is one of those that may end with an
 /// error after they did something.
 pub fn refusals_change_nothing()
-    ensures { RefusalsChangeNothing }
+    ensures refused { RefusalsChangeNothing }
+    ensures done { GoingOnIsDone }
+    ensures steps { RefusedStepsChangeNothing }
+    ensures outside { RefusedStoreCallsChangeNothing }
+{}
+
+/// A call on modules that may run module code, and is refused before any of it runs, changes no more than that; nor does
+/// such a load from outside.
+pub fn refused_plans_change_nothing()
+    ensures calls { RefusedPlansChangeNothing }
+    ensures loads { RefusedLoadsChangeNothing }
+{}
+
+/// A change of an area that errs has moved the pages that it could, and changes no more than that beside it.
+pub fn erring_changes_move_pages()
+    ensures { ErringChangesMovePages }
 {}

@@ -95,7 +95,7 @@ ends_as images Freed s x next number = refl
 ends_as images Extended s x next number = refl
 ends_as images MidExtended s x next number = refl
 
-calls_as : (images : List Entry) (f : FlexSwi) (s : MachineState) (x : Bool) (next number : ℕ) → swi_of number ≡ Some (flex_name f)
+pub calls_as : (images : List Entry) (f : FlexSwi) (s : MachineState) (x : Bool) (next number : ℕ) → swi_of number ≡ Some (flex_name f)
     → (called images s x next number).now
     ≡ (ended s x (went_on s next (on_flex s (flex_called s.cpu (machine_flex s) (Some (flex_name f)))))).now
 unfolding called
@@ -118,7 +118,7 @@ block_outside b e a out =
     ∙ word_outside b.at (error_code e) a out
 
 -- the turn as it follows its rule: what registers have are words
-allowed : (f : FlexSwi) (cpu : State) (pending : List Image) → IsCore cpu → IsAllowed pending (flex_turn f cpu)
+pub allowed : (f : FlexSwi) (cpu : State) (pending : List Image) → IsCore cpu → IsAllowed pending (flex_turn f cpu)
 allowed MadeStore cpu pending core = tt
 allowed Allocated cpu pending core = tt
 allowed Freed cpu pending core = tt

@@ -4,6 +4,7 @@
 ghost use Rattle.machine_laws.specs.Laws.{CallsAreTurns, StepsAreTurns, PlansStay, PlansStayFromOutside, TidiesGoOn};
 ghost use Rattle.machine_laws.specs.Laws.{StoreCallsAreTurns};
 ghost use Rattle.machine_laws.specs.MachineStores.{StatesHaveStores};
+ghost use Rattle.machine_laws.specs.Told.{FlexCallsTellRoom};
 
 /// What the laws over stores ask for holds of the stores of every machine.
 pub fn states_have_stores()
@@ -41,4 +42,9 @@ pub fn plans_stay()
 /// And so does each call that a user makes from outside.
 pub fn plans_stay_from_outside()
     ensures { PlansStayFromOutside }
+{}
+
+/// A flex call that tells whether there was room does so by the turn of the stores that it is.
+pub fn flex_calls_tell_room()
+    ensures { FlexCallsTellRoom }
 {}

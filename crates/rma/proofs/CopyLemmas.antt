@@ -20,7 +20,6 @@ use Rattle.rma.specs.Calls.{area_pages}
 use Rattle.rma.specs.Copies.{has_bare, is_bare}
 use Rattle.rma.proofs.GrowthLemmas.{HasArea, area_there}
 
-
 -- Among the items of a heap a byte is in no block, or in one, whose bytes all are in it; the one
 -- after these is in none.
 record IsPayload (at : ℕ) (items : List Item) (a block held : ℕ) : Type 0 where

@@ -15,6 +15,7 @@ ghost use Rattle.flex_kept.specs.dynamic_areas.specs.Areas.{Land};
 ghost use Rattle.flex_kept.specs.dynamic_areas.specs.Ground.{estate_of, IsEstate};
 ghost use Rattle.flex_kept.specs.Keeping.{is_in_record, IsUnanchored, KeepsFlex};
 ghost use Rattle.rma.specs.NewImages.{filled, image_copied, image_made, image_record, IsLiveBlock};
+ghost use Rattle.rma.specs.Places.{KeepsPlaces};
 
 use crate::area::Rma;
 use address_map::AddressMap;
@@ -54,6 +55,7 @@ impl Rma {
         ensures order { MatchResult result
             (λ block. has_image block (store_of map.old).others ≡ false → AddsRecord map.old map.new Image block)
             (λ _. KeepsOrder map.old map.new) }
+        ensures places { KeepsPlaces map.old map.new }
         ensures fits { IfOk result (λ block. length image.now ≤ 4194304) }
         ensures sizes { areas.new.sizes ≡ areas.old.sizes }
     {
@@ -99,6 +101,7 @@ impl Rma {
         ensures order { MatchResult result
             (λ block. has_image block (store_of map.old).others ≡ false → AddsRecord map.old map.new Image block)
             (λ _. KeepsOrder map.old map.new) }
+        ensures places { KeepsPlaces map.old map.new }
         ensures sizes { areas.new.sizes ≡ areas.old.sizes }
     {
         let block = self.claim(map, areas, len)?;

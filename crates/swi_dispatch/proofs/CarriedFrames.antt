@@ -1,12 +1,12 @@
 -- The frames beneath a call on modules, while the call goes on: no SWI among them is of an instance
 -- that its plan names.
 use Rattle.std.proofs.Common.{◌≡◌, false, Option, Some, None, Ok, Err, List, ◌∷◌, refl, sym, ap, ◌∙◌}
-use Rattle.std.specs.Prelude.{Result, is_some, if◌then◌else◌}
+use Rattle.std.specs.Prelude.{IfSome, Result, is_some, if◌then◌else◌}
 use Rattle.arm_core.specs.State.{State}
 use Rattle.module_header.specs.declared.fault.HeaderFault.{HeaderFault}
 use Rattle.module_header.specs.declared.header.Header.{Header}
 use Rattle.instances_plans.specs.declared.code.Code.{Code}
-use Rattle.instances_plans.specs.Plans.{Plan}
+use Rattle.instances_plans.specs.Plans.{Plan, first_of}
 use Rattle.instances_table.specs.Changes.{titled}
 use Rattle.instances_table.specs.Modules.{Module, slots_of}
 use Rattle.swi_dispatch_plans.specs.instances.specs.Naming.{KeepsOthers, NamesTitled, slots_of_kept, slots_of_plan}
@@ -17,7 +17,7 @@ use Rattle.swi_dispatch_frames.specs.Busy.{has_swi_of, is_swi}
 use Rattle.swi_dispatch_frames.specs.Frames.{closed, frame_of, innermost}
 use Rattle.swi_dispatch.specs.Gates.{ended_by, frames_by, kept_by}
 use Rattle.swi_dispatch.specs.MachineState.{MachineState, Tables, setting_of}
-use Rattle.swi_dispatch.specs.OpenFrames.{AreFrames, AreHeld, entries}
+use Rattle.swi_dispatch.specs.OpenFrames.{AreFrames, AreHeld, entries, entry_called}
 use Rattle.swi_dispatch_plans.specs.Beginning.{CanBegin, IsFree, SparesTitle}
 use Rattle.swi_dispatch_plans.proofs.Sparing.{none_of}
 use Rattle.swi_dispatch.proofs.OpenFrames.{closed_held, entry_closes, entry_opened, entry_spares, frames_idle}
@@ -75,12 +75,13 @@ still_held old new p q code fs beneath others =
 pub opened_frames : (old new : List Module) (p q : Plan) (code : Option Code) (cpu : State) (call : Call)
     (fs : List Frame) (t : Tables) (plans : Option Plan × Option Plan)
     → plans ≡ (kept_by q code, ended_by q code) → t.plan ≡ plans.0 → t.modules ≡ new
-    → t.frames ≡ frames_by fs cpu call code → AreBeneath old p fs → KeepsOthers old new p q code → AreFrames t
-opened_frames old new p q None cpu call fs t plans is plan modules frames beneath others =
+    → t.frames ≡ frames_by fs cpu call code → AreBeneath old p fs → KeepsOthers old new p q code
+    → IfSome code (λ c. entry_called (first_of q.actions) ≡ Some (c.kind, c.slot)) → AreFrames t
+opened_frames old new p q None cpu call fs t plans is plan modules frames beneath others first =
     frames_idle t (plan ∙ ap (λ (k : Option Plan × Option Plan). k.0) is) (ap entries frames ∙ beneath.idle)
     (rw (modules, frames) (still_held old new p q None fs beneath others))
-opened_frames old new p q (Some code) cpu call fs t plans is plan modules frames beneath others =
-    entry_opened t fs (frame_of cpu call (Entry code.kind) code.slot) q beneath.idle
+opened_frames old new p q (Some code) cpu call fs t plans is plan modules frames beneath others first =
+    entry_opened t fs (frame_of cpu call (Entry code.kind) code.slot) q beneath.idle first
     (rw modules (still_held old new p q (Some code) fs beneath others)) (rw modules others.there)
     (none_of (slots_of old) (slots_of_plan p) (code.slot ∷ slots_of_plan q) fs beneath.held
     (λ s used none. rw (others.apart s none) (others.named s none)) beneath.spared)

@@ -4,8 +4,8 @@ use Rattle.profile.specs.declared.error.ErrorNumber.{ErrorNumber}
 use Rattle.profile.specs.ErrorNames.{error_code, error_name}
 use Rattle.address_map.specs.Bytes.{Bytes, word_loaded}
 use Rattle.address_map.specs.Memory.{free_pages}
-use Rattle.arm_step.specs.declared.psr.Mode.{Mode}
-use Rattle.arm_step.specs.declared.psr.Psr.{Psr}
+use Rattle.arm_core.specs.declared.psr.Mode.{Mode}
+use Rattle.arm_core.specs.declared.psr.Psr.{Psr}
 use Rattle.arm_core.specs.State.{State, slot_of, register_of, with_register}
 use Rattle.os_heap.specs.Store.{store_of}
 use Rattle.dynamic_areas.proofs.HeapCalls.{system_mapped}

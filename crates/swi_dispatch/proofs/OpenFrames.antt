@@ -8,15 +8,19 @@ use Rattle.std.proofs.lemmas.Bool.{false≢true, or_parts}
 use Rattle.std.proofs.lemmas.List.{take-append-drop}
 use Rattle.std.proofs.lemmas.List.Elements.{All-cons, All-head, All-nil, All-push, All-tail, All-take}
 use Rattle.swi_dispatch_plans.specs.instances.specs.Naming.{slots_of_kept, slots_of_plan}
-use Rattle.instances_plans.specs.Plans.{Plan}
+use Rattle.instances_plans.specs.declared.code.CodeKind.{CodeKind}
+use Rattle.instances_plans.specs.Plans.{Plan, first_of}
 use Rattle.instances_plans.specs.Doable.{is_used}
 use Rattle.instances_table.specs.Modules.{Module, slots_of}
 use Rattle.swi_dispatch_frames.specs.declared.frame.Frame.{Frame}
+use Rattle.swi_dispatch_frames.specs.declared.frame.FrameKind.{FrameKind}
+use Rattle.swi_dispatch_frames.specs.declared.frame.FrameKind.TheVariants.{Swi, Entry}
 use Rattle.swi_dispatch_frames.specs.Busy.{has_swi_of, is_swi}
 use Rattle.swi_dispatch_frames.specs.Frames.{closed, innermost}
 use Rattle.swi_dispatch_plans.proofs.Sparing.{among, none_of}
 use Rattle.swi_dispatch.specs.MachineState.{Tables}
-use Rattle.swi_dispatch.specs.OpenFrames.{AreFrames, AreHeld, AreSpared, entries}
+use Rattle.swi_dispatch.specs.OpenFrames.{AreCalled, AreFrames, AreHeld, AreSpared, IsCalled, entries}
+use Rattle.swi_dispatch.specs.OpenFrames.{entry_called, entry_kept}
 
 -- the same frames and the same plan, of modules with the same slots
 pub frames_kept : (old new : Tables) → AreFrames old → new.frames ≡ old.frames → new.plan ≡ old.plan
@@ -24,6 +28,7 @@ pub frames_kept : (old new : Tables) → AreFrames old → new.frames ≡ old.fr
     → AreFrames new
 frames_kept old new are frames plan slots = record {
   kept = rw (frames, plan) are.kept;
+  called = rw (frames, plan) are.called;
   held = rw (frames, slots) are.held;
   spared = rw (frames, plan) are.spared;
 }
@@ -50,10 +55,23 @@ no_entry below above f idle entry =
 pub idle_spared : (slots : List ℕ) (fs : List Frame) → entries fs ≡ 0 → AreSpared slots fs
 idle_spared slots fs idle below above f is entry = absurd (no_entry below above f (ap entries (sym is) ∙ idle) entry)
 
+-- nor any of another entry than a plan's first action calls
+swi_called : (entry : Option (CodeKind × ℕ)) (kind : FrameKind) (slot : ℕ) → is_swi kind ≡ true → IsCalled entry kind slot
+swi_called entry Swi slot swi = tt
+swi_called entry (Entry kind) slot swi = absurd (false≢true swi)
+
+idle_called : (plan : Option Plan) (fs : List Frame) → entries fs ≡ 0 → AreCalled plan fs
+idle_called plan [] idle = All-nil (λ (f : Frame). IsCalled (entry_kept plan) f.kind f.slot)
+idle_called plan (f ∷ fs) idle =
+    let swi = idle_parts (is_swi f.kind) (entries fs) idle in
+    All-cons (λ (g : Frame). IsCalled (entry_kept plan) g.kind g.slot) f fs (swi_called (entry_kept plan) f.kind f.slot swi.0)
+    (idle_called plan fs swi.1)
+
 -- no entry, and no plan that is kept
 pub frames_idle : (t : Tables) → t.plan ≡ None → entries t.frames ≡ 0 → AreHeld t.modules t.frames → AreFrames t
 frames_idle t plan none held = record {
   kept = rw plan none;
+  called = idle_called t.plan t.frames none;
   held = held;
   spared = idle_spared (slots_of_kept t.plan) t.frames none;
 }
@@ -123,6 +141,8 @@ swi_opened old new f are plan modules opened swi there =
     ∙ rw swi (omega arith) in
     record {
       kept = rw (same, plan) are.kept;
+      called = rw (plan, opened) (All-push (λ (g : Frame). IsCalled (entry_kept old.plan) g.kind g.slot) old.frames f
+          are.called (swi_called (entry_kept old.plan) f.kind f.slot swi));
       held = rw (modules, opened) (All-push (λ (g : Frame). is_used g.slot (slots_of old.modules) ≡ true) old.frames f
           are.held there);
       spared = rw (plan, opened) (swi_spared (slots_of_kept old.plan) old.frames f swi are.spared);
@@ -136,14 +156,17 @@ entry_spared slots fs f idle none below above g is entry = elim (parted fs below
   | inr before ↦ absurd (no_entry below before.0 g (ap entries (sym before.1) ∙ idle) entry)
 ]
 
-pub entry_opened : (t : Tables) (fs : List Frame) (f : Frame) (p : Plan) → entries fs ≡ 0 → AreHeld t.modules fs
+pub entry_opened : (t : Tables) (fs : List Frame) (f : Frame) (p : Plan) → entries fs ≡ 0
+    → IsCalled (entry_called (first_of p.actions)) f.kind f.slot → AreHeld t.modules fs
     → is_used f.slot (slots_of t.modules) ≡ true → has_swi_of (f.slot ∷ slots_of_plan p) fs ≡ false
     → is_swi f.kind ≡ false → t.plan ≡ Some p → t.frames ≡ fs ++ f ∷ [] → AreFrames t
-entry_opened t fs f p idle held there none entry plan opened =
+entry_opened t fs f p idle called held there none entry plan opened =
     let counted : entries (f ∷ []) ≡ 1 = rw entry refl in
     let one : entries t.frames ≡ 1 = omega (arith, ap entries opened, entries-append fs (f ∷ []), counted, idle) in
     record {
       kept = rw plan one;
+      called = rw (plan, opened) (All-push (λ (g : Frame). IsCalled (entry_called (first_of p.actions)) g.kind g.slot) fs f
+          (idle_called (Some p) fs idle) called);
       held = rw opened (All-push (λ (g : Frame). is_used g.slot (slots_of t.modules) ≡ true) fs f held there);
       spared = rw (plan, opened) (entry_spared (slots_of_plan p) fs f idle none);
     }
@@ -175,6 +198,8 @@ swi_closes old new f are last swi plan modules closes =
     omega (arith, ap entries (innermost_last old.frames f last), entries-append (closed old.frames) (f ∷ []), none) in
     record {
       kept = ap entries closes ∙ same ∙ are.kept ∙ ap (λ (p : Option Plan). if is_some p then 1 else 0) (sym plan);
+      called = rw (plan, closes) (All-take (λ (g : Frame). IsCalled (entry_kept old.plan) g.kind g.slot)
+          (length old.frames - 1) old.frames are.called);
       held = rw (modules, closes) (All-take (λ (f : Frame). is_used f.slot (slots_of old.modules) ≡ true)
           (length old.frames - 1) old.frames are.held);
       spared = rw (plan, closes) (closed_spared (slots_of_kept old.plan) (length old.frames - 1) old.frames are.spared);

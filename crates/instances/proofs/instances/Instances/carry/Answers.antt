@@ -1,4 +1,4 @@
-use Rattle.std.proofs.Common.{List, None, Some, subst, ◌∙◌}
+use Rattle.std.proofs.Common.{List, None, Some, refl, subst, ◌∙◌}
 use Rattle.address_map.specs.Memory.{regions}
 use Rattle.instances_plans.specs.declared.action.Action.{Action}
 use Rattle.instances_plans.specs.Plans.{settled}
@@ -8,6 +8,7 @@ use Rattle.instances_slide.specs.instances_ground.specs.World.{world_of}
 use Rattle.instances_slide.specs.instances_ground.proofs.Records.{carries_last, carries_on}
 use Rattle.instances.proofs.Carrying.{code_carried, end_carried, next_carried, next_fewer, next_left, world_at_end}
 use Rattle.instances.proofs.Naming.{keeps_others}
+use Rattle.instances.proofs.NextCode.{code_is_first}
 use Rattle.instances.proofs.instances.Instances.carry.Goals as goal
 
 pub loop-outcome-smaller : goal.loop-outcome-smaller
@@ -44,6 +45,11 @@ returns-in-End-clause-carried c =
     end_carried (world_of c.loop-outcome.map c.args.areas.now c.loop-outcome.self) (world_of c.advance.new.map c.args.areas.now c.advance.new.self)
     c.loop-outcome.plan c.advance.new.plan c.loop-outcome.outcome c.advance.result c.advance.ensures.advanced _ c.in-End.field-0 c.in-End.is
     c.loop-outcome.invariant.carried
+
+pub returns-in-Code-clause-code : goal.returns-in-Code-clause-code
+returns-in-Code-clause-code c =
+    code_is_first _ (world_of c.advance.new.map c.args.areas.now c.advance.new.self) _ c.advance.new.plan (Some c.in-Code.code) c.in-Code.code
+    (returns-in-Code-clause-carried c) refl
 
 pub returns-in-End-clause-ended : goal.returns-in-End-clause-ended
 returns-in-End-clause-ended c = λ none.

@@ -5,6 +5,7 @@ use Rattle.swi_dispatch.specs.Parts.{Parts, state_of}
 use Rattle.swi_dispatch.proofs.Kept.{over}
 use Rattle.swi_dispatch.proofs.GateLemmas.{carried_well, ended_carried, first_carried, state_opened}
 use Rattle.swi_dispatch.proofs.CarriedFrames.{begun_beneath, opened_frames}
+use Rattle.swi_dispatch.proofs.NextEntry.{next_entry}
 use Rattle.swi_dispatch.proofs.machine.Machine.carry_first.Goals as goal
 
 pub invariant_of-self : goal.invariant_of-self
@@ -23,7 +24,7 @@ invariant_of-self c =
     c.requires.begins in
     let opens = c.open_code-kept.ensures in
     carried_well _ _ _ _ _ _ _ opens.plans refl carries.carried carries.ended carries.going carries.classes
-    (opened_frames _ _ _ _ _ c.self.inside.cpu _ _ _ _ opens.plans refl refl opens.frames (begun_beneath before _ begins) carries.others)
+    (opened_frames _ _ _ _ _ c.self.inside.cpu _ _ _ _ opens.plans refl refl opens.frames (begun_beneath before _ begins) carries.others (next_entry _ _ _ _ _ carries.carried))
     c.self.invariant carries.flex refl (ap (λ (p : Parts). p.is_fresh) c.self.view_is ∙ c.requires.stepped) c.self.invariant.sized
 
 pub returns-clause-state : goal.returns-clause-state

@@ -9,6 +9,7 @@ use Rattle.swi_dispatch.proofs.Kept.{over}
 use Rattle.swi_dispatch.proofs.GateLemmas.{carried_well, ended_carried, first_carried, refused_well, refused_world}
 use Rattle.swi_dispatch.proofs.GateLemmas.{starts_by, state_opened}
 use Rattle.swi_dispatch.proofs.CarriedFrames.{opened_frames, titled_beneath}
+use Rattle.swi_dispatch.proofs.NextEntry.{next_entry}
 use Rattle.swi_dispatch.proofs.machine.Machine.place_image.Goals as goal
 
 pub invariant_of-self : goal.invariant_of-self
@@ -38,7 +39,7 @@ invariant_of-self-2 c =
     let carries = c.carry-code.ensures in
     let opens = c.open_code-kept.ensures in
     carried_well _ _ _ _ _ _ _ opens.plans refl carries.carried carries.ended carries.going carries.classes
-    (opened_frames _ _ _ _ _ c.self.inside.cpu _ _ _ _ opens.plans refl refl opens.frames beneath carries.others)
+    (opened_frames _ _ _ _ _ c.self.inside.cpu _ _ _ _ opens.plans refl refl opens.frames beneath carries.others (next_entry _ _ _ _ _ carries.carried))
     c.self.invariant (keeps_then _ _ _ c.in_ok-plan.ensures.flex carries.flex) refl
     (ap (λ (p : Parts). p.is_fresh) c.self.view_is ∙ c.requires.stepped) (given.sizes ∙ c.self.invariant.sized)
 

@@ -8,6 +8,7 @@ use Rattle.swi_dispatch.specs.Parts.{Parts, state_of}
 use Rattle.swi_dispatch.proofs.Kept.{over}
 use Rattle.swi_dispatch.proofs.GateLemmas.{carried_well, ended_carried, resumes_by, state_opened}
 use Rattle.swi_dispatch.proofs.CarriedFrames.{left_beneath, opened_frames}
+use Rattle.swi_dispatch.proofs.NextEntry.{next_entry}
 use Rattle.swi_dispatch.proofs.OpenFrames.{plan_there}
 use Rattle.swi_dispatch.proofs.machine.Machine.resume.Goals as goal
 
@@ -20,7 +21,7 @@ invariant_of-self-2 c =
     carried_well _ _ _ _ _ _ _ opens.plans refl carries.carried carries.ended carries.going carries.classes
     (opened_frames _ _ _ _ _ c.leave.new.cpu _ _ _ _ opens.plans refl refl
     (opens.frames ∙ (λ i. frames_by (c.close.ensures.value i) c.leave.new.cpu c.args.frame.call c.carry-code.result))
-    beneath carries.others)
+    beneath carries.others (next_entry _ _ _ _ _ carries.carried))
     c.self.invariant carries.flex refl (ap (λ (p : Parts). p.is_fresh) c.self.view_is ∙ c.requires.stepped) c.self.invariant.sized
 
 pub returns-clause-state : goal.returns-clause-state
