@@ -1,4 +1,4 @@
-//! What lists of steps of a machine, and of calls that a user makes on it, do to its flex store and its module area.
+//! Laws: what lists of steps, and of calls from outside, do to a flex store and the module area.
 #![tactic(auto)]
 
 pub mod laws;
