@@ -2,6 +2,7 @@
 pub use Rattle.text_lines
 pub mod Directives
 pub mod ErrorNames
+pub mod ErrorTexts
 pub mod Laws
 pub mod Line
 pub mod Passes

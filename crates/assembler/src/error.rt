@@ -1,14 +1,14 @@
 //! The line of a source that is refused, and why.
 
-ghost use Rattle.std.specs.Prelude.{◌≡◌};
+ghost use Rattle.std.specs.Prelude.{◌≡◌, Some};
 
 use assembler_names::Reason;
-use thiserror::Error;
+use std::error::Error;
+use std::fmt;
 
 /// The line of a source that is refused, and why: the first line of the first pass that finds one,
 /// and in it the first reason of [`Reason`]'s list.
-#[derive(Clone, Copy, Debug, PartialEq, Eq, Error)]
-#[error("line {line}: {}", self.reason_name())]
+#[derive(Clone, Copy, Debug, PartialEq, Eq)]
 pub struct AsmError {
     /// The line's number, from 1; 0 for want of memory.
     pub line: usize,
@@ -35,3 +35,17 @@ impl AsmError {
         }
     }
 }
+
+/// The line and the reason's name.
+impl fmt::Display for AsmError {
+    ghost use Rattle.assembler.specs.ErrorTexts.{asm_error_text};
+
+    ghost output = { λ error. Some (asm_error_text error) };
+
+    fn fmt<W: fmt::Write>(&self, f: &mut fmt::Formatter<W>) -> fmt::Result {
+        let (line, name) = (self.line, self.reason_name());
+        write!(f, "line {line}: {name}")
+    }
+}
+
+impl Error for AsmError {}
