@@ -1,5 +1,4 @@
 //! What changes the modules, wherever their names stand.
-#![tactic(auto, using(crate::proofs::ViewLemmas::changed_view))]
 
 ghost use Rattle.std.specs.Prelude.{◌≡◌, ◌<◌, length, slice_index_or};
 ghost use Rattle.instances_table.specs.declared.loaded.Loaded.{Loaded};

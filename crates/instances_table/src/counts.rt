@@ -16,7 +16,6 @@ impl InstanceTable {
 
     /// How many instances the module of a number has, at most 64; none where there is no such
     /// module.
-    #[tactic(auto, using(crate::proofs::ViewLemmas::view_steps))]
     pub fn instance_count(&self, number: u32) -> u32
         ensures value { result ≡ instance_count (slice_get self.now number) }
         ensures few { result ≤ 64 }

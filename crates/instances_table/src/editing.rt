@@ -15,7 +15,6 @@ use module_header::profile::ErrorNumber;
 
 impl InstanceTable {
     /// Whether an instance has a slot.
-    #[tactic(auto, using(crate::proofs::ViewLemmas::held_view))]
     pub(crate) fn is_held(&self, slot: u32) -> bool
         ensures { result ≡ is_held slot self.now }
     {
@@ -23,7 +22,6 @@ impl InstanceTable {
     }
 
     /// The lowest slot that no instance has, if there is one.
-    #[tactic(auto, using(crate::proofs::SlotLemmas::free_here, crate::proofs::SlotLemmas::none_free))]
     pub fn free_slot(&self) -> Option<u32>
         ensures value { result ≡ free_slot self.now }
         ensures below { IfSome result (λ slot. slot < 64) }
@@ -40,7 +38,6 @@ impl InstanceTable {
     /// Puts a new module in, the youngest, with its first instance, `Base`, which is preferred.
     /// Nothing is done, and the answer is no, where a module of its title is there, or where the
     /// slot isn't free.
-    #[tactic(auto, unfolding(crate::specs::Changes::with_module))]
     pub fn insert(&mut self, header: Header, image: Image, slot: u32) -> bool
         ensures table { self.new ≡ with_module self.old header image slot }
         ensures value { result ≡ is_new header.title.items slot self.old }
@@ -58,7 +55,6 @@ impl InstanceTable {
         slot < 64 && !self.is_held(slot) && !self.has_title(title)
     }
 
-    #[tactic(auto, using(crate::proofs::ViewLemmas::view_steps))]
     fn has_title(&self, title: &[u8]) -> bool
         ensures { result ≡ list_any (has_title title.now) self.now }
     {
@@ -84,7 +80,6 @@ impl InstanceTable {
     /// `InstanceTableFull` where no slot is free.
     ///
     /// RISC OS 3 Programmer's Reference Manual, "OS_Module", reason 14.
-    #[tactic(auto, unfolding(crate::specs::Changes::instantiated))]
     pub fn instantiate(&mut self, full: &[u8]) -> Result<u32, ErrorNumber>
         ensures { Gives self.old (instantiated self.old full.now) result self.new }
     {
@@ -94,7 +89,6 @@ impl InstanceTable {
     }
 
     /// Whether the module of a number has an instance of a name.
-    #[tactic(auto, using(crate::proofs::ViewLemmas::view_steps, crate::proofs::ViewLemmas::named_view))]
     pub(crate) fn is_named(&self, number: usize, name: &[u8]) -> bool
         ensures { result ≡ is_named name.now (slice_get self.now number) }
     {
@@ -125,7 +119,6 @@ impl InstanceTable {
     /// `InstanceExists` where an instance of the module has the new name, this one included.
     ///
     /// RISC OS 3 Programmer's Reference Manual, "OS_Module", reason 15.
-    #[tactic(auto, unfolding(crate::specs::Changes::renamed))]
     pub fn rename(&mut self, full: &[u8], new: &[u8]) -> Result<(), ErrorNumber>
         ensures { Leaves self.old (renamed self.old full.now new.now) result self.new }
     {
@@ -160,7 +153,6 @@ impl InstanceTable {
     /// `ModuleNotFound` where there is no such instance.
     ///
     /// RISC OS 3 Programmer's Reference Manual, "OS_Module", reason 16.
-    #[tactic(auto, unfolding(crate::specs::Changes::preferring))]
     pub fn prefer(&mut self, full: &[u8]) -> Result<(), ErrorNumber>
         ensures { Leaves self.old (preferring self.old full.now) result self.new }
     {

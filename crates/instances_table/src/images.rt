@@ -24,7 +24,6 @@ impl InstanceTable {
     }
 
     /// Whether the image of a module stands at an address in the module area.
-    #[tactic(auto, using(crate::proofs::ViewLemmas::view_steps))]
     pub fn has_image_at(&self, at: u32) -> bool
         ensures { result ≡ has_image_at at self.now }
     {

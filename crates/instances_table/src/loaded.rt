@@ -55,7 +55,6 @@ impl Loaded {
     }
 
     /// Where among the instances the one of a name is, or without a name the preferred one.
-    #[tactic(auto, using(crate::proofs::ViewLemmas::view_steps))]
     pub(crate) fn place_meant(&self, names: &[Name], name: Option<&[u8]>) -> Option<usize>
         ensures value { result ≡ instance_meant (option_map (λ n. n.now) name.entry) (module_of names.now self.now) }
         ensures within { IfSome result (λ i. i < 64) }
@@ -89,7 +88,6 @@ impl Loaded {
 }
 
 /// Takes a slot out of a list, if it is there.
-#[tactic(auto, using(crate::proofs::PlaceLemmas::without_place, crate::proofs::PlaceLemmas::without_none))]
 fn take_slot(slots: &mut ArrayVec<u32, MOST_INSTANCES>, slot: u32)
     ensures { slots.new.items ≡ without_first (λ s. s == slot) slots.old.items }
 {
@@ -149,7 +147,6 @@ pub(crate) fn number_of_call(modules: &[Loaded], call: u32) -> Option<usize>
 }
 
 /// The slots of all modules, one after another.
-#[tactic(auto, using(crate::proofs::SlotLemmas::slots_more))]
 pub(crate) fn all_slots(modules: &[Loaded]) -> ArrayVec<u32, MOST_INSTANCES>
     requires { length (all_slots modules.now) ≤ 64 }
     ensures { result.items ≡ all_slots modules.now }
@@ -164,7 +161,6 @@ pub(crate) fn all_slots(modules: &[Loaded]) -> ArrayVec<u32, MOST_INSTANCES>
 }
 
 /// The slots of the module of a title, if there is one.
-#[tactic(auto, using(crate::proofs::RoomViews::titled_passed, crate::proofs::RoomViews::titled_found))]
 pub(crate) fn slots_of_title(modules: &[Loaded], title: &[u8]) -> ArrayVec<u32, MOST_INSTANCES>
     ensures { result.items ≡ titled_slots title.now modules.now }
 {

@@ -15,7 +15,6 @@ pub(crate) struct FullName<'a> {
 }
 
 impl<'a> FullName<'a> {
-    #[tactic(auto, using(crate::proofs::NameLemmas::take_rest))]
     pub(crate) fn of(full: &'a [u8]) -> FullName<'a>
         ensures { record { title = result.title.now; name = option_map (λ n. n.now) result.name } ≡ parted full.now }
     {

@@ -21,7 +21,6 @@ impl InstanceTable {
     /// slot is free.
     ///
     /// RISC OS 3 Programmer's Reference Manual, "OS_Module", reason 14.
-    #[tactic(auto, unfolding(crate::specs::Changes::instance_room))]
     pub fn room_for(&self, full: &[u8]) -> Result<NewInstance, ErrorNumber>
         ensures value { result ≡ instance_room self.now full.now }
         ensures room { IfOk result (λ new. IsRoomFor new self.now) }
@@ -56,7 +55,6 @@ impl InstanceTable {
 
     /// The lowest slot for the first instance of a new module of a title, if there is one. The
     /// slots of an older module of the title count as free.
-    #[tactic(auto, using(crate::proofs::SlotLemmas::free_here, crate::proofs::SlotLemmas::none_free))]
     pub fn free_slot_for(&self, title: &[u8]) -> Option<u32>
         ensures value { result ≡ free_slot_for title.now self.now }
         ensures below { IfSome result (λ slot. slot < 64) }
@@ -73,7 +71,6 @@ impl InstanceTable {
     }
 
     /// Whether an instance of a module of another title has a slot.
-    #[tactic(auto, using(crate::proofs::RoomViews::beside_view))]
     fn is_held_beside(&self, title: &[u8], slot: u32) -> bool
         ensures { result ≡ is_held slot (titled_otherwise title.now self.now) }
     {

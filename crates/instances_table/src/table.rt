@@ -1,5 +1,4 @@
 //! The table, and what it tells.
-#![tactic(auto, using(crate::proofs::ViewLemmas::table_views))]
 
 ghost use Rattle.std.specs.Prelude.{◌≡◌, ◌≤◌, ◌<◌, [], length, map, true, option_map, slice_get, slice_index, EachIndex, IfSome};
 ghost use Rattle.std.specs.List.{position};
@@ -136,7 +135,6 @@ impl InstanceTable {
     }
 
     /// The instance of a title and a name, or the preferred one.
-    #[tactic(auto, unfolding(crate::specs::Lookup::place_meant))]
     pub(crate) fn place_meant(
         &self,
         title: &[u8],

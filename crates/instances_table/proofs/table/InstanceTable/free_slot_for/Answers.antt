@@ -2,7 +2,7 @@ use Rattle.std.proofs.Common.{◌≡◌, ◌-◌, ◌+◌, ◌<◌, true, refl, 
 use Rattle.instances_table.specs.Changes.{free_slot, is_held, titled_otherwise}
 use Rattle.instances_table.specs.Table.{modules_of}
 use Rattle.instances_table.proofs.RoomLemmas.{few_modules}
-use Rattle.instances_table.proofs.SlotLemmas.{free_passed}
+use Rattle.instances_table.proofs.SlotLemmas.{free_passed, free_here, none_free}
 use Rattle.instances_table.proofs.table.InstanceTable.free_slot_for.Goals as goal
 
 pub loop-slot-init : goal.loop-slot-init
@@ -20,3 +20,9 @@ returns-then-not-is_held_beside-clause-few c = rw (← c.self.view_is) (few_modu
 
 pub returns-clause-few : goal.returns-clause-few
 returns-clause-few c = rw (← c.self.view_is) (few_modules (modules_of c.self.inside.names c.self.inside.modules.items) c.self.invariant)
+
+pub returns-then-not-is_held_beside-clause-value : goal.returns-then-not-is_held_beside-clause-value
+returns-then-not-is_held_beside-clause-value c = grind (arith, free_here, none_free)
+
+pub returns-clause-value : goal.returns-clause-value
+returns-clause-value c = grind (arith, free_here, none_free)
