@@ -1,4 +1,5 @@
 -- Which heaps are recorded after a move.
+use Rattle.swi_dispatch.specs.Moves.{Call, Step, core_of, given, moved, outside_name, swi_made, swi_of_turn}
 use Rattle.std.proofs.Common.{ℕ, ◌≡◌, ◌≢◌, ◌+◌, ◌%◌, ◌^◌, ◌==◌, ◌||◌, ◌∙◌, Bool, true, false, length, List, is_some, Option, Some, None, Result, Ok, Err, refl, sym, ap, subst, inl, inr, if◌then◌else◌}
 use Rattle.std.proofs.lemmas.Bool.{both_ways, cases_Bool, false_from_ne_true, false≢true, or_parts, true≢false}
 use Rattle.profile.specs.Outcome.{bind}
@@ -36,7 +37,7 @@ use Rattle.swi_dispatch_flex.specs.Calls.{fit_told, flex_called, left_by, state_
 use Rattle.swi_dispatch_store.specs.Areas.{area_called, area_changed, area_read, with_extent}
 use Rattle.swi_dispatch_store.specs.Heaps.{heap_called, heap_called_for}
 use Rattle.swi_dispatch.specs.declared.halt.Halt.TheVariants as halt
-use Rattle.swi_dispatch.proofs.NextTurn.{awake_step}
+use Rattle.swi_dispatch.proofs.NextTurn.{awake_step, outside_call}
 use Rattle.swi_dispatch.specs.Answers.{Answer, refused, went_on}
 use Rattle.swi_dispatch.specs.Calls.{call_answer, machine_flex, on_estate, on_flex, on_store, printable_at, with_guest, wrote_text_after, wrote_text_at}
 use Rattle.swi_dispatch.specs.MachineState.{MachineState, Outcome, machine_estate, quiet}
@@ -48,10 +49,9 @@ use Rattle.heap_alone.proofs.ModuleMoves.{module_moves_keep}
 use Rattle.heap_alone.proofs.OwnCalls.{heap_swi}
 use Rattle.heap_alone.proofs.Rows.{Left, area_left, change_keeps}
 use Rattle.heap_alone.proofs.States.{HasStore, IsGiven, given_goes, given_same, given_stays, given_store, has_store, sound_store}
-use Rattle.heap_alone.proofs.Steps.{call_is}
 use Rattle.heap_alone.specs.FoundLaws.{FreesHeap, HeapCallsForgetFreed, OtherMovesForgetNone, OuterHeapsStay}
 use Rattle.heap_alone.specs.ModuleMoves.{is_at_gate, is_module_move, is_module_name}
-use Rattle.heap_alone.specs.Moves.{Call, Step, core_of, given, is_heap_swi, moved, outside_name, swi_made, swi_of_turn}
+use Rattle.heap_alone.specs.Moves.{is_heap_swi}
 
 not_heap : (name : Option SwiName) → name ≢ Some swi.Heap → is_heap_swi name ≡ false
 not_heap name other = false_from_ne_true (is_heap_swi name) (λ is. other (heap_swi name is))
@@ -266,7 +266,7 @@ moves_forget_none images s h (Call number words) has other another =
     let store : HasStore s = has_store s has.state in
     let same : IsGiven s u = given_same s 0 words store.size in
     let stays : u.store ≡ s.store = given_stays s u same in
-    subst (λ (o : Outcome). IsNotForgotten o.now.store h.start) (sym (call_is images u number (given_goes s u same ∙ has.goes)))
+    subst (λ (o : Outcome). IsNotForgotten o.now.store h.start) (sym (outside_call images u number (given_goes s u same ∙ has.goes)))
     (called_stays images u h (given_store s u store same) (ap (λ (t : Store). find_heap h.start t.heaps) stays ∙ has.found) has.own true u.cpu.pc
     (without_x (number % 2 ^ 24)) another (not_heap (outside_name number) other))
 
@@ -282,7 +282,7 @@ heap_calls_forget images s h (Call number words) has name none =
     subst (λ (t : Store). FreesHeap t u.cpu h.start) stays
     (called_loses images u h (given_store s u store same) (ap (λ (t : Store). find_heap h.start t.heaps) stays ∙ has.found) has.own true u.cpu.pc
     (without_x (number % 2 ^ 24)) name
-    (ap (λ (o : Outcome). find_heap h.start o.now.store.heaps) (sym (call_is images u number (given_goes s u same ∙ has.goes))) ∙ none))
+    (ap (λ (o : Outcome). find_heap h.start o.now.store.heaps) (sym (outside_call images u number (given_goes s u same ∙ has.goes))) ∙ none))
 
 -- a heap that lies in no block
 area_block : (s : Store) (h : HeapList) → LiesInArea s h → LiesInBlock s h

@@ -1,4 +1,5 @@
 -- Lists of moves: by their first move, and the others from the state that it leaves.
+use Rattle.swi_dispatch.specs.Moves.{Move, moved, moved_all}
 use Rattle.std.proofs.Common.{ℕ, ◌≡◌, ◌++◌, ◌∙◌, Bool, true, false, List, [], ◌∷◌, Some, refl, sym, ap, subst, inl, inr, if◌then◌else◌}
 use Rattle.std.proofs.lemmas.Bool.{cases_Bool}
 use Rattle.image_loader.specs.Entries.{Entry}
@@ -12,7 +13,7 @@ use Rattle.heap_alone.proofs.Keeping.{found_alone, kept_alone}
 use Rattle.heap_alone.proofs.OwnCalls.{OwnCall, Stands, own_call}
 use Rattle.heap_alone.proofs.Steps.{move_keeps}
 use Rattle.heap_alone.specs.Laws.{AreMovesDone, HasHeap, HeapsStandAlone, IsMoveDone, StandsAlone, WorldsAnswerAlike, alone_at}
-use Rattle.heap_alone.specs.Moves.{Move, answers_in, asked_by, calls_in, is_own, moved, moved_all, reply_of}
+use Rattle.heap_alone.specs.Moves.{answers_in, asked_by, calls_in, is_own, reply_of}
 
 -- what is told of a list, from any heap alone
 record IsTold (images : List Entry) (s : MachineState) (start : ℕ) (w : Alone) (moves : List Move) : Type 0 where

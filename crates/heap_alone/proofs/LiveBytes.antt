@@ -1,5 +1,6 @@
 -- Instructions change the bytes that they store to, and calls of OS_Heap none that live blocks hold
 -- but those of the heap called.
+use Rattle.swi_dispatch.specs.Moves.{Call, Step, given, moved, swi_of_turn}
 use Rattle.std.proofs.Common.{ℕ, ◌≡◌, ◌≢◌, ◌==◌, ◌≤◌, ◌<◌, ◌-◌, ◌+◌, ◌%◌, ◌^◌, ◌∙◌, ◌⊎◌, Bool, true, false, List, Option, Some, None, Result, Ok, Err, refl, sym, ap, subst, inl, inr, arith, if◌then◌else◌}
 use Rattle.std.proofs.lemmas.Bool.{and_parts, cases_Bool, eqb-true, false_from_ne_true, false≢true, le-leb, lt-ltb}
 use Rattle.profile.specs.Outcome.{bind}
@@ -35,7 +36,7 @@ use Rattle.heap_turns.specs.Turns.{call_on}
 use Rattle.swi_dispatch_answers.specs.declared.refusal.Refusal.{Refusal}
 use Rattle.swi_dispatch_store.specs.Heaps.{heap_called, heap_called_for}
 use Rattle.swi_dispatch.proofs.Kept.{by_words}
-use Rattle.swi_dispatch.proofs.NextTurn.{awake_step}
+use Rattle.swi_dispatch.proofs.NextTurn.{awake_step, outside_call}
 use Rattle.swi_dispatch.specs.declared.halt.Halt.TheVariants as halt
 use Rattle.swi_dispatch.specs.Answers.{went_on}
 use Rattle.swi_dispatch.specs.Calls.{call_answer, on_store}
@@ -46,10 +47,9 @@ use Rattle.swi_dispatch.specs.Step.{called, called_by, ended, instructed, is_exi
 use Rattle.heap_alone.proofs.HeapAnswers.{Agree, heap_agrees}
 use Rattle.heap_alone.proofs.Keeping.{error_kept, off_system}
 use Rattle.heap_alone.proofs.States.{HasStore, IsGiven, given_goes, given_same, given_stays, given_store, has_store, sound_store}
-use Rattle.heap_alone.proofs.Steps.{call_is}
 use Rattle.heap_alone.proofs.Storing.{step_past}
 use Rattle.heap_alone.specs.ByteLaws.{HeapCallsKeepLiveBytes, InstructionsChangeStored, IsStoredPlain}
-use Rattle.heap_alone.specs.Moves.{Call, Step, given, is_heap_swi, moved, swi_of_turn}
+use Rattle.heap_alone.specs.Moves.{is_heap_swi}
 use Rattle.heap_alone.specs.Storing.{is_stored}
 use Rattle.heaps_kept.proofs.Areas.{heap_same}
 
@@ -214,7 +214,7 @@ heap_calls_keep images s (Call number words) state goes name after =
     let u : MachineState = given s words in
     let store : HasStore s = has_store s state in
     let same : IsGiven s u = given_same s 0 words store.size in
-    let call : store_called images u number ≡ called images u true u.cpu.pc (without_x (number % 2 ^ 24)) = call_is images u number (given_goes s u same ∙ goes) in
+    let call : store_called images u number ≡ called images u true u.cpu.pc (without_x (number % 2 ^ 24)) = outside_call images u number (given_goes s u same ∙ goes) in
     let sound : IsSound (called images u true u.cpu.pc (without_x (number % 2 ^ 24))).now.store =
     subst (λ (o : Outcome). IsSound o.now.store) call (sound_store (moved images s (Call number words)) (has_store (moved images s (Call number words)) after)) in
     let kept : KeepsPayloads u.store (called images u true u.cpu.pc (without_x (number % 2 ^ 24))).now.store (register_of u.cpu 1) =

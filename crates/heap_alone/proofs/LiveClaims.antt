@@ -30,7 +30,7 @@ use Rattle.heap_alone.proofs.Keeping.{error_kept, off_system}
 use Rattle.heap_alone.proofs.LiveBytes.{payload_inside}
 use Rattle.heap_alone.proofs.States.{HasStore, IsGiven, given_same, given_stays, given_store, has_store, sound_store}
 use Rattle.heap_alone.specs.AreaByteLaws.{ClaimsKeepLiveBytes, KeepsAreaBlocks}
-use Rattle.heap_alone.specs.Moves.{given}
+use Rattle.swi_dispatch.specs.Moves.{given}
 
 stay_same : (s t : Store) → StayLive s t → KeepsAreaBlocks s t
 stay_same s t stay h g block total new_total a found found' live live' here there = (stay block total (ap (total_in block) found ∙ live)).1 a here

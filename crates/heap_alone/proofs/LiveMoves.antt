@@ -1,5 +1,6 @@
 -- Over any move, the blocks of a heap that a guest made, and in which no heap lies or is made, keep
 -- what they hold, but for what an instruction stores.
+use Rattle.swi_dispatch.specs.Moves.{Call, Step, given, moved, swi_of_turn}
 use Rattle.std.proofs.Common.{ℕ, ◌≡◌, ◌≢◌, ◌-◌, ◌+◌, ◌%◌, ◌^◌, ◌∙◌, ◌⊎◌, Bool, true, false, List, Option, Some, Result, Ok, Err, refl, sym, ap, subst, inl, inr}
 use Rattle.std.proofs.lemmas.Bool.{cases_Bool, cases_eq, true≢false}
 use Rattle.profile.specs.SwiNames.{swi_of}
@@ -17,7 +18,7 @@ use Rattle.os_heap.specs.Calls.{OfHeap, has_own_size}
 use Rattle.os_heap.specs.Store.{IsSound, Store, find_heap}
 use Rattle.heap_turns.proofs.NoHeapInside.{whole_recorded}
 use Rattle.heap_turns.specs.Laws.{HasNoAnchor, HoldsNoHeap, IsLeftWhole}
-use Rattle.swi_dispatch.proofs.NextTurn.{awake_step}
+use Rattle.swi_dispatch.proofs.NextTurn.{awake_step, outside_call}
 use Rattle.swi_dispatch.specs.MachineState.{MachineState, Outcome}
 use Rattle.swi_dispatch.specs.Step.{called, instructed, machine_step, store_called, turned, without_x}
 use Rattle.heap_alone.proofs.Gates.{gate_keeps}
@@ -26,9 +27,9 @@ use Rattle.heap_alone.proofs.ModuleHosts.{IsHost}
 use Rattle.heap_alone.proofs.ModuleLaws.{any_heap, asked, host as host_of}
 use Rattle.heap_alone.proofs.OwnCalls.{heap_swi}
 use Rattle.heap_alone.proofs.States.{HasStore, IsGiven, given_goes, given_same, given_stays, given_store, has_store, sound_store}
-use Rattle.heap_alone.proofs.Steps.{call_is, from_inside, names_none, swi_keeps}
+use Rattle.heap_alone.proofs.Steps.{from_inside, names_none, swi_keeps}
 use Rattle.heap_alone.specs.ByteLaws.{IsStoredPlain, MovesKeepLiveBytes}
-use Rattle.heap_alone.specs.Moves.{Call, Step, given, is_heap_swi, moved, swi_of_turn}
+use Rattle.heap_alone.specs.Moves.{is_heap_swi}
 
 -- a heap that is found after the move, and in which no heap lies
 abbrev IsBareIn : HeapList → HeapList → Store → Type 0
@@ -96,7 +97,7 @@ moves_keep images s h g (Call number words) block total new_total a has after na
     let store : HasStore s = has_store s has.state in
     let same : IsGiven s u = given_same s 0 words store.size in
     let stays : u.store ≡ s.store = given_stays s u same in
-    let call : store_called images u number ≡ called images u true u.cpu.pc (without_x (number % 2 ^ 24)) = call_is images u number (given_goes s u same ∙ has.goes) in
+    let call : store_called images u number ≡ called images u true u.cpu.pc (without_x (number % 2 ^ 24)) = outside_call images u number (given_goes s u same ∙ has.goes) in
     let sound : IsSound (called images u true u.cpu.pc (without_x (number % 2 ^ 24))).now.store =
     subst (λ (o : Outcome). IsSound o.now.store) call (sound_store (moved images s (Call number words)) (has_store (moved images s (Call number words)) after)) in
     let bare' : IsBareIn h g (called images u true u.cpu.pc (without_x (number % 2 ^ 24))).now.store =

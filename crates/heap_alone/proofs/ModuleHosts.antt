@@ -37,7 +37,7 @@ use Rattle.heap_turns.specs.Laws.{IsNotForgotten, KeepsHeap}
 use Rattle.heap_alone.proofs.Keeping.{IsOffSystem, off_system}
 use Rattle.heap_alone.proofs.ModulePlans.{IsFitPlan}
 use Rattle.heap_alone.proofs.States.{HasStore, IsGiven, given_store, has_store, with_cpu}
-use Rattle.heap_alone.specs.Laws.{IsState}
+use Rattle.swi_dispatch.specs.Moves.{IsState}
 
 -- what a machine has of modules and of what is left of a call on them
 pub record HasModules (s : MachineState) : Type 0 where

@@ -17,7 +17,7 @@ use Rattle.heap_alone.proofs.ModuleHosts.{HasModules, IsHost, KeepsRecorded, giv
 use Rattle.heap_alone.proofs.States.{IsGiven, given_goes, given_same, given_stays}
 use Rattle.heap_alone.specs.Laws.{HasHeap}
 use Rattle.heap_alone.specs.ModuleLaws.{GatesKeepHeap, HasAnyHeap, LoadsKeepHeap, ModuleCallsKeepHeap, ModuleSwisKeepHeap}
-use Rattle.heap_alone.specs.Moves.{given}
+use Rattle.swi_dispatch.specs.Moves.{given}
 use Rattle.heaps_kept.proofs.Areas.{heap_same}
 
 pub any_heap : (s : MachineState) (h : HeapList) → HasHeap s h → HasAnyHeap s h

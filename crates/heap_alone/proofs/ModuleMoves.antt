@@ -24,7 +24,7 @@ use Rattle.heap_alone.proofs.ModuleHosts.{IsHost, KeepsRecorded}
 use Rattle.heap_alone.proofs.ModuleLaws.{IsAsked, asked, host}
 use Rattle.heap_alone.specs.ModuleLaws.{ModuleMovesKeepHeap}
 use Rattle.heap_alone.specs.ModuleMoves.{is_at_gate, is_module_name}
-use Rattle.heap_alone.specs.Moves.{Call, Step, given, swi_of_turn}
+use Rattle.swi_dispatch.specs.Moves.{Call, Step, given, swi_of_turn}
 
 module _ (images : List Entry) (s : MachineState) (h : HeapList) (here : IsHost s h) where
   named_keeps : (x : Bool) (next number : ℕ) (name : Option SwiName) → is_module_name name ≡ true

@@ -1,4 +1,6 @@
 -- An own call of the heap answers one turn of it, and leaves what the turn leaves.
+use Rattle.swi_dispatch.specs.Moves.{Call, IsState, Move, Step, given, moved, outside_name}
+use Rattle.swi_dispatch.proofs.NextTurn.{outside_call}
 use Rattle.std.proofs.Common.{ℕ, ◌≡◌, ◌==◌, ◌∙◌, ◌%◌, ◌^◌, Bool, true, false, List, [], ◌∷◌, Option, Some, None, Result, Ok, Err, refl, sym, ap, subst, if◌then◌else◌}
 use Rattle.std.proofs.lemmas.Bool.{and_parts, eqb-true, false≢true}
 use Rattle.profile.specs.Reasons.{heap_reason}
@@ -32,9 +34,8 @@ use Rattle.swi_dispatch.specs.Step.{called, called_by, ended, is_exit, without_x
 use Rattle.heap_alone.proofs.HeapAnswers.{Agree, heap_agrees, overflow_back, three_back, two_back}
 use Rattle.heap_alone.proofs.Keeping.{error_kept, kept_alone, off_system}
 use Rattle.heap_alone.proofs.States.{HasStore, IsGiven, given_goes, given_same, given_stays, given_store, guest_heap, has_store, mapped_block}
-use Rattle.heap_alone.proofs.Steps.{call_is}
-use Rattle.heap_alone.specs.Laws.{HasHeap, IsMoveDone, IsState}
-use Rattle.heap_alone.specs.Moves.{Call, Move, Step, asked, asked_by, given, is_call_to, is_for_heap, is_heap_swi, is_own, moved, outside_name, reply_of}
+use Rattle.heap_alone.specs.Laws.{HasHeap, IsMoveDone}
+use Rattle.heap_alone.specs.Moves.{asked, asked_by, is_call_to, is_for_heap, is_heap_swi, is_own, reply_of}
 use Rattle.heaps_kept.proofs.Areas.{heap_same}
 
 -- a machine in which the heap at a place stands, and is this one
@@ -195,7 +196,7 @@ own_by images s h number words has move name reason at =
     let call : HeapCall = call_given u.store h reason.why block size in
     let t : MachineState = moved images s (Call number words) in
     let is : t ≡ after u next (heap_called_for u.cpu u.store (Some reason.why)) =
-    ap (λ (o : Outcome). o.now) (call_is images u number (given_goes s u same ∙ has.goes))
+    ap (λ (o : Outcome). o.now) (outside_call images u number (given_goes s u same ∙ has.goes))
     ∙ called_is images u next (without_x (number % 2 ^ 24)) name
     ∙ ap (after u next) (heap_is u.cpu u.store reason.why reason.is) in
     let turn : replied (alone_in u.store h) (call_on u.store h.start reason.why block size) ≡ turned (alone_in u.store h) call =

@@ -22,8 +22,8 @@ use Rattle.swi_dispatch.specs.Boot.{registered}
 use Rattle.swi_dispatch.specs.MachineState.{MachineState, machine_estate, machine_world}
 use Rattle.swi_dispatch.specs.Parts.{IsMachine, Parts, parts_world, state_of}
 use Rattle.heap_alone.proofs.HeapAnswers.{set_length}
-use Rattle.heap_alone.specs.Laws.{HasHeap, IsState}
-use Rattle.heap_alone.specs.Moves.{with_registers}
+use Rattle.heap_alone.specs.Laws.{HasHeap}
+use Rattle.swi_dispatch.specs.Moves.{IsState, with_registers}
 
 -- what flex calls act on
 abbrev pub stores_in : MachineState → List Image → Stores

@@ -1,4 +1,5 @@
 -- What a move that isn't a call on a heap leaves of it: all of it, where it leaves it whole.
+use Rattle.swi_dispatch.specs.Moves.{Call, Move, Step, given, moved, outside_name, swi_of_turn}
 use Rattle.std.proofs.Common.{ℕ, ◌≡◌, ◌≢◌, ◌+◌, ◌%◌, ◌^◌, ◌==◌, ◌&&◌, ◌∙◌, Bool, true, false, List, Option, Some, None, Result, Ok, Err, refl, sym, ap, subst, inl, inr}
 use Rattle.std.proofs.lemmas.Bool.{and_parts, cases_Bool, eqb-true, false_from_ne_true}
 use Rattle.profile.specs.Reasons.{heap_reason}
@@ -17,22 +18,21 @@ use Rattle.os_heap.specs.Calls.{has_own_size}
 use Rattle.os_heap.specs.Store.{IsSound, Store, find_heap, owned_in}
 use Rattle.heap_turns.proofs.NoHeapInside.{whole_recorded}
 use Rattle.heap_turns.specs.Laws.{HasNoAnchor, IsLeftWhole, KeepsHeap}
-use Rattle.swi_dispatch.proofs.NextTurn.{awake_step}
-use Rattle.swi_dispatch.specs.declared.halt.Halt.{Halt}
+use Rattle.swi_dispatch.proofs.NextTurn.{awake_step, outside_call}
 use Rattle.swi_dispatch.specs.MachineState.{MachineState, Outcome}
-use Rattle.swi_dispatch.specs.Step.{called, instructed, machine_step, store_called, turned, unless_halted, without_x}
+use Rattle.swi_dispatch.specs.Step.{called, instructed, machine_step, store_called, turned, without_x}
 use Rattle.heap_alone.proofs.Called.{IsElsewhere, IsHeapElsewhere, called_keeps}
 use Rattle.heap_alone.proofs.Gates.{gate_keeps}
 use Rattle.heap_alone.proofs.Keeping.{KeepsWhole}
 use Rattle.heap_alone.proofs.ModuleHosts.{IsHost}
-use Rattle.heap_alone.proofs.ModuleLaws.{any_heap, asked, host as host_of}
+use Rattle.heap_alone.proofs.ModuleLaws.{any_heap, asked}
 use Rattle.heap_alone.proofs.ModuleMoves.{module_called_keeps}
 use Rattle.heap_alone.proofs.Rows.{NamesNone}
 use Rattle.heap_alone.proofs.States.{HasStore, IsGiven, given_goes, given_same, given_stays, given_store, has_store, sound_store}
 use Rattle.heap_alone.proofs.Storing.{step_past}
 use Rattle.heap_alone.specs.Laws.{HasHeap, IsAside, IsMoveDone}
 use Rattle.heap_alone.specs.ModuleMoves.{is_module_name}
-use Rattle.heap_alone.specs.Moves.{Call, Move, Step, given, is_call_to as is_core_call_to, is_for_heap, is_heap_swi, is_own, moved, outside_name, swi_of_turn}
+use Rattle.heap_alone.specs.Moves.{is_for_heap, is_heap_swi, is_own}
 use Rattle.heap_alone.specs.Storing.{is_stored}
 use Rattle.heaps_kept.proofs.Areas.{heap_same}
 
@@ -96,12 +96,6 @@ module _ (images : List Entry) (s : MachineState) (h : HeapList) (has : HasStore
       gate_keeps s h host (λ lies. whole_recorded (turned images s (Err turn.Gate)).now.store h.start left)
   turn_keeps (Err (turn.Fault f)) is stores calls named sound left = same
 
-pub call_is : (images : List Entry) (s : MachineState) (number : ℕ) → s.halt ≡ None
-    → store_called images s number ≡ called images s true s.cpu.pc (without_x (number % 2 ^ 24))
-unfolding store_called
-call_is images s number goes =
-    ap (λ (o : Option Halt). unless_halted s o (called images s true s.cpu.pc (without_x (number % 2 ^ 24)))) goes
-
 pub move_keeps : (images : List Entry) (s : MachineState) (h : HeapList) (m : Move) → HasHeap s h → IsMoveDone images h.start s m
     → is_own h.start s m ≡ false → KeepsHeap h s.store (moved images s m).store
 move_keeps images s h Step has move other =
@@ -118,7 +112,7 @@ move_keeps images s h (Call number words) has move other =
     let u : MachineState = given s words in
     let store : HasStore s = has_store s has.state in
     let same : IsGiven s u = given_same s 0 words store.size in
-    let call : store_called images u number ≡ called images u true u.cpu.pc (without_x (number % 2 ^ 24)) = call_is images u number (given_goes s u same ∙ has.goes) in
+    let call : store_called images u number ≡ called images u true u.cpu.pc (without_x (number % 2 ^ 24)) = outside_call images u number (given_goes s u same ∙ has.goes) in
     let sound : IsSound (called images u true u.cpu.pc (without_x (number % 2 ^ 24))).now.store =
     subst (λ (o : Outcome). IsSound o.now.store) call (sound_store (moved images s (Call number words)) (has_store (moved images s (Call number words)) move.state)) in
     let left : IsLeftWhole (called images u true u.cpu.pc (without_x (number % 2 ^ 24))).now.store h.start =

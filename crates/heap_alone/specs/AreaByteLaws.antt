@@ -11,8 +11,7 @@ use Rattle.os_heap_lists.specs.Lists.{live_total}
 use Rattle.os_heap.specs.Store.{Store, find_heap}
 use Rattle.swi_dispatch.specs.MachineState.{MachineState}
 use Rattle.swi_dispatch.specs.Step.{os_module_called}
-use Rattle.heap_alone.specs.Laws.{IsState}
-use Rattle.heap_alone.specs.Moves.{given}
+use Rattle.swi_dispatch.specs.Moves.{IsState, given}
 
 -- Each block of the module area that is live in both stores holds the same in both, as far as it
 -- holds it in both.

@@ -14,8 +14,8 @@ use Rattle.os_heap.specs.Store.{find_heap, owned_in}
 use Rattle.heap_turns.specs.Laws.{HoldsNoHeap}
 use Rattle.swi_dispatch.specs.MachineState.{MachineState}
 use Rattle.swi_dispatch.specs.Step.{instructed}
-use Rattle.heap_alone.specs.Laws.{HasHeap, IsState}
-use Rattle.heap_alone.specs.Moves.{Move, Step, core_of, moved, swi_made}
+use Rattle.heap_alone.specs.Laws.{HasHeap}
+use Rattle.swi_dispatch.specs.Moves.{IsState, Move, Step, core_of, moved, swi_made}
 use Rattle.heap_alone.specs.Storing.{is_stored}
 
 -- the instruction at the program counter stores to a byte, and the byte belongs to no record that

@@ -15,7 +15,7 @@ use Rattle.heap_turns.specs.Laws.{IsNotForgotten, LiesInBlock}
 use Rattle.swi_dispatch.specs.MachineState.{MachineState}
 use Rattle.heap_alone.specs.ModuleLaws.{HasAnyHeap}
 use Rattle.heap_alone.specs.ModuleMoves.{is_module_move}
-use Rattle.heap_alone.specs.Moves.{Move, core_of, moved, swi_made}
+use Rattle.swi_dispatch.specs.Moves.{Move, core_of, moved, swi_made}
 
 abbrev pub OuterHeapsStay : Type 0
 OuterHeapsStay =

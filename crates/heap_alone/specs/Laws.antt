@@ -1,5 +1,6 @@
 -- A guest's heap stands alone: whatever else a machine does, short of making a heap in it or
 -- freeing the block that it lies in, calls on the heap answer by the heap's own list and bytes.
+use Rattle.swi_dispatch.specs.Moves.{IsState, Move, Step, core_of, moved, moved_all, swi_made}
 use Rattle.std.specs.Prelude.{ℕ, ◌≡◌, ◌≢◌, true, false, Option, Some, None, option_map, List, [], ◌∷◌}
 use Rattle.profile.specs.declared.swi.SwiName.TheVariants as swi
 use Rattle.address_map.specs.Bytes.{in_range}
@@ -12,15 +13,8 @@ use Rattle.heap_turns.specs.Alone.{Alone, alone_in}
 use Rattle.heap_turns.specs.Laws.{HasNoAnchor, HoldsNoHeap, IsLeftWhole}
 use Rattle.heap_turns.specs.Turns.{left_by, replies}
 use Rattle.swi_dispatch.specs.MachineState.{MachineState}
-use Rattle.swi_dispatch.specs.Parts.{IsMachine, Parts, state_of}
-use Rattle.heap_alone.specs.Moves.{Move, Step, answers_in, calls_in, core_of, is_own, moved, moved_all, swi_made}
+use Rattle.heap_alone.specs.Moves.{answers_in, calls_in, is_own}
 use Rattle.heap_alone.specs.Storing.{is_stored}
-
--- a machine's state
-pub record IsState (s : MachineState) : Type 0 where
-  pub parts : Parts
-  pub is : state_of parts ≡ s
-  pub machine : IsMachine parts
 
 -- A machine that isn't halted, with a heap that a guest made and in which no anchor and no heap
 -- lies. It may lie in a block itself.

@@ -13,9 +13,8 @@ use Rattle.heaps_kept.specs.Fits.{LiesInArea}
 use Rattle.swi_dispatch.specs.Gates.{gated}
 use Rattle.swi_dispatch.specs.MachineState.{MachineState}
 use Rattle.swi_dispatch.specs.Step.{module_called, module_loaded, os_module_called}
-use Rattle.heap_alone.specs.Laws.{IsState}
+use Rattle.swi_dispatch.specs.Moves.{IsState, Move, given, moved}
 use Rattle.heap_alone.specs.ModuleMoves.{is_module_move}
-use Rattle.heap_alone.specs.Moves.{Move, given, moved}
 
 -- A machine that isn't halted, with a heap that a guest made, whatever lies in it.
 pub record HasAnyHeap (s : MachineState) (h : HeapList) : Type 0 where

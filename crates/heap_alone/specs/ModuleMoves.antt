@@ -8,7 +8,7 @@ use Rattle.arm_core.specs.declared.turn.Turn.{Turn}
 use Rattle.arm_core.specs.declared.turn.Turn.TheVariants as turn
 use Rattle.swi_dispatch.specs.MachineState.{MachineState}
 use Rattle.swi_dispatch.specs.Step.{instructed}
-use Rattle.heap_alone.specs.Moves.{Call, Move, Step, swi_made}
+use Rattle.swi_dispatch.specs.Moves.{Call, Move, Step, swi_made}
 
 abbrev pub is_module_name : Option SwiName → Bool
 is_module_name (Some swi.Module) = true

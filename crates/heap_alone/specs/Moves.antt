@@ -1,52 +1,21 @@
 -- Moves of a machine: store calls that a user makes from outside, and steps. Which of them are
 -- calls on one heap, what they ask and what they answer (RISC OS 3 Programmer's Reference Manual,
 -- "OS_Heap", reasons 1 to 6: the heap in R1, a block in R2, a size in R3).
-use Rattle.std.specs.Prelude.{ℕ, ◌+◌, ◌%◌, ◌^◌, ◌==◌, ◌&&◌, ◌++◌, Bool, true, false, Option, Some, None, Result, Err, List, [], ◌∷◌, if◌then◌else◌}
+use Rattle.swi_dispatch.specs.Moves.{Call, Move, Step, given, moved, outside_name}
+use Rattle.std.specs.Prelude.{ℕ, ◌+◌, ◌==◌, ◌&&◌, ◌++◌, Bool, true, false, Option, Some, None, List, [], ◌∷◌, if◌then◌else◌}
 use Rattle.profile.specs.Reasons.{heap_reason}
-use Rattle.profile.specs.SwiNames.{swi_of}
 use Rattle.profile.specs.declared.reason.HeapReason.{HeapReason}
 use Rattle.profile.specs.declared.swi.SwiName.{SwiName}
 use Rattle.profile.specs.declared.swi.SwiName.TheVariants as swi
-use Rattle.address_map.specs.Bytes.{Bytes}
 use Rattle.arm_core.specs.State.{State, register_of}
-use Rattle.arm_core.specs.declared.turn.Turn.{Turn}
-use Rattle.arm_core.specs.declared.turn.Turn.TheVariants as turn
 use Rattle.image_loader.specs.Entries.{Entry}
 use Rattle.os_heap_lists.specs.Heap.{HeapList}
 use Rattle.os_heap.specs.Store.{Store, find_heap}
 use Rattle.heap_turns.specs.Alone.{HeapCall, call_given}
 use Rattle.heap_turns.specs.Lists.{is_on_heap}
 use Rattle.heap_turns.specs.Turns.{Answered, Refused, Reply}
-use Rattle.swi_dispatch.specs.Boot.{registered}
 use Rattle.swi_dispatch.specs.Errors.{error_number}
 use Rattle.swi_dispatch.specs.MachineState.{MachineState}
-use Rattle.swi_dispatch.specs.Step.{instructed, machine_step, store_called, without_x}
-
--- A call by its number and the words of R0 and the registers after it; or a step: an instruction, a
--- SWI or a gate action of the guest.
-pub data Move : Type 0 where
-  Call : ℕ → List ℕ → Move
-  Step : Move
-
-abbrev pub with_registers : MachineState → ℕ → List ℕ → MachineState
-with_registers s n [] = s
-with_registers s n (v ∷ vs) = with_registers (registered s n v) (n + 1) vs
-
--- the machine on which a call from outside is made
-abbrev pub given : MachineState → List ℕ → MachineState
-given s words = with_registers s 0 words
-
-abbrev pub moved : List Entry → MachineState → Move → MachineState
-moved images s (Call number words) = (store_called images (given s words) number).now
-moved images s Step = (machine_step images s).now
-
-abbrev pub moved_all : List Entry → MachineState → List Move → MachineState
-moved_all images s [] = s
-moved_all images s (m ∷ ms) = moved_all images (moved images s m) ms
-
--- the name of a call from outside: bits 31 to 24 of its number and its X bit are left out
-abbrev pub outside_name : ℕ → Option SwiName
-outside_name number = swi_of (without_x (number % 2 ^ 24))
 
 abbrev pub is_heap_swi : Option SwiName → Bool
 is_heap_swi (Some swi.Heap) = true
@@ -89,16 +58,3 @@ abbrev pub answers_in : List Entry → ℕ → MachineState → List Move → Li
 answers_in images start s [] = []
 answers_in images start s (m ∷ ms) =
     (if is_own start s m then reply_of (moved images s m) ∷ [] else []) ++ answers_in images start (moved images s m) ms
-
--- The SWI that a move makes, if it makes one, and the core that makes it.
-abbrev pub swi_of_turn : Result (State × Bytes) Turn → Option SwiName
-swi_of_turn (Err (turn.Swi n)) = swi_of (without_x n)
-swi_of_turn other = None
-
-abbrev pub swi_made : MachineState → Move → Option SwiName
-swi_made s (Call number words) = outside_name number
-swi_made s Step = swi_of_turn (instructed s)
-
-abbrev pub core_of : MachineState → Move → State
-core_of s (Call number words) = (given s words).cpu
-core_of s Step = s.cpu

@@ -6,7 +6,7 @@ use Rattle.image_loader.specs.Entries.{Entry}
 use Rattle.os_heap_lists.specs.Heap.{HeapList}
 use Rattle.swi_dispatch.specs.MachineState.{MachineState}
 use Rattle.heap_alone.specs.Laws.{IsAside}
-use Rattle.heap_alone.specs.Moves.{Call, Move, Step, moved, outside_name}
+use Rattle.swi_dispatch.specs.Moves.{Call, Move, Step, moved, outside_name}
 use Rattle.heap_moves.specs.Calls.{CallsStandAside, are_plain_calls, is_anchored}
 
 is_step : Move → Bool

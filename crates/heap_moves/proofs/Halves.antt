@@ -1,4 +1,5 @@
 -- What a heap answers by itself over the moves of a list that were done.
+use Rattle.swi_dispatch.specs.Moves.{Move, moved}
 use Rattle.std.proofs.Common.{ℕ, ◌≡◌, ◌∙◌, List, [], ◌∷◌, map, Some, None, refl, sym, ap, subst}
 use Rattle.image_loader.specs.Entries.{Entry}
 use Rattle.os_heap_lists.specs.Heap.{HeapList}
@@ -9,7 +10,7 @@ use Rattle.swi_dispatch.specs.MachineState.{MachineState}
 use Rattle.heap_alone.proofs.Keeping.{found_alone}
 use Rattle.heap_alone.proofs.Lists.{stand_alone}
 use Rattle.heap_alone.specs.Laws.{AreMovesDone, HasHeap, StandsAlone}
-use Rattle.heap_alone.specs.Moves.{Move, answers_in, calls_in, moved}
+use Rattle.heap_alone.specs.Moves.{answers_in, calls_in}
 use Rattle.heap_moves.specs.Making.{AreAside, AreGoing, GoesOn, HasHeapAt, IsByItself, LeaveWhole, StandsByItself}
 use Rattle.heap_moves.specs.Moves.{noted_all}
 use Rattle.heap_moves.specs.Pairs.{AreAlike, Side}

@@ -6,7 +6,7 @@ use Rattle.profile.specs.declared.swi.SwiName.{SwiName}
 use Rattle.profile.specs.declared.swi.SwiName.TheVariants as swi
 use Rattle.image_loader.specs.Entries.{Entry}
 use Rattle.swi_dispatch.specs.MachineState.{MachineState}
-use Rattle.heap_alone.specs.Moves.{Call, Move, Step, outside_name}
+use Rattle.swi_dispatch.specs.Moves.{Call, Move, Step, outside_name}
 use Rattle.heap_moves.specs.Making.{AreAside}
 
 abbrev pub is_anchored : Option SwiName → Bool

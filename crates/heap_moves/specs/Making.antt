@@ -1,5 +1,6 @@
 -- A list of moves made on a machine: how far it was made, what the machine then is, and what the
 -- heap at an address answered, which is what it answers by itself.
+use Rattle.swi_dispatch.specs.Moves.{IsState, Move, moved, moved_all}
 use Rattle.std.specs.Prelude.{ℕ, ◌≡◌, ◌≤◌, ◌<◌, ◌+◌, ◌-◌, true, false, Option, Some, None, option_map, List, [], ◌∷◌, length, take}
 use Rattle.profile.specs.declared.stop.Stop.{Stop}
 use Rattle.image_loader.specs.Entries.{Entry}
@@ -11,8 +12,8 @@ use Rattle.heap_turns.specs.Laws.{HasNoAnchor, HoldsNoHeap, IsLeftWhole}
 use Rattle.heap_turns.specs.Turns.{replies}
 use Rattle.swi_dispatch.specs.declared.halt.Halt.{Halt}
 use Rattle.swi_dispatch.specs.MachineState.{MachineState, stop_of}
-use Rattle.heap_alone.specs.Laws.{IsAside, IsState, StandsAlone}
-use Rattle.heap_alone.specs.Moves.{Move, answers_in, calls_in, is_own, moved, moved_all}
+use Rattle.heap_alone.specs.Laws.{IsAside, StandsAlone}
+use Rattle.heap_alone.specs.Moves.{answers_in, calls_in, is_own}
 use Rattle.heap_moves.specs.declared.moves.End.{End}
 use Rattle.heap_moves.specs.declared.moves.End.TheVariants as end
 use Rattle.heap_moves.specs.declared.moves.Reply.{Reply}

@@ -1,8 +1,9 @@
 -- Moves and replies as programs have them, and as the written machine has them.
-use Rattle.std.specs.Prelude.{ℕ, Bool, List, [], ◌∷◌, map, if◌then◌else◌}
-use Rattle.heap_turns.specs.Turns.{Answered, Refused, Reply as WrittenReply}
+use Rattle.swi_dispatch.specs.Moves.{Call, Step}
+use Rattle.std.specs.Prelude.{Bool, List, [], ◌∷◌, map, if◌then◌else◌}
+use Rattle.heap_turns.specs.Turns.{Answered, Refused}
 use Rattle.swi_dispatch.specs.MachineState.{MachineState}
-use Rattle.heap_alone.specs.Moves.{Call, Move as WrittenMove, Step, reply_of}
+use Rattle.heap_alone.specs.Moves.{reply_of}
 use Rattle.heap_moves.specs.declared.moves.Move.{Move}
 use Rattle.heap_moves.specs.declared.moves.Move.TheVariants as move
 use Rattle.heap_moves.specs.declared.moves.Reply.{Reply}

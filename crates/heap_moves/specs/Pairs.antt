@@ -1,12 +1,13 @@
 -- Lists of moves made on two machines: where the heap alone is the same and is asked the same, it
 -- answers the same, whatever else goes on in each.
+use Rattle.swi_dispatch.specs.Moves.{Move}
 use Rattle.std.specs.Prelude.{ℕ, ◌≡◌, List}
 use Rattle.image_loader.specs.Entries.{Entry}
 use Rattle.os_heap_lists.specs.Heap.{HeapList}
 use Rattle.heap_turns.specs.Alone.{alone_in}
 use Rattle.swi_dispatch.specs.MachineState.{MachineState}
 use Rattle.heap_alone.specs.Laws.{AnswerAlike}
-use Rattle.heap_alone.specs.Moves.{Move, calls_in}
+use Rattle.heap_alone.specs.Moves.{calls_in}
 use Rattle.heap_moves.specs.declared.moves.Reply.{Reply}
 use Rattle.heap_moves.specs.Making.{AreAside, HasHeapAt, LeaveWhole}
 

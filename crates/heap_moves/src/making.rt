@@ -1,8 +1,9 @@
 //! A list of moves on one machine.
 
+ghost use Rattle.swi_dispatch.specs.Moves.{given, moved};
 ghost use Rattle.std.specs.Prelude.{◌≡◌, ◌==◌, ◌≤◌, ◌&&◌, ◌++◌, true, false, length};
 ghost use Rattle.swi_dispatch.specs.Parts.{IsMachine, state_of};
-ghost use Rattle.heap_alone.specs.Moves.{given, is_own, moved};
+ghost use Rattle.heap_alone.specs.Moves.{is_own};
 ghost use Rattle.heap_moves.specs.Making.{AreMade};
 ghost use Rattle.heap_moves.specs.Moves.{reply_if, written, written_all};
 

@@ -1,9 +1,10 @@
 //! Which store calls from outside are calls on a heap, and what they answer.
 
+ghost use Rattle.swi_dispatch.specs.Moves.{outside_name};
 ghost use Rattle.std.specs.Prelude.{◌≡◌, ◌&&◌};
 ghost use Rattle.swi_dispatch.specs.Parts.{state_of};
 ghost use Rattle.swi_dispatch.specs.Step.{without_x};
-ghost use Rattle.heap_alone.specs.Moves.{is_call_to, is_for_heap, is_heap_swi, outside_name, reply_of};
+ghost use Rattle.heap_alone.specs.Moves.{is_call_to, is_for_heap, is_heap_swi, reply_of};
 ghost use Rattle.heap_moves.specs.Moves.{noted};
 
 use crate::moves::Reply;

@@ -34,7 +34,7 @@ use Rattle.instances_plans.specs.Plans.{Plan, settled}
 use Rattle.swi_dispatch_answers.specs.declared.refusal.Refusal.{Refusal}
 use Rattle.swi_dispatch_answers.specs.declared.refusal.Refusal.TheVariants as refusal
 use Rattle.swi_dispatch_store.specs.Heaps.{heap_called, heap_called_for}
-use Rattle.swi_dispatch.proofs.NextTurn.{awake_step}
+use Rattle.swi_dispatch.proofs.NextTurn.{awake_step, outside_call}
 use Rattle.swi_dispatch.specs.declared.halt.Halt.{Halt}
 use Rattle.swi_dispatch.specs.declared.halt.Halt.TheVariants as halt
 use Rattle.swi_dispatch_answers.specs.Words.{host_string}
@@ -54,11 +54,10 @@ use Rattle.heap_alone.proofs.OwnCalls.{heap_swi}
 use Rattle.heap_alone.proofs.PlansMade.{IsFitPlanned, load_made}
 use Rattle.heap_alone.proofs.Rows.{is_flex_call}
 use Rattle.heap_alone.proofs.States.{IsGiven, given_goes, given_same, given_stays, has_store, sound_store}
-use Rattle.heap_alone.proofs.Steps.{call_is}
 use Rattle.heap_alone.specs.ByteLaws.{IsStoredPlain}
-use Rattle.heap_alone.specs.Laws.{IsState}
+use Rattle.swi_dispatch.specs.Moves.{Call, IsState, Step, given, moved, outside_name, swi_of_turn}
 use Rattle.heap_alone.specs.ModuleMoves.{is_module_name}
-use Rattle.heap_alone.specs.Moves.{Call, Step, given, is_heap_swi, moved, outside_name, swi_of_turn}
+use Rattle.heap_alone.specs.Moves.{is_heap_swi}
 use Rattle.live_bytes.proofs.Answers.{other_has}
 use Rattle.live_bytes.proofs.AreaCases.{area_call_has}
 use Rattle.live_bytes.proofs.FlexRows.{init_byte}
@@ -317,7 +316,7 @@ call_from_outside images s number words a None goes state after flex =
     let same : IsGiven s u = given_same s 0 words (has_store s state).size in
     let stays : u.store ≡ s.store = given_stays s u same in
     let o : Outcome = called images u true u.cpu.pc (without_x (number % 2 ^ 24)) in
-    let call : store_called images u number ≡ o = call_is images u number (given_goes s u same ∙ goes) in
+    let call : store_called images u number ≡ o = outside_call images u number (given_goes s u same ∙ goes) in
     let sound : IsSound o.now.store =
     subst (λ (o : Outcome). IsSound o.now.store) call (sound_store (moved images s (Call number words)) (has_store (moved images s (Call number words)) after)) in
     let flex' : is_in_flex_store u.store.others a ≡ true = subst (λ (t : Store). is_in_flex_store t.others a ≡ true) (sym stays) flex in

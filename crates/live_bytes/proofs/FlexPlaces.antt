@@ -29,8 +29,7 @@ use Rattle.swi_dispatch.specs.MachineState.{MachineState, Outcome, machine_estat
 use Rattle.swi_dispatch.specs.Step.{begun, called, instructed, machine_step, module_loaded, store_called, turned, unless_halted, without_x}
 use Rattle.heap_alone.proofs.States.{HasStore, IsGiven, given_same, has_store, sound_store}
 use Rattle.heap_alone.specs.ByteLaws.{IsStoredPlain}
-use Rattle.heap_alone.specs.Laws.{IsState}
-use Rattle.heap_alone.specs.Moves.{Call, Move, Step, given, moved, swi_made}
+use Rattle.swi_dispatch.specs.Moves.{Call, IsState, Move, Step, given, moved, swi_made}
 use Rattle.live_bytes.proofs.FlexMoves.{flex_bytes_stay, loaded_out}
 use Rattle.live_bytes.proofs.FlexStays.{flex_outside}
 use Rattle.live_bytes.proofs.FlexTables.{Same, awake_same, called_same, loaded_same, turn_same}

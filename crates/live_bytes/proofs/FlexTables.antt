@@ -59,7 +59,7 @@ use Rattle.swi_dispatch.specs.MachineState.{MachineState, Outcome, machine_estat
 use Rattle.swi_dispatch.specs.ModuleStart.{opened_at}
 use Rattle.swi_dispatch.specs.Returns.{erred, gone_back, halted}
 use Rattle.swi_dispatch.specs.Step.{begun, call_of, called, called_by, ended, ended_by, handler_entered, is_exit, module_called as handler_called, module_entered, module_loaded, os_module_called, os_module_called_for, turned, unless_halted, without_x}
-use Rattle.heap_alone.specs.Moves.{swi_of_turn}
+use Rattle.swi_dispatch.specs.Moves.{swi_of_turn}
 use Rattle.live_bytes.specs.FlexPlaces.{may_change_flex}
 
 module _ (s : MachineState) where

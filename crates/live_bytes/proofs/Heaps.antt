@@ -20,7 +20,7 @@ use Rattle.swi_dispatch.specs.Parts.{IsMachine, Parts, state_of}
 use Rattle.heap_alone.proofs.LiveBytes.{payload_inside}
 use Rattle.heap_alone.proofs.ModuleHosts.{HasModules, IsHost, given_modules, has_modules}
 use Rattle.heap_alone.proofs.States.{IsGiven, given_stays, sound_store}
-use Rattle.heap_alone.specs.Laws.{IsState}
+use Rattle.swi_dispatch.specs.Moves.{IsState}
 use Rattle.live_bytes.specs.AreaLaws.{KeepsBoth}
 use Rattle.live_bytes.specs.Changes.{IsHeld}
 

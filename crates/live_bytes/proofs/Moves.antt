@@ -13,7 +13,7 @@ use Rattle.arm_core.specs.declared.turn.Turn.TheVariants as turn
 use Rattle.image_loader.specs.Entries.{Entry}
 use Rattle.os_heap.proofs.Anchored.{header_outside}
 use Rattle.os_heap.specs.Store.{IsSound, Store, find_heap, is_in_flex_store}
-use Rattle.swi_dispatch.proofs.NextTurn.{awake_step}
+use Rattle.swi_dispatch.proofs.NextTurn.{awake_step, outside_call}
 use Rattle.swi_dispatch.specs.declared.halt.Halt.{Halt}
 use Rattle.swi_dispatch.specs.declared.halt.Halt.TheVariants as halt
 use Rattle.swi_dispatch.specs.MachineState.{MachineState, Outcome, quiet}
@@ -27,11 +27,10 @@ use Rattle.heap_alone.proofs.ModuleMoves.{module_called_keeps}
 use Rattle.heap_alone.proofs.OwnCalls.{heap_swi}
 use Rattle.heap_alone.proofs.Rows.{is_flex_call}
 use Rattle.heap_alone.proofs.States.{IsGiven, given_goes, given_same, given_stays, has_store, sound_store}
-use Rattle.heap_alone.proofs.Steps.{call_is}
 use Rattle.heap_alone.specs.ByteLaws.{IsStoredPlain}
 use Rattle.heap_alone.specs.ModuleMoves.{is_at_gate, is_module_name}
-use Rattle.heap_alone.specs.Laws.{IsState}
-use Rattle.heap_alone.specs.Moves.{Call, Step, given, is_heap_swi, moved, outside_name, swi_of_turn}
+use Rattle.swi_dispatch.specs.Moves.{Call, IsState, Step, given, moved, outside_name, swi_of_turn}
+use Rattle.heap_alone.specs.Moves.{is_heap_swi}
 use Rattle.live_bytes.proofs.Carried.{gate_were}
 use Rattle.live_bytes.proofs.Extending.{were_kept}
 use Rattle.live_bytes.proofs.FlexRows.{flex_byte}
@@ -277,7 +276,7 @@ call_stays images s number words start a None goes state after held =
     let same : IsGiven s u = given_same s 0 words (has_store s state).size in
     let stays : u.store ≡ s.store = given_stays s u same in
     let o : Outcome = called images u true u.cpu.pc (without_x (number % 2 ^ 24)) in
-    let call : store_called images u number ≡ o = call_is images u number (given_goes s u same ∙ goes) in
+    let call : store_called images u number ≡ o = outside_call images u number (given_goes s u same ∙ goes) in
     let sound : IsSound o.now.store =
     subst (λ (o : Outcome). IsSound o.now.store) call (sound_store (moved images s (Call number words)) (has_store (moved images s (Call number words)) after)) in
     let held' : IsHeld u.store o.now.store start a =

@@ -19,7 +19,7 @@ use Rattle.swi_dispatch.specs.Step.{begun, module_loaded, unless_halted}
 use Rattle.image_loader.specs.Entries.{Entry}
 use Rattle.heap_alone.proofs.ModuleCalls.{loaded_keeps}
 use Rattle.heap_alone.proofs.Storing.{word_past}
-use Rattle.heap_alone.specs.Laws.{IsState}
+use Rattle.swi_dispatch.specs.Moves.{IsState}
 use Rattle.live_bytes.proofs.Heaps.{KeepsBlocks, all_kept, has_heaps, held_all}
 use Rattle.live_bytes.proofs.ModuleRows.{loaded_both}
 use Rattle.live_bytes.proofs.Rows.{all_same}

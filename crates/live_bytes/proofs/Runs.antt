@@ -6,7 +6,7 @@ use Rattle.swi_dispatch.specs.declared.halt.Halt.{Halt}
 use Rattle.swi_dispatch.specs.MachineState.{MachineState}
 use Rattle.swi_dispatch.specs.Run.{Run, go_on, is_among, ran, run_unless_halted}
 use Rattle.swi_dispatch.specs.Step.{machine_step}
-use Rattle.heap_alone.specs.Moves.{Step, moved}
+use Rattle.swi_dispatch.specs.Moves.{Step, moved}
 use Rattle.live_bytes.proofs.Moves.{live_bytes_stay}
 use Rattle.live_bytes.specs.Runs.{IsStepped, LiveBytesStayOver, RunsAreSteps}
 

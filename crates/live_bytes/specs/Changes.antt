@@ -25,9 +25,8 @@ use Rattle.swi_dispatch.specs.Gates.{outcome_left}
 use Rattle.swi_dispatch.specs.MachineState.{MachineState, setting_of}
 use Rattle.swi_dispatch.specs.Step.{instructed, module_loaded}
 use Rattle.heap_alone.specs.ByteLaws.{IsStoredPlain}
-use Rattle.heap_alone.specs.Laws.{IsState}
+use Rattle.swi_dispatch.specs.Moves.{Call, IsState, Move, Step, core_of, given, moved, outside_name, swi_made}
 use Rattle.heap_alone.specs.ModuleMoves.{is_at_gate, is_module_name}
-use Rattle.heap_alone.specs.Moves.{Call, Move, Step, core_of, given, moved, outside_name, swi_made}
 use Rattle.live_bytes.specs.FlexLaws.{IsAnchorByte}
 use Rattle.live_bytes.specs.HeapWrites.{IsWrittenByCall}
 

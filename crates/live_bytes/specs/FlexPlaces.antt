@@ -10,8 +10,7 @@ use Rattle.flex_store.specs.declared.blocks.FlexBlock.{FlexBlock}
 use Rattle.flex_ground.specs.Ground.{spelled_store}
 use Rattle.swi_dispatch.specs.MachineState.{MachineState}
 use Rattle.swi_dispatch.specs.Step.{module_loaded}
-use Rattle.heap_alone.specs.Laws.{IsState}
-use Rattle.heap_alone.specs.Moves.{Move, moved, swi_made}
+use Rattle.swi_dispatch.specs.Moves.{IsState, Move, moved, swi_made}
 use Rattle.live_bytes.specs.Changes.{is_flex_name}
 
 -- the flex calls that may change the store, the one that makes it too

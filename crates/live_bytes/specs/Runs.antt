@@ -3,8 +3,7 @@ use Rattle.std.specs.Prelude.{ℕ, zero, suc, ◌≡◌, ◌⊎◌, List, [], �
 use Rattle.image_loader.specs.Entries.{Entry}
 use Rattle.swi_dispatch.specs.MachineState.{MachineState}
 use Rattle.swi_dispatch.specs.Run.{ran}
-use Rattle.heap_alone.specs.Laws.{IsState}
-use Rattle.heap_alone.specs.Moves.{Move, Step, moved, moved_all}
+use Rattle.swi_dispatch.specs.Moves.{IsState, Move, Step, moved, moved_all}
 use Rattle.live_bytes.specs.Changes.{IsHeld, MayChange}
 
 -- Each move leads to a machine's state, and the byte is held from each state to the next.

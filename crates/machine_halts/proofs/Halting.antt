@@ -287,10 +287,6 @@ pub halts_change_nothing : HaltsChangeNothing
 unfolding machine_step
 halts_change_nothing images s h ends = halts_by images s s.halt h refl ends
 
-pub awake_step : (images : List Entry) (s : MachineState) → s.halt ≡ None → machine_step images s ≡ turned images s (instructed s)
-unfolding machine_step
-awake_step images s awake = ap (λ (o : Option Halt). unless_halted s o (turned images s (instructed s))) awake
-
 exits_by : (images : List Entry) (s : MachineState) → s.halt ≡ None → (turned images s (instructed s)).now.halt ≡ Some halt.Exit → Exits s
 exits_by images s awake ends = elim (turn_goes images s (instructed s)) [
   | inl exit ↦ record { number = exit.0; is = exit.1; name = exit.2 }

@@ -16,8 +16,7 @@ use Rattle.profile.specs.declared.swi.SwiName.{SwiName}
 use Rattle.profile.specs.declared.swi.SwiName.TheVariants as swi
 use Rattle.address_map.proofs.Stores.{in_range-cases}
 use Rattle.address_map.specs.Bytes.{Bytes, in_range, with_word_at}
-use Rattle.arm_core.specs.declared.psr.Mode.{Mode}
-use Rattle.arm_core.specs.declared.psr.Mode.TheVariants.{User, FastInterrupt, Interrupt, Supervisor}
+use Rattle.arm_core.specs.declared.psr.Mode.TheVariants.{Supervisor}
 use Rattle.arm_core.specs.declared.psr.Psr.{Psr}
 use Rattle.arm_core.specs.declared.turn.Turn.{Turn}
 use Rattle.arm_core.specs.declared.turn.Turn.TheVariants as turn
@@ -39,6 +38,7 @@ use Rattle.swi_dispatch_plans.specs.Openings.{opening_asked}
 use Rattle.swi_dispatch_plans.specs.declared.openings.Opening.{Opening}
 use Rattle.swi_dispatch.proofs.GateReturns.{first_slot}
 use Rattle.swi_dispatch.proofs.Kept.{short_name}
+use Rattle.swi_dispatch.proofs.NextTurn.{awake_step, outside_call}
 use Rattle.swi_dispatch.specs.Answers.{Answer, refused, went_on}
 use Rattle.swi_dispatch.specs.Calls.{call_answer, generated, on_estate, on_flex, on_store, on_world, wrote_text_after, wrote_text_at}
 use Rattle.swi_dispatch.specs.MachineState.{MachineState, Outcome, quiet, setting_of}
@@ -46,8 +46,8 @@ use Rattle.swi_dispatch.specs.ModuleStart.{opened_at}
 use Rattle.swi_dispatch.specs.Returns.{gone_back}
 use Rattle.swi_dispatch.specs.declared.halt.Halt.{Halt}
 use Rattle.swi_dispatch.specs.declared.halt.Halt.TheVariants as halt
-use Rattle.swi_dispatch.specs.Step.{call_of, call_refused, called, called_by, ended, ended_by, handler_entered, instructed, machine_step, module_called, module_entered, os_module_called, os_module_called_for, store_called, turned, unless_halted, without_x}
-use Rattle.machine_halts.proofs.Halting.{awake_step, called_exits, exit_cases}
+use Rattle.swi_dispatch.specs.Step.{call_of, call_refused, called, called_by, ended, ended_by, handler_entered, instructed, machine_step, module_called, module_entered, os_module_called, os_module_called_for, turned, without_x}
+use Rattle.machine_halts.proofs.Halting.{called_exits, exit_cases}
 use Rattle.machine_halts.specs.Refusals.{GoingOnIsDone, IsRefusal, RefusalsChangeNothing, RefusedStepsChangeNothing, RefusedStoreCallsChangeNothing, may_err_late, may_run_code}
 
 -- an error's block
@@ -318,15 +318,9 @@ refused_steps_change_nothing images s n awake is late goes set =
     (set_refusal images (bit_of n 17) s ((s.cpu.pc + 4) % 2 ^ 26) (without_x n) late
     (sym (ap (λ (o : Outcome). o.now.halt) call) ∙ goes) (sym (ap (λ (o : Outcome). o.now.cpu.psr.overflow) call) ∙ set))
 
-outside_calls : (images : List Entry) (s : MachineState) (number : ℕ) → s.halt ≡ None
-    → store_called images s number ≡ called images s true s.cpu.pc (without_x (number % 2 ^ 24))
-unfolding store_called
-outside_calls images s number awake =
-    ap (λ (o : Option Halt). unless_halted s o (called images s true s.cpu.pc (without_x (number % 2 ^ 24)))) awake
-
 pub refused_store_calls_change_nothing : RefusedStoreCallsChangeNothing
 refused_store_calls_change_nothing images s number awake late goes set =
-    let call = outside_calls images s number awake in
+    let call = outside_call images s number awake in
     subst (λ (o : Outcome). IsRefusal s s.cpu.pc o.now) (sym call)
     (set_refusal images true s s.cpu.pc (without_x (number % 2 ^ 24)) late
     (sym (ap (λ (o : Outcome). o.now.halt) call) ∙ goes) (sym (ap (λ (o : Outcome). o.now.cpu.psr.overflow) call) ∙ set))

@@ -16,8 +16,7 @@ use Rattle.swi_dispatch.specs.Boot.{registered}
 use Rattle.swi_dispatch.specs.MachineState.{MachineState}
 use Rattle.swi_dispatch.specs.Parts.{state_of}
 use Rattle.swi_dispatch.specs.Step.{called, instructed, machine_step, store_called, turned, unless_halted, without_x}
-use Rattle.heap_alone.specs.Laws.{IsState}
-use Rattle.heap_alone.specs.Moves.{Call, Move, Step, given, moved, swi_of_turn, with_registers}
+use Rattle.swi_dispatch.specs.Moves.{Call, IsState, Move, Step, given, moved, swi_of_turn, with_registers}
 use Rattle.store_laws.specs.Meaning.{AreStores, Meaning, Stores, meaning_of}
 use Rattle.store_laws.specs.Rules.{IsTurned}
 use Rattle.store_laws.specs.Turning.{Call as FlexTurn, Init, Slide, Turn, answered, placed, turned as stores_turned}

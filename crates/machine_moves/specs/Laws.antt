@@ -13,8 +13,7 @@ use Rattle.swi_dispatch_flex.specs.Calls.{word_of}
 use Rattle.swi_dispatch_plans.specs.ModulePlans.{tidy_planned}
 use Rattle.swi_dispatch.specs.MachineState.{MachineState, setting_of}
 use Rattle.swi_dispatch.specs.Step.{instructed}
-use Rattle.heap_alone.specs.Laws.{IsState}
-use Rattle.heap_alone.specs.Moves.{Call, Move, Step, core_of, given, moved, swi_made}
+use Rattle.swi_dispatch.specs.Moves.{Call, IsState, Move, Step, core_of, given, moved, swi_made}
 use Rattle.store_laws.specs.Meaning.{meaning_of}
 use Rattle.store_laws.specs.Turning.{answered, placed}
 use Rattle.store_names.specs.Named.{IsTurnByNames}

@@ -22,11 +22,11 @@ use Rattle.swi_dispatch.specs.Parts.{Parts, IsWellFormed, state_of}
 zero_apart : (m : Mode) → slot_of m 0 ≢ 25
 zero_apart m same = let zero : slot_of m 0 ≡ 0 = first_slot m in omega (arith, zero, same)
 
-zero_kept : (caller : Psr) (cpu : State) (v : Bool) (next : ℕ) → register_of (returned caller cpu v next) 0 ≡ register_of cpu 0
+pub zero_kept : (caller : Psr) (cpu : State) (v : Bool) (next : ℕ) → register_of (returned caller cpu v next) 0 ≡ register_of cpu 0
 unfolding returned
 zero_kept caller cpu v next = get_or-set_other cpu.file 25 (slot_of cpu.psr.mode 0) (return_word caller next) 0 (zero_apart cpu.psr.mode)
 
-zero_set : (s : State) (v : ℕ) → length s.file ≡ 26 → register_of (with_register s 0 v) 0 ≡ v
+pub zero_set : (s : State) (v : ℕ) → length s.file ≡ 26 → register_of (with_register s 0 v) 0 ≡ v
 zero_set s v size =
     let zero : slot_of s.psr.mode 0 ≡ 0 = first_slot s.psr.mode in
     let inside : slot_of s.psr.mode 0 < length s.file = omega (arith, zero, size) in

@@ -21,6 +21,7 @@ pub mod Errors
 pub mod Gates
 pub mod MachineState
 pub mod ModuleStart
+pub mod Moves
 pub mod OpenFrames
 pub mod Parts
 pub mod Returns

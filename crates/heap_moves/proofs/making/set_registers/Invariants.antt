@@ -1,6 +1,6 @@
 use Rattle.std.proofs.Common.{◌≡◌, drop}
 use Rattle.swi_dispatch.specs.Parts.{state_of}
-use Rattle.heap_alone.specs.Moves.{given, with_registers}
+use Rattle.swi_dispatch.specs.Moves.{given, with_registers}
 use Rattle.heap_moves.proofs.making.set_registers.Given as goal
 
 -- what is left to be set makes of the machine what all of it would make of the one at first

@@ -1,0 +1,59 @@
+-- Moves of a machine: store calls that a user makes from outside, and steps. What each leaves, and
+-- which SWI it makes (this project's own).
+use Rattle.std.specs.Prelude.{ℕ, ◌≡◌, ◌+◌, ◌%◌, ◌^◌, Option, None, Result, Err, List, [], ◌∷◌}
+use Rattle.profile.specs.SwiNames.{swi_of}
+use Rattle.profile.specs.declared.swi.SwiName.{SwiName}
+use Rattle.address_map.specs.Bytes.{Bytes}
+use Rattle.arm_core.specs.State.{State}
+use Rattle.arm_core.specs.declared.turn.Turn.{Turn}
+use Rattle.arm_core.specs.declared.turn.Turn.TheVariants as turn
+use Rattle.image_loader.specs.Entries.{Entry}
+use Rattle.swi_dispatch.specs.Boot.{registered}
+use Rattle.swi_dispatch.specs.MachineState.{MachineState}
+use Rattle.swi_dispatch.specs.Parts.{IsMachine, Parts, state_of}
+use Rattle.swi_dispatch.specs.Step.{instructed, machine_step, store_called, without_x}
+
+-- a machine's state
+pub record IsState (s : MachineState) : Type 0 where
+  pub parts : Parts
+  pub is : state_of parts ≡ s
+  pub machine : IsMachine parts
+
+-- A call by its number and the words of R0 and the registers after it; or a step: an instruction, a
+-- SWI or a gate action of the guest.
+pub data Move : Type 0 where
+  Call : ℕ → List ℕ → Move
+  Step : Move
+
+abbrev pub with_registers : MachineState → ℕ → List ℕ → MachineState
+with_registers s n [] = s
+with_registers s n (v ∷ vs) = with_registers (registered s n v) (n + 1) vs
+
+-- the machine on which a call from outside is made
+abbrev pub given : MachineState → List ℕ → MachineState
+given s words = with_registers s 0 words
+
+abbrev pub moved : List Entry → MachineState → Move → MachineState
+moved images s (Call number words) = (store_called images (given s words) number).now
+moved images s Step = (machine_step images s).now
+
+abbrev pub moved_all : List Entry → MachineState → List Move → MachineState
+moved_all images s [] = s
+moved_all images s (m ∷ ms) = moved_all images (moved images s m) ms
+
+-- the name of a call from outside: bits 31 to 24 of its number and its X bit are left out
+abbrev pub outside_name : ℕ → Option SwiName
+outside_name number = swi_of (without_x (number % 2 ^ 24))
+
+-- The SWI that a move makes, if it makes one, and the core that makes it.
+abbrev pub swi_of_turn : Result (State × Bytes) Turn → Option SwiName
+swi_of_turn (Err (turn.Swi n)) = swi_of (without_x n)
+swi_of_turn other = None
+
+abbrev pub swi_made : MachineState → Move → Option SwiName
+swi_made s (Call number words) = outside_name number
+swi_made s Step = swi_of_turn (instructed s)
+
+abbrev pub core_of : MachineState → Move → State
+core_of s (Call number words) = (given s words).cpu
+core_of s Step = s.cpu
