@@ -1,1 +1,2 @@
+-- Lists of moves of a machine. Begin with Laws.
 pub mod Laws
