@@ -2,3 +2,4 @@
 pub mod Reasons
 pub mod Settings
 pub mod Status
+pub mod Texts
