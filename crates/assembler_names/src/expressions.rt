@@ -13,7 +13,6 @@ use crate::words::{Read, after_word, word};
 pub type Value = Option<u32>;
 
 /// Terms joined by `+` and `-`, without spaces, modulo 2^32: `loop+4`, `'A'-&41+n`.
-#[tactic(auto, unfolding(crate::specs::Expressions::expression))]
 pub fn expression<'t>(labels: &Labels, text: &'t [u8]) -> Read<'t, Value>
     ensures { read_of result ≡ expression (address_of labels.now) text.now }
 {
@@ -22,7 +21,6 @@ pub fn expression<'t>(labels: &Labels, text: &'t [u8]) -> Read<'t, Value>
 }
 
 // The terms after a sum, at most `count`.
-#[tactic(auto, using(crate::proofs::Terms::term_steps))]
 fn more_terms<'t>(labels: &Labels, count: usize, first: Value, text: &'t [u8]) -> Read<'t, Value>
     ensures { read_of result ≡ more_terms count (address_of labels.now) first text.now }
 {
@@ -40,7 +38,6 @@ fn more_terms<'t>(labels: &Labels, count: usize, first: Value, text: &'t [u8]) -
 }
 
 // `'c'`, `&FF`, `255` or a label.
-#[tactic(auto, unfolding(crate::specs::Expressions::term))]
 fn term<'t>(labels: &Labels, text: &'t [u8]) -> Read<'t, Value>
     ensures { read_of result ≡ term (address_of labels.now) text.now }
 {
@@ -92,7 +89,6 @@ fn word_value(labels: &Labels, name: &[u8]) -> Option<Value>
 }
 
 /// A `-`, which is true, or a `+`, and what follows it.
-#[tactic(auto, unfolding(crate::specs::Expressions::sign))]
 pub fn sign(text: &[u8]) -> Read<'_, bool>
     ensures { read_of result ≡ sign text.now }
 {
@@ -104,7 +100,6 @@ pub fn sign(text: &[u8]) -> Read<'_, bool>
 }
 
 // The sum, or after `-` the difference.
-#[tactic(auto, unfolding(crate::specs::Expressions::combined))]
 fn combined(is_minus: bool, first: Value, second: Value) -> Value
     ensures { result ≡ combined is_minus first second }
 {

@@ -1,5 +1,4 @@
 //! Labels and their addresses.
-#![tactic(auto, using(crate::proofs::Entries::label_steps), unfolding(crate::specs::Labels::address_of))]
 
 ghost use Rattle.std.specs.Prelude.{◌≡◌, ◌++◌, ◌∷◌, [], None, IfErr, OnOk, OnErr};
 ghost use Rattle.assembler_names.specs.Labels.{address_of, begins_with_digit, is_label};

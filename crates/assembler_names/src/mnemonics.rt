@@ -49,7 +49,6 @@ pub struct Mnemonic {
 }
 
 /// The mnemonic that a word is, in letters of either case.
-#[tactic(auto, unfolding(crate::specs::Mnemonics::mnemonic_named))]
 pub fn mnemonic_named(name: &[u8]) -> Option<Mnemonic>
     ensures { result ≡ mnemonic_named name.now }
 {

@@ -62,7 +62,6 @@ static BLOCK_MODES: [BlockMode; 4] = [
 ];
 
 /// The register at the front of a text: `R0` to `R15`, `SP`, `LR` or `PC`.
-#[tactic(auto, unfolding(crate::specs::Names::register))]
 pub fn register(text: &[u8]) -> Read<'_, Register>
     ensures { read_of result ≡ register text.now }
 {
@@ -71,7 +70,6 @@ pub fn register(text: &[u8]) -> Read<'_, Register>
 }
 
 /// The register of this name.
-#[tactic(auto, unfolding(crate::specs::Names::register_named))]
 pub fn register_named(name: &[u8]) -> Option<Register>
     ensures { result ≡ register_named name.now }
 {
@@ -142,7 +140,6 @@ fn names_operation(name: &[u8], operation: Operation) -> bool
 }
 
 /// The shift of this name, `LSL` to `ROR`.
-#[tactic(auto, unfolding(crate::specs::Names::shift_named))]
 pub fn shift_named(name: &[u8]) -> Option<Shift>
     ensures { result ≡ shift_named name.now }
 {
@@ -159,7 +156,6 @@ fn names_shift(name: &[u8], shift: Shift) -> bool
 }
 
 /// The mode of a block transfer by its suffix, `IA` to `DB` or the name of a stack, `FD` to `EA`.
-#[tactic(auto, unfolding(crate::specs::Names::block_mode_named))]
 pub fn block_mode_named(loads: bool, name: &[u8]) -> Option<BlockMode>
     ensures { result ≡ block_mode_named loads name.now }
 {

@@ -4,7 +4,6 @@ ghost use Rattle.std.specs.Prelude.{◌≡◌, ◌≤◌, ◌<◌, ◌^◌, IfSo
 ghost use Rattle.assembler_names.specs.Expressions.{numeral, with_digit};
 
 /// The number that digits of this radix spell, modulo 2^32; `None` for an empty text.
-#[tactic(auto, using(crate::proofs::Digits::numeral_steps))]
 pub fn numeral(radix: u32, digits: &[u8]) -> Option<u32>
     requires low { 2 ≤ radix }
     requires high { radix ≤ 36 }
@@ -21,7 +20,6 @@ pub fn numeral(radix: u32, digits: &[u8]) -> Option<u32>
 }
 
 // A number with one more digit after it.
-#[tactic(auto, unfolding(crate::specs::Expressions::with_digit))]
 fn with_digit(radix: u32, value: u32, digit: u8) -> Option<u32>
     requires low { 2 ≤ radix }
     requires high { radix ≤ 36 }

@@ -1,6 +1,5 @@
 //! The pieces of a line. A reader takes a text from the front, and answers what it read and what
 //! follows, or `None` where the text isn't what it reads.
-#![tactic(auto, unfolding(crate::specs::Words::word, crate::specs::Words::after_word, crate::specs::Words::after_spaces, crate::specs::Words::byte, crate::specs::Words::spaces, crate::specs::Words::comma, crate::specs::Words::is_end))]
 
 ghost use Rattle.std.specs.Prelude.{◌≡◌, ◌≤◌, ◌==◌, length, option_map};
 ghost use Rattle.std.specs.List.{prefix_len};

@@ -1,5 +1,4 @@
 //! Copies and fills within a slice, by lanes of 32 bytes and then byte by byte for the rest.
-#![tactic(auto, using(crate::proofs::Pieces::pieces))]
 
 ghost use Rattle.std.specs.Prelude.{◌≡◌, ◌≤◌, ◌<◌, ◌+◌, ◌-◌, ◌*◌, length, replicate};
 ghost use Rattle.raw_store.specs.Region.{copied, zeroed};
@@ -90,7 +89,6 @@ fn copy_lane(bytes: &mut [u8], from: usize, to: usize)
     lane.copy_to_slice(&mut bytes[to..]);
 }
 
-#[tactic(auto, using(crate::proofs::Pieces::copied_byte))]
 fn copy_byte(bytes: &mut [u8], from: usize, to: usize)
     requires source { from + 1 ≤ length bytes.old }
     requires target { to + 1 ≤ length bytes.old }
@@ -118,7 +116,6 @@ fn zero_bytes(bytes: &mut [u8], first: usize)
     }
 }
 
-#[tactic(auto, using(crate::proofs::Pieces::put_is_written))]
 fn zero_lane(bytes: &mut [u8], at: usize)
     requires { at + 32 ≤ length bytes.old }
     ensures { bytes.new ≡ zeroed bytes.old at 32 }
@@ -126,7 +123,6 @@ fn zero_lane(bytes: &mut [u8], at: usize)
     u8x32::splat(0).copy_to_slice(&mut bytes[at..]);
 }
 
-#[tactic(auto, using(crate::proofs::Pieces::zeroed_byte))]
 fn zero_byte(bytes: &mut [u8], at: usize)
     requires { at < length bytes.old }
     ensures { bytes.new ≡ zeroed bytes.old at 1 }

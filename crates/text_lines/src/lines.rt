@@ -65,7 +65,6 @@ impl<'a> Lines<'a> {
     }
 
     /// The next line, without its end.
-    #[tactic(auto, using(crate::proofs::LineLemmas::line_steps))]
     pub fn next_line(&mut self) -> Option<&'a [u8]>
         ensures line { self.old.left ≡ option_map_or (λ line. line.now ∷ self.new.left) result [] }
         ensures number { IfSome result (λ _. self.new.number ≡ self.old.number + 1) }
@@ -90,7 +89,6 @@ impl<'a> Lines<'a> {
 }
 
 /// The bytes before the first separator, and those after it where there is one.
-#[tactic(auto, using(crate::proofs::LineLemmas::cut_steps))]
 pub fn cut<'a>(bytes: &'a [u8], separator: u8) -> (&'a [u8], Option<&'a [u8]>)
     ensures parts { slice_split (λ b. b == separator) bytes.now
         ≡ result.0.now ∷ option_map_or (λ rest. slice_split (λ b. b == separator) rest.now) result.1 [] }
