@@ -76,7 +76,6 @@ impl Areas {
     /// `AreaUnknown` where no area has the number.
     ///
     /// RISC OS 3 Programmer's Reference Manual, "OS_ReadDynamicArea".
-    #[tactic(auto, unfolding(crate::specs::Areas::extent_asked))]
     pub fn read(&self, word: u32) -> Result<Extent, ErrorNumber>
         requires { IsAreaTable self.now.areas }
         ensures { result ≡ extent_asked self.now.areas word }
@@ -101,7 +100,6 @@ impl Areas {
     /// `AreaUnknown` where no area has the number.
     ///
     /// RISC OS 3 Programmer's Reference Manual, supplement, "OS_DynamicArea", reason 3.
-    #[tactic(auto, unfolding(crate::specs::Areas::next_number))]
     pub fn next(&self, number: u32) -> Result<u32, ErrorNumber>
         ensures { result ≡ next_number self.now.areas number }
     {

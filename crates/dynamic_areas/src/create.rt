@@ -33,7 +33,6 @@ impl Areas {
     /// are 32 areas; `AreaNoPages` where the pool is smaller.
     ///
     /// RISC OS 3 Programmer's Reference Manual, supplement, "OS_DynamicArea", reason 0.
-    #[tactic(auto, unfolding(crate::specs::Creating::created))]
     pub fn create(
         &mut self,
         map: &mut AddressMap,
@@ -72,7 +71,6 @@ impl Areas {
     /// # Errors
     ///
     /// Those of `create`, in their order.
-    #[tactic(auto, unfolding(crate::specs::Creating::area_wanted))]
     pub fn area_wanted(&self, free: u32, wanted: &Wanted, name: &[u8]) -> Result<Area, ErrorNumber>
         ensures { result ≡ area_wanted self.now free wanted.now name.now }
     {

@@ -29,7 +29,6 @@ pub(crate) fn is_in_window(base: u32, maximum: u32) -> bool
 }
 
 /// The lowest gap of the window that holds an area of that maximum.
-#[tactic(auto, unfolding(crate::specs::Creating::lowest_gap))]
 pub(crate) fn lowest_gap(areas: &[Area], maximum: u32) -> Option<u32>
     requires { maximum ≤ 16777216 }
     ensures { result ≡ lowest_gap areas.now maximum }

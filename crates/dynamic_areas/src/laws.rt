@@ -6,19 +6,16 @@ ghost use Rattle.dynamic_areas.specs.PageCounts.{AreasCountPages};
 
 /// Where a call is to choose an address, it takes the lowest page address of the window where the
 /// area, with its maximum, meets no other.
-#[tactic(auto, using(crate::proofs::Choices::lowest_gap_is))]
 pub fn the_lowest_gap_is_chosen()
     ensures { LowestGapIsChosen }
 {}
 
 /// Where a call is to choose a number, it takes the least that no area has.
-#[tactic(auto, using(crate::proofs::Choices::least_number_is))]
 pub fn the_least_number_is_chosen()
     ensures { LeastNumberIsChosen }
 {}
 
 /// An area that shrinks loses its pages from the top, up to the first that must stay.
-#[tactic(auto, using(crate::proofs::Choices::shrinks_to))]
 pub fn pages_go_down_to_the_first_that_stays()
     ensures { ShrinksToFirstHeld }
 {}

@@ -20,7 +20,6 @@ const BASE_WORD: u32 = 8;
 
 impl Areas {
     /// What `change` would answer.
-    #[tactic(auto, unfolding(crate::specs::Changing::change_answer))]
     pub fn measure(&self, map: &AddressMap, number: u32, amount: u32) -> Changed
         requires { AreAreas (store_of map.now) (free_pages map.now) self.now }
         ensures { result ≡ change_answer self.now.areas (store_of map.now) (free_pages map.now) number amount }
@@ -120,7 +119,6 @@ fn held_pages(map: &AddressMap, area: &Area) -> u32
 
 /// Whether the page at an address must stay an area's: it has a byte of a recorded range or of an
 /// anchor, or, in the module area, of what lies below its heap's base.
-#[tactic(auto, unfolding(crate::specs::Changing::must_stay))]
 fn must_stay(map: &AddressMap, number: u32, page: u32) -> bool
     requires sound { IsSound (store_of map.now) }
     requires heap { is_some (find_heap 0x01800000 (store_of map.now).heaps) ≡ true }

@@ -23,7 +23,6 @@ impl Areas {
     /// `AreaInUse` where it is the module area, or one of its pages must stay.
     ///
     /// RISC OS 3 Programmer's Reference Manual, supplement, "OS_DynamicArea", reason 1.
-    #[tactic(auto, unfolding(crate::specs::Changing::removed))]
     pub fn remove(&mut self, map: &mut AddressMap, number: u32) -> Result<(), ErrorNumber>
         requires areas { AreAreas (store_of map.old) (free_pages map.old) self.old }
         requires classes { AreClasses map.old }

@@ -105,7 +105,6 @@ pub(crate) fn is_created(number: u32) -> bool
 }
 
 /// Gives the area of a number another count of pages, if there is one.
-#[tactic(auto, using(crate::proofs::RoomLemmas::pages_none))]
 pub(crate) fn set_pages(areas: &mut ArrayVec<Area, MOST_AREAS>, number: u32, pages: u32)
     ensures { areas.new.items ≡ with_pages number pages areas.old.items }
 {
@@ -115,7 +114,6 @@ pub(crate) fn set_pages(areas: &mut ArrayVec<Area, MOST_AREAS>, number: u32, pag
 }
 
 /// Takes the area of a number out, if there is one.
-#[tactic(auto, using(crate::proofs::RoomLemmas::without_none))]
 pub(crate) fn take_area(areas: &mut ArrayVec<Area, MOST_AREAS>, number: u32) -> Option<Area>
     ensures taken { find_area number areas.old.items ≡ result }
     ensures rest { areas.new.items ≡ without_area number areas.old.items }
@@ -135,7 +133,6 @@ pub(crate) fn put_area(areas: &mut ArrayVec<Area, MOST_AREAS>, area: Area)
 }
 
 /// Gives an area another number. Nothing is changed where this is refused.
-#[tactic(auto, unfolding(crate::specs::Areas::renumbered))]
 pub(crate) fn renumber(
     areas: &mut ArrayVec<Area, MOST_AREAS>,
     old: u32,

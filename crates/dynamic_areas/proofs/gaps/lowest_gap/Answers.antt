@@ -2,6 +2,8 @@ use Rattle.std.proofs.Common.{◌≡◌, ◌+◌, ◌-◌, ◌*◌, true, sym, �
 use Rattle.dynamic_areas.specs.Rooms.{meets_area}
 use Rattle.dynamic_areas.proofs.Tables.{gap_passed}
 use Rattle.dynamic_areas.proofs.gaps.lowest_gap.Goals as goal
+use Rattle.std.proofs.Common.{rules}
+use Rattle.dynamic_areas.specs.Creating.{lowest_gap}
 
 pub loop-page-preserved : goal.loop-page-preserved
 loop-page-preserved c =
@@ -13,3 +15,11 @@ loop-page-preserved c =
     sym (gap_passed c.args.areas.now c.args.maximum (0x02000000 + 4096 * c.loop-page.page) (c.gap_count-count.result - c.loop-page.page) met (omega arith))
     ∙ c.loop-page.invariant
     )
+
+pub returns-then-not-meets_area : goal.returns-then-not-meets_area
+unfolding lowest_gap
+returns-then-not-meets_area c = search rules
+
+pub returns : goal.returns
+unfolding lowest_gap
+returns c = search rules

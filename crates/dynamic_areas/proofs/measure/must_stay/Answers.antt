@@ -7,6 +7,7 @@ use Rattle.os_heap.specs.Store.{store_of}
 use Rattle.os_heap.proofs.RangeTests.{meets_recorded}
 use Rattle.dynamic_areas.specs.Changing.{must_stay}
 use Rattle.dynamic_areas.proofs.measure.must_stay.Goals as goal
+use Rattle.std.proofs.Common.{rules}
 
 pub returns-then-meets_record : goal.returns-then-meets_record
 unfolding must_stay
@@ -25,3 +26,7 @@ returns-else-meets_record c =
     let all : (c.meets_record.result || anchor_among (anchor_of m) c.args.page 4096) ≡ meets_any c.args.page 4096 (store_of m) =
     ap (λ (t : Bool). t || anchor_among (anchor_of m) c.args.page 4096) c.meets_record.ensures ∙ meets_recorded m c.args.page 4096 in
     rw (ne_eqb c.args.number 1 c.if-number-eq-MODULE_AREA.false) (c.anchor_in.ensures ∙ (rw no at all))
+
+pub returns-then-number-eq-MODULE_AREA : goal.returns-then-number-eq-MODULE_AREA
+unfolding must_stay
+returns-then-number-eq-MODULE_AREA c = search rules

@@ -8,6 +8,7 @@ use Rattle.dynamic_areas.proofs.PutLemmas.{find_with, ground_put, paged_with}
 use Rattle.dynamic_areas.proofs.RoomLemmas.{find_with_other}
 use Rattle.dynamic_areas.proofs.WantedLemmas.{IsWanted, wanted_area}
 use Rattle.dynamic_areas.proofs.areas.Areas.create.Goals as goal
+use Rattle.std.proofs.Common.{rules}
 
 pub put_area-requires : goal.put_area-requires
 put_area-requires c =
@@ -79,3 +80,7 @@ returns-clause-areas c =
       ground = c.grow.ensures.ground;
       heap = rw (heaps, after, find_with_other a 1 c.args.self.now.areas w.other) c.requires.areas.heap;
     }
+
+pub returns-in_err-area-clause-land : goal.returns-in_err-area-clause-land
+unfolding created
+returns-in_err-area-clause-land c = search rules

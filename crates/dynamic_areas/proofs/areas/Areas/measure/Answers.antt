@@ -1,6 +1,8 @@
 use Rattle.std.proofs.Common.{sym}
 use Rattle.dynamic_areas.proofs.RoomLemmas.{found_room}
 use Rattle.dynamic_areas.proofs.areas.Areas.measure.Goals as goal
+use Rattle.std.proofs.Common.{rules}
+use Rattle.dynamic_areas.specs.Changing.{change_answer}
 
 pub growth_room-requires : goal.growth_room-requires
 growth_room-requires c =
@@ -11,3 +13,15 @@ pub loose_pages-requires-clause-room : goal.loose_pages-requires-clause-room
 loose_pages-requires-clause-room c =
     let e = rw c.list.ensures.value at c.in-Some.ensures in
     found_room c.args.number c.args.self.now.areas c.in-Some.area.now c.requires.ground.table.rooms (sym e)
+
+pub returns-in_default : goal.returns-in_default
+unfolding change_answer
+returns-in_default c = search rules
+
+pub returns-then-is_growth : goal.returns-then-is_growth
+unfolding change_answer
+returns-then-is_growth c = search rules
+
+pub returns-else-is_growth : goal.returns-else-is_growth
+unfolding change_answer
+returns-else-is_growth c = search rules

@@ -10,6 +10,8 @@ use Rattle.dynamic_areas.proofs.LooseLemmas.{loose_created}
 use Rattle.dynamic_areas.proofs.PutLemmas.{areas_removed, without_paged}
 use Rattle.dynamic_areas.proofs.RoomLemmas.{found_number, found_room}
 use Rattle.dynamic_areas.proofs.areas.Areas.remove.Goals as goal
+use Rattle.std.proofs.Common.{rules}
+use Rattle.dynamic_areas.specs.Changing.{removed}
 
 pub loose_pages-requires-clause-room : goal.loose_pages-requires-clause-room
 loose_pages-requires-clause-room c =
@@ -50,3 +52,15 @@ returns-clause-areas c =
     (let store = rw (← e) at c.shrink.ensures.store in ap (λ (s : Store). s.heaps) store) in
     rw after (areas_removed (store_of c.args.map.now) (store_of c.shrink.new.map) (free_pages c.shrink.new.map) c.args.self.now c.args.number a (sym e)
     c.if-number-eq-MODULE_AREA.false ground heaps c.requires.areas.heap)
+
+pub returns-in_default-clause-land : goal.returns-in_default-clause-land
+unfolding removed
+returns-in_default-clause-land c = search rules
+
+pub returns-then-number-eq-MODULE_AREA-clause-land : goal.returns-then-number-eq-MODULE_AREA-clause-land
+unfolding removed
+returns-then-number-eq-MODULE_AREA-clause-land c = search rules
+
+pub returns-then-loose_pages-pages-clause-land : goal.returns-then-loose_pages-pages-clause-land
+unfolding removed
+returns-then-loose_pages-pages-clause-land c = search rules
