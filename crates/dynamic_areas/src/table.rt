@@ -133,6 +133,7 @@ pub(crate) fn put_area(areas: &mut ArrayVec<Area, MOST_AREAS>, area: Area)
 }
 
 /// Gives an area another number. Nothing is changed where this is refused.
+#[tactic(auto, unfolding(crate::specs::Areas::renumbered))]
 pub(crate) fn renumber(
     areas: &mut ArrayVec<Area, MOST_AREAS>,
     old: u32,

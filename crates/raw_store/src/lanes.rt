@@ -12,6 +12,7 @@ const LANE: usize = 32;
 ///
 /// Each piece is read before it is written over: from the first piece on where the bytes go down,
 /// and from the last one back where they go up.
+#[tactic(auto, using(crate::proofs::Pieces::pieces))]
 pub(crate) fn copy(bytes: &mut [u8], from: usize, to: usize, len: usize)
     requires source { from + len ≤ length bytes.old }
     requires target { to + len ≤ length bytes.old }

@@ -3,8 +3,6 @@ use Rattle.std.specs.Prelude.{is_some}
 use Rattle.dynamic_areas.specs.Areas.{find_area, is_created}
 use Rattle.dynamic_areas.proofs.RoomLemmas.{table_renumbered}
 use Rattle.dynamic_areas.proofs.table.renumber.Goals as goal
-use Rattle.std.proofs.Common.{rules}
-use Rattle.dynamic_areas.specs.Areas.{renumbered}
 
 pub returns-in-Some-clause-table : goal.returns-in-Some-clause-table
 returns-in-Some-clause-table c =
@@ -13,19 +11,3 @@ returns-in-Some-clause-table c =
     rw (c.put_area.ensures, c.take_area.ensures.rest)
     (table_renumbered c.args.areas.now.items c.args.old c.args.new c.in-Some.area c.requires c.in-Some.ensures.taken
     c.if-old-eq-MODULE_AREA.false good free)
-
-pub returns-then-not-has_area-clause-areas : goal.returns-then-not-has_area-clause-areas
-unfolding renumbered
-returns-then-not-has_area-clause-areas c = search rules
-
-pub returns-then-old-eq-MODULE_AREA-clause-areas : goal.returns-then-old-eq-MODULE_AREA-clause-areas
-unfolding renumbered
-returns-then-old-eq-MODULE_AREA-clause-areas c = search rules
-
-pub returns-then-has_area-clause-areas : goal.returns-then-has_area-clause-areas
-unfolding renumbered
-returns-then-has_area-clause-areas c = search rules
-
-pub returns-in-Some-clause-areas : goal.returns-in-Some-clause-areas
-unfolding renumbered
-returns-in-Some-clause-areas c = search rules
