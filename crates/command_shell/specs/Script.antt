@@ -1,8 +1,8 @@
 -- What a script does and what it is answered, line by line, over the written machine.
-use Rattle.std.specs.Prelude.{ℕ, Bool, true, false, ◌+◌, List, [], ◌∷◌, ◌++◌, Option, Some, None}
+use Rattle.std.specs.Prelude.{ℕ, Bool, true, false, ◌+◌, List, [], ◌∷◌, ◌++◌, Option, Some, None, is_none}
 use Rattle.std.specs.Str.Lines.{lines}
 use Rattle.profile.specs.Sizes.{Sizes}
-use Rattle.image_loader.specs.Entries.{Entry}
+use Rattle.image_loader.specs.Entries.{Entry, refusal_for}
 use Rattle.command_shell.specs.Answers.{unknown_text}
 use Rattle.command_shell.specs.Calls.{call_told, load_told}
 use Rattle.command_shell.specs.Images.{hex_told, asm_told, boot_told}
@@ -36,6 +36,12 @@ request_told s number Areas block = areas_told s
 request_told s number Modules block = modules_told s
 request_told s number Flex block = flex_told s
 request_told s number Unknown block = answer s (unknown_text number)
+
+-- The requests that take host memory: those that open a block, for its image, where the name and the table allow one.
+abbrev pub takes_memory : List Entry → Request → Bool
+takes_memory images (Hex name) = is_none (refusal_for images name 0)
+takes_memory images (Asm name origin) = is_none (refusal_for images name 0)
+takes_memory images request = false
 
 -- a block whose end has not come yet: the request that opened it, the number of its line, and the block's lines so far
 pub record OpenBlock : Type 0 where
