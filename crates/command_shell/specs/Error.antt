@@ -1,4 +1,5 @@
--- Which errors the parts of a run can have.
+-- Which errors the parts of a run can have, and the texts of a run's errors.
+use Rattle.std.specs.Prelude.{ℕ, List, codes}
 use Rattle.command_shell_lines.specs.declared.error.ReadingError.{ReadingError}
 use Rattle.command_shell_lines.specs.declared.error.ReadingError.TheVariants as reading
 use Rattle.command_shell.specs.declared.error.RunError.{RunError}
@@ -16,3 +17,9 @@ IsLineError Memory = Unit {0}
 IsLineError ReadFault = ⊥
 IsLineError WriteFault = Unit {0}
 IsLineError ScriptTooLong = ⊥
+
+abbrev pub run_error_text : RunError → List ℕ
+run_error_text Memory = codes "no memory for the script, the machine or an image"
+run_error_text ReadFault = codes "the script can't be read"
+run_error_text WriteFault = codes "the answers can't be written"
+run_error_text ScriptTooLong = codes "the script has more than 1,048,576 bytes"

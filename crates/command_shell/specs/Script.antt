@@ -1,8 +1,8 @@
 -- What a script does and what it is answered, line by line, over the written machine.
-use Rattle.std.specs.Prelude.{ℕ, Bool, true, false, ◌+◌, List, [], ◌∷◌, ◌++◌, Option, Some, None}
+use Rattle.std.specs.Prelude.{ℕ, Bool, true, false, ◌+◌, List, [], ◌∷◌, ◌++◌, Option, Some, None, is_none}
 use Rattle.std.specs.Str.Lines.{lines}
 use Rattle.profile.specs.Sizes.{Sizes}
-use Rattle.image_loader.specs.Entries.{Entry}
+use Rattle.image_loader.specs.Entries.{Entry, refusal_for}
 use Rattle.command_shell.specs.Answers.{unknown_text}
 use Rattle.command_shell.specs.Calls.{call_told, load_told}
 use Rattle.command_shell.specs.Images.{hex_told, asm_told, boot_told}
@@ -39,6 +39,10 @@ request_told s number Unknown block = answer s (unknown_text number)
 
 -- a block whose end has not come yet: the request that opened it, the number of its line, and the
 -- block's lines so far
+abbrev pub takes_memory : List Entry → Request → Bool
+takes_memory images (Hex name) = is_none (refusal_for images name 0)
+takes_memory images (Asm name origin) = is_none (refusal_for images name 0)
+takes_memory images request = false
 pub record OpenBlock : Type 0 where
   pub request : Request
   pub number : ℕ

@@ -1,6 +1,6 @@
 //! The lines that hand in an image and boot one: HEX, ASM and BOOT.
 
-ghost use Rattle.std.specs.Prelude.{◌≡◌, ◌+◌, true, IfErr, OnOk, OnErr};
+ghost use Rattle.std.specs.Prelude.{◌≡◌, ◌+◌, true, None, IfErr, IsOk, OnOk, OnErr};
 ghost use Rattle.command_shell_lines.specs.Blocks.{block_lines, after_block, block_size, result_of_block};
 ghost use Rattle.command_shell.specs.Error.{IsLineError};
 ghost use Rattle.command_shell.specs.Fronts.{AreOldOrTold};
@@ -16,6 +16,7 @@ use image_loader::{ImageError, Images};
 use profile::{Sink, WriteFault};
 
 impl Session {
+    ghost use Rattle.image_loader.specs.Entries.{refusal_for};
     ghost use Rattle.command_shell.specs.Images.{asm_told, asm_block, hex_told, hex_block, image_sized, boot_told};
     ghost use Rattle.command_shell.specs.Session.{script_state};
     ghost use Rattle.command_shell.specs.State.{IsAnswered};
@@ -31,6 +32,7 @@ impl Session {
         ensures told { OnOk result (IsAnswered (W.contents sink.old) (W.contents sink.new)
             (script_state self.now images.new)
             (hex_told (script_state self.now images.old) name.now (block_lines script.old.left))) }
+        ensures taking { result ≡ Err RunError.Memory → refusal_for images.old name.now 0 ≡ None }
         ensures left { OnOk result (script.new.left ≡ after_block script.old.left) }
         ensures number { OnOk result (script.new.number ≡ script.old.number + block_size script.old.left) }
         ensures memory { result ≡ Err RunError.Memory → sink.new ≡ sink.old }
@@ -59,6 +61,7 @@ impl Session {
         ensures told { OnOk result (IsAnswered (W.contents sink.old) (W.contents sink.new)
             (script_state self.now images.new)
             (hex_block (script_state self.now images.old) name.now (result_of_block block.now))) }
+        ensures taking { result ≡ Err RunError.Memory → IsOk (result_of_block block.now) }
         ensures memory { result ≡ Err RunError.Memory → sink.new ≡ sink.old }
         ensures write_fault { result ≡ Err RunError.WriteFault → W.has_failed sink.new ≡ true }
         ensures images { OnErr result (AreOldOrTold images.old images.new
@@ -84,6 +87,7 @@ impl Session {
         ensures told { OnOk result (IsAnswered (W.contents sink.old) (W.contents sink.new)
             (script_state self.now images.new)
             (asm_told (script_state self.now images.old) name.now origin (block_lines script.old.left))) }
+        ensures taking { result ≡ Err RunError.Memory → refusal_for images.old name.now 0 ≡ None }
         ensures left { OnOk result (script.new.left ≡ after_block script.old.left) }
         ensures number { OnOk result (script.new.number ≡ script.old.number + block_size script.old.left) }
         ensures memory { result ≡ Err RunError.Memory → sink.new ≡ sink.old }
@@ -116,6 +120,7 @@ impl Session {
             (asm_block (script_state self.now images.old) name.now answer.now)) }
         ensures no_memory { answer.now ≡ Err (record { line = 0; reason = Reason.Memory })
             → result ≡ Err RunError.Memory }
+        ensures taking { IfErr answer.now (λ e. result ≡ Err RunError.Memory → e.reason ≡ Reason.Memory) }
         ensures memory { result ≡ Err RunError.Memory → sink.new ≡ sink.old }
         ensures write_fault { result ≡ Err RunError.WriteFault → W.has_failed sink.new ≡ true }
         ensures images { OnErr result (AreOldOrTold images.old images.new

@@ -29,7 +29,7 @@ pub struct Session {
 impl Session {
     ghost use Rattle.image_loader.specs.Entries.{Entry};
     ghost use Rattle.command_shell_lines.specs.Requests.{opens_block, request_of_command};
-    ghost use Rattle.command_shell.specs.Script.{request_told};
+    ghost use Rattle.command_shell.specs.Script.{request_told, takes_memory};
     ghost use Rattle.command_shell.specs.Session.{script_state, state_on};
     ghost use Rattle.command_shell.specs.State.{IsAnswered};
 
@@ -64,7 +64,7 @@ impl Session {
     ///
     /// # Errors
     ///
-    /// `Memory`, and nothing is written then; `WriteFault`.
+    /// `Memory` for an image that is let in, and nothing is written then; `WriteFault`.
     pub fn answer<W: Sink>(
         &mut self,
         images: &mut Images,
@@ -81,7 +81,8 @@ impl Session {
         ensures number { OnOk result (script.new.number
             ≡ script.old.number + lines_taken (opens_block (request_of_command command.entry)) script.old.left) }
         ensures memory { result ≡ Err RunError.Memory → sink.new ≡ sink.old }
-        ensures taking { result ≡ Err RunError.Memory → opens_block (request_of_command command.entry) ≡ true }
+        ensures taking { result ≡ Err RunError.Memory
+            → takes_memory images.old (request_of_command command.entry) ≡ true }
         ensures write_fault { result ≡ Err RunError.WriteFault → W.has_failed sink.new ≡ true }
         ensures images { OnErr result (AreOldOrTold images.old images.new
             (request_told (script_state self.old images.old) script.old.number

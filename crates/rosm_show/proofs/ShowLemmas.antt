@@ -1,8 +1,8 @@
 -- The images of the files one after another, and the whole run.
-use Rattle.std.proofs.Common.{◌≡◌, ◌++◌, ◌∷◌, [], ◌+◌, ℕ, List, take, slice_get, Option, None, Some, IfSome, sym, ◌∙◌, ap, subst}
-use Rattle.std.proofs.lemmas.List.{map-append, take_more}
+use Rattle.std.proofs.Common.{◌≡◌, ◌++◌, ◌∷◌, [], ◌+◌, ℕ, List, take, slice_get, Option, None, Some, IfSome, sym, ◌∙◌, ap, subst, refl}
+use Rattle.std.proofs.lemmas.List.{append-nil, map-append, take_more}
 use Rattle.std.proofs.lemmas.Option.{get_or_from_slice_get, slice_get_within}
-use Rattle.std.specs.Io.KnownBytes.{Appends, Keeps}
+use Rattle.std.specs.Io.KnownBytes.{Appends, Keeps, append_known}
 use Rattle.std.specs.Path.{path_file_name}
 use Rattle.profile.specs.declared.stop.Stop.{Stop}
 use Rattle.rosm_settings.specs.ImageFiles.{names_for}
@@ -78,4 +78,27 @@ shows_page front back wanted script before after last setting bytes entries size
       steps = steps;
       written = written;
       stop = known_stop setting bytes last script read stop;
+    }
+
+-- what is written through a buffer that was empty, and then handed on, stands in the stream below
+empty_buffer : (o : Option (List ℕ)) → append_known o [] ≡ o
+empty_buffer None = refl
+empty_buffer (Some bytes) = ap Some (append-nil bytes)
+
+pub page_below : (front back : List ℕ) (wanted : Wanted) (script before start above below : Option (List ℕ)) (last : Option Stop)
+    → start ≡ append_known before [] → Keeps above below → ShowsPage front back wanted script start above last
+    → ShowsPage front back wanted script before below last
+page_below front back wanted script before start above below last e kept shows =
+    let from : IsWritten front back wanted.form shows.entries before above =
+    subst (λ (o : Option (List ℕ)). IsWritten front back wanted.form shows.entries o above) (e ∙ empty_buffer before) shows.written in
+    record {
+      setting = shows.setting;
+      entries = shows.entries;
+      sizes = shows.sizes;
+      budget = shows.budget;
+      named = shows.named;
+      page = shows.page;
+      steps = shows.steps;
+      written = written_kept front back wanted.form shows.entries shows.entries before above below refl from kept;
+      stop = shows.stop;
     }

@@ -15,6 +15,7 @@ pub use Rattle.instances_table
 pub mod Additions
 pub mod Answers
 pub mod Boot
+pub mod BootErrors
 pub mod Calls
 pub mod Ending
 pub mod Errors
