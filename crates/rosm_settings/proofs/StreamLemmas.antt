@@ -49,22 +49,23 @@ status_of_run (Err (refusal.File path error)) of_run = refl
 status_of_run (Err (refusal.Script error)) of_run = refl
 
 -- what is written through a buffer that was empty, and then handed on, stands in the stream below
-empty_buffer : (o : Option (List ℕ)) → append_known o [] ≡ o
+pub empty_buffer : (o : Option (List ℕ)) → append_known o [] ≡ o
 empty_buffer None = refl
 empty_buffer (Some bytes) = ap Some (append-nil bytes)
 
-Appends-kept : (a b c : Option (List ℕ)) (xs : List ℕ) → Appends a b xs → Keeps b c → Appends a c xs
-Appends-kept None b c xs h k = tt
-Appends-kept (Some a) None c xs h k = absurd h
-Appends-kept (Some a) (Some b) None xs h k = absurd k
-Appends-kept (Some a) (Some b) (Some c) xs h k = k ∙ h
+-- a writer that hands on what it holds back
+pub appends_kept : (a b c : Option (List ℕ)) (xs : List ℕ) → Appends a b xs → Keeps b c → Appends a c xs
+appends_kept None b c xs h k = tt
+appends_kept (Some a) None c xs h k = absurd h
+appends_kept (Some a) (Some b) None xs h k = absurd k
+appends_kept (Some a) (Some b) (Some c) xs h k = k ∙ h
 
 text_below : (script before above below : Option (List ℕ)) (text : List ℕ → List ℕ) → Keeps above below
     → IfSome script (λ bytes. Appends (append_known before []) above (text bytes))
     → IfSome script (λ bytes. Appends before below (text bytes))
 text_below None before above below text kept appends = tt
 text_below (Some bytes) before above below text kept appends =
-    Appends-kept before above below (text bytes)
+    appends_kept before above below (text bytes)
     (subst (λ (o : Option (List ℕ)). Appends o above (text bytes)) (empty_buffer before) appends) kept
 
 pub answers_below : {F : Type 0} (of_file : F → Option (List ℕ)) (settings : Settings)

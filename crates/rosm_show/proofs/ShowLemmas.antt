@@ -5,6 +5,7 @@ use Rattle.std.proofs.lemmas.Option.{get_or_from_slice_get, slice_get_within}
 use Rattle.std.specs.Io.KnownBytes.{Appends, Keeps, append_known}
 use Rattle.std.specs.Path.{path_file_name}
 use Rattle.profile.specs.declared.stop.Stop.{Stop}
+use Rattle.rosm_settings.proofs.StreamLemmas.{appends_kept, empty_buffer}
 use Rattle.rosm_settings.specs.ImageFiles.{names_for}
 use Rattle.script_page.specs.Page.{AreShown, HasSteps, IsPage, left_behind}
 use Rattle.script_page.specs.Setting.{told_by}
@@ -41,13 +42,6 @@ known_stop : (setting : Setting) (bytes : List ℕ) (last : Option Stop) (script
 known_stop setting bytes last None is stop = tt
 known_stop setting bytes last (Some told) is stop = stop ∙ ap (λ b. (told_by setting b).state.last) is
 
--- a writer that hands on what it holds back
-appends_kept : (a b c : Option (List ℕ)) (xs : List ℕ) → Appends a b xs → Keeps b c → Appends a c xs
-appends_kept None b c xs h k = tt
-appends_kept (Some a) None c xs h k = absurd h
-appends_kept (Some a) (Some b) None xs h k = absurd k
-appends_kept (Some a) (Some b) (Some c) xs h k = k ∙ h
-
 -- the page of the entries that were lent is that of the entries
 pub written_kept : (front back : List ℕ) (form : Form) (lent entries : List Entry) (before between after : Option (List ℕ))
     → lent ≡ entries → IsWritten front back form lent before between → Keeps between after
@@ -79,11 +73,6 @@ shows_page front back wanted script before after last setting bytes entries size
       written = written;
       stop = known_stop setting bytes last script read stop;
     }
-
--- what is written through a buffer that was empty, and then handed on, stands in the stream below
-empty_buffer : (o : Option (List ℕ)) → append_known o [] ≡ o
-empty_buffer None = refl
-empty_buffer (Some bytes) = ap Some (append-nil bytes)
 
 pub page_below : (front back : List ℕ) (wanted : Wanted) (script before start above below : Option (List ℕ)) (last : Option Stop)
     → start ≡ append_known before [] → Keeps above below → ShowsPage front back wanted script start above last
