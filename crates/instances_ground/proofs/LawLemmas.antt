@@ -1,5 +1,5 @@
 -- The images of a world are held whole, and share no byte.
-use Rattle.std.proofs.Common.{◌≡◌, ◌≤◌, ◌%◌, ◌⊎◌, ℕ, Bool, false, List, [], ◌∷◌, ◌++◌, map, refl, subst, inl, inr, arith}
+use Rattle.std.proofs.Common.{◌≡◌, ◌≤◌, ◌%◌, ℕ, Bool, false, List, [], ◌∷◌, ◌++◌, map, refl, subst, inl, inr, arith}
 use Rattle.std.specs.List.{AllByRecursion}
 use Rattle.std.proofs.lemmas.Bool.{cases_Bool}
 use Rattle.rma.specs.address_map.specs.Bytes.{AreMapped}

@@ -132,12 +132,12 @@ halted_goes : (h : Halt) → Some h ≡ None → ⊥
 halted_goes h is = cc
 
 clear_tells : (x : Bool) (s : MachineState) (next : ℕ) (o : Outcome) → o.now.cpu.psr.overflow ≡ false → TellsRefusal x s next o
-clear_tells true s next o clear set = absurd (false≢true (sym clear ∙ set))
-clear_tells false s next o clear goes = clear
+clear_tells true s next o clear = λ set. absurd (false≢true (sym clear ∙ set))
+clear_tells false s next o clear = λ goes. clear
 
 refused_tells : (x : Bool) (s : MachineState) (next : ℕ) (e : Refusal) → TellsRefusal x s next (ended s x (refused s next e))
-refused_tells true s next e set = refused_as s next e
-refused_tells false s next e goes = absurd (halted_goes _ goes)
+refused_tells true s next e = λ set. refused_as s next e
+refused_tells false s next e = λ goes. absurd (halted_goes _ goes)
 
 ended_tells : (x : Bool) (s : MachineState) (next : ℕ) (a : Answer) → IsClean s next a → TellsRefusal x s next (ended s x a)
 unfolding returned

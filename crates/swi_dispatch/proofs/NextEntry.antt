@@ -44,11 +44,14 @@ unfolding entry_or
 entry_among k slot r10 ms None = refl
 entry_among k slot r10 ms (Some place) = entry_in k slot r10 place.instance (slice_get ms place.number)
 
+abbrev some_entry : CodeKind × ℕ → Option (CodeKind × ℕ)
+some_entry e = Some e
+
 entry_entered : (k : CodeKind) (slot r10 : ℕ) (ms : List Module) (code : Code) → entered k slot r10 ms ≡ Some code
-    → Some (k, slot) ≡ Some (code.kind, code.slot)
+    → some_entry (k, slot) ≡ some_entry (code.kind, code.slot)
 unfolding entry_or
 entry_entered k slot r10 ms code is =
-    ap (λ (e : CodeKind × ℕ). Some e)
+    ap some_entry
     (sym (entry_among k slot r10 ms (place_of_slot slot ms)) ∙ ap (entry_or k slot) is)
 
 entry_of_code : (ms : List Module) (a : Action) (code : Code) → code_among ms a ≡ Some code
