@@ -2,6 +2,7 @@
 
 ghost use Rattle.std.specs.Prelude.{Some};
 ghost use Rattle.swi_dispatch.specs.BootErrors.{boot_error_name};
+
 use std::error::Error;
 use std::fmt;
 
