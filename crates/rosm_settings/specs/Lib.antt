@@ -3,4 +3,3 @@ pub use Rattle.command_line
 pub mod Answering
 pub mod Endings
 pub mod ImageFiles
-pub mod Texts

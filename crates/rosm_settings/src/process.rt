@@ -6,15 +6,14 @@ ghost use Rattle.command_line.specs.Settings.{settings_for};
 ghost use Rattle.command_shell.specs.declared.error.RunError.TheVariants.{ScriptTooLong};
 ghost use Rattle.rosm_settings.specs.Answering.{StopsWithScript, TellsOfFile, TellsTooMuch};
 ghost use Rattle.rosm_settings.specs.Endings.{IsRefusalOf, TellsEnding, TellsLine, refusal_status, status_of, words_refused};
-ghost use Rattle.rosm_settings.specs.Texts.{refusal_text};
 
-use crate::answering::run_to_stream;
+use crate::answering::run;
 use crate::refusal::Refusal;
 use command_line::{Settings, SettingsError, line_reason, settings, sizes_reason, stop_status};
 use profile::{Device, Sink, Stop, WriteFault, push_parts};
 use std::alloc::{AllocError, Global};
 use std::env::Env;
-use std::io::ErrorKind;
+use std::io::{BufWriter, ErrorKind};
 use std::process::ExitCode;
 use std::{env, fs, io};
 
@@ -72,7 +71,7 @@ fn texts_of<'a>(alloc: Global, words: &'a [String]) -> Result<Vec<&'a str>, Allo
 ///
 /// # Errors
 ///
-/// As [`run_to_stream`].
+/// As [`run`]; and `Memory` where there is none for the output's buffer.
 pub fn run_on_standard_streams<'a, R>(
     rt: &R,
     settings: &'a Settings,
@@ -84,9 +83,11 @@ where
     ensures files { IfErr result (TellsOfFile R.File.Read.remaining settings.entry.now.files) }
     ensures too_long { result ≡ Err (Refusal.Script ScriptTooLong) → TellsTooMuch R.Reader.Read.remaining }
 {
-    let mut input = Device::new(rt.reader());
-    let (last, _) = run_to_stream(rt, settings, &mut input, io::writer(rt))?;
-    Ok(last)
+    let Ok(buffered) = BufWriter::new(rt.alloc(), io::writer(rt)) else {
+        return Err(Refusal::Memory);
+    };
+    let mut writer = Device::new(buffered);
+    run(rt, settings, &mut Device::new(rt.reader()), &mut writer)
 }
 
 /// The exit status, with one line on standard error, `errors`, where the program is refused.
@@ -114,8 +115,7 @@ fn tell_refusal<W: Sink>(
     errors: &mut W,
     refusal: &Refusal<'_>,
 ) -> Result<(), WriteFault>
-    ensures line { OnOk result
-        (TellsLine (refusal_text refusal.now) (W.contents errors.old) (W.contents errors.new)) }
+    ensures line { OnOk result (TellsLine (W.contents errors.old) (W.contents errors.new)) }
     ensures flag { OnErr result (W.has_failed errors.new ≡ true) }
 {
     match format!(in alloc; "{refusal}") {

@@ -3,26 +3,31 @@
 ghost use Rattle.std.specs.Prelude.{◌≡◌};
 
 use crate::image_files::FileError;
-use command_line::USAGE;
+use command_line::{SettingsError, USAGE};
 use command_shell::RunError;
 use std::alloc::AllocError;
-use std::error::Error;
-use std::fmt;
+use thiserror::Error;
 
 /// Why the program ends without having run its script whole. The text is one line.
-#[derive(Debug, PartialEq, Eq, Drop)]
+#[derive(Debug, PartialEq, Eq, Drop, Error)]
 pub enum Refusal<'a> {
     /// Memory ran out while the command line was read.
+    #[error("{}", SettingsError::Memory)]
     Memory,
     /// A word of the command line is no text.
+    #[error("a word is not text in UTF-8; {usage}", usage = USAGE)]
     NotText,
     /// The words are no command line; the text says what is wrong with them.
+    #[error("{0}; {usage}", usage = USAGE)]
     Line(String),
     /// No machine can have the sizes of the command line; the text says which, and by what rule.
+    #[error("{0}; {usage}", usage = USAGE)]
     Sizes(String),
     /// The file of this path is no image, for this reason.
+    #[error("{0:?}: {1}")]
     File(&'a str, FileError),
     /// The script can't be run whole, for this reason.
+    #[error("{0}")]
     Script(RunError),
 }
 
@@ -39,26 +44,6 @@ impl Refusal<'_> {
         }
     }
 }
-
-/// A path stands in quotes, as Rust writes them.
-impl fmt::Display for Refusal<'_> {
-    ghost use Rattle.rosm_settings.specs.Texts.{refusal_text};
-
-    ghost output = { refusal_text };
-
-    fn fmt<W: fmt::Write>(&self, f: &mut fmt::Formatter<W>) -> fmt::Result {
-        match self {
-            Refusal::Memory => f.write_str("out of memory"),
-            Refusal::NotText => write!(f, "a word is not text in UTF-8; {USAGE}"),
-            Refusal::Line(reason) => write!(f, "{reason}; {USAGE}"),
-            Refusal::Sizes(reason) => write!(f, "{reason}; {USAGE}"),
-            Refusal::File(path, error) => write!(f, "{path:?}: {error}"),
-            Refusal::Script(error) => write!(f, "{error}"),
-        }
-    }
-}
-
-impl Error for Refusal<'_> {}
 
 impl<'a> From<AllocError> for Refusal<'a> {
     ghost use Rattle.rosm_settings.specs.declared.refusal.Refusal.TheVariants.{Memory};

@@ -1,11 +1,10 @@
 -- The images of the files one after another, and the whole run.
-use Rattle.std.proofs.Common.{◌≡◌, ◌++◌, ◌∷◌, [], ◌+◌, ℕ, List, take, slice_get, Option, None, Some, IfSome, sym, ◌∙◌, ap, subst, refl}
-use Rattle.std.proofs.lemmas.List.{append-nil, map-append, take_more}
+use Rattle.std.proofs.Common.{◌≡◌, ◌++◌, ◌∷◌, [], ◌+◌, ℕ, List, take, slice_get, Option, None, Some, IfSome, sym, ◌∙◌, ap, subst}
+use Rattle.std.proofs.lemmas.List.{map-append, take_more}
 use Rattle.std.proofs.lemmas.Option.{get_or_from_slice_get, slice_get_within}
-use Rattle.std.specs.Io.KnownBytes.{Appends, Keeps, append_known}
+use Rattle.std.specs.Io.KnownBytes.{Appends, Keeps}
 use Rattle.std.specs.Path.{path_file_name}
 use Rattle.profile.specs.declared.stop.Stop.{Stop}
-use Rattle.rosm_settings.proofs.StreamLemmas.{appends_kept, empty_buffer}
 use Rattle.rosm_settings.specs.ImageFiles.{names_for}
 use Rattle.script_page.specs.Page.{AreShown, HasSteps, IsPage, left_behind}
 use Rattle.script_page.specs.Setting.{told_by}
@@ -42,6 +41,13 @@ known_stop : (setting : Setting) (bytes : List ℕ) (last : Option Stop) (script
 known_stop setting bytes last None is stop = tt
 known_stop setting bytes last (Some told) is stop = stop ∙ ap (λ b. (told_by setting b).state.last) is
 
+-- a writer that hands on what it holds back
+appends_kept : (a b c : Option (List ℕ)) (xs : List ℕ) → Appends a b xs → Keeps b c → Appends a c xs
+appends_kept None b c xs h k = tt
+appends_kept (Some a) None c xs h k = absurd h
+appends_kept (Some a) (Some b) None xs h k = absurd k
+appends_kept (Some a) (Some b) (Some c) xs h k = k ∙ h
+
 -- the page of the entries that were lent is that of the entries
 pub written_kept : (front back : List ℕ) (form : Form) (lent entries : List Entry) (before between after : Option (List ℕ))
     → lent ≡ entries → IsWritten front back form lent before between → Keeps between after
@@ -72,22 +78,4 @@ shows_page front back wanted script before after last setting bytes entries size
       steps = steps;
       written = written;
       stop = known_stop setting bytes last script read stop;
-    }
-
-pub page_below : (front back : List ℕ) (wanted : Wanted) (script before start above below : Option (List ℕ)) (last : Option Stop)
-    → start ≡ append_known before [] → Keeps above below → ShowsPage front back wanted script start above last
-    → ShowsPage front back wanted script before below last
-page_below front back wanted script before start above below last e kept shows =
-    let from : IsWritten front back wanted.form shows.entries before above =
-    subst (λ (o : Option (List ℕ)). IsWritten front back wanted.form shows.entries o above) (e ∙ empty_buffer before) shows.written in
-    record {
-      setting = shows.setting;
-      entries = shows.entries;
-      sizes = shows.sizes;
-      budget = shows.budget;
-      named = shows.named;
-      page = shows.page;
-      steps = shows.steps;
-      written = written_kept front back wanted.form shows.entries shows.entries before above below refl from kept;
-      stop = shows.stop;
     }

@@ -5,10 +5,11 @@ ghost use Rattle.std.specs.Process.{exit_status};
 ghost use Rattle.rosm_show.specs.Endings.{status_of};
 
 use crate::refusal::Refusal;
-use crate::show::show_to_stream;
+use crate::show::show;
 use crate::words::Wanted;
 use command_line::stop_status;
 use profile::{Device, Stop};
+use std::io::BufWriter;
 use std::process::ExitCode;
 use std::{fs, io};
 
@@ -16,7 +17,7 @@ use std::{fs, io};
 ///
 /// # Errors
 ///
-/// As [`show_to_stream`].
+/// As [`show`]; and `Memory` where there is none for the output's buffer.
 pub fn show_on_standard_streams<'a, R>(
     rt: &R,
     wanted: &'a Wanted,
@@ -24,9 +25,11 @@ pub fn show_on_standard_streams<'a, R>(
 where
     R: AllocGlobal + fs::Files + Input + Print,
 {
-    let mut input = Device::new(rt.reader());
-    let (last, _) = show_to_stream(rt, wanted, &mut input, io::writer(rt))?;
-    Ok(last)
+    let Ok(buffered) = BufWriter::new(rt.alloc(), io::writer(rt)) else {
+        return Err(Refusal::Memory);
+    };
+    let mut writer = Device::new(buffered);
+    show(rt, wanted, &mut Device::new(rt.reader()), &mut writer)
 }
 
 /// The exit status, with one line on standard error where the program is refused.

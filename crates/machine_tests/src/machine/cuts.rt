@@ -1,7 +1,6 @@
 //! Runs cut in two, by a budget, by a break or by a writer that fails, end as runs in one piece do.
 
 pub(crate) mod programs;
-mod sums;
 
 use crate::machine::add;
 use assembler::{Program, assemble};
