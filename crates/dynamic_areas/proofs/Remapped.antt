@@ -2,6 +2,7 @@
 -- stays sound.
 use Rattle.std.proofs.Common.{Bool, ◌≡◌, ℕ, ◌+◌, ◌<◌, ◌≤◌, ◌&&◌, ◌||◌, not, true, false, List, [], ◌∷◌, refl, sym, ap, ◌∙◌, inl, inr}
 use Rattle.std.proofs.lemmas.Bool.{cases_Bool, or_from, and_parts, false≢true, false_from_ne_true}
+use Rattle.address_map.proofs.InRange.{range_inside}
 use Rattle.address_map.specs.declared.map.AddressMap.{AddressMap}
 use Rattle.address_map.specs.declared.item.Item.{Item}
 use Rattle.address_map.specs.Bytes.{Bytes, in_range, AreMapped, AreUnmapped, with_zeros_at}
@@ -50,8 +51,8 @@ heaps_remapped b c at len [] change clear parts = tt
 heaps_remapped b c at len (h ∷ hs) change clear parts =
     let apart : AreClear h.start h.end at len = clear_both_ways at len h.start h.end clear.0 in (
       heap_remapped b c h.start h.end h.items parts.0
-          (λ a low high. change.mapped a (apart a (here h.start h.end a low high)) (parts.0.mapped a low high))
-          (λ a low high. change.bytes a (apart a (here h.start h.end a low high))),
+          (λ a low high. change.mapped a (apart a (range_inside h.start h.end a low high)) (parts.0.mapped a low high))
+          (λ a low high. change.bytes a (apart a (range_inside h.start h.end a low high))),
       (parts.1.0, heaps_remapped b c at len hs change clear.1 parts.1.1),
     )
 

@@ -25,14 +25,14 @@ use Rattle.heap_alone.proofs.Called.{IsElsewhere, IsHeapElsewhere, called_keeps}
 use Rattle.heap_alone.proofs.Gates.{gate_keeps}
 use Rattle.heap_alone.proofs.Keeping.{KeepsWhole}
 use Rattle.heap_alone.proofs.ModuleHosts.{IsHost}
-use Rattle.heap_alone.proofs.ModuleLaws.{any_heap, asked}
+use Rattle.heap_alone.proofs.ModuleLaws.{any_heap, asked, host as host_of}
 use Rattle.heap_alone.proofs.ModuleMoves.{module_called_keeps}
 use Rattle.heap_alone.proofs.Rows.{NamesNone}
 use Rattle.heap_alone.proofs.States.{HasStore, IsGiven, given_goes, given_same, given_stays, given_store, has_store, sound_store}
 use Rattle.heap_alone.proofs.Storing.{step_past}
 use Rattle.heap_alone.specs.Laws.{HasHeap, IsAside, IsMoveDone}
 use Rattle.heap_alone.specs.ModuleMoves.{is_module_name}
-use Rattle.heap_alone.specs.Moves.{is_for_heap, is_heap_swi, is_own}
+use Rattle.heap_alone.specs.Moves.{is_for_heap, is_heap_swi, is_own, is_call_to as is_core_call_to}
 use Rattle.heap_alone.specs.Storing.{is_stored}
 use Rattle.heaps_kept.proofs.Areas.{heap_same}
 

@@ -1,6 +1,6 @@
 -- How a list of moves ends: at its end, by a move that halts the machine, or by one whose answer
 -- has no room.
-use Rattle.swi_dispatch.specs.Moves.{moved, moved_all}
+use Rattle.swi_dispatch.specs.Moves.{Move as WrittenMove, moved, moved_all}
 use Rattle.std.proofs.Common.{ℕ, ◌≡◌, ◌≤◌, ◌<◌, ◌+◌, ◌-◌, ◌++◌, ◌∙◌, Bool, true, List, [], ◌∷◌, length, take, option_map, Some, None, get_or, refl, sym, ap, subst, arith, length-append, if◌then◌else◌}
 use Rattle.std.proofs.Math.Seq.{take-length}
 use Rattle.std.proofs.lemmas.List.{length-map}
@@ -9,7 +9,7 @@ use Rattle.image_loader.specs.Entries.{Entry}
 use Rattle.heap_turns.specs.Turns.{Reply as WrittenReply}
 use Rattle.swi_dispatch.specs.MachineState.{MachineState, stop_of}
 use Rattle.swi_dispatch.specs.Parts.{IsMachine, Parts, state_of}
-use Rattle.heap_alone.specs.Moves.{Move as WrittenMove, answers_in, is_own, reply_of}
+use Rattle.heap_alone.specs.Moves.{answers_in, is_own, reply_of}
 use Rattle.heap_moves.proofs.Fronts.{IsUnder, answered, answers_more, moved_more, next_front, under_more}
 use Rattle.heap_moves.proofs.Halves.{by_itself, still_by_itself}
 use Rattle.heap_moves.specs.Making.{AreGoing, AreMade, GoesOn, StandsByItself}

@@ -1,11 +1,11 @@
 -- Lists of moves and their fronts, move by move.
-use Rattle.swi_dispatch.specs.Moves.{moved, moved_all}
+use Rattle.swi_dispatch.specs.Moves.{Move as WrittenMove, moved, moved_all}
 use Rattle.std.proofs.Common.{ℕ, ◌≡◌, ◌<◌, ◌+◌, ◌++◌, ◌∙◌, Bool, true, false, List, [], ◌∷◌, length, get_or, map, take, append_assoc, refl, sym, ap, subst, if◌then◌else◌}
 use Rattle.std.proofs.lemmas.List.{map_more, take-map}
 use Rattle.image_loader.specs.Entries.{Entry}
 use Rattle.heap_turns.specs.Turns.{Reply as WrittenReply}
 use Rattle.swi_dispatch.specs.MachineState.{MachineState}
-use Rattle.heap_alone.specs.Moves.{Move as WrittenMove, answers_in, is_own, reply_of}
+use Rattle.heap_alone.specs.Moves.{answers_in, is_own, reply_of}
 use Rattle.heap_moves.specs.Making.{AreGoing, GoesOn}
 use Rattle.heap_moves.specs.Moves.{noted, noted_all, reply_if, written, written_all}
 use Rattle.heap_moves.specs.declared.moves.Move.{Move}

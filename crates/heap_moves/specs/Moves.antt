@@ -1,7 +1,7 @@
 -- Moves and replies as programs have them, and as the written machine has them.
-use Rattle.swi_dispatch.specs.Moves.{Call, Step}
+use Rattle.swi_dispatch.specs.Moves.{Call, Move as WrittenMove, Step}
 use Rattle.std.specs.Prelude.{Bool, List, [], ◌∷◌, map, if◌then◌else◌}
-use Rattle.heap_turns.specs.Turns.{Answered, Refused}
+use Rattle.heap_turns.specs.Turns.{Answered, Refused, Reply as WrittenReply}
 use Rattle.swi_dispatch.specs.MachineState.{MachineState}
 use Rattle.heap_alone.specs.Moves.{reply_of}
 use Rattle.heap_moves.specs.declared.moves.Move.{Move}
