@@ -1,10 +1,11 @@
--- What a picture begins with, written piece by piece.
-use Rattle.std.proofs.Common.{ℕ, List, ◌++◌, Option}
-use Rattle.std.specs.Prelude.{codes}
+-- What a picture begins with, and a size, written piece by piece.
+use Rattle.std.proofs.Common.{ℕ, List, ◌++◌, Option, Result, Ok, Err, ◌≡◌, subst}
+use Rattle.std.specs.Prelude.{codes, OnOk}
 use Rattle.std.specs.Fmt.{decimal}
 use Rattle.std.specs.Io.KnownBytes.{Appends}
 use Rattle.profile.proofs.OutputLemmas.{Appends-join}
-use Rattle.page_markup.specs.Svg.{svg_head}
+use Rattle.page_markup.specs.Markup.{text_opening}
+use Rattle.page_markup.specs.Svg.{size_svg, svg_head}
 
 pub head_written : (a b c d e f : Option (List ℕ)) (height : ℕ) → Appends a b (codes "<svg role=\"img\" height=\"")
     → Appends b c (decimal height) → Appends c d (codes "\" viewBox=\"0 0 380 ") → Appends d e (decimal height)
@@ -17,3 +18,13 @@ head_written a b c d e f height front first middle second back =
     let two = Appends-join c d f box (decimal height ++ title) middle third in
     let one = Appends-join b c f (decimal height) (box ++ (decimal height ++ title)) first two in
     Appends-join a b f (codes "<svg role=\"img\" height=\"") (decimal height ++ (box ++ (decimal height ++ title))) front one
+
+-- a size with its word, written piece by piece
+pub size_written : {A E : Type 0} (r : Result A E) (a b c d : Option (List ℕ)) (told size base : ℕ) → told ≡ size
+    → Appends a b (text_opening (codes "size") 168 base) → Appends b c (decimal told)
+    → OnOk r (Appends c d (codes " bytes</text>")) → OnOk r (Appends a d (size_svg size base))
+size_written (Ok done) a b c d told size base same front middle back =
+    let number = subst (λ (n : ℕ). Appends b c (decimal n)) same middle in
+    Appends-join a b d (text_opening (codes "size") 168 base) (decimal size ++ codes " bytes</text>") front
+    (Appends-join b c d (decimal size) (codes " bytes</text>") number back)
+size_written (Err fault) a b c d told size base same front middle back = back
