@@ -165,7 +165,6 @@ pub fn push_all<W: Sink>(sink: &mut W, bytes: &[u8]) -> Result<(), WriteFault>
     ensures part { OnErr result (AddsPart (W.contents sink.old) (W.contents sink.new) bytes.now) }
     ensures flag { OnErr result (W.has_failed sink.new ≡ true) }
     ensures same_flag { OnOk result (W.has_failed sink.new ≡ W.has_failed sink.old) }
-    ensures well { OnOk result (W.has_failed sink.old ≡ true → bytes.now ≡ []) }
 {
     let mut rest = bytes;
     while !rest.is_empty() {
@@ -183,7 +182,6 @@ pub fn push_parts<W: Sink>(sink: &mut W, parts: &[&[u8]]) -> Result<(), WriteFau
         (AddsPart (W.contents sink.old) (W.contents sink.new) (flat_map (λ p. p.now) parts.now)) }
     ensures flag { OnErr result (W.has_failed sink.new ≡ true) }
     ensures same_flag { OnOk result (W.has_failed sink.new ≡ W.has_failed sink.old) }
-    ensures well { OnOk result (W.has_failed sink.old ≡ true → flat_map (λ p. p.now) parts.now ≡ []) }
 {
     for part in parts {
         push_all(sink, part)?;
