@@ -3,7 +3,7 @@
 use Rattle.std.proofs.Common.{◌≡◌, ℕ, ◌+◌, ◌/◌, ◌%◌, ◌<◌, false, Option, Some, None, is_some, arith, refl, sym, ◌∙◌, ap}
 use Rattle.std.proofs.lemmas.Bool.{false≢true}
 use Rattle.address_map.specs.declared.map.AddressMap.{AddressMap}
-use Rattle.address_map.specs.Pages.{frame_at, place_by}
+use Rattle.address_map.specs.Pages.{frame_at, place_in_frame}
 use Rattle.address_map.specs.Memory.{place, byte_in, byte_at, is_mapped, layout}
 use Rattle.address_map.proofs.Loads.{place_fits}
 use Rattle.address_map.proofs.Stores.{layout-place}
@@ -29,8 +29,8 @@ is_mapped-layout m n same = ap (λ (p : ℕ → Option ℕ). λ (a : ℕ). is_so
 pub is_mapped-page : (m : AddressMap) (a b : ℕ) → a / 4096 ≡ b / 4096 → is_mapped m a ≡ is_mapped m b
 unfolding place
 is_mapped-page m a b same =
-    ap (λ (p : ℕ). is_some (place_by a (frame_at m.frames p))) same ∙ alike (frame_at m.frames (b / 4096)) where
-      alike : (there : Option ℕ) → is_some (place_by a there) ≡ is_some (place_by b there)
+    ap (λ (p : ℕ). is_some (place_in_frame a (frame_at m.frames p))) same ∙ alike (frame_at m.frames (b / 4096)) where
+      alike : (there : Option ℕ) → is_some (place_in_frame a there) ≡ is_some (place_in_frame b there)
       alike None = refl
       alike (Some frame) = refl
 

@@ -6,15 +6,15 @@ use Rattle.std.proofs.lemmas.List.{get_or-set_same, get_or-set_other, get_or-rep
 use Rattle.address_map.specs.declared.class.Class.{Class}
 use Rattle.address_map.specs.declared.class.Class.TheVariants.{Plain, Heap, FlexHeader, Anchor}
 use Rattle.address_map.specs.Bytes.{in_range}
-use Rattle.address_map.specs.Classes.{number_of, class_of_number, weight, lane}
+use Rattle.address_map.specs.Classes.{class_number, class_of_number, weight, lane}
 
-pub number_small : (class : Class) → number_of class < 4
+pub number_small : (class : Class) → class_number class < 4
 number_small Plain = omega arith
 number_small Heap = omega arith
 number_small FlexHeader = omega arith
 number_small Anchor = omega arith
 
-pub class_read : (class : Class) → class_of_number (number_of class) ≡ class
+pub class_read : (class : Class) → class_of_number (class_number class) ≡ class
 class_read Plain = refl
 class_read Heap = refl
 class_read FlexHeader = refl
@@ -34,14 +34,14 @@ lane_set b n i j fits small low below = grind (arith, nat_tests)
 -- a class written into a lane of a list of bytes: that word has it, and each other word the one it
 -- had
 pub class_set : (items : List ℕ) (word b : ℕ) (class : Class) → word / 4 < length items → get_or items (word / 4) 0 ≡ b → b < 256
-    → (k : ℕ) → class_of_number (lane (get_or (set items (word / 4) (b - lane b (word % 4) * weight (word % 4) + number_of class * weight (word % 4))) (k / 4) 0) (k % 4))
+    → (k : ℕ) → class_of_number (lane (get_or (set items (word / 4) (b - lane b (word % 4) * weight (word % 4) + class_number class * weight (word % 4))) (k / 4) 0) (k % 4))
     ≡ cond (k == word) class (class_of_number (lane (get_or items (k / 4) 0) (k % 4)))
 class_set items word b class below is fits k =
-    let new : ℕ = b - lane b (word % 4) * weight (word % 4) + number_of class * weight (word % 4) in
+    let new : ℕ = b - lane b (word % 4) * weight (word % 4) + class_number class * weight (word % 4) in
     elim (cases_eq (k / 4) (word / 4)) [
       | inl byte ↦
-          let there : lane new (k % 4) ≡ cond (k % 4 == word % 4) (number_of class) (lane b (k % 4)) =
-          lane_set b (number_of class) (word % 4) (k % 4) fits (number_small class) (omega arith) (omega arith) in
+          let there : lane new (k % 4) ≡ cond (k % 4 == word % 4) (class_number class) (lane b (k % 4)) =
+          lane_set b (class_number class) (word % 4) (k % 4) fits (number_small class) (omega arith) (omega arith) in
           let read : get_or (set items (word / 4) new) (k / 4) 0 ≡ new =
           ap (λ (j : ℕ). get_or (set items (word / 4) new) j 0) byte ∙ get_or-set_same items (word / 4) new 0 below in
           let old : get_or items (k / 4) 0 ≡ b = ap (λ (j : ℕ). get_or items j 0) byte ∙ is in

@@ -9,7 +9,7 @@ use Rattle.raw_store.specs.Region.{word_in}
 use Rattle.address_map.specs.declared.map.AddressMap.{AddressMap}
 use Rattle.address_map.specs.Bytes.{Bytes, load_fault, word_start, word_at, byte_loaded, word_loaded}
 use Rattle.address_map.specs.Memory.{place, is_mapped, byte_in, byte_at, bytes_of}
-use Rattle.address_map.specs.Pages.{frame_at, place_by}
+use Rattle.address_map.specs.Pages.{frame_at, place_in_frame}
 use Rattle.address_map.proofs.PageTable.{place_within, place_written, place_same, place_near, place_limit}
 
 pub place_fits : (m : AddressMap) (a k : ℕ) → place m a ≡ Some k → k + 1 ≤ length m.store.items
@@ -33,7 +33,7 @@ place_below m a k h = place_limit m.frames m.free.items a k m.table h
 
 pub place_past : (m : AddressMap) (a : ℕ) → 2 ^ 26 ≤ a → place m a ≡ None
 unfolding place
-place_past m a past = ap (place_by a) (get_or_past m.frames (a / 4096) None (omega (arith, m.table.size)))
+place_past m a past = ap (place_in_frame a) (get_or_past m.frames (a / 4096) None (omega (arith, m.table.size)))
 
 -- the frame that was read from the table
 pub frame_read : (m : AddressMap) (a : ℕ) (there : Option ℕ) → a < 2 ^ 26 → there ≡ get_or m.frames (a / 4096) there
@@ -41,15 +41,15 @@ pub frame_read : (m : AddressMap) (a : ℕ) (there : Option ℕ) → a < 2 ^ 26 
 frame_read m a there below read = get_or_default m.frames (a / 4096) None there (omega (arith, m.table.size)) ∙ sym read
 
 pub place_read : (m : AddressMap) (a : ℕ) (there : Option ℕ) → a < 2 ^ 26 → there ≡ get_or m.frames (a / 4096) there
-    → place m a ≡ place_by a there
+    → place m a ≡ place_in_frame a there
 unfolding place
-place_read m a there below read = ap (place_by a) (frame_read m a there below read)
+place_read m a there below read = ap (place_in_frame a) (frame_read m a there below read)
 
 -- a page that is not mapped has no frame
 pub unmapped_page : (m : AddressMap) (a : ℕ) → is_mapped m a ≡ false → frame_at m.frames (a / 4096) ≡ None
 unfolding place
 unmapped_page m a h = none (frame_at m.frames (a / 4096)) h where
-  none : (there : Option ℕ) → is_some (place_by a there) ≡ false → there ≡ None
+  none : (there : Option ℕ) → is_some (place_in_frame a there) ≡ false → there ≡ None
   none None e = refl
   none (Some frame) e = absurd (false≢true (sym e))
 
@@ -57,7 +57,7 @@ unmapped_page m a h = none (frame_at m.frames (a / 4096)) h where
 pub mapped_page : (m : AddressMap) (a : ℕ) → is_mapped m a ≡ true → is_some (frame_at m.frames (a / 4096)) ≡ true
 unfolding place
 mapped_page m a h = some (frame_at m.frames (a / 4096)) h where
-  some : (there : Option ℕ) → is_some (place_by a there) ≡ true → is_some there ≡ true
+  some : (there : Option ℕ) → is_some (place_in_frame a there) ≡ true → is_some there ≡ true
   some None e = e
   some (Some frame) e = refl
 

@@ -4,11 +4,11 @@ use Rattle.std.proofs.Common.{◌≡◌, ◌≢◌, ℕ, ◌+◌, ◌-◌, ◌*�
 use Rattle.std.proofs.Math.Bool.{and-true}
 use Rattle.std.proofs.lemmas.Bool.{false≢true, cases_lt}
 use Rattle.std.proofs.lemmas.List.{get_or-replicate, get_or_append_left}
-use Rattle.raw_store.specs.Region.{zeroed, grown}
+use Rattle.raw_store.specs.Region.{bytes_after_zero, bytes_after_growth}
 use Rattle.raw_store.proofs.Written.{written_inside, written_before, written_past}
 use Rattle.address_map.specs.Bytes.{in_range, with_zeros_at}
 use Rattle.address_map.specs.Memory.{byte_in}
-use Rattle.address_map.specs.Pages.{AreWritten, frame_at, place_by, place_in, IsUnused}
+use Rattle.address_map.specs.Pages.{AreWritten, frame_at, place_in_frame, place_in, IsUnused}
 use Rattle.address_map.proofs.PageTable.{frame_found, place_set, place_set_other, place_written}
 use Rattle.address_map.proofs.Stores.{in_range-cases, zeros, length-zeros}
 
@@ -17,7 +17,7 @@ module _ (frames : List (Option ℕ)) (addr frame : ℕ) (aligned : addr % 4096 
   more = set frames (addr / 4096) (Some frame)
 
   none_there : (a : ℕ) → a / 4096 ≡ addr / 4096 → place_in frames a ≡ None
-  none_there a page = ap (λ (p : ℕ). place_by a (frame_at frames p)) page ∙ ap (place_by a) none
+  none_there a page = ap (λ (p : ℕ). place_in_frame a (frame_at frames p)) page ∙ ap (place_in_frame a) none
 
   pub mapped_more : (a : ℕ) → is_some (place_in more a) ≡ (in_range addr 4096 a || is_some (place_in frames a))
   mapped_more a =
@@ -37,7 +37,7 @@ module _ (frames : List (Option ℕ)) (addr frame : ℕ) (aligned : addr % 4096 
     fits : 4096 * frame + length (zeros size) ≤ length store
     fits = rw (length-zeros size) room
 
-    byte_kept : (a : ℕ) (there : Option ℕ) → place_in frames a ≡ there → byte_in (zeroed store (4096 * frame) size) there ≡ byte_in store there
+    byte_kept : (a : ℕ) (there : Option ℕ) → place_in frames a ≡ there → byte_in (bytes_after_zero store (4096 * frame) size) there ≡ byte_in store there
     byte_kept a None h = refl
     byte_kept a (Some k) h =
         let f = frame_found a k (frame_at frames (a / 4096)) h in
@@ -48,7 +48,7 @@ module _ (frames : List (Option ℕ)) (addr frame : ℕ) (aligned : addr % 4096 
           | inr high ↦ written_past store (zeros size) (4096 * frame) k 0 fits (omega (arith, other, length-zeros size))
         ]
 
-    pub bytes_more : (a : ℕ) → byte_in (zeroed store (4096 * frame) size) (place_in more a) ≡ byte_in store (place_in frames a)
+    pub bytes_more : (a : ℕ) → byte_in (bytes_after_zero store (4096 * frame) size) (place_in more a) ≡ byte_in store (place_in frames a)
     bytes_more a =
         elim (in_range-cases addr 4096 a) [
           | inl r ↦
@@ -62,9 +62,9 @@ module _ (frames : List (Option ℕ)) (addr frame : ℕ) (aligned : addr % 4096 
 
 -- bytes after the others change none of a page that is mapped
 pub bytes_grown : (frames : List (Option ℕ)) (store : List ℕ) (n a : ℕ) → AreWritten frames (length store)
-    → byte_in (grown store n) (place_in frames a) ≡ byte_in store (place_in frames a)
+    → byte_in (bytes_after_growth store n) (place_in frames a) ≡ byte_in store (place_in frames a)
 bytes_grown frames store n a written = kept (place_in frames a) refl where
-  kept : (there : Option ℕ) → place_in frames a ≡ there → byte_in (grown store n) there ≡ byte_in store there
+  kept : (there : Option ℕ) → place_in frames a ≡ there → byte_in (bytes_after_growth store n) there ≡ byte_in store there
   kept None h = refl
   kept (Some k) h =
       let fits : k < length store = omega (arith, (place_written frames (length store) a k written h).1) in

@@ -12,7 +12,7 @@ use Rattle.address_map.specs.Bytes.{in_range, word_start}
 use Rattle.address_map.specs.Classes.{class_of_number, lane}
 use Rattle.address_map.specs.Marks.{class_at, mark_in}
 use Rattle.address_map.specs.Memory.{place, is_mapped, class_of}
-use Rattle.address_map.specs.Pages.{frame_at, place_by, place_in, IsUnused}
+use Rattle.address_map.specs.Pages.{frame_at, place_in_frame, place_in, IsUnused}
 use Rattle.address_map.specs.Records.{IsRegion, is_heap_kind, is_word_kind, with_class, with_plain_at, without_region}
 use Rattle.address_map.proofs.Loads.{place_next, place_only, place_fits}
 use Rattle.address_map.proofs.PageTable.{frame_found, place_within, place_near, place_set, place_set_other}
@@ -111,7 +111,7 @@ module _ (frames : List (Option ℕ)) (addr frame : ℕ) (aligned : addr % 4096 
       elim (in_range-cases addr 4096 a) [
         | inl r ↦
             let page : a / 4096 ≡ addr / 4096 = omega (arith, r.1, r.2) in
-            let e : place_in frames a ≡ None = ap (λ (p : ℕ). place_by a (frame_at frames p)) page ∙ ap (place_by a) none in
+            let e : place_in frames a ≡ None = ap (λ (p : ℕ). place_in_frame a (frame_at frames p)) page ∙ ap (place_in_frame a) none in
             rw (place_set frames (addr / 4096) a (Some frame) below page, e) (cleared ((4096 * frame + a % 4096) / 4) (omega arith) (omega arith))
         | inr r ↦ rw (place_set_other frames (addr / 4096) a (Some frame) (omega (arith, r.1))) (kept a (place_in frames a) refl)
       ]

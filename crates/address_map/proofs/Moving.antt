@@ -3,7 +3,7 @@ use Rattle.std.proofs.Common.{◌≡◌, ℕ, ◌+◌, ◌-◌, ◌<◌, ◌≤�
 use Rattle.std.specs.List.{All}
 use Rattle.std.proofs.lemmas.Bool.Decides.{nat_tests}
 use Rattle.std.proofs.lemmas.List.{places}
-use Rattle.raw_store.specs.Region.{copied}
+use Rattle.raw_store.specs.Region.{bytes_after_copy}
 use Rattle.address_map.specs.declared.map.AddressMap.{AddressMap}
 use Rattle.address_map.specs.Bytes.{with_moved_at}
 use Rattle.address_map.specs.Memory.{byte_at, layout, IsSpan}
@@ -20,7 +20,7 @@ pub get_or-piece : (store : List ℕ) (from len k d : ℕ) → from + len ≤ le
 get_or-piece store from len k d fits below = grind (arith, places)
 
 pub bytes_copied : (m n : AddressMap) (from k span to at other len : ℕ) → IsSpan m from k span → IsSpan m to at other → len ≤ span → len ≤ other
-    → layout n ≡ layout m → n.store.items ≡ copied m.store.items k at len
+    → layout n ≡ layout m → n.store.items ≡ bytes_after_copy m.store.items k at len
     → (a : ℕ) → byte_at n a ≡ with_moved_at (byte_at m) from to len a
 bytes_copied m n from k span to at other len source target within inside same store a =
     let fits : k + len ≤ length m.store.items = omega (arith, source.within) in
@@ -34,7 +34,7 @@ bytes_copied m n from k span to at other len source target within inside same st
       | inr r ↦ rw (e, r.0) refl
     ]
 
-pub store_copied : (m : AddressMap) (store : List ℕ) (k at len : ℕ) → store ≡ copied m.store.items k at len
+pub store_copied : (m : AddressMap) (store : List ℕ) (k at len : ℕ) → store ≡ bytes_after_copy m.store.items k at len
     → k + len ≤ length m.store.items → at + len ≤ length m.store.items → All (λ b. b < 256) store × (length store ≡ length m.store.items)
 store_copied m store k at len is fits room =
     let e : length (take len (drop k m.store.items)) ≡ len = length-piece m.store.items k len fits in

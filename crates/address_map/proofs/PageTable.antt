@@ -7,10 +7,10 @@ use Rattle.std.proofs.lemmas.List.Elements.{All-pop, All-push}
 use Rattle.std.proofs.lemmas.List.Folds.{sum_by-replicate}
 use Rattle.std.proofs.lemmas.List.Quantifiers.{all_pairs_push}
 use Rattle.std.proofs.lemmas.List.Sums.{sum_by-set}
-use Rattle.address_map.specs.Pages.{AreWritten, frame_at, place_by, place_in, frame_count, IsUnused, IsPageTable}
+use Rattle.address_map.specs.Pages.{AreWritten, frame_at, place_in_frame, place_in, frame_count, IsUnused, IsPageTable}
 
 -- the frame that an address lies in
-pub frame_found : (a k : ℕ) (there : Option ℕ) → place_by a there ≡ Some k → (frame : ℕ) × ((there ≡ Some frame) × (k ≡ 4096 * frame + a % 4096))
+pub frame_found : (a k : ℕ) (there : Option ℕ) → place_in_frame a there ≡ Some k → (frame : ℕ) × ((there ≡ Some frame) × (k ≡ 4096 * frame + a % 4096))
 frame_found a k None h = cc
 frame_found a k (Some frame) h = (frame, (refl, cc))
 
@@ -58,7 +58,7 @@ place_near frames a b k page h =
     let is : k ≡ 4096 * f.0 + a % 4096 = f.1.1 in
     let there : frame_at frames (b / 4096) ≡ Some f.0 = ap (frame_at frames) (sym page) ∙ f.1.0 in
     let e : 4096 * f.0 + b % 4096 ≡ k - a % 4096 + b % 4096 = omega arith in
-    ap (place_by b) there ∙ ap Some e
+    ap (place_in_frame b) there ∙ ap Some e
 
 pub place_limit : (frames : List (Option ℕ)) (free : List ℕ) (a k : ℕ) → IsPageTable frames free → place_in frames a ≡ Some k → a < 2 ^ 26
 place_limit frames free a k table h =
@@ -67,12 +67,12 @@ place_limit frames free a k table h =
 
 -- the place of an address after the frame of a page was set
 pub place_set : (frames : List (Option ℕ)) (page a : ℕ) (there : Option ℕ) → page < length frames → a / 4096 ≡ page
-    → place_in (set frames page there) a ≡ place_by a there
+    → place_in (set frames page there) a ≡ place_in_frame a there
 place_set frames page a there below is =
-    ap (λ (p : ℕ). place_by a (frame_at (set frames page there) p)) is ∙ ap (place_by a) (get_or-set_same frames page there None below)
+    ap (λ (p : ℕ). place_in_frame a (frame_at (set frames page there) p)) is ∙ ap (place_in_frame a) (get_or-set_same frames page there None below)
 
 pub place_set_other : (frames : List (Option ℕ)) (page a : ℕ) (there : Option ℕ) → a / 4096 ≢ page → place_in (set frames page there) a ≡ place_in frames a
-place_set_other frames page a there other = ap (place_by a) (get_or-set_other frames page (a / 4096) there None other)
+place_set_other frames page a there other = ap (place_in_frame a) (get_or-set_other frames page (a / 4096) there None other)
 
 abbrev one : Option ℕ → ℕ
 one there = cond (is_some there) 1 0
@@ -208,7 +208,7 @@ table_none n frames free is size within apart =
     })
 
 pub no_place : (n : ℕ) (frames : List (Option ℕ)) (a : ℕ) → frames ≡ replicate n None → place_in frames a ≡ None
-no_place n frames a is = rw is (ap (place_by a) (no_frame n (a / 4096)))
+no_place n frames a is = rw is (ap (place_in_frame a) (no_frame n (a / 4096)))
 
 -- where the frames of mapped pages lie once a page got a frame, gave it back, or none has one
 pub written_more : (frames : List (Option ℕ)) (page frame len less : ℕ) → page < length frames → AreWritten frames less → less ≤ len → 4096 * frame + 4096 ≤ len

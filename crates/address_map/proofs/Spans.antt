@@ -4,7 +4,7 @@ use Rattle.std.proofs.Common.{◌≡◌, ℕ, ◌+◌, ◌-◌, ◌%◌, ◌^◌
 use Rattle.std.proofs.lemmas.Bool.{cases_lt, both_ways}
 use Rattle.std.proofs.lemmas.Bool.Decides.{nat_tests}
 use Rattle.std.proofs.lemmas.List.{places, get_or-replicate}
-use Rattle.raw_store.specs.Region.{zeroed}
+use Rattle.raw_store.specs.Region.{bytes_after_zero}
 use Rattle.address_map.specs.declared.map.AddressMap.{AddressMap}
 use Rattle.address_map.specs.Bytes.{AreMapped, with_bytes_at, with_zeros_at}
 use Rattle.address_map.specs.Memory.{place, is_mapped, byte_at, layout, IsSpan}
@@ -102,7 +102,7 @@ with_bytes-zeros bytes at len a =
       | inr r ↦ rw (length-zeros len, r.0) refl
     ]
 
-pub bytes_zeroed : (m n : AddressMap) (a k span len : ℕ) → IsSpan m a k span → len ≤ span → layout n ≡ layout m → n.store.items ≡ zeroed m.store.items k len
+pub bytes_zeroed : (m n : AddressMap) (a k span len : ℕ) → IsSpan m a k span → len ≤ span → layout n ≡ layout m → n.store.items ≡ bytes_after_zero m.store.items k len
     → (b : ℕ) → byte_at n b ≡ with_zeros_at (byte_at m) a len b
 bytes_zeroed m n a k span len is within same store b =
     let fits : k + length (zeros len) ≤ length m.store.items = rw (length-zeros len) (omega (arith, is.within)) in

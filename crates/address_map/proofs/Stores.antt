@@ -4,7 +4,7 @@ use Rattle.std.specs.List.{All}
 use Rattle.std.proofs.lemmas.Bool.{cases_lt, le-leb, lt-ltb, lt-leb, le-ltb}
 use Rattle.std.proofs.lemmas.List.Elements.{All-cons, All-nil, All-append, All-replicate}
 use Rattle.std.proofs.lemmas.List.{set_split, places, length-append, length-replicate, get_or-replicate}
-use Rattle.raw_store.specs.Region.{written, word_bytes, zeroed, grown}
+use Rattle.raw_store.specs.Region.{bytes_after_write, word_bytes, bytes_after_zero, bytes_after_growth}
 use Rattle.raw_store.proofs.Written.{length-written, written_inside, written_before, written_past}
 use Rattle.std.proofs.lemmas.Bool.Decides.{nat_tests}
 use Rattle.address_map.specs.declared.map.AddressMap.{AddressMap}
@@ -24,7 +24,7 @@ in_range-cases at len a =
       ]
     ]
 
-pub slice_set-written : (bytes : List ℕ) (at v : ℕ) → at + 1 ≤ length bytes → slice_set bytes at v ≡ written bytes at (v ∷ [])
+pub slice_set-written : (bytes : List ℕ) (at v : ℕ) → at + 1 ≤ length bytes → slice_set bytes at v ≡ bytes_after_write bytes at (v ∷ [])
 slice_set-written bytes at v below = rw (set_split bytes at v (omega arith)) (grind arith)
 
 -- a list written over the place of `at` in the store is, by addresses, the list written over `at`
@@ -32,7 +32,7 @@ written_over : (place : ℕ → Option ℕ) (old new : List ℕ) (at k : ℕ) �
     → ((j : ℕ) → j < length new → place (at + j) ≡ Some (k + j))
     → ((a b p : ℕ) → place a ≡ Some p → place b ≡ Some p → a ≡ b)
     → (a : ℕ) (there : Option ℕ) → place a ≡ there
-    → byte_in (written old k new) there ≡ with_bytes_at (λ b. byte_in old (place b)) at new a
+    → byte_in (bytes_after_write old k new) there ≡ with_bytes_at (λ b. byte_in old (place b)) at new a
 written_over place old new at k fits run only a None h =
     elim (in_range-cases at (length new) a) [
       | inl r ↦
@@ -63,7 +63,7 @@ written_over place old new at k fits run only a (Some p) h =
     ]
 
 pub bytes_written : (m n : AddressMap) (at k : ℕ) (new : List ℕ)
-    → place n ≡ place m → n.store.items ≡ written m.store.items k new → k + length new ≤ length m.store.items
+    → place n ≡ place m → n.store.items ≡ bytes_after_write m.store.items k new → k + length new ≤ length m.store.items
     → ((j : ℕ) → j < length new → place m (at + j) ≡ Some (k + j))
     → (a : ℕ) → byte_at n a ≡ with_bytes_at (byte_at m) at new a
 unfolding byte_at
@@ -90,7 +90,7 @@ pub layout-mapping : (m n : AddressMap) → layout n ≡ layout m → mapping n 
 layout-mapping m n same = ap (λ (l : Layout). let kept : Mapping = record { place = l.place; free_pages = l.free_pages } in kept) same
 
 pub word_put : (m n : AddressMap) (a k word : ℕ) → a % 4 ≡ 0 → place m a ≡ Some k → layout n ≡ layout m
-    → n.store.items ≡ written m.store.items k (word_bytes word)
+    → n.store.items ≡ bytes_after_write m.store.items k (word_bytes word)
     → (b : ℕ) → byte_at n b ≡ with_word_at (byte_at m) a word b
 word_put m n a k word aligned h same store b =
     bytes_written m n a k (word_bytes word) (layout-place m n same) store (place_fits_word m a k aligned h)
@@ -98,7 +98,7 @@ word_put m n a k word aligned h same store b =
 
 -- the bytes of a region after a write are still bytes
 pub All-written : (bytes new : List ℕ) (at : ℕ) → at + length new ≤ length bytes → All (λ b. b < 256) bytes → All (λ b. b < 256) new
-    → All (λ b. b < 256) (written bytes at new)
+    → All (λ b. b < 256) (bytes_after_write bytes at new)
 All-written bytes new at fits old fresh k d below =
     let below' : k < length bytes = rw length-written at below in
     elim (cases_lt k at) [
@@ -127,7 +127,7 @@ pub All-byte : (byte : ℕ) → byte < 256 → All (λ b. b < 256) (byte ∷ [])
 All-byte byte fits = let P : ℕ → Type 0 = λ b. b < 256 in All-cons P byte [] fits (All-nil P)
 
 -- so the store keeps its length, and its bytes
-pub store_written : (m : AddressMap) (store new : List ℕ) (k : ℕ) → store ≡ written m.store.items k new → k + length new ≤ length m.store.items
+pub store_written : (m : AddressMap) (store new : List ℕ) (k : ℕ) → store ≡ bytes_after_write m.store.items k new → k + length new ≤ length m.store.items
     → All (λ b. b < 256) new → All (λ b. b < 256) store × (length store ≡ length m.store.items)
 store_written m store new k is fits fresh =
     rw is (All-written m.store.items new k fits m.bytes_fit fresh, length-written m.store.items new k fits)
@@ -146,7 +146,7 @@ zeros len = replicate len 0
 pub length-zeros : (len : ℕ) → length (zeros len) ≡ len
 length-zeros len = length-replicate {A = ℕ} len 0
 
-pub store_zeroed : (m : AddressMap) (store : List ℕ) (at len : ℕ) → store ≡ zeroed m.store.items at len → at + len ≤ length m.store.items
+pub store_zeroed : (m : AddressMap) (store : List ℕ) (at len : ℕ) → store ≡ bytes_after_zero m.store.items at len → at + len ≤ length m.store.items
     → All (λ b. b < 256) store × (length store ≡ length m.store.items)
 store_zeroed m store at len is fits =
     let fits' : at + length (zeros len) ≤ length m.store.items = rw (length-zeros len) fits in
@@ -154,25 +154,25 @@ store_zeroed m store at len is fits =
     (λ k d below. let b : k < len = rw (length-zeros len) at below in rw (get_or-replicate len k 0 d b) (omega arith))
 
 -- zeros written in a store, after its bytes too
-pub All-grown : (bytes : List ℕ) (n : ℕ) → All (λ b. b < 256) bytes → All (λ b. b < 256) (grown bytes n)
+pub All-grown : (bytes : List ℕ) (n : ℕ) → All (λ b. b < 256) bytes → All (λ b. b < 256) (bytes_after_growth bytes n)
 All-grown bytes n fit =
     let P : ℕ → Type 0 = λ b. b < 256 in
     All-append P bytes (zeros (n - length bytes)) fit (All-replicate P (n - length bytes) 0 (omega arith))
 
-pub length-grown : (bytes : List ℕ) (n : ℕ) → (n ≤ length (grown bytes n)) × (length bytes ≤ length (grown bytes n))
+pub length-grown : (bytes : List ℕ) (n : ℕ) → (n ≤ length (bytes_after_growth bytes n)) × (length bytes ≤ length (bytes_after_growth bytes n))
 length-grown bytes n =
     let e = length-append bytes (zeros (n - length bytes)) in
     let z = length-zeros (n - length bytes) in
     (omega (arith, e, z), omega (arith, e))
 
-pub zeros_written : (bytes store : List ℕ) (at len : ℕ) → store ≡ zeroed (grown bytes (at + len)) at len → All (λ b. b < 256) bytes
-    → All (λ b. b < 256) store × (length store ≡ length (grown bytes (at + len)))
+pub zeros_written : (bytes store : List ℕ) (at len : ℕ) → store ≡ bytes_after_zero (bytes_after_growth bytes (at + len)) at len → All (λ b. b < 256) bytes
+    → All (λ b. b < 256) store × (length store ≡ length (bytes_after_growth bytes (at + len)))
 zeros_written bytes store at len is fit =
     let long = length-grown bytes (at + len) in
-    let fits : at + length (zeros len) ≤ length (grown bytes (at + len)) = rw (length-zeros len) long.0 in
+    let fits : at + length (zeros len) ≤ length (bytes_after_growth bytes (at + len)) = rw (length-zeros len) long.0 in
     rw is (
-      All-written (grown bytes (at + len)) (zeros len) at fits (All-grown bytes (at + len) fit) (All-replicate (λ b. b < 256) len 0 (omega arith)),
-      length-written (grown bytes (at + len)) (zeros len) at fits,
+      All-written (bytes_after_growth bytes (at + len)) (zeros len) at fits (All-grown bytes (at + len) fit) (All-replicate (λ b. b < 256) len 0 (omega arith)),
+      length-written (bytes_after_growth bytes (at + len)) (zeros len) at fits,
     )
 
 -- two writes side by side are one

@@ -16,8 +16,9 @@ abbrev pub in_range : ℕ → ℕ → ℕ → Bool
 in_range at len a = nat_le at a && nat_lt a (at + len)
 
 -- two ranges share an address
-abbrev pub meets : ℕ → ℕ → ℕ → ℕ → Bool
-meets at len other other_len = (nat_lt 0 len && nat_lt 0 other_len) && (nat_lt at (other + other_len) && nat_lt other (at + len))
+abbrev pub shares_address : ℕ → ℕ → ℕ → ℕ → Bool
+shares_address at len other other_len = (nat_lt 0 len && nat_lt 0 other_len)
+    && (nat_lt at (other + other_len) && nat_lt other (at + len))
 
 -- each of the `len` addresses from `at` on is mapped, or none of them is
 abbrev pub AreMapped : (ℕ → Bool) → ℕ → ℕ → Type 0
@@ -76,26 +77,28 @@ with_moved b from to len = record { mapped = b.mapped; at = with_moved_at b.at f
 -- which fault a load or a store meets, the first of these; `owned` says which bytes the store calls
 -- keep records in
 abbrev pub load_fault : Bytes → ℕ → Option Fault
-load_fault b a = if nat_le (2 ^ 26) a then Some AddressException else (if b.mapped a then None else Some DataUnmapped)
+load_fault b a = if nat_le (2 ^ 26) a then Some AddressException
+    else (if b.mapped a then None else Some DataUnmapped)
 
 abbrev pub store_fault : (ℕ → Bool) → Bytes → ℕ → Option Fault
 store_fault owned b a =
     if nat_le (2 ^ 26) a then Some AddressException else (
     if b.mapped a then (if owned a then Some OwnedWord else None) else Some DataUnmapped)
 
-abbrev pub unless : {A : Type 0} → Option Fault → A → Result A Fault
-unless None a = Ok a
-unless (Some fault) a = Err fault
+abbrev pub ok_unless_fault : {A : Type 0} → Option Fault → A → Result A Fault
+ok_unless_fault None a = Ok a
+ok_unless_fault (Some fault) a = Err fault
 
 unfoldable pub byte_loaded : Bytes → ℕ → Result ℕ Fault
-byte_loaded b a = unless (load_fault b a) (b.at a)
+byte_loaded b a = ok_unless_fault (load_fault b a) (b.at a)
 
 -- a load or a store of a word takes any address, and is one of the word that holds it
 unfoldable pub word_loaded : Bytes → ℕ → Result ℕ Fault
-word_loaded b a = unless (load_fault b (word_start a)) (word_at b.at (word_start a))
+word_loaded b a = ok_unless_fault (load_fault b (word_start a)) (word_at b.at (word_start a))
 
 unfoldable pub byte_stored : (ℕ → Bool) → Bytes → ℕ → ℕ → Result Bytes Fault
-byte_stored owned b a byte = unless (store_fault owned b a) (with_byte b a byte)
+byte_stored owned b a byte = ok_unless_fault (store_fault owned b a) (with_byte b a byte)
 
 unfoldable pub word_stored : (ℕ → Bool) → Bytes → ℕ → ℕ → Result Bytes Fault
-word_stored owned b a word = unless (store_fault owned b (word_start a)) (with_word b (word_start a) word)
+word_stored owned b a word = ok_unless_fault (store_fault owned b (word_start a))
+    (with_word b (word_start a) word)

@@ -16,14 +16,15 @@ abbrev pub is_anchor : Class → Bool
 is_anchor Anchor = true
 is_anchor other = false
 
-abbrev pub number_of : Class → ℕ
-number_of Plain = 0
-number_of Heap = 1
-number_of FlexHeader = 2
-number_of Anchor = 3
+abbrev pub class_number : Class → ℕ
+class_number Plain = 0
+class_number Heap = 1
+class_number FlexHeader = 2
+class_number Anchor = 3
 
 abbrev pub class_of_number : ℕ → Class
-class_of_number n = if n == 0 then Plain else (if n == 1 then Heap else (if n == 2 then FlexHeader else Anchor))
+class_of_number n = if n == 0 then Plain else (if n == 1 then Heap
+    else (if n == 2 then FlexHeader else Anchor))
 
 -- what the lowest bit of the number in a lane counts
 abbrev pub weight : ℕ → ℕ

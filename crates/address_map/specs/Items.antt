@@ -22,8 +22,8 @@ abbrev pub is_total : ℕ → Bool
 is_total t = nat_le 8 t && t % 8 == 0
 
 -- where a link at `from` leads: no link is 0
-abbrev pub linked : ℕ → ℕ → ℕ
-linked from distance = if distance == 0 then 0 else from + distance
+abbrev pub link_target : ℕ → ℕ → ℕ
+link_target from distance = if distance == 0 then 0 else from + distance
 
 -- the item that the words at `at` spell, if its length is one that an item can have
 abbrev pub item_at : (ℕ → ℕ) → ℕ → ℕ → Option Item
@@ -35,12 +35,12 @@ item_at w at free =
 -- where the next free item after the item at `at` is, or 0
 abbrev pub free_after : (ℕ → ℕ) → ℕ → ℕ → Item → ℕ
 free_after w at free (Live t) = free
-free_after w at free (Free t) = linked at (w at)
+free_after w at free (Free t) = link_target at (w at)
 
 -- an item and those that follow it, or none where there is no item
-abbrev pub followed : Option Item → (Item → List Item) → List Item
-followed None rest = []
-followed (Some item) rest = item ∷ rest item
+abbrev pub item_and_rest : Option Item → (Item → List Item) → List Item
+item_and_rest None rest = []
+item_and_rest (Some item) rest = item ∷ rest item
 
 -- The items that the words from `at` on spell, up to the address `base`, where the next free one is
 -- at `free`, or there is none where that is 0. A length that no item can have ends them. Each item
@@ -49,11 +49,13 @@ followed (Some item) rest = item ∷ rest item
 abbrev pub items_from : ℕ → (ℕ → ℕ) → ℕ → ℕ → ℕ → List Item
 items_from zero w at free base = []
 items_from (suc most) w at free base = if nat_le base at then [] else
-    followed (item_at w at free) (λ item. items_from most w (at + total_of item) (free_after w at free item) base)
+    item_and_rest (item_at w at free) (λ item. items_from most w (at + total_of item)
+    (free_after w at free item) base)
 
 -- the items of the heap whose descriptor is at `start`; `w` tells the word at each address
 unfoldable pub items_in : (ℕ → ℕ) → ℕ → List Item
-items_in w start = items_from (w (start + 8)) w (start + 16) (linked start (w (start + 4))) (start + w (start + 8))
+items_in w start = items_from (w (start + 8)) w (start + 16) (link_target start (w (start + 4)))
+    (start + w (start + 8))
 
 -- is the word at `a` one of those that the item at `at` spells?
 abbrev pub is_head_of : ℕ → Item → ℕ → Bool

@@ -19,12 +19,12 @@ abbrev pub frame_at : List (Option ℕ) → ℕ → Option ℕ
 frame_at frames page = slice_index_or frames page None
 
 -- where in the store the byte of an address lies, by the frame of its page
-abbrev pub place_by : ℕ → Option ℕ → Option ℕ
-place_by a None = None
-place_by a (Some frame) = Some (4096 * frame + a % 4096)
+abbrev pub place_in_frame : ℕ → Option ℕ → Option ℕ
+place_in_frame a None = None
+place_in_frame a (Some frame) = Some (4096 * frame + a % 4096)
 
 abbrev pub place_in : List (Option ℕ) → ℕ → Option ℕ
-place_in frames a = place_by a (frame_at frames (a / 4096))
+place_in frames a = place_in_frame a (frame_at frames (a / 4096))
 
 -- how many frames there are: those of the mapped pages, and the free ones
 abbrev pub frame_count : List (Option ℕ) → List ℕ → ℕ
@@ -43,7 +43,8 @@ IsUnused frames frame = (page : ℕ) → frame_at frames page ≢ Some frame
 pub record IsPageTable (frames : List (Option ℕ)) (free : List ℕ) : Type 0 where
   pub size : 4096 * length frames ≡ 2 ^ 26
   pub within : (page frame : ℕ) → frame_at frames page ≡ Some frame → frame < frame_count frames free
-  pub single : (page other frame : ℕ) → frame_at frames page ≡ Some frame → frame_at frames other ≡ Some frame → page ≡ other
+  pub single : (page other frame : ℕ) → frame_at frames page ≡ Some frame →
+      frame_at frames other ≡ Some frame → page ≡ other
   pub free_within : All (λ frame. frame < frame_count frames free) free
   pub unused : All (IsUnused frames) free
   pub apart : AllPairs ◌≢◌ free

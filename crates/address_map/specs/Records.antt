@@ -7,7 +7,7 @@ use Rattle.address_map.specs.declared.class.Class.TheVariants as class
 use Rattle.address_map.specs.declared.region.Kind.{Kind}
 use Rattle.address_map.specs.declared.region.Kind.TheVariants as kind
 use Rattle.address_map.specs.declared.region.Region.{Region}
-use Rattle.address_map.specs.Bytes.{in_range, meets, word_start}
+use Rattle.address_map.specs.Bytes.{in_range, shares_address, word_start}
 
 abbrev pub is_heap_kind : Kind → Bool
 is_heap_kind kind.Heap = true
@@ -16,14 +16,14 @@ is_heap_kind other = false
 
 -- The class that a kind gives to the one word at its address. The other kinds are those of recorded
 -- ranges.
-abbrev pub mark_of : Kind → Option Class
-mark_of kind.HeadWord = Some class.Heap
-mark_of kind.FlexHeader = Some class.FlexHeader
-mark_of kind.Anchor = Some class.Anchor
-mark_of other = None
+abbrev pub class_of_kind : Kind → Option Class
+class_of_kind kind.HeadWord = Some class.Heap
+class_of_kind kind.FlexHeader = Some class.FlexHeader
+class_of_kind kind.Anchor = Some class.Anchor
+class_of_kind other = None
 
 abbrev pub is_word_kind : Kind → Bool
-is_word_kind kind = is_some (mark_of kind)
+is_word_kind kind = is_some (class_of_kind kind)
 
 -- the classes after the word at `at` got one
 abbrev pub with_class : (ℕ → Class) → ℕ → Class → ℕ → Class
@@ -35,7 +35,7 @@ with_class_of (Some mark) at classes a = with_class classes at mark a
 
 -- the classes after a word, or a range, is owned
 abbrev pub with_mark : Kind → ℕ → (ℕ → Class) → ℕ → Class
-with_mark kind at classes a = with_class_of (mark_of kind) at classes a
+with_mark kind at classes a = with_class_of (class_of_kind kind) at classes a
 
 abbrev pub plain_if_some : Option Class → Option Class
 plain_if_some None = None
@@ -43,7 +43,7 @@ plain_if_some (Some mark) = Some class.Plain
 
 -- the classes after a word, or a range, is owned no more
 abbrev pub without_mark : Kind → ℕ → (ℕ → Class) → ℕ → Class
-without_mark kind at classes a = with_class_of (plain_if_some (mark_of kind)) at classes a
+without_mark kind at classes a = with_class_of (plain_if_some (class_of_kind kind)) at classes a
 
 -- the classes after the `len` bytes from `at` on became plain
 abbrev pub with_plain_at : (ℕ → Class) → ℕ → ℕ → ℕ → Class
@@ -56,7 +56,7 @@ pub record IsRegion (region : Region) : Type 0 where
 
 -- does a recorded range share an address with the `len` bytes from `at` on?
 abbrev pub meets_record : List Region → ℕ → ℕ → Bool
-meets_record regions at len = list_any (λ region. meets at len region.at region.len) regions
+meets_record regions at len = list_any (λ region. shares_address at len region.at region.len) regions
 
 -- the record after a range more, which goes to its end; a word is marked, and needs no record
 abbrev pub with_region : List Region → Region → List Region
@@ -79,7 +79,8 @@ is_record kind at region = are_same kind region.kind && region.at == at
 -- none
 abbrev pub without_region : List Region → Kind → ℕ → List Region
 without_region [] kind at = []
-without_region (region ∷ regions) kind at = if is_record kind at region then regions else region ∷ without_region regions kind at
+without_region (region ∷ regions) kind at = if is_record kind at region then regions
+    else region ∷ without_region regions kind at
 
 -- the record after the first range of that kind that starts at `at` got another length
 abbrev pub with_len : List Region → Kind → ℕ → ℕ → List Region

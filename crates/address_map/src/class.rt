@@ -1,7 +1,7 @@
 //! The class of a byte of memory: the guest's own, or a word that the store calls keep a record in.
 
 ghost use Rattle.std.specs.Prelude.{◌≡◌};
-ghost use Rattle.address_map.specs.Classes.{number_of, is_anchor};
+ghost use Rattle.address_map.specs.Classes.{class_number, is_anchor};
 ghost use Rattle.address_map.specs.Memory.{is_plain};
 
 /// What the store calls use a byte of memory for. A guest may write to `Plain` bytes alone.
@@ -36,7 +36,7 @@ impl Class {
 
     /// The class as a number of two bits.
     pub(crate) fn number(self) -> u8
-        ensures { result ≡ number_of self }
+        ensures { result ≡ class_number self }
     {
         match self {
             Class::Plain => 0,

@@ -213,7 +213,8 @@ impl AddressMap {
     fn write_span(&mut self, span: Span, bytes: &[u8])
         requires span { IsSpan self.old span.addr span.place span.len }
         requires within { length bytes.now ≤ span.len }
-        ensures bytes { (a : ℕ) → byte_at self.new a ≡ with_bytes_at (byte_at self.old) span.addr bytes.now a }
+        ensures bytes { (a : ℕ) → byte_at self.new a ≡ with_bytes_at
+            (byte_at self.old) span.addr bytes.now a }
         ensures layout { layout self.new ≡ layout self.old }
         ensures marks { class_of self.new ≡ class_of self.old }
     {

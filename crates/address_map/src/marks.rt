@@ -3,7 +3,7 @@
 ghost use Rattle.std.specs.Prelude.{ℕ, ◌≡◌, ◌≢◌, ◌<◌, ◌≤◌, ◌+◌, ◌*◌, ◌/◌, ◌%◌, ◌==◌, true, IfOk, length, if◌then◌else◌};
 ghost use Rattle.address_map.specs.declared.class.Class.{Class};
 ghost use Rattle.address_map.specs.Bytes.{in_range};
-ghost use Rattle.address_map.specs.Classes.{lane, weight, number_of};
+ghost use Rattle.address_map.specs.Classes.{lane, weight, class_number};
 
 use crate::class::Class;
 use crate::table::Table;
@@ -97,7 +97,8 @@ impl Marks {
     pub(crate) fn clear(&mut self, first: usize, count: usize)
         requires { first + count ≤ length self.old.bytes }
         ensures classes { (k : ℕ) →
-            class_at self.new k ≡ (if in_range (4 * first) (4 * count) k then Class.Plain else class_at self.old k) }
+            class_at self.new k ≡ (if in_range (4 * first) (4 * count) k then Class.Plain
+            else class_at self.old k) }
         ensures len { length self.new.bytes ≡ length self.old.bytes }
     {
         // Their number is a `usize`, so that the sums are too.

@@ -48,7 +48,8 @@ impl AddressMap {
     /// All bytes of the page that an address lies in, or `None` where no memory is mapped.
     pub(crate) fn page_at(&self, addr: u32) -> Option<Span>
         ensures { MatchOption result (place self.now addr ≡ None) (λ page.
-            (page.addr ≤ addr) × (addr < page.addr + page.len) × IsSpan self.now page.addr page.place page.len) }
+            (page.addr ≤ addr) × (addr < page.addr + page.len) ×
+            IsSpan self.now page.addr page.place page.len) }
     {
         let place = self.translate(addr)?;
         let offset = addr % PAGE_SIZE;
@@ -65,7 +66,8 @@ impl AddressMap {
         requires below { base + 4096 * count ≤ 2 ^ 26 }
         requires unmapped { AreUnmapped (is_mapped self.old) base (4096 * count) }
         requires pages { count ≤ free_pages self.old }
-        ensures mapping { (a : ℕ) → is_mapped self.new a ≡ (in_range base (4096 * count) a || is_mapped self.old a) }
+        ensures mapping { (a : ℕ) → is_mapped self.new a
+            ≡ (in_range base (4096 * count) a || is_mapped self.old a) }
         ensures stays { StaysInPlace self.old self.new }
 
         // The bytes of the new pages are 0, as those of addresses that are not mapped.
@@ -112,10 +114,12 @@ impl AddressMap {
         ensures mapping { (a : ℕ)
             → is_mapped self.new a ≡ (is_mapped self.old a && not (in_range base (4096 * count) a)) }
         ensures stays { StaysInPlace self.old self.new }
-        ensures bytes { (a : ℕ) → byte_at self.new a ≡ with_zeros_at (byte_at self.old) base (4096 * count) a }
+        ensures bytes { (a : ℕ) → byte_at self.new a ≡ with_zeros_at (byte_at self.old) base
+            (4096 * count) a }
         ensures pages { free_pages self.new ≡ free_pages self.old + count }
         ensures regions { regions self.new ≡ regions self.old }
-        ensures marks { (a : ℕ) → class_of self.new a ≡ with_plain_at (class_of self.old) base (4096 * count) a }
+        ensures marks { (a : ℕ) → class_of self.new a ≡ with_plain_at (class_of self.old) base
+            (4096 * count) a }
     {
         for done in 0..count {
             self.unmap_page(base + PAGE_SIZE * done);
@@ -126,7 +130,8 @@ impl AddressMap {
     fn unmap_page(&mut self, addr: u32)
         requires aligned { addr % 4096 ≡ 0 }
         requires mapped { IsTrue (is_mapped self.old addr) }
-        ensures mapping { (a : ℕ) → is_mapped self.new a ≡ (is_mapped self.old a && not (in_range addr 4096 a)) }
+        ensures mapping { (a : ℕ) → is_mapped self.new a
+            ≡ (is_mapped self.old a && not (in_range addr 4096 a)) }
         ensures stays { StaysInPlace self.old self.new }
         ensures bytes { (a : ℕ) → byte_at self.new a ≡ with_zeros_at (byte_at self.old) addr 4096 a }
         ensures pages { free_pages self.new ≡ free_pages self.old + 1 }

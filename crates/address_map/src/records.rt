@@ -146,7 +146,8 @@ impl AddressMap {
         ensures found { MatchOption result (without_region (regions self.now) kind at ≡ regions self.now)
             (λ i. (i < length (regions self.now))
             × (without_region (regions self.now) kind at ≡ remove (regions self.now) i)) }
-        ensures len { MatchOption result ((len : ℕ) → with_len (regions self.now) kind at len ≡ regions self.now)
+        ensures len { MatchOption result ((len : ℕ) → with_len (regions self.now) kind at len
+            ≡ regions self.now)
             (λ i. (len : ℕ) → with_len (regions self.now) kind at len
             ≡ slice_set (regions self.now) i (record { kind = kind; at = at; len = len })) }
     {

@@ -1,8 +1,8 @@
 //! The kinds of recorded ranges and marked words, and one recorded range.
 
 ghost use Rattle.std.specs.Prelude.{◌≡◌};
-ghost use Rattle.address_map.specs.Bytes.{meets};
-ghost use Rattle.address_map.specs.Records.{is_heap_kind, is_record, mark_of, starts_heap};
+ghost use Rattle.address_map.specs.Bytes.{shares_address};
+ghost use Rattle.address_map.specs.Records.{is_heap_kind, is_record, class_of_kind, starts_heap};
 
 use crate::class::Class;
 
@@ -41,7 +41,7 @@ impl Kind {
     /// ranges.
     #[inline(always)]
     pub(crate) fn mark(&self) -> Option<Class>
-        ensures { result ≡ mark_of self.now }
+        ensures { result ≡ class_of_kind self.now }
     {
         match self {
             Kind::HeadWord => Some(Class::Heap),
@@ -80,7 +80,7 @@ impl Region {
 
 /// Whether two ranges share an address.
 pub fn do_meet(at: u32, len: u32, other: u32, other_len: u32) -> bool
-    ensures { result ≡ meets at len other other_len }
+    ensures { result ≡ shares_address at len other other_len }
 {
     let end = u64::from(at) + u64::from(len);
     let other_end = u64::from(other) + u64::from(other_len);

@@ -24,7 +24,8 @@ impl<T: Copy + Drop> Table<T> {
     /// A table of `len` entries, all the same.
     pub(crate) fn new(alloc: Global, entry: T, len: usize) -> Result<Table<T>, AllocError>
         ensures len { IfOk result (λ t. length t ≡ len) }
-        ensures entries_if_clones_equal { IfOk result (λ t. ((y : T) → T.is_clone entry y → y ≡ entry) → t ≡ replicate len entry) }
+        ensures entries_if_clones_equal { IfOk result (λ t. ((y : T) → T.is_clone entry y → y ≡ entry) →
+            t ≡ replicate len entry) }
     {
         Ok(Table {
             entries: vec![in alloc; entry; len]?,

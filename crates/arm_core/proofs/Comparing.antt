@@ -11,7 +11,7 @@ use Rattle.arm_core.specs.State.{State}
 use Rattle.arm_core.specs.Effect.{plain_operand}
 use Rattle.arm_core.specs.Operand.{operand_of, words_ahead}
 use Rattle.arm_core.proofs.OperandWords.{plain_word, operand_word}
-use Rattle.arm_core.specs.Operate.{operated}
+use Rattle.arm_core.specs.Operate.{state_after_operate}
 use Rattle.arm_core.specs.Laws.{PairsDiffer, TellsOrder, CompareTells}
 
 not_not : (b : Bool) → b ≡ not (not b)
@@ -48,8 +48,8 @@ order : (p : Psr) (x y : ℕ) → x < 2 ^ 32 → y < 2 ^ 32 → TellsOrder (comp
 order p x y h g = first_of (search rules, grind (arith, common_steps))
 
 compares : (s : State) (o : Operate) → o.operation ≡ operation.Compare → nat_eq o.rd 15 ≡ false
-    → (operated s o).psr ≡ compared s.psr (plain_operand s o.rn (words_ahead o.operand)) (operand_of s o.operand).value
-unfolding operated
+    → (state_after_operate s o).psr ≡ compared s.psr (plain_operand s o.rn (words_ahead o.operand)) (operand_of s o.operand).value
+unfolding state_after_operate
 compares s o e h = rw (e, h) refl
 
 pub compare_tells : CompareTells

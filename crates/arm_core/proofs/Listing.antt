@@ -6,7 +6,7 @@ use Rattle.std.proofs.lemmas.Bool.Decides.{nat_tests}
 use Rattle.std.proofs.lemmas.List.{map-append}
 use Rattle.std.proofs.lemmas.Nat.{mod-pow-add, ones_cat, pow_pos}
 use Rattle.profile.specs.Word.{bit_of}
-use Rattle.arm_core.specs.Listed.{listed_below, listed}
+use Rattle.arm_core.specs.Listed.{listed_below, registers_of_list}
 
 pub listed_with : (list n : ℕ) → bit_of list n ≡ true → listed_below (n + 1) list ≡ listed_below n list ++ n ∷ []
 unfolding listed_below
@@ -20,8 +20,8 @@ pub listed_none : (list : ℕ) → listed_below 0 list ≡ []
 unfolding listed_below
 listed_none list = refl
 
-pub listed_all : (list n : ℕ) → n ≡ 16 → listed_below n list ≡ listed list
-unfolding listed
+pub listed_all : (list n : ℕ) → n ≡ 16 → listed_below n list ≡ registers_of_list list
+unfolding registers_of_list
 listed_all list n h = ap (λ k. listed_below k list) h
 
 few_one : (b : Bool) (n : ℕ) (xs : List ℕ) → length xs ≤ n → length (xs ++ cond b (n ∷ []) []) ≤ suc n
@@ -33,8 +33,8 @@ unfolding listed_below
 few_listed list zero = omega arith
 few_listed list (suc n) = few_one (bit_of list n) n (listed_below n list) (few_listed list n)
 
-pub few_of_all : (list : ℕ) → length (listed list) ≤ 16
-unfolding listed
+pub few_of_all : (list : ℕ) → length (registers_of_list list) ≤ 16
+unfolding registers_of_list
 few_of_all list = few_listed list 16
 
 -- as many as bits are set
@@ -64,8 +64,8 @@ ones_below list (suc n) =
     ap ones parts ∙ ones_cat n (list / 2 ^ n % 2) (list % 2 ^ n) low ∙ ap (λ k. ones (list / 2 ^ n % 2) + k) (ones_below list n)
     ∙ ones_one (bit_of list n) (list / 2 ^ n % 2) refl bit n (listed_below n list)
 
-pub counted : (list : ℕ) → list < 2 ^ 16 → count_ones list ≡ length (listed list)
-unfolding listed
+pub counted : (list : ℕ) → list < 2 ^ 16 → count_ones list ≡ length (registers_of_list list)
+unfolding registers_of_list
 counted list h = let all : list % 2 ^ 16 ≡ list = omega arith in ap ones (sym all) ∙ ones_below list 16
 
 -- the words of the registers so far
@@ -80,8 +80,8 @@ below_more list n (suc k) =
     let next : suc k + n ≡ suc (k + n) = omega arith in
     rw next (omega (arith, below_more list n k, below_next (bit_of list (k + n)) (k + n) (listed_below (k + n) list)))
 
-pub has_word : (list n : ℕ) → bit_of list n ≡ true → n < 16 → length (listed_below n list) < length (listed list)
-unfolding listed
+pub has_word : (list n : ℕ) → bit_of list n ≡ true → n < 16 → length (listed_below n list) < length (registers_of_list list)
+unfolding registers_of_list
 has_word list n e h =
     let rest : (16 - (n + 1)) + (n + 1) ≡ 16 = omega arith in
     let more : length (listed_below n list) + 1 ≡ length (listed_below (n + 1) list) = rw (listed_with list n e) (sym (length-append _ _)) in

@@ -6,7 +6,7 @@ use Rattle.std.proofs.lemmas.Bool.Decides.{nat_tests}
 use Rattle.std.proofs.lemmas.Nat.{and_le_l}
 use Rattle.std.proofs.lemmas.Nat.Bits.{bit_at-suc, bit_at-trailing_zeros, bit_at-zero, bit_at_above, bit_at_and, bit_at_lowest}
 use Rattle.profile.specs.Word.{bit_of}
-use Rattle.arm_core.specs.Listed.{listed_below, listed}
+use Rattle.arm_core.specs.Listed.{listed_below, registers_of_list}
 
 none_below : (n x : ℕ) → ((i : ℕ) → i < n → bit_of x i ≡ false) → listed_below n x ≡ []
 unfolding listed_below
@@ -118,16 +118,16 @@ is_split x some few =
       others = λ i below other. ap (λ (b : ℕ). nat_eq b 1) (without_other k x i found.1 found.2 other);
     }
 
-pub listed_split : (x : ℕ) → 0 < x → x < 2 ^ 16 → listed x ≡ trailing_zeros w64 x ∷ listed (without x)
-unfolding listed
+pub listed_split : (x : ℕ) → 0 < x → x < 2 ^ 16 → registers_of_list x ≡ trailing_zeros w64 x ∷ registers_of_list (without x)
+unfolding registers_of_list
 listed_split x some few =
     let k = trailing_zeros w64 x in
     let below : k < 16 = lowest_below x some few in
     let all : suc ((15 - k) + k) ≡ 16 = omega arith in
     rw (sym all) (split_below x (without x) k (15 - k) (is_split x some few) (omega arith))
 
-pub listed_empty : listed 0 ≡ []
-unfolding listed
+pub listed_empty : registers_of_list 0 ≡ []
+unfolding registers_of_list
 listed_empty = none_below 16 0 (λ i below. refl_bit i) where
   refl_bit : (i : ℕ) → bit_of 0 i ≡ false
   refl_bit i = let e : 0 / 2 ^ i % 2 ≡ 0 = omega arith in bit_clear 0 i e
@@ -135,5 +135,5 @@ listed_empty = none_below 16 0 (λ i below. refl_bit i) where
 pub ruleset splitting = (lowest_below, lowest_low, without_below, without_low, listed_split)
 
 -- one register more
-pub length_next : (x y r : ℕ) → listed x ≡ r ∷ listed y → length (listed x) ≡ length (listed y) + 1
+pub length_next : (x y r : ℕ) → registers_of_list x ≡ r ∷ registers_of_list y → length (registers_of_list x) ≡ length (registers_of_list y) + 1
 length_next x y r e = omega (arith, ap length e)

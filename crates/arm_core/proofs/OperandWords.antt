@@ -5,8 +5,8 @@ use Rattle.std.proofs.lemmas.Bool.{le-ltb}
 use Rattle.std.proofs.lemmas.Bool.Decides.{nat_tests}
 use Rattle.std.proofs.lemmas.Int.{to_z_pos}
 use Rattle.std.proofs.lemmas.Nat.{pow-add, pow_pos, shr_below, shr_le, mul-add-lt}
-use Rattle.profile.specs.Sums.{signed}
-use Rattle.profile.specs.Shift.{rotated}
+use Rattle.profile.specs.Sums.{signed_value_of}
+use Rattle.profile.specs.Shift.{rotation_of}
 use Rattle.profile.specs.declared.shift.Shifted.{Shifted}
 use Rattle.arm_decode.specs.Ranges.{FitsOperand}
 use Rattle.arm_decode.specs.declared.shift.Shift.{Shift}
@@ -19,7 +19,7 @@ use Rattle.arm_core.specs.declared.psr.Psr.{Psr}
 use Rattle.arm_core.specs.Psr.{psr_bits, mode_number}
 use Rattle.arm_core.specs.State.{State, IsCore, register_in}
 use Rattle.arm_core.specs.Effect.{ahead, plain_operand, status_operand}
-use Rattle.arm_core.specs.Operand.{kept, shifted_by, shifted_by_zero, shifted_by_number, shifted_by_byte, immediate, operand_of}
+use Rattle.arm_core.specs.Operand.{unshifted_value, shifted_value, shifted_by_zero, shifted_by_number, shifted_by_byte, rotated_immediate, operand_of}
 use Rattle.arm_core.proofs.Turning.{one_below}
 
 pub is_word : (s : State) (m : Mode) (r : ℕ) → IsCore s → register_in m s r < 2 ^ 32
@@ -68,7 +68,7 @@ pub status_word : (m : Mode) (s : State) (n k : ℕ) → IsCore s → status_ope
 status_word m s n k i = status_by m s n k (nat_eq n 15) i
 
 -- shifts of a word
-signed_word : (x n : ℕ) (b : Bool) → nat_lt x (2 ^ 31) ≡ b → x < 2 ^ 32 → cast_unsigned w32 (int_shr (signed x) n) < 2 ^ 32
+signed_word : (x n : ℕ) (b : Bool) → nat_lt x (2 ^ 31) ≡ b → x < 2 ^ 32 → cast_unsigned w32 (int_shr (signed_value_of x) n) < 2 ^ 32
 signed_word x n true e h = let low : x < 2 ^ 31 = grind (arith, nat_tests) in let less = shr_le x n in rw (to_z_pos w32 x low) (omega (arith, less))
 signed_word x n false e h = let high : 2 ^ 31 ≤ x = grind (arith, nat_tests) in rw (le-ltb x (2 ^ 31) high) (omega arith)
 
@@ -85,10 +85,10 @@ turned_word x k h g =
     let power : 2 ^ (32 - k) * 2 ^ k ≡ 2 ^ 32 = sym (pow-add 2 (32 - k) k) ∙ ap (λ j. 2 ^ j) other in
     omega arith
 
-rotated_word : (x n : ℕ) → x < 2 ^ 32 → (rotated x n).value < 2 ^ 32
+rotated_word : (x n : ℕ) → x < 2 ^ 32 → (rotation_of x n).value < 2 ^ 32
 rotated_word x n h = turned_word x (n % 32) (omega arith) h
 
-shifted_word : (kind : Shift) (x n : ℕ) → x < 2 ^ 32 → (shifted_by kind x n).value < 2 ^ 32
+shifted_word : (kind : Shift) (x n : ℕ) → x < 2 ^ 32 → (shifted_value kind x n).value < 2 ^ 32
 shifted_word shift.LogicalLeft x n h = omega arith
 shifted_word shift.LogicalRight x n h = let less = shr_le x n in omega (arith, less)
 shifted_word shift.ArithmeticRight x n h = signed_word x n (nat_lt x (2 ^ 31)) refl h
@@ -105,15 +105,15 @@ either true y z h g = h
 either false y z h g = g
 
 number_word : (kind : Shift) (x n : ℕ) (c : Bool) → x < 2 ^ 32 → (shifted_by_number kind x n c).value < 2 ^ 32
-number_word kind x n c h = either (nat_eq n 0) (shifted_by_zero kind x c) (shifted_by kind x n) (zero_word kind x c h) (shifted_word kind x n h)
+number_word kind x n c h = either (nat_eq n 0) (shifted_by_zero kind x c) (shifted_value kind x n) (zero_word kind x c h) (shifted_word kind x n h)
 
 byte_word : (kind : Shift) (x n : ℕ) (c : Bool) → x < 2 ^ 32 → (shifted_by_byte kind x n c).value < 2 ^ 32
-byte_word kind x n c h = either (nat_eq n 0) (kept x c) (shifted_by kind x n) h (shifted_word kind x n h)
+byte_word kind x n c h = either (nat_eq n 0) (unshifted_value x c) (shifted_value kind x n) h (shifted_word kind x n h)
 
-immediate_word : (rotation byte : ℕ) (c : Bool) → byte < 2 ^ 8 → (immediate rotation byte c).value < 2 ^ 32
+immediate_word : (rotation byte : ℕ) (c : Bool) → byte < 2 ^ 8 → (rotated_immediate rotation byte c).value < 2 ^ 32
 immediate_word rotation byte c h =
     let word : byte < 2 ^ 32 = omega arith in
-    either (nat_eq rotation 0) (kept byte c) (rotated byte (2 * rotation)) word (rotated_word byte (2 * rotation) word)
+    either (nat_eq rotation 0) (unshifted_value byte c) (rotation_of byte (2 * rotation)) word (rotated_word byte (2 * rotation) word)
 
 pub operand_word : (s : State) (o : Operand) → IsCore s → FitsOperand o → (operand_of s o).value < 2 ^ 32
 operand_word s (operand.Immediate rotation byte) i f = immediate_word rotation byte s.psr.carry f.1

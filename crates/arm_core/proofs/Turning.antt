@@ -6,7 +6,7 @@ use Rattle.std.proofs.lemmas.Nat.{pow-add, shl-shr, shr-shr, mod-pow-add}
 use Rattle.std.proofs.Math.Nat.{mul-mod_left}
 use Rattle.profile.specs.Shift.{rotated_through}
 use Rattle.profile.specs.declared.shift.Shifted.{Shifted}
-use Rattle.arm_core.specs.Operand.{kept}
+use Rattle.arm_core.specs.Operand.{unshifted_value}
 use Rattle.arm_core.specs.Laws.{turned_times, RotatesByShifting, TurnsRound}
 
 left_part : (x n : ℕ) → n < 32 → x * 2 ^ (32 - n) % 2 ^ 32 ≡ x % 2 ^ n * 2 ^ (32 - n)
@@ -82,9 +82,9 @@ turned_on (suc k) j n s h i =
     }) in
     record { below = next.below; place = next.place ∙ ap (turned n) e }
 
-same_parts : (x y : ℕ) (b c : Bool) → x < 2 ^ 32 → y < 2 ^ 32 → x + from_bool b * 2 ^ 32 ≡ y + from_bool c * 2 ^ 32 → kept x b ≡ kept y c
-same_parts x y true true h g e = let same : x ≡ y = omega arith in ap (λ z. kept z true) same
-same_parts x y false false h g e = let same : x ≡ y = omega arith in ap (λ z. kept z false) same
+same_parts : (x y : ℕ) (b c : Bool) → x < 2 ^ 32 → y < 2 ^ 32 → x + from_bool b * 2 ^ 32 ≡ y + from_bool c * 2 ^ 32 → unshifted_value x b ≡ unshifted_value y c
+same_parts x y true true h g e = let same : x ≡ y = omega arith in ap (λ z. unshifted_value z true) same
+same_parts x y false false h g e = let same : x ≡ y = omega arith in ap (λ z. unshifted_value z false) same
 same_parts x y true false h g e = absurd (omega arith)
 same_parts x y false true h g e = absurd (omega arith)
 
@@ -101,6 +101,6 @@ carried_below v false h = omega arith
 pub turns_round : TurnsRound
 turns_round v c h =
     let n = v + from_bool c * 2 ^ 32 in
-    let start : IsTurned (kept v c) (v + from_bool c * 2 ^ 32) 0 = record { below = h; place = sym (none_round n) } in
-    let end = turned_on 33 0 n (kept v c) (omega arith) start in
-    same_parts (turned_times 33 (kept v c)).value v (turned_times 33 (kept v c)).carry c end.below h (end.place ∙ all_round n (carried_below v c h))
+    let start : IsTurned (unshifted_value v c) (v + from_bool c * 2 ^ 32) 0 = record { below = h; place = sym (none_round n) } in
+    let end = turned_on 33 0 n (unshifted_value v c) (omega arith) start in
+    same_parts (turned_times 33 (unshifted_value v c)).value v (turned_times 33 (unshifted_value v c)).carry c end.below h (end.place ∙ all_round n (carried_below v c h))

@@ -8,20 +8,20 @@ abbrev pub are_alike : Bool → Bool → Bool
 are_alike true b = b
 are_alike false b = not b
 
-abbrev pub holds : Condition → Psr → Bool
-holds condition.Equal p = p.zero
-holds condition.NotEqual p = not p.zero
-holds condition.CarrySet p = p.carry
-holds condition.CarryClear p = not p.carry
-holds condition.Minus p = p.negative
-holds condition.Plus p = not p.negative
-holds condition.OverflowSet p = p.overflow
-holds condition.OverflowClear p = not p.overflow
-holds condition.Higher p = p.carry && not p.zero
-holds condition.LowerOrSame p = not p.carry || p.zero
-holds condition.GreaterOrEqual p = are_alike p.negative p.overflow
-holds condition.LessThan p = not (are_alike p.negative p.overflow)
-holds condition.GreaterThan p = not p.zero && are_alike p.negative p.overflow
-holds condition.LessOrEqual p = p.zero || not (are_alike p.negative p.overflow)
-holds condition.Always p = true
-holds condition.Never p = false
+abbrev pub condition_holds : Condition → Psr → Bool
+condition_holds condition.Equal p = p.zero
+condition_holds condition.NotEqual p = not p.zero
+condition_holds condition.CarrySet p = p.carry
+condition_holds condition.CarryClear p = not p.carry
+condition_holds condition.Minus p = p.negative
+condition_holds condition.Plus p = not p.negative
+condition_holds condition.OverflowSet p = p.overflow
+condition_holds condition.OverflowClear p = not p.overflow
+condition_holds condition.Higher p = p.carry && not p.zero
+condition_holds condition.LowerOrSame p = not p.carry || p.zero
+condition_holds condition.GreaterOrEqual p = are_alike p.negative p.overflow
+condition_holds condition.LessThan p = not (are_alike p.negative p.overflow)
+condition_holds condition.GreaterThan p = not p.zero && are_alike p.negative p.overflow
+condition_holds condition.LessOrEqual p = p.zero || not (are_alike p.negative p.overflow)
+condition_holds condition.Always p = true
+condition_holds condition.Never p = false

@@ -12,8 +12,8 @@ abbrev pub ahead : State → ℕ → ℕ
 ahead s words = (s.pc + 4 * words) % 2 ^ 26
 
 -- After an instruction that doesn't set it, the program counter is at the next word.
-abbrev pub advanced : State → State
-advanced s = with_pc s (s.pc + 4)
+abbrev pub with_next_pc : State → State
+with_next_pc s = with_pc s (s.pc + 4)
 
 -- A register as an operand: R15 reads as the program counter ahead, with the status bits 0 or with the status.
 abbrev pub plain_operand : State → ℕ → ℕ → ℕ
@@ -35,5 +35,5 @@ abbrev pub with_status : State → ℕ → State
 with_status s v = with_psr s (psr_taken s.psr (psr_of v))
 
 -- N and Z of a result, with C and V as they come.
-abbrev pub flagged : State → Sum → State
-flagged s r = with_flags s (bit_of r.value 31) (r.value == 0) r.carry r.overflow
+abbrev pub with_result_flags : State → Sum → State
+with_result_flags s r = with_flags s (bit_of r.value 31) (r.value == 0) r.carry r.overflow

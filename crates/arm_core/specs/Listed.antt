@@ -7,5 +7,5 @@ unfoldable pub listed_below : ℕ → ℕ → List ℕ
 listed_below zero list = []
 listed_below (suc n) list = listed_below n list ++ (if bit_of list n then n ∷ [] else [])
 
-unfoldable pub listed : ℕ → List ℕ
-listed list = listed_below 16 list
+unfoldable pub registers_of_list : ℕ → List ℕ
+registers_of_list list = listed_below 16 list

@@ -13,7 +13,8 @@ mode_number Interrupt = 2
 mode_number Supervisor = 3
 
 abbrev pub mode_numbered : ℕ → Mode
-mode_numbered n = if n == 0 then User else (if n == 1 then FastInterrupt else (if n == 2 then Interrupt else Supervisor))
+mode_numbered n = if n == 0 then User else (if n == 1 then FastInterrupt
+    else (if n == 2 then Interrupt else Supervisor))
 
 abbrev pub mode_of : ℕ → Mode
 mode_of word = mode_numbered (word % 4)
@@ -37,7 +38,12 @@ psr_of word = record {
 
 -- Of a status that an instruction sets, user mode takes the flags N, Z, C and V alone.
 abbrev pub psr_taken_in : Mode → Psr → Psr → Psr
-psr_taken_in User old new = record old { negative = new.negative; zero = new.zero; carry = new.carry; overflow = new.overflow }
+psr_taken_in User old new = record old {
+  negative = new.negative;
+  zero = new.zero;
+  carry = new.carry;
+  overflow = new.overflow;
+}
 psr_taken_in _ old new = new
 
 abbrev pub psr_taken : Psr → Psr → Psr

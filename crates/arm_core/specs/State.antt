@@ -1,4 +1,5 @@
 -- The core: its register file with the banks of the four modes, the status and the program counter (ARM2 data sheet, "Registers").
+use Rattle.profile.specs.MemoryMap.{application_start}
 use Rattle.std.specs.Prelude.{◌≡◌, ◌<◌, ℕ, Bool, length, ◌+◌, ◌*◌, ◌/◌, ◌%◌, ◌^◌, ◌==◌, nat_lt, if◌then◌else◌, List, [], ◌∷◌, slice_index, slice_set, false}
 use Rattle.std.specs.Prelude.{replicate, ◌++◌}
 use Rattle.arm_core.specs.declared.psr.Mode.{Mode}
@@ -64,7 +65,19 @@ with_mode s m = record s { psr = record s.psr { mode = m } }
 -- The start: user mode with all flags clear, the program counter at the start of the application space, every register 0 but the stack
 -- pointer of supervisor mode, which is the end of its stack.
 abbrev pub start_psr : Psr
-start_psr = record { negative = false; zero = false; carry = false; overflow = false; interrupts_off = false; fast_interrupts_off = false; mode = User }
+start_psr = record {
+  negative = false;
+  zero = false;
+  carry = false;
+  overflow = false;
+  interrupts_off = false;
+  fast_interrupts_off = false;
+  mode = User;
+}
 
-unfoldable pub start_state : State
-start_state = record { file = replicate 24 0 ++ 0x01C02000 ∷ 0 ∷ []; psr = start_psr; pc = 0x8000 }
+unfoldable pub cpu_start_state : State
+cpu_start_state = record {
+  file = replicate 24 0 ++ 0x01C02000 ∷ 0 ∷ [];
+  psr = start_psr;
+  pc = application_start;
+}

@@ -1,7 +1,7 @@
 //! When an instruction is carried out.
 
 ghost use Rattle.std.specs.Prelude.{◌≡◌};
-ghost use Rattle.arm_core.specs.Conditions.{holds};
+ghost use Rattle.arm_core.specs.Conditions.{condition_holds};
 
 use crate::psr::Psr;
 use arm_decode::Condition;
@@ -9,7 +9,7 @@ use arm_decode::Condition;
 /// Whether a condition holds by the flags of a status (ARM2 data sheet, "The condition field").
 #[inline(always)]
 pub fn is_met(condition: Condition, psr: Psr) -> bool
-    ensures { result ≡ holds condition psr }
+    ensures { result ≡ condition_holds condition psr }
 {
     // Nearly all instructions are carried out always.
     if condition == Condition::Always {

@@ -1,7 +1,7 @@
 //! The core: registers of all banks, status and program counter.
 
 ghost use Rattle.std.specs.Prelude.{◌≡◌, ◌<◌, ◌≤◌, ◌^◌, ◌%◌, ℕ, slice_index};
-ghost use Rattle.arm_core.specs.State.{IsCore, slot_of, register_in, with_register_in, register_of, with_register, r15_of, with_psr, with_pc, with_flags, with_overflow, with_mode, start_state};
+ghost use Rattle.arm_core.specs.State.{IsCore, slot_of, register_in, with_register_in, register_of, with_register, r15_of, with_psr, with_pc, with_flags, with_overflow, with_mode, cpu_start_state};
 
 use crate::psr::{Mode, Psr};
 use profile::memory_map::{ADDRESS_LIMIT, APPLICATION_START, SVC_STACK_END};
@@ -62,9 +62,9 @@ fn are_words(file: &[u32; 26])
 impl Cpu {
     /// The core as the machine starts: USR mode, all flags clear, the program counter at the start
     /// of the application space, every register 0 but R13 of SVC mode.
-    #[tactic(auto, unfolding(crate::specs::State::start_state))]
+    #[tactic(auto, unfolding(crate::specs::State::cpu_start_state))]
     pub fn new() -> Cpu
-        ensures { result ≡ start_state }
+        ensures { result ≡ cpu_start_state }
     {
         let mut file = [0; 26];
         file[24] = SVC_STACK_END;

@@ -1,7 +1,7 @@
 //! What instructions have in common: R15 as an operand and as a destination, the flags of a result.
 
 ghost use Rattle.std.specs.Prelude.{◌≡◌, ◌≤◌, ◌^◌, ◌-◌};
-ghost use Rattle.arm_core.specs.Effect.{ahead, advanced, plain_operand, status_operand, with_result_in, with_result, with_status, flagged};
+ghost use Rattle.arm_core.specs.Effect.{ahead, with_next_pc, plain_operand, status_operand, with_result_in, with_result, with_status, with_result_flags};
 ghost use Rattle.arm_core.specs.State.{with_flags};
 
 use crate::cpu::Cpu;
@@ -25,7 +25,7 @@ impl Cpu {
     /// Goes on to the next word.
     #[inline(always)]
     pub fn advance(&mut self)
-        ensures { self.new ≡ advanced self.old }
+        ensures { self.new ≡ with_next_pc self.old }
     {
         let next = self.pc() + 4;
         self.set_pc(next);
@@ -90,7 +90,7 @@ impl Cpu {
     /// Sets N and Z by a result, and C and V as they come with it.
     #[inline(always)]
     pub(crate) fn set_flags_of(&mut self, result_of: Sum)
-        ensures { self.new ≡ flagged self.old result_of }
+        ensures { self.new ≡ with_result_flags self.old result_of }
     {
         self.set_flags(
             is_bit_set(result_of.value, 31),

@@ -1,7 +1,7 @@
 //! The second operand of data processing.
 
 ghost use Rattle.std.specs.Prelude.{◌≡◌, ◌<◌, ◌≤◌, ◌^◌, ◌%◌};
-ghost use Rattle.arm_core.specs.Operand.{shifted_by, shifted_by_zero, shifted_by_number, shifted_by_byte, immediate, shifted_register, operand_of, words_ahead};
+ghost use Rattle.arm_core.specs.Operand.{shifted_value, shifted_by_zero, shifted_by_number, shifted_by_byte, rotated_immediate, shifted_register, operand_of, words_ahead};
 
 use crate::cpu::Cpu;
 use arm_decode::{Operand, Shift, ShiftedRegister};
@@ -11,7 +11,7 @@ use profile::shift::{Shifted, rotate, rotate_through, shift_left, shift_right, s
 #[inline(always)]
 fn shift_by(kind: Shift, word: u32, amount: u32) -> Shifted
     requires { 1 ≤ amount }
-    ensures { result ≡ shifted_by kind word amount }
+    ensures { result ≡ shifted_value kind word amount }
 {
     match kind {
         Shift::LogicalLeft => shift_left(word, amount),
@@ -62,7 +62,7 @@ fn shift_by_byte(kind: Shift, word: u32, amount: u32, carry: bool) -> Shifted
 #[inline(always)]
 fn immediate(rotation: u32, byte: u8, carry: bool) -> Shifted
     requires { rotation < 16 }
-    ensures { result ≡ immediate rotation byte carry }
+    ensures { result ≡ rotated_immediate rotation byte carry }
 {
     let word = u32::from(byte);
     if rotation == 0 {

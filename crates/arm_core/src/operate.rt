@@ -1,7 +1,7 @@
 //! Data processing, multiplication and branches.
 
 ghost use Rattle.std.specs.Prelude.{◌≡◌, ◌<◌, ◌≤◌, ◌^◌, ◌%◌};
-ghost use Rattle.arm_core.specs.Operate.{computed, tested, placed, finished, operated, product, multiplied, branched};
+ghost use Rattle.arm_core.specs.Operate.{sum_of_operation, state_after_test, state_with_result, state_after_result, state_after_operate, product, state_after_multiply, state_after_branch};
 
 use crate::cpu::Cpu;
 use crate::operand::words_ahead;
@@ -14,7 +14,7 @@ use profile::word::{Sum, add, subtract};
 /// the shifter and keeps V.
 #[inline(always)]
 fn compute(operation: Operation, first: u32, second: Shifted, psr: Psr) -> Sum
-    ensures { result ≡ computed operation first second psr }
+    ensures { result ≡ sum_of_operation operation first second psr }
 {
     let logical = match operation {
         Operation::And | Operation::Test => first & second.value,
@@ -39,10 +39,10 @@ fn compute(operation: Operation, first: u32, second: Shifted, psr: Psr) -> Sum
 
 impl Cpu {
     /// Data processing: AND to MVN.
-    #[tactic(auto, unfolding(crate::specs::Operate::operated))]
+    #[tactic(auto, unfolding(crate::specs::Operate::state_after_operate))]
     #[inline(always)]
     pub fn operate(&mut self, operate: &Operate)
-        ensures { self.new ≡ operated self.old operate.now }
+        ensures { self.new ≡ state_after_operate self.old operate.now }
     {
         let second = self.operand(&operate.operand);
         let first = self.plain_operand(operate.rn, words_ahead(&operate.operand));
@@ -54,7 +54,7 @@ impl Cpu {
     /// What data processing does with its result.
     #[inline(always)]
     fn finish(&mut self, operate: &Operate, computed: Sum)
-        ensures { self.new ≡ finished self.old operate.now computed }
+        ensures { self.new ≡ state_after_result self.old operate.now computed }
     {
         if operate.operation.is_test() {
             self.test(operate, computed);
@@ -66,7 +66,7 @@ impl Cpu {
     /// A test sets the flags, or in its form P the status.
     #[inline(always)]
     fn test(&mut self, operate: &Operate, computed: Sum)
-        ensures { self.new ≡ tested self.old operate.now computed }
+        ensures { self.new ≡ state_after_test self.old operate.now computed }
     {
         if operate.rd.is_pc() {
             self.set_status(computed.value);
@@ -78,7 +78,7 @@ impl Cpu {
     /// All others set Rd, and with S the flags or, where Rd is R15, the status.
     #[inline(always)]
     fn place(&mut self, operate: &Operate, computed: Sum)
-        ensures { self.new ≡ placed self.old operate.now computed }
+        ensures { self.new ≡ state_with_result self.old operate.now computed }
     {
         if !operate.sets_flags {
             self.set_result(operate.rd, computed.value);
@@ -109,7 +109,7 @@ impl Cpu {
     /// MUL and MLA.
     #[inline(always)]
     pub fn multiply(&mut self, multiply: &Multiply)
-        ensures { self.new ≡ multiplied self.old multiply.now }
+        ensures { self.new ≡ state_after_multiply self.old multiply.now }
     {
         let value = self.product(multiply);
         self.advance();
@@ -128,7 +128,7 @@ impl Cpu {
     #[inline(always)]
     pub fn branch(&mut self, links: bool, distance: u32)
         requires { distance < 2 ^ 24 }
-        ensures { self.new ≡ branched self.old links distance }
+        ensures { self.new ≡ state_after_branch self.old links distance }
     {
         let target = self.pc() + 8 + 4 * distance;
         if links {

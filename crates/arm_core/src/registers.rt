@@ -1,7 +1,7 @@
 //! The registers of a list: how many they are, and one after another, the lowest first.
 
 ghost use Rattle.std.specs.Prelude.{◌≡◌, ◌<◌, ◌≤◌, ◌^◌, ◌∷◌, length};
-ghost use Rattle.arm_core.specs.Listed.{listed};
+ghost use Rattle.arm_core.specs.Listed.{registers_of_list};
 
 use arm_decode::{Register, RegisterList};
 
@@ -9,7 +9,7 @@ use arm_decode::{Register, RegisterList};
 #[tactic(auto, using(crate::proofs::Listing::counted))]
 #[inline(always)]
 pub fn size_of(list: RegisterList) -> u32
-    ensures size { result ≡ length (listed list) }
+    ensures size { result ≡ length (registers_of_list list) }
     ensures few { result ≤ 16 }
 {
     list.bits().count_ones()
@@ -22,7 +22,7 @@ pub fn size_of(list: RegisterList) -> u32
 pub fn split_lowest(list: u64) -> (Register, u64)
     requires some { 0 < list }
     requires bits { list < 2 ^ 16 }
-    ensures registers { listed list ≡ result.0 ∷ listed result.1 }
+    ensures registers { registers_of_list list ≡ result.0 ∷ registers_of_list result.1 }
     ensures bits { result.1 < 2 ^ 16 }
     ensures below { list < 2 ^ 15 → result.0 < 15 }
     ensures low { list < 2 ^ 15 → result.1 < 2 ^ 15 }

@@ -3,8 +3,8 @@
 use Rattle.std.proofs.Common.{◌≡◌, ℕ, ◌^◌, ◌<◌, arith, ◌∙◌, sym, Ok, subst}
 use Rattle.arm_decode.proofs.Flags.{field-lt}
 use Rattle.arm_decode.proofs.Taken.{taken, word_comes_back}
-use Rattle.arm_decode.specs.Decoded.{decoded}
-use Rattle.arm_decode.specs.Diagrams.{word_of}
+use Rattle.arm_decode.specs.Decoded.{instruction_of_word}
+use Rattle.arm_decode.specs.Diagrams.{word_of_instruction}
 use Rattle.arm_decode.specs.Fields.{action_in}
 use Rattle.arm_decode.specs.Places.{sum_of_fields}
 use Rattle.arm_decode.specs.Ranges.{FitsFields}
@@ -27,17 +27,17 @@ abbrev transfer_with : Transfer → Offset → Action
 transfer_with t by = action.Transfer (record t { address = record t.address { offset = by } })
 
 word_of-operate : (c : Condition) (o : Operate) (second : Operand)
-    → word_of (c, operate_with o second) ≡ sum_of_fields c (operate_with o second)
+    → word_of_instruction (c, operate_with o second) ≡ sum_of_fields c (operate_with o second)
 word_of-operate c o (operand.Immediate rotation byte) = omega arith
 word_of-operate c o (operand.Shifted s) = omega arith
 word_of-operate c o (operand.ShiftedByRegister rm shift rs) = omega arith
 
 word_of-transfer : (c : Condition) (t : Transfer) (by : Offset)
-    → word_of (c, transfer_with t by) ≡ sum_of_fields c (transfer_with t by)
+    → word_of_instruction (c, transfer_with t by) ≡ sum_of_fields c (transfer_with t by)
 word_of-transfer c t (offset.Immediate number) = omega arith
 word_of-transfer c t (offset.Shifted s) = omega arith
 
-pub word_of-sum : (c : Condition) (a : Action) → word_of (c, a) ≡ sum_of_fields c a
+pub word_of-sum : (c : Condition) (a : Action) → word_of_instruction (c, a) ≡ sum_of_fields c a
 word_of-sum c (action.Operate o) = word_of-operate c o o.operand
 word_of-sum c (action.Multiply m) = omega arith
 word_of-sum c (action.Transfer t) = word_of-transfer c t t.address.offset
@@ -56,7 +56,7 @@ action_in-fits form.BlockTransfer w = (field-lt w 16 4, field-lt w 0 16)
 action_in-fits form.Branch w = field-lt w 0 24
 action_in-fits form.SoftwareInterrupt w = field-lt w 0 24
 
-pub fields_have_places : (w : ℕ) (i : Condition × Action) → w < 2 ^ 32 → decoded w ≡ Ok i → (w ≡ sum_of_fields i.0 i.1) × FitsFields i.1
+pub fields_have_places : (w : ℕ) (i : Condition × Action) → w < 2 ^ 32 → instruction_of_word w ≡ Ok i → (w ≡ sum_of_fields i.0 i.1) × FitsFields i.1
 fields_have_places w i h e =
     let t = taken w i e in (
       sym (word_comes_back w i h e) ∙ word_of-sum i.0 i.1,

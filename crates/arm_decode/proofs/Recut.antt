@@ -4,7 +4,7 @@ use Rattle.profile.specs.Word.{field, bit_of}
 use Rattle.arm_decode.proofs.Codes.{condition_of-code, condition_code-lt, operation_of-code, operation_code-lt, shift_of-code, shift_code-lt, block_mode_of-code, block_mode_code-lt, direction_of-is_up, indexing_of-bits}
 use Rattle.arm_decode.proofs.Flags.{from_bool-lt, bit_of-from_bool}
 use Rattle.arm_decode.proofs.Rows.{HasBits}
-use Rattle.arm_decode.specs.Diagrams.{word_of}
+use Rattle.arm_decode.specs.Diagrams.{word_of_instruction}
 use Rattle.arm_decode.specs.Fields.{condition_in, action_in, multiply_in, block_transfer_in, operate_in, shifted_in, immediate_in, operand_by_register_in, transfer_in}
 use Rattle.arm_decode.specs.Names.{condition_code, condition_of, operation_code, operation_of, shift_code, shift_of, block_mode_code, block_mode_of, direction_of, is_up, indexing_of, is_pre_indexed, has_w}
 use Rattle.arm_decode.specs.Ranges.{FitsFields}
@@ -41,7 +41,7 @@ multiply-from : (w : ℕ) (accumulates sets_flags : Bool) (rd rn rs rm : ℕ)
     → multiply_in w ≡ record { accumulates = accumulates; sets_flags = sets_flags; rd = rd; rn = rn; rs = rs; rm = rm }
 multiply-from w accumulates sets_flags rd rn rs rm e1 e2 e3 e4 e5 e6 = cc
 
-recut-multiply : (w : ℕ) (c : Condition) (m : Multiply) → FitsFields (action.Multiply m) → w ≡ word_of (c, action.Multiply m)
+recut-multiply : (w : ℕ) (c : Condition) (m : Multiply) → FitsFields (action.Multiply m) → w ≡ word_of_instruction (c, action.Multiply m)
     → IsCutInto w c (action.Multiply m)
 recut-multiply w c m h e =
     let c_lt = condition_code-lt c in
@@ -62,7 +62,7 @@ block-from : (w : ℕ) (loads psr writes_back : Bool) (mode : BlockMode) (rn lis
     → block_transfer_in w ≡ record { loads = loads; mode = mode; psr_or_user = psr; writes_back = writes_back; rn = rn; list = list }
 block-from w loads psr writes_back mode rn list e1 e2 e3 e4 e5 e6 = cc
 
-recut-block : (w : ℕ) (c : Condition) (b : BlockTransfer) → FitsFields (action.BlockTransfer b) → w ≡ word_of (c, action.BlockTransfer b)
+recut-block : (w : ℕ) (c : Condition) (b : BlockTransfer) → FitsFields (action.BlockTransfer b) → w ≡ word_of_instruction (c, action.BlockTransfer b)
     → IsCutInto w c (action.BlockTransfer b)
 recut-block w c b h e =
     let c_lt = condition_code-lt c in
@@ -81,7 +81,7 @@ recut-block w c b h e =
           (omega arith) (omega arith));
     }
 
-recut-branch : (w : ℕ) (c : Condition) (links : Bool) (distance : ℕ) → distance < 2 ^ 24 → w ≡ word_of (c, action.Branch links distance)
+recut-branch : (w : ℕ) (c : Condition) (links : Bool) (distance : ℕ) → distance < 2 ^ 24 → w ≡ word_of_instruction (c, action.Branch links distance)
     → IsCutInto w c (action.Branch links distance)
 recut-branch w c links distance h e =
     let c_lt = condition_code-lt c in
@@ -90,7 +90,7 @@ recut-branch w c links distance h e =
     let d : field w 0 24 ≡ distance = omega arith in
     record { form = form.Branch; bits = omega arith; condition = condition-at w c (omega arith); action = cc }
 
-recut-swi : (w : ℕ) (c : Condition) (number : ℕ) → number < 2 ^ 24 → w ≡ word_of (c, action.SoftwareInterrupt number)
+recut-swi : (w : ℕ) (c : Condition) (number : ℕ) → number < 2 ^ 24 → w ≡ word_of_instruction (c, action.SoftwareInterrupt number)
     → IsCutInto w c (action.SoftwareInterrupt number)
 recut-swi w c number h e =
     let c_lt = condition_code-lt c in
@@ -119,7 +119,7 @@ operate_with operation sets_flags rn rd second =
     action.Operate (record { operation = operation; sets_flags = sets_flags; rn = rn; rd = rd; operand = second })
 
 recut-operate : (w : ℕ) (c : Condition) (operation : Operation) (sets_flags : Bool) (rn rd : ℕ) (second : Operand)
-    → FitsFields (operate_with operation sets_flags rn rd second) → w ≡ word_of (c, operate_with operation sets_flags rn rd second)
+    → FitsFields (operate_with operation sets_flags rn rd second) → w ≡ word_of_instruction (c, operate_with operation sets_flags rn rd second)
     → IsCutInto w c (operate_with operation sets_flags rn rd second)
 recut-operate w c operation sets_flags rn rd (operand.Immediate rotation byte) h e =
     let c_lt = condition_code-lt c in
@@ -185,7 +185,7 @@ transfer_with loads is_byte rd rn i d by =
     })
 
 recut-transfer : (w : ℕ) (c : Condition) (loads is_byte : Bool) (rd rn : ℕ) (i : Indexing) (d : Direction) (by : Offset)
-    → FitsFields (transfer_with loads is_byte rd rn i d by) → w ≡ word_of (c, transfer_with loads is_byte rd rn i d by)
+    → FitsFields (transfer_with loads is_byte rd rn i d by) → w ≡ word_of_instruction (c, transfer_with loads is_byte rd rn i d by)
     → IsCutInto w c (transfer_with loads is_byte rd rn i d by)
 recut-transfer w c loads is_byte rd rn i d (offset.Immediate number) h e =
     let c_lt = condition_code-lt c in
@@ -222,7 +222,7 @@ recut-transfer w c loads is_byte rd rn i d (offset.Shifted s) h e =
           (ap offset.Shifted (shifted-from w s.rm s.amount s.shift (omega arith) (omega arith) (omega arith))));
     }
 
-pub recut : (w : ℕ) (c : Condition) (a : Action) → FitsFields a → w ≡ word_of (c, a) → IsCutInto w c a
+pub recut : (w : ℕ) (c : Condition) (a : Action) → FitsFields a → w ≡ word_of_instruction (c, a) → IsCutInto w c a
 recut w c (action.Multiply m) h e = recut-multiply w c m h e
 recut w c (action.BlockTransfer b) h e = recut-block w c b h e
 recut w c (action.Branch links distance) h e = recut-branch w c links distance h e

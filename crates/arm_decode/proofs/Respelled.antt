@@ -5,7 +5,7 @@ use Rattle.profile.specs.Word.{field, bit_of}
 use Rattle.arm_decode.proofs.Codes.{condition_code-of, operation_code-of, shift_code-of, block_mode_code-of, is_up-direction_of, is_pre_indexed-indexing_of, has_w-indexing_of}
 use Rattle.arm_decode.proofs.Flags.{field-lt, from_bool-bit_of}
 use Rattle.arm_decode.proofs.Rows.{HasBits}
-use Rattle.arm_decode.specs.Diagrams.{word_of}
+use Rattle.arm_decode.specs.Diagrams.{word_of_instruction}
 use Rattle.arm_decode.specs.Fields.{condition_in, action_in}
 use Rattle.arm_decode.specs.Names.{condition_code, operation_code, operation_of, shift_code, shift_of, block_mode_code, block_mode_of, direction_of, is_up, indexing_of, is_pre_indexed, has_w}
 use Rattle.arm_decode.specs.declared.form.Form.{Form}
@@ -40,7 +40,7 @@ reads_back w = record {
   bit_20 = from_bool-bit_of w 20;
 }
 
-pub respelled : (f : Form) (w : ℕ) → w < 2 ^ 32 → HasBits f w → word_of (condition_in w, action_in f w) ≡ w
+pub respelled : (f : Form) (w : ℕ) → w < 2 ^ 32 → HasBits f w → word_of_instruction (condition_in w, action_in f w) ≡ w
 respelled form.Multiply w h b = let r = reads_back w in omega arith
 respelled form.ShiftByNumber w h b = let r = reads_back w in omega arith
 respelled form.ShiftByRegister w h b = let r = reads_back w in omega arith

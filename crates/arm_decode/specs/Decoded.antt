@@ -13,12 +13,12 @@ unless_refused None i = Ok i
 unless_refused (Some f) i = Err f
 
 -- the instruction of a condition and an action, if there is one
-abbrev pub checked : Condition × Action → Result (Condition × Action) Fault
-checked i = unless_refused (refusal i.1) i
+abbrev pub instruction_unless_refused : Condition × Action → Result (Condition × Action) Fault
+instruction_unless_refused i = unless_refused (refusal i.1) i
 
 abbrev pub decoded_as : Result Form Fault → ℕ → Result (Condition × Action) Fault
-decoded_as (Ok form) w = checked (condition_in w, action_in form w)
+decoded_as (Ok form) w = instruction_unless_refused (condition_in w, action_in form w)
 decoded_as (Err f) w = Err f
 
-unfoldable pub decoded : ℕ → Result (Condition × Action) Fault
-decoded w = decoded_as (form_of w) w
+unfoldable pub instruction_of_word : ℕ → Result (Condition × Action) Fault
+instruction_of_word w = decoded_as (form_of w) w

@@ -58,11 +58,16 @@ address_in by w = record {
   offset = by;
 }
 
-abbrev pub transfer_at : Address → ℕ → Transfer
-transfer_at place w = record { loads = bit_of w 20; is_byte = bit_of w 22; rd = field w 12 4; address = place }
+abbrev pub transfer_of_word : Address → ℕ → Transfer
+transfer_of_word place w = record {
+  loads = bit_of w 20;
+  is_byte = bit_of w 22;
+  rd = field w 12 4;
+  address = place;
+}
 
 abbrev pub transfer_in : Offset → ℕ → Transfer
-transfer_in by w = transfer_at (address_in by w) w
+transfer_in by w = transfer_of_word (address_in by w) w
 
 abbrev pub block_transfer_in : ℕ → BlockTransfer
 block_transfer_in w = record {

@@ -47,7 +47,8 @@ condition_code condition.Never = 15
 abbrev pub operations : List Operation
 operations =
     operation.And ∷ operation.ExclusiveOr ∷ operation.Subtract ∷ operation.ReverseSubtract
-    ∷ operation.Add ∷ operation.AddWithCarry ∷ operation.SubtractWithCarry ∷ operation.ReverseSubtractWithCarry
+    ∷ operation.Add ∷ operation.AddWithCarry ∷ operation.SubtractWithCarry
+    ∷ operation.ReverseSubtractWithCarry
     ∷ operation.Test ∷ operation.TestEquivalence ∷ operation.Compare ∷ operation.CompareNegated
     ∷ operation.Or ∷ operation.Move ∷ operation.BitClear ∷ operation.MoveNot ∷ []
 

@@ -47,5 +47,6 @@ sum_of_fields c (action.Transfer t) = transfer_sum c t t.address.offset
 sum_of_fields c (action.BlockTransfer b) =
     condition_code c * 2 ^ 28 + 4 * 2 ^ 25 + block_mode_code b.mode * 2 ^ 23 + from_bool b.psr_or_user * 2 ^ 22
     + from_bool b.writes_back * 2 ^ 21 + from_bool b.loads * 2 ^ 20 + b.rn * 2 ^ 16 + b.list
-sum_of_fields c (action.Branch links distance) = condition_code c * 2 ^ 28 + 5 * 2 ^ 25 + from_bool links * 2 ^ 24 + distance
+sum_of_fields c (action.Branch links distance) =
+    condition_code c * 2 ^ 28 + 5 * 2 ^ 25 + from_bool links * 2 ^ 24 + distance
 sum_of_fields c (action.SoftwareInterrupt number) = condition_code c * 2 ^ 28 + 15 * 2 ^ 24 + number

@@ -46,11 +46,12 @@ offset_is_pc (offset.Shifted shifted) = is_pc shifted.rm
 offset_is_pc (offset.Immediate number) = false
 
 -- a test without S, or whose Rd field is neither 0 nor 15; MOV, MVN or MUL with an Rn field
-abbrev pub unallocated : Action → Bool
-unallocated (action.Operate o) =
-    (is_test o.operation && (not o.sets_flags || not (o.rd == 0 || is_pc o.rd))) || (is_move o.operation && not (o.rn == 0))
-unallocated (action.Multiply m) = not m.accumulates && not (m.rn == 0)
-unallocated _ = false
+abbrev pub is_unallocated : Action → Bool
+is_unallocated (action.Operate o) =
+    (is_test o.operation && (not o.sets_flags || not (o.rd == 0 || is_pc o.rd)))
+    || (is_move o.operation && not (o.rn == 0))
+is_unallocated (action.Multiply m) = not m.accumulates && not (m.rn == 0)
+is_unallocated _ = false
 
 -- R15 as Rs of a shift; anywhere in a multiply; as the offset of LDR or STR, as their base where it
 -- is written, as Rd of a byte; as the base of LDM or STM
@@ -58,7 +59,8 @@ abbrev pub pc_operand : Action → Bool
 pc_operand (action.Operate o) = shifts_by_pc o.operand
 pc_operand (action.Multiply m) = is_pc m.rd || is_pc m.rn || is_pc m.rs || is_pc m.rm
 pc_operand (action.Transfer t) =
-    offset_is_pc t.address.offset || (is_pc t.address.rn && writes_base t.address.indexing) || (is_pc t.rd && t.is_byte)
+    offset_is_pc t.address.offset || (is_pc t.address.rn && writes_base t.address.indexing)
+    || (is_pc t.rd && t.is_byte)
 pc_operand (action.BlockTransfer b) = is_pc b.rn
 pc_operand _ = false
 
@@ -72,12 +74,14 @@ empty_list _ = false
 
 -- S with W, except in LDM with R15 in its list
 abbrev pub user_bank_writeback : Action → Bool
-user_bank_writeback (action.BlockTransfer b) = b.psr_or_user && b.writes_back && not (b.loads && bit_of b.list 15)
+user_bank_writeback (action.BlockTransfer b) = b.psr_or_user && b.writes_back
+    && not (b.loads && bit_of b.list 15)
 user_bank_writeback _ = false
 
 abbrev pub refusals : List (Fault × (Action → Bool))
 refusals =
-    (Unallocated, unallocated) ∷ (PcOperand, pc_operand) ∷ (MultiplySame, multiply_same) ∷ (EmptyList, empty_list)
+    (Unallocated, is_unallocated) ∷ (PcOperand, pc_operand) ∷ (MultiplySame, multiply_same)
+    ∷ (EmptyList, empty_list)
     ∷ (UserBankWriteback, user_bank_writeback) ∷ []
 
 -- the first that holds

@@ -16,8 +16,8 @@ pub record Pattern : Type 0 where
 abbrev pub pattern : ℕ → ℕ → Pattern
 pattern mask value = record { mask = mask; value = value }
 
-abbrev pub meets : ℕ → Pattern → Bool
-meets word p = bit_and word p.mask == p.value
+abbrev pub fits_pattern : ℕ → Pattern → Bool
+fits_pattern word p = bit_and word p.mask == p.value
 
 abbrev pub rows : List (Form × Pattern)
 rows =
@@ -33,11 +33,12 @@ rows =
     ∷ []
 
 -- the undefined instructions, and the coprocessor instructions, of which the machine has none
-abbrev pub undefined : List Pattern
-undefined = pattern 0x0E000010 0x06000010 ∷ pattern 0x0E000000 0x0C000000 ∷ pattern 0x0F000000 0x0E000000 ∷ []
+abbrev pub undefined_patterns : List Pattern
+undefined_patterns = pattern 0x0E000010 0x06000010 ∷ pattern 0x0E000000 0x0C000000
+    ∷ pattern 0x0F000000 0x0E000000 ∷ []
 
 abbrev pub is_undefined : ℕ → Bool
-is_undefined word = list_any (meets word) undefined
+is_undefined word = list_any (fits_pattern word) undefined_patterns
 
 abbrev pub form_or_fault : Option (Form × Pattern) → Bool → Result Form Fault
 form_or_fault (Some row) is_undefined = Ok row.0
@@ -45,13 +46,15 @@ form_or_fault None is_undefined = Err (if is_undefined then UndefinedInstruction
 
 -- the first row that the word meets, or else its fault
 abbrev pub form_of : ℕ → Result Form Fault
-form_of word = form_or_fault (find (λ row. meets word row.1) rows) (is_undefined word)
+form_of word = form_or_fault (find (λ row. fits_pattern word row.1) rows) (is_undefined word)
 
 -- what is left: the words beside multiply, with bits 7 and 4 set where data processing has a shift
 -- by a register
 abbrev pub is_gap : ℕ → Bool
-is_gap word = meets word (pattern 0x0E000090 0x00000090) && not (meets word (pattern 0x0FC000F0 0x00000090))
+is_gap word = fits_pattern word (pattern 0x0E000090 0x00000090)
+    && not (fits_pattern word (pattern 0x0FC000F0 0x00000090))
 
 -- how many of the rows, the undefined patterns and the gap a word meets
 abbrev pub rows_met : ℕ → ℕ
-rows_met word = count_by (λ row. meets word row.1) rows + count_by (meets word) undefined + (if is_gap word then 1 else 0)
+rows_met word = count_by (λ row. fits_pattern word row.1) rows + count_by
+    (fits_pattern word) undefined_patterns + (if is_gap word then 1 else 0)

@@ -1,8 +1,8 @@
 //! From a word to its instruction.
 ghost use Rattle.std.specs.Prelude.{◌≡◌, IfOk};
-ghost use Rattle.arm_decode.specs.Decoded.{decoded};
-ghost use Rattle.arm_decode.specs.Diagrams.{word_of};
-ghost use Rattle.arm_decode.specs.Fields.{operand_by_register_in, immediate_in, operate_in, multiply_in, address_in, transfer_at, block_transfer_in, action_in};
+ghost use Rattle.arm_decode.specs.Decoded.{instruction_of_word};
+ghost use Rattle.arm_decode.specs.Diagrams.{word_of_instruction};
+ghost use Rattle.arm_decode.specs.Fields.{operand_by_register_in, immediate_in, operate_in, multiply_in, address_in, transfer_of_word, block_transfer_in, action_in};
 
 use crate::action::{Action, BlockTransfer, Multiply, Operate, Transfer};
 use crate::address::{Address, BlockMode, Direction, Indexing, Offset};
@@ -24,10 +24,10 @@ use profile::word::is_bit_set;
 ///
 /// The first fault of the table: `UndefinedInstruction` or `Unallocated` where the word meets no
 /// form, else what refuses the instruction's parts, as `Action::refusal` has it.
-#[tactic(auto, unfolding(crate::specs::Decoded::decoded))]
+#[tactic(auto, unfolding(crate::specs::Decoded::instruction_of_word))]
 pub fn decode(word: u32) -> Result<Instr, Fault>
-    ensures table { result ≡ decoded word }
-    ensures back { IfOk result (λ i. word_of i ≡ word) }
+    ensures table { result ≡ instruction_of_word word }
+    ensures back { IfOk result (λ i. word_of_instruction i ≡ word) }
 {
     let form = row_of(word)?;
     Instr::new(Condition::in_word(word), Action::in_word(form, word))
@@ -132,7 +132,7 @@ impl Transfer {
     /// The fields of an LDR or STR at this address, whether the table refuses them or not.
     #[inline(always)]
     pub fn in_word(address: Address, word: u32) -> Transfer
-        ensures { result ≡ transfer_at address word }
+        ensures { result ≡ transfer_of_word address word }
     {
         Transfer {
             loads: is_bit_set(word, 20),

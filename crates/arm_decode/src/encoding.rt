@@ -1,7 +1,7 @@
 //! From an instruction to its word.
 ghost use Rattle.std.specs.Prelude.{◌≡◌, ◌<◌, ◌^◌, Ok};
-ghost use Rattle.arm_decode.specs.Decoded.{decoded};
-ghost use Rattle.arm_decode.specs.Diagrams.{packed, shifted_fields, operand_fields, offset_fields, is_immediate, is_shifted, action_fields, word_of};
+ghost use Rattle.arm_decode.specs.Decoded.{instruction_of_word};
+ghost use Rattle.arm_decode.specs.Diagrams.{word_of_diagram, shifted_fields, operand_fields, offset_fields, is_immediate, is_shifted, action_fields, word_of_instruction};
 ghost use Rattle.arm_decode.specs.Ranges.{FitsShifted, FitsOperand, FitsOffset, FitsFields};
 
 use crate::action::{Action, BlockTransfer, Multiply, Operate, Transfer};
@@ -12,8 +12,8 @@ use crate::shift::ShiftedRegister;
 
 /// The word that is this instruction. `decode` gives the instruction back.
 pub fn encode(instr: Instr) -> u32
-    ensures word { result ≡ word_of instr }
-    ensures again { decoded result ≡ Ok instr }
+    ensures word { result ≡ word_of_instruction instr }
+    ensures again { instruction_of_word result ≡ Ok instr }
 {
     (instr.condition().code() << 28) + instr.action().bits()
 }
@@ -21,7 +21,7 @@ pub fn encode(instr: Instr) -> u32
 impl Action {
     /// Bits 27 to 0 of the word.
     fn bits(self) -> u32
-        ensures value { result ≡ packed (action_fields self) }
+        ensures value { result ≡ word_of_diagram (action_fields self) }
         ensures below { result < 2 ^ 28 }
         ensures fits { FitsFields self }
     {
@@ -41,7 +41,7 @@ impl Action {
 impl ShiftedRegister {
     /// Bits 11 to 0.
     fn bits(self) -> u32
-        ensures value { result ≡ packed (shifted_fields self) }
+        ensures value { result ≡ word_of_diagram (shifted_fields self) }
         ensures below { result < 2 ^ 12 }
         ensures fits { FitsShifted self }
     {
@@ -52,7 +52,7 @@ impl ShiftedRegister {
 impl Operand {
     /// Bits 11 to 0.
     fn bits(self) -> u32
-        ensures value { result ≡ packed (operand_fields self) }
+        ensures value { result ≡ word_of_diagram (operand_fields self) }
         ensures below { result < 2 ^ 12 }
         ensures fits { FitsOperand self }
     {
@@ -78,7 +78,7 @@ impl Operand {
 impl Offset {
     /// Bits 11 to 0.
     fn bits(self) -> u32
-        ensures value { result ≡ packed (offset_fields self) }
+        ensures value { result ≡ word_of_diagram (offset_fields self) }
         ensures below { result < 2 ^ 12 }
         ensures fits { FitsOffset self }
     {
@@ -101,7 +101,7 @@ impl Offset {
 impl Operate {
     /// Bits 27 to 0.
     fn bits(self) -> u32
-        ensures value { result ≡ packed (action_fields (Action.Operate self)) }
+        ensures value { result ≡ word_of_diagram (action_fields (Action.Operate self)) }
         ensures below { result < 2 ^ 28 }
         ensures fits { FitsFields (Action.Operate self) }
     {
@@ -117,7 +117,7 @@ impl Operate {
 impl Multiply {
     /// Bits 27 to 0.
     fn bits(self) -> u32
-        ensures value { result ≡ packed (action_fields (Action.Multiply self)) }
+        ensures value { result ≡ word_of_diagram (action_fields (Action.Multiply self)) }
         ensures below { result < 2 ^ 28 }
         ensures fits { FitsFields (Action.Multiply self) }
     {
@@ -134,7 +134,7 @@ impl Multiply {
 impl Transfer {
     /// Bits 27 to 0.
     fn bits(self) -> u32
-        ensures value { result ≡ packed (action_fields (Action.Transfer self)) }
+        ensures value { result ≡ word_of_diagram (action_fields (Action.Transfer self)) }
         ensures below { result < 2 ^ 28 }
         ensures fits { FitsFields (Action.Transfer self) }
     {
@@ -155,7 +155,7 @@ impl Transfer {
 impl BlockTransfer {
     /// Bits 27 to 0.
     fn bits(self) -> u32
-        ensures value { result ≡ packed (action_fields (Action.BlockTransfer self)) }
+        ensures value { result ≡ word_of_diagram (action_fields (Action.BlockTransfer self)) }
         ensures below { result < 2 ^ 28 }
         ensures fits { FitsFields (Action.BlockTransfer self) }
     {

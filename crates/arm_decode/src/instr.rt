@@ -1,7 +1,7 @@
 //! An instruction that the table allows: a condition and an action.
 
 ghost use Rattle.std.specs.Prelude.{◌≡◌, None};
-ghost use Rattle.arm_decode.specs.Decoded.{checked};
+ghost use Rattle.arm_decode.specs.Decoded.{instruction_unless_refused};
 ghost use Rattle.arm_decode.specs.Refusals.{refusal};
 
 use crate::action::Action;
@@ -40,7 +40,7 @@ impl Instr {
     ///
     /// The fault by which the table refuses it, as `Action::refusal` has it.
     pub fn new(condition: Condition, action: Action) -> Result<Instr, Fault>
-        ensures { result ≡ checked (condition, action) }
+        ensures { result ≡ instruction_unless_refused (condition, action) }
     {
         match action.refusal() {
             Some(fault) => Err(fault),

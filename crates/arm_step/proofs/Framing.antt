@@ -4,8 +4,8 @@ use Rattle.std.proofs.lemmas.Bool.Decides.{nat_tests}
 use Rattle.profile.specs.Outcome.{bind}
 use Rattle.profile.specs.declared.fault.Fault.{Fault}
 use Rattle.profile.specs.declared.fault.Fault.TheVariants.{AddressException, DataUnmapped, OwnedWord}
-use Rattle.address_map.specs.Bytes.{Bytes, unless, store_fault, with_byte, with_word, byte_stored, word_stored, word_loaded}
-use Rattle.arm_decode.specs.Decoded.{decoded}
+use Rattle.address_map.specs.Bytes.{Bytes, ok_unless_fault, store_fault, with_byte, with_word, byte_stored, word_stored, word_loaded}
+use Rattle.arm_decode.specs.Decoded.{instruction_of_word}
 use Rattle.arm_decode.specs.Fields.{condition_in}
 use Rattle.arm_decode.specs.declared.action.Action.{Action}
 use Rattle.arm_decode.specs.declared.action.Action.TheVariants as action
@@ -13,30 +13,30 @@ use Rattle.arm_decode.specs.declared.action.Transfer.{Transfer}
 use Rattle.arm_decode.specs.declared.action.BlockTransfer.{BlockTransfer}
 use Rattle.arm_decode.specs.declared.condition.Condition.{Condition}
 use Rattle.arm_core.specs.declared.turn.Turn.{Turn}
-use Rattle.arm_core.specs.Conditions.{holds}
+use Rattle.arm_core.specs.Conditions.{condition_holds}
 use Rattle.arm_core.specs.State.{State}
-use Rattle.arm_core.specs.Effect.{advanced}
-use Rattle.arm_step.specs.Words.{are_free, are_mapped, with_words, words_stored}
-use Rattle.arm_step.specs.Transfers.{loaded, stored, transferred, value_stored, transfer_address}
-use Rattle.arm_step.specs.Blocks.{block_loaded, block_stored, block_transferred, block_start, block_values}
-use Rattle.arm_step.specs.Step.{or_fault, acted, acted_if_decoded, executed_if_fetched, stepped}
-use Rattle.arm_step.specs.OwnedBytes.{IsByWords, Keeps, StepKeeps}
+use Rattle.arm_core.specs.Effect.{with_next_pc}
+use Rattle.arm_step.specs.Words.{are_free, are_words_mapped, with_words, words_stored}
+use Rattle.arm_step.specs.Transfers.{result_of_load, result_of_store, result_of_transfer, value_stored, transfer_address}
+use Rattle.arm_step.specs.Blocks.{block_loaded, block_stored, result_of_block_transfer, block_start, block_values}
+use Rattle.arm_step.specs.Step.{or_fault, result_of_action, acted_if_decoded, executed_if_fetched, result_of_step}
+use Rattle.arm_step.specs.OwnedBytes.{IsByWords, KeepsOwnedBytes, StepKeeps}
 
 abbrev KeptBy : (ℕ → Bool) → Bytes → Result Bytes Fault → Type 0
-KeptBy owned b (Ok c) = Keeps owned b c
+KeptBy owned b (Ok c) = KeepsOwnedBytes owned b c
 KeptBy owned b (Err f) = Unit {0}
 
 abbrev KeptWith : {E : Type 0} → (ℕ → Bool) → Bytes → Result (State × Bytes) E → Type 0
-KeptWith owned b (Ok w) = Keeps owned b w.1
+KeptWith owned b (Ok w) = KeepsOwnedBytes owned b w.1
 KeptWith owned b (Err e) = Unit {0}
 
-same : (owned : ℕ → Bool) (b : Bytes) → Keeps owned b b
+same : (owned : ℕ → Bool) (b : Bytes) → KeepsOwnedBytes owned b b
 same owned b = record { mapped = refl; bytes = λ a h. refl }
 
-then : (owned : ℕ → Bool) (b c d : Bytes) → Keeps owned b c → Keeps owned c d → Keeps owned b d
+then : (owned : ℕ → Bool) (b c d : Bytes) → KeepsOwnedBytes owned b c → KeepsOwnedBytes owned c d → KeepsOwnedBytes owned b d
 then owned b c d h g = record { mapped = g.mapped ∙ h.mapped; bytes = λ a o. g.bytes a o ∙ h.bytes a o }
 
-unless_fault : (owned : ℕ → Bool) (b c : Bytes) (f : Option Fault) → (f ≡ None → Keeps owned b c) → KeptBy owned b (unless f c)
+unless_fault : (owned : ℕ → Bool) (b c : Bytes) (f : Option Fault) → (f ≡ None → KeepsOwnedBytes owned b c) → KeptBy owned b (ok_unless_fault f c)
 unless_fault owned b c None h = h refl
 unless_fault owned b c (Some f) h = tt
 
@@ -60,10 +60,10 @@ apart_by owned x a v y z false e o f h = h
 elsewhere : (owned : ℕ → Bool) (x a v y z : ℕ) → owned x ≡ true → owned a ≡ false → z ≡ y → cond (nat_eq x a) v z ≡ y
 elsewhere owned x a v y z o f h = apart_by owned x a v y z (nat_eq x a) refl o f h
 
-byte_kept : (owned : ℕ → Bool) (b : Bytes) (a v : ℕ) → owned a ≡ false → Keeps owned b (with_byte b a v)
+byte_kept : (owned : ℕ → Bool) (b : Bytes) (a v : ℕ) → owned a ≡ false → KeepsOwnedBytes owned b (with_byte b a v)
 byte_kept owned b a v f = record { mapped = refl; bytes = λ x o. elsewhere owned x a v (b.at x) (b.at x) o f refl }
 
-word_kept : (owned : ℕ → Bool) (b : Bytes) (a w : ℕ) → IsByWords owned → a % 4 ≡ 0 → owned a ≡ false → Keeps owned b (with_word b a w)
+word_kept : (owned : ℕ → Bool) (b : Bytes) (a w : ℕ) → IsByWords owned → a % 4 ≡ 0 → owned a ≡ false → KeepsOwnedBytes owned b (with_word b a w)
 word_kept owned b a w h g f =
     let one : owned (a + 1) ≡ false = h a 1 g (lit< tt) ∙ f in
     let two : owned (a + 2) ≡ false = h a 2 g (lit< tt) ∙ f in
@@ -82,7 +82,7 @@ both_right : (x y : Bool) → (not x && y) ≡ true → y ≡ true
 both_right true y e = absurd (cc)
 both_right false y e = e
 
-words_kept : (owned : ℕ → Bool) (b : Bytes) (a : ℕ) (ws : List ℕ) → IsByWords owned → a % 4 ≡ 0 → are_free owned a (length ws) ≡ true → Keeps owned b (with_words b a ws)
+words_kept : (owned : ℕ → Bool) (b : Bytes) (a : ℕ) (ws : List ℕ) → IsByWords owned → a % 4 ≡ 0 → are_free owned a (length ws) ≡ true → KeepsOwnedBytes owned b (with_words b a ws)
 unfolding with_words are_free
 words_kept owned b a [] h g f = same owned b
 words_kept owned b a (w ∷ ws) h g f =
@@ -98,7 +98,7 @@ free_words_by false true true h = refl
 
 stored_words : (owned : ℕ → Bool) (b : Bytes) (a : ℕ) (ws : List ℕ) → IsByWords owned → a % 4 ≡ 0 → KeptBy owned b (words_stored owned b a ws)
 stored_words owned b a ws h g =
-    unless_fault owned b (with_words b a ws) _ (λ e. words_kept owned b a ws h g (free_words_by (nat_lt (2 ^ 26) _) (are_mapped b a (length ws)) (are_free owned a (length ws)) e))
+    unless_fault owned b (with_words b a ws) _ (λ e. words_kept owned b a ws h g (free_words_by (nat_lt (2 ^ 26) _) (are_words_mapped b a (length ws)) (are_free owned a (length ws)) e))
 
 stored_value : (owned : ℕ → Bool) (b : Bytes) (is_byte : Bool) (a v : ℕ) → IsByWords owned → KeptBy owned b (value_stored owned b is_byte a v)
 unfolding byte_stored word_stored
@@ -115,7 +115,7 @@ read : {A : Type 0} (owned : ℕ → Bool) (b : Bytes) (t : A → State) (r : Re
 read owned b t (Ok v) = same owned b
 read owned b t (Err f) = tt
 
-transfer_kept : (owned : ℕ → Bool) (s : State) (b : Bytes) (t : Transfer) (loads : Bool) → IsByWords owned → KeptWith owned b (cond loads (loaded s b t) (stored owned s b t))
+transfer_kept : (owned : ℕ → Bool) (s : State) (b : Bytes) (t : Transfer) (loads : Bool) → IsByWords owned → KeptWith owned b (cond loads (result_of_load s b t) (result_of_store owned s b t))
 transfer_kept owned s b t true h = read owned b _ _
 transfer_kept owned s b t false h = bound owned b _ _ (stored_value owned b t.is_byte (transfer_address s t.address) _ h)
 
@@ -127,8 +127,8 @@ or_fault_kept : (owned : ℕ → Bool) (b : Bytes) (r : Result (State × Bytes) 
 or_fault_kept owned b (Ok w) h = h
 or_fault_kept owned b (Err f) h = tt
 
-action_kept : (owned : ℕ → Bool) (s : State) (b : Bytes) (a : Action) → IsByWords owned → KeptWith owned b (acted owned s b a)
-unfolding acted transferred block_transferred
+action_kept : (owned : ℕ → Bool) (s : State) (b : Bytes) (a : Action) → IsByWords owned → KeptWith owned b (result_of_action owned s b a)
+unfolding result_of_action result_of_transfer result_of_block_transfer
 action_kept owned s b (action.Operate o) h = same owned b
 action_kept owned s b (action.Multiply m) h = same owned b
 action_kept owned s b (action.Transfer t) h = or_fault_kept owned b _ (transfer_kept owned s b t t.loads h)
@@ -140,22 +140,22 @@ decoded_kept : (owned : ℕ → Bool) (s : State) (b : Bytes) (r : Result (Condi
 decoded_kept owned s b (Ok i) h = action_kept owned s b i.1 h
 decoded_kept owned s b (Err f) h = tt
 
-met_kept : (owned : ℕ → Bool) (s : State) (b : Bytes) (w : ℕ) (met : Bool) → IsByWords owned → KeptWith owned b (cond met (acted_if_decoded owned s b (decoded w)) (Ok (advanced s, b)))
-met_kept owned s b w true h = decoded_kept owned s b (decoded w) h
+met_kept : (owned : ℕ → Bool) (s : State) (b : Bytes) (w : ℕ) (met : Bool) → IsByWords owned → KeptWith owned b (cond met (acted_if_decoded owned s b (instruction_of_word w)) (Ok (with_next_pc s, b)))
+met_kept owned s b w true h = decoded_kept owned s b (instruction_of_word w) h
 met_kept owned s b w false h = same owned b
 
 fetched_kept : (owned : ℕ → Bool) (s : State) (b : Bytes) (r : Result ℕ Fault) → IsByWords owned → KeptWith owned b (executed_if_fetched owned s b r)
-fetched_kept owned s b (Ok w) h = met_kept owned s b w (holds (condition_in w) s.psr) h
+fetched_kept owned s b (Ok w) h = met_kept owned s b w (condition_holds (condition_in w) s.psr) h
 fetched_kept owned s b (Err f) h = tt
 
 at_kept : (owned : ℕ → Bool) (s : State) (b : Bytes) (gate : Bool) → IsByWords owned → KeptWith owned b (cond gate (Err Turn.Gate) (executed_if_fetched owned s b (word_loaded b s.pc)))
 at_kept owned s b true h = tt
 at_kept owned s b false h = fetched_kept owned s b (word_loaded b s.pc) h
 
-of_ok : (owned : ℕ → Bool) (b : Bytes) (r : Result (State × Bytes) Turn) (t : State) (c : Bytes) → KeptWith owned b r → r ≡ Ok (t, c) → Keeps owned b c
-of_ok owned b (Ok w) t c h e = let same_bytes : w.1 ≡ c = cc in subst (λ (d : Bytes). Keeps owned b d) same_bytes h
+of_ok : (owned : ℕ → Bool) (b : Bytes) (r : Result (State × Bytes) Turn) (t : State) (c : Bytes) → KeptWith owned b r → r ≡ Ok (t, c) → KeepsOwnedBytes owned b c
+of_ok owned b (Ok w) t c h e = let same_bytes : w.1 ≡ c = cc in subst (λ (d : Bytes). KeepsOwnedBytes owned b d) same_bytes h
 of_ok owned b (Err f) t c h e = absurd (cc)
 
 pub step_keeps : (owned : ℕ → Bool) (s : State) (b : Bytes) → StepKeeps owned s b
-unfolding stepped
+unfolding result_of_step
 step_keeps owned s b h t c e = of_ok owned b _ t c (at_kept owned s b (nat_eq s.pc 0x03800000) h) e

@@ -10,7 +10,7 @@ use Rattle.address_map.specs.declared.map.AddressMap.{AddressMap}
 use Rattle.address_map.proofs.Bytes.{is_mapped-page}
 use Rattle.address_map.proofs.Spans.{mapped_below}
 use Rattle.arm_step.specs.PageWords.{are_in_page, missing, words_in}
-use Rattle.arm_step.specs.Words.{are_mapped, are_free, words_at, words_store_fault, words_loaded}
+use Rattle.arm_step.specs.Words.{are_words_mapped, are_free, memory_words_at, words_store_fault, words_loaded}
 use Rattle.arm_step.proofs.SeveralWords.{words_all}
 
 record IsInPage (a n : ℕ) : Type 0 where
@@ -24,20 +24,20 @@ pub page_within : (a n : ℕ) → are_in_page a n ≡ true → a % 4096 + 4 * n 
 page_within a n e = (in_page a n e).within
 
 -- all words of a page are mapped, or none
-all_mapped : (b : Bytes) (a n : ℕ) → ((i : ℕ) → i < n → b.mapped (a + 4 * i) ≡ true) → are_mapped b a n ≡ true
-unfolding are_mapped
+all_mapped : (b : Bytes) (a n : ℕ) → ((i : ℕ) → i < n → b.mapped (a + 4 * i) ≡ true) → are_words_mapped b a n ≡ true
+unfolding are_words_mapped
 all_mapped b a zero h = refl
 all_mapped b a (suc n) h =
     let first : b.mapped a ≡ true = let e : a + 4 * 0 ≡ a = omega arith in ap b.mapped (sym e) ∙ h 0 (omega arith) in
     rw first (all_mapped b (a + 4) n (λ i below.
     let e : a + 4 + 4 * i ≡ a + 4 * (i + 1) = omega arith in ap b.mapped e ∙ h (i + 1) (omega arith)))
 
-none_mapped : (b : Bytes) (a n : ℕ) → 0 < n → b.mapped a ≡ false → are_mapped b a n ≡ false
-unfolding are_mapped
+none_mapped : (b : Bytes) (a n : ℕ) → 0 < n → b.mapped a ≡ false → are_words_mapped b a n ≡ false
+unfolding are_words_mapped
 none_mapped b a zero some h = absurd (omega arith)
 none_mapped b a (suc n) some h = rw h refl
 
-pub page_mapped : (m : AddressMap) (a n : ℕ) → are_in_page a n ≡ true → is_mapped m a ≡ true → are_mapped (bytes_of m) a n ≡ true
+pub page_mapped : (m : AddressMap) (a n : ℕ) → are_in_page a n ≡ true → is_mapped m a ≡ true → are_words_mapped (bytes_of m) a n ≡ true
 page_mapped m a n e h =
     let page = in_page a n e in
     all_mapped (bytes_of m) a n (λ i below.
@@ -58,13 +58,13 @@ word_lent b a len at lent is within =
     let b3 : slice_index lent (at + 3) ≡ b.at (a + at + 3) = is.bytes (at + 3) (omega arith) ∙ ap b.at (sym e3) in
     rw (b0, b1, b2, b3) refl
 
-words_lent : (b : Bytes) (a len at n : ℕ) (lent : List ℕ) → IsLent b a len lent → at + 4 * n ≤ len → words_at b (a + at) n ≡ words_in lent at n
-unfolding words_at words_in
+words_lent : (b : Bytes) (a len at n : ℕ) (lent : List ℕ) → IsLent b a len lent → at + 4 * n ≤ len → memory_words_at b (a + at) n ≡ words_in lent at n
+unfolding memory_words_at words_in
 words_lent b a len at zero lent is within = refl
 words_lent b a len at (suc n) lent is within =
     let e : a + at + 4 ≡ a + (at + 4) = omega arith in
-    let rest : words_at b (a + at + 4) n ≡ words_in lent (at + 4) n =
-    ap (λ x. words_at b x n) e ∙ words_lent b a len (at + 4) n lent is (omega arith) in
+    let rest : memory_words_at b (a + at + 4) n ≡ words_in lent (at + 4) n =
+    ap (λ x. memory_words_at b x n) e ∙ words_lent b a len (at + 4) n lent is (omega arith) in
     rw (word_lent b a len at lent is (omega arith)) (ap (λ ws. word_at (slice_index lent) at ∷ ws) rest)
 
 pub page_lent : (m : AddressMap) (a n : ℕ) (lent : List ℕ) → are_in_page a n ≡ true → IsLent (bytes_of m) a (4 * n) lent
@@ -74,10 +74,10 @@ page_lent m a n lent e is =
     let start : a + 0 ≡ a = omega arith in
     let there : is_mapped m a ≡ true = ap (is_mapped m) (sym start) ∙ is.mapped 0 (omega (arith, page.some)) in
     words_all (bytes_of m) a n (words_in lent 0 n) (page_inside m a n e there) (page_mapped m a n e there)
-    (ap (λ x. words_at (bytes_of m) x n) (sym start) ∙ words_lent (bytes_of m) a (4 * n) 0 n lent is (omega arith))
+    (ap (λ x. memory_words_at (bytes_of m) x n) (sym start) ∙ words_lent (bytes_of m) a (4 * n) 0 n lent is (omega arith))
 
 -- where the page is not mapped
-load_missing : (far mapped below : Bool) (b : Bytes) (a n : ℕ) → far ≡ not below → mapped ≡ false → nat_lt (2 ^ 26) (a + 4 * n) ≡ far → are_mapped b a n ≡ mapped
+load_missing : (far mapped below : Bool) (b : Bytes) (a n : ℕ) → far ≡ not below → mapped ≡ false → nat_lt (2 ^ 26) (a + 4 * n) ≡ far → are_words_mapped b a n ≡ mapped
     → nat_lt a (2 ^ 26) ≡ below → words_loaded b a n ≡ Err (missing a)
 load_missing far mapped true b a n f m near gone low = rw (near, gone, f, m, low) refl
 load_missing far mapped false b a n f m near gone low = rw (near, f, low) refl
@@ -107,7 +107,7 @@ free_not_owned owned a (suc n) =
     ap (λ x. not (owned a) && x) (free_not_owned owned (a + 4) n) ∙ de_morgan (owned a) (any_owned owned (a + 4) n)
 
 fault_missing : (below : Bool) (owned : ℕ → Bool) (b : Bytes) (a n : ℕ) → nat_lt a (2 ^ 26) ≡ below
-    → nat_lt (2 ^ 26) (a + 4 * n) ≡ not below → are_mapped b a n ≡ false → words_store_fault owned b a n ≡ Some (missing a)
+    → nat_lt (2 ^ 26) (a + 4 * n) ≡ not below → are_words_mapped b a n ≡ false → words_store_fault owned b a n ≡ Some (missing a)
 fault_missing true owned b a n low near gone = rw (near, gone, low) refl
 fault_missing false owned b a n low near gone = rw (near, low) refl
 
@@ -117,7 +117,7 @@ page_refused owned m a n e h =
     let page = in_page a n e in
     fault_missing (nat_lt a (2 ^ 26)) owned (bytes_of m) a n refl (far_by a n _ page refl) (none_mapped (bytes_of m) a n page.some h)
 
-fault_by : (any : Bool) (owned : ℕ → Bool) (b : Bytes) (a n : ℕ) → a + 4 * n ≤ 2 ^ 26 → are_mapped b a n ≡ true
+fault_by : (any : Bool) (owned : ℕ → Bool) (b : Bytes) (a n : ℕ) → a + 4 * n ≤ 2 ^ 26 → are_words_mapped b a n ≡ true
     → any_owned owned a n ≡ any → words_store_fault owned b a n ≡ cond any (Some OwnedWord) None
 fault_by true owned b a n inside mapped any =
     let near : ltb (2 ^ 26) (a + 4 * n) ≡ false = le-ltb (2 ^ 26) (a + 4 * n) inside in

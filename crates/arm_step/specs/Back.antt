@@ -8,7 +8,7 @@ use Rattle.arm_decode.specs.declared.action.BlockTransfer.{BlockTransfer}
 use Rattle.arm_decode.specs.declared.address.BlockMode.{BlockMode}
 use Rattle.arm_decode.specs.declared.address.BlockMode.TheVariants.{DecrementAfter, IncrementAfter, DecrementBefore, IncrementBefore}
 use Rattle.arm_core.specs.State.{State, IsCore, register_in}
-use Rattle.arm_step.specs.Step.{acted}
+use Rattle.arm_step.specs.Step.{result_of_action}
 
 -- STM with `!` and without S, whose list has neither its base nor R15.
 pub record PutsAway (t : BlockTransfer) : Type 0 where
@@ -29,8 +29,10 @@ abbrev pub brought_back : BlockTransfer → BlockTransfer
 brought_back t = record t { loads = true; mode = opposite t.mode }
 
 abbrev pub ComesBack : Type 0
-ComesBack = (owned : ℕ → Bool) (t : BlockTransfer) (s out back end : State) (b c d : Bytes) → PutsAway t → IsCore s → IsCore back →
-    acted owned s b (action.BlockTransfer t) ≡ Ok (out, c) →
+ComesBack = (owned : ℕ → Bool) (t : BlockTransfer) (s out back end : State) (b c d : Bytes) → PutsAway t →
+    IsCore s → IsCore back →
+    result_of_action owned s b (action.BlockTransfer t) ≡ Ok (out, c) →
     back.psr.mode ≡ s.psr.mode → register_in s.psr.mode back t.rn ≡ register_in s.psr.mode out t.rn →
-    acted owned back c (action.BlockTransfer (brought_back t)) ≡ Ok (end, d) →
-    (n : ℕ) → n < 15 → (n ≡ t.rn) ⊎ (bit_of t.list n ≡ true) → register_in s.psr.mode end n ≡ register_in s.psr.mode s n
+    result_of_action owned back c (action.BlockTransfer (brought_back t)) ≡ Ok (end, d) →
+    (n : ℕ) → n < 15 → (n ≡ t.rn) ⊎ (bit_of t.list n ≡ true) →
+    register_in s.psr.mode end n ≡ register_in s.psr.mode s n

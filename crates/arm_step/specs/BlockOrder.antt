@@ -7,11 +7,11 @@ use Rattle.arm_decode.specs.declared.action.Action.TheVariants as action
 use Rattle.arm_decode.specs.declared.action.BlockTransfer.{BlockTransfer}
 use Rattle.arm_decode.specs.declared.address.BlockMode.{BlockMode}
 use Rattle.arm_decode.specs.declared.address.BlockMode.TheVariants.{DecrementAfter, IncrementAfter, DecrementBefore, IncrementBefore}
-use Rattle.arm_core.specs.Listed.{listed_below, listed}
-use Rattle.arm_step.specs.Blocks.{lowest, block_size, block_start, bank_of, block_value}
+use Rattle.arm_core.specs.Listed.{listed_below, registers_of_list}
+use Rattle.arm_step.specs.Blocks.{lowest, transferred_count, block_start, bank_of, block_value}
 use Rattle.arm_core.specs.State.{State, IsCore, register_in}
-use Rattle.arm_step.specs.Step.{acted}
-use Rattle.arm_step.specs.Words.{words_at}
+use Rattle.arm_step.specs.Step.{result_of_action}
+use Rattle.arm_step.specs.Words.{memory_words_at}
 
 -- the address of the last of n words
 abbrev pub highest : BlockMode → ℕ → ℕ → ℕ
@@ -28,15 +28,19 @@ abbrev pub BlocksLieByBase : Type 0
 BlocksLieByBase = (base n : ℕ) → base < 2 ^ 32 → 1 ≤ n → n ≤ 16 → LiesByBase base n
 
 -- where the word of a listed register lies: above one word for each lower register of the list
-abbrev pub place_of : State → BlockTransfer → ℕ → ℕ
-place_of s t r = block_start s t + 4 * length (listed_below r t.list)
+abbrev pub word_place_of : State → BlockTransfer → ℕ → ℕ
+word_place_of s t r = block_start s t + 4 * length (listed_below r t.list)
 
 abbrev pub LoadsInOrder : Type 0
-LoadsInOrder = (owned : ℕ → Bool) (t : BlockTransfer) (s end : State) (b c : Bytes) → IsCore s → t.loads ≡ true →
-    acted owned s b (action.BlockTransfer t) ≡ Ok (end, c) →
-    (r : ℕ) → r < 15 → bit_of t.list r ≡ true → register_in (bank_of s t) end r ≡ word_at b.at (place_of s t r)
+LoadsInOrder = (owned : ℕ → Bool) (t : BlockTransfer) (s end : State) (b c : Bytes) → IsCore s →
+    t.loads ≡ true →
+    result_of_action owned s b (action.BlockTransfer t) ≡ Ok (end, c) →
+    (r : ℕ) → r < 15 → bit_of t.list r ≡ true → register_in (bank_of s t) end r
+    ≡ word_at b.at (word_place_of s t r)
 
 abbrev pub StoresInOrder : Type 0
-StoresInOrder = (owned : ℕ → Bool) (t : BlockTransfer) (s end : State) (b c : Bytes) → IsCore s → t.loads ≡ false →
-    acted owned s b (action.BlockTransfer t) ≡ Ok (end, c) →
-    words_at c (block_start s t) (block_size t) ≡ map (block_value s t) (listed t.list)
+StoresInOrder = (owned : ℕ → Bool) (t : BlockTransfer) (s end : State) (b c : Bytes) → IsCore s →
+    t.loads ≡ false →
+    result_of_action owned s b (action.BlockTransfer t) ≡ Ok (end, c) →
+    memory_words_at c (block_start s t) (transferred_count t)
+    ≡ map (block_value s t) (registers_of_list t.list)

@@ -9,9 +9,9 @@ use Rattle.arm_decode.specs.declared.address.BlockMode.{BlockMode}
 use Rattle.arm_decode.specs.declared.address.BlockMode.TheVariants.{DecrementAfter, IncrementAfter, DecrementBefore, IncrementBefore}
 use Rattle.arm_core.specs.declared.psr.Mode.{Mode}
 use Rattle.arm_core.specs.declared.psr.Mode.TheVariants.{User}
-use Rattle.arm_core.specs.Listed.{listed}
+use Rattle.arm_core.specs.Listed.{registers_of_list}
 use Rattle.arm_core.specs.State.{State}
-use Rattle.arm_core.specs.Effect.{advanced, plain_operand, status_operand, with_result, with_result_in, with_status}
+use Rattle.arm_core.specs.Effect.{with_next_pc, plain_operand, status_operand, with_result, with_result_in, with_status}
 use Rattle.arm_step.specs.Words.{words_loaded, words_stored}
 
 -- The lowest address, with the base and the number of registers; its bits 1 and 0 are ignored.
@@ -28,14 +28,14 @@ stepped_base IncrementBefore base n = (base + 4 * n) % 2 ^ 32
 stepped_base DecrementAfter base n = (2 ^ 32 + base - 4 * n) % 2 ^ 32
 stepped_base DecrementBefore base n = (2 ^ 32 + base - 4 * n) % 2 ^ 32
 
-abbrev pub block_size : BlockTransfer → ℕ
-block_size t = length (listed t.list)
+abbrev pub transferred_count : BlockTransfer → ℕ
+transferred_count t = length (registers_of_list t.list)
 
 abbrev pub block_start : State → BlockTransfer → ℕ
-block_start s t = word_start (lowest t.mode (plain_operand s t.rn 2) (block_size t))
+block_start s t = word_start (lowest t.mode (plain_operand s t.rn 2) (transferred_count t))
 
 abbrev pub block_base : State → BlockTransfer → ℕ
-block_base s t = stepped_base t.mode (plain_operand s t.rn 2) (block_size t)
+block_base s t = stepped_base t.mode (plain_operand s t.rn 2) (transferred_count t)
 
 -- S in LDM with R15 loads the status; else it means the registers of the user bank.
 abbrev pub loads_status : BlockTransfer → Bool
@@ -64,8 +64,12 @@ with_block_status s t ws = if loads_status t then with_status_if s (slice_get ws
 -- The base is written first, so a loaded base wins.
 abbrev pub block_loaded : State → Bytes → BlockTransfer → Result (State × Bytes) Fault
 block_loaded s b t =
-    bind (words_loaded b (block_start s t) (block_size t))
-    (λ ws. Ok (with_block_status (with_loaded (bank_of s t) (with_block_base (advanced s) t (block_base s t)) (listed t.list) ws) t ws, b))
+    bind (words_loaded b (block_start s t) (transferred_count t))
+    (λ ws. Ok (
+      with_block_status (with_loaded (bank_of s t)
+          (with_block_base (with_next_pc s) t (block_base s t)) (registers_of_list t.list) ws) t ws,
+      b,
+    ))
 
 -- A base that is written back is stored as it was where no lower register is listed, and else as it will be.
 abbrev pub stores_new_base : BlockTransfer → Bool
@@ -73,14 +77,17 @@ stores_new_base t = t.writes_back && not (t.list % 2 ^ t.rn == 0)
 
 -- R15 is stored three words ahead with the status.
 abbrev pub block_value : State → BlockTransfer → ℕ → ℕ
-block_value s t r = if stores_new_base t && r == t.rn then block_base s t else status_operand (bank_of s t) s r 3
+block_value s t r = if stores_new_base t && r == t.rn then block_base s t
+    else status_operand (bank_of s t) s r 3
 
 abbrev pub block_values : State → BlockTransfer → List ℕ
-block_values s t = map (block_value s t) (listed t.list)
+block_values s t = map (block_value s t) (registers_of_list t.list)
 
 abbrev pub block_stored : (ℕ → Bool) → State → Bytes → BlockTransfer → Result (State × Bytes) Fault
 block_stored owned s b t =
-    bind (words_stored owned b (block_start s t) (block_values s t)) (λ c. Ok (with_block_base (advanced s) t (block_base s t), c))
+    bind (words_stored owned b (block_start s t) (block_values s t))
+    (λ c. Ok (with_block_base (with_next_pc s) t (block_base s t), c))
 
-unfoldable pub block_transferred : (ℕ → Bool) → State → Bytes → BlockTransfer → Result (State × Bytes) Fault
-block_transferred owned s b t = if t.loads then block_loaded s b t else block_stored owned s b t
+unfoldable pub result_of_block_transfer : (ℕ → Bool) → State → Bytes → BlockTransfer →
+    Result (State × Bytes) Fault
+result_of_block_transfer owned s b t = if t.loads then block_loaded s b t else block_stored owned s b t

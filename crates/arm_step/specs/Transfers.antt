@@ -14,12 +14,12 @@ use Rattle.arm_decode.specs.declared.address.Indexing.TheVariants.{Pre, Post}
 use Rattle.arm_decode.specs.declared.address.Offset.{Offset}
 use Rattle.arm_decode.specs.declared.address.Offset.TheVariants as offset
 use Rattle.arm_core.specs.State.{State}
-use Rattle.arm_core.specs.Effect.{advanced, plain_operand, status_operand, with_result}
+use Rattle.arm_core.specs.Effect.{with_next_pc, plain_operand, status_operand, with_result}
 use Rattle.arm_core.specs.Operand.{shifted_register}
 
-abbrev pub offset_of : State → Offset → ℕ
-offset_of s (offset.Immediate n) = n
-offset_of s (offset.Shifted r) = (shifted_register s r).value
+abbrev pub offset_amount : State → Offset → ℕ
+offset_amount s (offset.Immediate n) = n
+offset_amount s (offset.Shifted r) = (shifted_register s r).value
 
 abbrev pub moved_by : Direction → ℕ → ℕ → ℕ
 moved_by Up base by = (base + by) % 2 ^ 32
@@ -27,7 +27,7 @@ moved_by Down base by = (2 ^ 32 + base - by) % 2 ^ 32
 
 -- the base changed by the offset: what is written back
 abbrev pub moved_base : State → Address → ℕ
-moved_base s a = moved_by a.direction (plain_operand s a.rn 2) (offset_of s a.offset)
+moved_base s a = moved_by a.direction (plain_operand s a.rn 2) (offset_amount s a.offset)
 
 abbrev pub address_by : Indexing → ℕ → ℕ → ℕ
 address_by (Pre writes_back) base moved = moved
@@ -45,20 +45,20 @@ value_loaded b true a = byte_loaded b a
 value_loaded b false a = bind (word_loaded b a) (λ w. Ok (rotated_right w (8 * (a % 4))))
 
 -- the base is written first, so a loaded base wins
-abbrev pub loaded : State → Bytes → Transfer → Result (State × Bytes) Fault
-loaded s b t =
+abbrev pub result_of_load : State → Bytes → Transfer → Result (State × Bytes) Fault
+result_of_load s b t =
     bind (value_loaded b t.is_byte (transfer_address s t.address))
-    (λ v. Ok (with_result (with_base (advanced s) t.address (moved_base s t.address)) t.rd v, b))
+    (λ v. Ok (with_result (with_base (with_next_pc s) t.address (moved_base s t.address)) t.rd v, b))
 
 abbrev pub value_stored : (ℕ → Bool) → Bytes → Bool → ℕ → ℕ → Result Bytes Fault
 value_stored owned b true a v = byte_stored owned b a (v % 256)
 value_stored owned b false a v = word_stored owned b a v
 
 -- R15 is stored three words ahead with the status; a base that is stored has its old value
-abbrev pub stored : (ℕ → Bool) → State → Bytes → Transfer → Result (State × Bytes) Fault
-stored owned s b t =
+abbrev pub result_of_store : (ℕ → Bool) → State → Bytes → Transfer → Result (State × Bytes) Fault
+result_of_store owned s b t =
     bind (value_stored owned b t.is_byte (transfer_address s t.address) (status_operand s.psr.mode s t.rd 3))
-    (λ c. Ok (with_base (advanced s) t.address (moved_base s t.address), c))
+    (λ c. Ok (with_base (with_next_pc s) t.address (moved_base s t.address), c))
 
-unfoldable pub transferred : (ℕ → Bool) → State → Bytes → Transfer → Result (State × Bytes) Fault
-transferred owned s b t = if t.loads then loaded s b t else stored owned s b t
+unfoldable pub result_of_transfer : (ℕ → Bool) → State → Bytes → Transfer → Result (State × Bytes) Fault
+result_of_transfer owned s b t = if t.loads then result_of_load s b t else result_of_store owned s b t

@@ -6,8 +6,8 @@ ghost use Rattle.profile.specs.Outcome.{Leaves};
 ghost use Rattle.address_map.specs.Memory.{bytes_of, is_owned, layout, class_of};
 ghost use Rattle.arm_decode.specs.Fields.{block_transfer_in};
 ghost use Rattle.arm_step.specs.PageWords.{are_in_page};
-ghost use Rattle.arm_core.specs.Listed.{listed};
-ghost use Rattle.arm_step.specs.Blocks.{lowest, stepped_base, block_size, block_start, block_base, with_loaded, with_block_status, block_loaded, block_values, block_stored, block_transferred};
+ghost use Rattle.arm_core.specs.Listed.{registers_of_list};
+ghost use Rattle.arm_step.specs.Blocks.{lowest, stepped_base, transferred_count, block_start, block_base, with_loaded, with_block_status, block_loaded, block_values, block_stored, result_of_block_transfer};
 
 use crate::block_fields::{bank_of, loads_status, stores_new_base, write_block_base};
 use crate::page_block::{load_from_page, store_to_page};
@@ -45,8 +45,8 @@ fn reach(mode: BlockMode, base: u32, count: u32) -> (u32, u32)
 /// Places loaded words in the registers of a list, one by one.
 #[tactic(auto, using(crate::proofs::Placing::placing))]
 fn place_words(cpu: &mut Cpu, bank: Mode, list: RegisterList, words: &[u32])
-    requires { length words.now ≡ length (listed list) }
-    ensures { cpu.new ≡ with_loaded bank cpu.old (listed list) words.now }
+    requires { length words.now ≡ length (registers_of_list list) }
+    ensures { cpu.new ≡ with_loaded bank cpu.old (registers_of_list list) words.now }
 {
     let mut index = 0;
     for number in 0..16u8 {
@@ -95,7 +95,7 @@ fn block_values(cpu: &Cpu, block: &BlockTransfer, base: u32) -> ArrayVec<u32, MO
 /// Where the words of a block transfer begin, and the base that it writes back.
 #[inline(always)]
 fn block_reach(cpu: &Cpu, block: &BlockTransfer, count: u32) -> (u32, u32)
-    requires size { count ≡ block_size block.now }
+    requires size { count ≡ transferred_count block.now }
     requires few { count ≤ 16 }
     ensures start { result.0 ≡ block_start cpu.now block.now }
     ensures aligned { result.0 % 4 ≡ 0 }
@@ -153,7 +153,7 @@ fn store_to_pages(
 
 /// LDM and STM of words that may lie in two pages, by the word. Its fields are read once more
 /// here, so that where all lies in one page, as mostly, they need not lie in memory.
-#[tactic(auto, unfolding(crate::specs::Blocks::block_transferred))]
+#[tactic(auto, unfolding(crate::specs::Blocks::result_of_block_transfer))]
 #[inline(never)]
 fn transfer_in_pages(
     cpu: &mut Cpu,
@@ -165,7 +165,7 @@ fn transfer_in_pages(
     requires first { first ≡ block_start cpu.old (block_transfer_in word) }
     requires aligned { first % 4 ≡ 0 }
     requires base { base ≡ block_base cpu.old (block_transfer_in word) }
-    ensures state { let moved = block_transferred (is_owned memory.old) cpu.old (bytes_of memory.old)
+    ensures state { let moved = result_of_block_transfer (is_owned memory.old) cpu.old (bytes_of memory.old)
         (block_transfer_in word) in
         Leaves (cpu.old, bytes_of memory.old) moved result (cpu.new, bytes_of memory.new) }
     ensures layout { layout memory.new ≡ layout memory.old }
@@ -191,7 +191,7 @@ fn transfer_beyond_page(
     requires first { first ≡ block_start cpu.old (block_transfer_in word) }
     requires aligned { first % 4 ≡ 0 }
     requires base { base ≡ block_base cpu.old (block_transfer_in word) }
-    ensures state { let moved = block_transferred (is_owned memory.old) cpu.old (bytes_of memory.old)
+    ensures state { let moved = result_of_block_transfer (is_owned memory.old) cpu.old (bytes_of memory.old)
         (block_transfer_in word) in
         Leaves (cpu.old, bytes_of memory.old) moved result (cpu.new, bytes_of memory.new) }
     ensures layout { layout memory.new ≡ layout memory.old }
@@ -206,7 +206,7 @@ fn transfer_beyond_page(
 ///
 /// `AddressException`, `DataUnmapped`, and for a store `OwnedWord`, in this order and each over
 /// all words. Core and memory are then as before.
-#[tactic(auto, unfolding(crate::specs::Blocks::block_transferred))]
+#[tactic(auto, unfolding(crate::specs::Blocks::result_of_block_transfer))]
 #[inline(always)]
 pub(crate) fn transfer_block(
     cpu: &mut Cpu,
@@ -215,7 +215,7 @@ pub(crate) fn transfer_block(
     block: &BlockTransfer,
 ) -> Result<(), Fault>
     requires { block.now ≡ block_transfer_in word }
-    ensures state { let moved = block_transferred (is_owned memory.old) cpu.old (bytes_of memory.old)
+    ensures state { let moved = result_of_block_transfer (is_owned memory.old) cpu.old (bytes_of memory.old)
         block.now in
         Leaves (cpu.old, bytes_of memory.old) moved result (cpu.new, bytes_of memory.new) }
     ensures layout { layout memory.new ≡ layout memory.old }

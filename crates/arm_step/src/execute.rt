@@ -3,9 +3,9 @@
 ghost use Rattle.std.specs.Prelude.{◌≡◌, ◌≢◌, ◌<◌, ◌≤◌, ◌^◌, ◌%◌};
 ghost use Rattle.address_map.specs.Memory.{bytes_of, is_owned, layout, class_of};
 ghost use Rattle.arm_step.specs.Turns.{Turns};
-ghost use Rattle.arm_decode.specs.Decoded.{decoded};
+ghost use Rattle.arm_decode.specs.Decoded.{instruction_of_word};
 ghost use Rattle.arm_decode.specs.Fields.{operate_in, multiply_in};
-ghost use Rattle.arm_step.specs.Step.{or_fault, acted_if_decoded, Operates, Multiplies, acted_at, acted_on_block, executed, stepped};
+ghost use Rattle.arm_step.specs.Step.{or_fault, acted_if_decoded, Operates, Multiplies, acted_at, acted_on_block, result_of_word, result_of_step};
 ghost use Rattle.profile.specs.Outcome.{Leaves};
 
 use crate::block::transfer_block;
@@ -27,11 +27,12 @@ use profile::word::is_bit_set;
 /// done, where the condition fails; a word that is refused; a software interrupt;
 /// `AddressException`, `DataUnmapped`, `OwnedWord`, each over all words of the transfer. All but
 /// `Done` leave core and memory as they were.
-#[tactic(auto, unfolding(crate::specs::Step::stepped))]
+#[tactic(auto, unfolding(crate::specs::Step::result_of_step))]
 #[inline(always)]
 pub fn step(cpu: &mut Cpu, memory: &mut AddressMap) -> Turn
     ensures turn { Turns (cpu.old, bytes_of memory.old)
-        (stepped (is_owned memory.old) cpu.old (bytes_of memory.old)) result (cpu.new, bytes_of memory.new) }
+        (result_of_step (is_owned memory.old) cpu.old (bytes_of memory.old)) result
+        (cpu.new, bytes_of memory.new) }
     ensures layout { layout memory.new ≡ layout memory.old }
     ensures marks { class_of memory.new ≡ class_of memory.old }
     ensures unchanged { result ≢ Turn.Done →
@@ -50,7 +51,7 @@ pub fn step(cpu: &mut Cpu, memory: &mut AddressMap) -> Turn
 /// Carries out a word where its condition holds, and else goes on to the next.
 #[inline(always)]
 fn execute(cpu: &mut Cpu, memory: &mut AddressMap, word: u32) -> Turn
-    ensures turn { let executed = executed (is_owned memory.old) cpu.old (bytes_of memory.old) word in
+    ensures turn { let executed = result_of_word (is_owned memory.old) cpu.old (bytes_of memory.old) word in
         Turns (cpu.old, bytes_of memory.old) executed result (cpu.new, bytes_of memory.new) }
     ensures layout { layout memory.new ≡ layout memory.old }
     ensures marks { class_of memory.new ≡ class_of memory.old }
@@ -67,11 +68,11 @@ fn execute(cpu: &mut Cpu, memory: &mut AddressMap, word: u32) -> Turn
 
 /// Carries out a word whose condition holds. Each form reads the fields that it needs from
 /// the word; no instruction is built and copied.
-#[tactic(auto, unfolding(crate::specs::Step::acted, arm_decode::specs::Decoded::decoded))]
+#[tactic(auto, unfolding(crate::specs::Step::result_of_action, arm_decode::specs::Decoded::instruction_of_word))]
 #[inline(always)]
 fn execute_always(cpu: &mut Cpu, memory: &mut AddressMap, word: u32) -> Result<(), Turn>
     ensures state { let acted = acted_if_decoded (is_owned memory.old) cpu.old (bytes_of memory.old)
-        (decoded word) in
+        (instruction_of_word word) in
         Leaves (cpu.old, bytes_of memory.old) acted result (cpu.new, bytes_of memory.new) }
     ensures layout { layout memory.new ≡ layout memory.old }
     ensures marks { class_of memory.new ≡ class_of memory.old }
@@ -145,7 +146,7 @@ fn multiply_word(cpu: &mut Cpu, word: u32) -> Result<(), Fault>
 ///
 /// The fault by which the table refuses the word, or else that of the transfer. Core and
 /// memory are then as before.
-#[tactic(auto, unfolding(crate::specs::Step::acted))]
+#[tactic(auto, unfolding(crate::specs::Step::result_of_action))]
 #[inline(always)]
 fn transfer_word(
     cpu: &mut Cpu,
@@ -171,7 +172,7 @@ fn transfer_word(
 ///
 /// The fault by which the table refuses the word, or else that of the transfer. Core and
 /// memory are then as before.
-#[tactic(auto, unfolding(crate::specs::Step::acted))]
+#[tactic(auto, unfolding(crate::specs::Step::result_of_action))]
 #[inline(always)]
 fn transfer_block_word(cpu: &mut Cpu, memory: &mut AddressMap, word: u32) -> Result<(), Fault>
     ensures state { let acted = acted_on_block (is_owned memory.old) cpu.old (bytes_of memory.old) word in

@@ -9,8 +9,8 @@ ghost use Rattle.arm_core.specs.declared.psr.Mode.TheVariants.{User};
 ghost use Rattle.arm_step.specs.PageWords.{are_in_page, words_in};
 ghost use Rattle.arm_step.specs.Words.{with_words};
 ghost use Rattle.arm_step.specs.StoredBase.{changed_base, value_by};
-ghost use Rattle.arm_core.specs.Listed.{listed};
-ghost use Rattle.arm_step.specs.Blocks.{block_size, block_start, block_base, bank_of, with_loaded, with_block_status, block_loaded, stores_new_base, block_values, block_stored};
+ghost use Rattle.arm_core.specs.Listed.{registers_of_list};
+ghost use Rattle.arm_step.specs.Blocks.{transferred_count, block_start, block_base, bank_of, with_loaded, with_block_status, block_loaded, stores_new_base, block_values, block_stored};
 
 use crate::block_fields::{bank_of, loads_status, stores_new_base, write_block_base};
 use crate::page_words::{free_place, lend_words, word_in};
@@ -31,7 +31,7 @@ pub(crate) fn load_from_page(
 ) -> Result<(), Fault>
     requires first { first ≡ block_start cpu.old block.now }
     requires base { base ≡ block_base cpu.old block.now }
-    requires page { are_in_page first (block_size block.now) ≡ true }
+    requires page { are_in_page first (transferred_count block.now) ≡ true }
     ensures { let loaded = block_loaded cpu.old (bytes_of memory.now) block.now in
         Leaves (cpu.old, bytes_of memory.now) loaded result (cpu.new, bytes_of memory.now) }
 {
@@ -47,8 +47,9 @@ pub(crate) fn load_from_page(
 /// Places the words of some bytes in the registers of a list.
 #[inline(always)]
 fn place_bytes(cpu: &mut Cpu, bank: Mode, list: RegisterList, bytes: &[u8])
-    requires { length bytes.now ≡ 4 * length (listed list) }
-    ensures { cpu.new ≡ with_loaded bank cpu.old (listed list) (words_in bytes.now 0 (length (listed list))) }
+    requires { length bytes.now ≡ 4 * length (registers_of_list list) }
+    ensures { cpu.new ≡ with_loaded bank cpu.old (registers_of_list list)
+        (words_in bytes.now 0 (length (registers_of_list list))) }
 {
     match bank {
         // Where the bank is known, so is the place of each register.
@@ -62,8 +63,9 @@ fn place_bytes(cpu: &mut Cpu, bank: Mode, list: RegisterList, bytes: &[u8])
 #[tactic(auto, using(crate::proofs::PageBlocks::placing))]
 #[inline(always)]
 fn place_each(cpu: &mut Cpu, bank: Mode, list: RegisterList, bytes: &[u8])
-    requires { length bytes.now ≡ 4 * length (listed list) }
-    ensures { cpu.new ≡ with_loaded bank cpu.old (listed list) (words_in bytes.now 0 (length (listed list))) }
+    requires { length bytes.now ≡ 4 * length (registers_of_list list) }
+    ensures { cpu.new ≡ with_loaded bank cpu.old (registers_of_list list)
+        (words_in bytes.now 0 (length (registers_of_list list))) }
 {
     let mut at = 0;
     let mut rest = u64::from(list.bits());
@@ -79,9 +81,10 @@ fn place_each(cpu: &mut Cpu, bank: Mode, list: RegisterList, bytes: &[u8])
 #[tactic(auto, using(crate::proofs::PageBlocks::placing_low))]
 #[inline(always)]
 fn place_low(cpu: &mut Cpu, list: RegisterList, bytes: &[u8])
-    requires size { length bytes.now ≡ 4 * length (listed list) }
+    requires size { length bytes.now ≡ 4 * length (registers_of_list list) }
     requires low { bit_of list 15 ≡ false }
-    ensures { cpu.new ≡ with_loaded User cpu.old (listed list) (words_in bytes.now 0 (length (listed list))) }
+    ensures { cpu.new ≡ with_loaded User cpu.old (registers_of_list list)
+        (words_in bytes.now 0 (length (registers_of_list list))) }
 {
     let mut at = 0;
     let mut rest = u64::from(list.bits());
@@ -97,9 +100,10 @@ fn place_low(cpu: &mut Cpu, list: RegisterList, bytes: &[u8])
 #[tactic(auto, using(crate::proofs::PageBlocks::last_word))]
 #[inline(always)]
 fn set_status_of_bytes(cpu: &mut Cpu, block: &BlockTransfer, bytes: &[u8])
-    requires size { length bytes.now ≡ 4 * block_size block.now }
-    requires some { 0 < block_size block.now }
-    ensures { cpu.new ≡ with_block_status cpu.old block.now (words_in bytes.now 0 (block_size block.now)) }
+    requires size { length bytes.now ≡ 4 * transferred_count block.now }
+    requires some { 0 < transferred_count block.now }
+    ensures { cpu.new ≡ with_block_status cpu.old block.now
+        (words_in bytes.now 0 (transferred_count block.now)) }
 {
     if loads_status(block) {
         cpu.set_status(word_in(bytes, bytes.len() - 4));
@@ -118,7 +122,7 @@ pub(crate) fn store_to_page(
     requires first { first ≡ block_start cpu.old block.now }
     requires aligned { first % 4 ≡ 0 }
     requires base { base ≡ block_base cpu.old block.now }
-    requires page { are_in_page first (block_size block.now) ≡ true }
+    requires page { are_in_page first (transferred_count block.now) ≡ true }
     ensures state { let stored = block_stored (is_owned memory.old) cpu.old (bytes_of memory.old) block.now in
         Leaves (cpu.old, bytes_of memory.old) stored result (cpu.new, bytes_of memory.new) }
     ensures layout { layout memory.new ≡ layout memory.old }
@@ -162,7 +166,7 @@ fn put_registers(
 )
     requires base { base ≡ block_base cpu.now block.now }
     requires aligned { first % 4 ≡ 0 }
-    requires page { are_in_page first (block_size block.now) ≡ true }
+    requires page { are_in_page first (transferred_count block.now) ≡ true }
     requires place { place memory.old first ≡ Some at }
     ensures bytes { bytes_of memory.new ≡
         with_words (bytes_of memory.old) first (block_values cpu.now block.now) }
@@ -194,7 +198,7 @@ fn put_each(
     requires bank { bank ≡ bank_of cpu.now block.now }
     requires changed { changed ≡ changed_base cpu.now block.now }
     requires aligned { first % 4 ≡ 0 }
-    requires page { are_in_page first (block_size block.now) ≡ true }
+    requires page { are_in_page first (transferred_count block.now) ≡ true }
     requires place { place memory.old first ≡ Some at }
     ensures bytes { bytes_of memory.new ≡
         with_words (bytes_of memory.old) first (block_values cpu.now block.now) }
@@ -220,7 +224,7 @@ fn put_low(cpu: &Cpu, memory: &mut AddressMap, block: &BlockTransfer, first: u32
     requires unchanged { stores_new_base block.now ≡ false }
     requires low { bit_of block.now.list 15 ≡ false }
     requires aligned { first % 4 ≡ 0 }
-    requires page { are_in_page first (block_size block.now) ≡ true }
+    requires page { are_in_page first (transferred_count block.now) ≡ true }
     requires place { place memory.old first ≡ Some at }
     ensures bytes { bytes_of memory.new ≡
         with_words (bytes_of memory.old) first (block_values cpu.now block.now) }

@@ -52,7 +52,8 @@ pub(crate) fn lend_words(memory: &AddressMap, first: u32, count: u32) -> Result<
     requires page { are_in_page first count ≡ true }
     requires few { count ≤ 16 }
     ensures { let loaded = words_loaded (bytes_of memory.now) first count in
-        MatchResult result (λ bytes. (loaded ≡ Ok (words_in bytes.now 0 count)) × (length bytes.now ≡ 4 * count))
+        MatchResult result (λ bytes. (loaded ≡ Ok (words_in bytes.now 0 count)) ×
+        (length bytes.now ≡ 4 * count))
         (λ fault. loaded ≡ Err fault) }
 {
     match memory.lend(first, 4 * count) {

@@ -3,7 +3,7 @@
 ghost use Rattle.std.specs.Prelude.{◌≡◌, ◌<◌, ◌≤◌, ◌^◌, ◌%◌};
 ghost use Rattle.profile.specs.Outcome.{Leaves};
 ghost use Rattle.address_map.specs.Memory.{bytes_of, is_owned, layout, class_of};
-ghost use Rattle.arm_step.specs.Transfers.{offset_of, moved_base, transfer_address, with_base, value_loaded, value_stored, loaded, stored, transferred};
+ghost use Rattle.arm_step.specs.Transfers.{offset_amount, moved_base, transfer_address, with_base, value_loaded, value_stored, result_of_load, result_of_store, result_of_transfer};
 
 use address_map::AddressMap;
 use arm_core::Cpu;
@@ -33,7 +33,8 @@ fn store_value(
     address: u32,
     value: u32,
 ) -> Result<(), Fault>
-    ensures bytes { let stored = value_stored (is_owned memory.old) (bytes_of memory.old) is_byte address value in
+    ensures bytes { let stored = value_stored (is_owned memory.old)
+        (bytes_of memory.old) is_byte address value in
         Leaves (bytes_of memory.old) stored result (bytes_of memory.new) }
     ensures layout { layout memory.new ≡ layout memory.old }
     ensures marks { class_of memory.new ≡ class_of memory.old }
@@ -48,7 +49,7 @@ fn store_value(
 /// The offset of a transfer.
 #[inline(always)]
 fn offset_of(cpu: &Cpu, offset: &Offset) -> u32
-    ensures { result ≡ offset_of cpu.now offset.now }
+    ensures { result ≡ offset_amount cpu.now offset.now }
 {
     match offset {
         Offset::Immediate(number) => number.number(),
@@ -93,7 +94,7 @@ fn write_base(cpu: &mut Cpu, address: &Address, moved: u32)
 /// LDR: the base is written first, so a loaded base wins.
 #[inline(always)]
 fn load(cpu: &mut Cpu, memory: &AddressMap, transfer: &Transfer) -> Result<(), Fault>
-    ensures { let loaded = loaded cpu.old (bytes_of memory.now) transfer.now in
+    ensures { let loaded = result_of_load cpu.old (bytes_of memory.now) transfer.now in
         Leaves (cpu.old, bytes_of memory.now) loaded result (cpu.new, bytes_of memory.now) }
 {
     let value = load_value(
@@ -111,7 +112,8 @@ fn load(cpu: &mut Cpu, memory: &AddressMap, transfer: &Transfer) -> Result<(), F
 /// STR: R15 is stored three words ahead with the status, the base with its old value.
 #[inline(always)]
 fn store(cpu: &mut Cpu, memory: &mut AddressMap, transfer: &Transfer) -> Result<(), Fault>
-    ensures state { let stored = stored (is_owned memory.old) cpu.old (bytes_of memory.old) transfer.now in
+    ensures state { let stored = result_of_store (is_owned memory.old) cpu.old (bytes_of memory.old)
+        transfer.now in
         Leaves (cpu.old, bytes_of memory.old) stored result (cpu.new, bytes_of memory.new) }
     ensures layout { layout memory.new ≡ layout memory.old }
     ensures marks { class_of memory.new ≡ class_of memory.old }
@@ -135,14 +137,15 @@ fn store(cpu: &mut Cpu, memory: &mut AddressMap, transfer: &Transfer) -> Result<
 ///
 /// `AddressException`, `DataUnmapped`, and for a store `OwnedWord`, in this order. Core and
 /// memory are then as before.
-#[tactic(auto, unfolding(crate::specs::Transfers::transferred))]
+#[tactic(auto, unfolding(crate::specs::Transfers::result_of_transfer))]
 #[inline(always)]
 pub(crate) fn transfer_one(
     cpu: &mut Cpu,
     memory: &mut AddressMap,
     transfer: &Transfer,
 ) -> Result<(), Fault>
-    ensures state { let moved = transferred (is_owned memory.old) cpu.old (bytes_of memory.old) transfer.now in
+    ensures state { let moved = result_of_transfer (is_owned memory.old) cpu.old
+        (bytes_of memory.old) transfer.now in
         Leaves (cpu.old, bytes_of memory.old) moved result (cpu.new, bytes_of memory.new) }
     ensures layout { layout memory.new ≡ layout memory.old }
     ensures marks { class_of memory.new ≡ class_of memory.old }

@@ -4,7 +4,7 @@ ghost use Rattle.std.specs.Prelude.{ℕ, ◌≡◌, ◌<◌, ◌≤◌, ◌+◌,
 ghost use Rattle.arrayvec.specs.ArrayVec.{array_vec_len};
 ghost use Rattle.profile.specs.Outcome.{Leaves};
 ghost use Rattle.address_map.specs.Memory.{bytes_of, is_owned, layout, class_of};
-ghost use Rattle.arm_step.specs.Words.{are_mapped, are_free, words_loaded, words_store_fault, words_stored, with_words};
+ghost use Rattle.arm_step.specs.Words.{are_words_mapped, are_free, words_loaded, words_store_fault, words_stored, with_words};
 
 use address_map::AddressMap;
 use arrayvec::ArrayVec;
@@ -47,7 +47,7 @@ pub(crate) fn load_words(
 #[tactic(auto, using(crate::proofs::SeveralWords::mapping))]
 fn are_mapped(memory: &AddressMap, first: u32, count: u32) -> bool
     requires { first + 4 * count ≤ 2 ^ 26 }
-    ensures { result ≡ are_mapped (bytes_of memory.now) first count }
+    ensures { result ≡ are_words_mapped (bytes_of memory.now) first count }
 {
     for index in 0..count {
         if memory.translate(first + 4 * index).is_none() {
@@ -77,7 +77,7 @@ fn store_fault(memory: &AddressMap, first: u32, count: u32) -> Option<Fault>
     requires { count ≤ 16 }
     ensures fault { result ≡ words_store_fault (is_owned memory.now) (bytes_of memory.now) first count }
     ensures inside { result ≡ None → first + 4 * count ≤ 2 ^ 26 }
-    ensures mapped { result ≡ None → are_mapped (bytes_of memory.now) first count ≡ true }
+    ensures mapped { result ≡ None → are_words_mapped (bytes_of memory.now) first count ≡ true }
 {
     if first > ADDRESS_LIMIT - 4 * count {
         Some(Fault::AddressException)
@@ -94,7 +94,7 @@ fn store_fault(memory: &AddressMap, first: u32, count: u32) -> Option<Fault>
 fn put_words(memory: &mut AddressMap, first: u32, words: &[u32])
     requires aligned { first % 4 ≡ 0 }
     requires inside { first + 4 * length words.now ≤ 2 ^ 26 }
-    requires mapped { are_mapped (bytes_of memory.old) first (length words.now) ≡ true }
+    requires mapped { are_words_mapped (bytes_of memory.old) first (length words.now) ≡ true }
     ensures bytes { bytes_of memory.new ≡ with_words (bytes_of memory.old) first words.now }
     ensures layout { layout memory.new ≡ layout memory.old }
     ensures marks { class_of memory.new ≡ class_of memory.old }

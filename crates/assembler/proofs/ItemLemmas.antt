@@ -2,7 +2,7 @@
 use Rattle.std.proofs.Common.{◌≡◌, ◌<◌, ◌≤◌, ◌+◌, ◌-◌, ℕ, suc, List, Some, None, refl, arith}
 use Rattle.assembler_names.specs.Expressions.{Lookup}
 use Rattle.assembler_names.specs.Words.{comma}
-use Rattle.assembler.specs.Directives.{item_at, more_items}
+use Rattle.assembler.specs.Directives.{with_item_read, more_items}
 use Rattle.assembler.specs.Written.{Written}
 use Rattle.assembler.specs.declared.directives.Data.{Data}
 
@@ -17,12 +17,12 @@ unfolding more_items
 no_comma count i kind labels written text h e = let k : count - i ≡ suc (count - (i + 1)) = omega arith in rw (k, e) refl
 
 pub no_item : (count i : ℕ) (kind : Data) (labels : Lookup) (written : Written) (text after : List ℕ) → i < count → comma text ≡ Some after
-    → item_at kind labels written after ≡ None → more_items (count - i) kind labels written text ≡ None
+    → with_item_read kind labels written after ≡ None → more_items (count - i) kind labels written text ≡ None
 unfolding more_items
 no_item count i kind labels written text after h e t = let k : count - i ≡ suc (count - (i + 1)) = omega arith in rw (k, e, t) refl
 
 pub one_item : (count i : ℕ) (kind : Data) (labels : Lookup) (written after_item : Written) (text after rest : List ℕ) → i < count
-    → comma text ≡ Some after → item_at kind labels written after ≡ Some (after_item, rest)
+    → comma text ≡ Some after → with_item_read kind labels written after ≡ Some (after_item, rest)
     → more_items (count - i) kind labels written text ≡ more_items (count - (i + 1)) kind labels after_item rest
 unfolding more_items
 one_item count i kind labels written after_item text after rest h e r =

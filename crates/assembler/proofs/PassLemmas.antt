@@ -4,7 +4,7 @@ use Rattle.assembler_names.specs.Expressions.{Lookup}
 use Rattle.assembler_names.specs.Labels.{Entries, address_of}
 use Rattle.assembler_names.specs.declared.reason.Reason.{Reason}
 use Rattle.assembler.specs.Line.{line}
-use Rattle.assembler.specs.Passes.{Measured, first_pass, finished, measured, numbered, second_pass}
+use Rattle.assembler.specs.Passes.{Measured, first_pass, bytes_of_line, measured_with_line, error_with_line, second_pass}
 
 abbrev no_texts : List (List ℕ)
 no_texts = []
@@ -34,22 +34,22 @@ unfolding first_pass
 first_ends count i origin number m left h = ap (first_pass origin number m) (none_of count i left h)
 
 pub first_goes_on : (count i origin number : ℕ) (entries after : Entries) (program more text : List ℕ) (others : List (List ℕ)) → i < count
-    → measured origin (record { entries = entries; program = program }) (line (address_of []) origin program text) ≡ Ok (record { entries = after; program = more })
+    → measured_with_line origin (record { entries = entries; program = program }) (line (address_of []) origin program text) ≡ Ok (record { entries = after; program = more })
     → first_pass origin number (record { entries = entries; program = program }) (take (count - i) (text ∷ others))
     ≡ first_pass origin (number + 1) (record { entries = after; program = more }) (take (count - (i + 1)) others)
 unfolding first_pass
 first_goes_on count i origin number entries after program more text others h e =
     ap (first_pass origin number (record { entries = entries; program = program })) (take_next count i text others h)
-    ∙ ap (λ (r : Result Measured Reason). numbered number r (λ next. first_pass origin (number + 1) next (take (count - (i + 1)) others))) e
+    ∙ ap (λ (r : Result Measured Reason). error_with_line number r (λ next. first_pass origin (number + 1) next (take (count - (i + 1)) others))) e
 
 pub first_refused : (count i origin number : ℕ) (entries : Entries) (program : List ℕ) (reason : Reason) (text : List ℕ) (others : List (List ℕ)) → i < count
-    → measured origin (record { entries = entries; program = program }) (line (address_of []) origin program text) ≡ Err reason
+    → measured_with_line origin (record { entries = entries; program = program }) (line (address_of []) origin program text) ≡ Err reason
     → first_pass origin number (record { entries = entries; program = program }) (take (count - i) (text ∷ others))
     ≡ Err (record { line = number; reason = reason })
 unfolding first_pass
 first_refused count i origin number entries program reason text others h e =
     ap (first_pass origin number (record { entries = entries; program = program })) (take_next count i text others h)
-    ∙ ap (λ (r : Result Measured Reason). numbered number r (λ next. first_pass origin (number + 1) next (take (count - (i + 1)) others))) e
+    ∙ ap (λ (r : Result Measured Reason). error_with_line number r (λ next. first_pass origin (number + 1) next (take (count - (i + 1)) others))) e
 
 -- the second pass likewise
 pub second_stops : (count i origin number : ℕ) (labels : Lookup) (program : List ℕ) (left : List (List ℕ)) → left ≡ []
@@ -64,20 +64,20 @@ unfolding second_pass
 second_ends count i origin number labels program left h = ap (second_pass labels origin number program) (none_of count i left h)
 
 pub second_goes_on : (count i origin number : ℕ) (labels : Lookup) (program more text : List ℕ) (others : List (List ℕ)) → i < count
-    → finished origin (line labels origin program text) ≡ Ok more
+    → bytes_of_line origin (line labels origin program text) ≡ Ok more
     → second_pass labels origin number program (take (count - i) (text ∷ others)) ≡ second_pass labels origin (number + 1) more (take (count - (i + 1)) others)
 unfolding second_pass
 second_goes_on count i origin number labels program more text others h e =
     ap (second_pass labels origin number program) (take_next count i text others h)
-    ∙ ap (λ (r : Result (List ℕ) Reason). numbered number r (λ after. second_pass labels origin (number + 1) after (take (count - (i + 1)) others))) e
+    ∙ ap (λ (r : Result (List ℕ) Reason). error_with_line number r (λ after. second_pass labels origin (number + 1) after (take (count - (i + 1)) others))) e
 
 pub second_refused : (count i origin number : ℕ) (labels : Lookup) (program : List ℕ) (reason : Reason) (text : List ℕ) (others : List (List ℕ)) → i < count
-    → finished origin (line labels origin program text) ≡ Err reason
+    → bytes_of_line origin (line labels origin program text) ≡ Err reason
     → second_pass labels origin number program (take (count - i) (text ∷ others)) ≡ Err (record { line = number; reason = reason })
 unfolding second_pass
 second_refused count i origin number labels program reason text others h e =
     ap (second_pass labels origin number program) (take_next count i text others h)
-    ∙ ap (λ (r : Result (List ℕ) Reason). numbered number r (λ after. second_pass labels origin (number + 1) after (take (count - (i + 1)) others))) e
+    ∙ ap (λ (r : Result (List ℕ) Reason). error_with_line number r (λ after. second_pass labels origin (number + 1) after (take (count - (i + 1)) others))) e
 
 pub ruleset first_steps = (first_stops, first_ends, first_goes_on, first_refused)
 

@@ -6,16 +6,16 @@ use Rattle.std.specs.Int.{to_le_bytes, w32}
 use Rattle.std.specs.List.{prefix_len}
 use Rattle.assembler_names.specs.Expressions.{Lookup, expression}
 use Rattle.assembler_names.specs.Labels.{address_of}
-use Rattle.assembler_names.specs.Words.{after_spaces, after_word, begins_comment, byte, is_end, is_space, is_word_byte, spaces, word}
+use Rattle.assembler_names.specs.Words.{after_spaces, after_word, begins_comment, byte, is_end_of_line, is_space, is_word_byte, spaces, word}
 use Rattle.assembler_reading.specs.Instructions.{instruction}
-use Rattle.assembler.specs.Directives.{directive_named, items, item_at, more_items, word_at}
+use Rattle.assembler.specs.Directives.{directive_named, items, with_item_read, more_items, with_word_read}
 use Rattle.assembler.specs.Line.{Line, line, statement, statement_at, statement_of}
-use Rattle.assembler.specs.Passes.{finished, first_pass, is_too_long, means_lines, measured, second_pass}
-use Rattle.assembler.specs.Written.{aligned, unrefused}
+use Rattle.assembler.specs.Passes.{bytes_of_line, first_pass, is_program_too_long, means_lines, measured_with_line, second_pass}
+use Rattle.assembler.specs.Written.{program_to_whole_words, written_without_fault}
 
 -- a line of one word and no label, at the origin
 abbrev pub word_line : ℕ → ℕ → Line
-word_line origin w = record { label = []; statement = statement origin [] (unrefused (to_le_bytes w32 w)) }
+word_line origin w = record { label = []; statement = statement origin [] (written_without_fault (to_le_bytes w32 w)) }
 
 -- the text of an instruction: no space, no comment and no directive at its front
 pub record BeginsInstruction (text : List ℕ) : Type 0 where
@@ -28,7 +28,7 @@ at_origin origin = omega arith
 
 instruction_statement : (labels : Lookup) (origin w : ℕ) (text : List ℕ) → directive_named (word text) ≡ None
     → instruction labels (origin + 0) text ≡ Some (Ok w, [])
-    → statement_at labels origin [] text ≡ Some (statement origin [] (unrefused (to_le_bytes w32 w)), [])
+    → statement_at labels origin [] text ≡ Some (statement origin [] (written_without_fault (to_le_bytes w32 w)), [])
 instruction_statement labels origin w text none read = rw (none, read) refl
 
 -- one byte more of a run at the front
@@ -47,26 +47,26 @@ one_space : (text : List ℕ) → after_spaces text ≡ text → after_spaces (3
 unfolding after_spaces
 one_space text e = ap (λ (n : ℕ). drop n (32 ∷ text)) (prefix_onto is_space 32 text refl) ∙ e
 
-no_end : (text : List ℕ) → after_spaces text ≡ text → begins_comment text ≡ false → is_end (32 ∷ text) ≡ false
-unfolding is_end
+no_end : (text : List ℕ) → after_spaces text ≡ text → begins_comment text ≡ false → is_end_of_line (32 ∷ text) ≡ false
+unfolding is_end_of_line
 no_end text no_space no_comment = ap begins_comment (one_space text no_space) ∙ no_comment
 
 spaces_then : (text : List ℕ) → after_spaces text ≡ text → spaces (32 ∷ text) ≡ Some text
 unfolding spaces byte
 spaces_then text no_space = ap (λ (t : List ℕ). Some t) no_space
 
-nothing_ends : is_end [] ≡ true
-unfolding is_end after_spaces
+nothing_ends : is_end_of_line [] ≡ true
+unfolding is_end_of_line after_spaces
 nothing_ends = refl
 
-statement_behind : (labels : Lookup) (origin w : ℕ) (text : List ℕ) → is_end (32 ∷ text) ≡ false → spaces (32 ∷ text) ≡ Some text
-    → statement_at labels origin [] text ≡ Some (statement origin [] (unrefused (to_le_bytes w32 w)), [])
-    → statement_of labels origin [] (32 ∷ text) ≡ Some (statement origin [] (unrefused (to_le_bytes w32 w)))
+statement_behind : (labels : Lookup) (origin w : ℕ) (text : List ℕ) → is_end_of_line (32 ∷ text) ≡ false → spaces (32 ∷ text) ≡ Some text
+    → statement_at labels origin [] text ≡ Some (statement origin [] (written_without_fault (to_le_bytes w32 w)), [])
+    → statement_of labels origin [] (32 ∷ text) ≡ Some (statement origin [] (written_without_fault (to_le_bytes w32 w)))
 statement_behind labels origin w text no_end spaced read = rw (no_end, spaced, read, nothing_ends) refl
 
 -- a space and what is read as one word to the end
 line_of : (labels : Lookup) (origin w : ℕ) (text : List ℕ) → after_spaces text ≡ text → begins_comment text ≡ false
-    → statement_at labels origin [] text ≡ Some (statement origin [] (unrefused (to_le_bytes w32 w)), [])
+    → statement_at labels origin [] text ≡ Some (statement origin [] (written_without_fault (to_le_bytes w32 w)), [])
     → line labels origin [] (32 ∷ text) ≡ Some (word_line origin w)
 unfolding line word after_word
 line_of labels origin w text no_space no_comment read =
@@ -80,8 +80,8 @@ instruction_line labels origin w text b read =
 
 -- DCD and one word
 data_statement : (labels : Lookup) (origin w : ℕ) (digits : List ℕ) → expression labels (38 ∷ digits) ≡ Some (Some w, [])
-    → statement_at labels origin [] (codes "DCD " ++ (38 ∷ digits)) ≡ Some (statement origin [] (unrefused (to_le_bytes w32 w)), [])
-unfolding word after_word spaces byte after_spaces item_at more_items
+    → statement_at labels origin [] (codes "DCD " ++ (38 ∷ digits)) ≡ Some (statement origin [] (written_without_fault (to_le_bytes w32 w)), [])
+unfolding word after_word spaces byte after_spaces with_item_read more_items
 data_statement labels origin w digits read = rw read refl
 
 data_begins : (digits : List ℕ) → after_spaces (codes "DCD " ++ (38 ∷ digits)) ≡ codes "DCD " ++ (38 ∷ digits)
@@ -94,7 +94,7 @@ data_line labels origin w digits read =
     line_of labels origin w (codes "DCD " ++ (38 ∷ digits)) (data_begins digits) refl (data_statement labels origin w digits read)
 
 -- the passes over such a line
-four_fit : (origin : ℕ) (bytes : List ℕ) → length bytes ≡ 4 → origin % 4 ≡ 0 → origin < 2 ^ 26 → is_too_long origin bytes ≡ false
+four_fit : (origin : ℕ) (bytes : List ℕ) → length bytes ≡ 4 → origin % 4 ≡ 0 → origin < 2 ^ 26 → is_program_too_long origin bytes ≡ false
 four_fit origin bytes four even low =
     let short : nat_lt 1048576 (length bytes) ≡ false = grind (arith, nat_tests, four) in
     let within : nat_lt (2 ^ 26) (origin + length bytes) ≡ false = fits (omega (arith, four, even, low)) in
@@ -103,11 +103,11 @@ four_fit origin bytes four even low =
     fits : origin + length bytes ≤ 2 ^ 26 → nat_lt (2 ^ 26) (origin + length bytes) ≡ false
     fits h = grind (arith, nat_tests, h)
 
-pub word_fits : (origin w : ℕ) → origin % 4 ≡ 0 → origin < 2 ^ 26 → is_too_long origin (to_le_bytes w32 w) ≡ false
+pub word_fits : (origin w : ℕ) → origin % 4 ≡ 0 → origin < 2 ^ 26 → is_program_too_long origin (to_le_bytes w32 w) ≡ false
 word_fits origin w even low = four_fit origin (to_le_bytes w32 w) refl even low
 
 -- one line of a word means its four bytes
-pub one_line : (origin w : ℕ) (text : List ℕ) → is_too_long origin (to_le_bytes w32 w) ≡ false
+pub one_line : (origin w : ℕ) (text : List ℕ) → is_program_too_long origin (to_le_bytes w32 w) ≡ false
     → line (address_of []) origin [] text ≡ Some (word_line origin w) → means_lines (text ∷ []) origin ≡ Ok (to_le_bytes w32 w)
-unfolding means_lines first_pass second_pass measured
+unfolding means_lines first_pass second_pass measured_with_line
 one_line origin w text short read = rw (read, short, read, short) refl

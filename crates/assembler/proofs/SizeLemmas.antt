@@ -6,7 +6,7 @@ use Rattle.std.specs.Prelude.{nat_lt, min, ◌&&◌, if◌then◌else◌}
 use Rattle.std.specs.Char.{is_digit, digit_value}
 use Rattle.std.specs.List.{list_all}
 use Rattle.std.specs.Str.Parse.{digits_value_after}
-use Rattle.assembler.specs.Directives.{size_of, with_digit}
+use Rattle.assembler.specs.Directives.{spare_size_of, size_with_digit}
 use Rattle.assembler_names.proofs.Digits.{at_place, is_some}
 
 -- digits after those of `size`
@@ -39,13 +39,13 @@ same_size radix size other (d ∷ ds) some e =
     ∙ ap (λ (n : ℕ). min (n * radix + digit_value d) 1048577) e
     ∙ same_step radix other (digit_value d) some)
 
-pub no_digits : (radix : ℕ) (digits : List ℕ) → length digits ≡ 0 → size_of radix digits ≡ None
-unfolding size_of
+pub no_digits : (radix : ℕ) (digits : List ℕ) → length digits ≡ 0 → spare_size_of radix digits ≡ None
+unfolding spare_size_of
 no_digits radix [] none = refl
 no_digits radix (d ∷ ds) none = absurd (omega (arith, none))
 
-pub first_digits : (radix size : ℕ) (digits : List ℕ) → 0 < length digits → size ≡ 0 → size_of radix digits ≡ digits_onto radix size digits
-unfolding size_of digits_onto
+pub first_digits : (radix size : ℕ) (digits : List ℕ) → 0 < length digits → size ≡ 0 → spare_size_of radix digits ≡ digits_onto radix size digits
+unfolding spare_size_of digits_onto
 first_digits radix size [] some zero = absurd (omega (arith, some))
 first_digits radix size (d ∷ ds) some zero = rw (zero, is_some (length (d ∷ ds)) some) refl
 
@@ -66,8 +66,8 @@ goes_on_by true n next radix ds some e =
     rw (same_size radix n next ds some same) refl
 goes_on_by false n next radix ds some e = absurd (cc)
 
-goes_on : (radix size next d : ℕ) (ds : List ℕ) → 1 ≤ radix → with_digit radix size d ≡ Some next → digits_onto radix size (d ∷ ds) ≡ digits_onto radix next ds
-unfolding with_digit digits_onto
+goes_on : (radix size next d : ℕ) (ds : List ℕ) → 1 ≤ radix → size_with_digit radix size d ≡ Some next → digits_onto radix size (d ∷ ds) ≡ digits_onto radix next ds
+unfolding size_with_digit digits_onto
 goes_on radix size next d ds some e = goes_on_by (is_digit d radix) (size * radix + digit_value d) next radix ds some e
 
 breaks_off_by : (p : Bool) (n radix : ℕ) (ds : List ℕ) (total : ℕ) → (if p then Some n else None) ≡ None
@@ -75,19 +75,19 @@ breaks_off_by : (p : Bool) (n radix : ℕ) (ds : List ℕ) (total : ℕ) → (if
 breaks_off_by true n radix ds total e = absurd (cc)
 breaks_off_by false n radix ds total e = refl
 
-breaks_off : (radix size d : ℕ) (ds : List ℕ) → with_digit radix size d ≡ None → digits_onto radix size (d ∷ ds) ≡ None
-unfolding with_digit digits_onto
+breaks_off : (radix size d : ℕ) (ds : List ℕ) → size_with_digit radix size d ≡ None → digits_onto radix size (d ∷ ds) ≡ None
+unfolding size_with_digit digits_onto
 breaks_off radix size d ds e =
     breaks_off_by (is_digit d radix) (min (size * radix + digit_value d) 1048577) radix ds
     (min (digits_value_after radix (size * radix + digit_value d) ds) 1048577) e
 
 -- the same at a place of all digits
-pub goes_on_at : (radix size next i : ℕ) (all : List ℕ) → i < length all → 2 ≤ radix → with_digit radix size (get_or all i 0) ≡ Some next
+pub goes_on_at : (radix size next i : ℕ) (all : List ℕ) → i < length all → 2 ≤ radix → size_with_digit radix size (get_or all i 0) ≡ Some next
     → digits_onto radix size (drop i all) ≡ digits_onto radix next (drop (i + 1) all)
 goes_on_at radix size next i all within some e =
     ap (digits_onto radix size) (at_place i all within) ∙ goes_on radix size next (get_or all i 0) (drop (i + 1) all) (omega arith) e
 
-pub breaks_off_at : (radix size i : ℕ) (all : List ℕ) → i < length all → with_digit radix size (get_or all i 0) ≡ None
+pub breaks_off_at : (radix size i : ℕ) (all : List ℕ) → i < length all → size_with_digit radix size (get_or all i 0) ≡ None
     → digits_onto radix size (drop i all) ≡ None
 breaks_off_at radix size i all within e =
     ap (digits_onto radix size) (at_place i all within) ∙ breaks_off radix size (get_or all i 0) (drop (i + 1) all) e

@@ -34,8 +34,8 @@ use Rattle.arm_decode.specs.Names.{is_up}
 use Rattle.assembler_reading.specs.assembler_text.specs.Names.{block_mode_text, choose_text, condition_text, operation_text, register_text, shift_text, text_if}
 use Rattle.assembler_reading.specs.assembler_text.specs.Numbers.{immediate_text, immediate_value, is_field, least_rotation, number_text}
 use Rattle.assembler_reading.specs.assembler_text.specs.Operands.{amount_text, by_register_text, operand_text, shifted_text, shifting_text}
-use Rattle.assembler_reading.specs.assembler_text.specs.Printing.{action_text, branch_target, branch_text, flags_text, swi_text, multiply_head, multiply_operands, operate_head, registers_text}
-use Rattle.assembler_reading.specs.assembler_text.specs.Transfers.{address_text, after_text, base_text, before_text, block_head, braces_text, close_text, indexed_text, is_nothing, is_user, listed_from, listed_text, offset_text, separated, sign_text, transfer_head}
+use Rattle.assembler_reading.specs.assembler_text.specs.Printing.{action_text, branch_target, branch_text, flags_text, swi_text, multiply_head, multiply_operands, operate_head, operate_registers_text}
+use Rattle.assembler_reading.specs.assembler_text.specs.Transfers.{operand_address_text, after_text, base_text, before_text, block_head, braces_text, close_text, indexed_text, is_nothing, is_user, listed_from, listed_text, offset_text, register_names_text, sign_text, transfer_head}
 use Rattle.assembler_names.specs.Words.{is_word_byte}
 use Rattle.assembler_reading.proofs.MnemonicsAgain.{letters_join}
 use Rattle.assembler_reading.proofs.Numbers.{is_amount}
@@ -233,7 +233,7 @@ operate_head_unbroken c o =
 with_comma : (n : ℕ) (rest : List ℕ) → IsUnbroken rest → IsUnbroken (register_text n ++ (codes "," ++ rest))
 with_comma n rest h = join (register_text n) (codes "," ++ rest) (register_unbroken n) h
 
-registers_unbroken : (o : Operate) → IsUnbroken (registers_text o)
+registers_unbroken : (o : Operate) → IsUnbroken (operate_registers_text o)
 registers_unbroken o =
     either (is_test o.operation) (register_text o.rn ++ codes ",")
     (if is_move o.operation then register_text o.rd ++ codes "," else register_text o.rd ++ (codes "," ++ (register_text o.rn ++ codes ",")))
@@ -288,7 +288,7 @@ indexed_unbroken : (i : Indexing) (a : Address) → FitsOffset a.offset → IsUn
 indexed_unbroken (Pre w) a fits = before_unbroken w a fits
 indexed_unbroken (Post user) a fits = after_unbroken a fits
 
-address_unbroken : (a : Address) → FitsOffset a.offset → IsUnbroken (address_text a)
+address_unbroken : (a : Address) → FitsOffset a.offset → IsUnbroken (operand_address_text a)
 address_unbroken a fits = indexed_unbroken a.indexing a fits
 
 transfer_head_unbroken : (c : Condition) (t : Transfer) → IsUnbroken (transfer_head c t)
@@ -305,11 +305,11 @@ transfer_head_unbroken c t =
     (optional (is_user t.address.indexing) (codes "T") refl) (with_comma t.rd [] refl))))
 
 -- LDM, STM
-separated_unbroken : (before ns : List ℕ) → IsUnbroken before → IsUnbroken (separated before ns)
+separated_unbroken : (before ns : List ℕ) → IsUnbroken before → IsUnbroken (register_names_text before ns)
 separated_unbroken before [] h = refl
 separated_unbroken before (n ∷ ns) h =
-    join before (register_text n ++ separated (codes ",") ns) h
-    (join (register_text n) (separated (codes ",") ns) (register_unbroken n) (separated_unbroken (codes ",") ns refl))
+    join before (register_text n ++ register_names_text (codes ",") ns) h
+    (join (register_text n) (register_names_text (codes ",") ns) (register_unbroken n) (separated_unbroken (codes ",") ns refl))
 
 listed_unbroken : (list : ℕ) → IsUnbroken (listed_text list)
 unfolding listed_text
@@ -342,12 +342,12 @@ swi_unbroken c n = join (condition_text c) (codes " " ++ number_text n) (conditi
 
 pub action_unbroken : (address : ℕ) (c : Condition) (a : Action) → FitsFields a → IsUnbroken (action_text address c a)
 action_unbroken address c (action.Operate o) fits =
-    join (operate_head c o) (registers_text o ++ operand_text o.operand) (operate_head_unbroken c o)
-    (join (registers_text o) (operand_text o.operand) (registers_unbroken o) (operand_unbroken o.operand fits.2))
+    join (operate_head c o) (operate_registers_text o ++ operand_text o.operand) (operate_head_unbroken c o)
+    (join (operate_registers_text o) (operand_text o.operand) (registers_unbroken o) (operand_unbroken o.operand fits.2))
 action_unbroken address c (action.Multiply m) fits =
     join (multiply_head c m) (multiply_operands m) (multiply_head_unbroken c m) (multiply_operands_unbroken m)
 action_unbroken address c (action.Transfer t) fits =
-    join (transfer_head c t) (address_text t.address) (transfer_head_unbroken c t) (address_unbroken t.address fits.2)
+    join (transfer_head c t) (operand_address_text t.address) (transfer_head_unbroken c t) (address_unbroken t.address fits.2)
 action_unbroken address c (action.BlockTransfer b) fits =
     join (block_head c b) (braces_text b) (block_head_unbroken c b) (braces_unbroken b)
 action_unbroken address c (action.Branch links d) fits = branch_unbroken c links (branch_target address d)

@@ -19,12 +19,15 @@ with_fault first None = first
 with_fault first (Some reason) = with_reason first reason
 
 -- bytes that nothing is refused for
-abbrev pub unrefused : List ℕ → Written
-unrefused bytes = record { bytes = bytes; fault = None }
+abbrev pub written_without_fault : List ℕ → Written
+written_without_fault bytes = record { bytes = bytes; fault = None }
 
 -- an item at the end of what stands written
 abbrev pub with_item : Written → Written → Written
-with_item written item = record { bytes = written.bytes ++ item.bytes; fault = with_fault written.fault item.fault }
+with_item written item = record {
+  bytes = written.bytes ++ item.bytes;
+  fault = with_fault written.fault item.fault;
+}
 
 -- a word: its value, or None where a label in it is unknown
 abbrev pub word_item : Option ℕ → Written
@@ -34,7 +37,8 @@ word_item None = record { bytes = to_le_bytes w32 0; fault = Some UnknownLabel }
 -- a byte likewise; it holds 255 at most
 abbrev pub byte_item : Option ℕ → Written
 byte_item (Some value) =
-    if nat_le value 255 then record { bytes = value ∷ []; fault = None } else record { bytes = 0 ∷ []; fault = Some BadImmediate }
+    if nat_le value 255 then record { bytes = value ∷ []; fault = None }
+    else record { bytes = 0 ∷ []; fault = Some BadImmediate }
 byte_item None = record { bytes = 0 ∷ []; fault = Some UnknownLabel }
 
 -- an instruction: its word, or what it is refused for
@@ -44,5 +48,5 @@ instruction_item (Err reason) = record { bytes = to_le_bytes w32 0; fault = Some
 
 -- the program with zero bytes up to the next multiple of 4: five bytes get three more, four get
 -- none
-abbrev pub aligned : List ℕ → List ℕ
-aligned program = program ++ replicate ((4 - length program % 4) % 4) 0
+abbrev pub program_to_whole_words : List ℕ → List ℕ
+program_to_whole_words program = program ++ replicate ((4 - length program % 4) % 4) 0

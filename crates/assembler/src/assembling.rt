@@ -3,7 +3,7 @@
 ghost use Rattle.std.specs.Prelude.{◌≡◌, ◌≢◌, ◌≤◌, ◌<◌, ◌%◌, ◌^◌, [], Err, length, take, IfOk, OnOk};
 ghost use Rattle.assembler_names.specs.Labels.{address_of};
 ghost use Rattle.assembler.specs.Line.{line};
-ghost use Rattle.assembler.specs.Passes.{finished, first_pass, leaving, means, means_lines, measured, second_pass};
+ghost use Rattle.assembler.specs.Passes.{bytes_of_line, first_pass, leaving, means, means_lines, measured_with_line, second_pass};
 
 use crate::error::AsmError;
 use crate::line::put_line;
@@ -100,7 +100,7 @@ fn labels_of<'s>(
 }
 
 // A line of the first pass, which knows no label's address.
-#[tactic(auto, unfolding(crate::specs::Passes::measured))]
+#[tactic(auto, unfolding(crate::specs::Passes::measured_with_line))]
 fn measure<'s>(
     none: &Labels,
     origin: u32,
@@ -113,7 +113,7 @@ fn measure<'s>(
     requires room { length output.old.bytes ≤ 1048576 }
     ensures told { IfOk result (λ answer.
         leaving (record { entries = labels.new; program = output.new.bytes }) answer
-        ≡ measured origin (record { entries = labels.old; program = output.old.bytes })
+        ≡ measured_with_line origin (record { entries = labels.old; program = output.old.bytes })
         (line (address_of []) origin output.old.bytes text.now)) }
     ensures room { IfOk result (λ answer. OnOk answer (length output.new.bytes ≤ 1048576)) }
 {
@@ -169,7 +169,7 @@ fn finish(
     requires origin { origin < 2 ^ 26 }
     requires room { length output.old.bytes ≤ 1048576 }
     ensures told { IfOk result (λ answer. leaving output.new.bytes answer
-        ≡ finished origin (line (address_of labels.now) origin output.old.bytes text.now)) }
+        ≡ bytes_of_line origin (line (address_of labels.now) origin output.old.bytes text.now)) }
     ensures room { IfOk result (λ answer. OnOk answer (length output.new.bytes ≤ 1048576)) }
 {
     if put_line(labels, origin, text, output)?.is_none() {

@@ -1,7 +1,7 @@
 //! The directives: DCD, DCB, SPACE and ALIGN, and the number after SPACE.
 
 ghost use Rattle.std.specs.Prelude.{◌≡◌, ◌≤◌, IfSome, option_map};
-ghost use Rattle.assembler.specs.Directives.{directive_named, size, size_after, size_of, with_digit};
+ghost use Rattle.assembler.specs.Directives.{directive_named, size, spare_size_after, spare_size_of, size_with_digit};
 
 use assembler_names::words::{Read, after_word, byte, is_name, word};
 use profile::memory_map::MOST_BYTES;
@@ -58,7 +58,7 @@ pub(crate) fn size(text: &[u8]) -> Read<'_, usize>
 fn size_after(radix: u32, text: &[u8]) -> Read<'_, usize>
     requires low { 2 ≤ radix }
     requires high { radix ≤ 36 }
-    ensures read { option_map (λ r. (r.0, r.1.now)) result ≡ size_after radix text.now }
+    ensures read { option_map (λ r. (r.0, r.1.now)) result ≡ spare_size_after radix text.now }
     ensures below { IfSome result (λ r. r.0 ≤ 1048577) }
 {
     Some((size_of(radix, word(text))?, after_word(text)))
@@ -68,7 +68,7 @@ fn size_after(radix: u32, text: &[u8]) -> Read<'_, usize>
 fn size_of(radix: u32, digits: &[u8]) -> Option<usize>
     requires low { 2 ≤ radix }
     requires high { radix ≤ 36 }
-    ensures read { result ≡ size_of radix digits.now }
+    ensures read { result ≡ spare_size_of radix digits.now }
     ensures below { IfSome result (λ size. size ≤ 1048577) }
 {
     if digits.is_empty() {
@@ -82,12 +82,12 @@ fn size_of(radix: u32, digits: &[u8]) -> Option<usize>
 }
 
 // One more digit after a size.
-#[tactic(auto, unfolding(crate::specs::Directives::with_digit))]
+#[tactic(auto, unfolding(crate::specs::Directives::size_with_digit))]
 fn with_digit(size: usize, digit: u8, radix: u32) -> Option<usize>
     requires low { 2 ≤ radix }
     requires high { radix ≤ 36 }
     requires size { size ≤ 1048577 }
-    ensures read { result ≡ with_digit radix size digit }
+    ensures read { result ≡ size_with_digit radix size digit }
     ensures below { IfSome result (λ size. size ≤ 1048577) }
 {
     let digit = (digit as char).to_digit(radix)?;

@@ -3,7 +3,7 @@
 ghost use Rattle.std.specs.Prelude.{◌≡◌, ◌≤◌, length, IfOk, option_map};
 ghost use Rattle.std.specs.List.{prefix_len};
 ghost use Rattle.assembler_names.specs.Labels.{address_of};
-ghost use Rattle.assembler.specs.Directives.{byte_at, is_text_byte, item_at, items, more_items, quoted, word_at};
+ghost use Rattle.assembler.specs.Directives.{with_byte_read, is_text_byte, with_item_read, items, more_items, with_quoted_text, with_word_read};
 
 use crate::directives::Data;
 use crate::output::Output;
@@ -55,10 +55,10 @@ fn put_more_items<'t>(
     Ok(Some(rest))
 }
 
-#[tactic(auto, unfolding(crate::specs::Directives::item_at))]
+#[tactic(auto, unfolding(crate::specs::Directives::with_item_read))]
 fn put_item<'t>(kind: Data, labels: &Labels, text: &'t [u8], output: &mut Output) -> Rest<'t>
     ensures { IfOk result (λ rest. option_map (λ rest. (output.new, rest.now)) rest
-        ≡ item_at kind (address_of labels.now) output.old text.now) }
+        ≡ with_item_read kind (address_of labels.now) output.old text.now) }
 {
     match kind {
         Data::Words => put_word(labels, text, output),
@@ -71,7 +71,7 @@ fn put_item<'t>(kind: Data, labels: &Labels, text: &'t [u8], output: &mut Output
 
 fn put_word<'t>(labels: &Labels, text: &'t [u8], output: &mut Output) -> Rest<'t>
     ensures { IfOk result (λ rest. option_map (λ rest. (output.new, rest.now)) rest
-        ≡ word_at (address_of labels.now) output.old text.now) }
+        ≡ with_word_read (address_of labels.now) output.old text.now) }
 {
     let Some((value, rest)) = expression(labels, text) else {
         return Ok(None);
@@ -82,7 +82,7 @@ fn put_word<'t>(labels: &Labels, text: &'t [u8], output: &mut Output) -> Rest<'t
 
 fn put_byte<'t>(labels: &Labels, text: &'t [u8], output: &mut Output) -> Rest<'t>
     ensures { IfOk result (λ rest. option_map (λ rest. (output.new, rest.now)) rest
-        ≡ byte_at (address_of labels.now) output.old text.now) }
+        ≡ with_byte_read (address_of labels.now) output.old text.now) }
 {
     let Some((value, rest)) = expression(labels, text) else {
         return Ok(None);
@@ -94,7 +94,7 @@ fn put_byte<'t>(labels: &Labels, text: &'t [u8], output: &mut Output) -> Rest<'t
 // What follows the first quote of a text, up to its second.
 fn put_quoted<'t>(text: &'t [u8], output: &mut Output) -> Rest<'t>
     ensures { IfOk result (λ rest. option_map (λ rest. (output.new, rest.now)) rest
-        ≡ quoted output.old text.now) }
+        ≡ with_quoted_text output.old text.now) }
 {
     let len = text_len(text);
     let Some(rest) = byte(b'"', &text[len..]) else {

@@ -2,7 +2,7 @@
 
 ghost use Rattle.std.specs.Prelude.{◌≡◌, ◌+◌, ◌≤◌, ◌<◌, ◌^◌, ◌++◌, [], None, length, replicate, nat_lt, ◌||◌, OnOk};
 ghost use Rattle.std.specs.Int.{to_le_bytes, w32};
-ghost use Rattle.assembler.specs.Written.{aligned, byte_item, instruction_item, unrefused, with_item, with_reason, word_item};
+ghost use Rattle.assembler.specs.Written.{program_to_whole_words, byte_item, instruction_item, written_without_fault, with_item, with_reason, word_item};
 
 use assembler_names::{Reason, Value};
 use byteorder::{ByteOrder, LittleEndian};
@@ -26,11 +26,11 @@ impl Model for Output {
 }
 
 impl Output {
-    ghost use Rattle.assembler.specs.Passes.{is_too_long};
+    ghost use Rattle.assembler.specs.Passes.{is_program_too_long};
 
     /// No bytes.
     pub(crate) fn new(alloc: Global) -> Output
-        ensures { result ≡ unrefused [] }
+        ensures { result ≡ written_without_fault [] }
     {
         Output {
             bytes: Vec::new(alloc),
@@ -54,7 +54,7 @@ impl Output {
 
     /// Nothing is refused yet.
     pub(crate) fn begin_line(&mut self)
-        ensures { self.new ≡ unrefused self.old.bytes }
+        ensures { self.new ≡ written_without_fault self.old.bytes }
     {
         self.fault = None;
     }
@@ -71,7 +71,7 @@ impl Output {
     /// Whether there are over 1,048,576 bytes, or some past the 26-bit addresses.
     pub(crate) fn is_too_long(&self, origin: u32) -> bool
         requires { origin < 2 ^ 26 }
-        ensures { result ≡ is_too_long origin self.now.bytes }
+        ensures { result ≡ is_program_too_long origin self.now.bytes }
     {
         let len = self.bytes.len();
         len > MOST_BYTES || origin as usize + len > ADDRESS_LIMIT as usize
@@ -80,7 +80,8 @@ impl Output {
     /// Zero bytes up to the next multiple of 4.
     pub(crate) fn align(&mut self) -> Result<(), AllocError>
         requires { length self.old.bytes < 2 ^ 31 }
-        ensures aligned { OnOk result (self.new ≡ record self.old { bytes = aligned self.old.bytes }) }
+        ensures aligned { OnOk result (self.new ≡ record
+            self.old { bytes = program_to_whole_words self.old.bytes }) }
         ensures room { OnOk result (length self.new.bytes ≤ length self.old.bytes + 3) }
     {
         let len = self.bytes.len();
@@ -100,7 +101,7 @@ impl Output {
 
     /// The bytes of a text.
     pub(crate) fn push_text(&mut self, text: &[u8]) -> Result<(), AllocError>
-        ensures { OnOk result (self.new ≡ with_item self.old (unrefused text.now)) }
+        ensures { OnOk result (self.new ≡ with_item self.old (written_without_fault text.now)) }
     {
         self.bytes.extend_from_slice(text)
     }
@@ -152,7 +153,8 @@ impl Output {
 
     // The bytes of a word, the lowest first.
     fn push_bytes_of(&mut self, word: u32) -> Result<(), AllocError>
-        ensures { OnOk result (self.new ≡ record self.old { bytes = self.old.bytes ++ to_le_bytes w32 word }) }
+        ensures { OnOk result (self.new ≡ record self.old
+            { bytes = self.old.bytes ++ to_le_bytes w32 word }) }
     {
         let mut bytes = [0u8; 4];
         LittleEndian::write_u32(&mut bytes, word);

@@ -3,7 +3,7 @@
 ghost use Rattle.std.specs.Prelude.{◌≡◌, ◌≤◌, ◌<◌, ◌^◌, length, IfOk, option_map};
 ghost use Rattle.assembler_names.specs.Labels.{address_of};
 ghost use Rattle.assembler.specs.Line.{instruction_at, listed_at, listed_start, space_at, statement_at, statement_of};
-ghost use Rattle.assembler.specs.Written.{aligned};
+ghost use Rattle.assembler.specs.Written.{program_to_whole_words};
 
 use crate::directives::{Data, Directive, directive_named, size};
 use crate::items::put_items;
@@ -48,7 +48,10 @@ fn put_statement_at<'t>(
     requires origin { origin < 2 ^ 26 }
     requires room { length output.old.bytes ≤ 1048576 }
     requires unrefused { output.old.fault ≡ None }
-    ensures { IfOk result (λ read. option_map (λ r. (record { place = r.0; written = output.new }, r.1.now)) read
+    ensures { IfOk result (λ read. option_map (λ r. (
+      record { place = r.0; written = output.new },
+      r.1.now,
+    )) read
         ≡ statement_at (address_of labels.now) origin output.old.bytes text.now) }
 {
     match directive_named(word(text)) {
@@ -72,8 +75,11 @@ fn put_instruction<'t>(
     requires origin { origin < 2 ^ 26 }
     requires room { length output.old.bytes ≤ 1048576 }
     requires unrefused { output.old.fault ≡ None }
-    ensures { IfOk result (λ read. option_map (λ r. (record { place = r.0; written = output.new }, r.1.now)) read
-        ≡ instruction_at (address_of labels.now) origin (aligned output.old.bytes) text.now) }
+    ensures { IfOk result (λ read. option_map (λ r. (
+      record { place = r.0; written = output.new },
+      r.1.now,
+    )) read
+        ≡ instruction_at (address_of labels.now) origin (program_to_whole_words output.old.bytes) text.now) }
 {
     output.align()?;
     let place = output.end(origin);
@@ -94,7 +100,10 @@ fn put_list<'t>(
     requires origin { origin < 2 ^ 26 }
     requires room { length output.old.bytes ≤ 1048576 }
     requires unrefused { output.old.fault ≡ None }
-    ensures { IfOk result (λ read. option_map (λ r. (record { place = r.0; written = output.new }, r.1.now)) read
+    ensures { IfOk result (λ read. option_map (λ r. (
+      record { place = r.0; written = output.new },
+      r.1.now,
+    )) read
         ≡ listed_at kind (address_of labels.now) origin (listed_start kind output.old.bytes) text.now) }
 {
     if let Data::Words = kind {
@@ -118,7 +127,10 @@ fn put_space<'t>(
     requires origin { origin < 2 ^ 26 }
     requires room { length output.old.bytes ≤ 1048576 }
     requires unrefused { output.old.fault ≡ None }
-    ensures { IfOk result (λ read. option_map (λ r. (record { place = r.0; written = output.new }, r.1.now)) read
+    ensures { IfOk result (λ read. option_map (λ r. (
+      record { place = r.0; written = output.new },
+      r.1.now,
+    )) read
         ≡ space_at origin output.old.bytes text.now) }
 {
     let place = output.end(origin);

@@ -6,7 +6,7 @@ use Rattle.std.specs.Prelude.{nat_lt, if◌then◌else◌}
 use Rattle.std.specs.Char.{is_digit, digit_value}
 use Rattle.std.specs.List.{list_all}
 use Rattle.std.specs.Str.Parse.{digits_value_after}
-use Rattle.assembler_names.specs.Expressions.{numeral, with_digit}
+use Rattle.assembler_names.specs.Expressions.{numeral, value_with_digit}
 
 -- digits after those of `value`
 unfoldable pub digits_onto : ℕ → ℕ → List ℕ → Option ℕ
@@ -56,8 +56,8 @@ by_no_test false n e = refl
 modulo_twice : (a b : ℕ) → a % 2 ^ 32 ≡ b → b % 2 ^ 32 ≡ a % 2 ^ 32
 modulo_twice a b e = omega arith
 
-pub goes_on : (radix value next d : ℕ) (ds : List ℕ) → with_digit radix value d ≡ Some next → digits_onto radix value (d ∷ ds) ≡ digits_onto radix next ds
-unfolding with_digit digits_onto
+pub goes_on : (radix value next d : ℕ) (ds : List ℕ) → value_with_digit radix value d ≡ Some next → digits_onto radix value (d ∷ ds) ≡ digits_onto radix next ds
+unfolding value_with_digit digits_onto
 goes_on radix value next d ds e =
     let test : (is_digit d radix ≡ true) × ((value * radix + digit_value d) % 2 ^ 32 ≡ next) =
     by_test (is_digit d radix) ((value * radix + digit_value d) % 2 ^ 32) next e in
@@ -65,20 +65,20 @@ goes_on radix value next d ds e =
     same_value radix (value * radix + digit_value d) next ds (sym (modulo_twice (value * radix + digit_value d) next test.1)) in
     rw (test.0, same) refl
 
-pub breaks_off : (radix value d : ℕ) (ds : List ℕ) → with_digit radix value d ≡ None → digits_onto radix value (d ∷ ds) ≡ None
-unfolding with_digit digits_onto
+pub breaks_off : (radix value d : ℕ) (ds : List ℕ) → value_with_digit radix value d ≡ None → digits_onto radix value (d ∷ ds) ≡ None
+unfolding value_with_digit digits_onto
 breaks_off radix value d ds e = rw (by_no_test (is_digit d radix) ((value * radix + digit_value d) % 2 ^ 32) e) refl
 
 -- the same at a place of all digits
 pub at_place : (i : ℕ) (all : List ℕ) → i < length all → drop i all ≡ get_or all i 0 ∷ drop (i + 1) all
 at_place i all within = drop-cons all i 0 within ∙ ap (λ (k : ℕ). get_or all i 0 ∷ drop k all) (sym (add-one i))
 
-pub goes_on_at : (radix value next i : ℕ) (all : List ℕ) → i < length all → with_digit radix value (get_or all i 0) ≡ Some next
+pub goes_on_at : (radix value next i : ℕ) (all : List ℕ) → i < length all → value_with_digit radix value (get_or all i 0) ≡ Some next
     → digits_onto radix value (drop i all) ≡ digits_onto radix next (drop (i + 1) all)
 goes_on_at radix value next i all within e =
     ap (digits_onto radix value) (at_place i all within) ∙ goes_on radix value next (get_or all i 0) (drop (i + 1) all) e
 
-pub breaks_off_at : (radix value i : ℕ) (all : List ℕ) → i < length all → with_digit radix value (get_or all i 0) ≡ None
+pub breaks_off_at : (radix value i : ℕ) (all : List ℕ) → i < length all → value_with_digit radix value (get_or all i 0) ≡ None
     → digits_onto radix value (drop i all) ≡ None
 breaks_off_at radix value i all within e =
     ap (digits_onto radix value) (at_place i all within) ∙ breaks_off radix value (get_or all i 0) (drop (i + 1) all) e

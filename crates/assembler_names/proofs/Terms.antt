@@ -1,6 +1,6 @@
 -- The loop over the terms of an expression.
 use Rattle.std.proofs.Common.{◌≡◌, ◌<◌, ◌≤◌, ◌+◌, ◌-◌, ℕ, suc, Bool, List, Some, None, refl, arith}
-use Rattle.assembler_names.specs.Expressions.{Lookup, Value, combined, more_terms, sign, term}
+use Rattle.assembler_names.specs.Expressions.{Lookup, Value, sum_or_difference, more_terms, sign, term}
 
 pub terms_end : (count i : ℕ) (labels : Lookup) (sum : Value) (text : List ℕ) → count ≤ i → more_terms (count - i) labels sum text ≡ Some (sum, text)
 unfolding more_terms
@@ -18,7 +18,7 @@ no_term count i labels sum text after is_minus h e t = let k : count - i ≡ suc
 
 pub one_term : (count i : ℕ) (labels : Lookup) (sum value : Value) (text after next : List ℕ) (is_minus : Bool) → i < count
     → Some (is_minus, after) ≡ sign text → Some (value, next) ≡ term labels after
-    → more_terms (count - i) labels sum text ≡ more_terms (count - (i + 1)) labels (combined is_minus sum value) next
+    → more_terms (count - i) labels sum text ≡ more_terms (count - (i + 1)) labels (sum_or_difference is_minus sum value) next
 unfolding more_terms
 one_term count i labels sum value text after next is_minus h e r = let k : count - i ≡ suc (count - (i + 1)) = omega arith in rw (k, ← e, ← r) refl
 

@@ -18,19 +18,21 @@ abbrev pub Value : Type 0
 Value = Option ℕ
 
 -- a number with one more digit after it
-unfoldable pub with_digit : ℕ → ℕ → ℕ → Option ℕ
-with_digit radix value digit = if is_digit digit radix then Some ((value * radix + digit_value digit) % 2 ^ 32) else None
+unfoldable pub value_with_digit : ℕ → ℕ → ℕ → Option ℕ
+value_with_digit radix value digit = if is_digit digit radix then
+    Some ((value * radix + digit_value digit) % 2 ^ 32) else None
 
 -- the number that digits of this radix spell, at least one; of hexadecimal digits the letters are
 -- of either case
 unfoldable pub numeral : ℕ → List ℕ → Option ℕ
 numeral radix digits =
-    if nat_lt 0 (length digits) && list_all (λ c. is_digit c radix) digits then Some (digits_value radix digits % 2 ^ 32) else None
+    if nat_lt 0 (length digits) && list_all (λ c. is_digit c radix) digits then
+    Some (digits_value radix digits % 2 ^ 32) else None
 
 -- what follows the first quote (39) of `'c'`: one printed byte and a quote. Of `'''` it is 39.
-abbrev pub quoted : List ℕ → Option (Value × List ℕ)
-quoted (c ∷ quote ∷ rest) = if is_in_range 32 126 c && quote == 39 then Some (Some c, rest) else None
-quoted _ = None
+abbrev pub quoted_byte : List ℕ → Option (Value × List ℕ)
+quoted_byte (c ∷ quote ∷ rest) = if is_in_range 32 126 c && quote == 39 then Some (Some c, rest) else None
+quoted_byte _ = None
 
 -- what follows `&`
 abbrev pub hexadecimal : List ℕ → Option (Value × List ℕ)
@@ -41,7 +43,8 @@ hexadecimal text = do
 -- a decimal number, or a label
 abbrev pub word_value : Lookup → List ℕ → Option Value
 word_value labels name =
-    if begins_with_digit name then option_map Some (numeral 10 name) else (if is_label name then Some (labels name) else None)
+    if begins_with_digit name then option_map Some (numeral 10 name)
+    else (if is_label name then Some (labels name) else None)
 
 abbrev pub named_term : Lookup → List ℕ → Option (Value × List ℕ)
 named_term labels text = do
@@ -51,7 +54,8 @@ named_term labels text = do
 -- `'c'`, `&FF`, `255` or a label
 unfoldable pub term : Lookup → List ℕ → Option (Value × List ℕ)
 term labels [] = None
-term labels (c ∷ rest) = if c == 39 then quoted rest else (if c == 38 then hexadecimal rest else named_term labels (c ∷ rest))
+term labels (c ∷ rest) = if c == 39 then quoted_byte rest
+    else (if c == 38 then hexadecimal rest else named_term labels (c ∷ rest))
 
 -- `-` (45) or `+` (43), and what follows
 unfoldable pub sign : List ℕ → Option (Bool × List ℕ)
@@ -59,18 +63,19 @@ sign [] = None
 sign (c ∷ rest) = if c == 45 then Some (true, rest) else (if c == 43 then Some (false, rest) else None)
 
 -- the sum, or after `-` the difference
-unfoldable pub combined : Bool → Value → Value → Value
-combined is_minus first second = do
+unfoldable pub sum_or_difference : Bool → Value → Value → Value
+sum_or_difference is_minus first second = do
   a ← first
   b ← second
   Some (if is_minus then (a + 2 ^ 32 - b) % 2 ^ 32 else (a + b) % 2 ^ 32)
 
 -- what a sign begins, or the sum so far
-abbrev pub next_term : (Value → List ℕ → Option (Value × List ℕ)) → Lookup → Value → List ℕ → Option (Bool × List ℕ) → Option (Value × List ℕ)
+abbrev pub next_term : (Value → List ℕ → Option (Value × List ℕ)) → Lookup → Value → List ℕ →
+    Option (Bool × List ℕ) → Option (Value × List ℕ)
 next_term others labels sum text None = Some (sum, text)
 next_term others labels sum text (Some s) = do
   t ← term labels s.1
-  others (combined s.0 sum t.0) t.1
+  others (sum_or_difference s.0 sum t.0) t.1
 
 -- the terms after a sum, as many as there are; the count, which is never used up, is the length of
 -- a text that holds them

@@ -25,4 +25,5 @@ begins_with_digit (c ∷ rest) = is_ascii_digit c
 -- name.
 abbrev pub is_label : List ℕ → Bool
 is_label name =
-    nat_le 1 (length name) && nat_le (length name) 63 && not (begins_with_digit name) && is_none (register_named name)
+    nat_le 1 (length name) && nat_le (length name) 63 && not (begins_with_digit name)
+    && is_none (register_named name)

@@ -8,7 +8,7 @@ use Rattle.assembler_text.specs.arm_decode.specs.declared.condition.Condition.{C
 use Rattle.assembler_text.specs.arm_decode.specs.declared.condition.Condition.TheVariants.{Always}
 use Rattle.assembler_text.specs.arm_decode.specs.declared.operation.Operation.{Operation}
 use Rattle.assembler_names.specs.Names.{condition_named, operation_named, block_mode_named}
-use Rattle.assembler_names.specs.Words.{is_name, ◌>>=◌, ◌or◌}
+use Rattle.assembler_names.specs.Words.{is_same_name, ◌>>=◌, ◌or◌}
 use Rattle.assembler_names.specs.declared.mnemonics.Command.{Command}
 use Rattle.assembler_names.specs.declared.mnemonics.Command.TheVariants as command
 use Rattle.assembler_names.specs.declared.mnemonics.Mnemonic.{Mnemonic}
@@ -22,17 +22,18 @@ or_always letters None = (Always, letters)
 
 -- the condition at the front and the letters that follow it: of `EQS` Equal and `S`, of `S` Always
 -- and `S`
-abbrev pub conditioned : List ℕ → Condition × List ℕ
-conditioned letters = or_always letters (condition_named (take 2 letters))
+abbrev pub condition_and_rest : List ℕ → Condition × List ℕ
+condition_and_rest letters = or_always letters (condition_named (take 2 letters))
 
 -- a suffix that is there or not, with nothing after it
 abbrev pub suffix : List ℕ → List ℕ → Option Bool
 suffix name [] = Some false
-suffix name (c ∷ letters) = if is_name (c ∷ letters) name then Some true else None
+suffix name (c ∷ letters) = if is_same_name (c ∷ letters) name then Some true else None
 
 -- whether it is the first of two names
 abbrev pub first_name : List ℕ → List ℕ → List ℕ → Option Bool
-first_name first second name = if is_name name first then Some true else (if is_name name second then Some false else None)
+first_name first second name = if is_same_name name first then Some true
+    else (if is_same_name name second then Some false else None)
 
 -- S; of a test P, since it always sets the flags
 abbrev pub flag_text : Operation → List ℕ
@@ -42,53 +43,53 @@ flag_text o = if is_test o then codes "P" else codes "S"
 abbrev pub operate_mnemonic : List ℕ → Option Mnemonic
 operate_mnemonic name = do
   operation ← operation_named (take 3 name)
-  flag ← suffix (flag_text operation) (conditioned (drop 3 name)).1
-  Some (mnemonic (conditioned (drop 3 name)).0 (command.Operate operation flag))
+  flag ← suffix (flag_text operation) (condition_and_rest (drop 3 name)).1
+  Some (mnemonic (condition_and_rest (drop 3 name)).0 (command.Operate operation flag))
 
 -- MUL, MLA, as `MULEQS`
 abbrev pub multiply_mnemonic : List ℕ → Option Mnemonic
 multiply_mnemonic name = do
   accumulates ← first_name (codes "MLA") (codes "MUL") (take 3 name)
-  sets_flags ← suffix (codes "S") (conditioned (drop 3 name)).1
-  Some (mnemonic (conditioned (drop 3 name)).0 (command.Multiply accumulates sets_flags))
+  sets_flags ← suffix (codes "S") (condition_and_rest (drop 3 name)).1
+  Some (mnemonic (condition_and_rest (drop 3 name)).0 (command.Multiply accumulates sets_flags))
 
 -- B for a byte, T for a transfer of user mode, BT for both, or nothing
 abbrev pub transfer_suffix : List ℕ → Option (Bool × Bool)
 transfer_suffix letters =
-    if is_name letters [] then Some (false, false) else (
-    if is_name letters (codes "B") then Some (true, false) else (
-    if is_name letters (codes "T") then Some (false, true) else (
-    if is_name letters (codes "BT") then Some (true, true) else None)))
+    if is_same_name letters [] then Some (false, false) else (
+    if is_same_name letters (codes "B") then Some (true, false) else (
+    if is_same_name letters (codes "T") then Some (false, true) else (
+    if is_same_name letters (codes "BT") then Some (true, true) else None)))
 
 -- LDR, STR, as `LDREQBT`
 abbrev pub transfer_mnemonic : List ℕ → Option Mnemonic
 transfer_mnemonic name = do
   loads ← first_name (codes "LDR") (codes "STR") (take 3 name)
-  kind ← transfer_suffix (conditioned (drop 3 name)).1
-  Some (mnemonic (conditioned (drop 3 name)).0 (command.Transfer loads kind.0 kind.1))
+  kind ← transfer_suffix (condition_and_rest (drop 3 name)).1
+  Some (mnemonic (condition_and_rest (drop 3 name)).0 (command.Transfer loads kind.0 kind.1))
 
 -- LDM, STM, as `LDMEQFD`
 abbrev pub block_mnemonic : List ℕ → Option Mnemonic
 block_mnemonic name = do
   loads ← first_name (codes "LDM") (codes "STM") (take 3 name)
-  mode ← block_mode_named loads (conditioned (drop 3 name)).1
-  Some (mnemonic (conditioned (drop 3 name)).0 (command.BlockTransfer loads mode))
+  mode ← block_mode_named loads (condition_and_rest (drop 3 name)).1
+  Some (mnemonic (condition_and_rest (drop 3 name)).0 (command.BlockTransfer loads mode))
 
 -- SWI, as `SWIEQ`
 abbrev pub swi_mnemonic : List ℕ → Option Mnemonic
 swi_mnemonic name = do
-  condition ← if is_name (take 3 name) (codes "SWI") then condition_named (drop 3 name) else None
+  condition ← if is_same_name (take 3 name) (codes "SWI") then condition_named (drop 3 name) else None
   Some (mnemonic condition command.SoftwareInterrupt)
 
 -- BL with a condition or none after it, or else B, as `BLEQ`, `BLE`
 abbrev pub linked_branch : List ℕ → Option Mnemonic
 linked_branch name = do
-  condition ← if is_name (take 2 name) (codes "BL") then condition_named (drop 2 name) else None
+  condition ← if is_same_name (take 2 name) (codes "BL") then condition_named (drop 2 name) else None
   Some (mnemonic condition (command.Branch true))
 
 abbrev pub plain_branch : List ℕ → Option Mnemonic
 plain_branch name = do
-  condition ← if is_name (take 1 name) (codes "B") then condition_named (drop 1 name) else None
+  condition ← if is_same_name (take 1 name) (codes "B") then condition_named (drop 1 name) else None
   Some (mnemonic condition (command.Branch false))
 
 -- the first that fits

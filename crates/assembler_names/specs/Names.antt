@@ -12,22 +12,23 @@ use Rattle.assembler_text.specs.arm_decode.specs.declared.condition.Condition.Th
 use Rattle.assembler_text.specs.arm_decode.specs.declared.operation.Operation.{Operation}
 use Rattle.assembler_text.specs.arm_decode.specs.declared.shift.Shift.{Shift}
 use Rattle.assembler_text.specs.Names.{condition_text, operation_text, shift_text, block_mode_text}
-use Rattle.assembler_names.specs.Words.{is_name, word, after_word, ◌>>=◌}
+use Rattle.assembler_names.specs.Words.{is_same_name, word, after_word, ◌>>=◌}
 
 -- `R0` to `R9`, `R10` to `R15`: 114 is `r`, 49 the digit 1
 abbrev pub numbered_register : List ℕ → Option ℕ
 numbered_register (letter ∷ digit ∷ []) =
     if to_ascii_lowercase letter == 114 && is_in_range 48 57 digit then Some (digit - 48) else None
 numbered_register (letter ∷ one ∷ digit ∷ []) =
-    if to_ascii_lowercase letter == 114 && (one == 49 && is_in_range 48 53 digit) then Some (digit - 38) else None
+    if to_ascii_lowercase letter == 114 && (one == 49 && is_in_range 48 53 digit) then Some (digit - 38)
+    else None
 numbered_register _ = None
 
 -- SP is R13, LR is R14, PC is R15
 unfoldable pub register_named : List ℕ → Option ℕ
 register_named name =
-    if is_name name (codes "SP") then Some 13 else (
-    if is_name name (codes "LR") then Some 14 else (
-    if is_name name (codes "PC") then Some 15 else numbered_register name))
+    if is_same_name name (codes "SP") then Some 13 else (
+    if is_same_name name (codes "LR") then Some 14 else (
+    if is_same_name name (codes "PC") then Some 15 else numbered_register name))
 
 -- a register at the front of a text
 unfoldable pub register : List ℕ → Option (ℕ × List ℕ)
@@ -36,7 +37,7 @@ register text = do
   Some (n, after_word text)
 
 abbrev pub names_condition : List ℕ → Condition → Bool
-names_condition name c = is_name name (condition_text c)
+names_condition name c = is_same_name name (condition_text c)
 
 -- the condition that is printed so; Always is printed as nothing
 unfoldable pub printed_condition : List ℕ → Option Condition
@@ -44,16 +45,16 @@ printed_condition name = find (names_condition name) conditions
 
 -- AL may be written or not
 abbrev pub condition_named : List ℕ → Option Condition
-condition_named name = if is_name name (codes "AL") then Some Always else printed_condition name
+condition_named name = if is_same_name name (codes "AL") then Some Always else printed_condition name
 
 abbrev pub names_operation : List ℕ → Operation → Bool
-names_operation name o = is_name name (operation_text o)
+names_operation name o = is_same_name name (operation_text o)
 
 unfoldable pub operation_named : List ℕ → Option Operation
 operation_named name = find (names_operation name) operations
 
 abbrev pub names_shift : List ℕ → Shift → Bool
-names_shift name s = is_name name (shift_text s)
+names_shift name s = is_same_name name (shift_text s)
 
 unfoldable pub shift_named : List ℕ → Option Shift
 shift_named name = find (names_shift name) shifts
@@ -71,7 +72,8 @@ stack_text false DecrementAfter = codes "ED"
 stack_text false IncrementAfter = codes "EA"
 
 abbrev pub names_block_mode : Bool → List ℕ → BlockMode → Bool
-names_block_mode loads name mode = is_name name (block_mode_text mode) || is_name name (stack_text loads mode)
+names_block_mode loads name mode = is_same_name name (block_mode_text mode)
+    || is_same_name name (stack_text loads mode)
 
 unfoldable pub block_mode_named : Bool → List ℕ → Option BlockMode
 block_mode_named loads name = find (names_block_mode loads name) block_modes

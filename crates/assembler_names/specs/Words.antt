@@ -68,9 +68,9 @@ begins_comment [] = true
 begins_comment (c ∷ rest) = c == 59
 
 -- nothing is left but spaces and a comment, which begins with `;`
-unfoldable pub is_end : List ℕ → Bool
-is_end text = begins_comment (after_spaces text)
+unfoldable pub is_end_of_line : List ℕ → Bool
+is_end_of_line text = begins_comment (after_spaces text)
 
 -- the same text, small letters standing for capitals
-abbrev pub is_name : List ℕ → List ℕ → Bool
-is_name text name = str_eq_ignore_ascii_case text name
+abbrev pub is_same_name : List ℕ → List ℕ → Bool
+is_same_name text name = str_eq_ignore_ascii_case text name

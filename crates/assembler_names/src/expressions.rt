@@ -1,7 +1,7 @@
 //! Numbers, and sums and differences of numbers and labels.
 
 ghost use Rattle.std.specs.Prelude.{◌≡◌};
-ghost use Rattle.assembler_names.specs.Expressions.{combined, expression, hexadecimal, more_terms, named_term, quoted, sign, term, word_value};
+ghost use Rattle.assembler_names.specs.Expressions.{sum_or_difference, expression, hexadecimal, more_terms, named_term, quoted_byte, sign, term, word_value};
 ghost use Rattle.assembler_names.specs.Labels.{address_of};
 ghost use Rattle.assembler_names.specs.Words.{read_of};
 
@@ -51,7 +51,7 @@ fn term<'t>(labels: &Labels, text: &'t [u8]) -> Read<'t, Value>
 
 // What follows the first quote of `'c'`.
 fn quoted(text: &[u8]) -> Read<'_, Value>
-    ensures { read_of result ≡ quoted text.now }
+    ensures { read_of result ≡ quoted_byte text.now }
 {
     match text {
         [c @ b' '..=b'~', b'\'', rest @ ..] => Some((Some(u32::from(*c)), rest)),
@@ -101,7 +101,7 @@ pub fn sign(text: &[u8]) -> Read<'_, bool>
 
 // The sum, or after `-` the difference.
 fn combined(is_minus: bool, first: Value, second: Value) -> Value
-    ensures { result ≡ combined is_minus first second }
+    ensures { result ≡ sum_or_difference is_minus first second }
 {
     let a = first?;
     let b = second?;

@@ -1,7 +1,7 @@
 //! The words that name an instruction: a name, a condition or none, and suffixes.
 
 ghost use Rattle.std.specs.Prelude.{◌≡◌, drop, take};
-ghost use Rattle.assembler_names.specs.Mnemonics.{block_mnemonic, conditioned, first_name, flag_text, swi_mnemonic, linked_branch, mnemonic_named, multiply_mnemonic, operate_mnemonic, plain_branch, suffix, transfer_mnemonic, transfer_suffix};
+ghost use Rattle.assembler_names.specs.Mnemonics.{block_mnemonic, condition_and_rest, first_name, flag_text, swi_mnemonic, linked_branch, mnemonic_named, multiply_mnemonic, operate_mnemonic, plain_branch, suffix, transfer_mnemonic, transfer_suffix};
 
 use crate::names::{block_mode_named, condition_named, operation_named};
 use crate::words::is_name;
@@ -157,7 +157,7 @@ fn plain_branch(name: &[u8]) -> Option<Mnemonic>
 
 // The condition at the front, and the letters that follow it.
 fn conditioned(letters: &[u8]) -> (Condition, &[u8])
-    ensures { (result.0, result.1.now) ≡ conditioned letters.now }
+    ensures { (result.0, result.1.now) ≡ condition_and_rest letters.now }
 {
     match condition_named(front(letters, 2)) {
         Some(condition) => (condition, behind(letters, 2)),

@@ -1,7 +1,7 @@
 //! Numbers as digits.
 
 ghost use Rattle.std.specs.Prelude.{◌≡◌, ◌≤◌, ◌<◌, ◌^◌, IfSome};
-ghost use Rattle.assembler_names.specs.Expressions.{numeral, with_digit};
+ghost use Rattle.assembler_names.specs.Expressions.{numeral, value_with_digit};
 
 /// The number that digits of this radix spell, modulo 2^32; `None` for an empty text.
 pub fn numeral(radix: u32, digits: &[u8]) -> Option<u32>
@@ -23,7 +23,7 @@ pub fn numeral(radix: u32, digits: &[u8]) -> Option<u32>
 fn with_digit(radix: u32, value: u32, digit: u8) -> Option<u32>
     requires low { 2 ≤ radix }
     requires high { radix ≤ 36 }
-    ensures value { result ≡ with_digit radix value digit }
+    ensures value { result ≡ value_with_digit radix value digit }
     ensures below { IfSome result (λ v. v < 2 ^ 32) }
 {
     let digit = (digit as char).to_digit(radix)?;

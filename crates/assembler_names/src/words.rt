@@ -3,7 +3,7 @@
 
 ghost use Rattle.std.specs.Prelude.{◌≡◌, ◌≤◌, ◌==◌, length, option_map};
 ghost use Rattle.std.specs.List.{prefix_len};
-ghost use Rattle.assembler_names.specs.Words.{after_mark, after_spaces, after_word, byte, comma, is_end, is_marked, is_name, is_space, is_word_byte, spaces, word};
+ghost use Rattle.assembler_names.specs.Words.{after_mark, after_spaces, after_word, byte, comma, is_end_of_line, is_marked, is_same_name, is_space, is_word_byte, spaces, word};
 
 /// What was read, and what follows it.
 pub type Read<'t, A> = Option<(A, &'t [u8])>;
@@ -64,7 +64,7 @@ pub fn comma(text: &[u8]) -> Option<&[u8]>
 
 /// Whether nothing is left but spaces and a comment, which begins with `;`.
 pub fn is_end(text: &[u8]) -> bool
-    ensures { result ≡ is_end text.now }
+    ensures { result ≡ is_end_of_line text.now }
 {
     match after_spaces(text) {
         [] => true,
@@ -74,7 +74,7 @@ pub fn is_end(text: &[u8]) -> bool
 
 /// Whether a word is this name, in letters of either case.
 pub fn is_name(text: &[u8], name: &[u8]) -> bool
-    ensures { result ≡ is_name text.now name.now }
+    ensures { result ≡ is_same_name text.now name.now }
 {
     text.eq_ignore_ascii_case(name)
 }

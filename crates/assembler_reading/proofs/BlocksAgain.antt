@@ -6,7 +6,7 @@ use Rattle.std.proofs.Math.Nat.{div-eq_of_lt, mod-lt}
 use Rattle.std.specs.Prelude.{◌==◌, nat_lt, codes, filter, fold}
 use Rattle.std.specs.List.{prefix_len, range_with_len}
 use Rattle.profile.specs.Word.{bit_of}
-use Rattle.arm_decode.specs.Diagrams.{word_of}
+use Rattle.arm_decode.specs.Diagrams.{word_of_instruction}
 use Rattle.arm_decode.specs.Ranges.{FitsFields}
 use Rattle.arm_decode.specs.Refusals.{refusal}
 use Rattle.arm_decode.specs.declared.action.Action.TheVariants as action
@@ -14,13 +14,13 @@ use Rattle.arm_decode.specs.declared.action.BlockTransfer.{BlockTransfer}
 use Rattle.arm_decode.specs.declared.address.BlockMode.{BlockMode}
 use Rattle.arm_decode.specs.declared.condition.Condition.{Condition}
 use Rattle.assembler_text.specs.Names.{block_mode_text, choose_text, condition_text, register_text, text_if}
-use Rattle.assembler_text.specs.Transfers.{block_head, block_text, braces_text, listed_from, listed_text, separated}
+use Rattle.assembler_text.specs.Transfers.{block_head, block_transfer_text, braces_text, listed_from, listed_text, register_names_text}
 use Rattle.assembler_names.specs.Expressions.{Lookup}
 use Rattle.assembler_names.specs.Names.{register}
 use Rattle.assembler_names.specs.Words.{after_mark, after_spaces, byte, comma, is_marked, is_word_byte}
 use Rattle.assembler_names.specs.declared.mnemonics.Command.TheVariants as command
 use Rattle.assembler_reading.specs.Instructions.{instruction}
-use Rattle.assembler_reading.specs.RegisterLists.{block_at, block_transferred, last_register, more_registers, register_list, register_range, with_range, with_register}
+use Rattle.assembler_reading.specs.RegisterLists.{block_transfer_text_at, block_transfer_action, last_register, more_registers, register_list, register_range, with_range, list_with_register}
 use Rattle.assembler_reading.proofs.InstructionsAgain.{read_again, word_for_again}
 use Rattle.assembler_reading.proofs.MnemonicsAgain.{block_word}
 use Rattle.assembler_reading.proofs.Pieces.{comma_then, is_register, register_again}
@@ -31,7 +31,7 @@ abbrev AreRegisters : List ℕ → Type 0
 AreRegisters [] = Unit {0}
 AreRegisters (n ∷ ns) = (n < 16) × AreRegisters ns
 
-single : (list n : ℕ) → with_range list n n ≡ with_register list n
+single : (list n : ℕ) → with_range list n n ≡ list_with_register list n
 unfolding with_range
 single list n = let one : n + 1 - n ≡ suc zero = omega arith in rw one refl
 
@@ -56,38 +56,38 @@ unfolding byte
 brace_byte tail = refl
 
 last_one : (count list n : ℕ) (tail : List ℕ) → n < 16
-    → more_registers (suc count) list (register_text n ++ (125 ∷ tail)) ≡ Some (with_register list n, tail)
+    → more_registers (suc count) list (register_text n ++ (125 ∷ tail)) ≡ Some (list_with_register list n, tail)
 unfolding more_registers
 last_one count list n tail h =
     rw (one_register n (125 ∷ tail) (register_again n (125 ∷ tail) h refl) (no_minus_brace tail), no_comma_brace tail, brace_byte tail, single list n) refl
 
 one_more : (count list n : ℕ) (others : List ℕ) → n < 16 → after_spaces others ≡ others
-    → more_registers (suc count) list (register_text n ++ (44 ∷ others)) ≡ more_registers count (with_register list n) others
+    → more_registers (suc count) list (register_text n ++ (44 ∷ others)) ≡ more_registers count (list_with_register list n) others
 unfolding more_registers
 one_more count list n others h e =
     rw (one_register n (44 ∷ others) (register_again n (44 ∷ others) h refl) (no_minus_comma others), comma_then others e, single list n) refl
 
 -- the text of registers and the brace that closes
 abbrev closed_list : ℕ → List ℕ → List ℕ → List ℕ
-closed_list n ns tail = separated [] (n ∷ ns) ++ (125 ∷ tail)
+closed_list n ns tail = register_names_text [] (n ∷ ns) ++ (125 ∷ tail)
 
 last_shape : (n : ℕ) (tail : List ℕ) → closed_list n [] tail ≡ register_text n ++ (125 ∷ tail)
 last_shape n tail = append_assoc (register_text n) [] (125 ∷ tail)
 
 more_shape : (n m : ℕ) (ns tail : List ℕ) → closed_list n (m ∷ ns) tail ≡ register_text n ++ (44 ∷ closed_list m ns tail)
-more_shape n m ns tail = append_assoc (register_text n) (44 ∷ (register_text m ++ separated (codes ",") ns)) (125 ∷ tail)
+more_shape n m ns tail = append_assoc (register_text n) (44 ∷ (register_text m ++ register_names_text (codes ",") ns)) (125 ∷ tail)
 
 list_no_space : (n : ℕ) (ns tail : List ℕ) → n < 16 → after_spaces (closed_list n ns tail) ≡ closed_list n ns tail
 list_no_space n ns tail h =
-    subst (λ (t : List ℕ). after_spaces t ≡ t) (sym (append_assoc (register_text n) (separated (codes ",") ns) (125 ∷ tail)))
-    (is_register n (separated (codes ",") ns ++ (125 ∷ tail)) h).no_space
+    subst (λ (t : List ℕ). after_spaces t ≡ t) (sym (append_assoc (register_text n) (register_names_text (codes ",") ns) (125 ∷ tail)))
+    (is_register n (register_names_text (codes ",") ns ++ (125 ∷ tail)) h).no_space
 
 registers_again : (count list n : ℕ) (ns tail : List ℕ) → length ns < count → AreRegisters (n ∷ ns)
-    → more_registers count list (closed_list n ns tail) ≡ Some (fold with_register list (n ∷ ns), tail)
+    → more_registers count list (closed_list n ns tail) ≡ Some (fold list_with_register list (n ∷ ns), tail)
 registers_again zero list n ns tail enough low = absurd (omega (arith, enough))
 registers_again (suc count) list n [] tail enough low = rw (last_shape n tail) (last_one count list n tail low.0)
 registers_again (suc count) list n (m ∷ ns) tail enough low =
-    let others = registers_again count (with_register list n) m ns tail (omega (arith, enough)) low.1 in
+    let others = registers_again count (list_with_register list n) m ns tail (omega (arith, enough)) low.1 in
     rw (more_shape n m ns tail) (one_more count list n (closed_list m ns tail) low.0 (list_no_space m ns tail low.1.0) ∙ others)
 
 -- the registers of a list
@@ -112,8 +112,8 @@ one_bit_more list n = ap (λ (k : ℕ). list % 2 ^ k) (swapped n) ∙ mod-pow-ad
 above : (list n : ℕ) → bit_of (list % 2 ^ n) n ≡ false
 above list n = let none : list % 2 ^ n / 2 ^ n ≡ 0 = div-eq_of_lt (mod-lt list (pow_pos n)) in rw none refl
 
-put_bit : (list n : ℕ) → bit_of list n ≡ true → with_register (list % 2 ^ n) n ≡ list % 2 ^ (n + 1)
-unfolding with_register
+put_bit : (list n : ℕ) → bit_of list n ≡ true → list_with_register (list % 2 ^ n) n ≡ list % 2 ^ (n + 1)
+unfolding list_with_register
 put_bit list n e =
     let value : list / 2 ^ n % 2 ≡ 1 = bit_value list n e in
     rw (above list n) (sum_with (list % 2 ^ n) (2 ^ n) ∙ sym (one_bit_more list n ∙ ap (λ (b : ℕ). b * 2 ^ n + list % 2 ^ n) value))
@@ -129,7 +129,7 @@ skip_bit list n e =
     nothing : (x p : ℕ) → 0 * p + x ≡ x
     nothing x p = omega arith
 
-listed_sum : (list first count : ℕ) → fold with_register (list % 2 ^ first) (filter (bit_of list) (range_with_len first count)) ≡ list % 2 ^ (first + count)
+listed_sum : (list first count : ℕ) → fold list_with_register (list % 2 ^ first) (filter (bit_of list) (range_with_len first count)) ≡ list % 2 ^ (first + count)
 listed_sum list first zero = let e : first + 0 ≡ first = omega arith in rw e refl
 listed_sum list first (suc count) = by (bit_of list first) refl (listed_sum list (first + 1) count)
   where
@@ -137,16 +137,16 @@ listed_sum list first (suc count) = by (bit_of list first) refl (listed_sum list
     later = omega arith
 
     by : (b : Bool) → bit_of list first ≡ b
-        → fold with_register (list % 2 ^ (first + 1)) (filter (bit_of list) (range_with_len (first + 1) count)) ≡ list % 2 ^ (first + 1 + count)
-        → fold with_register (list % 2 ^ first) (filter (bit_of list) (range_with_len first (suc count))) ≡ list % 2 ^ (first + suc count)
+        → fold list_with_register (list % 2 ^ (first + 1)) (filter (bit_of list) (range_with_len (first + 1) count)) ≡ list % 2 ^ (first + 1 + count)
+        → fold list_with_register (list % 2 ^ first) (filter (bit_of list) (range_with_len first (suc count))) ≡ list % 2 ^ (first + suc count)
     by true e more =
-        rw e (ap (λ (start : ℕ). fold with_register start (filter (bit_of list) (range_with_len (first + 1) count))) (put_bit list first e)
+        rw e (ap (λ (start : ℕ). fold list_with_register start (filter (bit_of list) (range_with_len (first + 1) count))) (put_bit list first e)
         ∙ more ∙ ap (λ (k : ℕ). list % 2 ^ k) later)
     by false e more =
-        rw e (ap (λ (start : ℕ). fold with_register start (filter (bit_of list) (range_with_len (first + 1) count))) (skip_bit list first e)
+        rw e (ap (λ (start : ℕ). fold list_with_register start (filter (bit_of list) (range_with_len (first + 1) count))) (skip_bit list first e)
         ∙ more ∙ ap (λ (k : ℕ). list % 2 ^ k) later)
 
-whole_list : (list : ℕ) → list < 2 ^ 16 → fold with_register 0 (listed_from list 0) ≡ list
+whole_list : (list : ℕ) → list < 2 ^ 16 → fold list_with_register 0 (listed_from list 0) ≡ list
 whole_list list low =
     let start : list % 2 ^ 0 ≡ 0 = omega arith in
     let all : list % 2 ^ 16 ≡ list = omega arith in
@@ -161,21 +161,21 @@ long_name n = by (n == 15) (nat_lt n 10) refl refl
     by false true e f = rw (e, f) (omega arith)
     by false false e f = rw (e, f) (omega arith)
 
-long_list : (before ns : List ℕ) → length ns ≤ length (separated before ns)
+long_list : (before ns : List ℕ) → length ns ≤ length (register_names_text before ns)
 long_list before [] = omega arith
 long_list before (n ∷ ns) =
-    let parts : length (before ++ (register_text n ++ separated (codes ",") ns)) ≡ length before + (length (register_text n) + length (separated (codes ",") ns)) =
-    length-append before (register_text n ++ separated (codes ",") ns) ∙ ap (λ (k : ℕ). length before + k) (length-append (register_text n) (separated (codes ",") ns)) in
+    let parts : length (before ++ (register_text n ++ register_names_text (codes ",") ns)) ≡ length before + (length (register_text n) + length (register_names_text (codes ",") ns)) =
+    length-append before (register_text n ++ register_names_text (codes ",") ns) ∙ ap (λ (k : ℕ). length before + k) (length-append (register_text n) (register_names_text (codes ",") ns)) in
     omega (arith, parts, long_name n, long_list (codes ",") ns)
 
-enough_bytes : (ns tail : List ℕ) → length ns < length (separated [] ns ++ (125 ∷ tail))
-enough_bytes ns tail = omega (arith, length-append (separated [] ns) (125 ∷ tail), long_list [] ns)
+enough_bytes : (ns tail : List ℕ) → length ns < length (register_names_text [] ns ++ (125 ∷ tail))
+enough_bytes ns tail = omega (arith, length-append (register_names_text [] ns) (125 ∷ tail), long_list [] ns)
 
 abbrev list_read : List ℕ → ℕ → Option (ℕ × List ℕ)
 list_read rest list = Some (list, rest)
 
-braces_read : (ns tail : List ℕ) (list : ℕ) → fold with_register 0 ns ≡ list → (list == 0) ≡ false → AreRegisters ns
-    → register_list (123 ∷ (separated [] ns ++ (125 ∷ tail))) ≡ Some (list, tail)
+braces_read : (ns tail : List ℕ) (list : ℕ) → fold list_with_register 0 ns ≡ list → (list == 0) ≡ false → AreRegisters ns
+    → register_list (123 ∷ (register_names_text [] ns ++ (125 ∷ tail))) ≡ Some (list, tail)
 unfolding byte
 braces_read [] tail list e some low = let none : list ≡ 0 = sym e in absurd (differs list none some)
   where
@@ -222,9 +222,9 @@ unfolding after_spaces
 brace_no_space x = refl
 
 block_read : (loads : Bool) (mode : BlockMode) (rn : ℕ) (w s : Bool) (list : ℕ) → rn < 16 → list < 2 ^ 16 → (list == 0) ≡ false
-    → block_at loads mode (register_text rn ++ (text_if w (codes "!") ++ (44 ∷ (123 ∷ (listed_text list ++ (125 ∷ text_if s (codes "^")))))))
-    ≡ Some (Ok (block_transferred loads mode rn w list s), [])
-unfolding block_at
+    → block_transfer_text_at loads mode (register_text rn ++ (text_if w (codes "!") ++ (44 ∷ (123 ∷ (listed_text list ++ (125 ∷ text_if s (codes "^")))))))
+    ≡ Some (Ok (block_transfer_action loads mode rn w list s), [])
+unfolding block_transfer_text_at
 block_read loads mode rn w s list h low some =
     let tail : List ℕ = text_if s (codes "^") in
     let braces : List ℕ = listed_text list ++ (125 ∷ tail) in
@@ -242,7 +242,7 @@ head_shape : (a b m r w rest : List ℕ) → (a ++ (b ++ (m ++ (codes " " ++ (r 
 head_shape a b m r w rest = simp append_assoc
 
 block_shape : (c : Condition) (b : BlockTransfer)
-    → block_text c b ≡ (choose_text b.loads (codes "LDM") (codes "STM") ++ (condition_text c ++ block_mode_text b.mode))
+    → block_transfer_text c b ≡ (choose_text b.loads (codes "LDM") (codes "STM") ++ (condition_text c ++ block_mode_text b.mode))
     ++ (32 ∷ (register_text b.rn ++ (text_if b.writes_back (codes "!") ++ (44 ∷ (123 ∷ (listed_text b.list ++ (125 ∷ text_if b.psr_or_user (codes "^"))))))))
 block_shape c b =
     head_shape (choose_text b.loads (codes "LDM") (codes "STM")) (condition_text c) (block_mode_text b.mode) (register_text b.rn)
@@ -257,7 +257,7 @@ not_empty b h = by (b.rn == 15) (b.list == 0) refl refl
     by false true e f = let fault = rw (e, f) at h in absurd cc
 
 pub block_is_read : (labels : Lookup) (address w : ℕ) (c : Condition) (b : BlockTransfer) → FitsFields (action.BlockTransfer b)
-    → refusal (action.BlockTransfer b) ≡ None → word_of (c, action.BlockTransfer b) ≡ w → instruction labels address (block_text c b) ≡ Some (Ok w, [])
+    → refusal (action.BlockTransfer b) ≡ None → word_of_instruction (c, action.BlockTransfer b) ≡ w → instruction labels address (block_transfer_text c b) ≡ Some (Ok w, [])
 block_is_read labels address w c b fits free same =
     let x : List ℕ = text_if b.writes_back (codes "!") ++ (44 ∷ (123 ∷ (listed_text b.list ++ (125 ∷ text_if b.psr_or_user (codes "^"))))) in
     rw (block_shape c b)

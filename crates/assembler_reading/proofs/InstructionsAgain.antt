@@ -4,8 +4,8 @@ use Rattle.std.proofs.lemmas.Bool.Decides.{nat_tests}
 use Rattle.std.proofs.lemmas.List.{append-nil}
 use Rattle.std.specs.Prelude.{◌==◌, ◌&&◌, nat_lt, codes}
 use Rattle.profile.specs.declared.fault.Fault.{Fault}
-use Rattle.arm_decode.specs.Decoded.{decoded, decoded_as, unless_refused}
-use Rattle.arm_decode.specs.Diagrams.{word_of}
+use Rattle.arm_decode.specs.Decoded.{instruction_of_word, decoded_as, unless_refused}
+use Rattle.arm_decode.specs.Diagrams.{word_of_instruction}
 use Rattle.arm_decode.specs.Fields.{action_in, condition_in}
 use Rattle.arm_decode.specs.Ranges.{FitsFields}
 use Rattle.arm_decode.specs.Refusals.{is_test, refusal}
@@ -19,7 +19,7 @@ use Rattle.arm_decode.specs.declared.form.Form.{Form}
 use Rattle.assembler_text.specs.Names.{choose_text, condition_text, operation_text, text_if}
 use Rattle.assembler_text.specs.Numbers.{number_text}
 use Rattle.assembler_text.specs.Operands.{operand_text}
-use Rattle.assembler_text.specs.Printing.{branch_target, branch_text, flags_text, swi_text, multiply_head, multiply_operands, multiply_text, operate_head, operate_text, registers_text}
+use Rattle.assembler_text.specs.Printing.{branch_target, branch_text, flags_text, swi_text, multiply_head, multiply_operands, multiply_text, operate_head, operate_text, operate_registers_text}
 use Rattle.assembler_names.specs.Expressions.{Lookup, expression, sign}
 use Rattle.assembler_names.specs.SwiNames.{call_named, swi_named}
 use Rattle.assembler_names.specs.Mnemonics.{flag_text, mnemonic}
@@ -43,11 +43,11 @@ allowed_as (Ok f) w i h =
 allowed_as (Err f) w i h = absurd cc
 
 -- an instruction that was decoded isn't refused
-pub allowed : (w : ℕ) (i : Condition × Action) → decoded w ≡ Ok i → refusal i.1 ≡ None
-unfolding decoded
+pub allowed : (w : ℕ) (i : Condition × Action) → instruction_of_word w ≡ Ok i → refusal i.1 ≡ None
+unfolding instruction_of_word
 allowed w i h = allowed_as (form_of w) w i h
 
-pub word_for_again : (w : ℕ) (i : Condition × Action) → refusal i.1 ≡ None → word_of i ≡ w → word_for i.0 (Ok i.1) ≡ Ok w
+pub word_for_again : (w : ℕ) (i : Condition × Action) → refusal i.1 ≡ None → word_of_instruction i ≡ w → word_for i.0 (Ok i.1) ≡ Ok w
 word_for_again w i free same = rw free (ap (λ (n : ℕ). Ok n) same)
 
 -- a mnemonic, a space and its operands
@@ -74,17 +74,17 @@ flags_again o = by (is_test o.operation) refl
     by false e = rw e refl
 
 operate_shape : (c : Condition) (o : Operate)
-    → operate_text c o ≡ (operation_text o.operation ++ (condition_text c ++ text_if (flag_of o) (flag_text o.operation))) ++ (32 ∷ (registers_text o ++ operand_text o.operand))
+    → operate_text c o ≡ (operation_text o.operation ++ (condition_text c ++ text_if (flag_of o) (flag_text o.operation))) ++ (32 ∷ (operate_registers_text o ++ operand_text o.operand))
 operate_shape c o =
-    ap (λ (f : List ℕ). (operation_text o.operation ++ (condition_text c ++ (f ++ codes " "))) ++ (registers_text o ++ operand_text o.operand)) (flags_again o)
-    ∙ four_parts (operation_text o.operation) (condition_text c) (text_if (flag_of o) (flag_text o.operation)) (registers_text o ++ operand_text o.operand)
+    ap (λ (f : List ℕ). (operation_text o.operation ++ (condition_text c ++ (f ++ codes " "))) ++ (operate_registers_text o ++ operand_text o.operand)) (flags_again o)
+    ∙ four_parts (operation_text o.operation) (condition_text c) (text_if (flag_of o) (flag_text o.operation)) (operate_registers_text o ++ operand_text o.operand)
 
 pub operate_is_read : (labels : Lookup) (address w : ℕ) (c : Condition) (o : Operate) → FitsFields (action.Operate o) → refusal (action.Operate o) ≡ None
-    → word_of (c, action.Operate o) ≡ w → instruction labels address (operate_text c o) ≡ Some (Ok w, [])
+    → word_of_instruction (c, action.Operate o) ≡ w → instruction labels address (operate_text c o) ≡ Some (Ok w, [])
 operate_is_read labels address w c o fits free same =
     rw (operate_shape c o)
     (read_again labels address w (operation_text o.operation ++ (condition_text c ++ text_if (flag_of o) (flag_text o.operation)))
-    (registers_text o ++ operand_text o.operand) (command.Operate o.operation (flag_of o)) (c, action.Operate o)
+    (operate_registers_text o ++ operand_text o.operand) (command.Operate o.operation (flag_of o)) (c, action.Operate o)
     (operate_word c o.operation (flag_of o)) (operate_no_space o fits)
     (operate_again labels o fits (allocated (action.Operate o) free))
     (word_for_again w (c, action.Operate o) free same))
@@ -96,7 +96,7 @@ multiply_shape c m =
     four_parts (choose_text m.accumulates (codes "MLA") (codes "MUL")) (condition_text c) (text_if m.sets_flags (codes "S")) (multiply_operands m)
 
 pub multiply_is_read : (labels : Lookup) (address w : ℕ) (c : Condition) (m : Multiply) → FitsFields (action.Multiply m) → refusal (action.Multiply m) ≡ None
-    → word_of (c, action.Multiply m) ≡ w → instruction labels address (multiply_text c m) ≡ Some (Ok w, [])
+    → word_of_instruction (c, action.Multiply m) ≡ w → instruction labels address (multiply_text c m) ≡ Some (Ok w, [])
 multiply_is_read labels address w c m fits free same =
     rw (multiply_shape c m)
     (read_again labels address w (choose_text m.accumulates (codes "MLA") (codes "MUL") ++ (condition_text c ++ text_if m.sets_flags (codes "S")))
@@ -140,7 +140,7 @@ branch_shape : (c : Condition) (links : Bool) (t : ℕ) → branch_text c links 
 branch_shape c links t = sym (append_assoc (choose_text links (codes "BL") (codes "B")) (condition_text c) (32 ∷ number_text t))
 
 pub branch_is_read : (labels : Lookup) (address w : ℕ) (c : Condition) (links : Bool) (d : ℕ) → address % 4 ≡ 0 → address < 2 ^ 26 → d < 2 ^ 24
-    → refusal (action.Branch links d) ≡ None → word_of (c, action.Branch links d) ≡ w
+    → refusal (action.Branch links d) ≡ None → word_of_instruction (c, action.Branch links d) ≡ w
     → instruction labels address (branch_text c links (branch_target address d)) ≡ Some (Ok w, [])
 branch_is_read labels address w c links d even low small free same =
     rw (branch_shape c links (branch_target address d))
@@ -171,7 +171,7 @@ swi_shape : (c : Condition) (n : ℕ) → swi_text c n ≡ (codes "SWI" ++ condi
 swi_shape c n = sym (append_assoc (codes "SWI") (condition_text c) (32 ∷ number_text n))
 
 pub swi_is_read : (labels : Lookup) (address w : ℕ) (c : Condition) (n : ℕ) → n < 2 ^ 24 → refusal (action.SoftwareInterrupt n) ≡ None
-    → word_of (c, action.SoftwareInterrupt n) ≡ w → instruction labels address (swi_text c n) ≡ Some (Ok w, [])
+    → word_of_instruction (c, action.SoftwareInterrupt n) ≡ w → instruction labels address (swi_text c n) ≡ Some (Ok w, [])
 swi_is_read labels address w c n small free same =
     rw (swi_shape c n)
     (read_again labels address w (codes "SWI" ++ condition_text c) (number_text n)

@@ -10,7 +10,7 @@ use Rattle.arm_decode.specs.declared.condition.Condition.TheVariants as conditio
 use Rattle.arm_decode.specs.declared.operation.Operation.{Operation}
 use Rattle.arm_decode.specs.declared.operation.Operation.TheVariants as operation
 use Rattle.assembler_text.specs.Names.{block_mode_text, choose_text, condition_text, operation_text, text_if}
-use Rattle.assembler_names.specs.Mnemonics.{block_mnemonic, conditioned, first_name, flag_text, swi_mnemonic, linked_branch, mnemonic, mnemonic_named, multiply_mnemonic, operate_mnemonic, plain_branch, suffix, transfer_mnemonic, transfer_suffix}
+use Rattle.assembler_names.specs.Mnemonics.{block_mnemonic, condition_and_rest, first_name, flag_text, swi_mnemonic, linked_branch, mnemonic, mnemonic_named, multiply_mnemonic, operate_mnemonic, plain_branch, suffix, transfer_mnemonic, transfer_suffix}
 use Rattle.assembler_names.specs.Names.{block_mode_named, condition_named, operation_named, printed_condition}
 use Rattle.assembler_names.specs.Words.{is_word_byte}
 use Rattle.assembler_names.specs.declared.mnemonics.Command.TheVariants as command
@@ -61,7 +61,7 @@ operation_letters operation.Move = refl
 operation_letters operation.BitClear = refl
 operation_letters operation.MoveNot = refl
 
-conditioned_again : (c : Condition) (s : List ℕ) → conditioned s ≡ (condition.Always, s) → conditioned (condition_text c ++ s) ≡ (c, s)
+conditioned_again : (c : Condition) (s : List ℕ) → condition_and_rest s ≡ (condition.Always, s) → condition_and_rest (condition_text c ++ s) ≡ (c, s)
 unfolding printed_condition
 conditioned_again condition.Equal s h = refl
 conditioned_again condition.NotEqual s h = refl
@@ -120,7 +120,7 @@ behind_operation operation.MoveNot s = refl
 abbrev flag_letter : Bool → List ℕ
 flag_letter is_a_test = if is_a_test then codes "P" else codes "S"
 
-letter_is_none : (t flag : Bool) → conditioned (text_if flag (flag_letter t)) ≡ (condition.Always, text_if flag (flag_letter t))
+letter_is_none : (t flag : Bool) → condition_and_rest (text_if flag (flag_letter t)) ≡ (condition.Always, text_if flag (flag_letter t))
 unfolding printed_condition
 letter_is_none true true = refl
 letter_is_none true false = refl
@@ -139,7 +139,7 @@ letter_letters true false = refl
 letter_letters false true = refl
 letter_letters false false = refl
 
-operate_of : (name s f : List ℕ) (o : Operation) (c : Condition) (flag : Bool) → operation_named (take 3 name) ≡ Some o → drop 3 name ≡ s → conditioned s ≡ (c, f)
+operate_of : (name s f : List ℕ) (o : Operation) (c : Condition) (flag : Bool) → operation_named (take 3 name) ≡ Some o → drop 3 name ≡ s → condition_and_rest s ≡ (c, f)
     → suffix (flag_text o) f ≡ Some flag → mnemonic_named name ≡ Some (mnemonic c (command.Operate o flag))
 unfolding mnemonic_named
 operate_of name s f o c flag named dropped e last = rw (named, dropped, e, last) refl
@@ -163,12 +163,12 @@ operate_word c o flag =
 
 -- MUL, MLA
 multiply_of : (name s f : List ℕ) (adds sets : Bool) (c : Condition) → operation_named (take 3 name) ≡ None
-    → first_name (codes "MLA") (codes "MUL") (take 3 name) ≡ Some adds → drop 3 name ≡ s → conditioned s ≡ (c, f) → suffix (codes "S") f ≡ Some sets
+    → first_name (codes "MLA") (codes "MUL") (take 3 name) ≡ Some adds → drop 3 name ≡ s → condition_and_rest s ≡ (c, f) → suffix (codes "S") f ≡ Some sets
     → mnemonic_named name ≡ Some (mnemonic c (command.Multiply adds sets))
 unfolding mnemonic_named
 multiply_of name s f adds sets c none named dropped e last = rw (none, named, dropped, e, last) refl
 
-s_is_none : (sets : Bool) → conditioned (text_if sets (codes "S")) ≡ (condition.Always, text_if sets (codes "S"))
+s_is_none : (sets : Bool) → condition_and_rest (text_if sets (codes "S")) ≡ (condition.Always, text_if sets (codes "S"))
 unfolding printed_condition
 s_is_none true = refl
 s_is_none false = refl
@@ -214,7 +214,7 @@ multiply_word c adds sets =
 -- LDR, STR
 transfer_of : (name s f : List ℕ) (loads of_byte user : Bool) (c : Condition) → operation_named (take 3 name) ≡ None
     → first_name (codes "MLA") (codes "MUL") (take 3 name) ≡ None → first_name (codes "LDR") (codes "STR") (take 3 name) ≡ Some loads
-    → drop 3 name ≡ s → conditioned s ≡ (c, f) → transfer_suffix f ≡ Some (of_byte, user)
+    → drop 3 name ≡ s → condition_and_rest s ≡ (c, f) → transfer_suffix f ≡ Some (of_byte, user)
     → mnemonic_named name ≡ Some (mnemonic c (command.Transfer loads of_byte user))
 unfolding mnemonic_named
 transfer_of name s f loads of_byte user c none other named dropped e last = rw (none, other, named, dropped, e, last) refl
@@ -222,7 +222,7 @@ transfer_of name s f loads of_byte user c none other named dropped e last = rw (
 abbrev pub kind_text : Bool → Bool → List ℕ
 kind_text of_byte user = text_if of_byte (codes "B") ++ text_if user (codes "T")
 
-kind_is_none : (of_byte user : Bool) → conditioned (kind_text of_byte user) ≡ (condition.Always, kind_text of_byte user)
+kind_is_none : (of_byte user : Bool) → condition_and_rest (kind_text of_byte user) ≡ (condition.Always, kind_text of_byte user)
 unfolding printed_condition
 kind_is_none true true = refl
 kind_is_none true false = refl
@@ -270,12 +270,12 @@ transfer_word c loads of_byte user =
 -- LDM, STM
 block_of : (name s f : List ℕ) (loads : Bool) (mode : BlockMode) (c : Condition) → operation_named (take 3 name) ≡ None
     → first_name (codes "MLA") (codes "MUL") (take 3 name) ≡ None → first_name (codes "LDR") (codes "STR") (take 3 name) ≡ None
-    → first_name (codes "LDM") (codes "STM") (take 3 name) ≡ Some loads → drop 3 name ≡ s → conditioned s ≡ (c, f) → block_mode_named loads f ≡ Some mode
+    → first_name (codes "LDM") (codes "STM") (take 3 name) ≡ Some loads → drop 3 name ≡ s → condition_and_rest s ≡ (c, f) → block_mode_named loads f ≡ Some mode
     → mnemonic_named name ≡ Some (mnemonic c (command.BlockTransfer loads mode))
 unfolding mnemonic_named
 block_of name s f loads mode c none other another named dropped e last = rw (none, other, another, named, dropped, e, last) refl
 
-mode_is_none : (mode : BlockMode) → conditioned (block_mode_text mode) ≡ (condition.Always, block_mode_text mode)
+mode_is_none : (mode : BlockMode) → condition_and_rest (block_mode_text mode) ≡ (condition.Always, block_mode_text mode)
 unfolding printed_condition
 mode_is_none block.DecrementAfter = refl
 mode_is_none block.IncrementAfter = refl

@@ -17,7 +17,7 @@ use Rattle.assembler_names.specs.Expressions.{Lookup, Value, expression, sign}
 use Rattle.assembler_names.specs.Names.{register, shift_named}
 use Rattle.assembler_names.specs.Words.{after_spaces, after_word, byte, comma, is_word_byte, spaces, word}
 use Rattle.assembler_names.specs.declared.reason.Reason.{Reason}
-use Rattle.assembler_reading.specs.Operands.{amount_at, immediate, immediate_of, most_places, named_shift, places_of, rotated_of, rotation_at, second_operand, shift_at, shifted, shifted_by}
+use Rattle.assembler_reading.specs.Operands.{amount_at, immediate_operand, immediate_of, most_places, named_shift, places_of, rotated_of, rotation_at, second_operand, shift_at, shifted_operand, register_shifted_by}
 use Rattle.assembler_reading.proofs.Numbers.{amount_again, is_amount, number_again}
 use Rattle.assembler_reading.proofs.Pieces.{Ends, after_before, comma_then, is_register, register_again, word_before}
 
@@ -60,7 +60,7 @@ rotated_low (suc (suc (suc (suc (suc (suc (suc (suc (suc (suc (suc (suc (suc (su
 rotated_low (suc (suc (suc (suc (suc (suc (suc (suc (suc (suc (suc (suc (suc (suc (suc zero))))))))))))))) b h low = omega arith
 rotated_low (suc (suc (suc (suc (suc (suc (suc (suc (suc (suc (suc (suc (suc (suc (suc (suc n)))))))))))))))) b h low = absurd (omega (arith, h))
 
-behind_hash : (labels : Lookup) (text : List ℕ) → second_operand labels (35 ∷ text) ≡ immediate labels text
+behind_hash : (labels : Lookup) (text : List ℕ) → second_operand labels (35 ∷ text) ≡ immediate_operand labels text
 unfolding second_operand byte
 behind_hash labels text = refl
 
@@ -72,11 +72,11 @@ by_least : (value r : ℕ) → least_rotation value ≡ Some r → immediate_of 
 by_least value r e = rw e refl
 
 alone : (labels : Lookup) (text rest : List ℕ) (value : Value) → expression labels text ≡ Some (value, rest) → comma rest ≡ None
-    → immediate labels text ≡ Some (immediate_of value, rest)
+    → immediate_operand labels text ≡ Some (immediate_of value, rest)
 alone labels text rest value e none = rw (e, none) refl
 
 turned : (labels : Lookup) (text behind after rest : List ℕ) (value turns : Value) → expression labels text ≡ Some (value, behind)
-    → comma behind ≡ Some after → expression labels after ≡ Some (turns, rest) → immediate labels text ≡ Some (rotated_of value turns, rest)
+    → comma behind ≡ Some after → expression labels after ≡ Some (turns, rest) → immediate_operand labels text ≡ Some (rotated_of value turns, rest)
 turned labels text behind after rest value turns e some f = rw (e, some, f) refl
 
 rotated_field : (r b : ℕ) → r < 16 → b < 256 → rotated_of (Some b) (Some (2 * r)) ≡ Ok (operand.Immediate r b)
@@ -179,24 +179,24 @@ amount_shape shift.LogicalRight n rest = refl
 amount_shape shift.ArithmeticRight n rest = refl
 amount_shape shift.RotateRight n rest = refl
 
-placed_amount : (rm n : ℕ) (s : Shift) → 1 ≤ n → n ≤ most_places s → places_of rm s (Some n) ≡ Ok (operand.Shifted (shifted_by rm s (n % 32)))
+placed_amount : (rm n : ℕ) (s : Shift) → 1 ≤ n → n ≤ most_places s → places_of rm s (Some n) ≡ Ok (operand.Shifted (register_shifted_by rm s (n % 32)))
 placed_amount rm n s some most =
     let low : nat_le 1 n ≡ true = grind (arith, nat_tests, some) in
     let high : nat_le n (most_places s) ≡ true = grind (arith, nat_tests, most) in rw (low, high) refl
 
 amount_shifts : (labels : Lookup) (rm n : ℕ) (s : Shift) (rest : List ℕ) → n < 33 → 1 ≤ n → n ≤ most_places s → Ends rest
-    → shift_at labels rm (amount_text s n ++ rest) (comma (amount_text s n ++ rest)) ≡ Some (Ok (operand.Shifted (shifted_by rm s (n % 32))), rest)
+    → shift_at labels rm (amount_text s n ++ rest) (comma (amount_text s n ++ rest)) ≡ Some (Ok (operand.Shifted (register_shifted_by rm s (n % 32))), rest)
 amount_shifts labels rm n s rest h some most ends =
-    subst (λ (text : List ℕ). shift_at labels rm text (comma text) ≡ Some (Ok (operand.Shifted (shifted_by rm s (n % 32))), rest))
+    subst (λ (text : List ℕ). shift_at labels rm text (comma text) ≡ Some (Ok (operand.Shifted (register_shifted_by rm s (n % 32))), rest))
     (sym (amount_shape s n rest))
     (amount_read labels rm n s rest h ends ∙ ap (λ (o : Result Operand Reason). Some (o, rest)) (placed_amount rm n s some most))
 
 plain_shifts : (labels : Lookup) (rm : ℕ) (rest : List ℕ) → Ends rest
-    → shift_at labels rm rest (comma rest) ≡ Some (Ok (operand.Shifted (shifted_by rm shift.LogicalLeft 0)), rest)
+    → shift_at labels rm rest (comma rest) ≡ Some (Ok (operand.Shifted (register_shifted_by rm shift.LogicalLeft 0)), rest)
 plain_shifts labels rm rest ends = rw ends.no_comma refl
 
 extended_read : (labels : Lookup) (rm : ℕ) (rest : List ℕ) → word (codes "RRX" ++ rest) ≡ codes "RRX" → after_word (codes "RRX" ++ rest) ≡ rest
-    → shift_at labels rm (44 ∷ (codes "RRX" ++ rest)) (Some (codes "RRX" ++ rest)) ≡ Some (Ok (operand.Shifted (shifted_by rm shift.RotateRight 0)), rest)
+    → shift_at labels rm (44 ∷ (codes "RRX" ++ rest)) (Some (codes "RRX" ++ rest)) ≡ Some (Ok (operand.Shifted (register_shifted_by rm shift.RotateRight 0)), rest)
 extended_read labels rm rest named after = rw (named, after) refl
 
 no_space_extended : (rest : List ℕ) → after_spaces (codes "RRX" ++ rest) ≡ codes "RRX" ++ rest
@@ -204,7 +204,7 @@ unfolding after_spaces
 no_space_extended rest = refl
 
 extended_shifts : (labels : Lookup) (rm : ℕ) (rest : List ℕ) → Ends rest
-    → shift_at labels rm (codes ",RRX" ++ rest) (comma (codes ",RRX" ++ rest)) ≡ Some (Ok (operand.Shifted (shifted_by rm shift.RotateRight 0)), rest)
+    → shift_at labels rm (codes ",RRX" ++ rest) (comma (codes ",RRX" ++ rest)) ≡ Some (Ok (operand.Shifted (register_shifted_by rm shift.RotateRight 0)), rest)
 extended_shifts labels rm rest ends =
     rw (comma_then (codes "RRX" ++ rest) (no_space_extended rest))
     (extended_read labels rm rest (word_before (codes "RRX") rest refl ends.apart) (after_before (codes "RRX") rest refl ends.apart))
@@ -213,30 +213,30 @@ is_some_left : (n : ℕ) → (n == 0) ≡ false → 1 ≤ n
 is_some_left n e = grind (arith, nat_tests, e)
 
 shifting_again : (labels : Lookup) (rm n : ℕ) (s : Shift) (rest : List ℕ) → n < 32 → Ends rest
-    → shift_at labels rm (shifting_text s n ++ rest) (comma (shifting_text s n ++ rest)) ≡ Some (Ok (operand.Shifted (shifted_by rm s n)), rest)
+    → shift_at labels rm (shifting_text s n ++ rest) (comma (shifting_text s n ++ rest)) ≡ Some (Ok (operand.Shifted (register_shifted_by rm s n)), rest)
 shifting_again labels rm n s rest h ends = by s (n == 0) refl
   where
     same : n % 32 ≡ n
     same = omega arith
 
     by : (s : Shift) (t : Bool) → (n == 0) ≡ t
-        → shift_at labels rm (shifting_text s n ++ rest) (comma (shifting_text s n ++ rest)) ≡ Some (Ok (operand.Shifted (shifted_by rm s n)), rest)
+        → shift_at labels rm (shifting_text s n ++ rest) (comma (shifting_text s n ++ rest)) ≡ Some (Ok (operand.Shifted (register_shifted_by rm s n)), rest)
     by shift.LogicalLeft true e = let z = eqb-true n 0 e in rw z (plain_shifts labels rm rest ends)
     by shift.LogicalRight true e = let z = eqb-true n 0 e in rw z (amount_shifts labels rm 32 shift.LogicalRight rest (omega arith) (omega arith) (omega arith) ends)
     by shift.ArithmeticRight true e = let z = eqb-true n 0 e in rw z (amount_shifts labels rm 32 shift.ArithmeticRight rest (omega arith) (omega arith) (omega arith) ends)
     by shift.RotateRight true e = let z = eqb-true n 0 e in rw z (extended_shifts labels rm rest ends)
     by shift.LogicalLeft false e =
         rw e (amount_shifts labels rm n shift.LogicalLeft rest (omega arith) (is_some_left n e) (omega arith) ends
-        ∙ ap (λ (k : ℕ). Some (Ok (operand.Shifted (shifted_by rm shift.LogicalLeft k)), rest)) same)
+        ∙ ap (λ (k : ℕ). Some (Ok (operand.Shifted (register_shifted_by rm shift.LogicalLeft k)), rest)) same)
     by shift.LogicalRight false e =
         rw e (amount_shifts labels rm n shift.LogicalRight rest (omega arith) (is_some_left n e) (omega arith) ends
-        ∙ ap (λ (k : ℕ). Some (Ok (operand.Shifted (shifted_by rm shift.LogicalRight k)), rest)) same)
+        ∙ ap (λ (k : ℕ). Some (Ok (operand.Shifted (register_shifted_by rm shift.LogicalRight k)), rest)) same)
     by shift.ArithmeticRight false e =
         rw e (amount_shifts labels rm n shift.ArithmeticRight rest (omega arith) (is_some_left n e) (omega arith) ends
-        ∙ ap (λ (k : ℕ). Some (Ok (operand.Shifted (shifted_by rm shift.ArithmeticRight k)), rest)) same)
+        ∙ ap (λ (k : ℕ). Some (Ok (operand.Shifted (register_shifted_by rm shift.ArithmeticRight k)), rest)) same)
     by shift.RotateRight false e =
         rw e (amount_shifts labels rm n shift.RotateRight rest (omega arith) (is_some_left n e) (omega arith) ends
-        ∙ ap (λ (k : ℕ). Some (Ok (operand.Shifted (shifted_by rm shift.RotateRight k)), rest)) same)
+        ∙ ap (λ (k : ℕ). Some (Ok (operand.Shifted (register_shifted_by rm shift.RotateRight k)), rest)) same)
 
 apart_shifting : (s : Shift) (n : ℕ) (rest : List ℕ) → prefix_len is_word_byte rest ≡ 0 → prefix_len is_word_byte (shifting_text s n ++ rest) ≡ 0
 apart_shifting s n rest apart = by s (n == 0) refl
@@ -250,12 +250,12 @@ apart_shifting s n rest apart = by s (n == 0) refl
     by shift.RotateRight false e = rw e refl
 
 behind_register : (labels : Lookup) (text behind : List ℕ) (rm : ℕ) → register text ≡ Some (rm, behind)
-    → shifted labels text ≡ shift_at labels rm behind (comma behind)
-unfolding shifted
+    → shifted_operand labels text ≡ shift_at labels rm behind (comma behind)
+unfolding shifted_operand
 behind_register labels text behind rm e = rw e refl
 
 pub shifted_again : (labels : Lookup) (s : ShiftedRegister) (rest : List ℕ) → FitsShifted s → Ends rest
-    → shifted labels (shifted_text s ++ rest) ≡ Some (Ok (operand.Shifted s), rest)
+    → shifted_operand labels (shifted_text s ++ rest) ≡ Some (Ok (operand.Shifted s), rest)
 shifted_again labels s rest fits ends =
     let tail : List ℕ = shifting_text s.shift s.amount ++ rest in
     rw (append_assoc (register_text s.rm) (shifting_text s.shift s.amount) rest)
@@ -265,7 +265,7 @@ shifted_again labels s rest fits ends =
 pub shifted_shape : (s : ShiftedRegister) (rest : List ℕ) → shifted_text s ++ rest ≡ register_text s.rm ++ (shifting_text s.shift s.amount ++ rest)
 shifted_shape s rest = append_assoc (register_text s.rm) (shifting_text s.shift s.amount) rest
 
-no_hash_then : (labels : Lookup) (text : List ℕ) → byte 35 text ≡ None → second_operand labels text ≡ shifted labels text
+no_hash_then : (labels : Lookup) (text : List ℕ) → byte 35 text ≡ None → second_operand labels text ≡ shifted_operand labels text
 unfolding second_operand
 no_hash_then labels text e = rw e refl
 
@@ -281,7 +281,7 @@ other_shape rm rs shift.ArithmeticRight rest = append_assoc (register_text rm) (
 other_shape rm rs shift.RotateRight rest = append_assoc (register_text rm) (codes ",ROR " ++ register_text rs) rest
 
 other_again : (labels : Lookup) (rm rs : ℕ) (s : Shift) (rest : List ℕ) → rm < 16 → rs < 16 → Ends rest
-    → shifted labels (register_text rm ++ (44 ∷ (shift_text s ++ (32 ∷ (register_text rs ++ rest))))) ≡ Some (Ok (operand.ShiftedByRegister rm s rs), rest)
+    → shifted_operand labels (register_text rm ++ (44 ∷ (shift_text s ++ (32 ∷ (register_text rs ++ rest))))) ≡ Some (Ok (operand.ShiftedByRegister rm s rs), rest)
 other_again labels rm rs s rest h k ends =
     let tail : List ℕ = register_text rs ++ rest in
     behind_register labels (register_text rm ++ (44 ∷ (shift_text s ++ (32 ∷ tail)))) (44 ∷ (shift_text s ++ (32 ∷ tail))) rm
@@ -289,14 +289,14 @@ other_again labels rm rs s rest h k ends =
     ∙ rw (comma_then (shift_text s ++ (32 ∷ tail)) (no_space_named s (32 ∷ tail)))
     (behind_name labels rm s tail (is_register rs rest k).no_space ∙ by_other labels rm rs s rest k ends)
 
-register_first : (labels : Lookup) (rm : ℕ) (rest : List ℕ) → rm < 16 → second_operand labels (register_text rm ++ rest) ≡ shifted labels (register_text rm ++ rest)
+register_first : (labels : Lookup) (rm : ℕ) (rest : List ℕ) → rm < 16 → second_operand labels (register_text rm ++ rest) ≡ shifted_operand labels (register_text rm ++ rest)
 register_first labels rm rest h = no_hash_then labels (register_text rm ++ rest) (is_register rm rest h).no_hash
 
 pub operand_again : (labels : Lookup) (o : Operand) (rest : List ℕ) → FitsOperand o → Ends rest
     → second_operand labels (operand_text o ++ rest) ≡ Some (Ok o, rest)
 operand_again labels (operand.Immediate r b) rest fits ends = immediate_again labels r b rest fits.0 fits.1 ends
 operand_again labels (operand.Shifted s) rest fits ends =
-    subst (λ (text : List ℕ). second_operand labels text ≡ shifted labels text) (sym (shifted_shape s rest))
+    subst (λ (text : List ℕ). second_operand labels text ≡ shifted_operand labels text) (sym (shifted_shape s rest))
     (register_first labels s.rm (shifting_text s.shift s.amount ++ rest) fits.0)
     ∙ shifted_again labels s rest fits ends
 operand_again labels (operand.ShiftedByRegister rm s rs) rest fits ends =

@@ -5,7 +5,7 @@ use Rattle.std.proofs.lemmas.Bool.Decides.{nat_tests}
 use Rattle.std.proofs.lemmas.List.{append-nil}
 use Rattle.std.specs.Prelude.{◌==◌, ◌&&◌, ◌||◌, not, codes, if◌then◌else◌}
 use Rattle.arm_decode.specs.Ranges.{FitsFields, FitsOperand}
-use Rattle.arm_decode.specs.Refusals.{is_move, is_pc, is_test, refusal, unallocated}
+use Rattle.arm_decode.specs.Refusals.{is_move, is_pc, is_test, refusal, is_unallocated}
 use Rattle.arm_decode.specs.declared.action.Action.{Action}
 use Rattle.arm_decode.specs.declared.action.Action.TheVariants as action
 use Rattle.arm_decode.specs.declared.action.Multiply.{Multiply}
@@ -16,21 +16,21 @@ use Rattle.arm_decode.specs.declared.operation.Operation.{Operation}
 use Rattle.assembler_text.specs.Names.{register_text, text_if}
 use Rattle.assembler_text.specs.Numbers.{immediate_text, immediate_value, is_field, least_rotation}
 use Rattle.assembler_text.specs.Operands.{by_register_text, operand_text, shifted_text, shifting_text}
-use Rattle.assembler_text.specs.Printing.{multiply_operands, registers_text}
+use Rattle.assembler_text.specs.Printing.{multiply_operands, operate_registers_text}
 use Rattle.assembler_names.specs.Expressions.{Lookup}
 use Rattle.std.specs.List.{prefix_len}
 use Rattle.assembler_names.specs.Names.{register}
 use Rattle.assembler_names.specs.Words.{after_spaces, is_word_byte}
-use Rattle.assembler_reading.specs.Operands.{Outcome, second_operand}
-use Rattle.assembler_reading.specs.Operating.{added_register, multiplied, multiply_at, operate_at, operate_behind, operate_on, operate_with, operating}
+use Rattle.assembler_reading.specs.Operands.{ReadOutcome, second_operand}
+use Rattle.assembler_reading.specs.Operating.{added_register, multiply_action, multiply_at, operate_at, operate_behind, operate_on, operate_with, operating}
 use Rattle.assembler_reading.proofs.OperandsAgain.{operand_again}
 use Rattle.assembler_reading.proofs.Pieces.{comma_then, ends_nothing, is_register, register_again}
 
 -- what isn't refused is allocated
-pub allocated : (a : Action) → refusal a ≡ None → unallocated a ≡ false
-allocated a h = by (unallocated a) refl
+pub allocated : (a : Action) → refusal a ≡ None → is_unallocated a ≡ false
+allocated a h = by (is_unallocated a) refl
   where
-    by : (b : Bool) → unallocated a ≡ b → unallocated a ≡ false
+    by : (b : Bool) → is_unallocated a ≡ b → is_unallocated a ≡ false
     by true e = let fault = rw e at h in absurd cc
     by false e = e
 
@@ -98,7 +98,7 @@ behind_first : (labels : Lookup) (what : Operation) (flag : Bool) (n : ℕ) (x :
 unfolding operate_at
 behind_first labels what flag n x h e = rw (register_again n (44 ∷ x) h refl, comma_then x e) refl
 
-abbrev finished : Operate → Option (Outcome Action × List ℕ)
+abbrev finished : Operate → Option (ReadOutcome Action × List ℕ)
 finished o = Some (Ok (action.Operate o), [])
 
 done : (o : Operate) (sets : Bool) (n d : ℕ) → o.sets_flags ≡ sets → o.rn ≡ n → o.rd ≡ d
@@ -114,7 +114,7 @@ two_registers d n text =
     append_assoc (register_text d) (44 ∷ (register_text n ++ codes ",")) text
     ∙ ap (λ (tail : List ℕ). register_text d ++ (44 ∷ tail)) (append_assoc (register_text n) (codes ",") text)
 
-test_again : (labels : Lookup) (o : Operate) → is_test o.operation ≡ true → o.rn < 16 → FitsOperand o.operand → unallocated (action.Operate o) ≡ false
+test_again : (labels : Lookup) (o : Operate) → is_test o.operation ≡ true → o.rn < 16 → FitsOperand o.operand → is_unallocated (action.Operate o) ≡ false
     → operate_behind labels o.operation (is_pc o.rd) o.rn (operand_text o.operand) ≡ Some (Ok (action.Operate o), [])
 test_again labels o t h fits free =
     let known = of_test o.sets_flags (o.rd == 0) (is_pc o.rd) (is_move o.operation && not (o.rn == 0)) (rw t at free) in
@@ -122,7 +122,7 @@ test_again labels o t h fits free =
     ∙ done o true o.rn (if is_pc o.rd then 15 else 0) known.0 refl (test_field o.rd known.1))
 
 move_again : (labels : Lookup) (o : Operate) → is_test o.operation ≡ false → is_move o.operation ≡ true → FitsOperand o.operand
-    → unallocated (action.Operate o) ≡ false
+    → is_unallocated (action.Operate o) ≡ false
     → operate_behind labels o.operation o.sets_flags o.rd (operand_text o.operand) ≡ Some (Ok (action.Operate o), [])
 move_again labels o t m fits free =
     let known = of_move false (o.rn == 0) (rw (t, m) at free) in
@@ -133,12 +133,12 @@ other_again : (labels : Lookup) (o : Operate) → is_test o.operation ≡ false 
     → operate_behind labels o.operation o.sets_flags o.rd (register_text o.rn ++ (44 ∷ operand_text o.operand)) ≡ Some (Ok (action.Operate o), [])
 other_again labels o t m h fits = rw (t, m) (on_operand labels o.operation o.sets_flags o.rn o.rd o.operand h fits)
 
-pub operate_again : (labels : Lookup) (o : Operate) → FitsFields (action.Operate o) → unallocated (action.Operate o) ≡ false
-    → operate_at labels o.operation (flag_of o) (registers_text o ++ operand_text o.operand) ≡ Some (Ok (action.Operate o), [])
+pub operate_again : (labels : Lookup) (o : Operate) → FitsFields (action.Operate o) → is_unallocated (action.Operate o) ≡ false
+    → operate_at labels o.operation (flag_of o) (operate_registers_text o ++ operand_text o.operand) ≡ Some (Ok (action.Operate o), [])
 operate_again labels o fits free = by (is_test o.operation) (is_move o.operation) refl refl
   where
     by : (t m : Bool) → is_test o.operation ≡ t → is_move o.operation ≡ m
-        → operate_at labels o.operation (flag_of o) (registers_text o ++ operand_text o.operand) ≡ Some (Ok (action.Operate o), [])
+        → operate_at labels o.operation (flag_of o) (operate_registers_text o ++ operand_text o.operand) ≡ Some (Ok (action.Operate o), [])
     by true m e f = rw (e, one_register o.rn (operand_text o.operand))
         (behind_first labels o.operation (is_pc o.rd) o.rn (operand_text o.operand) fits.0 (operand_no_space o.operand fits.2)
         ∙ test_again labels o e fits.0 fits.2 free)
@@ -151,11 +151,11 @@ operate_again labels o fits free = by (is_test o.operation) (is_move o.operation
         ∙ other_again labels o e f fits.0 fits.2)
 
 -- the text of operands begins with a register
-pub operate_no_space : (o : Operate) → FitsFields (action.Operate o) → after_spaces (registers_text o ++ operand_text o.operand) ≡ registers_text o ++ operand_text o.operand
+pub operate_no_space : (o : Operate) → FitsFields (action.Operate o) → after_spaces (operate_registers_text o ++ operand_text o.operand) ≡ operate_registers_text o ++ operand_text o.operand
 operate_no_space o fits = by (is_test o.operation) (is_move o.operation) refl refl
   where
     by : (t m : Bool) → is_test o.operation ≡ t → is_move o.operation ≡ m
-        → after_spaces (registers_text o ++ operand_text o.operand) ≡ registers_text o ++ operand_text o.operand
+        → after_spaces (operate_registers_text o ++ operand_text o.operand) ≡ operate_registers_text o ++ operand_text o.operand
     by true m e f = rw (e, one_register o.rn (operand_text o.operand)) (register_no_space (44 ∷ operand_text o.operand) o.rn fits.0)
     by false true e f = rw (e, f, one_register o.rd (operand_text o.operand)) (register_no_space (44 ∷ operand_text o.operand) o.rd fits.1)
     by false false e f = rw (e, f, two_registers o.rd o.rn (operand_text o.operand))
@@ -176,7 +176,7 @@ apart_added false n = refl
 
 multiply_read : (d n s m : ℕ) (adds sets : Bool) → d < 16 → n < 16 → s < 16 → m < 16 → (adds ≡ false → n ≡ 0)
     → multiply_at adds sets (register_text d ++ (44 ∷ (register_text m ++ (44 ∷ (register_text s ++ (text_if adds (codes ",") ++ text_if adds (register_text n)))))))
-    ≡ Some (Ok (multiplied adds sets d n s m), [])
+    ≡ Some (Ok (multiply_action adds sets d n s m), [])
 unfolding multiply_at
 multiply_read d n s m adds sets hd hn hs hm absent =
     let tail : List ℕ = text_if adds (codes ",") ++ text_if adds (register_text n) in
@@ -191,7 +191,7 @@ multiply_read d n s m adds sets hd hn hs hm absent =
       added_again adds n hn absent,
     ) refl
 
-pub multiply_again : (m : Multiply) → FitsFields (action.Multiply m) → unallocated (action.Multiply m) ≡ false
+pub multiply_again : (m : Multiply) → FitsFields (action.Multiply m) → is_unallocated (action.Multiply m) ≡ false
     → multiply_at m.accumulates m.sets_flags (multiply_operands m) ≡ Some (Ok (action.Multiply m), [])
 multiply_again m fits free = multiply_read m.rd m.rn m.rs m.rm m.accumulates m.sets_flags fits.0 fits.1 fits.2 fits.3 no_rn
   where

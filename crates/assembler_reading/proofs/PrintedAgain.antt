@@ -4,8 +4,8 @@ use Rattle.std.proofs.lemmas.List.{append-nil}
 use Rattle.std.specs.Prelude.{codes}
 use Rattle.profile.specs.Digits.{hex_word}
 use Rattle.profile.specs.declared.fault.Fault.{Fault}
-use Rattle.arm_decode.specs.Decoded.{decoded}
-use Rattle.arm_decode.specs.Diagrams.{word_of}
+use Rattle.arm_decode.specs.Decoded.{instruction_of_word}
+use Rattle.arm_decode.specs.Diagrams.{word_of_instruction}
 use Rattle.arm_decode.specs.Ranges.{FitsFields}
 use Rattle.arm_decode.specs.Refusals.{refusal}
 use Rattle.arm_decode.specs.declared.action.Action.{Action}
@@ -24,7 +24,7 @@ use Rattle.assembler_reading.proofs.Numbers.{word_again}
 use Rattle.assembler_reading.proofs.Pieces.{ends_nothing}
 
 action_again : (labels : Lookup) (address w : ℕ) (c : Condition) (a : Action) → address % 4 ≡ 0 → address < 2 ^ 26 → FitsFields a
-    → refusal a ≡ None → word_of (c, a) ≡ w → instruction labels address (action_text address c a) ≡ Some (Ok w, [])
+    → refusal a ≡ None → word_of_instruction (c, a) ≡ w → instruction labels address (action_text address c a) ≡ Some (Ok w, [])
 action_again labels address w c (action.Operate o) even low fits free same = operate_is_read labels address w c o fits free same
 action_again labels address w c (action.Multiply m) even low fits free same = multiply_is_read labels address w c m fits free same
 action_again labels address w c (action.Transfer t) even low fits free same = transfer_is_read labels address w c t fits free same
@@ -42,7 +42,7 @@ word_alone labels w small =
     subst (λ (digits : List ℕ). expression labels (38 ∷ digits) ≡ Some (Some w, [])) (append-nil (hex_word w))
     (word_again labels w [] small ends_nothing.apart ends_nothing.no_sign)
 
-data_shape : (w address : ℕ) (f : Fault) → decoded w ≡ Err f → print w address ≡ codes "DCD " ++ (38 ∷ hex_word w)
+data_shape : (w address : ℕ) (f : Fault) → instruction_of_word w ≡ Err f → print w address ≡ codes "DCD " ++ (38 ∷ hex_word w)
 unfolding print
 data_shape w address f e = rw e refl
 

@@ -5,17 +5,17 @@ use Rattle.std.specs.Prelude.{fold, ◌==◌}
 use Rattle.std.specs.List.{range_with_len}
 use Rattle.profile.specs.Word.{bit_of}
 use Rattle.assembler_names.specs.Words.{comma, byte}
-use Rattle.assembler_reading.specs.RegisterLists.{more_registers, register_range, with_range, with_register}
+use Rattle.assembler_reading.specs.RegisterLists.{more_registers, register_range, with_range, list_with_register}
 
 -- the registers from the n-th to the one before `stop`, put into a list
 unfoldable pub with_rest : ℕ → ℕ → ℕ → ℕ
-with_rest list n stop = fold with_register list (range_with_len n (stop - n))
+with_rest list n stop = fold list_with_register list (range_with_len n (stop - n))
 
 pub range_starts : (list first last : ℕ) → with_rest list first (last + 1) ≡ with_range list first last
 unfolding with_rest with_range
 range_starts list first last = refl
 
-pub range_goes_on : (list n stop : ℕ) → n < stop → with_rest list n stop ≡ with_rest (with_register list n) (n + 1) stop
+pub range_goes_on : (list n stop : ℕ) → n < stop → with_rest list n stop ≡ with_rest (list_with_register list n) (n + 1) stop
 unfolding with_rest
 range_goes_on list n stop h = let k : stop - n ≡ suc (stop - (n + 1)) = omega arith in rw k refl
 

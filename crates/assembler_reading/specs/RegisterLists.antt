@@ -8,14 +8,14 @@ use Rattle.arm_decode.specs.declared.action.Action.TheVariants as action
 use Rattle.arm_decode.specs.declared.address.BlockMode.{BlockMode}
 use Rattle.assembler_names.specs.Names.{register}
 use Rattle.assembler_names.specs.Words.{after_mark, byte, comma, is_marked, ◌>>=◌}
-use Rattle.assembler_reading.specs.Operands.{Outcome}
+use Rattle.assembler_reading.specs.Operands.{ReadOutcome}
 
 -- one more register, which may be there already
-unfoldable pub with_register : ℕ → ℕ → ℕ
-with_register list n = if bit_of list n then list else list + 2 ^ n
+unfoldable pub list_with_register : ℕ → ℕ → ℕ
+list_with_register list n = if bit_of list n then list else list + 2 ^ n
 
 unfoldable pub with_range : ℕ → ℕ → ℕ → ℕ
-with_range list first last = fold with_register list (range_with_len first (last + 1 - first))
+with_range list first last = fold list_with_register list (range_with_len first (last + 1 - first))
 
 -- the last register of a range that begins with a register: after a minus one that is no lower,
 -- else the first itself
@@ -33,7 +33,8 @@ register_range text = do
   Some ((first.0, last.0), last.1)
 
 -- after a comma more registers, else the closing brace (125)
-abbrev pub next_registers : (ℕ → List ℕ → Option (ℕ × List ℕ)) → ℕ → List ℕ → Option (List ℕ) → Option (ℕ × List ℕ)
+abbrev pub next_registers : (ℕ → List ℕ → Option (ℕ × List ℕ)) → ℕ → List ℕ → Option (List ℕ) →
+    Option (ℕ × List ℕ)
 next_registers others list text (Some after) = others list after
 next_registers others list text None = do
   rest ← byte 125 text
@@ -53,8 +54,8 @@ register_list text = do
   rest ← byte 123 text
   more_registers (length rest) 0 rest
 
-abbrev pub block_transferred : Bool → BlockMode → ℕ → Bool → ℕ → Bool → Action
-block_transferred loading way base back registers psr = action.BlockTransfer (record {
+abbrev pub block_transfer_action : Bool → BlockMode → ℕ → Bool → ℕ → Bool → Action
+block_transfer_action loading way base back registers psr = action.BlockTransfer (record {
   loads = loading;
   mode = way;
   psr_or_user = psr;
@@ -64,9 +65,13 @@ block_transferred loading way base back registers psr = action.BlockTransfer (re
 })
 
 -- `Rn!,{R0,R1}^`: 33 is `!`, 94 is `^`
-unfoldable pub block_at : Bool → BlockMode → List ℕ → Option (Outcome Action × List ℕ)
-block_at loading way text = do
+unfoldable pub block_transfer_text_at : Bool → BlockMode → List ℕ → Option (ReadOutcome Action × List ℕ)
+block_transfer_text_at loading way text = do
   rn ← register text
   rest ← comma (after_mark 33 rn.1)
   registers ← register_list rest
-  Some (Ok (block_transferred loading way rn.0 (is_marked 33 rn.1) registers.0 (is_marked 94 registers.1)), after_mark 94 registers.1)
+  Some (
+    Ok (block_transfer_action loading way rn.0 (is_marked 33 rn.1) registers.0
+        (is_marked 94 registers.1)),
+    after_mark 94 registers.1,
+  )

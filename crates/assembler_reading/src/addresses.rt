@@ -3,9 +3,9 @@
 ghost use Rattle.std.specs.Prelude.{◌≡◌, ◌<◌, ◌^◌, false};
 ghost use Rattle.assembler_names.specs.Labels.{address_of};
 ghost use Rattle.assembler_names.specs.Words.{byte, comma, read_of};
-ghost use Rattle.assembler_reading.specs.Addresses.{address_at, as_offset, based, before_bracket, bracketed, closed, indexed, labelled, number_offset, offset_in, offset_of, operand_offset, placed, reached, reached_from, shifted_offset, signed_direction, transfer_at, transferred};
+ghost use Rattle.assembler_reading.specs.Addresses.{address_at, as_offset, address_in_brackets, before_bracket, address_after_bracket, address_after_base, address_of_offset, address_at_label, number_offset, offset_in, offset_of_value, operand_offset, address_with_offset, address_from_pc, reached_from, shifted_offset, signed_direction, transfer_text_at, transfer_action};
 
-use crate::operands::{Outcome, shifted};
+use crate::operands::{ReadOutcome, shifted};
 use arm_decode::{Action, Address, Bits, Direction, Indexing, Offset, Operand, Register, Transfer};
 use assembler_names::names::register;
 use assembler_names::words::{byte, comma, mark};
@@ -15,7 +15,7 @@ use assembler_names::{Labels, Read, Reason, Value, expression};
 pub type SignedOffset = (Direction, Offset);
 
 /// The operands of LDR or STR at an address: `Rd,` and an address in brackets, or a label.
-#[tactic(auto, unfolding(crate::specs::Addresses::transfer_at))]
+#[tactic(auto, unfolding(crate::specs::Addresses::transfer_text_at))]
 pub fn transfer_at<'t>(
     labels: &Labels,
     address: u32,
@@ -23,9 +23,9 @@ pub fn transfer_at<'t>(
     is_byte: bool,
     translates: bool,
     text: &'t [u8],
-) -> Read<'t, Outcome<Action>>
+) -> Read<'t, ReadOutcome<Action>>
     ensures { read_of result
-        ≡ transfer_at (address_of labels.now) address loads is_byte translates text.now }
+        ≡ transfer_text_at (address_of labels.now) address loads is_byte translates text.now }
 {
     let Some((rd, rest)) = register(text) else {
         return None;
@@ -36,8 +36,13 @@ pub fn transfer_at<'t>(
     Some((transferred(loads, is_byte, rd, place), rest))
 }
 
-fn transferred(loads: bool, is_byte: bool, rd: Register, place: Outcome<Address>) -> Outcome<Action>
-    ensures { result ≡ transferred loads is_byte rd place }
+fn transferred(
+    loads: bool,
+    is_byte: bool,
+    rd: Register,
+    place: ReadOutcome<Address>,
+) -> ReadOutcome<Action>
+    ensures { result ≡ transfer_action loads is_byte rd place }
 {
     match place {
         Ok(address) => Ok(Action::Transfer(Transfer {
@@ -56,7 +61,7 @@ fn address_at<'t>(
     address: u32,
     translates: bool,
     text: &'t [u8],
-) -> Read<'t, Outcome<Address>>
+) -> Read<'t, ReadOutcome<Address>>
     ensures { read_of result
         ≡ address_at (address_of labels.now) address translates text.now (byte 91 text.now) }
 {
@@ -67,14 +72,14 @@ fn address_at<'t>(
     }
 }
 
-fn labelled<'t>(labels: &Labels, address: u32, text: &'t [u8]) -> Read<'t, Outcome<Address>>
-    ensures { read_of result ≡ labelled (address_of labels.now) address text.now }
+fn labelled<'t>(labels: &Labels, address: u32, text: &'t [u8]) -> Read<'t, ReadOutcome<Address>>
+    ensures { read_of result ≡ address_at_label (address_of labels.now) address text.now }
 {
     let (target, rest) = expression(labels, text)?;
     Some((reached_from(address, target), rest))
 }
 
-fn reached_from(address: u32, target: Value) -> Outcome<Address>
+fn reached_from(address: u32, target: Value) -> ReadOutcome<Address>
     ensures { result ≡ reached_from address target }
 {
     match target {
@@ -84,10 +89,10 @@ fn reached_from(address: u32, target: Value) -> Outcome<Address>
 }
 
 // An address as an offset from the PC.
-fn reached(pc: u64, target: u64) -> Outcome<Address>
+fn reached(pc: u64, target: u64) -> ReadOutcome<Address>
     requires pc_low { pc < 2 ^ 33 }
     requires target_low { target < 2 ^ 33 }
-    ensures { result ≡ reached pc target }
+    ensures { result ≡ address_from_pc pc target }
 {
     if pc <= target && target <= pc + 4095 {
         Ok(from_pc(Direction::Up, (target - pc) as u32))
@@ -100,7 +105,7 @@ fn reached(pc: u64, target: u64) -> Outcome<Address>
 
 fn from_pc(direction: Direction, number: u32) -> Address
     requires { number < 4096 }
-    ensures { result ≡ placed (Indexing.Pre false) direction 15 (Offset.Immediate number) }
+    ensures { result ≡ address_with_offset (Indexing.Pre false) direction 15 (Offset.Immediate number) }
 {
     Address {
         indexing: Indexing::Pre { writes_back: false },
@@ -111,9 +116,13 @@ fn from_pc(direction: Direction, number: u32) -> Address
 }
 
 // After `[`.
-#[tactic(auto, unfolding(crate::specs::Addresses::bracketed))]
-fn bracketed<'t>(labels: &Labels, translates: bool, text: &'t [u8]) -> Read<'t, Outcome<Address>>
-    ensures { read_of result ≡ bracketed (address_of labels.now) translates text.now }
+#[tactic(auto, unfolding(crate::specs::Addresses::address_after_bracket))]
+fn bracketed<'t>(
+    labels: &Labels,
+    translates: bool,
+    text: &'t [u8],
+) -> Read<'t, ReadOutcome<Address>>
+    ensures { read_of result ≡ address_after_bracket (address_of labels.now) translates text.now }
 {
     let Some((rn, rest)) = register(text) else {
         return None;
@@ -127,9 +136,9 @@ fn based<'t>(
     translates: bool,
     rn: Register,
     text: &'t [u8],
-) -> Read<'t, Outcome<Address>>
+) -> Read<'t, ReadOutcome<Address>>
     ensures { read_of result
-        ≡ based (address_of labels.now) translates rn text.now (byte 93 text.now) }
+        ≡ address_in_brackets (address_of labels.now) translates rn text.now (byte 93 text.now) }
 {
     match byte(b']', text) {
         Some(after) => closed(labels, translates, rn, after),
@@ -144,9 +153,9 @@ fn closed<'t>(
     translates: bool,
     rn: Register,
     text: &'t [u8],
-) -> Read<'t, Outcome<Address>>
+) -> Read<'t, ReadOutcome<Address>>
     ensures { read_of result
-        ≡ closed (address_of labels.now) translates rn text.now (comma text.now) }
+        ≡ address_after_base (address_of labels.now) translates rn text.now (comma text.now) }
 {
     match comma(text) {
         Some(after) => {
@@ -161,7 +170,7 @@ fn closed<'t>(
 }
 
 fn at_base(rn: Register) -> Address
-    ensures { result ≡ placed (Indexing.Pre false) Direction.Up rn (Offset.Immediate 0) }
+    ensures { result ≡ address_with_offset (Indexing.Pre false) Direction.Up rn (Offset.Immediate 0) }
 {
     Address {
         indexing: Indexing::Pre { writes_back: false },
@@ -172,7 +181,11 @@ fn at_base(rn: Register) -> Address
 }
 
 // After `[Rn`: a comma, the offset, `]`, and `!` where the address is written back.
-fn before_bracket<'t>(labels: &Labels, rn: Register, text: &'t [u8]) -> Read<'t, Outcome<Address>>
+fn before_bracket<'t>(
+    labels: &Labels,
+    rn: Register,
+    text: &'t [u8],
+) -> Read<'t, ReadOutcome<Address>>
     ensures { read_of result ≡ before_bracket (address_of labels.now) rn text.now }
 {
     let Some((by, rest)) = offset_in(labels, comma(text)?) else {
@@ -182,8 +195,8 @@ fn before_bracket<'t>(labels: &Labels, rn: Register, text: &'t [u8]) -> Read<'t,
     Some((indexed(Indexing::Pre { writes_back }, rn, by), rest))
 }
 
-fn indexed(indexing: Indexing, rn: Register, by: Outcome<SignedOffset>) -> Outcome<Address>
-    ensures { result ≡ indexed indexing rn by }
+fn indexed(indexing: Indexing, rn: Register, by: ReadOutcome<SignedOffset>) -> ReadOutcome<Address>
+    ensures { result ≡ address_of_offset indexing rn by }
 {
     match by {
         Ok((direction, offset)) => Ok(Address {
@@ -198,7 +211,7 @@ fn indexed(indexing: Indexing, rn: Register, by: Outcome<SignedOffset>) -> Outco
 
 // `#n`, `#-n`, or a register with its shift, with a minus or without.
 #[tactic(auto, unfolding(crate::specs::Addresses::offset_in))]
-fn offset_in<'t>(labels: &Labels, text: &'t [u8]) -> Read<'t, Outcome<SignedOffset>>
+fn offset_in<'t>(labels: &Labels, text: &'t [u8]) -> Read<'t, ReadOutcome<SignedOffset>>
     ensures { read_of result ≡ offset_in (address_of labels.now) text.now }
 {
     match byte(b'#', text) {
@@ -227,7 +240,7 @@ fn number_offset<'t>(
     labels: &Labels,
     direction: Direction,
     text: &'t [u8],
-) -> Read<'t, Outcome<SignedOffset>>
+) -> Read<'t, ReadOutcome<SignedOffset>>
     ensures { read_of result ≡ number_offset (address_of labels.now) direction text.now }
 {
     let (number, rest) = expression(labels, text)?;
@@ -235,8 +248,8 @@ fn number_offset<'t>(
 }
 
 // A number of 12 bits.
-fn offset_of(direction: Direction, number: Value) -> Outcome<SignedOffset>
-    ensures { result ≡ offset_of direction number }
+fn offset_of(direction: Direction, number: Value) -> ReadOutcome<SignedOffset>
+    ensures { result ≡ offset_of_value direction number }
 {
     let Some(number) = number else {
         return Err(Reason::UnknownLabel);
@@ -252,7 +265,7 @@ fn shifted_offset<'t>(
     labels: &Labels,
     direction: Direction,
     text: &'t [u8],
-) -> Read<'t, Outcome<SignedOffset>>
+) -> Read<'t, ReadOutcome<SignedOffset>>
     ensures { read_of result ≡ shifted_offset (address_of labels.now) direction text.now }
 {
     let Some((operand, rest)) = shifted(labels, text) else {
@@ -264,7 +277,10 @@ fn shifted_offset<'t>(
     Some((offset, rest))
 }
 
-fn as_offset(direction: Direction, operand: Outcome<Operand>) -> Option<Outcome<SignedOffset>>
+fn as_offset(
+    direction: Direction,
+    operand: ReadOutcome<Operand>,
+) -> Option<ReadOutcome<SignedOffset>>
     ensures { result ≡ as_offset direction operand }
 {
     match operand {
@@ -274,7 +290,7 @@ fn as_offset(direction: Direction, operand: Outcome<Operand>) -> Option<Outcome<
 }
 
 // An offset can't be shifted by a register.
-fn operand_offset(direction: Direction, operand: Operand) -> Option<Outcome<SignedOffset>>
+fn operand_offset(direction: Direction, operand: Operand) -> Option<ReadOutcome<SignedOffset>>
     ensures { result ≡ operand_offset direction operand }
 {
     match operand {

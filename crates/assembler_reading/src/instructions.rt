@@ -6,7 +6,7 @@ ghost use Rattle.assembler_names.specs.Words.{byte, read_of};
 ghost use Rattle.assembler_reading.specs.Instructions.{action_at, branch_at, branch_to, call_or_number, instruction, swi_at, swi_number, swi_action, plain_call, quoted_call, word_for};
 
 use crate::addresses::transfer_at;
-use crate::operands::Outcome;
+use crate::operands::ReadOutcome;
 use crate::operating::{multiply_at, operate_at};
 use crate::register_lists::block_at;
 use arm_decode::{Action, Bits, Condition, Instr, encode};
@@ -22,7 +22,7 @@ use assembler_names::{
 /// BadImmediate, OutOfReach, Forbidden; and what follows it. `None` where no instruction is
 /// written so.
 #[tactic(auto, unfolding(crate::specs::Instructions::instruction))]
-pub fn instruction<'t>(labels: &Labels, address: u32, text: &'t [u8]) -> Read<'t, Outcome<u32>>
+pub fn instruction<'t>(labels: &Labels, address: u32, text: &'t [u8]) -> Read<'t, ReadOutcome<u32>>
     ensures { read_of result ≡ instruction (address_of labels.now) address text.now }
 {
     let mnemonic = mnemonic_named(word(text))?;
@@ -34,7 +34,7 @@ pub fn instruction<'t>(labels: &Labels, address: u32, text: &'t [u8]) -> Read<'t
 }
 
 // The word of what was read, if the instruction table has it.
-fn word_for(condition: Condition, action: Outcome<Action>) -> Outcome<u32>
+fn word_for(condition: Condition, action: ReadOutcome<Action>) -> ReadOutcome<u32>
     ensures { result ≡ word_for condition action }
 {
     match action {
@@ -52,7 +52,7 @@ fn action_at<'t>(
     address: u32,
     command: Command,
     text: &'t [u8],
-) -> Read<'t, Outcome<Action>>
+) -> Read<'t, ReadOutcome<Action>>
     ensures { read_of result ≡ action_at (address_of labels.now) address command text.now }
 {
     match command {
@@ -77,7 +77,7 @@ fn branch_at<'t>(
     address: u32,
     links: bool,
     text: &'t [u8],
-) -> Read<'t, Outcome<Action>>
+) -> Read<'t, ReadOutcome<Action>>
     ensures { read_of result ≡ branch_at (address_of labels.now) address links text.now }
 {
     let (target, rest) = expression(labels, text)?;
@@ -85,7 +85,7 @@ fn branch_at<'t>(
 }
 
 // A branch to a multiple of 4 below 2^26.
-fn branch_to(address: u32, links: bool, target: Value) -> Outcome<Action>
+fn branch_to(address: u32, links: bool, target: Value) -> ReadOutcome<Action>
     ensures { result ≡ branch_to address links target }
 {
     let Some(target) = target else {
@@ -100,7 +100,7 @@ fn branch_to(address: u32, links: bool, target: Value) -> Outcome<Action>
 }
 
 #[tactic(auto, unfolding(crate::specs::Instructions::swi_at))]
-fn swi_at<'t>(labels: &Labels, text: &'t [u8]) -> Read<'t, Outcome<Action>>
+fn swi_at<'t>(labels: &Labels, text: &'t [u8]) -> Read<'t, ReadOutcome<Action>>
     ensures { read_of result ≡ swi_at (address_of labels.now) text.now }
 {
     let (number, rest) = swi_number(labels, text)?;
@@ -108,7 +108,7 @@ fn swi_at<'t>(labels: &Labels, text: &'t [u8]) -> Read<'t, Outcome<Action>>
 }
 
 // A number of 24 bits.
-fn swi_action(number: Value) -> Outcome<Action>
+fn swi_action(number: Value) -> ReadOutcome<Action>
     ensures { result ≡ swi_action number }
 {
     let Some(number) = number else {

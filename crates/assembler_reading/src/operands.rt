@@ -3,7 +3,7 @@
 ghost use Rattle.std.specs.Prelude.{◌≡◌, ◌<◌};
 ghost use Rattle.assembler_names.specs.Labels.{address_of};
 ghost use Rattle.assembler_names.specs.Words.{byte, comma, read_of};
-ghost use Rattle.assembler_reading.specs.Operands.{amount_at, immediate, immediate_of, is_rotated_byte, most_places, named_shift, places_of, rotated_of, rotation_at, second_operand, shift_at, shifted, shifted_by};
+ghost use Rattle.assembler_reading.specs.Operands.{amount_at, immediate_operand, immediate_of, is_rotated_byte, most_places, named_shift, places_of, rotated_of, rotation_at, second_operand, shift_at, shifted_operand, register_shifted_by};
 
 use arm_decode::{Bits, Operand, Register, Shift, ShiftedRegister};
 use assembler_names::names::{register, shift_named};
@@ -13,11 +13,11 @@ use assembler_text::numbers::least_rotation;
 use profile::shift::rotate_right;
 
 /// What a piece of the operands stands for, or why there is none.
-pub type Outcome<A> = Result<A, Reason>;
+pub type ReadOutcome<A> = Result<A, Reason>;
 
 /// The second operand of data processing: `#v`, `#b,r`, or a register with its shift.
 #[tactic(auto, unfolding(crate::specs::Operands::second_operand))]
-pub fn second_operand<'t>(labels: &Labels, text: &'t [u8]) -> Read<'t, Outcome<Operand>>
+pub fn second_operand<'t>(labels: &Labels, text: &'t [u8]) -> Read<'t, ReadOutcome<Operand>>
     ensures { read_of result ≡ second_operand (address_of labels.now) text.now }
 {
     match byte(b'#', text) {
@@ -27,15 +27,15 @@ pub fn second_operand<'t>(labels: &Labels, text: &'t [u8]) -> Read<'t, Outcome<O
 }
 
 // What follows `#`.
-fn immediate<'t>(labels: &Labels, text: &'t [u8]) -> Read<'t, Outcome<Operand>>
-    ensures { read_of result ≡ immediate (address_of labels.now) text.now }
+fn immediate<'t>(labels: &Labels, text: &'t [u8]) -> Read<'t, ReadOutcome<Operand>>
+    ensures { read_of result ≡ immediate_operand (address_of labels.now) text.now }
 {
     let (value, rest) = expression(labels, text)?;
     rotation_at(labels, value, rest)
 }
 
 // What stands after a value: a comma and the rotation, or nothing.
-fn rotation_at<'t>(labels: &Labels, value: Value, text: &'t [u8]) -> Read<'t, Outcome<Operand>>
+fn rotation_at<'t>(labels: &Labels, value: Value, text: &'t [u8]) -> Read<'t, ReadOutcome<Operand>>
     ensures { read_of result ≡ rotation_at (address_of labels.now) value text.now (comma text.now) }
 {
     match comma(text) {
@@ -48,7 +48,7 @@ fn rotation_at<'t>(labels: &Labels, value: Value, text: &'t [u8]) -> Read<'t, Ou
 }
 
 // `#v` by its least rotation.
-fn immediate_of(value: Value) -> Outcome<Operand>
+fn immediate_of(value: Value) -> ReadOutcome<Operand>
     ensures { result ≡ immediate_of value }
 {
     let Some(value) = value else {
@@ -64,7 +64,7 @@ fn immediate_of(value: Value) -> Outcome<Operand>
 }
 
 // `#b,r` as it stands.
-fn rotated_of(byte: Value, turns: Value) -> Outcome<Operand>
+fn rotated_of(byte: Value, turns: Value) -> ReadOutcome<Operand>
     ensures { result ≡ rotated_of byte turns }
 {
     let Some(byte) = byte else {
@@ -84,9 +84,9 @@ fn rotated_of(byte: Value, turns: Value) -> Outcome<Operand>
 }
 
 /// A register: `Rm`, `Rm,LSL #n`, `Rm,LSL Rs` or `Rm,RRX`.
-#[tactic(auto, unfolding(crate::specs::Operands::shifted))]
-pub fn shifted<'t>(labels: &Labels, text: &'t [u8]) -> Read<'t, Outcome<Operand>>
-    ensures { read_of result ≡ shifted (address_of labels.now) text.now }
+#[tactic(auto, unfolding(crate::specs::Operands::shifted_operand))]
+pub fn shifted<'t>(labels: &Labels, text: &'t [u8]) -> Read<'t, ReadOutcome<Operand>>
+    ensures { read_of result ≡ shifted_operand (address_of labels.now) text.now }
 {
     let Some((rm, rest)) = register(text) else {
         return None;
@@ -95,7 +95,7 @@ pub fn shifted<'t>(labels: &Labels, text: &'t [u8]) -> Read<'t, Outcome<Operand>
 }
 
 // What follows `Rm`: nothing, or a comma and RRX or a shift.
-fn shift_at<'t>(labels: &Labels, rm: Register, text: &'t [u8]) -> Read<'t, Outcome<Operand>>
+fn shift_at<'t>(labels: &Labels, rm: Register, text: &'t [u8]) -> Read<'t, ReadOutcome<Operand>>
     ensures { read_of result ≡ shift_at (address_of labels.now) rm text.now (comma text.now) }
 {
     let Some(after) = comma(text) else {
@@ -108,7 +108,7 @@ fn shift_at<'t>(labels: &Labels, rm: Register, text: &'t [u8]) -> Read<'t, Outco
 }
 
 // A shift and its amount.
-fn named_shift<'t>(labels: &Labels, rm: Register, text: &'t [u8]) -> Read<'t, Outcome<Operand>>
+fn named_shift<'t>(labels: &Labels, rm: Register, text: &'t [u8]) -> Read<'t, ReadOutcome<Operand>>
     ensures { read_of result ≡ named_shift (address_of labels.now) rm text.now }
 {
     let shift = shift_named(word(text))?;
@@ -122,7 +122,7 @@ fn amount_at<'t>(
     rm: Register,
     shift: Shift,
     text: &'t [u8],
-) -> Read<'t, Outcome<Operand>>
+) -> Read<'t, ReadOutcome<Operand>>
     ensures { read_of result
         ≡ amount_at (address_of labels.now) rm shift text.now (byte 35 text.now) }
 {
@@ -141,7 +141,7 @@ fn amount_at<'t>(
 }
 
 // A shift by a number of places.
-fn places_of(rm: Register, shift: Shift, places: Value) -> Outcome<Operand>
+fn places_of(rm: Register, shift: Shift, places: Value) -> ReadOutcome<Operand>
     ensures { result ≡ places_of rm shift places }
 {
     let Some(places) = places else {
@@ -165,7 +165,7 @@ fn most_places(shift: Shift) -> u32
 
 fn shifted_by(rm: Register, shift: Shift, amount: u32) -> Operand
     requires { amount < 32 }
-    ensures { result ≡ Operand.Shifted (shifted_by rm shift amount) }
+    ensures { result ≡ Operand.Shifted (register_shifted_by rm shift amount) }
 {
     Operand::Shifted(ShiftedRegister {
         rm,

@@ -2,10 +2,10 @@
 
 ghost use Rattle.std.specs.Prelude.{◌≡◌};
 ghost use Rattle.assembler_names.specs.Labels.{address_of};
-ghost use Rattle.assembler_reading.specs.Operating.{added_register, multiply_at, operate_at, operate_behind, operate_on, operate_with, operated};
+ghost use Rattle.assembler_reading.specs.Operating.{added_register, multiply_at, operate_at, operate_behind, operate_on, operate_with, operate_action};
 ghost use Rattle.assembler_names.specs.Words.{read_of};
 
-use crate::operands::{Outcome, second_operand};
+use crate::operands::{ReadOutcome, second_operand};
 use arm_decode::{Action, Multiply, Operand, Operate, Operation, Register};
 use assembler_names::names::register;
 use assembler_names::words::comma;
@@ -18,7 +18,7 @@ pub fn operate_at<'t>(
     operation: Operation,
     flag: bool,
     text: &'t [u8],
-) -> Read<'t, Outcome<Action>>
+) -> Read<'t, ReadOutcome<Action>>
     ensures { read_of result ≡ operate_at (address_of labels.now) operation flag text.now }
 {
     let Some((first, rest)) = register(text) else {
@@ -34,7 +34,7 @@ fn operate_behind<'t>(
     flag: bool,
     first: Register,
     text: &'t [u8],
-) -> Read<'t, Outcome<Action>>
+) -> Read<'t, ReadOutcome<Action>>
     ensures { read_of result
         ≡ operate_behind (address_of labels.now) operation flag first text.now }
 {
@@ -55,7 +55,7 @@ fn operate_on<'t>(
     sets_flags: bool,
     rd: Register,
     text: &'t [u8],
-) -> Read<'t, Outcome<Action>>
+) -> Read<'t, ReadOutcome<Action>>
     ensures { read_of result ≡ operate_on (address_of labels.now) operation sets_flags rd text.now }
 {
     let Some((rn, rest)) = register(text) else {
@@ -72,7 +72,7 @@ fn operate_with<'t>(
     rn: Register,
     rd: Register,
     text: &'t [u8],
-) -> Read<'t, Outcome<Action>>
+) -> Read<'t, ReadOutcome<Action>>
     ensures { read_of result
         ≡ operate_with (address_of labels.now) operation sets_flags rn rd text.now }
 {
@@ -87,9 +87,9 @@ fn operated(
     sets_flags: bool,
     rn: Register,
     rd: Register,
-    operand: Outcome<Operand>,
-) -> Outcome<Action>
-    ensures { result ≡ operated operation sets_flags rn rd operand }
+    operand: ReadOutcome<Operand>,
+) -> ReadOutcome<Action>
+    ensures { result ≡ operate_action operation sets_flags rn rd operand }
 {
     match operand {
         Ok(operand) => Ok(Action::Operate(Operate {
@@ -105,7 +105,11 @@ fn operated(
 
 /// The operands of MUL, and of MLA, which accumulates.
 #[tactic(auto, unfolding(crate::specs::Operating::multiply_at))]
-pub fn multiply_at(accumulates: bool, sets_flags: bool, text: &[u8]) -> Read<'_, Outcome<Action>>
+pub fn multiply_at(
+    accumulates: bool,
+    sets_flags: bool,
+    text: &[u8],
+) -> Read<'_, ReadOutcome<Action>>
     ensures { read_of result ≡ multiply_at accumulates sets_flags text.now }
 {
     let Some((rd, behind_rd)) = register(text) else {

@@ -2,18 +2,18 @@
 
 ghost use Rattle.std.specs.Prelude.{◌≡◌, ◌<◌};
 ghost use Rattle.assembler_names.specs.Words.{byte, read_of};
-ghost use Rattle.assembler_reading.specs.RegisterLists.{block_at, last_register, more_registers, register_list, register_range, with_range, with_register};
+ghost use Rattle.assembler_reading.specs.RegisterLists.{block_transfer_text_at, last_register, more_registers, register_list, register_range, with_range, list_with_register};
 
-use crate::operands::Outcome;
+use crate::operands::ReadOutcome;
 use arm_decode::{Action, BlockMode, BlockTransfer, Register, RegisterList};
 use assembler_names::Read;
 use assembler_names::names::register;
 use assembler_names::words::{byte, comma, mark};
 
 /// The operands of LDM or STM: `Rn!,{R0,R4-R6}^`.
-#[tactic(auto, unfolding(crate::specs::RegisterLists::block_at))]
-pub fn block_at(loads: bool, mode: BlockMode, text: &[u8]) -> Read<'_, Outcome<Action>>
-    ensures { read_of result ≡ block_at loads mode text.now }
+#[tactic(auto, unfolding(crate::specs::RegisterLists::block_transfer_text_at))]
+pub fn block_at(loads: bool, mode: BlockMode, text: &[u8]) -> Read<'_, ReadOutcome<Action>>
+    ensures { read_of result ≡ block_transfer_text_at loads mode text.now }
 {
     let Some((rn, rest)) = register(text) else {
         return None;
@@ -105,9 +105,9 @@ fn with_range(list: RegisterList, first: Register, last: Register) -> RegisterLi
 }
 
 // The list with one more register, which may be there already.
-#[tactic(auto, using(crate::proofs::Ranges::fits), unfolding(crate::specs::RegisterLists::with_register))]
+#[tactic(auto, using(crate::proofs::Ranges::fits), unfolding(crate::specs::RegisterLists::list_with_register))]
 fn with_register(list: RegisterList, register: Register) -> RegisterList
-    ensures { result ≡ with_register list register }
+    ensures { result ≡ list_with_register list register }
 {
     if list.contains(register) {
         list

@@ -6,11 +6,11 @@ use Rattle.arm_decode.specs.profile.specs.Output.{AddsAllBut}
 use Rattle.arm_decode.specs.profile.specs.Word.{bit_of}
 use Rattle.arm_decode.specs.profile.proofs.OutputLemmas.{AddsAllBut-start, AddsAllBut-more, Appends-from_all_but}
 use Rattle.assembler_text.specs.Names.{text_if}
-use Rattle.assembler_text.specs.Transfers.{listed_from, listed_piece, listed_text, separated}
+use Rattle.assembler_text.specs.Transfers.{listed_from, listed_piece, listed_text, register_names_text}
 
 -- the text of the registers from the n-th on
 unfoldable pub listed_rest : ℕ → ℕ → Bool → List ℕ
-listed_rest list n is_first = separated (text_if (not is_first) (codes ",")) (listed_from list n)
+listed_rest list n is_first = register_names_text (text_if (not is_first) (codes ",")) (listed_from list n)
 
 pub listed_starts : (list : ℕ) → listed_rest list 0 true ≡ listed_text list
 unfolding listed_rest listed_text

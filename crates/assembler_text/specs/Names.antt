@@ -60,7 +60,8 @@ block_mode_text IncrementBefore = codes "IB"
 
 -- R0 to R14, and PC for R15
 abbrev pub register_text : ℕ → List ℕ
-register_text n = if n == 15 then 80 ∷ 67 ∷ [] else (if nat_lt n 10 then 82 ∷ (n + 48) ∷ [] else 82 ∷ 49 ∷ (n + 38) ∷ [])
+register_text n = if n == 15 then 80 ∷ 67 ∷ [] else (if nat_lt n 10 then 82 ∷ (n + 48) ∷ []
+    else 82 ∷ 49 ∷ (n + 38) ∷ [])
 
 -- the first word or the second
 abbrev pub choose_text : Bool → List ℕ → List ℕ → List ℕ

@@ -25,7 +25,8 @@ shifted_text s = register_text s.rm ++ shifting_text s.shift s.amount
 
 -- `Rm,LSL Rs`
 abbrev pub by_register_text : ℕ → Shift → ℕ → List ℕ
-by_register_text rm s rs = register_text rm ++ (codes "," ++ (shift_text s ++ (codes " " ++ register_text rs)))
+by_register_text rm s rs = register_text rm ++ (codes ","
+    ++ (shift_text s ++ (codes " " ++ register_text rs)))
 
 abbrev pub operand_text : Operand → List ℕ
 operand_text (operand.Immediate rotation byte) = immediate_text rotation byte

@@ -54,8 +54,8 @@ abbrev pub indexed_text : Indexing → Address → List ℕ
 indexed_text (Pre writes_back) a = before_text writes_back a
 indexed_text (Post user) a = after_text a
 
-abbrev pub address_text : Address → List ℕ
-address_text a = indexed_text a.indexing a
+abbrev pub operand_address_text : Address → List ℕ
+operand_address_text a = indexed_text a.indexing a
 
 -- T: the transfer is one of user mode
 abbrev pub is_user : Indexing → Bool
@@ -69,33 +69,35 @@ transfer_head c t =
     (text_if (is_user t.address.indexing) (codes "T") ++ (codes " " ++ (register_text t.rd ++ codes ",")))))
 
 abbrev pub transfer_text : Condition → Transfer → List ℕ
-transfer_text c t = transfer_head c t ++ address_text t.address
+transfer_text c t = transfer_head c t ++ operand_address_text t.address
 
 -- the registers of a list from the n-th on
 abbrev pub listed_from : ℕ → ℕ → List ℕ
 listed_from list n = filter (bit_of list) (range_with_len n (16 - n))
 
 -- the names of registers, a comma before each but the first
-abbrev pub separated : List ℕ → List ℕ → List ℕ
-separated before [] = []
-separated before (n ∷ ns) = before ++ (register_text n ++ separated (codes ",") ns)
+abbrev pub register_names_text : List ℕ → List ℕ → List ℕ
+register_names_text before [] = []
+register_names_text before (n ∷ ns) = before ++ (register_text n ++ register_names_text (codes ",") ns)
 
 unfoldable pub listed_text : ℕ → List ℕ
-listed_text list = separated [] (listed_from list 0)
+listed_text list = register_names_text [] (listed_from list 0)
 
 -- what one register adds to the list's text
 abbrev pub listed_piece : ℕ → ℕ → Bool → List ℕ
-listed_piece list n is_first = if bit_of list n then text_if (not is_first) (codes ",") ++ register_text n else []
+listed_piece list n is_first = if bit_of list n then text_if (not is_first) (codes ",") ++ register_text n
+    else []
 
 -- `LDMcIA Rn!,`
 abbrev pub block_head : Condition → BlockTransfer → List ℕ
 block_head c b =
-    choose_text b.loads (codes "LDM") (codes "STM") ++ (condition_text c ++ (block_mode_text b.mode ++ (codes " " ++
+    choose_text b.loads (codes "LDM") (codes "STM") ++ (condition_text c
+    ++ (block_mode_text b.mode ++ (codes " " ++
     (register_text b.rn ++ (text_if b.writes_back (codes "!") ++ codes ",")))))
 
 -- `{R0,R1}^`
 abbrev pub braces_text : BlockTransfer → List ℕ
 braces_text b = codes "{" ++ (listed_text b.list ++ (codes "}" ++ text_if b.psr_or_user (codes "^")))
 
-abbrev pub block_text : Condition → BlockTransfer → List ℕ
-block_text c b = block_head c b ++ braces_text b
+abbrev pub block_transfer_text : Condition → BlockTransfer → List ℕ
+block_transfer_text c b = block_head c b ++ braces_text b

@@ -15,7 +15,8 @@ pub(crate) fn push_immediate<W: Sink>(
     sink: &mut W,
 ) -> Result<(), WriteFault>
     requires { rotation < 16 }
-    ensures text { OnOk result (Appends (W.contents sink.old) (W.contents sink.new) (immediate_text rotation byte)) }
+    ensures text { OnOk result (Appends (W.contents sink.old) (W.contents sink.new)
+        (immediate_text rotation byte)) }
     ensures flag { OnErr result (W.has_failed sink.new ≡ true) }
     ensures same_flag { OnOk result (W.has_failed sink.new ≡ W.has_failed sink.old) }
 {

@@ -39,7 +39,8 @@ pub(crate) fn push_shifted<W: Sink>(
 
 // What follows a register that is shifted by the number in the instruction.
 fn push_shifting<W: Sink>(shift: Shift, amount: u32, sink: &mut W) -> Result<(), WriteFault>
-    ensures text { OnOk result (Appends (W.contents sink.old) (W.contents sink.new) (shifting_text shift amount)) }
+    ensures text { OnOk result (Appends (W.contents sink.old) (W.contents sink.new)
+        (shifting_text shift amount)) }
     ensures flag { OnErr result (W.has_failed sink.new ≡ true) }
     ensures same_flag { OnOk result (W.has_failed sink.new ≡ W.has_failed sink.old) }
 {
@@ -53,7 +54,8 @@ fn push_shifting<W: Sink>(shift: Shift, amount: u32, sink: &mut W) -> Result<(),
 
 // `,LSL #n`
 fn push_amount<W: Sink>(shift: Shift, amount: u32, sink: &mut W) -> Result<(), WriteFault>
-    ensures text { OnOk result (Appends (W.contents sink.old) (W.contents sink.new) (amount_text shift amount)) }
+    ensures text { OnOk result (Appends (W.contents sink.old) (W.contents sink.new)
+        (amount_text shift amount)) }
     ensures flag { OnErr result (W.has_failed sink.new ≡ true) }
     ensures same_flag { OnOk result (W.has_failed sink.new ≡ W.has_failed sink.old) }
 {
@@ -76,7 +78,8 @@ fn push_by_register<W: Sink>(
     rs: Register,
     sink: &mut W,
 ) -> Result<(), WriteFault>
-    ensures text { OnOk result (Appends (W.contents sink.old) (W.contents sink.new) (by_register_text rm shift rs)) }
+    ensures text { OnOk result (Appends (W.contents sink.old) (W.contents sink.new)
+        (by_register_text rm shift rs)) }
     ensures flag { OnErr result (W.has_failed sink.new ≡ true) }
     ensures same_flag { OnOk result (W.has_failed sink.new ≡ W.has_failed sink.old) }
 {

@@ -2,7 +2,7 @@
 
 ghost use Rattle.std.specs.Prelude.{◌≡◌, ◌<◌, ◌^◌, true, OnOk, OnErr};
 ghost use Rattle.std.specs.Io.KnownBytes.{Appends};
-ghost use Rattle.assembler_text.specs.Printing.{action_text, branch_target, branch_text, data_text, flags_text, swi_text, multiply_head, multiply_operands, multiply_text, operate_head, operate_text, print, registers_text};
+ghost use Rattle.assembler_text.specs.Printing.{action_text, branch_target, branch_text, data_text, flags_text, swi_text, multiply_head, multiply_operands, multiply_text, operate_head, operate_text, print, operate_registers_text};
 
 use crate::names::{RegisterName, choose_text, condition_text, operation_text, text_if};
 use crate::operands::push_operand;
@@ -105,7 +105,8 @@ fn flags_text(operate: &Operate) -> &'static [u8]
 
 // `Rn,` of a test, `Rd,` of MOV and MVN, else `Rd,Rn,`
 fn push_registers<W: Sink>(operate: &Operate, sink: &mut W) -> Result<(), WriteFault>
-    ensures text { OnOk result (Appends (W.contents sink.old) (W.contents sink.new) (registers_text operate.now)) }
+    ensures text { OnOk result (Appends (W.contents sink.old) (W.contents sink.new)
+        (operate_registers_text operate.now)) }
     ensures flag { OnErr result (W.has_failed sink.new ≡ true) }
     ensures same_flag { OnOk result (W.has_failed sink.new ≡ W.has_failed sink.old) }
 {
@@ -166,7 +167,8 @@ fn push_multiply_head<W: Sink>(
 
 // `Rd,Rm,Rs`, and of MLA `,Rn`
 fn push_multiply_operands<W: Sink>(multiply: &Multiply, sink: &mut W) -> Result<(), WriteFault>
-    ensures text { OnOk result (Appends (W.contents sink.old) (W.contents sink.new) (multiply_operands multiply.now)) }
+    ensures text { OnOk result (Appends (W.contents sink.old) (W.contents sink.new)
+        (multiply_operands multiply.now)) }
     ensures flag { OnErr result (W.has_failed sink.new ≡ true) }
     ensures same_flag { OnOk result (W.has_failed sink.new ≡ W.has_failed sink.old) }
 {
@@ -216,7 +218,8 @@ fn branch_target(address: u32, distance: u32) -> u32
 }
 
 fn push_swi<W: Sink>(condition: Condition, number: u32, sink: &mut W) -> Result<(), WriteFault>
-    ensures text { OnOk result (Appends (W.contents sink.old) (W.contents sink.new) (swi_text condition number)) }
+    ensures text { OnOk result (Appends (W.contents sink.old) (W.contents sink.new)
+        (swi_text condition number)) }
     ensures flag { OnErr result (W.has_failed sink.new ≡ true) }
     ensures same_flag { OnOk result (W.has_failed sink.new ≡ W.has_failed sink.old) }
 {

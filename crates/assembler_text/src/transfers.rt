@@ -3,7 +3,7 @@
 ghost use Rattle.std.specs.Prelude.{◌≡◌, ◌≤◌, ◌<◌, ◌&&◌, true, not, IfOk, OnOk, OnErr};
 ghost use Rattle.std.specs.Io.KnownBytes.{Appends};
 ghost use Rattle.arm_decode.specs.profile.specs.Word.{bit_of};
-ghost use Rattle.assembler_text.specs.Transfers.{address_text, after_text, base_text, before_text, block_head, block_text, braces_text, close_text, is_nothing, listed_piece, listed_text, offset_text, sign_text, transfer_head, transfer_text, is_user};
+ghost use Rattle.assembler_text.specs.Transfers.{operand_address_text, after_text, base_text, before_text, block_head, block_transfer_text, braces_text, close_text, is_nothing, listed_piece, listed_text, offset_text, sign_text, transfer_head, transfer_text, is_user};
 
 use crate::names::{RegisterName, block_mode_text, choose_text, condition_text, text_if};
 use crate::operands::push_shifted;
@@ -63,7 +63,8 @@ fn is_user(indexing: Indexing) -> bool
 }
 
 fn push_address<W: Sink>(address: &Address, sink: &mut W) -> Result<(), WriteFault>
-    ensures text { OnOk result (Appends (W.contents sink.old) (W.contents sink.new) (address_text address.now)) }
+    ensures text { OnOk result (Appends (W.contents sink.old) (W.contents sink.new)
+        (operand_address_text address.now)) }
     ensures flag { OnErr result (W.has_failed sink.new ≡ true) }
     ensures same_flag { OnOk result (W.has_failed sink.new ≡ W.has_failed sink.old) }
 {
@@ -94,7 +95,8 @@ fn push_before<W: Sink>(
 
 // `[Rn],offset`
 fn push_after<W: Sink>(address: &Address, sink: &mut W) -> Result<(), WriteFault>
-    ensures text { OnOk result (Appends (W.contents sink.old) (W.contents sink.new) (after_text address.now)) }
+    ensures text { OnOk result (Appends (W.contents sink.old) (W.contents sink.new)
+        (after_text address.now)) }
     ensures flag { OnErr result (W.has_failed sink.new ≡ true) }
     ensures same_flag { OnOk result (W.has_failed sink.new ≡ W.has_failed sink.old) }
 {
@@ -104,7 +106,8 @@ fn push_after<W: Sink>(address: &Address, sink: &mut W) -> Result<(), WriteFault
 
 // `[Rn` and what follows it
 fn push_base<W: Sink>(rn: Register, after: &[u8], sink: &mut W) -> Result<(), WriteFault>
-    ensures text { OnOk result (Appends (W.contents sink.old) (W.contents sink.new) (base_text rn after.now)) }
+    ensures text { OnOk result (Appends (W.contents sink.old) (W.contents sink.new)
+        (base_text rn after.now)) }
     ensures flag { OnErr result (W.has_failed sink.new ≡ true) }
     ensures same_flag { OnOk result (W.has_failed sink.new ≡ W.has_failed sink.old) }
 {
@@ -115,7 +118,8 @@ fn push_base<W: Sink>(rn: Register, after: &[u8], sink: &mut W) -> Result<(), Wr
 }
 
 fn push_close<W: Sink>(writes_back: bool, sink: &mut W) -> Result<(), WriteFault>
-    ensures text { OnOk result (Appends (W.contents sink.old) (W.contents sink.new) (close_text writes_back)) }
+    ensures text { OnOk result (Appends (W.contents sink.old) (W.contents sink.new)
+        (close_text writes_back)) }
     ensures flag { OnErr result (W.has_failed sink.new ≡ true) }
     ensures same_flag { OnOk result (W.has_failed sink.new ≡ W.has_failed sink.old) }
 {
@@ -138,7 +142,8 @@ fn push_offset<W: Sink>(
     offset: Offset,
     sink: &mut W,
 ) -> Result<(), WriteFault>
-    ensures text { OnOk result (Appends (W.contents sink.old) (W.contents sink.new) (offset_text direction offset)) }
+    ensures text { OnOk result (Appends (W.contents sink.old) (W.contents sink.new)
+        (offset_text direction offset)) }
     ensures flag { OnErr result (W.has_failed sink.new ≡ true) }
     ensures same_flag { OnOk result (W.has_failed sink.new ≡ W.has_failed sink.old) }
 {
@@ -176,7 +181,8 @@ pub(crate) fn push_block<W: Sink>(
     block: &BlockTransfer,
     sink: &mut W,
 ) -> Result<(), WriteFault>
-    ensures text { OnOk result (Appends (W.contents sink.old) (W.contents sink.new) (block_text condition block.now)) }
+    ensures text { OnOk result (Appends (W.contents sink.old) (W.contents sink.new)
+        (block_transfer_text condition block.now)) }
     ensures flag { OnErr result (W.has_failed sink.new ≡ true) }
     ensures same_flag { OnOk result (W.has_failed sink.new ≡ W.has_failed sink.old) }
 {
@@ -190,7 +196,8 @@ fn push_block_head<W: Sink>(
     block: &BlockTransfer,
     sink: &mut W,
 ) -> Result<(), WriteFault>
-    ensures text { OnOk result (Appends (W.contents sink.old) (W.contents sink.new) (block_head condition block.now)) }
+    ensures text { OnOk result (Appends (W.contents sink.old) (W.contents sink.new)
+        (block_head condition block.now)) }
     ensures flag { OnErr result (W.has_failed sink.new ≡ true) }
     ensures same_flag { OnOk result (W.has_failed sink.new ≡ W.has_failed sink.old) }
 {

@@ -14,8 +14,8 @@ use Rattle.clap.specs.declared.parser.matches.Found.{Found}
 use Rattle.clap.proofs.OnLiterals.{clap_on_literals}
 use Rattle.clap.proofs.WalkLemmas.{first_value-rows, raw_values-rows}
 use Rattle.command_line.specs.declared.options.SettingsError.TheVariants.{Memory, Line}
-use Rattle.command_line.specs.Reasons.{text_of}
-use Rattle.command_line.specs.Settings.{is_empty, is_line, is_memory, is_numeral, number_of, option_number, refusal_of, rosm, rows_for}
+use Rattle.command_line.specs.Reasons.{option_text_of}
+use Rattle.command_line.specs.Settings.{is_empty, is_line, is_memory, is_numeral, number_of_option, option_number, refusal_of, rosm, rows_for}
 
 -- ---- numbers
 
@@ -34,14 +34,14 @@ digits_from (d ∷ ds) e =
     (ltb-true _ _ parts.0, digits_from ds parts.1)
 
 -- what `parse` makes of a text is its number
-pub number_of-parsed : {E : Type 0} (bits : ℕ) (text : List ℕ) (r : Result ℕ E) → ParsesUnsigned bits 10 text r → result_ok r ≡ number_of bits text
-unfolding number_of
+pub number_of-parsed : {E : Type 0} (bits : ℕ) (text : List ℕ) (r : Result ℕ E) → ParsesUnsigned bits 10 text r → result_ok r ≡ number_of_option bits text
+unfolding number_of_option
 number_of-parsed bits text (Ok n) h =
     let ds = without_leading_plus text in
     rw (lt-ltb 0 (length ds) h.0.0.0, digits_pass ds h.0.0.1, lt-ltb (digits_value 10 ds) (2 ^ bits) h.0.1) (ap Some h.1)
 number_of-parsed bits text (Err e) h = go (is_numeral bits (without_leading_plus text)) refl
   where
-    go : (b : Bool) → is_numeral bits (without_leading_plus text) ≡ b → None ≡ number_of bits text
+    go : (b : Bool) → is_numeral bits (without_leading_plus text) ≡ b → None ≡ number_of_option bits text
     go false t = rw t refl
     go true t =
         let outer = both _ _ t in
@@ -52,11 +52,11 @@ pub option_number-read : {E : Type 0} (bits : ℕ) (f : Found) (name text : List
     → ParsesUnsigned bits 10 text r → result_ok r ≡ option_number bits (rows_of f) name
 unfolding option_number
 option_number-read bits f name text r is h =
-    number_of-parsed bits text r h ∙ ap (option_and_then (number_of bits)) (is ∙ first_value-rows f name)
+    number_of-parsed bits text r h ∙ ap (option_and_then (number_of_option bits)) (is ∙ first_value-rows f name)
 
 pub option_number-none : (bits : ℕ) (f : Found) (name : List ℕ) → None ≡ first_value f name → None ≡ option_number bits (rows_of f) name
 unfolding option_number
-option_number-none bits f name is = ap (option_and_then (number_of bits)) (is ∙ first_value-rows f name)
+option_number-none bits f name is = ap (option_and_then (number_of_option bits)) (is ∙ first_value-rows f name)
 
 lent : {T : Type 0} (read : T → List ℕ) (o : Option T) (none : T) (first : Option (List ℕ))
     → option_map read o ≡ first → read none ≡ [] → read (unwrap_or o none) ≡ unwrap_or first []
@@ -65,7 +65,7 @@ lent read (Some x) none first is empty = ap (λ (t : Option (List ℕ)). unwrap_
 
 -- the text of an option, as its matches lend it
 pub text_of-lent : {T : Type 0} (read : T → List ℕ) (o : Option T) (none : T) (r : T) (f : Found) (name : List ℕ)
-    → r ≡ unwrap_or o none → option_map read o ≡ first_value f name → read none ≡ [] → read r ≡ text_of (rows_of f) name
+    → r ≡ unwrap_or o none → option_map read o ≡ first_value f name → read none ≡ [] → read r ≡ option_text_of (rows_of f) name
 text_of-lent read o none r f name is told empty =
     ap read is ∙ lent read o none (first_value f name) told empty
     ∙ ap (λ (t : Option (List ℕ)). unwrap_or t []) (first_value-rows f name)

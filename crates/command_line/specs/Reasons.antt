@@ -9,14 +9,16 @@ use Rattle.command_line.specs.Settings.{option_number}
 abbrev pub few_pages_text : ℕ → ℕ → ℕ → List ℕ
 few_pages_text pages app rma =
     codes "--pages is at least app + rma + " ++ (decimal 3 ++ (codes ", " ++ (decimal (app + rma + 3)
-    ++ (codes " by --app " ++ (decimal app ++ (codes " and --rma " ++ (decimal rma ++ (codes ", not " ++ decimal pages))))))))
+    ++ (codes " by --app " ++ (decimal app ++ (codes " and --rma "
+    ++ (decimal rma ++ (codes ", not " ++ decimal pages))))))))
 
 -- the first size that can't be, and by what rule
 abbrev pub bad_size_text : ℕ → ℕ → ℕ → List ℕ
 bad_size_text pages app rma =
     if app == 0 then codes "--app is at least 1, not 0" else (
     if rma == 0 then codes "--rma is at least 1, not 0" else (
-    if nat_lt 1024 pages then codes "--pages is at most " ++ (decimal 1024 ++ (codes ", not " ++ decimal pages)) else
+    if nat_lt 1024 pages then codes "--pages is at most "
+    ++ (decimal 1024 ++ (codes ", not " ++ decimal pages)) else
     few_pages_text pages app rma))
 
 -- the number of an option, or 0 where it has none
@@ -24,17 +26,19 @@ abbrev pub size_or_0 : List Row → List ℕ → ℕ
 size_or_0 rows name = unwrap_or (option_number 32 rows name) 0
 
 abbrev pub sizes_text : List Row → List ℕ
-sizes_text rows = bad_size_text (size_or_0 rows (codes "pages")) (size_or_0 rows (codes "app")) (size_or_0 rows (codes "rma"))
+sizes_text rows = bad_size_text (size_or_0 rows (codes "pages")) (size_or_0 rows (codes "app"))
+    (size_or_0 rows (codes "rma"))
 
 -- the text of an option, or nothing where it has none
-abbrev pub text_of : List Row → List ℕ → List ℕ
-text_of rows name = unwrap_or (first_of name rows) []
+abbrev pub option_text_of : List Row → List ℕ → List ℕ
+option_text_of rows name = unwrap_or (first_of name rows) []
 
 -- An option whose text is no number of at most so much; the text is quoted, where it is of ASCII
 -- characters alone.
 abbrev pub TellsBadNumber : List Row → List ℕ → ℕ → List ℕ → Type 0
-TellsBadNumber rows name most told = IfSome (debug_str (text_of rows name)) (λ quoted.
-    told ≡ codes "--" ++ (name ++ (codes " takes a number N of at most " ++ (decimal most ++ (codes ", not " ++ quoted)))))
+TellsBadNumber rows name most told = IfSome (debug_str (option_text_of rows name)) (λ quoted.
+    told ≡ codes "--" ++ (name ++ (codes " takes a number N of at most "
+    ++ (decimal most ++ (codes ", not " ++ quoted)))))
 
 -- an option by its name, and the largest number that it takes
 pub record Limit : Type 0 where

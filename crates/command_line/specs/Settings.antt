@@ -19,7 +19,11 @@ use Rattle.command_line.specs.declared.options.SettingsError.TheVariants as refu
 
 -- `--name N`, once at most, with a default; N is the one name of its value
 abbrev pub option_rule : List ℕ → List ℕ → Rule
-option_rule name default = record (new_rule name) { long = Some name; value_names = 1; defaults = default ∷ [] }
+option_rule name default = record (new_rule name) {
+  long = Some name;
+  value_names = 1;
+  defaults = default ∷ [];
+}
 
 -- a word that belongs to no option, as often as one likes
 abbrev pub file_rule : Rule
@@ -57,18 +61,19 @@ refusal_of kind = if is_memory kind then refused.Memory else refused.Line
 -- decimal digits of a number below 2 to the power of `bits`
 abbrev pub is_numeral : ℕ → List ℕ → Bool
 is_numeral bits digits =
-    nat_lt 0 (length digits) && list_all (λ d. nat_lt (digit_value d) 10) digits && nat_lt (digits_value 10 digits) (2 ^ bits)
+    nat_lt 0 (length digits) && list_all (λ d. nat_lt (digit_value d) 10) digits
+    && nat_lt (digits_value 10 digits) (2 ^ bits)
 
 -- the number that a text spells, perhaps with a plus before it
-unfoldable pub number_of : ℕ → List ℕ → Option ℕ
-number_of bits text =
+unfoldable pub number_of_option : ℕ → List ℕ → Option ℕ
+number_of_option bits text =
     let digits = without_leading_plus text in
     if is_numeral bits digits then Some (digits_value 10 digits) else None
 
 -- the number of an option: that of its word, or of its default where the words don't have the
 -- option
 unfoldable pub option_number : ℕ → List Row → List ℕ → Option ℕ
-option_number bits rows name = option_and_then (number_of bits) (first_of name rows)
+option_number bits rows name = option_and_then (number_of_option bits) (first_of name rows)
 
 -- the files, in the order of the words
 unfoldable pub files_in : List Row → List (List ℕ)

@@ -9,4 +9,5 @@ usage_text = codes "usage: rosm [--pages N] [--app N] [--rma N] [--budget N] [FI
 abbrev pub settings_error_text : SettingsError → List ℕ
 settings_error_text Memory = codes "out of memory"
 settings_error_text Line = usage_text
-settings_error_text Sizes = codes "sizes: --app and --rma at least 1, --pages at most 1024 and at least app + rma + 3"
+settings_error_text Sizes =
+    codes "sizes: --app and --rma at least 1, --pages at most 1024 and at least app + rma + 3"

@@ -3,7 +3,7 @@
 ghost use Rattle.std.specs.Prelude.{◌≡◌, true, map, IfOk, IsErr, string_bytes};
 ghost use Rattle.clap.specs.Words.{found_of, kind_of, rows_of};
 ghost use Rattle.command_line.specs.Settings.{is_line, is_memory, rows_for};
-ghost use Rattle.command_line.specs.Reasons.{TellsBadNumber, TellsNumber, few_pages_text, sizes_text, text_of, wrong_option};
+ghost use Rattle.command_line.specs.Reasons.{TellsBadNumber, TellsNumber, few_pages_text, sizes_text, option_text_of, wrong_option};
 
 use crate::reading::{command, size};
 use clap::ArgMatches;
@@ -129,7 +129,7 @@ fn bad_number(
 
 // The text of an option.
 fn text_of<'a>(matches: &ArgMatches<'a>, name: &str) -> &'a str
-    ensures { result.now ≡ text_of (rows_of (found_of matches.now)) name.now }
+    ensures { result.now ≡ option_text_of (rows_of (found_of matches.now)) name.now }
 {
     matches.get_str(name).unwrap_or("")
 }

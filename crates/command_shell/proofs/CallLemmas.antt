@@ -11,10 +11,10 @@ use Rattle.profile.specs.Output.{AddsAllBut}
 use Rattle.profile.proofs.OutputLemmas.{AddsAllBut-start, AddsAllBut-more, Appends-from_all_but}
 use Rattle.debugger.specs.swi_dispatch.specs.declared.halt.Halt.{Halt}
 use Rattle.debugger.specs.swi_dispatch.specs.declared.halt.Halt.TheVariants as halt
-use Rattle.debugger.specs.swi_dispatch.specs.MachineState.{Outcome, stop_of}
+use Rattle.debugger.specs.swi_dispatch.specs.MachineState.{StepOutcome, stop_of}
 use Rattle.debugger.specs.swi_dispatch.specs.Run.{count_after, is_among}
 use Rattle.debugger.specs.swi_dispatch.specs.Step.{machine_step}
-use Rattle.command_shell.specs.Calls.{call_done, call_end, call_end_by, call_made, call_unless, end_told, finished}
+use Rattle.command_shell.specs.Calls.{call_done, call_end, call_end_by, call_made, call_unless, end_told, answer_after_steps}
 use Rattle.command_shell.specs.Calls.{finished_by, step_made, step_then, stop_before_step, stop_before_step_by}
 use Rattle.command_shell.specs.Calls.{stop_told}
 use Rattle.command_shell.specs.State.{ScriptState, Answered, IsAnswered}
@@ -26,33 +26,33 @@ can_step (Some halt) left none = absurd (cc)
 can_step None left none = grind (arith, nat_tests, none)
 
 -- a call that can't take its first step
-pub call_refused : (w : ScriptState) (first : Outcome) (stop : Stop) → stop_before_step w ≡ Some stop
+pub call_refused : (w : ScriptState) (first : StepOutcome) (stop : Stop) → stop_before_step w ≡ Some stop
     → call_made w first ≡ stop_told w stop
 unfolding call_made
 call_refused w first stop e = ap (call_unless w first) e
 
 -- and one that can
-pub call_allowed : (w : ScriptState) (first : Outcome) → stop_before_step w ≡ None
+pub call_allowed : (w : ScriptState) (first : StepOutcome) → stop_before_step w ≡ None
     → call_made w first ≡ call_done w first
 unfolding call_made
 call_allowed w first e = ap (call_unless w first) e
 
 -- the step that a call takes next
-abbrev pub next_step : ScriptState → Outcome
+abbrev pub next_step : ScriptState → StepOutcome
 next_step s = machine_step s.images s.machine
 
 -- a call that goes no further
 pub finished_ends : (frames n : ℕ) (s : ScriptState) (e : CallEnd) → call_end s frames ≡ Some e
-    → finished frames n s ≡ end_told s e
-unfolding finished
+    → answer_after_steps frames n s ≡ end_told s e
+unfolding answer_after_steps
 finished_ends frames zero s e h = ap (λ o. finished_by s o (stop_told s stop.Budget)) h
-finished_ends frames (suc n) s e h = ap (λ o. finished_by s o (step_then s (next_step s) (finished frames n))) h
+finished_ends frames (suc n) s e h = ap (λ o. finished_by s o (step_then s (next_step s) (answer_after_steps frames n))) h
 
 -- one that does
 finished_on : (frames n : ℕ) (s : ScriptState) → call_end s frames ≡ None
-    → finished frames (suc n) s ≡ step_then s (next_step s) (finished frames n)
-unfolding finished
-finished_on frames n s h = ap (λ o. finished_by s o (step_then s (next_step s) (finished frames n))) h
+    → answer_after_steps frames (suc n) s ≡ step_then s (next_step s) (answer_after_steps frames n)
+unfolding answer_after_steps
+finished_on frames n s h = ap (λ o. finished_by s o (step_then s (next_step s) (answer_after_steps frames n))) h
 
 -- where a call goes on, nothing halts the machine
 awake_by : (s : ScriptState) (frames : ℕ) (o : Option Halt) → call_end_by s frames o ≡ None → o ≡ None
@@ -85,9 +85,9 @@ halted_ends s frames h is = ap (call_end_by s frames) is
 -- After a step as many are left as the call may take, or the machine is halted, and it takes none.
 after_by : (frames n : ℕ) (now : ScriptState) (o : Option Halt) → now.machine.halt ≡ o
     → now.left ≡ suc n - count_after o
-    → finished frames n now ≡ finished frames now.left now
-after_by frames n now None awake left = ap (λ k. finished frames k now) (omega (arith, left))
-after_by frames n now (Some halt.Exit) halted left = ap (λ k. finished frames k now) (omega (arith, left))
+    → answer_after_steps frames n now ≡ answer_after_steps frames now.left now
+after_by frames n now None awake left = ap (λ k. answer_after_steps frames k now) (omega (arith, left))
+after_by frames n now (Some halt.Exit) halted left = ap (λ k. answer_after_steps frames k now) (omega (arith, left))
 after_by frames n now (Some (halt.Fault f)) halted left =
     let over = halted_ends now frames (halt.Fault f) halted in
     finished_ends frames n now (end.Stopped (stop_of (halt.Fault f))) over
@@ -95,32 +95,32 @@ after_by frames n now (Some (halt.Fault f)) halted left =
 
 goes_by : (frames : ℕ) (s now : ScriptState) (left : ℕ) → s.left ≡ left → 0 < left → call_end s frames ≡ None
     → now ≡ step_made s (next_step s)
-    → ((finished frames s.left s).text ≡ (next_step s).printed ++ (finished frames now.left now).text)
-    × ((finished frames s.left s).state ≡ (finished frames now.left now).state)
+    → ((answer_after_steps frames s.left s).text ≡ (next_step s).printed ++ (answer_after_steps frames now.left now).text)
+    × ((answer_after_steps frames s.left s).state ≡ (answer_after_steps frames now.left now).state)
 goes_by frames s now zero is some none made = absurd (omega (arith, some))
 goes_by frames s now (suc n) is some none made =
     let now_halt : now.machine.halt ≡ (next_step s).now.halt = ap (λ (w : ScriptState). w.machine.halt) made in
     let now_left : now.left ≡ suc n - count_after (next_step s).now.halt = ap (λ (w : ScriptState). w.left) made
     ∙ ap (λ k. k - count_after (next_step s).now.halt) is in
-    let more : finished frames n now ≡ finished frames now.left now =
+    let more : answer_after_steps frames n now ≡ answer_after_steps frames now.left now =
     after_by frames n now (next_step s).now.halt now_halt now_left in
-    let whole : finished frames s.left s ≡ step_then s (next_step s) (finished frames n) =
-    ap (λ k. finished frames k s) is ∙ finished_on frames n s none in
-    let rest : finished frames n (step_made s (next_step s)) ≡ finished frames now.left now =
-    ap (finished frames n) (sym made) ∙ more in (
+    let whole : answer_after_steps frames s.left s ≡ step_then s (next_step s) (answer_after_steps frames n) =
+    ap (λ k. answer_after_steps frames k s) is ∙ finished_on frames n s none in
+    let rest : answer_after_steps frames n (step_made s (next_step s)) ≡ answer_after_steps frames now.left now =
+    ap (answer_after_steps frames n) (sym made) ∙ more in (
       ap (λ (t : Answered). t.text) whole ∙ ap (λ (t : Answered). (next_step s).printed ++ t.text) rest,
       ap (λ (t : Answered). t.state) whole ∙ ap (λ (t : Answered). t.state) rest,
     )
 
 -- a step of a call: what stands written and what follows are still all that the call tells
 pub call_goes_on : (a b c : Option (List ℕ)) (frames : ℕ) (s now : ScriptState) (all : Answered)
-    → AddsAllBut a b (finished frames s.left s).text all.text
-    → (finished frames s.left s).state ≡ all.state → call_end s frames ≡ None → now ≡ step_made s (next_step s)
+    → AddsAllBut a b (answer_after_steps frames s.left s).text all.text
+    → (answer_after_steps frames s.left s).state ≡ all.state → call_end s frames ≡ None → now ≡ step_made s (next_step s)
     → Appends b c (next_step s).printed
-    → AddsAllBut a c (finished frames now.left now).text all.text × ((finished frames now.left now).state ≡ all.state)
+    → AddsAllBut a c (answer_after_steps frames now.left now).text all.text × ((answer_after_steps frames now.left now).state ≡ all.state)
 call_goes_on a b c frames s now all done same none made here =
     let step = goes_by frames s now s.left refl (goes_left s frames none) none made in (
-      AddsAllBut-more a b c (finished frames s.left s).text (next_step s).printed (finished frames now.left now).text
+      AddsAllBut-more a b c (answer_after_steps frames s.left s).text (next_step s).printed (answer_after_steps frames now.left now).text
           all.text done here step.0,
       sym step.1 ∙ same,
     )
@@ -128,12 +128,12 @@ call_goes_on a b c frames s now all done same none made here =
 -- the end of one
 pub call_ends : {U E : Type 0} (r : Result U E) (a b c : Option (List ℕ)) (frames : ℕ) (s now : ScriptState)
     (e : CallEnd) (all : Answered)
-    → AddsAllBut a b (finished frames s.left s).text all.text → (finished frames s.left s).state ≡ all.state
+    → AddsAllBut a b (answer_after_steps frames s.left s).text all.text → (answer_after_steps frames s.left s).state ≡ all.state
     → call_end s frames ≡ Some e
     → OnOk r (IsAnswered b c now (end_told s e)) → OnOk r (IsAnswered a c now all)
 call_ends (Ok u) a b c frames s now e all done same over told =
-    let whole : finished frames s.left s ≡ end_told s e = finished_ends frames s.left s e over in
-    let rest : List ℕ = (finished frames s.left s).text in
+    let whole : answer_after_steps frames s.left s ≡ end_told s e = finished_ends frames s.left s e over in
+    let rest : List ℕ = (answer_after_steps frames s.left s).text in
     let here : Appends b c rest = subst (λ (t : Answered). Appends b c t.text) (sym whole) told.text in
     record {
       text = Appends-from_all_but a c [] all.text (AddsAllBut-more a b c rest rest [] all.text done here (sym (append-nil rest))) refl;

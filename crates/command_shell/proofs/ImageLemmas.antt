@@ -8,14 +8,14 @@ use Rattle.profile.specs.Sizes.{Sizes}
 use Rattle.profile.specs.declared.fault.Fault.{Fault}
 use Rattle.profile.specs.declared.stop.Stop.{Stop}
 use Rattle.profile.specs.declared.stop.Stop.TheVariants as stop
-use Rattle.image_loader.specs.Entries.{Entry, bytes_of, refusal_for}
+use Rattle.image_loader.specs.Entries.{Entry, bytes_of_image, refusal_for}
 use Rattle.image_loader.specs.declared.error.ImageError.{ImageError}
 use Rattle.assembler.specs.Passes.{means_lines}
 use Rattle.assembler.specs.declared.error.AsmError.{AsmError}
 use Rattle.debugger.specs.Flex.{flex_text}
-use Rattle.debugger.specs.Heap.{blocks_text}
-use Rattle.debugger.specs.swi_dispatch.specs.Boot.{booted, poked}
-use Rattle.debugger.specs.swi_dispatch.specs.MachineState.{MachineState, Outcome}
+use Rattle.debugger.specs.Heap.{heap_blocks_text}
+use Rattle.debugger.specs.swi_dispatch.specs.Boot.{machine_after_boot, machine_after_poke}
+use Rattle.debugger.specs.swi_dispatch.specs.MachineState.{MachineState, StepOutcome}
 use Rattle.debugger.specs.swi_dispatch.specs.Step.{machine_step, module_loaded, store_called}
 use Rattle.debugger.specs.swi_dispatch.specs.declared.boot_error.BootError.{BootError}
 use Rattle.debugger.specs.swi_dispatch.specs.swi_dispatch_breaks.specs.Breaks.{with_break, without_break}
@@ -23,17 +23,17 @@ use Rattle.debugger.specs.swi_dispatch.specs.swi_dispatch_breaks.specs.declared.
 use Rattle.command_shell_lines.specs.Blocks.{block_bytes, block_lines, lines_after, lines_taken}
 use Rattle.command_shell_lines.specs.Requests.{Request, Nothing, Hex, Asm, Boot, Run, Regs, Set, Poke, Call, Load, Step}
 use Rattle.command_shell_lines.specs.Requests.{Break, Unbreak, Mem, Code, Heap, Areas, Modules, Flex, Unknown}
-use Rattle.command_shell_lines.specs.Requests.{opens_block, request_of, is_end}
+use Rattle.command_shell_lines.specs.Requests.{opens_block, request_of, is_end_of_block}
 use Rattle.command_shell.specs.Answers.{break_text, unbreak_text}
-use Rattle.command_shell.specs.Calls.{call_end, call_made, call_unless, end_told, finished, finished_by}
+use Rattle.command_shell.specs.Calls.{call_end, call_made, call_unless, end_told, answer_after_steps, finished_by}
 use Rattle.command_shell.specs.Calls.{step_made, step_then, stop_before_step, stop_told}
 use Rattle.command_shell.specs.Fronts.{IsFront, HasSome, AreOldOrTold}
 use Rattle.command_shell.specs.Images.{asm_block, asm_told, boot_done, boot_found, boot_told, hex_block, hex_told}
 use Rattle.command_shell.specs.Images.{image_added, image_opened}
 use Rattle.command_shell.specs.Memory.{poke_done}
-use Rattle.command_shell.specs.Script.{OpenBlock, at_the_end, block_told, in_block, lines_told, on_line, on_opened}
+use Rattle.command_shell.specs.Script.{OpenBlock, at_the_end, answer_to_block, in_block, lines_told, on_line, on_opened}
 use Rattle.command_shell.specs.Script.{request_told, script_told}
-use Rattle.command_shell.specs.State.{ScriptState, Answered, start_state}
+use Rattle.command_shell.specs.State.{ScriptState, Answered, script_start_state}
 use Rattle.command_shell.specs.Stepping.{breaks_changed}
 use Rattle.command_shell.specs.Views.{flex_told, heap_told, shown_or}
 use Rattle.command_shell.specs.declared.calls.CallEnd.{CallEnd}
@@ -92,7 +92,7 @@ boot_done_keeps s name (Err error) = refl
 boot_found_keeps : (s : ScriptState) (name : List ℕ) (o : Option (List ℕ))
     → (boot_found s name o).state.images ≡ s.images
 boot_found_keeps s name None = refl
-boot_found_keeps s name (Some program) = boot_done_keeps s name (booted s.sizes s.is_fresh s.machine program)
+boot_found_keeps s name (Some program) = boot_done_keeps s name (machine_after_boot s.sizes s.is_fresh s.machine program)
 
 poke_done_keeps : (s : ScriptState) (o : Result MachineState Fault) → (poke_done s o).state.images ≡ s.images
 poke_done_keeps s (Ok machine) = refl
@@ -114,7 +114,7 @@ shown_keeps s refusal (Some text) = refl
 
 heap_keeps : (s : ScriptState) (address : ℕ) → (heap_told s address).state.images ≡ s.images
 unfolding heap_told
-heap_keeps s address = shown_keeps s (codes "NoHeap") (blocks_text s.machine.store address)
+heap_keeps s address = shown_keeps s (codes "NoHeap") (heap_blocks_text s.machine.store address)
 
 flex_keeps : (s : ScriptState) → (flex_told s).state.images ≡ s.images
 unfolding flex_told
@@ -131,21 +131,21 @@ finished_by_keeps : (s : ScriptState) (o : Option CallEnd) (more : Answered) →
 finished_by_keeps s (Some e) more keeps = end_told_keeps s e
 finished_by_keeps s None more keeps = keeps
 
-finished_keeps : (frames n : ℕ) (s : ScriptState) → (finished frames n s).state.images ≡ s.images
-unfolding finished
+finished_keeps : (frames n : ℕ) (s : ScriptState) → (answer_after_steps frames n s).state.images ≡ s.images
+unfolding answer_after_steps
 finished_keeps frames zero s = finished_by_keeps s (call_end s frames) (stop_told s stop.Budget) refl
 finished_keeps frames (suc n) s =
     let step = machine_step s.images s.machine in
-    finished_by_keeps s (call_end s frames) (step_then s step (finished frames n))
+    finished_by_keeps s (call_end s frames) (step_then s step (answer_after_steps frames n))
     (finished_keeps frames n (step_made s step))
 
-call_unless_keeps : (s : ScriptState) (first : Outcome) (o : Option Stop)
+call_unless_keeps : (s : ScriptState) (first : StepOutcome) (o : Option Stop)
     → (call_unless s first o).state.images ≡ s.images
 call_unless_keeps s first (Some stop) = refl
 call_unless_keeps s first None =
     finished_keeps (length s.machine.tables.frames) (step_made s first).left (step_made s first)
 
-call_keeps : (s : ScriptState) (first : Outcome) → (call_made s first).state.images ≡ s.images
+call_keeps : (s : ScriptState) (first : StepOutcome) → (call_made s first).state.images ≡ s.images
 unfolding call_made
 call_keeps s first = call_unless_keeps s first (stop_before_step s)
 
@@ -156,12 +156,12 @@ line_keeps s number (Hex name) block = hex_keeps s name block
 line_keeps s number (Asm name origin) block = asm_keeps s name origin block
 line_keeps s number Nothing block = IsFront-same s.images
 line_keeps s number (Boot name) block =
-    keeps_all s (boot_told s name) (boot_found_keeps s name (bytes_of s.images name))
+    keeps_all s (boot_told s name) (boot_found_keeps s name (bytes_of_image s.images name))
 line_keeps s number Run block = IsFront-same s.images
 line_keeps s number Regs block = IsFront-same s.images
 line_keeps s number (Set register value) block = IsFront-same s.images
 line_keeps s number (Poke address value) block =
-    keeps_all s (poke_done s (poked s.machine address value)) (poke_done_keeps s (poked s.machine address value))
+    keeps_all s (poke_done s (machine_after_poke s.machine address value)) (poke_done_keeps s (machine_after_poke s.machine address value))
 line_keeps s number (Call called) block =
     let first = store_called s.images s.machine called in keeps_all s (call_made s first) (call_keeps s first)
 line_keeps s number (Load text) block =
@@ -194,14 +194,14 @@ opened_keeps s number r false next keep =
 in_block_keeps : (s : ScriptState) (o : OpenBlock) (line : List ℕ) (b : Bool)
     (next : ScriptState → Option OpenBlock → Answered) → AllKeep next → Keeps s (in_block s o line b next)
 in_block_keeps s o line true next keep =
-    IsFront-then (line_keeps s o.number o.request o.block) (keep (block_told s o).state None)
+    IsFront-then (line_keeps s o.number o.request o.block) (keep (answer_to_block s o).state None)
 in_block_keeps s o line false next keep = keep s (Some (record o { block = o.block ++ line ∷ [] }))
 
 on_line_keeps : (s : ScriptState) (number : ℕ) (o : Option OpenBlock) (line : List ℕ)
     (next : ScriptState → Option OpenBlock → Answered) → AllKeep next → Keeps s (on_line s number o line next)
 on_line_keeps s number None line next keep =
     opened_keeps s number (request_of line) (opens_block (request_of line)) next keep
-on_line_keeps s number (Some o) line next keep = in_block_keeps s o line (is_end line) next keep
+on_line_keeps s number (Some o) line next keep = in_block_keeps s o line (is_end_of_block line) next keep
 
 end_keeps : (s : ScriptState) (o : Option OpenBlock) → Keeps s (at_the_end s o)
 end_keeps s None = IsFront-same s.images
@@ -267,8 +267,8 @@ at_err (Err e) P holds = holds
 
 script_keeps : (sizes : Sizes) (images : List Entry) (budget : ℕ) (script : List ℕ)
     → IsFront images (script_told sizes images budget script).state.images
-unfolding script_told start_state
-script_keeps sizes images budget script = lines_keep 0 (start_state sizes images budget) None (lines script)
+unfolding script_told script_start_state
+script_keeps sizes images budget script = lines_keep 0 (script_start_state sizes images budget) None (lines script)
 
 -- a script of which no line is answered
 pub none_added : (o : Option (List ℕ)) (sizes : Sizes) (images : List Entry) (budget : ℕ)

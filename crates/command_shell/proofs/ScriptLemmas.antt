@@ -6,18 +6,18 @@ use Rattle.std.specs.Prelude.{if◌then◌else◌, IfSome}
 use Rattle.std.specs.Str.Lines.{lines}
 use Rattle.profile.specs.Sizes.{Sizes}
 use Rattle.profile.specs.declared.stop.Stop.{Stop}
-use Rattle.command_shell_lines.specs.Blocks.{block_lines, after_block, block_size, lines_after, lines_taken}
+use Rattle.command_shell_lines.specs.Blocks.{block_lines, after_block, lines_in_block, lines_after, lines_taken}
 use Rattle.command_shell_lines.specs.Requests.{Request, Nothing, Hex, Asm, Boot, Run, Regs, Set, Poke, Call, Load, Step}
 use Rattle.command_shell_lines.specs.Requests.{Break, Unbreak, Mem, Code, Heap, Areas, Modules, Flex, Unknown}
-use Rattle.command_shell_lines.specs.Requests.{opens_block, request_of, is_end}
+use Rattle.command_shell_lines.specs.Requests.{opens_block, request_of, is_end_of_block}
 use Rattle.image_loader.specs.Entries.{Entry}
-use Rattle.debugger.specs.swi_dispatch.specs.MachineState.{start_of}
+use Rattle.debugger.specs.swi_dispatch.specs.MachineState.{machine_start}
 use Rattle.debugger.specs.swi_dispatch.specs.Parts.{Parts, state_of}
 use Rattle.command_shell.specs.declared.session.Session.{Session}
 use Rattle.command_shell.specs.Session.{script_state, state_on}
 use Rattle.command_shell.specs.Script.{OpenBlock, request_told, on_opened, on_request, in_block, lines_told}
 use Rattle.command_shell.specs.Script.{script_told}
-use Rattle.command_shell.specs.State.{ScriptState, Answered, answer, then_answered, start_state}
+use Rattle.command_shell.specs.State.{ScriptState, Answered, answer, then_answered, script_start_state}
 use Rattle.profile.proofs.OutputLemmas.{AddsAllBut-start, Appends-from_all_but}
 use Rattle.command_shell.proofs.FrontLemmas.{AddsFront-from_all_but}
 use Rattle.command_shell.proofs.FrontLemmas.{AddsFront-start, IsFront-same}
@@ -40,10 +40,10 @@ block_same w number r block block' next next' left left' e n l = cc
 told_by_end : (number : ℕ) (w : ScriptState) (o : OpenBlock) (line : List ℕ) (rest : List (List ℕ)) (b : Bool)
     → lines_told (number + 1) w (Some (record o { block = o.block ++ line ∷ [] })) rest
     ≡ after_told (request_told w o.number o.request ((o.block ++ line ∷ []) ++ block_lines rest))
-    (number + 1 + block_size rest) (after_block rest)
+    (number + 1 + lines_in_block rest) (after_block rest)
     → in_block w o line b (λ after still. lines_told (number + 1) after still rest)
     ≡ after_told (request_told w o.number o.request (o.block ++ (if b then [] else line ∷ block_lines rest)))
-    (number + (if b then 1 else 1 + block_size rest)) (if b then rest else after_block rest)
+    (number + (if b then 1 else 1 + lines_in_block rest)) (if b then rest else after_block rest)
 unfolding after_told
 told_by_end number w o line rest true later =
     block_same w o.number o.request o.block (o.block ++ []) (number + 1) (number + 1) rest rest
@@ -51,7 +51,7 @@ told_by_end number w o line rest true later =
 told_by_end number w o line rest false later =
     later
     ∙ block_same w o.number o.request ((o.block ++ line ∷ []) ++ block_lines rest)
-    (o.block ++ line ∷ block_lines rest) (number + 1 + block_size rest) (number + (1 + block_size rest))
+    (o.block ++ line ∷ block_lines rest) (number + 1 + lines_in_block rest) (number + (1 + lines_in_block rest))
     (after_block rest) (after_block rest) (append_assoc o.block (line ∷ []) (block_lines rest)) (omega arith) refl
 
 nothing_after : (t : Answered) → t ≡ record { state = t.state; text = t.text ++ [] }
@@ -61,14 +61,14 @@ nothing_after t =
 -- an open block takes its lines up to the one that ends it
 told_open : (number : ℕ) (w : ScriptState) (o : OpenBlock) (left : List (List ℕ))
     → lines_told number w (Some o) left
-    ≡ after_told (request_told w o.number o.request (o.block ++ block_lines left)) (number + block_size left)
+    ≡ after_told (request_told w o.number o.request (o.block ++ block_lines left)) (number + lines_in_block left)
     (after_block left)
-unfolding lines_told block_lines after_block block_size after_told
+unfolding lines_told block_lines after_block lines_in_block after_told
 told_open number w o [] =
     ap (request_told w o.number o.request) (sym (append-nil o.block))
     ∙ nothing_after (request_told w o.number o.request (o.block ++ []))
 told_open number w o (line ∷ rest) =
-    told_by_end number w o line rest (is_end line)
+    told_by_end number w o line rest (is_end_of_block line)
     (told_open (number + 1) w (record o { block = o.block ++ line ∷ [] }) rest)
 
 no_lines_more : (first : Answered) (number : ℕ) (left : List (List ℕ))
@@ -162,7 +162,7 @@ after_block-shorter : (rest : List (List ℕ)) → length (after_block rest) ≤
 unfolding after_block
 after_block-shorter [] = omega arith
 after_block-shorter (line ∷ rest) =
-    elim (is_end line) as (λ b. length (if b then rest else after_block rest) ≤ length (line ∷ rest))
+    elim (is_end_of_block line) as (λ b. length (if b then rest else after_block rest) ≤ length (line ∷ rest))
     [ true ↦ omega arith | false ↦ omega (arith, after_block-shorter rest) ]
 
 lines_after-shorter : (b : Bool) (rest : List (List ℕ)) → length (lines_after b rest) ≤ length rest
@@ -180,9 +180,9 @@ pub state_images : (session : Session) (images : List Entry) → (script_state s
 state_images session images = refl
 
 -- the state on a machine that was just made
-state_on_start : (machine : Parts) (sizes : Sizes) (images : List Entry) (budget : ℕ) → state_of machine ≡ start_of sizes
-    → machine.sizes ≡ sizes → machine.is_fresh ≡ true → state_on machine images budget ≡ start_state sizes images budget
-unfolding start_state
+state_on_start : (machine : Parts) (sizes : Sizes) (images : List Entry) (budget : ℕ) → state_of machine ≡ machine_start sizes
+    → machine.sizes ≡ sizes → machine.is_fresh ≡ true → state_on machine images budget ≡ script_start_state sizes images budget
+unfolding script_start_state
 state_on_start machine sizes images budget start same fresh = λ i. record {
   machine = start i;
   is_fresh = fresh i;
@@ -199,7 +199,7 @@ pub told_of : (P : Answered → Type 0) (o : Option (List ℕ)) (sizes : Sizes) 
     (read text : List ℕ) (session : Session) (machine : Parts)
     → IfSome o (λ script. read ≡ script) → text ≡ read
     → script_state session images ≡ state_on machine images budget
-    → state_of machine ≡ start_of sizes → machine.sizes ≡ sizes → machine.is_fresh ≡ true
+    → state_of machine ≡ machine_start sizes → machine.sizes ≡ sizes → machine.is_fresh ≡ true
     → P (lines_told 0 (script_state session images) None (lines text))
     → IfSome o (λ script. P (script_told sizes images budget script))
 unfolding script_told
@@ -207,14 +207,14 @@ told_of P None sizes images budget read text session machine is same stands star
 told_of P (Some script) sizes images budget read text session machine is same stands start sized fresh so =
     let from_start = subst (λ (w : ScriptState). P (lines_told 0 w None (lines text)))
     (stands ∙ state_on_start machine sizes images budget start sized fresh) so in
-    subst (λ (xs : List ℕ). P (lines_told 0 (start_state sizes images budget) None (lines xs))) (same ∙ is) from_start
+    subst (λ (xs : List ℕ). P (lines_told 0 (script_start_state sizes images budget) None (lines xs))) (same ∙ is) from_start
 
 -- and a part of the state that they leave
 pub part_told : {A : Type 0} (part : ScriptState → A) (told : A) (now : ScriptState) (o : Option (List ℕ)) (sizes : Sizes)
     (images : List Entry) (budget : ℕ) (read text : List ℕ) (session : Session) (machine : Parts)
     → IfSome o (λ script. read ≡ script) → text ≡ read
     → script_state session images ≡ state_on machine images budget
-    → state_of machine ≡ start_of sizes → machine.sizes ≡ sizes → machine.is_fresh ≡ true
+    → state_of machine ≡ machine_start sizes → machine.sizes ≡ sizes → machine.is_fresh ≡ true
     → now ≡ (lines_told 0 (script_state session images) None (lines text)).state → told ≡ part now
     → IfSome o (λ script. told ≡ part (script_told sizes images budget script).state)
 part_told part told now o sizes images budget read text session machine is same stands start sized fresh after ends =

@@ -2,7 +2,7 @@
 use Rattle.std.proofs.Common.{◌≡◌, ℕ, true, false, List, [], Option, Some, None}
 use Rattle.std.specs.Prelude.{codes, is_some, unwrap_or}
 use Rattle.debugger.specs.Flex.{flex_text}
-use Rattle.debugger.specs.Heap.{blocks_text}
+use Rattle.debugger.specs.Heap.{heap_blocks_text}
 use Rattle.command_shell.specs.Answers.{refused_text}
 use Rattle.command_shell.specs.State.{ScriptState, answer}
 use Rattle.command_shell.specs.Views.{flex_told, heap_told, shown_or}
@@ -21,19 +21,19 @@ pub nothing : (o : Option (List ℕ)) → is_some o ≡ false → unwrap_or o []
 nothing None e = cc
 nothing (Some text) e = absurd (cc)
 
-pub heap_there : (s : ScriptState) (address : ℕ) → is_some (blocks_text s.machine.store address) ≡ true
-    → heap_told s address ≡ answer s (unwrap_or (blocks_text s.machine.store address) [])
+pub heap_there : (s : ScriptState) (address : ℕ) → is_some (heap_blocks_text s.machine.store address) ≡ true
+    → heap_told s address ≡ answer s (unwrap_or (heap_blocks_text s.machine.store address) [])
 unfolding heap_told
-heap_there s address e = there s (codes "NoHeap") (blocks_text s.machine.store address) e
+heap_there s address e = there s (codes "NoHeap") (heap_blocks_text s.machine.store address) e
 
-pub heap_missing : (s : ScriptState) (address : ℕ) → is_some (blocks_text s.machine.store address) ≡ false
+pub heap_missing : (s : ScriptState) (address : ℕ) → is_some (heap_blocks_text s.machine.store address) ≡ false
     → heap_told s address ≡ answer s (refused_text (codes "NoHeap"))
 unfolding heap_told
-heap_missing s address e = missing s (codes "NoHeap") (blocks_text s.machine.store address) e
+heap_missing s address e = missing s (codes "NoHeap") (heap_blocks_text s.machine.store address) e
 
-pub nothing_shown : (s : ScriptState) (address : ℕ) → is_some (blocks_text s.machine.store address) ≡ false
-    → unwrap_or (blocks_text s.machine.store address) [] ≡ []
-nothing_shown s address e = nothing (blocks_text s.machine.store address) e
+pub nothing_shown : (s : ScriptState) (address : ℕ) → is_some (heap_blocks_text s.machine.store address) ≡ false
+    → unwrap_or (heap_blocks_text s.machine.store address) [] ≡ []
+nothing_shown s address e = nothing (heap_blocks_text s.machine.store address) e
 
 pub flex_there : (s : ScriptState) → is_some (flex_text s.machine.store.bytes s.machine.tables.flex) ≡ true
     → flex_told s ≡ answer s (unwrap_or (flex_text s.machine.store.bytes s.machine.tables.flex) [])

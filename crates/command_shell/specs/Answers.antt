@@ -9,8 +9,8 @@ use Rattle.profile.specs.declared.fault.Fault.TheVariants.{ErrorStop}
 use Rattle.profile.specs.FaultNames.{fault_name}
 
 -- a space and an address, in capitals without leading zeros
-abbrev pub address_text : ℕ → List ℕ
-address_text address = codes " &" ++ hex_number address
+abbrev pub at_address_text : ℕ → List ℕ
+at_address_text address = codes " &" ++ hex_number address
 
 -- `? line n`, for a line outside the language
 abbrev pub unknown_text : ℕ → List ℕ
@@ -39,10 +39,10 @@ refused_text reason = codes "refused " ++ (reason ++ codes "\n")
 
 -- `break &8004`, `unbreak &8004`
 abbrev pub break_text : ℕ → List ℕ
-break_text address = codes "break" ++ (address_text address ++ codes "\n")
+break_text address = codes "break" ++ (at_address_text address ++ codes "\n")
 
 abbrev pub unbreak_text : ℕ → List ℕ
-unbreak_text address = codes "unbreak" ++ (address_text address ++ codes "\n")
+unbreak_text address = codes "unbreak" ++ (at_address_text address ++ codes "\n")
 
 -- `ok`
 abbrev pub ok_text : List ℕ
@@ -54,23 +54,23 @@ call_error_text number = codes "error " ++ (decimal number ++ codes "\n")
 
 -- `at &8004`
 abbrev pub at_text : ℕ → List ℕ
-at_text pc = codes "at" ++ (address_text pc ++ codes "\n")
+at_text pc = codes "at" ++ (at_address_text pc ++ codes "\n")
 
 -- some words, a number and the program counter
 abbrev pub numbered_text : List ℕ → ℕ → ℕ → List ℕ
-numbered_text words number pc = words ++ (decimal number ++ (address_text pc ++ codes "\n"))
+numbered_text words number pc = words ++ (decimal number ++ (at_address_text pc ++ codes "\n"))
 
 -- `stop OwnedWord &8004`, `stop ErrorStop 6 &8004`
-abbrev pub fault_text : Fault → ℕ → List ℕ
-fault_text (ErrorStop number) pc = numbered_text (codes "stop ErrorStop ") number pc
-fault_text fault pc = codes "stop " ++ (fault_name fault ++ (address_text pc ++ codes "\n"))
+abbrev pub fault_stop_text : Fault → ℕ → List ℕ
+fault_stop_text (ErrorStop number) pc = numbered_text (codes "stop ErrorStop ") number pc
+fault_stop_text fault pc = codes "stop " ++ (fault_name fault ++ (at_address_text pc ++ codes "\n"))
 
 -- A stop line: `stop Exit`, `stop Budget`, `stop Break &8004`, or that of a fault.
 abbrev pub stop_text : Stop → ℕ → List ℕ
 stop_text stop.Exit pc = codes "stop Exit\n"
 stop_text stop.Budget pc = codes "stop Budget\n"
-stop_text (stop.Break address) pc = codes "stop Break" ++ (address_text address ++ codes "\n")
-stop_text (stop.Fault fault) pc = fault_text fault pc
+stop_text (stop.Break address) pc = codes "stop Break" ++ (at_address_text address ++ codes "\n")
+stop_text (stop.Fault fault) pc = fault_stop_text fault pc
 
 -- What follows on the steps of a STEP line: where the machine stands if all of them could be taken
 -- and were, else the stop line.

@@ -6,7 +6,7 @@ use Rattle.profile.specs.declared.stop.Stop.{Stop}
 use Rattle.profile.specs.declared.stop.Stop.TheVariants as stop
 use Rattle.debugger.specs.swi_dispatch.specs.declared.halt.Halt.{Halt}
 use Rattle.debugger.specs.swi_dispatch.specs.Errors.{error_number}
-use Rattle.debugger.specs.swi_dispatch.specs.MachineState.{MachineState, Outcome, stop_of}
+use Rattle.debugger.specs.swi_dispatch.specs.MachineState.{MachineState, StepOutcome, stop_of}
 use Rattle.debugger.specs.swi_dispatch.specs.Run.{count_after, is_among}
 use Rattle.debugger.specs.swi_dispatch.specs.Step.{machine_step, module_loaded, store_called}
 use Rattle.command_shell.specs.Answers.{ok_text, call_error_text, stop_text}
@@ -51,11 +51,11 @@ end_told s end.Returned = answer s (call_text s.machine)
 end_told s (end.Stopped stop) = stop_told s stop
 
 -- the state after a step, which counts unless it ended in a fault
-abbrev pub step_made : ScriptState → Outcome → ScriptState
+abbrev pub step_made : ScriptState → StepOutcome → ScriptState
 step_made s a = record s { machine = a.now; is_fresh = false; left = s.left - count_after a.now.halt }
 
 -- a step, what it prints, and then what follows
-abbrev pub step_then : ScriptState → Outcome → (ScriptState → Answered) → Answered
+abbrev pub step_then : ScriptState → StepOutcome → (ScriptState → Answered) → Answered
 step_then s a next = then_answered (answer (step_made s a) a.printed) next
 
 abbrev pub finished_by : ScriptState → Option CallEnd → Answered → Answered
@@ -63,21 +63,22 @@ finished_by s (Some e) more = end_told s e
 finished_by s None more = more
 
 -- The rest of a call after a step of it, with so many steps left.
-unfoldable pub finished : ℕ → ℕ → ScriptState → Answered
-finished frames zero s = finished_by s (call_end s frames) (stop_told s stop.Budget)
-finished frames (suc n) s =
-    finished_by s (call_end s frames) (step_then s (machine_step s.images s.machine) (finished frames n))
+unfoldable pub answer_after_steps : ℕ → ℕ → ScriptState → Answered
+answer_after_steps frames zero s = finished_by s (call_end s frames) (stop_told s stop.Budget)
+answer_after_steps frames (suc n) s =
+    finished_by s (call_end s frames) (step_then s (machine_step s.images s.machine)
+    (answer_after_steps frames n))
 
 -- a call whose first step leaves this
-abbrev pub call_done : ScriptState → Outcome → Answered
-call_done s a = step_then s a (λ after. finished (length s.machine.tables.frames) after.left after)
+abbrev pub call_done : ScriptState → StepOutcome → Answered
+call_done s a = step_then s a (λ after. answer_after_steps (length s.machine.tables.frames) after.left after)
 
-abbrev pub call_unless : ScriptState → Outcome → Option Stop → Answered
+abbrev pub call_unless : ScriptState → StepOutcome → Option Stop → Answered
 call_unless s a (Some stop) = stop_told s stop
 call_unless s a None = call_done s a
 
 -- a call whose first step leaves this, unless no step can be taken
-unfoldable pub call_made : ScriptState → Outcome → Answered
+unfoldable pub call_made : ScriptState → StepOutcome → Answered
 call_made s a = call_unless s a (stop_before_step s)
 
 -- CALL makes a store call; LOAD loads a module.
@@ -87,10 +88,10 @@ call_told s number = call_made s (store_called s.images s.machine number)
 abbrev pub load_told : ScriptState → List ℕ → Answered
 load_told s text = call_made s (module_loaded s.images s.machine text)
 
-abbrev pub outside_called : List Entry → MachineState → OutsideCall → Outcome
+abbrev pub outside_called : List Entry → MachineState → OutsideCall → StepOutcome
 outside_called images s (outside.Swi number) = store_called images s number
 outside_called images s (outside.Load text) = module_loaded images s text.now
 
 -- the first step of either
-abbrev pub first_step : ScriptState → OutsideCall → Outcome
+abbrev pub first_step : ScriptState → OutsideCall → StepOutcome
 first_step s call = outside_called s.images s.machine call

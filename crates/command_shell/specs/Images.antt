@@ -1,10 +1,10 @@
 -- The lines that hand in an image and boot one: HEX, ASM and BOOT.
 use Rattle.std.specs.Prelude.{ℕ, false, List, length, codes, Option, Some, None, Result, Ok, Err}
-use Rattle.image_loader.specs.Entries.{bytes_of, refusal_for, with_entry}
+use Rattle.image_loader.specs.Entries.{bytes_of_image, refusal_for, with_entry}
 use Rattle.image_loader.specs.declared.error.ImageError.{ImageError}
 use Rattle.image_loader.specs.ErrorNames.{image_error_name}
 use Rattle.debugger.specs.swi_dispatch.specs.MachineState.{MachineState}
-use Rattle.debugger.specs.swi_dispatch.specs.Boot.{booted}
+use Rattle.debugger.specs.swi_dispatch.specs.Boot.{machine_after_boot}
 use Rattle.debugger.specs.swi_dispatch.specs.declared.boot_error.BootError.{BootError}
 use Rattle.debugger.specs.swi_dispatch.specs.declared.boot_error.BootError.TheVariants as boot
 use Rattle.assembler.specs.ErrorNames.{reason_name}
@@ -45,7 +45,8 @@ asm_block s name (Ok bytes) = image_sized s (codes "asm ") name bytes
 
 abbrev pub asm_told : ScriptState → List ℕ → ℕ → List (List ℕ) → Answered
 asm_told s name origin block =
-    image_opened s (codes "asm ") name (asm_block s name (means_lines block origin)) (refusal_for s.images name 0)
+    image_opened s (codes "asm ") name (asm_block s name (means_lines block origin))
+    (refusal_for s.images name 0)
 
 -- BOOT: the image must be there, the machine as it was made, and the image no longer than the
 -- application space, in this order.
@@ -59,7 +60,7 @@ boot_done s name (Err error) = answer s (refused_text (boot_refusal_name error))
 
 abbrev pub boot_found : ScriptState → List ℕ → Option (List ℕ) → Answered
 boot_found s name None = answer s (refused_text (codes "NoImage"))
-boot_found s name (Some program) = boot_done s name (booted s.sizes s.is_fresh s.machine program)
+boot_found s name (Some program) = boot_done s name (machine_after_boot s.sizes s.is_fresh s.machine program)
 
 abbrev pub boot_told : ScriptState → List ℕ → Answered
-boot_told s name = boot_found s name (bytes_of s.images name)
+boot_told s name = boot_found s name (bytes_of_image s.images name)

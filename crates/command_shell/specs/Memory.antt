@@ -3,13 +3,16 @@ use Rattle.std.specs.Prelude.{ℕ, false, [], Result, Ok, Err}
 use Rattle.profile.specs.FaultNames.{fault_name}
 use Rattle.profile.specs.declared.fault.Fault.{Fault}
 use Rattle.debugger.specs.swi_dispatch.specs.MachineState.{MachineState}
-use Rattle.debugger.specs.swi_dispatch.specs.Boot.{registered, poked}
+use Rattle.debugger.specs.swi_dispatch.specs.Boot.{machine_with_register, machine_after_poke}
 use Rattle.command_shell.specs.Answers.{refused_text}
 use Rattle.command_shell.specs.State.{ScriptState, Answered, answer}
 
 -- SET changes a register of the present mode.
 abbrev pub set_told : ScriptState → ℕ → ℕ → Answered
-set_told s register value = answer (record s { machine = registered s.machine register value; is_fresh = false }) []
+set_told s register value = answer (record s {
+  machine = machine_with_register s.machine register value;
+  is_fresh = false;
+}) []
 
 -- POKE stores a word as a guest's store would.
 abbrev pub poke_done : ScriptState → Result MachineState Fault → Answered
@@ -17,4 +20,4 @@ poke_done s (Ok machine) = answer (record s { machine = machine; is_fresh = fals
 poke_done s (Err fault) = answer s (refused_text (fault_name fault))
 
 abbrev pub poke_told : ScriptState → ℕ → ℕ → Answered
-poke_told s address value = poke_done s (poked s.machine address value)
+poke_told s address value = poke_done s (machine_after_poke s.machine address value)

@@ -9,8 +9,8 @@ use Rattle.command_shell.specs.Images.{hex_told, asm_told, boot_told}
 use Rattle.command_shell.specs.Memory.{set_told, poke_told}
 use Rattle.command_shell_lines.specs.Requests.{Request, Nothing, Hex, Asm, Boot, Run, Regs, Set, Poke, Call, Load, Step}
 use Rattle.command_shell_lines.specs.Requests.{Break, Unbreak, Mem, Code, Heap, Areas, Modules, Flex, Unknown}
-use Rattle.command_shell_lines.specs.Requests.{opens_block, request_of, is_end}
-use Rattle.command_shell.specs.State.{ScriptState, Answered, answer, then_answered, start_state}
+use Rattle.command_shell_lines.specs.Requests.{opens_block, request_of, is_end_of_block}
+use Rattle.command_shell.specs.State.{ScriptState, Answered, answer, then_answered, script_start_state}
 use Rattle.command_shell.specs.Stepping.{run_told, step_told, break_told, unbreak_told}
 use Rattle.command_shell.specs.Views.{regs_told, mem_told, code_told, heap_told, areas_told, modules_told, flex_told}
 
@@ -43,35 +43,41 @@ abbrev pub takes_memory : List Entry → Request → Bool
 takes_memory images (Hex name) = is_none (refusal_for images name 0)
 takes_memory images (Asm name origin) = is_none (refusal_for images name 0)
 takes_memory images request = false
+
 pub record OpenBlock : Type 0 where
   pub request : Request
   pub number : ℕ
   pub block : List (List ℕ)
 
 -- A line that opens a block is answered at the block's end; any other is answered at once.
-abbrev pub on_opened : ScriptState → ℕ → Request → Bool → (ScriptState → Option OpenBlock → Answered) → Answered
-on_opened s number request true next = next s (Some (record { request = request; number = number; block = [] }))
-on_opened s number request false next = then_answered (request_told s number request []) (λ after. next after None)
+abbrev pub on_opened : ScriptState → ℕ → Request → Bool → (ScriptState → Option OpenBlock → Answered) →
+    Answered
+on_opened s number request true next = next s (Some (record
+    { request = request; number = number; block = [] }))
+on_opened s number request false next = then_answered (request_told s number request [])
+    (λ after. next after None)
 
 abbrev pub on_request : ScriptState → ℕ → Request → (ScriptState → Option OpenBlock → Answered) → Answered
 on_request s number request next = on_opened s number request (opens_block request) next
 
-abbrev pub block_told : ScriptState → OpenBlock → Answered
-block_told s open_block = request_told s open_block.number open_block.request open_block.block
+abbrev pub answer_to_block : ScriptState → OpenBlock → Answered
+answer_to_block s open_block = request_told s open_block.number open_block.request open_block.block
 
-abbrev pub in_block : ScriptState → OpenBlock → List ℕ → Bool → (ScriptState → Option OpenBlock → Answered) → Answered
-in_block s open_block line true next = then_answered (block_told s open_block) (λ after. next after None)
-in_block s open_block line false next = next s (Some (record open_block { block = open_block.block ++ line ∷ [] }))
+abbrev pub in_block : ScriptState → OpenBlock → List ℕ → Bool → (ScriptState → Option OpenBlock → Answered) →
+    Answered
+in_block s open_block line true next = then_answered (answer_to_block s open_block) (λ after. next after None)
+in_block s open_block line false next = next s (Some (record open_block
+    { block = open_block.block ++ line ∷ [] }))
 
 abbrev pub on_line : ScriptState → ℕ → Option OpenBlock → List ℕ → (ScriptState → Option OpenBlock → Answered)
     → Answered
 on_line s number None line next = on_request s number (request_of line) next
-on_line s number (Some open_block) line next = in_block s open_block line (is_end line) next
+on_line s number (Some open_block) line next = in_block s open_block line (is_end_of_block line) next
 
 -- A block without its last line ends with the script.
 abbrev pub at_the_end : ScriptState → Option OpenBlock → Answered
 at_the_end s None = answer s []
-at_the_end s (Some open_block) = block_told s open_block
+at_the_end s (Some open_block) = answer_to_block s open_block
 
 -- lines, where so many came before
 unfoldable pub lines_told : ℕ → ScriptState → Option OpenBlock → List (List ℕ) → Answered
@@ -80,4 +86,5 @@ lines_told number s open_block (line ∷ rest) =
     on_line s (number + 1) open_block line (λ after still_open. lines_told (number + 1) after still_open rest)
 
 unfoldable pub script_told : Sizes → List Entry → ℕ → List ℕ → Answered
-script_told sizes images budget script = lines_told 0 (start_state sizes images budget) None (lines script)
+script_told sizes images budget script = lines_told 0 (script_start_state sizes images budget) None
+    (lines script)

@@ -4,7 +4,7 @@ use Rattle.std.specs.Io.KnownBytes.{Appends}
 use Rattle.profile.specs.Sizes.{Sizes}
 use Rattle.profile.specs.declared.stop.Stop.{Stop}
 use Rattle.image_loader.specs.Entries.{Entry}
-use Rattle.debugger.specs.swi_dispatch.specs.MachineState.{MachineState, start_of}
+use Rattle.debugger.specs.swi_dispatch.specs.MachineState.{MachineState, machine_start}
 
 -- What a script works on: the machine, whether it still stands as it was made, the images, the
 -- breaks, what is left of the budget, and the last stop that a line was answered with.
@@ -33,12 +33,15 @@ pub record IsAnswered (before after : Option (List ℕ)) (now : ScriptState) (to
 
 -- an answer, and then those of the lines that follow
 abbrev pub then_answered : Answered → (ScriptState → Answered) → Answered
-then_answered first next = record { state = (next first.state).state; text = first.text ++ (next first.state).text }
+then_answered first next = record {
+  state = (next first.state).state;
+  text = first.text ++ (next first.state).text;
+}
 
 -- the state before the first line
-unfoldable pub start_state : Sizes → List Entry → ℕ → ScriptState
-start_state sizes images budget = record {
-  machine = start_of sizes;
+unfoldable pub script_start_state : Sizes → List Entry → ℕ → ScriptState
+script_start_state sizes images budget = record {
+  machine = machine_start sizes;
   is_fresh = true;
   sizes = sizes;
   images = images;

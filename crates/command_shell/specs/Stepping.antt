@@ -38,14 +38,14 @@ abbrev pub step_told : ScriptState → ℕ → Answered
 step_told s count = step_done s count (machine.ran s.images s.breaks (min count s.left) s.machine)
 
 -- BREAK and UNBREAK: what the breaks are then, or why they stay as they are.
-abbrev pub break_error_name : BreakError → List ℕ
-break_error_name break.Unaligned = codes "Unaligned"
-break_error_name break.BreakTableFull = codes "BreakTableFull"
-break_error_name break.NoBreak = codes "NoBreak"
+abbrev pub break_refusal_name : BreakError → List ℕ
+break_refusal_name break.Unaligned = codes "Unaligned"
+break_refusal_name break.BreakTableFull = codes "BreakTableFull"
+break_refusal_name break.NoBreak = codes "NoBreak"
 
 abbrev pub breaks_changed : ScriptState → List ℕ → Result (List ℕ) BreakError → Answered
 breaks_changed s text (Ok breaks) = answer (record s { breaks = breaks }) text
-breaks_changed s text (Err error) = answer s (refused_text (break_error_name error))
+breaks_changed s text (Err error) = answer s (refused_text (break_refusal_name error))
 
 abbrev pub break_told : ScriptState → ℕ → Answered
 break_told s address = breaks_changed s (break_text address) (with_break s.breaks address)

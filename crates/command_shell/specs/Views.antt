@@ -4,15 +4,15 @@ use Rattle.std.specs.Prelude.{ℕ, List, codes, Option, Some, None}
 use Rattle.debugger.specs.Areas.{areas_text}
 use Rattle.debugger.specs.Code.{code_text}
 use Rattle.debugger.specs.Flex.{flex_text}
-use Rattle.debugger.specs.Heap.{blocks_text}
+use Rattle.debugger.specs.Heap.{heap_blocks_text}
 use Rattle.debugger.specs.Memory.{memory_text}
 use Rattle.debugger.specs.Modules.{modules_text}
-use Rattle.debugger.specs.Registers.{registers_text}
+use Rattle.debugger.specs.Registers.{cpu_registers_text}
 use Rattle.command_shell.specs.Answers.{refused_text}
 use Rattle.command_shell.specs.State.{ScriptState, Answered, answer}
 
 abbrev pub regs_told : ScriptState → Answered
-regs_told s = answer s (registers_text s.machine.cpu)
+regs_told s = answer s (cpu_registers_text s.machine.cpu)
 
 abbrev pub mem_told : ScriptState → ℕ → ℕ → Answered
 mem_told s address count = answer s (memory_text s.machine.store.bytes address count)
@@ -27,7 +27,7 @@ shown_or s refusal (Some text) = answer s text
 
 -- `refused NoHeap` where no heap starts there
 unfoldable pub heap_told : ScriptState → ℕ → Answered
-heap_told s address = shown_or s (codes "NoHeap") (blocks_text s.machine.store address)
+heap_told s address = shown_or s (codes "NoHeap") (heap_blocks_text s.machine.store address)
 
 abbrev pub areas_told : ScriptState → Answered
 areas_told s = answer s (areas_text s.machine.tables.land.areas s.machine.pool)

@@ -3,7 +3,7 @@
 ghost use Rattle.profile.specs.Output.{Writes};
 ghost use Rattle.command_shell.specs.Answers.{unknown_text, image_text, line_refused_text, image_refused_text};
 ghost use Rattle.command_shell.specs.Answers.{boot_text, refused_text, break_text, unbreak_text, ok_text};
-ghost use Rattle.command_shell.specs.Answers.{call_error_text, at_text, numbered_text, fault_text, stop_text};
+ghost use Rattle.command_shell.specs.Answers.{call_error_text, at_text, numbered_text, fault_stop_text, stop_text};
 ghost use Rattle.command_shell.specs.Answers.{stepped_text};
 
 use itoa::Buffer;
@@ -225,7 +225,7 @@ fn tell_numbered<W: Sink>(
 }
 
 fn tell_fault<W: Sink>(sink: &mut W, fault: Fault, pc: u32) -> Result<(), WriteFault>
-    ensures { Writes W.contents W.has_failed sink.old sink.new result (fault_text fault pc) }
+    ensures { Writes W.contents W.has_failed sink.old sink.new result (fault_stop_text fault pc) }
 {
     match fault {
         Fault::ErrorStop(code) => tell_numbered(sink, b"stop ErrorStop ", code, pc),

@@ -55,7 +55,7 @@ impl Session {
     ghost use Rattle.image_loader.specs.Entries.{Entry};
     ghost use Rattle.debugger.specs.swi_dispatch.specs.Parts.{state_of};
     ghost use Rattle.debugger.specs.swi_dispatch.specs.Step.{machine_step};
-    ghost use Rattle.command_shell.specs.Calls.{call_made, call_done, call_end, call_text, end_told, finished};
+    ghost use Rattle.command_shell.specs.Calls.{call_made, call_done, call_end, call_text, end_told, answer_after_steps};
     ghost use Rattle.command_shell.specs.Calls.{first_step, step_made, stop_told, stop_before_step};
     ghost use Rattle.command_shell.specs.Session.{script_state};
     ghost use Rattle.command_shell.specs.State.{IsAnswered};
@@ -94,7 +94,8 @@ impl Session {
 
     // Tells a stop, which is the last one then.
     fn stopped<W: Sink>(&mut self, sink: &mut W, stop: Stop) -> Result<(), WriteFault>
-        ensures told { (images : List Entry) → OnOk result (IsAnswered (W.contents sink.old) (W.contents sink.new)
+        ensures told { (images : List Entry) → OnOk result
+            (IsAnswered (W.contents sink.old) (W.contents sink.new)
             (script_state self.new images)
             (stop_told (script_state self.old images) stop)) }
         ensures flag { OnErr result (W.has_failed sink.new ≡ true) }
@@ -154,7 +155,8 @@ impl Session {
     ) -> Result<(), WriteFault>
         ensures told { OnOk result (IsAnswered (W.contents sink.old) (W.contents sink.new)
             (script_state self.new images.now)
-            (finished frames (script_state self.old images.now).left (script_state self.old images.now))) }
+            (answer_after_steps frames (script_state self.old images.now).left
+            (script_state self.old images.now))) }
         ensures flag { OnErr result (W.has_failed sink.new ≡ true) }
         ensures same_flag { OnOk result (W.has_failed sink.new ≡ W.has_failed sink.old) }
     {
@@ -188,7 +190,8 @@ impl Session {
     }
 
     fn tell_end<W: Sink>(&mut self, sink: &mut W, end: CallEnd) -> Result<(), WriteFault>
-        ensures told { (images : List Entry) → OnOk result (IsAnswered (W.contents sink.old) (W.contents sink.new)
+        ensures told { (images : List Entry) → OnOk result
+            (IsAnswered (W.contents sink.old) (W.contents sink.new)
             (script_state self.new images)
             (end_told (script_state self.old images) end)) }
         ensures flag { OnErr result (W.has_failed sink.new ≡ true) }
@@ -223,7 +226,8 @@ impl Session {
         ensures breaks { self.new.breaks ≡ self.old.breaks }
         ensures left { self.new.left + count_after (state_of self.old.machine).halt ≡ self.old.left }
         ensures last { self.new.last ≡ self.old.last }
-        ensures text { OnOk result (Appends (W.contents sink.old) (W.contents sink.new) self.old.machine.printed) }
+        ensures text { OnOk result (Appends (W.contents sink.old)
+            (W.contents sink.new) self.old.machine.printed) }
         ensures flag { OnErr result (W.has_failed sink.new ≡ true) }
         ensures same_flag { OnOk result (W.has_failed sink.new ≡ W.has_failed sink.old) }
     {

@@ -1,7 +1,7 @@
 //! The lines that hand in an image and boot one: HEX, ASM and BOOT.
 
 ghost use Rattle.std.specs.Prelude.{◌≡◌, ◌+◌, true, None, IfErr, IsOk, OnOk, OnErr};
-ghost use Rattle.command_shell_lines.specs.Blocks.{block_lines, after_block, block_size, result_of_block};
+ghost use Rattle.command_shell_lines.specs.Blocks.{block_lines, after_block, lines_in_block, result_of_block};
 ghost use Rattle.command_shell.specs.Error.{IsLineError};
 ghost use Rattle.command_shell.specs.Fronts.{AreOldOrTold};
 
@@ -34,7 +34,8 @@ impl Session {
             (hex_told (script_state self.now images.old) name.now (block_lines script.old.left))) }
         ensures taking { result ≡ Err RunError.Memory → refusal_for images.old name.now 0 ≡ None }
         ensures left { OnOk result (script.new.left ≡ after_block script.old.left) }
-        ensures number { OnOk result (script.new.number ≡ script.old.number + block_size script.old.left) }
+        ensures number { OnOk result (script.new.number ≡ script.old.number + lines_in_block
+            script.old.left) }
         ensures memory { result ≡ Err RunError.Memory → sink.new ≡ sink.old }
         ensures write_fault { result ≡ Err RunError.WriteFault → W.has_failed sink.new ≡ true }
         ensures images { OnErr result (AreOldOrTold images.old images.new
@@ -89,7 +90,8 @@ impl Session {
             (asm_told (script_state self.now images.old) name.now origin (block_lines script.old.left))) }
         ensures taking { result ≡ Err RunError.Memory → refusal_for images.old name.now 0 ≡ None }
         ensures left { OnOk result (script.new.left ≡ after_block script.old.left) }
-        ensures number { OnOk result (script.new.number ≡ script.old.number + block_size script.old.left) }
+        ensures number { OnOk result (script.new.number ≡ script.old.number + lines_in_block
+            script.old.left) }
         ensures memory { result ≡ Err RunError.Memory → sink.new ≡ sink.old }
         ensures write_fault { result ≡ Err RunError.WriteFault → W.has_failed sink.new ≡ true }
         ensures images { OnErr result (AreOldOrTold images.old images.new

@@ -4,7 +4,7 @@ ghost use Rattle.std.specs.Prelude.{◌≡◌, true, List, OnOk, OnErr};
 
 use crate::answers::tell_refused;
 use crate::session::Session;
-use command_shell_lines::{Register, WordAddress};
+use command_shell_lines::{RegisterNumber, WordAddress};
 use profile::{Sink, WriteFault};
 
 impl Session {
@@ -14,7 +14,7 @@ impl Session {
     ghost use Rattle.command_shell.specs.State.{IsAnswered};
 
     /// Sets a register of the present mode.
-    pub(crate) fn set(&mut self, register: Register, value: u32)
+    pub(crate) fn set(&mut self, register: RegisterNumber, value: u32)
         ensures { (images : List Entry)
             → script_state self.new images ≡ (set_told (script_state self.old images) register value).state }
     {
@@ -28,7 +28,8 @@ impl Session {
         address: WordAddress,
         value: u32,
     ) -> Result<(), WriteFault>
-        ensures told { (images : List Entry) → OnOk result (IsAnswered (W.contents sink.old) (W.contents sink.new)
+        ensures told { (images : List Entry) → OnOk result
+            (IsAnswered (W.contents sink.old) (W.contents sink.new)
             (script_state self.new images)
             (poke_told (script_state self.old images) address value)) }
         ensures flag { OnErr result (W.has_failed sink.new ≡ true) }

@@ -102,7 +102,8 @@ fn run_lines<W: Sink>(
     ensures write_told { W.has_failed sink.old ≡ false → W.has_failed sink.new ≡ true
         → result ≡ Err RunError.WriteFault }
     ensures added { OnErr result (HasSome images.old
-        (lines_told 0 (script_state session.old images.old) None (lines script.now)).state.images images.new) }
+        (lines_told 0 (script_state session.old images.old) None
+        (lines script.now)).state.images images.new) }
     ensures errors { IfErr result IsLineError }
     ensures same_flag { OnOk result (W.has_failed sink.new ≡ W.has_failed sink.old) }
 {

@@ -8,7 +8,7 @@ ghost use Rattle.command_shell.specs.Fronts.{AreOldOrTold};
 use crate::answers::tell_unknown;
 use crate::calls::OutsideCall;
 use crate::error::RunError;
-use command_shell_lines::Command;
+use command_shell_lines::ScriptCommand;
 use command_shell_lines::text_lines::Lines;
 use debugger::swi_dispatch::{Breaks, Machine};
 use image_loader::Images;
@@ -69,7 +69,7 @@ impl Session {
         &mut self,
         images: &mut Images,
         sink: &mut W,
-        command: Command,
+        command: ScriptCommand,
         script: &mut Lines,
     ) -> Result<(), RunError>
         ensures told { OnOk result (IsAnswered (W.contents sink.old) (W.contents sink.new)
@@ -79,7 +79,8 @@ impl Session {
         ensures left { OnOk result (script.new.left
             ≡ lines_after (opens_block (request_of_command command.entry)) script.old.left) }
         ensures number { OnOk result (script.new.number
-            ≡ script.old.number + lines_taken (opens_block (request_of_command command.entry)) script.old.left) }
+            ≡ script.old.number + lines_taken (opens_block
+            (request_of_command command.entry)) script.old.left) }
         ensures memory { result ≡ Err RunError.Memory → sink.new ≡ sink.old }
         ensures taking { result ≡ Err RunError.Memory
             → takes_memory images.old (request_of_command command.entry) ≡ true }
@@ -91,29 +92,29 @@ impl Session {
         ensures same_flag { OnOk result (W.has_failed sink.new ≡ W.has_failed sink.old) }
     {
         match command {
-            Command::Nothing => Ok(()),
-            Command::Hex(name) => self.hex(images, sink, name, script),
-            Command::Asm(name, origin) => self.asm(images, sink, name, origin, script),
-            Command::Boot(name) => Ok(self.boot(images, sink, name)?),
-            Command::Run => Ok(self.run(images, sink)?),
-            Command::Regs => Ok(self.regs(sink)?),
-            Command::Set(register, value) => {
+            ScriptCommand::Nothing => Ok(()),
+            ScriptCommand::Hex(name) => self.hex(images, sink, name, script),
+            ScriptCommand::Asm(name, origin) => self.asm(images, sink, name, origin, script),
+            ScriptCommand::Boot(name) => Ok(self.boot(images, sink, name)?),
+            ScriptCommand::Run => Ok(self.run(images, sink)?),
+            ScriptCommand::Regs => Ok(self.regs(sink)?),
+            ScriptCommand::Set(register, value) => {
                 self.set(register, value);
                 Ok(())
             }
-            Command::Poke(address, value) => Ok(self.poke(sink, address, value)?),
-            Command::Call(number) => Ok(self.call(images, sink, OutsideCall::Swi(number))?),
-            Command::Load(text) => Ok(self.call(images, sink, OutsideCall::Load(text))?),
-            Command::Step(count) => Ok(self.step(images, sink, count)?),
-            Command::Break(address) => Ok(self.add_break(sink, address)?),
-            Command::Unbreak(address) => Ok(self.remove_break(sink, address)?),
-            Command::Mem(address, count) => Ok(self.mem(sink, address, count)?),
-            Command::Code(address, count) => Ok(self.code(sink, address, count)?),
-            Command::Heap(address) => Ok(self.heap(sink, address)?),
-            Command::Areas => Ok(self.areas(sink)?),
-            Command::Modules => Ok(self.modules(sink)?),
-            Command::Flex => Ok(self.flex(sink)?),
-            Command::Unknown => Ok(tell_unknown(sink, script.number())?),
+            ScriptCommand::Poke(address, value) => Ok(self.poke(sink, address, value)?),
+            ScriptCommand::Call(number) => Ok(self.call(images, sink, OutsideCall::Swi(number))?),
+            ScriptCommand::Load(text) => Ok(self.call(images, sink, OutsideCall::Load(text))?),
+            ScriptCommand::Step(count) => Ok(self.step(images, sink, count)?),
+            ScriptCommand::Break(address) => Ok(self.add_break(sink, address)?),
+            ScriptCommand::Unbreak(address) => Ok(self.remove_break(sink, address)?),
+            ScriptCommand::Mem(address, count) => Ok(self.mem(sink, address, count)?),
+            ScriptCommand::Code(address, count) => Ok(self.code(sink, address, count)?),
+            ScriptCommand::Heap(address) => Ok(self.heap(sink, address)?),
+            ScriptCommand::Areas => Ok(self.areas(sink)?),
+            ScriptCommand::Modules => Ok(self.modules(sink)?),
+            ScriptCommand::Flex => Ok(self.flex(sink)?),
+            ScriptCommand::Unknown => Ok(tell_unknown(sink, script.number())?),
         }
     }
 }

@@ -1,7 +1,7 @@
 //! The lines that take steps, RUN and STEP, and those that set breaks: BREAK and UNBREAK.
 
 ghost use Rattle.std.specs.Prelude.{◌≡◌, true, List, OnOk, OnErr};
-ghost use Rattle.command_shell.specs.Stepping.{break_error_name};
+ghost use Rattle.command_shell.specs.Stepping.{break_refusal_name};
 
 use crate::answers::{tell_break, tell_refused, tell_stepped, tell_stop, tell_unbreak};
 use crate::session::Session;
@@ -56,7 +56,8 @@ impl Session {
         sink: &mut W,
         address: u32,
     ) -> Result<(), WriteFault>
-        ensures told { (images : List Entry) → OnOk result (IsAnswered (W.contents sink.old) (W.contents sink.new)
+        ensures told { (images : List Entry) → OnOk result
+            (IsAnswered (W.contents sink.old) (W.contents sink.new)
             (script_state self.new images)
             (break_told (script_state self.old images) address)) }
         ensures flag { OnErr result (W.has_failed sink.new ≡ true) }
@@ -74,7 +75,8 @@ impl Session {
         sink: &mut W,
         address: u32,
     ) -> Result<(), WriteFault>
-        ensures told { (images : List Entry) → OnOk result (IsAnswered (W.contents sink.old) (W.contents sink.new)
+        ensures told { (images : List Entry) → OnOk result
+            (IsAnswered (W.contents sink.old) (W.contents sink.new)
             (script_state self.new images)
             (unbreak_told (script_state self.old images) address)) }
         ensures flag { OnErr result (W.has_failed sink.new ≡ true) }
@@ -88,7 +90,7 @@ impl Session {
 }
 
 fn break_error_name(error: BreakError) -> &'static [u8]
-    ensures { result.now ≡ break_error_name error }
+    ensures { result.now ≡ break_refusal_name error }
 {
     match error {
         BreakError::Unaligned => b"Unaligned",

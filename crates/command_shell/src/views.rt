@@ -20,7 +20,8 @@ impl Session {
 
     /// Shows the registers of the present mode and the status.
     pub(crate) fn regs<W: Sink>(&self, sink: &mut W) -> Result<(), WriteFault>
-        ensures told { (images : List Entry) → OnOk result (IsAnswered (W.contents sink.old) (W.contents sink.new)
+        ensures told { (images : List Entry) → OnOk result
+            (IsAnswered (W.contents sink.old) (W.contents sink.new)
             (script_state self.now images)
             (regs_told (script_state self.now images))) }
         ensures flag { OnErr result (W.has_failed sink.new ≡ true) }
@@ -36,7 +37,8 @@ impl Session {
         address: u32,
         count: u32,
     ) -> Result<(), WriteFault>
-        ensures told { (images : List Entry) → OnOk result (IsAnswered (W.contents sink.old) (W.contents sink.new)
+        ensures told { (images : List Entry) → OnOk result
+            (IsAnswered (W.contents sink.old) (W.contents sink.new)
             (script_state self.now images)
             (mem_told (script_state self.now images) address count)) }
         ensures flag { OnErr result (W.has_failed sink.new ≡ true) }
@@ -52,7 +54,8 @@ impl Session {
         address: WordAddress,
         count: u32,
     ) -> Result<(), WriteFault>
-        ensures told { (images : List Entry) → OnOk result (IsAnswered (W.contents sink.old) (W.contents sink.new)
+        ensures told { (images : List Entry) → OnOk result
+            (IsAnswered (W.contents sink.old) (W.contents sink.new)
             (script_state self.now images)
             (code_told (script_state self.now images) address count)) }
         ensures flag { OnErr result (W.has_failed sink.new ≡ true) }
@@ -64,7 +67,8 @@ impl Session {
     /// Shows the heap that starts at an address, if one does.
     #[tactic(auto, using(crate::proofs::ViewLemmas::heap_steps))]
     pub(crate) fn heap<W: Sink>(&self, sink: &mut W, address: u32) -> Result<(), WriteFault>
-        ensures told { (images : List Entry) → OnOk result (IsAnswered (W.contents sink.old) (W.contents sink.new)
+        ensures told { (images : List Entry) → OnOk result
+            (IsAnswered (W.contents sink.old) (W.contents sink.new)
             (script_state self.now images)
             (heap_told (script_state self.now images) address)) }
         ensures flag { OnErr result (W.has_failed sink.new ≡ true) }
@@ -78,7 +82,8 @@ impl Session {
 
     /// Shows all areas, and what is left in the pool.
     pub(crate) fn areas<W: Sink>(&self, sink: &mut W) -> Result<(), WriteFault>
-        ensures told { (images : List Entry) → OnOk result (IsAnswered (W.contents sink.old) (W.contents sink.new)
+        ensures told { (images : List Entry) → OnOk result
+            (IsAnswered (W.contents sink.old) (W.contents sink.new)
             (script_state self.now images)
             (areas_told (script_state self.now images))) }
         ensures flag { OnErr result (W.has_failed sink.new ≡ true) }
@@ -89,7 +94,8 @@ impl Session {
 
     /// Shows all modules and their instances.
     pub(crate) fn modules<W: Sink>(&self, sink: &mut W) -> Result<(), WriteFault>
-        ensures told { (images : List Entry) → OnOk result (IsAnswered (W.contents sink.old) (W.contents sink.new)
+        ensures told { (images : List Entry) → OnOk result
+            (IsAnswered (W.contents sink.old) (W.contents sink.new)
             (script_state self.now images)
             (modules_told (script_state self.now images))) }
         ensures flag { OnErr result (W.has_failed sink.new ≡ true) }
@@ -101,7 +107,8 @@ impl Session {
     /// Shows the flex store and its blocks, if there is one.
     #[tactic(auto, using(crate::proofs::ViewLemmas::flex_steps))]
     pub(crate) fn flex<W: Sink>(&self, sink: &mut W) -> Result<(), WriteFault>
-        ensures told { (images : List Entry) → OnOk result (IsAnswered (W.contents sink.old) (W.contents sink.new)
+        ensures told { (images : List Entry) → OnOk result
+            (IsAnswered (W.contents sink.old) (W.contents sink.new)
             (script_state self.now images)
             (flex_told (script_state self.now images))) }
         ensures flag { OnErr result (W.has_failed sink.new ≡ true) }

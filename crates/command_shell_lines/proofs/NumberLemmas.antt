@@ -7,7 +7,7 @@ use Rattle.std.specs.Prelude.{nat_lt, ◌&&◌, if◌then◌else◌}
 use Rattle.std.specs.Char.{is_digit, digit_value}
 use Rattle.std.specs.List.{list_all}
 use Rattle.std.specs.Str.Parse.{digits_value_after}
-use Rattle.command_shell_lines.specs.Numbers.{number_in, with_digit}
+use Rattle.command_shell_lines.specs.Numbers.{digits_number, script_number_with_digit}
 
 -- digits after those of `value`
 unfoldable pub digits_onto : ℕ → ℕ → List ℕ → Option ℕ
@@ -21,8 +21,8 @@ grows radix value (d ∷ ds) some =
     let more : value * 2 ≤ value * radix = mul-le-mul_left value some in
     omega (arith, more, grows radix (value * radix + digit_value d) ds some)
 
-pub no_digits : (radix : ℕ) (digits : List ℕ) → length digits ≡ 0 → number_in radix digits ≡ None
-unfolding number_in
+pub no_digits : (radix : ℕ) (digits : List ℕ) → length digits ≡ 0 → digits_number radix digits ≡ None
+unfolding digits_number
 no_digits radix [] none = refl
 no_digits radix (d ∷ ds) none = absurd (omega (arith, none))
 
@@ -30,8 +30,8 @@ is_some : (n : ℕ) → 0 < n → nat_lt 0 n ≡ true
 is_some n some = grind (arith, nat_tests, some)
 
 pub first_digits : (radix value : ℕ) (digits : List ℕ) → 0 < length digits → value ≡ 0
-    → number_in radix digits ≡ digits_onto radix value digits
-unfolding number_in digits_onto
+    → digits_number radix digits ≡ digits_onto radix value digits
+unfolding digits_number digits_onto
 first_digits radix value [] some zero = absurd (omega (arith, some))
 first_digits radix value (d ∷ ds) some zero = rw (zero, is_some (length (d ∷ ds)) some) refl
 
@@ -46,7 +46,7 @@ by_tests true true n next e = (refl, cc)
 by_tests true false n next e = absurd (cc)
 by_tests false q n next e = absurd (cc)
 
-pub goes_on : (radix value next d : ℕ) (ds : List ℕ) → with_digit radix value d ≡ Some next
+pub goes_on : (radix value next d : ℕ) (ds : List ℕ) → script_number_with_digit radix value d ≡ Some next
     → digits_onto radix value (d ∷ ds) ≡ digits_onto radix next ds
 unfolding digits_onto
 goes_on radix value next d ds e =
@@ -64,7 +64,7 @@ none_by true false false low n total high e = refl
 stays_high : (n total : ℕ) → n ≤ total → nat_lt n (2 ^ 32) ≡ false → nat_lt total (2 ^ 32) ≡ false
 stays_high n total more high = grind (arith, nat_tests, more, high)
 
-pub breaks_off : (radix value d : ℕ) (ds : List ℕ) → 2 ≤ radix → with_digit radix value d ≡ None
+pub breaks_off : (radix value d : ℕ) (ds : List ℕ) → 2 ≤ radix → script_number_with_digit radix value d ≡ None
     → digits_onto radix value (d ∷ ds) ≡ None
 unfolding digits_onto
 breaks_off radix value d ds some e =
@@ -79,14 +79,14 @@ at_place : (i : ℕ) (all : List ℕ) → i < length all → drop i all ≡ get_
 at_place i all within = drop-cons all i 0 within ∙ ap (λ (k : ℕ). get_or all i 0 ∷ drop k all) (sym (add-one i))
 
 pub goes_on_at : (radix value next i : ℕ) (all : List ℕ) → i < length all
-    → with_digit radix value (get_or all i 0) ≡ Some next
+    → script_number_with_digit radix value (get_or all i 0) ≡ Some next
     → digits_onto radix value (drop i all) ≡ digits_onto radix next (drop (i + 1) all)
 goes_on_at radix value next i all within e =
     ap (digits_onto radix value) (at_place i all within)
     ∙ goes_on radix value next (get_or all i 0) (drop (i + 1) all) e
 
 pub breaks_off_at : (radix value i : ℕ) (all : List ℕ) → i < length all → 2 ≤ radix
-    → with_digit radix value (get_or all i 0) ≡ None
+    → script_number_with_digit radix value (get_or all i 0) ≡ None
     → digits_onto radix value (drop i all) ≡ None
 breaks_off_at radix value i all within some e =
     ap (digits_onto radix value) (at_place i all within)

@@ -13,11 +13,12 @@ onto_bytes None rest = None
 onto_bytes (Some byte) None = None
 onto_bytes (Some byte) (Some bytes) = Some (byte ∷ bytes)
 
-unfoldable pub spelled : List ℕ → Option (List ℕ)
-spelled [] = Some []
-spelled (c ∷ []) = if c == 32 then Some [] else None
-spelled (c ∷ d ∷ rest) = if c == 32 then spelled (d ∷ rest) else onto_bytes (pair_value c d) (spelled rest)
+unfoldable pub bytes_of_hex_pairs : List ℕ → Option (List ℕ)
+bytes_of_hex_pairs [] = Some []
+bytes_of_hex_pairs (c ∷ []) = if c == 32 then Some [] else None
+bytes_of_hex_pairs (c ∷ d ∷ rest) = if c == 32 then bytes_of_hex_pairs (d ∷ rest)
+    else onto_bytes (pair_value c d) (bytes_of_hex_pairs rest)
 
 -- bytes, and then those that a line spells
 unfoldable pub with_spelled : List ℕ → List ℕ → Option (List ℕ)
-with_spelled bytes line = prepend_known bytes (spelled line)
+with_spelled bytes line = prepend_known bytes (bytes_of_hex_pairs line)

@@ -7,18 +7,18 @@ use Rattle.std.specs.List.{list_all}
 use Rattle.std.specs.Str.Parse.{digits_value}
 
 -- digits in this radix, the first the highest
-unfoldable pub number_in : ℕ → List ℕ → Option ℕ
-number_in radix digits =
+unfoldable pub digits_number : ℕ → List ℕ → Option ℕ
+digits_number radix digits =
     if nat_lt 0 (length digits)
     && (list_all (λ c. is_digit c radix) digits && nat_lt (digits_value radix digits) (2 ^ 32))
     then Some (digits_value radix digits) else None
 
 -- a number with one more digit after it, where it stays below 2^32
-abbrev pub with_digit : ℕ → ℕ → ℕ → Option ℕ
-with_digit radix value digit =
+abbrev pub script_number_with_digit : ℕ → ℕ → ℕ → Option ℕ
+script_number_with_digit radix value digit =
     if is_digit digit radix && nat_lt (value * radix + digit_value digit) (2 ^ 32)
     then Some (value * radix + digit_value digit) else None
 
-abbrev pub number_of : List ℕ → Option ℕ
-number_of [] = None
-number_of (c ∷ rest) = if c == 38 then number_in 16 rest else number_in 10 (c ∷ rest)
+abbrev pub script_number : List ℕ → Option ℕ
+script_number [] = None
+script_number (c ∷ rest) = if c == 38 then digits_number 16 rest else digits_number 10 (c ∷ rest)

@@ -5,11 +5,11 @@ use Rattle.std.specs.Prelude.{List, [], ◌∷◌, length, map, take, drop, code
 use Rattle.std.specs.Char.{to_ascii_lowercase}
 use Rattle.std.specs.List.{slice_split}
 use Rattle.std.specs.Str.{bytes_eq}
-use Rattle.image_loader.specs.Entries.{is_name}
-use Rattle.command_shell_lines.specs.Numbers.{number_of}
-use Rattle.command_shell_lines.specs.Operands.{register_named, word_address, origin_of, count_up_to}
-use Rattle.command_shell_lines.specs.declared.requests.Command.{Command}
-use Rattle.command_shell_lines.specs.declared.requests.Command.TheVariants as command
+use Rattle.image_loader.specs.Entries.{can_name_image}
+use Rattle.command_shell_lines.specs.Numbers.{script_number}
+use Rattle.command_shell_lines.specs.Operands.{cpu_register_named, word_address, origin_of, count_up_to}
+use Rattle.command_shell_lines.specs.declared.requests.ScriptCommand.{ScriptCommand}
+use Rattle.command_shell_lines.specs.declared.requests.ScriptCommand.TheVariants as command
 
 pub data Request : Type 0 where
   Nothing : Request
@@ -40,8 +40,8 @@ opens_block (Asm name origin) = true
 opens_block request = false
 
 -- equal but for the case of ASCII letters
-abbrev pub is_word : List ℕ → List ℕ → Bool
-is_word word command = bytes_eq (map to_ascii_lowercase word) (map to_ascii_lowercase command)
+abbrev pub is_same_word : List ℕ → List ℕ → Bool
+is_same_word word command = bytes_eq (map to_ascii_lowercase word) (map to_ascii_lowercase command)
 
 abbrev pub words : List ℕ → List (List ℕ)
 words line = slice_split (λ b. b == 32) line
@@ -50,38 +50,38 @@ words line = slice_split (λ b. b == 32) line
 abbrev pub request_of_word : List ℕ → Request
 request_of_word word =
     if length word == 0 then Nothing else (
-    if is_word word (codes "RUN") then Run else (
-    if is_word word (codes "REGS") then Regs else (
-    if is_word word (codes "AREAS") then Areas else (
-    if is_word word (codes "MODULES") then Modules else (
-    if is_word word (codes "FLEX") then Flex else
+    if is_same_word word (codes "RUN") then Run else (
+    if is_same_word word (codes "REGS") then Regs else (
+    if is_same_word word (codes "AREAS") then Areas else (
+    if is_same_word word (codes "MODULES") then Modules else (
+    if is_same_word word (codes "FLEX") then Flex else
     Unknown)))))
 
 -- a line of a word and a name that an image can have
-abbrev pub named : Bool → Request → Request
-named true request = request
-named false request = Unknown
+abbrev pub request_if_named : Bool → Request → Request
+request_if_named true request = request
+request_if_named false request = Unknown
 
-abbrev pub numbered : Option ℕ → (ℕ → Request) → Request
-numbered (Some n) request = request n
-numbered None request = Unknown
+abbrev pub request_if_number : Option ℕ → (ℕ → Request) → Request
+request_if_number (Some n) request = request n
+request_if_number None request = Unknown
 
 -- a line of a word and a number
 abbrev pub request_of_number : List ℕ → ℕ → Request
 request_of_number word number =
-    if is_word word (codes "CALL") then Call number else (
-    if is_word word (codes "STEP") then Step number else (
-    if is_word word (codes "BREAK") then Break number else (
-    if is_word word (codes "UNBREAK") then Unbreak number else (
-    if is_word word (codes "HEAP") then Heap number else
+    if is_same_word word (codes "CALL") then Call number else (
+    if is_same_word word (codes "STEP") then Step number else (
+    if is_same_word word (codes "BREAK") then Break number else (
+    if is_same_word word (codes "UNBREAK") then Unbreak number else (
+    if is_same_word word (codes "HEAP") then Heap number else
     Unknown))))
 
 -- a line of two words
 abbrev pub request_of_two : List ℕ → List ℕ → Request
 request_of_two word other =
-    if is_word word (codes "HEX") then named (is_name other) (Hex other) else (
-    if is_word word (codes "BOOT") then named (is_name other) (Boot other) else
-    numbered (number_of other) (request_of_number word))
+    if is_same_word word (codes "HEX") then request_if_named (can_name_image other) (Hex other) else (
+    if is_same_word word (codes "BOOT") then request_if_named (can_name_image other) (Boot other) else
+    request_if_number (script_number other) (request_of_number word))
 
 abbrev pub both_numbered : Option ℕ → Option ℕ → (ℕ → ℕ → Request) → Request
 both_numbered (Some n) (Some m) request = request n m
@@ -97,11 +97,15 @@ named_at false name origin = Unknown
 -- a line of three words
 abbrev pub request_of_three : List ℕ → List ℕ → List ℕ → Request
 request_of_three word first second =
-    if is_word word (codes "ASM") then named_at (is_name first) first (origin_of second) else (
-    if is_word word (codes "SET") then both_numbered (register_named first) (number_of second) Set else (
-    if is_word word (codes "POKE") then both_numbered (word_address first) (number_of second) Poke else (
-    if is_word word (codes "MEM") then both_numbered (number_of first) (count_up_to 4096 second) Mem else (
-    if is_word word (codes "CODE") then both_numbered (word_address first) (count_up_to 1024 second) Code else
+    if is_same_word word (codes "ASM") then named_at (can_name_image first) first (origin_of second) else (
+    if is_same_word word (codes "SET") then both_numbered (cpu_register_named first)
+    (script_number second) Set else (
+    if is_same_word word (codes "POKE") then both_numbered (word_address first) (script_number second) Poke
+    else (
+    if is_same_word word (codes "MEM") then both_numbered (script_number first) (count_up_to 4096 second) Mem
+    else (
+    if is_same_word word (codes "CODE") then both_numbered (word_address first) (count_up_to 1024 second) Code
+    else
     Unknown))))
 
 abbrev pub request_of_words : List (List ℕ) → Request
@@ -113,17 +117,17 @@ request_of_words (word ∷ first ∷ second ∷ third ∷ others) = Unknown
 
 -- LOAD has a text of a byte at least: all that follows its space, other spaces too.
 abbrev pub is_load : List ℕ → Bool
-is_load line = nat_lt 5 (length line) && is_word (take 5 line) (codes "LOAD ")
+is_load line = nat_lt 5 (length line) && is_same_word (take 5 line) (codes "LOAD ")
 
 abbrev pub request_of : List ℕ → Request
 request_of line = if is_load line then Load (drop 5 line) else request_of_words (words line)
 
 -- the line that ends a block
-abbrev pub is_end : List ℕ → Bool
-is_end line = is_word line (codes "END")
+abbrev pub is_end_of_block : List ℕ → Bool
+is_end_of_block line = is_same_word line (codes "END")
 
 -- the lines that the code tells apart, as the requests that they stand for
-abbrev pub request_of_command : Command → Request
+abbrev pub request_of_command : ScriptCommand → Request
 request_of_command command.Nothing = Nothing
 request_of_command (command.Hex name) = Hex name.now
 request_of_command (command.Asm name origin) = Asm name.now origin

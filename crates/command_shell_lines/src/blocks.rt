@@ -1,7 +1,7 @@
 //! The lines of a block, after HEX or ASM: read as bytes, or passed over.
 
 ghost use Rattle.std.specs.Prelude.{◌≡◌, ◌+◌, length, take, IfOk, OnOk};
-ghost use Rattle.command_shell_lines.specs.Blocks.{block_lines, after_block, block_size, block_bytes, result_of_block};
+ghost use Rattle.command_shell_lines.specs.Blocks.{block_lines, after_block, lines_in_block, block_bytes, result_of_block};
 
 use crate::hex_pairs::append_spelled;
 use crate::requests::is_block_end;
@@ -20,9 +20,10 @@ pub enum Block {
 /// Reads the lines of a HEX block and the line that ends it. The script's end is an end, too.
 #[tactic(auto, using(crate::proofs::BlockLemmas::block_steps))]
 pub fn read_block(alloc: Global, script: &mut Lines) -> Result<Block, AllocError>
-    ensures block { IfOk result (λ block. result_of_block block ≡ block_bytes 0 (block_lines script.old.left)) }
+    ensures block { IfOk result (λ block. result_of_block block
+        ≡ block_bytes 0 (block_lines script.old.left)) }
     ensures left { OnOk result (script.new.left ≡ after_block script.old.left) }
-    ensures number { OnOk result (script.new.number ≡ script.old.number + block_size script.old.left) }
+    ensures number { OnOk result (script.new.number ≡ script.old.number + lines_in_block script.old.left) }
 {
     let mut bytes = Vec::new(alloc);
     let first = script.number();
@@ -46,7 +47,7 @@ pub fn skip_block(script: &mut Lines) -> usize
     ensures lines { result ≡ length (block_lines script.old.left) }
     ensures front { take result script.old.left ≡ block_lines script.old.left }
     ensures left { script.new.left ≡ after_block script.old.left }
-    ensures number { script.new.number ≡ script.old.number + block_size script.old.left }
+    ensures number { script.new.number ≡ script.old.number + lines_in_block script.old.left }
 {
     let first = script.number();
     while let Some(line) = script.next_line() {

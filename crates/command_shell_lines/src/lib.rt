@@ -11,7 +11,7 @@ mod requests;
 
 pub use blocks::{Block, read_block, skip_block};
 pub use error::ReadingError;
-pub use operands::{Origin, Register, WordAddress};
+pub use operands::{Origin, RegisterNumber, WordAddress};
 pub use reading::read_script;
-pub use requests::{Command, command_of};
+pub use requests::{ScriptCommand, command_of};
 pub use text_lines;

@@ -1,12 +1,12 @@
 //! Numbers of a script, in decimal or after `&` in hexadecimal.
 
 ghost use Rattle.std.specs.Prelude.{◌≡◌, ◌≤◌};
-ghost use Rattle.command_shell_lines.specs.Numbers.{number_in, number_of, with_digit};
+ghost use Rattle.command_shell_lines.specs.Numbers.{digits_number, script_number, script_number_with_digit};
 
 /// The number that a word spells: decimal digits, or `&` and hexadecimal digits in either case.
 /// None for a word without digits, with anything else in it, or of a value of 2^32 and more.
 pub fn number_of(word: &[u8]) -> Option<u32>
-    ensures { result ≡ number_of word.now }
+    ensures { result ≡ script_number word.now }
 {
     match word {
         [] => None,
@@ -20,7 +20,7 @@ pub fn number_of(word: &[u8]) -> Option<u32>
 fn number_in(digits: &[u8], radix: u32) -> Option<u32>
     requires low { 2 ≤ radix }
     requires high { radix ≤ 36 }
-    ensures { result ≡ number_in radix digits.now }
+    ensures { result ≡ digits_number radix digits.now }
 {
     if digits.is_empty() {
         return None;
@@ -36,7 +36,7 @@ fn number_in(digits: &[u8], radix: u32) -> Option<u32>
 fn with_digit(value: u32, digit: u8, radix: u32) -> Option<u32>
     requires low { 2 ≤ radix }
     requires high { radix ≤ 36 }
-    ensures { result ≡ with_digit radix value digit }
+    ensures { result ≡ script_number_with_digit radix value digit }
 {
     let digit = (digit as char).to_digit(radix)?;
     value.checked_mul(radix)?.checked_add(digit)

@@ -1,7 +1,7 @@
 //! What the words after a command stand for.
 
 ghost use Rattle.std.specs.Prelude.{◌≡◌, ◌≤◌, ◌<◌, ◌%◌, ◌^◌, ℕ};
-ghost use Rattle.command_shell_lines.specs.Operands.{register_named, word_address, origin_of, count_up_to};
+ghost use Rattle.command_shell_lines.specs.Operands.{cpu_register_named, word_address, origin_of, count_up_to};
 
 use crate::numbers::number_of;
 use profile::memory_map::ADDRESS_LIMIT;
@@ -9,11 +9,11 @@ use std::marker::Model;
 
 /// A register that a script can set: R0 to R14.
 #[derive(Clone, Copy, Debug)]
-pub struct Register {
+pub struct RegisterNumber {
     number: u32,
 }
 
-impl Model for Register {
+impl Model for RegisterNumber {
     ghost Value = { ℕ };
 
     ghost view = { λ r. r.number };
@@ -23,16 +23,16 @@ impl Model for Register {
     ghost inverse = { λ n. record { number = n } };
 }
 
-impl Register {
+impl RegisterNumber {
     /// The register of that name, `R0` to `R14`.
-    pub fn named(word: &[u8]) -> Option<Register>
-        ensures { result ≡ register_named word.now }
+    pub fn named(word: &[u8]) -> Option<RegisterNumber>
+        ensures { result ≡ cpu_register_named word.now }
     {
         match word {
-            [b'R', digit @ b'0'..=b'9'] => Some(Register {
+            [b'R', digit @ b'0'..=b'9'] => Some(RegisterNumber {
                 number: u32::from(*digit - b'0'),
             }),
-            [b'R', b'1', digit @ b'0'..=b'4'] => Some(Register {
+            [b'R', b'1', digit @ b'0'..=b'4'] => Some(RegisterNumber {
                 number: 10 + u32::from(*digit - b'0'),
             }),
             _ => None,

@@ -1,16 +1,16 @@
 //! What each line of a script asks for.
 
 ghost use Rattle.std.specs.Prelude.{◌≡◌, ◌<◌, true, [], ◌∷◌, length};
-ghost use Rattle.command_shell_lines.specs.Numbers.{number_of};
-ghost use Rattle.command_shell_lines.specs.Operands.{register_named, word_address, origin_of, count_up_to};
+ghost use Rattle.command_shell_lines.specs.Numbers.{script_number};
+ghost use Rattle.command_shell_lines.specs.Operands.{cpu_register_named, word_address, origin_of, count_up_to};
 ghost use Rattle.command_shell_lines.specs.Requests.{Hex, Boot, Set, Poke, Mem, Code};
-ghost use Rattle.command_shell_lines.specs.Requests.{is_word, is_end, is_load, words, named, named_at, both_numbered};
+ghost use Rattle.command_shell_lines.specs.Requests.{is_same_word, is_end_of_block, is_load, words, request_if_named, named_at, both_numbered};
 ghost use Rattle.command_shell_lines.specs.Requests.{request_of, request_of_word, request_of_number, request_of_two};
 ghost use Rattle.command_shell_lines.specs.Requests.{request_of_three, request_of_words, request_of_command};
-ghost use Rattle.image_loader.specs.Entries.{is_name};
+ghost use Rattle.image_loader.specs.Entries.{can_name_image};
 
 use crate::numbers::number_of;
-use crate::operands::{Origin, Register, WordAddress, count_up_to};
+use crate::operands::{Origin, RegisterNumber, WordAddress, count_up_to};
 use image_loader::is_image_name;
 use text_lines::cut;
 
@@ -25,7 +25,7 @@ const LOAD: &[u8] = b"LOAD ";
 
 /// What a line of a script asks for.
 #[derive(Clone, Copy, Debug)]
-pub enum Command<'a> {
+pub enum ScriptCommand<'a> {
     /// An empty line.
     Nothing,
     /// `HEX name`, which opens a block.
@@ -39,7 +39,7 @@ pub enum Command<'a> {
     /// `REGS`.
     Regs,
     /// `SET Rn v`.
-    Set(Register, u32),
+    Set(RegisterNumber, u32),
     /// `POKE a v`.
     Poke(WordAddress, u32),
     /// `CALL n`.
@@ -70,11 +70,11 @@ pub enum Command<'a> {
 
 /// Reads a line. Words are parted by single spaces, but the text of LOAD is all that follows; a
 /// command may be in upper or lower case.
-pub fn command_of(line: &[u8]) -> Command<'_>
+pub fn command_of(line: &[u8]) -> ScriptCommand<'_>
     ensures { request_of_command result ≡ request_of line.now }
 {
     if is_load(line) {
-        Command::Load(&line[LOAD.len()..])
+        ScriptCommand::Load(&line[LOAD.len()..])
     } else {
         command_of_line(line)
     }
@@ -89,7 +89,7 @@ fn is_load(line: &[u8]) -> bool
 }
 
 // A line of words.
-fn command_of_line(line: &[u8]) -> Command<'_>
+fn command_of_line(line: &[u8]) -> ScriptCommand<'_>
     ensures { request_of_command result ≡ request_of_words (words line.now) }
 {
     let (word, rest) = cut(line, b' ');
@@ -101,32 +101,32 @@ fn command_of_line(line: &[u8]) -> Command<'_>
 
 /// Whether the line ends a block.
 pub fn is_block_end(line: &[u8]) -> bool
-    ensures { result ≡ is_end line.now }
+    ensures { result ≡ is_end_of_block line.now }
 {
     has_letters(line, b"END")
 }
 
-fn command_of_word(word: &[u8]) -> Command<'static>
+fn command_of_word(word: &[u8]) -> ScriptCommand<'static>
     ensures { request_of_command result ≡ request_of_word word.now }
 {
     if word.is_empty() {
-        Command::Nothing
+        ScriptCommand::Nothing
     } else if has_letters(word, b"RUN") {
-        Command::Run
+        ScriptCommand::Run
     } else if has_letters(word, b"REGS") {
-        Command::Regs
+        ScriptCommand::Regs
     } else if has_letters(word, b"AREAS") {
-        Command::Areas
+        ScriptCommand::Areas
     } else if has_letters(word, b"MODULES") {
-        Command::Modules
+        ScriptCommand::Modules
     } else if has_letters(word, b"FLEX") {
-        Command::Flex
+        ScriptCommand::Flex
     } else {
-        Command::Unknown
+        ScriptCommand::Unknown
     }
 }
 
-fn command_of_words<'a>(word: &[u8], rest: &'a [u8]) -> Command<'a>
+fn command_of_words<'a>(word: &[u8], rest: &'a [u8]) -> ScriptCommand<'a>
     ensures { request_of_command result ≡ request_of_words (word.now ∷ words rest.now) }
 {
     let (other, more) = cut(rest, b' ');
@@ -136,17 +136,17 @@ fn command_of_words<'a>(word: &[u8], rest: &'a [u8]) -> Command<'a>
     }
 }
 
-fn command_of_more<'a>(word: &[u8], first: &'a [u8], rest: &[u8]) -> Command<'a>
+fn command_of_more<'a>(word: &[u8], first: &'a [u8], rest: &[u8]) -> ScriptCommand<'a>
     ensures { request_of_command result ≡ request_of_words (word.now ∷ first.now ∷ words rest.now) }
 {
     let (second, more) = cut(rest, b' ');
     match more {
-        Some(_) => Command::Unknown,
+        Some(_) => ScriptCommand::Unknown,
         None => command_of_three(word, first, second),
     }
 }
 
-fn command_of_two<'a>(word: &[u8], other: &'a [u8]) -> Command<'a>
+fn command_of_two<'a>(word: &[u8], other: &'a [u8]) -> ScriptCommand<'a>
     ensures { request_of_command result ≡ request_of_two word.now other.now }
 {
     if has_letters(word, b"HEX") {
@@ -156,30 +156,30 @@ fn command_of_two<'a>(word: &[u8], other: &'a [u8]) -> Command<'a>
     } else {
         match number_of(other) {
             Some(number) => command_of_number(word, number),
-            None => Command::Unknown,
+            None => ScriptCommand::Unknown,
         }
     }
 }
 
-fn command_of_number(word: &[u8], number: u32) -> Command<'static>
+fn command_of_number(word: &[u8], number: u32) -> ScriptCommand<'static>
     ensures { request_of_command result ≡ request_of_number word.now number }
 {
     if has_letters(word, b"CALL") {
-        Command::Call(number)
+        ScriptCommand::Call(number)
     } else if has_letters(word, b"STEP") {
-        Command::Step(number)
+        ScriptCommand::Step(number)
     } else if has_letters(word, b"BREAK") {
-        Command::Break(number)
+        ScriptCommand::Break(number)
     } else if has_letters(word, b"UNBREAK") {
-        Command::Unbreak(number)
+        ScriptCommand::Unbreak(number)
     } else if has_letters(word, b"HEAP") {
-        Command::Heap(number)
+        ScriptCommand::Heap(number)
     } else {
-        Command::Unknown
+        ScriptCommand::Unknown
     }
 }
 
-fn command_of_three<'a>(word: &[u8], first: &'a [u8], second: &[u8]) -> Command<'a>
+fn command_of_three<'a>(word: &[u8], first: &'a [u8], second: &[u8]) -> ScriptCommand<'a>
     ensures { request_of_command result ≡ request_of_three word.now first.now second.now }
 {
     if has_letters(word, b"ASM") {
@@ -193,70 +193,70 @@ fn command_of_three<'a>(word: &[u8], first: &'a [u8], second: &[u8]) -> Command<
     } else if has_letters(word, b"CODE") {
         code_command(first, second)
     } else {
-        Command::Unknown
+        ScriptCommand::Unknown
     }
 }
 
-fn hex_command(name: &[u8]) -> Command<'_>
-    ensures { request_of_command result ≡ named (is_name name.now) (Hex name.now) }
+fn hex_command(name: &[u8]) -> ScriptCommand<'_>
+    ensures { request_of_command result ≡ request_if_named (can_name_image name.now) (Hex name.now) }
 {
     if is_image_name(name) {
-        Command::Hex(name)
+        ScriptCommand::Hex(name)
     } else {
-        Command::Unknown
+        ScriptCommand::Unknown
     }
 }
 
-fn asm_command<'a>(name: &'a [u8], origin: &[u8]) -> Command<'a>
-    ensures { request_of_command result ≡ named_at (is_name name.now) name.now (origin_of origin.now) }
+fn asm_command<'a>(name: &'a [u8], origin: &[u8]) -> ScriptCommand<'a>
+    ensures { request_of_command result ≡ named_at (can_name_image name.now) name.now (origin_of origin.now) }
 {
     match Origin::spelled(origin) {
-        Some(origin) if is_image_name(name) => Command::Asm(name, origin),
-        _ => Command::Unknown,
+        Some(origin) if is_image_name(name) => ScriptCommand::Asm(name, origin),
+        _ => ScriptCommand::Unknown,
     }
 }
 
-fn boot_command(name: &[u8]) -> Command<'_>
-    ensures { request_of_command result ≡ named (is_name name.now) (Boot name.now) }
+fn boot_command(name: &[u8]) -> ScriptCommand<'_>
+    ensures { request_of_command result ≡ request_if_named (can_name_image name.now) (Boot name.now) }
 {
     if is_image_name(name) {
-        Command::Boot(name)
+        ScriptCommand::Boot(name)
     } else {
-        Command::Unknown
+        ScriptCommand::Unknown
     }
 }
 
-fn set_command(register: &[u8], value: &[u8]) -> Command<'static>
+fn set_command(register: &[u8], value: &[u8]) -> ScriptCommand<'static>
     ensures { request_of_command result
-        ≡ both_numbered (register_named register.now) (number_of value.now) Set }
+        ≡ both_numbered (cpu_register_named register.now) (script_number value.now) Set }
 {
-    match (Register::named(register), number_of(value)) {
-        (Some(register), Some(value)) => Command::Set(register, value),
-        _ => Command::Unknown,
+    match (RegisterNumber::named(register), number_of(value)) {
+        (Some(register), Some(value)) => ScriptCommand::Set(register, value),
+        _ => ScriptCommand::Unknown,
     }
 }
 
-fn poke_command(address: &[u8], value: &[u8]) -> Command<'static>
+fn poke_command(address: &[u8], value: &[u8]) -> ScriptCommand<'static>
     ensures { request_of_command result
-        ≡ both_numbered (word_address address.now) (number_of value.now) Poke }
+        ≡ both_numbered (word_address address.now) (script_number value.now) Poke }
 {
     match (WordAddress::spelled(address), number_of(value)) {
-        (Some(address), Some(value)) => Command::Poke(address, value),
-        _ => Command::Unknown,
+        (Some(address), Some(value)) => ScriptCommand::Poke(address, value),
+        _ => ScriptCommand::Unknown,
     }
 }
 
-fn mem_command(address: &[u8], count: &[u8]) -> Command<'static>
+fn mem_command(address: &[u8], count: &[u8]) -> ScriptCommand<'static>
     ensures { request_of_command result
-        ≡ both_numbered (number_of address.now) (count_up_to 4096 count.now) Mem }
+        ≡ both_numbered (script_number address.now) (count_up_to 4096 count.now) Mem }
 {
     match (number_of(address), count_up_to(MAX_BYTES_SHOWN, count)) {
-        (Some(address), Some(count)) => Command::Mem(address, count),
-        _ => Command::Unknown,
+        (Some(address), Some(count)) => ScriptCommand::Mem(address, count),
+        _ => ScriptCommand::Unknown,
     }
 }
 
-fn code_command(address: &[u8], count: &[u8]) -> Command<'static>
+fn code_command(address: &[u8], count: &[u8]) -> ScriptCommand<'static>
     ensures { request_of_command result
         ≡ both_numbered (word_address address.now) (count_up_to 1024 count.now) Code }
 {
@@ -264,14 +264,14 @@ fn code_command(address: &[u8], count: &[u8]) -> Command<'static>
         WordAddress::spelled(address),
         count_up_to(MAX_WORDS_SHOWN, count),
     ) {
-        (Some(address), Some(count)) => Command::Code(address, count),
-        _ => Command::Unknown,
+        (Some(address), Some(count)) => ScriptCommand::Code(address, count),
+        _ => ScriptCommand::Unknown,
     }
 }
 
 // The same letters in either case.
 fn has_letters(word: &[u8], letters: &[u8]) -> bool
-    ensures { result ≡ is_word word.now letters.now }
+    ensures { result ≡ is_same_word word.now letters.now }
 {
     word.eq_ignore_ascii_case(letters)
 }

@@ -6,9 +6,9 @@ use Rattle.swi_dispatch.specs.flex_store.specs.Listed.{all_listed}
 use Rattle.swi_dispatch.specs.flex_store.specs.State.{flex_in}
 use Rattle.swi_dispatch.specs.flex_store.specs.declared.blocks.FlexBlock.{FlexBlock}
 use Rattle.swi_dispatch.specs.flex_store.specs.declared.flex.Flex.{Flex}
-use Rattle.debugger.specs.Flex.{blocks_text, extent_text, flex_text, range_text}
+use Rattle.debugger.specs.Flex.{flex_blocks_text, flex_extent_text, flex_text, range_text}
 
 pub shown : (m : AddressMap) (f : Flex) (start end used : ℕ) → f.extent ≡ Some (record { start = start; end = end; used = used })
     → (blocks : List FlexBlock) → blocks ≡ all_listed (flex_in m f.extent)
-    → flex_text (bytes_of m) f ≡ Some (range_text start end used ++ blocks_text blocks)
+    → flex_text (bytes_of m) f ≡ Some (range_text start end used ++ flex_blocks_text blocks)
 shown m f start end used e blocks is = rw (is, e) refl

@@ -14,7 +14,7 @@ use Rattle.swi_dispatch.specs.os_heap_lists.specs.Heap.{HeapList, IsHeapIn}
 use Rattle.swi_dispatch.specs.os_heap.specs.Calls.{items_of}
 use Rattle.swi_dispatch.specs.os_heap.specs.Store.{Store, store_of, find_heap, IsSound}
 use Rattle.swi_dispatch.specs.os_heap.proofs.Found.{found_heap, found_start}
-use Rattle.debugger.specs.Heap.{limits_text, item_text, items_text, heap_text, blocks_text}
+use Rattle.debugger.specs.Heap.{limits_text, heap_item_text, heap_items_text, heap_text, heap_blocks_text}
 
 -- the heap that was found at an address: memory spells it, and it lies below 2^26
 record IsThere (m : AddressMap) (heap : ℕ) (h : HeapList) : Type 0 where
@@ -88,7 +88,7 @@ if_then (Some part) P Q h then = then part h
 pub record IsShown (m : AddressMap) (heap : ℕ) (items : List Item) : Type 0 where
   pub part : HeapList
   pub found : find_heap heap (store_of m).heaps ≡ Some part
-  pub text : blocks_text (store_of m) heap ≡ Some (limits_text heap (16 + size_of part.items) part.end ++ items_text (heap + 16) items)
+  pub text : heap_blocks_text (store_of m) heap ≡ Some (limits_text heap (16 + size_of part.items) part.end ++ heap_items_text (heap + 16) items)
   pub below : heap + 16 + size_of items ≤ 2 ^ 26
 
 found_by : (o : Option HeapList) (items : List Item) → option_map (λ (h : HeapList). h.items) o ≡ Some items → (h : HeapList) × (o ≡ Some h) × (h.items ≡ items)
@@ -96,7 +96,7 @@ found_by None items e = absurd (cc)
 found_by (Some h) items e = (h, refl, cc)
 
 pub shown : (m : AddressMap) (heap : ℕ) (items : List Item) → IsSound (store_of m) → items_of (store_of m) heap ≡ Some items → IsShown m heap items
-unfolding items_of blocks_text heap_text
+unfolding items_of heap_blocks_text heap_text
 shown m heap items sound e =
     let part = found_by (find_heap heap (store_of m).heaps) items e in
     let is : IsThere m heap part.0 = there m heap part.0 sound part.1 in
@@ -107,8 +107,8 @@ shown m heap items sound e =
       part = part.0;
       found = part.1;
       text = ap (option_map heap_text) part.1
-          ∙ ap (λ (n : ℕ). Some (limits_text n (16 + size_of part.0.items) part.0.end ++ items_text (n + 16) part.0.items)) is.start
-          ∙ ap (λ (xs : List Item). Some (limits_text heap (16 + size_of part.0.items) part.0.end ++ items_text (heap + 16) xs)) part.2;
+          ∙ ap (λ (n : ℕ). Some (limits_text n (16 + size_of part.0.items) part.0.end ++ heap_items_text (n + 16) part.0.items)) is.start
+          ∙ ap (λ (xs : List Item). Some (limits_text heap (16 + size_of part.0.items) part.0.end ++ heap_items_text (heap + 16) xs)) part.2;
       below = omega (arith, same, inside, below);
     }
 
@@ -116,17 +116,17 @@ nothing_by : (o : Option HeapList) → option_map (λ (h : HeapList). h.items) o
 nothing_by None e = refl
 nothing_by (Some h) e = absurd (cc)
 
-pub not_shown : (s : Store) (heap : ℕ) → items_of s heap ≡ None → blocks_text s heap ≡ None
-unfolding items_of blocks_text
+pub not_shown : (s : Store) (heap : ℕ) → items_of s heap ≡ None → heap_blocks_text s heap ≡ None
+unfolding items_of heap_blocks_text
 not_shown s heap e = nothing_by (find_heap heap s.heaps) e
 
-pub no_items : (at : ℕ) → items_text at [] ≡ []
-unfolding items_text
+pub no_items : (at : ℕ) → heap_items_text at [] ≡ []
+unfolding heap_items_text
 no_items at = refl
 
 pub next_item : (at next : ℕ) (item : Item) (rest : List Item) → next ≡ at + total_of item
-    → items_text at (item ∷ rest) ≡ item_text at item ++ items_text next rest
-unfolding items_text
+    → heap_items_text at (item ∷ rest) ≡ heap_item_text at item ++ heap_items_text next rest
+unfolding heap_items_text
 next_item at next item rest e = rw e refl
 
 pub ruleset item_steps = (AddsAllBut-start, AddsAllBut-more, AddsAllBut-same, Appends-from_all_but, no_items, next_item)

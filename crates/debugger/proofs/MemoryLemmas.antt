@@ -3,17 +3,17 @@ use Rattle.std.proofs.Common.{◌≡◌, ℕ, suc, ◌+◌, ◌-◌, ◌/◌, �
 use Rattle.std.specs.Prelude.{min}
 use Rattle.profile.proofs.OutputLemmas.{AddsAllBut-start, AddsAllBut-more, AddsAllBut-same, Appends-from_all_but}
 use Rattle.address_map.specs.Bytes.{Bytes}
-use Rattle.debugger.specs.Memory.{further, byte_text, bytes_text, line_text, lines_text, memory_text}
+use Rattle.debugger.specs.Memory.{address_further, byte_text, bytes_text, line_text, lines_text, memory_text}
 
 pub no_bytes : (b : Bytes) (at left : ℕ) → left ≡ 0 → bytes_text b at left ≡ []
 unfolding bytes_text
 no_bytes b at left e = rw e refl
 
-one_byte : (b : Bytes) (at more : ℕ) → bytes_text b at (suc more) ≡ byte_text b at ++ bytes_text b (further at 1) more
+one_byte : (b : Bytes) (at more : ℕ) → bytes_text b at (suc more) ≡ byte_text b at ++ bytes_text b (address_further at 1) more
 unfolding bytes_text
 one_byte b at more = refl
 
-pub next_byte : (b : Bytes) (at next left : ℕ) → 0 < left → next ≡ further at 1
+pub next_byte : (b : Bytes) (at next left : ℕ) → 0 < left → next ≡ address_further at 1
     → bytes_text b at left ≡ byte_text b at ++ bytes_text b next (left - 1)
 next_byte b at next left some e =
     let split : left ≡ suc (left - 1) = omega arith in
@@ -28,11 +28,11 @@ unfolding memory_text lines_text
 no_lines b at left e = rw e refl
 
 one_line : (b : Bytes) (at left more : ℕ)
-    → lines_text (suc more) b at left ≡ line_text b at (min left 16) ++ lines_text more b (further at 16) (left - 16)
+    → lines_text (suc more) b at left ≡ line_text b at (min left 16) ++ lines_text more b (address_further at 16) (left - 16)
 unfolding lines_text
 one_line b at left more = refl
 
-pub next_line : (b : Bytes) (at next left : ℕ) → 0 < left → next ≡ further at 16
+pub next_line : (b : Bytes) (at next left : ℕ) → 0 < left → next ≡ address_further at 16
     → memory_text b at left ≡ line_text b at (min left 16) ++ memory_text b next (left - 16)
 unfolding memory_text
 next_line b at next left some e =

@@ -8,13 +8,14 @@ use Rattle.profile.specs.Digits.{hex_word}
 use Rattle.swi_dispatch.specs.dynamic_areas.specs.declared.area.Area.{Area}
 
 -- ` size 65536 max 4194304`
-abbrev pub extent_text : Area → List ℕ
-extent_text a = codes " size " ++ (decimal (4096 * a.pages) ++ (codes " max " ++ decimal a.maximum))
+abbrev pub area_extent_text : Area → List ℕ
+area_extent_text a = codes " size " ++ (decimal (4096 * a.pages) ++ (codes " max " ++ decimal a.maximum))
 
 -- `area 1 base 01800000 size 65536 max 4194304 RMA`
 abbrev pub area_text : Area → List ℕ
 area_text a =
-    codes "area " ++ (decimal a.number ++ (codes " base " ++ (hex_word a.base ++ (extent_text a ++ (codes " " ++ (a.name.items ++ codes "\n"))))))
+    codes "area " ++ (decimal a.number ++ (codes " base "
+    ++ (hex_word a.base ++ (area_extent_text a ++ (codes " " ++ (a.name.items ++ codes "\n"))))))
 
 -- `pool 173 pages`
 abbrev pub pool_text : ℕ → List ℕ

@@ -6,8 +6,8 @@ use Rattle.profile.specs.declared.fault.Fault.{Fault}
 use Rattle.address_map.specs.Bytes.{Bytes, word_loaded}
 use Rattle.assembler_text.specs.Printing.{print}
 
-abbrev pub address_text : ℕ → List ℕ
-address_text a = hex_word a ++ codes " "
+abbrev pub line_address_text : ℕ → List ℕ
+line_address_text a = hex_word a ++ codes " "
 
 -- `E3A00001 MOV R0,#&1`
 abbrev pub word_text : ℕ → ℕ → List ℕ
@@ -18,7 +18,7 @@ word_or_unmapped a (Ok w) = word_text a w
 word_or_unmapped a (Err f) = codes "-------- unmapped\n"
 
 abbrev pub code_line : Bytes → ℕ → List ℕ
-code_line b a = address_text a ++ word_or_unmapped a (word_loaded b a)
+code_line b a = line_address_text a ++ word_or_unmapped a (word_loaded b a)
 
 -- the lines of so many words from an address on
 abbrev pub code_text : Bytes → ℕ → ℕ → List ℕ

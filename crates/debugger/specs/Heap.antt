@@ -15,7 +15,8 @@ use Rattle.swi_dispatch.specs.os_heap.specs.Store.{Store, find_heap}
 -- `heap 00009000 base 40 end 256`
 abbrev pub limits_text : ℕ → ℕ → ℕ → List ℕ
 limits_text start base end =
-    codes "heap " ++ (hex_word start ++ (codes " base " ++ (decimal base ++ (codes " end " ++ (decimal end ++ codes "\n")))))
+    codes "heap " ++ (hex_word start ++ (codes " base "
+    ++ (decimal base ++ (codes " end " ++ (decimal end ++ codes "\n")))))
 
 -- `live` or `free`
 abbrev pub use_text : Item → List ℕ
@@ -23,17 +24,19 @@ use_text (Live total) = codes "live "
 use_text (Free total) = codes "free "
 
 -- `live 00009010 24`
-abbrev pub item_text : ℕ → Item → List ℕ
-item_text address item = use_text item ++ (hex_word address ++ (codes " " ++ (decimal (total_of item) ++ codes "\n")))
+abbrev pub heap_item_text : ℕ → Item → List ℕ
+heap_item_text address item = use_text item ++ (hex_word address
+    ++ (codes " " ++ (decimal (total_of item) ++ codes "\n")))
 
 -- items, the first of them at the address
-unfoldable pub items_text : ℕ → List Item → List ℕ
-items_text address [] = []
-items_text address (item ∷ items) = item_text address item ++ items_text (address + total_of item) items
+unfoldable pub heap_items_text : ℕ → List Item → List ℕ
+heap_items_text address [] = []
+heap_items_text address (item ∷ items) = heap_item_text address item
+    ++ heap_items_text (address + total_of item) items
 
 unfoldable pub heap_text : HeapList → List ℕ
-heap_text h = limits_text h.start (16 + size_of h.items) h.end ++ items_text (h.start + 16) h.items
+heap_text h = limits_text h.start (16 + size_of h.items) h.end ++ heap_items_text (h.start + 16) h.items
 
 -- the heap that starts at an address, if one does
-unfoldable pub blocks_text : Store → ℕ → Option (List ℕ)
-blocks_text s heap = option_map heap_text (find_heap heap s.heaps)
+unfoldable pub heap_blocks_text : Store → ℕ → Option (List ℕ)
+heap_blocks_text s heap = option_map heap_text (find_heap heap s.heaps)

@@ -15,13 +15,13 @@ loaded_text (Err fault) = codes "--"
 abbrev pub byte_text : Bytes → ℕ → List ℕ
 byte_text b address = codes " " ++ loaded_text (byte_loaded b address)
 
-abbrev pub further : ℕ → ℕ → ℕ
-further address count = (address + count) % 2 ^ 32
+abbrev pub address_further : ℕ → ℕ → ℕ
+address_further address count = (address + count) % 2 ^ 32
 
 -- so many bytes from an address on
 unfoldable pub bytes_text : Bytes → ℕ → ℕ → List ℕ
 bytes_text b address zero = []
-bytes_text b address (suc count) = byte_text b address ++ bytes_text b (further address 1) count
+bytes_text b address (suc count) = byte_text b address ++ bytes_text b (address_further address 1) count
 
 abbrev pub line_text : Bytes → ℕ → ℕ → List ℕ
 line_text b address count = hex_word address ++ (codes ":" ++ (bytes_text b address count ++ codes "\n"))
@@ -30,7 +30,7 @@ line_text b address count = hex_word address ++ (codes ":" ++ (bytes_text b addr
 unfoldable pub lines_text : ℕ → Bytes → ℕ → ℕ → List ℕ
 lines_text zero b address count = []
 lines_text (suc lines) b address count =
-    line_text b address (min count 16) ++ lines_text lines b (further address 16) (count - 16)
+    line_text b address (min count 16) ++ lines_text lines b (address_further address 16) (count - 16)
 
 -- the `count` bytes from an address on
 unfoldable pub memory_text : Bytes → ℕ → ℕ → List ℕ

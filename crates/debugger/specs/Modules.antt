@@ -21,14 +21,15 @@ one_text text (Some x) = text x
 -- `module Title at 01800014 length 47`
 abbrev pub module_line : ModuleInfo → List ℕ
 module_line m =
-    codes "module " ++ (m.title.items ++ (codes " at " ++ (hex_word m.image ++ (codes " length " ++ (decimal m.len ++ codes "\n")))))
+    codes "module " ++ (m.title.items ++ (codes " at " ++ (hex_word m.image
+    ++ (codes " length " ++ (decimal m.len ++ codes "\n")))))
 
 -- the private word of a slot, and its value
-abbrev pub private_word : ℕ → ℕ
-private_word slot = 0x01C02000 + 4 * slot
+abbrev pub private_word_address : ℕ → ℕ
+private_word_address slot = 0x01C02000 + 4 * slot
 
 abbrev pub private_value : Bytes → ℕ → ℕ
-private_value b slot = result_unwrap_or (word_loaded b (private_word slot)) 0
+private_value b slot = result_unwrap_or (word_loaded b (private_word_address slot)) 0
 
 abbrev pub preferred_text : Bool → List ℕ
 preferred_text true = codes " preferred\n"
@@ -37,7 +38,8 @@ preferred_text false = codes "\n"
 -- `  Base word 01C02000 00000000 preferred`
 abbrev pub instance_line : Bytes → InstanceInfo → List ℕ
 instance_line b i =
-    codes "  " ++ (i.name.items ++ (codes " word " ++ (hex_word (private_word i.slot) ++ (codes " " ++ (hex_word (private_value b i.slot) ++ preferred_text i.preferred)))))
+    codes "  " ++ (i.name.items ++ (codes " word " ++ (hex_word (private_word_address i.slot)
+    ++ (codes " " ++ (hex_word (private_value b i.slot) ++ preferred_text i.preferred)))))
 
 abbrev pub instances_text : Bytes → Module → List ℕ
 instances_text b m = flat_map (λ (i : Instance). instance_line b (told_of_instance m i)) m.instances

@@ -11,16 +11,16 @@ use Rattle.swi_dispatch.specs.arm_core.specs.State.{State, register_of}
 abbrev pub register_label : ℕ → List ℕ
 register_label n = if nat_lt n 10 then 82 ∷ (n + 48) ∷ 32 ∷ 32 ∷ [] else 82 ∷ 49 ∷ (n + 38) ∷ 32 ∷ []
 
-abbrev pub register_text : State → ℕ → List ℕ
-register_text s n = hex_word (register_of s n)
+abbrev pub register_value_text : State → ℕ → List ℕ
+register_value_text s n = hex_word (register_of s n)
 
 -- four registers from the n-th on
 unfoldable pub row_text : State → ℕ → List ℕ
 row_text s n =
-    register_label n ++ (register_text s n ++ (codes " " ++
-    (register_label (n + 1) ++ (register_text s (n + 1) ++ (codes " " ++
-    (register_label (n + 2) ++ (register_text s (n + 2) ++ (codes " " ++
-    (register_label (n + 3) ++ (register_text s (n + 3) ++ codes "\n"))))))))))
+    register_label n ++ (register_value_text s n ++ (codes " " ++
+    (register_label (n + 1) ++ (register_value_text s (n + 1) ++ (codes " " ++
+    (register_label (n + 2) ++ (register_value_text s (n + 2) ++ (codes " " ++
+    (register_label (n + 3) ++ (register_value_text s (n + 3) ++ codes "\n"))))))))))
 
 abbrev pub mode_text : Mode → List ℕ
 mode_text User = codes "USR"
@@ -33,11 +33,13 @@ abbrev pub flag_letter : Bool → ℕ → ℕ
 flag_letter is_set letter = if is_set then letter else letter + 32
 
 abbrev pub flag_letters : Psr → List ℕ
-flag_letters p = flag_letter p.negative 78 ∷ flag_letter p.zero 90 ∷ flag_letter p.carry 67 ∷ flag_letter p.overflow 86
+flag_letters p = flag_letter p.negative 78 ∷ flag_letter p.zero 90 ∷ flag_letter p.carry 67
+    ∷ flag_letter p.overflow 86
     ∷ flag_letter p.interrupts_off 73 ∷ flag_letter p.fast_interrupts_off 70 ∷ []
 
 unfoldable pub status_text : Psr → List ℕ
 status_text p = codes "PSR " ++ (flag_letters p ++ (codes " " ++ (mode_text p.mode ++ codes "\n")))
 
-abbrev pub registers_text : State → List ℕ
-registers_text s = row_text s 0 ++ (row_text s 4 ++ (row_text s 8 ++ (row_text s 12 ++ status_text s.psr)))
+abbrev pub cpu_registers_text : State → List ℕ
+cpu_registers_text s = row_text s 0 ++ (row_text s 4 ++ (row_text s 8
+    ++ (row_text s 12 ++ status_text s.psr)))

@@ -3,7 +3,7 @@
 ghost use Rattle.std.specs.List.{flat_map};
 ghost use Rattle.profile.specs.Output.{Writes};
 ghost use Rattle.swi_dispatch.specs.Parts.{state_of};
-ghost use Rattle.debugger.specs.Areas.{area_text, areas_text, extent_text, pool_text};
+ghost use Rattle.debugger.specs.Areas.{area_text, areas_text, area_extent_text, pool_text};
 
 use itoa::Buffer;
 use profile::memory_map::PAGE_SIZE;
@@ -55,7 +55,7 @@ fn show_area<W: Sink>(area: &Area, sink: &mut W) -> Result<(), WriteFault>
 
 // The size of an area and its maximum.
 fn show_extent<W: Sink>(area: &Area, sink: &mut W) -> Result<(), WriteFault>
-    ensures { Writes W.contents W.has_failed sink.old sink.new result (extent_text area.now) }
+    ensures { Writes W.contents W.has_failed sink.old sink.new result (area_extent_text area.now) }
 {
     let mut size = Buffer::new();
     let mut maximum = Buffer::new();

@@ -3,7 +3,7 @@
 ghost use Rattle.address_map.specs.Memory.{bytes_of};
 ghost use Rattle.profile.specs.Output.{Writes};
 ghost use Rattle.swi_dispatch.specs.Parts.{state_of};
-ghost use Rattle.debugger.specs.Code.{address_text, code_line, code_text, word_text};
+ghost use Rattle.debugger.specs.Code.{line_address_text, code_line, code_text, word_text};
 
 use address_map::AddressMap;
 use assembler_text::disassemble;
@@ -31,7 +31,8 @@ fn show_words<W: Sink>(
     count: u32,
     sink: &mut W,
 ) -> Result<(), WriteFault>
-    ensures { Writes W.contents W.has_failed sink.old sink.new result (code_text (bytes_of memory.now) address count) }
+    ensures { Writes W.contents W.has_failed sink.old sink.new result
+        (code_text (bytes_of memory.now) address count) }
 {
     let mut at = address;
     for _words in 0..count {
@@ -42,7 +43,8 @@ fn show_words<W: Sink>(
 }
 
 fn show_line<W: Sink>(memory: &AddressMap, address: u32, sink: &mut W) -> Result<(), WriteFault>
-    ensures { Writes W.contents W.has_failed sink.old sink.new result (code_line (bytes_of memory.now) address) }
+    ensures { Writes W.contents W.has_failed sink.old sink.new result
+        (code_line (bytes_of memory.now) address) }
 {
     push_parts(sink, &[HexText::word(address).as_slice(), b" ".as_slice()])?;
     match memory.load_word(address) {

@@ -6,7 +6,7 @@ ghost use Rattle.swi_dispatch.specs.flex_store.specs.Listed.{all_listed};
 ghost use Rattle.swi_dispatch.specs.flex_store.specs.State.{flex_in, IsFlex};
 ghost use Rattle.profile.specs.Output.{Writes};
 ghost use Rattle.swi_dispatch.specs.Parts.{state_of};
-ghost use Rattle.debugger.specs.Flex.{blocks_text, flex_text, holder_in, holder_text, own_text, range_text};
+ghost use Rattle.debugger.specs.Flex.{flex_blocks_text, flex_text, holder_in, flex_holder_text, own_text, range_text};
 
 use address_map::AddressMap;
 use itoa::Buffer;
@@ -66,7 +66,7 @@ fn show_range<W: Sink>(start: u32, end: u32, used: u32, sink: &mut W) -> Result<
 fn show_all<W: Sink>(flex: &Flex, memory: &AddressMap, sink: &mut W) -> Result<(), WriteFault>
     requires { IsFlex memory.now flex.now }
     ensures { Writes W.contents W.has_failed sink.old sink.new result
-        (blocks_text (all_listed (flex_in memory.now flex.now.extent))) }
+        (flex_blocks_text (all_listed (flex_in memory.now flex.now.extent))) }
 {
     let mut rest = flex.blocks(memory);
     while let Some(block) = rest.next() {
@@ -103,7 +103,7 @@ fn show_block<W: Sink>(
     sink: &mut W,
 ) -> Result<(), WriteFault>
     ensures { Writes W.contents W.has_failed sink.old sink.new result
-        (own_text block.now ++ holder_text block.now.anchor holder) }
+        (own_text block.now ++ flex_holder_text block.now.anchor holder) }
 {
     show_own(block, sink)?;
     show_holder(block.anchor, holder, sink)
@@ -132,7 +132,7 @@ fn show_holder<W: Sink>(
     holder: Option<FlexBlock>,
     sink: &mut W,
 ) -> Result<(), WriteFault>
-    ensures { Writes W.contents W.has_failed sink.old sink.new result (holder_text anchor holder) }
+    ensures { Writes W.contents W.has_failed sink.old sink.new result (flex_holder_text anchor holder) }
 {
     let Some(block) = holder else {
         return push_parts(sink, &[b"\n".as_slice()]);

@@ -7,7 +7,7 @@ ghost use Rattle.address_map.specs.Items.{size_of};
 ghost use Rattle.swi_dispatch.specs.os_heap.specs.Calls.{items_of};
 ghost use Rattle.swi_dispatch.specs.os_heap.specs.Store.{store_of, find_heap, IsSound};
 ghost use Rattle.swi_dispatch.specs.Parts.{state_of};
-ghost use Rattle.debugger.specs.Heap.{use_text, limits_text, item_text, items_text, heap_text, blocks_text};
+ghost use Rattle.debugger.specs.Heap.{use_text, limits_text, heap_item_text, heap_items_text, heap_text, heap_blocks_text};
 
 use address_map::{AddressMap, Item};
 use itoa::Buffer;
@@ -25,9 +25,10 @@ const END: u32 = 12;
 /// address, as `live 00009010 24`. Answers whether a heap starts there; nothing is written where
 /// none does.
 pub fn show_blocks<W: Sink>(machine: &Machine, heap: u32, sink: &mut W) -> Result<bool, WriteFault>
-    ensures found { IfOk result (λ is_there. is_there ≡ is_some (blocks_text (state_of machine.now).store heap)) }
+    ensures found { IfOk result (λ is_there. is_there ≡ is_some
+        (heap_blocks_text (state_of machine.now).store heap)) }
     ensures writes { Writes W.contents W.has_failed sink.old sink.new result
-        (unwrap_or (blocks_text (state_of machine.now).store heap) []) }
+        (unwrap_or (heap_blocks_text (state_of machine.now).store heap) []) }
 {
     let memory = machine.memory();
     let Some(blocks) = machine.heaps().blocks(memory, heap) else {
@@ -43,7 +44,8 @@ fn show_limits<W: Sink>(memory: &AddressMap, heap: u32, sink: &mut W) -> Result<
     requires sound { IsSound (store_of memory.now) }
     requires there { IsSome (find_heap heap (store_of memory.now).heaps) }
     ensures text { OnOk result (IfSome (find_heap heap (store_of memory.now).heaps)
-        (λ h. Appends (W.contents sink.old) (W.contents sink.new) (limits_text heap (16 + size_of h.items) h.end))) }
+        (λ h. Appends (W.contents sink.old) (W.contents sink.new)
+        (limits_text heap (16 + size_of h.items) h.end))) }
     ensures flag { OnErr result (W.has_failed sink.new ≡ true) }
     ensures same_flag { OnOk result (W.has_failed sink.new ≡ W.has_failed sink.old) }
 {
@@ -85,7 +87,7 @@ fn end_of(memory: &AddressMap, heap: u32) -> u32
 #[tactic(auto, using(crate::proofs::HeapLemmas::item_steps))]
 fn show_items<W: Sink>(start: u32, blocks: Blocks, sink: &mut W) -> Result<(), WriteFault>
     requires { start + size_of blocks ≤ 2 ^ 26 }
-    ensures { Writes W.contents W.has_failed sink.old sink.new result (items_text start blocks.entry) }
+    ensures { Writes W.contents W.has_failed sink.old sink.new result (heap_items_text start blocks.entry) }
 {
     let mut at = start;
     let mut rest = blocks;
@@ -97,7 +99,7 @@ fn show_items<W: Sink>(start: u32, blocks: Blocks, sink: &mut W) -> Result<(), W
 }
 
 fn show_item<W: Sink>(address: u32, item: Item, sink: &mut W) -> Result<(), WriteFault>
-    ensures { Writes W.contents W.has_failed sink.old sink.new result (item_text address item) }
+    ensures { Writes W.contents W.has_failed sink.old sink.new result (heap_item_text address item) }
 {
     let mut total = Buffer::new();
     push_parts(

@@ -45,7 +45,8 @@ fn show_line<W: Sink>(
     count: u32,
     sink: &mut W,
 ) -> Result<(), WriteFault>
-    ensures { Writes W.contents W.has_failed sink.old sink.new result (line_text (bytes_of map.now) address count) }
+    ensures { Writes W.contents W.has_failed sink.old sink.new result
+        (line_text (bytes_of map.now) address count) }
 {
     push_all(sink, HexText::word(address).as_slice())?;
     push_all(sink, b":")?;
@@ -60,7 +61,8 @@ fn show_bytes<W: Sink>(
     count: u32,
     sink: &mut W,
 ) -> Result<(), WriteFault>
-    ensures { Writes W.contents W.has_failed sink.old sink.new result (bytes_text (bytes_of map.now) address count) }
+    ensures { Writes W.contents W.has_failed sink.old sink.new result
+        (bytes_text (bytes_of map.now) address count) }
 {
     let mut at = address;
     let mut left = count;

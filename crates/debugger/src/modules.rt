@@ -31,7 +31,8 @@ fn show_all<W: Sink>(
     memory: &AddressMap,
     sink: &mut W,
 ) -> Result<(), WriteFault>
-    ensures { Writes W.contents W.has_failed sink.old sink.new result (modules_text (bytes_of memory.now) modules.now) }
+    ensures { Writes W.contents W.has_failed sink.old sink.new result
+        (modules_text (bytes_of memory.now) modules.now) }
 {
     for number in 0..modules.count() {
         show_module(modules, number, memory, sink)?;
@@ -100,7 +101,8 @@ fn show_instance<W: Sink>(
     sink: &mut W,
 ) -> Result<(), WriteFault>
     ensures { Writes W.contents W.has_failed sink.old sink.new result
-        (one_text (instance_line (bytes_of memory.now)) (told_of_place instance (slice_get modules.now number))) }
+        (one_text (instance_line (bytes_of memory.now))
+        (told_of_place instance (slice_get modules.now number))) }
 {
     match modules.instance(number, instance) {
         Some(told) => show_told(&told, memory, sink),
@@ -114,7 +116,8 @@ fn show_told<W: Sink>(
     sink: &mut W,
 ) -> Result<(), WriteFault>
     requires { told.now.slot < 64 }
-    ensures { Writes W.contents W.has_failed sink.old sink.new result (instance_line (bytes_of memory.now) told.now) }
+    ensures { Writes W.contents W.has_failed sink.old sink.new result
+        (instance_line (bytes_of memory.now) told.now) }
 {
     let word = PRIVATE_WORDS + 4 * told.slot;
     push_parts(

@@ -3,7 +3,7 @@
 ghost use Rattle.std.specs.Prelude.{◌≡◌, ◌≤◌};
 ghost use Rattle.profile.specs.Output.{Writes};
 ghost use Rattle.swi_dispatch.specs.Parts.{state_of};
-ghost use Rattle.debugger.specs.Registers.{register_label, row_text, status_text, registers_text, flag_letter, flag_letters, mode_text};
+ghost use Rattle.debugger.specs.Registers.{register_label, row_text, status_text, cpu_registers_text, flag_letter, flag_letters, mode_text};
 
 use profile::{HexText, Sink, WriteFault, push_parts};
 use swi_dispatch::Machine;
@@ -12,13 +12,14 @@ use swi_dispatch::arm_step::{Cpu, Mode, Psr};
 /// Writes the registers of the present mode, four on a line, and a line of the status, in which a
 /// set flag stands in capitals.
 pub fn show_regs<W: Sink>(machine: &Machine, sink: &mut W) -> Result<(), WriteFault>
-    ensures writes { Writes W.contents W.has_failed sink.old sink.new result (registers_text (state_of machine.now).cpu) }
+    ensures writes { Writes W.contents W.has_failed sink.old sink.new result
+        (cpu_registers_text (state_of machine.now).cpu) }
 {
     show_core(machine.cpu(), sink)
 }
 
 fn show_core<W: Sink>(cpu: &Cpu, sink: &mut W) -> Result<(), WriteFault>
-    ensures { Writes W.contents W.has_failed sink.old sink.new result (registers_text cpu.now) }
+    ensures { Writes W.contents W.has_failed sink.old sink.new result (cpu_registers_text cpu.now) }
 {
     show_row(cpu, 0, sink)?;
     show_row(cpu, 4, sink)?;

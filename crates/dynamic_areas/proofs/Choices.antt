@@ -1,4 +1,5 @@
 -- What the searches over gaps, numbers and pages leave behind.
+use Rattle.profile.specs.MemoryMap.{area_window_end, area_window_start}
 use Rattle.std.proofs.Common.{◌≡◌, ℕ, ◌+◌, ◌-◌, ◌*◌, ◌/◌, ◌<◌, ◌≤◌, true, leb, List, [], ◌∷◌, suc, zero, refl, sym, subst, ◌∙◌, Some, None, inl, inr, arith}
 use Rattle.std.specs.Prelude.{Option, is_some, MatchOption}
 use Rattle.std.proofs.lemmas.Bool.{cases_Bool, cases_eq, cases_lt, eq-eqb, ne_eqb, lt-ltb, le-ltb, leb-true, and_parts, false≢true}
@@ -57,34 +58,34 @@ met_everywhere areas maximum base (suc n) (suc k) e below =
 -- the number of a page address in the window
 record IsPage (maximum base : ℕ) : Type 0 where
   page : ℕ
-  is : base ≡ 0x02000000 + 4096 * page
+  is : base ≡ area_window_start + 4096 * page
   below : page < gap_count maximum
 
 page_of : (areas : List Area) (maximum base : ℕ) → maximum ≤ 16777216 → IsGap areas maximum base → IsPage maximum base
 page_of areas maximum base small gap =
-    let parts = and_parts (leb 0x02000000 base) (leb (base + maximum) 0x03000000) gap.inside in
-    let low : 0x02000000 ≤ base = leb-true 0x02000000 base parts.0 in
-    let high : base + maximum ≤ 0x03000000 = leb-true (base + maximum) 0x03000000 parts.1 in
-    record { page = (base - 0x02000000) / 4096; is = omega (arith, gap.page); below = omega (arith, gap.page) }
+    let parts = and_parts (leb area_window_start base) (leb (base + maximum) area_window_end) gap.inside in
+    let low : area_window_start ≤ base = leb-true area_window_start base parts.0 in
+    let high : base + maximum ≤ area_window_end = leb-true (base + maximum) area_window_end parts.1 in
+    record { page = (base - area_window_start) / 4096; is = omega (arith, gap.page); below = omega (arith, gap.page) }
 
-not_lower : (areas : List Area) (maximum base other : ℕ) → maximum ≤ 16777216 → lowest_from areas maximum 0x02000000 (gap_count maximum) ≡ Some base
+not_lower : (areas : List Area) (maximum base other : ℕ) → maximum ≤ 16777216 → lowest_from areas maximum area_window_start (gap_count maximum) ≡ Some base
     → IsGap areas maximum other → base ≤ other
 not_lower areas maximum base other small e gap =
     elim (cases_lt other base) [
       | inr low ↦ low
       | inl lower ↦
           let at : IsPage maximum other = page_of areas maximum other small gap in
-          let met : meets_area (0x02000000 + 4096 * at.page) maximum areas ≡ true =
-          met_below areas maximum 0x02000000 (gap_count maximum) base at.page e (omega (arith, at.is)) in
+          let met : meets_area (area_window_start + 4096 * at.page) maximum areas ≡ true =
+          met_below areas maximum area_window_start (gap_count maximum) base at.page e (omega (arith, at.is)) in
           absurd (false≢true (sym gap.clear ∙ subst (λ (a : ℕ). meets_area a maximum areas ≡ true) (sym at.is) met))
     ]
 
-nowhere : (areas : List Area) (maximum other : ℕ) → maximum ≤ 16777216 → lowest_from areas maximum 0x02000000 (gap_count maximum) ≡ None
+nowhere : (areas : List Area) (maximum other : ℕ) → maximum ≤ 16777216 → lowest_from areas maximum area_window_start (gap_count maximum) ≡ None
     → IsGap areas maximum other → ⊥
 nowhere areas maximum other small e gap =
     let at : IsPage maximum other = page_of areas maximum other small gap in
-    let met : meets_area (0x02000000 + 4096 * at.page) maximum areas ≡ true =
-    met_everywhere areas maximum 0x02000000 (gap_count maximum) at.page e at.below in
+    let met : meets_area (area_window_start + 4096 * at.page) maximum areas ≡ true =
+    met_everywhere areas maximum area_window_start (gap_count maximum) at.page e at.below in
     false≢true (sym gap.clear ∙ subst (λ (a : ℕ). meets_area a maximum areas ≡ true) (sym at.is) met)
 
 pub lowest_gap_is : LowestGapIsChosen

@@ -1,4 +1,5 @@
 -- The ground of the areas where one of them grows or shrinks.
+use Rattle.profile.specs.MemoryMap.{area_window_end, module_area_start}
 use Rattle.std.proofs.Common.{◌≡◌, ℕ, ◌+◌, ◌-◌, ◌*◌, ◌<◌, ◌≤◌, ◌==◌, ◌%◌, ◌&&◌, ◌||◌, not, Bool, true, false, List, [], ◌∷◌, refl, sym, ap, ◌∙◌, Some, None, inl, inr, arith}
 use Rattle.std.proofs.Math.Bool.{and-true}
 use Rattle.std.specs.List.{list_any}
@@ -11,11 +12,11 @@ use Rattle.os_heap.proofs.RangeTests.{or_middle, range_high, range_low}
 use Rattle.os_heap.specs.Store.{Store, IsClearOfHeaps}
 use Rattle.os_heap.proofs.Stores.{clear_both_ways}
 use Rattle.dynamic_areas.specs.declared.area.Area.{Area}
-use Rattle.dynamic_areas.specs.Areas.{Land, find_area, with_pages, with_areas, paged, pages_of}
+use Rattle.dynamic_areas.specs.Areas.{Land, find_area, with_pages, with_areas, area_with_pages, pages_of}
 use Rattle.dynamic_areas.specs.Changing.{AreRangesClear}
-use Rattle.dynamic_areas.specs.Ground.{is_fixed, is_held, IsGround, AreRangesMapped}
+use Rattle.dynamic_areas.specs.Ground.{is_fixed, is_in_area, IsGround, AreRangesMapped}
 use Rattle.dynamic_areas.specs.Remapped.{with_pages_at, without_pages_at}
-use Rattle.dynamic_areas.specs.Rooms.{IsRoom}
+use Rattle.dynamic_areas.specs.Rooms.{IsAreaRoom}
 use Rattle.dynamic_areas.proofs.LandLemmas.{land_grown, held_alone, pages_same, pages_counted, rooms_paged, some_paged, fixed_outside, lies_apart}
 use Rattle.dynamic_areas.proofs.Remapped.{sound_grown, sound_shrunk}
 use Rattle.dynamic_areas.proofs.RoomLemmas.{found_room, pages_none, room_small}
@@ -28,12 +29,12 @@ or_true false = refl
 pub unmapped_above : (s : Store) (free : ℕ) (l : Land) (number : ℕ) (a : Area) (count : ℕ) → IsGround s free l → find_area number l.areas ≡ Some a
     → 4096 * (a.pages + count) ≤ a.maximum → AreUnmapped s.bytes.mapped (a.base + 4096 * a.pages) (4096 * count)
 unmapped_above s free l number a count ground e fits x low high =
-    let room : IsRoom a = found_room number l.areas a ground.table.rooms e in
+    let room : IsAreaRoom a = found_room number l.areas a ground.table.rooms e in
     let inside : in_range a.base a.maximum x ≡ true = range_inside a.base a.maximum x (omega arith) (omega arith) in
-    let alone : list_any (is_held x) (with_pages number a.pages l.areas) ≡ in_range a.base (4096 * a.pages) x =
+    let alone : list_any (is_in_area x) (with_pages number a.pages l.areas) ≡ in_range a.base (4096 * a.pages) x =
     held_alone number l.areas a a.pages x ground.table.rooms e inside in
-    let none : list_any (is_held x) l.areas ≡ false =
-    ap (λ (xs : List Area). list_any (is_held x) xs) (sym (pages_same number l.areas a e)) ∙ (alone ∙ range_past a.base (4096 * a.pages) x low) in
+    let none : list_any (is_in_area x) l.areas ≡ false =
+    ap (λ (xs : List Area). list_any (is_in_area x) xs) (sym (pages_same number l.areas a e)) ∙ (alone ∙ range_past a.base (4096 * a.pages) x low) in
     ground.land x ∙ rw (fixed_outside l.sizes a x ground.sizes room inside, none) refl
 
 ranges_more : (s : Store) (at len : ℕ) (rs : List Region) → AreRangesMapped s.bytes.mapped rs
@@ -59,7 +60,7 @@ ground_grown s free l number a count ground e fits pool =
         first = some_paged number (a.pages + count) 1 l.areas ∙ ground.table.first;
       };
       land = λ x. rw (ground.land x, land_grown number l.areas a count x e)
-          (or_middle (in_range (a.base + 4096 * a.pages) (4096 * count) x) (is_fixed l.sizes x) (list_any (is_held x) l.areas));
+          (or_middle (in_range (a.base + 4096 * a.pages) (4096 * count) x) (is_fixed l.sizes x) (list_any (is_in_area x) l.areas));
       pages = omega arith;
       ranges = ranges_more s (a.base + 4096 * a.pages) (4096 * count) s.others ground.ranges;
       sound = sound_grown s (a.base + 4096 * a.pages) (4096 * count) ground.sound (unmapped_above s free l number a count ground e fits);
@@ -67,14 +68,14 @@ ground_grown s free l number a count ground e fits pool =
 
 -- fewer pages
 pub find_paged : (number pages : ℕ) (areas : List Area) (a : Area) → find_area number areas ≡ Some a
-    → find_area number (with_pages number pages areas) ≡ Some (paged pages a)
+    → find_area number (with_pages number pages areas) ≡ Some (area_with_pages pages a)
 find_paged number pages [] a e = absurd (let none : None ≡ Some a = e in cc)
 find_paged number pages (g ∷ others) a e =
     elim (cases_Bool (g.number == number)) [
       | inl this ↦
           let e' = rw this at e in
           let same : g ≡ a = cc in
-          rw (this, this) (ap (λ (y : Area). Some (paged pages y)) same)
+          rw (this, this) (ap (λ (y : Area). Some (area_with_pages pages y)) same)
       | inr other ↦ rw (other, other) (find_paged number pages others a (rw other at e))
     ]
 
@@ -101,15 +102,15 @@ land_less f false k none = and-true (f || k)
 
 module _ (s : Store) (free : ℕ) (l : Land) (number : ℕ) (a : Area) (count : ℕ) (ground : IsGround s free l) (e : find_area number l.areas ≡ Some a)
     (fits : count ≤ a.pages) where
-  shrunk_land : (x : ℕ) → list_any (is_held x) l.areas
-      ≡ (in_range (a.base + 4096 * (a.pages - count)) (4096 * count) x || list_any (is_held x) (with_pages number (a.pages - count) l.areas))
+  shrunk_land : (x : ℕ) → list_any (is_in_area x) l.areas
+      ≡ (in_range (a.base + 4096 * (a.pages - count)) (4096 * count) x || list_any (is_in_area x) (with_pages number (a.pages - count) l.areas))
   shrunk_land x =
       let sum : a.pages - count + count ≡ a.pages = omega arith in
-      let grown = land_grown number (with_pages number (a.pages - count) l.areas) (paged (a.pages - count) a) count x
+      let grown = land_grown number (with_pages number (a.pages - count) l.areas) (area_with_pages (a.pages - count) a) count x
       (find_paged number (a.pages - count) l.areas a e) in
       let back : with_pages number (a.pages - count + count) (with_pages number (a.pages - count) l.areas) ≡ l.areas =
       paged_twice number (a.pages - count) (a.pages - count + count) l.areas ∙ (ap (λ (n : ℕ). with_pages number n l.areas) sum ∙ pages_same number l.areas a e) in
-      ap (λ (xs : List Area). list_any (is_held x) xs) (sym back) ∙ grown
+      ap (λ (xs : List Area). list_any (is_in_area x) xs) (sym back) ∙ grown
 
   pub ground_shrunk : IsClearOfHeaps (a.base + 4096 * (a.pages - count)) (4096 * count) s.heaps
       → AreRangesClear (a.base + 4096 * (a.pages - count)) (4096 * count) s.others
@@ -117,7 +118,7 @@ module _ (s : Store) (free : ℕ) (l : Land) (number : ℕ) (a : Area) (count : 
       → IsGround (without_pages_at s (a.base + 4096 * (a.pages - count)) (4096 * count)) (free + count)
       (with_areas l (with_pages number (a.pages - count) l.areas))
   ground_shrunk heaps ranges anchors =
-      let room : IsRoom a = found_room number l.areas a ground.table.rooms e in
+      let room : IsAreaRoom a = found_room number l.areas a ground.table.rooms e in
       let within : 4096 * a.pages ≤ a.maximum = room.within in
       let counted : pages_of (with_pages number (a.pages - count) l.areas) + a.pages ≡ pages_of l.areas + (a.pages - count) =
       pages_counted number l.areas a (a.pages - count) e in
@@ -129,7 +130,7 @@ module _ (s : Store) (free : ℕ) (l : Land) (number : ℕ) (a : Area) (count : 
           first = some_paged number (a.pages - count) 1 l.areas ∙ ground.table.first;
         };
         land = λ x. rw (ground.land x, shrunk_land x) (land_less (is_fixed l.sizes x) (in_range (a.base + 4096 * (a.pages - count)) (4096 * count) x)
-            (list_any (is_held x) (with_pages number (a.pages - count) l.areas)) (λ there.
+            (list_any (is_in_area x) (with_pages number (a.pages - count) l.areas)) (λ there.
             let low : a.base + 4096 * (a.pages - count) ≤ x = range_low (a.base + 4096 * (a.pages - count)) (4096 * count) x there in
             let high : x < a.base + 4096 * (a.pages - count) + 4096 * count = range_high (a.base + 4096 * (a.pages - count)) (4096 * count) x there in
             let inside : in_range a.base a.maximum x ≡ true = range_inside a.base a.maximum x (omega arith) (omega arith) in (
@@ -144,26 +145,26 @@ module _ (s : Store) (free : ℕ) (l : Land) (number : ℕ) (a : Area) (count : 
 pub mapped_held : (s : Store) (free : ℕ) (l : Land) (number : ℕ) (a : Area) → IsGround s free l → find_area number l.areas ≡ Some a
     → (x : ℕ) → a.base ≤ x → x < a.base + 4096 * a.pages → s.bytes.mapped x ≡ true
 mapped_held s free l number a ground e x low high =
-    let room : IsRoom a = found_room number l.areas a ground.table.rooms e in
+    let room : IsAreaRoom a = found_room number l.areas a ground.table.rooms e in
     let within : 4096 * a.pages ≤ a.maximum = room.within in
     let inside : in_range a.base a.maximum x ≡ true = range_inside a.base a.maximum x low (omega arith) in
-    let alone : list_any (is_held x) (with_pages number a.pages l.areas) ≡ in_range a.base (4096 * a.pages) x =
+    let alone : list_any (is_in_area x) (with_pages number a.pages l.areas) ≡ in_range a.base (4096 * a.pages) x =
     held_alone number l.areas a a.pages x ground.table.rooms e inside in
-    let held : list_any (is_held x) l.areas ≡ true =
-    ap (λ (xs : List Area). list_any (is_held x) xs) (sym (pages_same number l.areas a e)) ∙ (alone ∙ range_inside a.base (4096 * a.pages) x low high) in
+    let held : list_any (is_in_area x) l.areas ≡ true =
+    ap (λ (xs : List Area). list_any (is_in_area x) xs) (sym (pages_same number l.areas a e)) ∙ (alone ∙ range_inside a.base (4096 * a.pages) x low high) in
     ground.land x ∙ rw held (or_true (is_fixed l.sizes x))
 
 -- pages of an area's room lie in the address space
 pub record FitsWindow (a : Area) (pages count : ℕ) : Type 0 where
   pub aligned : (a.base + 4096 * pages) % 4096 ≡ 0
-  pub below : a.base + 4096 * pages + 4096 * count ≤ 0x03000000
+  pub below : a.base + 4096 * pages + 4096 * count ≤ area_window_end
   pub sum : pages + count ≤ 0x1000
 
-pub fits_window : (a : Area) (pages count : ℕ) → IsRoom a → 4096 * (pages + count) ≤ a.maximum → FitsWindow a pages count
+pub fits_window : (a : Area) (pages count : ℕ) → IsAreaRoom a → 4096 * (pages + count) ≤ a.maximum → FitsWindow a pages count
 fits_window a pages count room fits =
     let page : a.base % 4096 ≡ 0 = room.page in
-    let high : a.base + a.maximum ≤ 0x03000000 = (lies_apart a room).high in
-    let low : 0x01800000 ≤ a.base = (lies_apart a room).low in
+    let high : a.base + a.maximum ≤ area_window_end = (lies_apart a room).high in
+    let low : module_area_start ≤ a.base = (lies_apart a room).low in
     record { aligned = omega arith; below = omega arith; sum = omega (arith, room_small a room) }
 
 -- where no area has the number, the land is as it was

@@ -1,15 +1,16 @@
 -- Which addresses the areas hold where one of them gets another count of pages.
+use Rattle.profile.specs.MemoryMap.{application_start, area_window_end, area_window_start, module_area_start, system_start}
 use Rattle.std.proofs.Common.{◌≡◌, ℕ, ◌+◌, ◌*◌, ◌<◌, ◌≤◌, ◌==◌, ◌||◌, true, false, leb, List, [], ◌∷◌, ◌⊎◌, refl, sym, ap, subst, ◌∙◌, Some, None, inl, inr, arith}
 use Rattle.std.proofs.Math.Bool.{or-false, or_assoc}
 use Rattle.std.specs.Prelude.{is_some}
 use Rattle.std.specs.List.{list_any}
 use Rattle.std.proofs.lemmas.Bool.{cases_Bool, cases_eq, cases_lt, eqb-true, eq-eqb, lt-ltb, le-ltb, le-leb, lt-leb, leb-true, and_parts, and_right, false≢true, false_from_ne_true}
 use Rattle.profile.specs.Sizes.{Sizes, AreGood}
-use Rattle.address_map.specs.Bytes.{meets, in_range}
+use Rattle.address_map.specs.Bytes.{shares_address, in_range}
 use Rattle.dynamic_areas.specs.declared.area.Area.{Area}
-use Rattle.dynamic_areas.specs.Areas.{find_area, with_pages, paged, pages_of}
-use Rattle.dynamic_areas.specs.Ground.{is_fixed, is_held}
-use Rattle.dynamic_areas.specs.Rooms.{IsRoom, IsBefore, AreRooms}
+use Rattle.dynamic_areas.specs.Areas.{find_area, with_pages, area_with_pages, pages_of}
+use Rattle.dynamic_areas.specs.Ground.{is_fixed, is_in_area}
+use Rattle.dynamic_areas.specs.Rooms.{IsAreaRoom, IsBefore, AreRooms}
 use Rattle.dynamic_areas.proofs.RoomLemmas.{meets_turned, found_behind, in_window}
 use Rattle.os_heap.proofs.RangeTests.{or_middle, range_high, range_low}
 
@@ -40,34 +41,34 @@ held_split base p c x =
 
 -- more pages
 pub land_grown : (number : ℕ) (areas : List Area) (a : Area) (count x : ℕ) → find_area number areas ≡ Some a
-    → list_any (is_held x) (with_pages number (a.pages + count) areas)
-    ≡ (in_range (a.base + 4096 * a.pages) (4096 * count) x || list_any (is_held x) areas)
+    → list_any (is_in_area x) (with_pages number (a.pages + count) areas)
+    ≡ (in_range (a.base + 4096 * a.pages) (4096 * count) x || list_any (is_in_area x) areas)
 land_grown number [] a count x e = absurd (let none : None ≡ Some a = e in cc)
 land_grown number (g ∷ others) a count x e =
     elim (cases_Bool (g.number == number)) [
       | inl this ↦
           let e' = rw this at e in
           let same : g ≡ a = cc in
-          subst (λ (y : Area). list_any (is_held x) (with_pages number (y.pages + count) (g ∷ others))
-          ≡ (in_range (y.base + 4096 * y.pages) (4096 * count) x || list_any (is_held x) (g ∷ others))) same
+          subst (λ (y : Area). list_any (is_in_area x) (with_pages number (y.pages + count) (g ∷ others))
+          ≡ (in_range (y.base + 4096 * y.pages) (4096 * count) x || list_any (is_in_area x) (g ∷ others))) same
           (rw (this, held_split g.base g.pages count x)
-          (or_assoc (in_range (g.base + 4096 * g.pages) (4096 * count) x) (is_held x g) (list_any (is_held x) others)))
+          (or_assoc (in_range (g.base + 4096 * g.pages) (4096 * count) x) (is_in_area x g) (list_any (is_in_area x) others)))
       | inr other ↦
           let rest = land_grown number others a count x (rw other at e) in
-          rw (other, rest) (or_middle (is_held x g) (in_range (a.base + 4096 * a.pages) (4096 * count) x) (list_any (is_held x) others))
+          rw (other, rest) (or_middle (is_in_area x g) (in_range (a.base + 4096 * a.pages) (4096 * count) x) (list_any (is_in_area x) others))
     ]
 
 -- an address of an area's room is held by no other area
-outside : (g a : Area) (x : ℕ) → IsRoom g → meets g.base g.maximum a.base a.maximum ≡ false → in_range a.base a.maximum x ≡ true
-    → is_held x g ≡ false
+outside : (g a : Area) (x : ℕ) → IsAreaRoom g → shares_address g.base g.maximum a.base a.maximum ≡ false → in_range a.base a.maximum x ≡ true
+    → is_in_area x g ≡ false
 outside g a x room apart inside =
-    false_from_ne_true (is_held x g) (λ held.
+    false_from_ne_true (is_in_area x g) (λ held.
     let low : a.base ≤ x = range_low a.base a.maximum x inside in
     let high : x < a.base + a.maximum = range_high a.base a.maximum x inside in
     let low' : g.base ≤ x = range_low g.base (4096 * g.pages) x held in
     let high' : x < g.base + 4096 * g.pages = range_high g.base (4096 * g.pages) x held in
     let within : 4096 * g.pages ≤ g.maximum = room.within in
-    let met : meets g.base g.maximum a.base a.maximum ≡ true = rw (
+    let met : shares_address g.base g.maximum a.base a.maximum ≡ true = rw (
       lt-ltb 0 g.maximum (omega arith),
       lt-ltb 0 a.maximum (omega arith),
       lt-ltb g.base (a.base + a.maximum) (omega arith),
@@ -76,14 +77,14 @@ outside g a x room apart inside =
     false≢true (sym apart ∙ met))
 
 rest_outside : (a : Area) (others : List Area) (x : ℕ) → AreRooms others → IsBefore a others → in_range a.base a.maximum x ≡ true
-    → list_any (is_held x) others ≡ false
+    → list_any (is_in_area x) others ≡ false
 rest_outside a [] x rooms before inside = refl
 rest_outside a (b ∷ others) x rooms before inside =
-    let here : is_held x b ≡ false = outside b a x rooms.0 (meets_turned b.base b.maximum a.base a.maximum ∙ before.0.1) inside in
+    let here : is_in_area x b ≡ false = outside b a x rooms.0 (meets_turned b.base b.maximum a.base a.maximum ∙ before.0.1) inside in
     rw (here, rest_outside a others x rooms.1.1 before.1 inside) refl
 
 pub held_alone : (number : ℕ) (areas : List Area) (a : Area) (pages x : ℕ) → AreRooms areas → find_area number areas ≡ Some a
-    → in_range a.base a.maximum x ≡ true → list_any (is_held x) (with_pages number pages areas) ≡ in_range a.base (4096 * pages) x
+    → in_range a.base a.maximum x ≡ true → list_any (is_in_area x) (with_pages number pages areas) ≡ in_range a.base (4096 * pages) x
 held_alone number [] a pages x rooms e inside = absurd (let none : None ≡ Some a = e in cc)
 held_alone number (g ∷ others) a pages x rooms e inside =
     elim (cases_Bool (g.number == number)) [
@@ -95,7 +96,7 @@ held_alone number (g ∷ others) a pages x rooms e inside =
           rw (this, rest_outside g others x rooms.1.1 rooms.1.0 inside', ← base) (or-false (in_range g.base (4096 * pages) x))
       | inr other ↦
           let e' = rw other at e in
-          let no : is_held x g ≡ false = outside g a x rooms.0 (found_behind g a number others rooms.1.0 e').1 inside in
+          let no : is_in_area x g ≡ false = outside g a x rooms.0 (found_behind g a number others rooms.1.0 e').1 inside in
           rw (other, no) (held_alone number others a pages x rooms.1.1 e' inside)
     ]
 
@@ -106,7 +107,7 @@ pages_same number (g ∷ others) a e =
       | inl this ↦
           let e' = rw this at e in
           let same : g ≡ a = cc in
-          rw this (subst (λ (y : Area). paged y.pages g ∷ others ≡ g ∷ others) same refl)
+          rw this (subst (λ (y : Area). area_with_pages y.pages g ∷ others ≡ g ∷ others) same refl)
       | inr other ↦ rw other (ap (λ (xs : List Area). g ∷ xs) (pages_same number others a (rw other at e)))
     ]
 
@@ -167,37 +168,37 @@ some_paged number pages other (g ∷ others) =
 
 -- where an area can lie
 pub record LiesApart (a : Area) : Type 0 where
-  pub low : 0x01800000 ≤ a.base
-  pub beside : (a.base + a.maximum ≤ 0x01C00000) ⊎ (0x02000000 ≤ a.base)
-  pub high : a.base + a.maximum ≤ 0x03000000
+  pub low : module_area_start ≤ a.base
+  pub beside : (a.base + a.maximum ≤ system_start) ⊎ (area_window_start ≤ a.base)
+  pub high : a.base + a.maximum ≤ area_window_end
 
-pub lies_apart : (a : Area) → IsRoom a → LiesApart a
+pub lies_apart : (a : Area) → IsAreaRoom a → LiesApart a
 lies_apart a room =
     elim (cases_eq a.number 1) [
       | inl first ↦
           let e = rw (eq-eqb a.number 1 first) at room.place in
-          let parts = and_parts (a.base == 0x01800000) (a.maximum == 4194304) e in
-          let base : a.base ≡ 0x01800000 = eqb-true a.base 0x01800000 parts.0 in
+          let parts = and_parts (a.base == module_area_start) (a.maximum == 4194304) e in
+          let base : a.base ≡ module_area_start = eqb-true a.base module_area_start parts.0 in
           let maximum : a.maximum ≡ 4194304 = eqb-true a.maximum 4194304 parts.1 in
           record { low = omega arith; beside = inl (omega arith); high = omega arith }
       | inr other ↦
-          let parts = and_parts (leb 0x02000000 a.base) (leb (a.base + a.maximum) 0x03000000) (in_window a.number a.base a.maximum other room.place) in
-          let low : 0x02000000 ≤ a.base = leb-true 0x02000000 a.base parts.0 in
-          let high : a.base + a.maximum ≤ 0x03000000 = leb-true (a.base + a.maximum) 0x03000000 parts.1 in
+          let parts = and_parts (leb area_window_start a.base) (leb (a.base + a.maximum) area_window_end) (in_window a.number a.base a.maximum other room.place) in
+          let low : area_window_start ≤ a.base = leb-true area_window_start a.base parts.0 in
+          let high : a.base + a.maximum ≤ area_window_end = leb-true (a.base + a.maximum) area_window_end parts.1 in
           record { low = omega arith; beside = inr low; high = high }
     ]
 
-pub fixed_outside : (sizes : Sizes) (a : Area) (x : ℕ) → AreGood sizes → IsRoom a → in_range a.base a.maximum x ≡ true → is_fixed sizes x ≡ false
+pub fixed_outside : (sizes : Sizes) (a : Area) (x : ℕ) → AreGood sizes → IsAreaRoom a → in_range a.base a.maximum x ≡ true → is_fixed sizes x ≡ false
 fixed_outside sizes a x good room inside =
     let lies : LiesApart a = lies_apart a room in
     let low : a.base ≤ x = range_low a.base a.maximum x inside in
     let high : x < a.base + a.maximum = range_high a.base a.maximum x inside in
-    let base : 0x01800000 ≤ a.base = lies.low in
+    let base : module_area_start ≤ a.base = lies.low in
     let most : sizes.pages ≤ 1024 = good.in_limit in
     let fits : sizes.app + sizes.rma + 3 ≤ sizes.pages = good.has_room in
-    rw (le-leb 0x8000 x (omega arith), le-ltb x (0x8000 + 4096 * sizes.app) (omega arith)) (
+    rw (le-leb application_start x (omega arith), le-ltb x (application_start + 4096 * sizes.app) (omega arith)) (
     elim lies.beside [
-      | inl below ↦ rw (lt-leb 0x01C00000 x (omega arith)) refl
-      | inr above ↦ rw (le-ltb x (0x01C00000 + 0x3000) (omega arith)) (and_right (leb 0x01C00000 x) false refl)
+      | inl below ↦ rw (lt-leb system_start x (omega arith)) refl
+      | inr above ↦ rw (le-ltb x (system_start + 0x3000) (omega arith)) (and_right (leb system_start x) false refl)
     ]
     )

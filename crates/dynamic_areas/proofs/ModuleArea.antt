@@ -1,4 +1,5 @@
 -- The module area's heap where its area grows or shrinks.
+use Rattle.profile.specs.MemoryMap.{module_area_start}
 use Rattle.std.proofs.Common.{◌≡◌, ℕ, ◌+◌, ◌-◌, ◌*◌, ◌%◌, ◌≤◌, ◌==◌, Bool, true, false, List, [], ◌∷◌, refl, sym, ap, ◌∙◌, Some, None, inl, inr, arith}
 use Rattle.std.specs.Prelude.{Option}
 use Rattle.std.specs.List.{list_any}
@@ -7,10 +8,10 @@ use Rattle.address_map.specs.declared.region.Kind.TheVariants.{Rma}
 use Rattle.address_map.specs.declared.region.Region.{Region}
 use Rattle.address_map.proofs.Anchors.{among_none}
 use Rattle.address_map.specs.Records.{anchor_among}
-use Rattle.address_map.specs.Bytes.{Bytes, in_range, meets, AreMapped, AreUnmapped}
+use Rattle.address_map.specs.Bytes.{Bytes, in_range, shares_address, AreMapped, AreUnmapped}
 use Rattle.address_map.specs.Items.{size_of}
 use Rattle.os_heap.specs.os_heap_lists.specs.Heap.{HeapList, IsHeapIn}
-use Rattle.os_heap.specs.Store.{Store, IsSound, IsClearOfHeaps, find_heap, is_area}
+use Rattle.os_heap.specs.Store.{Store, IsSound, IsClearOfHeaps, find_heap, is_module_area}
 use Rattle.os_heap.specs.Ranges.{is_heap_region, is_in_heap, is_obstructed, MayEnd}
 use Rattle.os_heap.specs.Calls.{ending, with_end, MayEndArea, IsAreaEnded}
 use Rattle.os_heap.proofs.RangeTests.{range_high, range_low, region_tested}
@@ -18,11 +19,11 @@ use Rattle.os_heap.proofs.Beside.{area_alone, grown_alone}
 use Rattle.os_heap.proofs.Found.{found_heap, found_start}
 use Rattle.os_heap.proofs.Stores.{AreOthers, are_others}
 use Rattle.dynamic_areas.specs.declared.area.Area.{Area}
-use Rattle.dynamic_areas.specs.Areas.{Land, find_area, with_areas, with_pages, paged}
-use Rattle.dynamic_areas.specs.Changing.{AreRangesClear, heap_base, must_stay, loose_pages, ended_by}
+use Rattle.dynamic_areas.specs.Areas.{Land, find_area, with_areas, with_pages, area_with_pages}
+use Rattle.dynamic_areas.specs.Changing.{AreRangesClear, heap_base, must_stay, loose_pages, store_after_end}
 use Rattle.dynamic_areas.specs.Ground.{IsGround, AreAreas, EndsWithArea, AreRangesMapped}
 use Rattle.dynamic_areas.specs.Remapped.{with_pages_at}
-use Rattle.dynamic_areas.specs.Rooms.{IsRoom}
+use Rattle.dynamic_areas.specs.Rooms.{IsAreaRoom}
 use Rattle.dynamic_areas.proofs.GroundLemmas.{ground_grown, unmapped_above, mapped_held, find_paged}
 use Rattle.dynamic_areas.proofs.LooseLemmas.{page_free}
 use Rattle.dynamic_areas.proofs.RecordLemmas.{unmet}
@@ -32,22 +33,22 @@ use Rattle.dynamic_areas.proofs.RoomLemmas.{found_number, found_room}
 -- what is known of the area and its heap
 pub record IsModuleArea (s : Store) (a : Area) : Type 0 where
   pub heap : HeapList
-  pub found : find_heap 0x01800000 s.heaps ≡ Some heap
+  pub found : find_heap module_area_start s.heaps ≡ Some heap
   pub spelled : IsHeapIn s.bytes heap.start heap.end heap.items
-  pub start : heap.start ≡ 0x01800000
+  pub start : heap.start ≡ module_area_start
   pub kind : heap.kind ≡ Rma
   pub end : heap.end ≡ 4096 * a.pages
-  pub base : a.base ≡ 0x01800000
+  pub base : a.base ≡ module_area_start
   pub maximum : a.maximum ≡ 4194304
 
-ends_there : (s : Store) (a : Area) (found : Option HeapList) → IsSound s → a.base ≡ 0x01800000 → a.maximum ≡ 4194304
-    → find_heap 0x01800000 s.heaps ≡ found → EndsWithArea found (Some a) → IsModuleArea s a
+ends_there : (s : Store) (a : Area) (found : Option HeapList) → IsSound s → a.base ≡ module_area_start → a.maximum ≡ 4194304
+    → find_heap module_area_start s.heaps ≡ found → EndsWithArea found (Some a) → IsModuleArea s a
 ends_there s a None sound base maximum e ends = absurd ends
 ends_there s a (Some h) sound base maximum e ends = record {
   heap = h;
   found = e;
-  spelled = found_heap s.bytes 0x01800000 s.heaps h sound.heaps e;
-  start = found_start 0x01800000 s.heaps h e;
+  spelled = found_heap s.bytes module_area_start s.heaps h sound.heaps e;
+  start = found_start module_area_start s.heaps h e;
   kind = ends.0;
   end = ends.1;
   base = base;
@@ -56,19 +57,19 @@ ends_there s a (Some h) sound base maximum e ends = record {
 
 pub module_area_known : (s : Store) (free : ℕ) (l : Land) (a : Area) → AreAreas s free l → find_area 1 l.areas ≡ Some a → IsModuleArea s a
 module_area_known s free l a areas e =
-    let room : IsRoom a = found_room 1 l.areas a areas.ground.table.rooms e in
+    let room : IsAreaRoom a = found_room 1 l.areas a areas.ground.table.rooms e in
     let number : a.number ≡ 1 = found_number 1 l.areas a e in
     let place = rw (eq-eqb a.number 1 number) at room.place in
-    let parts = and_parts (a.base == 0x01800000) (a.maximum == 4194304) place in
+    let parts = and_parts (a.base == module_area_start) (a.maximum == 4194304) place in
     let ends = rw e at areas.heap in
-    ends_there s a (find_heap 0x01800000 s.heaps) areas.ground.sound (eqb-true a.base 0x01800000 parts.0) (eqb-true a.maximum 4194304 parts.1) refl ends
+    ends_there s a (find_heap module_area_start s.heaps) areas.ground.sound (eqb-true a.base module_area_start parts.0) (eqb-true a.maximum 4194304 parts.1) refl ends
 
 -- ranges that meet no recorded one
-unmet_heaps : (at len : ℕ) (hs : List HeapList) → IsClearOfHeaps at len hs → list_any (λ h. meets at len h.start h.end) hs ≡ false
+unmet_heaps : (at len : ℕ) (hs : List HeapList) → IsClearOfHeaps at len hs → list_any (λ h. shares_address at len h.start h.end) hs ≡ false
 unmet_heaps at len [] clear = refl
 unmet_heaps at len (h ∷ hs) clear = rw (unmet at len h.start h.end clear.0, unmet_heaps at len hs clear.1) refl
 
-unmet_ranges : (at len : ℕ) (rs : List Region) → AreRangesClear at len rs → list_any (λ r. meets at len r.at r.len) rs ≡ false
+unmet_ranges : (at len : ℕ) (rs : List Region) → AreRangesClear at len rs → list_any (λ r. shares_address at len r.at r.len) rs ≡ false
 unmet_ranges at len [] clear = refl
 unmet_ranges at len (r ∷ rs) clear = rw (unmet at len r.at r.len clear.0, unmet_ranges at len rs clear.1) refl
 
@@ -104,9 +105,9 @@ pub may_grow_heap : (s : Store) (free : ℕ) (l : Land) (a : Area) (count : ℕ)
 may_grow_heap s free l a count areas e fits pool =
     let m : IsModuleArea s a = module_area_known s free l a areas e in
     let h : HeapList = m.heap in
-    let start : h.start ≡ 0x01800000 = m.start in
+    let start : h.start ≡ module_area_start = m.start in
     let end : h.end ≡ 4096 * a.pages = m.end in
-    let base : a.base ≡ 0x01800000 = m.base in
+    let base : a.base ≡ module_area_start = m.base in
     let maximum : a.maximum ≡ 4194304 = m.maximum in
     let inside : 16 + size_of h.items ≤ h.end = m.spelled.inside in
     let t : Store = with_pages_at s (a.base + 4096 * a.pages) (4096 * count) in
@@ -114,11 +115,11 @@ may_grow_heap s free l a count areas e fits pool =
     let top : h.start + h.end ≡ a.base + 4096 * a.pages = omega arith in
     let more : 4096 * (a.pages + count) - h.end ≡ 4096 * count = omega arith in
     let unmapped : AreUnmapped s.bytes.mapped (a.base + 4096 * a.pages) (4096 * count) = unmapped_above s free l 1 a count areas.ground e fits in
-    let others : AreOthers h s.heaps = are_others s.bytes 0x01800000 s.heaps h areas.ground.sound.heaps m.found in
-    let alone : is_in_heap h.start s.heaps ≡ false = area_alone s.bytes h s.heaps (ap is_area m.kind) m.spelled areas.ground.sound.heaps others in
+    let others : AreOthers h s.heaps = are_others s.bytes module_area_start s.heaps h areas.ground.sound.heaps m.found in
+    let alone : is_in_heap h.start s.heaps ≡ false = area_alone s.bytes h s.heaps (ap is_module_area m.kind) m.spelled areas.ground.sound.heaps others in
     let may : MayEnd t h (4096 * (a.pages + count)) = record {
       region = region_known t.bytes h.start (4096 * (a.pages + count)) (omega arith) (omega arith) (omega arith) (omega arith)
-          (λ x low high. mapped_held t (free - count) (with_areas l (with_pages 1 (a.pages + count) l.areas)) 1 (paged (a.pages + count) a) ground
+          (λ x low high. mapped_held t (free - count) (with_areas l (with_pages 1 (a.pages + count) l.areas)) 1 (area_with_pages (a.pages + count) a) ground
           (find_paged 1 (a.pages + count) l.areas a e) x (omega arith) (omega arith));
       clear = elim (cases_lt h.end (4096 * (a.pages + count))) [
         | inl grows ↦ rw (lt-ltb h.end (4096 * (a.pages + count)) grows, top, more)
@@ -138,9 +139,9 @@ pub heap_below : (s : Store) (free : ℕ) (l : Land) (a : Area) (count : ℕ) (m
 unfolding must_stay
 heap_below s free l a count m number loose =
     let h : HeapList = m.heap in
-    let start : h.start ≡ 0x01800000 = m.start in
+    let start : h.start ≡ module_area_start = m.start in
     let end : h.end ≡ 4096 * a.pages = m.end in
-    let base : a.base ≡ 0x01800000 = m.base in
+    let base : a.base ≡ module_area_start = m.base in
     let inside : 16 + size_of h.items ≤ h.end = m.spelled.inside in
     elim (cases_eq count 0) [
       | inl none ↦ omega arith
@@ -156,7 +157,7 @@ pub may_shrink_heap : (s : Store) (free : ℕ) (l : Land) (a : Area) (count : �
 may_shrink_heap s free l a count areas e loose =
     let m : IsModuleArea s a = module_area_known s free l a areas e in
     let h : HeapList = m.heap in
-    let start : h.start ≡ 0x01800000 = m.start in
+    let start : h.start ≡ module_area_start = m.start in
     let end : h.end ≡ 4096 * a.pages = m.end in
     let maximum : a.maximum ≡ 4194304 = m.maximum in
     let within : 4096 * a.pages ≤ a.maximum = (found_room 1 l.areas a areas.ground.table.rooms e).within in
@@ -170,9 +171,9 @@ may_shrink_heap s free l a count areas e loose =
     rw m.found may
 
 -- the heap, and the ground, after it got another end
-pub ended_is : (s t : Store) (end : ℕ) → IsAreaEnded s end t → t ≡ ended_by s end (find_heap 0x01800000 s.heaps)
-ended_is s t end ends = go (find_heap 0x01800000 s.heaps) refl ends where
-  go : (found : Option HeapList) → find_heap 0x01800000 s.heaps ≡ found → IsAreaEnded s end t → t ≡ ended_by s end found
+pub ended_is : (s t : Store) (end : ℕ) → IsAreaEnded s end t → t ≡ store_after_end s end (find_heap module_area_start s.heaps)
+ended_is s t end ends = go (find_heap module_area_start s.heaps) refl ends where
+  go : (found : Option HeapList) → find_heap module_area_start s.heaps ≡ found → IsAreaEnded s end t → t ≡ store_after_end s end found
   go None e ends = absurd (let none = rw e at ends in none)
   go (Some h) e ends = let is = rw e at ends in is
 

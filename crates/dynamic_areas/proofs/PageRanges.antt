@@ -5,12 +5,12 @@ use Rattle.std.proofs.lemmas.Bool.{cases_lt}
 use Rattle.std.proofs.lemmas.Bool.Decides.{nat_tests}
 use Rattle.address_map.proofs.InRange.{range_before, range_inside, range_past}
 use Rattle.address_map.specs.Bytes.{in_range}
-use Rattle.address_map.specs.Counts.{counted}
+use Rattle.address_map.specs.Counts.{number_below}
 
 -- of two tests that no number passes both
 pub counted_either : (f g : ℕ → Bool) (n : ℕ) → ((k : ℕ) → k < n → f k ≡ true → g k ≡ false)
-    → counted (λ k. f k || g k) n ≡ counted f n + counted g n
-unfolding counted
+    → number_below (λ k. f k || g k) n ≡ number_below f n + number_below g n
+unfolding number_below
 counted_either f g zero apart = refl
 counted_either f g (suc n) apart =
     let first = counted_either f g n (λ k below is. apart k (omega (arith, below)) is) in
@@ -24,8 +24,8 @@ counted_either f g (suc n) apart =
       sum true b apart = rw (apart refl) refl
 
 -- below a range none, and within it each
-counted_below : (at len n : ℕ) → n ≤ at → counted (in_range at len) n ≡ 0
-unfolding counted
+counted_below : (at len n : ℕ) → n ≤ at → number_below (in_range at len) n ≡ 0
+unfolding number_below
 counted_below at len zero low = refl
 counted_below at len (suc n) low = rw (counted_below at len n (omega (arith, low)), range_before at len n (omega (arith, low))) refl
 
@@ -36,8 +36,8 @@ at_or_below a n low =
       | inr more ↦ inr more
     ]
 
-counted_inside : (at len n : ℕ) → at ≤ n → n ≤ at + len → counted (in_range at len) n + at ≡ n
-unfolding counted
+counted_inside : (at len n : ℕ) → at ≤ n → n ≤ at + len → number_below (in_range at len) n + at ≡ n
+unfolding number_below
 counted_inside at len zero low high = omega (arith, low)
 counted_inside at len (suc n) low high =
     elim (at_or_below at n low) [
@@ -51,8 +51,8 @@ counted_inside at len (suc n) low high =
           rw last (omega (arith, some))
     ]
 
-pub counted_range : (at len n : ℕ) → at + len ≤ n → counted (in_range at len) n ≡ len
-unfolding counted
+pub counted_range : (at len n : ℕ) → at + len ≤ n → number_below (in_range at len) n ≡ len
+unfolding number_below
 counted_range at len zero high = omega (arith, high)
 counted_range at len (suc n) high =
     elim (at_or_below (at + len) n high) [

@@ -5,16 +5,16 @@ use Rattle.std.proofs.Math.Dec.{ltb}
 use Rattle.std.proofs.lemmas.Bool.{cases_Bool, cases_lt, ltb-true, and_parts, or_parts, false≢true, false_from_ne_true}
 use Rattle.address_map.proofs.InRange.{range_inside}
 use Rattle.address_map.specs.declared.region.Region.{Region}
-use Rattle.address_map.specs.Bytes.{Bytes, meets}
+use Rattle.address_map.specs.Bytes.{Bytes, shares_address}
 use Rattle.address_map.specs.Records.{is_heap_kind, meets_record}
 use Rattle.os_heap.specs.Store.{AreClear, IsClearOfHeaps, heaps_in, others_in}
 use Rattle.os_heap.proofs.RangeTests.{clear_unless, range_high, range_low}
 use Rattle.os_heap.specs.os_heap_lists.specs.Heap.{HeapList}
 use Rattle.dynamic_areas.specs.Changing.{AreRangesClear}
 
-pub unmet : (at len other other_len : ℕ) → AreClear at len other other_len → meets at len other other_len ≡ false
+pub unmet : (at len other other_len : ℕ) → AreClear at len other other_len → shares_address at len other other_len ≡ false
 unmet at len other other_len clear =
-    false_from_ne_true (meets at len other other_len) (λ met.
+    false_from_ne_true (shares_address at len other other_len) (λ met.
     let parts = and_parts (ltb 0 len && ltb 0 other_len) (ltb at (other + other_len) && ltb other (at + len)) met in
     let some = and_parts (ltb 0 len) (ltb 0 other_len) parts.0 in
     let cross = and_parts (ltb at (other + other_len)) (ltb other (at + len)) parts.1 in
@@ -70,8 +70,8 @@ ranges_by_pages base first count (r ∷ rs) all = (
   ranges_by_pages base first count rs (λ k low high. (all k low high).1),
 )
 
-pub clear_of_ranges : (at len : ℕ) (rs : List Region) → list_any (λ r. meets at len r.at r.len) rs ≡ false → AreRangesClear at len rs
+pub clear_of_ranges : (at len : ℕ) (rs : List Region) → list_any (λ r. shares_address at len r.at r.len) rs ≡ false → AreRangesClear at len rs
 clear_of_ranges at len [] none = tt
 clear_of_ranges at len (r ∷ rs) none =
-    let parts = or_parts (meets at len r.at r.len) (list_any (λ r. meets at len r.at r.len) rs) none in
+    let parts = or_parts (shares_address at len r.at r.len) (list_any (λ r. shares_address at len r.at r.len) rs) none in
     (clear_unless at len r.at r.len parts.0, clear_of_ranges at len rs parts.1)

@@ -9,32 +9,32 @@ use Rattle.profile.specs.declared.error.ErrorNumber.TheVariants.{AreaUnknown, Ar
 use Rattle.os_heap.proofs.RangeTests.{or_middle}
 use Rattle.os_heap.specs.Store.{Store}
 use Rattle.dynamic_areas.specs.declared.area.Area.{Area}
-use Rattle.dynamic_areas.specs.Areas.{Land, find_area, with_area, without_area, with_areas, with_number, pages_of, is_created, renumbered}
-use Rattle.dynamic_areas.specs.Ground.{is_fixed, is_held, AreAreas}
+use Rattle.dynamic_areas.specs.Areas.{Land, find_area, with_area, without_area, with_areas, with_number, pages_of, is_created, areas_after_renumber}
+use Rattle.dynamic_areas.specs.Ground.{is_fixed, is_in_area, AreAreas}
 use Rattle.dynamic_areas.specs.Rooms.{IsAreaTable}
 use Rattle.dynamic_areas.proofs.PutLemmas.{pages_with, pages_without}
 use Rattle.dynamic_areas.proofs.RoomLemmas.{find_with_other, find_without_other}
 
-held_put : (area : Area) (areas : List Area) (x : ℕ) → list_any (is_held x) (with_area area areas) ≡ (is_held x area || list_any (is_held x) areas)
+held_put : (area : Area) (areas : List Area) (x : ℕ) → list_any (is_in_area x) (with_area area areas) ≡ (is_in_area x area || list_any (is_in_area x) areas)
 held_put area [] x = refl
 held_put area (a ∷ others) x =
     elim (cases_lt area.number a.number) [
       | inl here ↦ rw (lt-ltb area.number a.number here) refl
-      | inr later ↦ rw (le-ltb area.number a.number later, held_put area others x) (or_middle (is_held x a) (is_held x area) (list_any (is_held x) others))
+      | inr later ↦ rw (le-ltb area.number a.number later, held_put area others x) (or_middle (is_in_area x a) (is_in_area x area) (list_any (is_in_area x) others))
     ]
 
 held_take : (number : ℕ) (areas : List Area) (a : Area) (x : ℕ) → find_area number areas ≡ Some a
-    → (is_held x a || list_any (is_held x) (without_area number areas)) ≡ list_any (is_held x) areas
+    → (is_in_area x a || list_any (is_in_area x) (without_area number areas)) ≡ list_any (is_in_area x) areas
 held_take number [] a x e = absurd (let none : None ≡ Some a = e in cc)
 held_take number (g ∷ others) a x e =
     elim (cases_Bool (g.number == number)) [
       | inl this ↦
           let e' = rw this at e in
           let same : g ≡ a = cc in
-          rw this (ap (λ (y : Area). is_held x y || list_any (is_held x) others) (sym same))
+          rw this (ap (λ (y : Area). is_in_area x y || list_any (is_in_area x) others) (sym same))
       | inr other ↦
           let rest = held_take number others a x (rw other at e) in
-          rw other (or_middle (is_held x a) (is_held x g) (list_any (is_held x) (without_area number others)) ∙ ap (λ (t : Bool). is_held x g || t) rest)
+          rw other (or_middle (is_in_area x a) (is_in_area x g) (list_any (is_in_area x) (without_area number others)) ∙ ap (λ (t : Bool). is_in_area x g || t) rest)
     ]
 
 moved : (l : Land) (areas : List Area) (old new : ℕ) (a : Area) → find_area old l.areas ≡ Some a
@@ -50,8 +50,8 @@ moved l areas old new a e is old_other new_other table s free before =
         sizes = before.ground.sizes;
         table = table;
         land = λ x.
-            let same : list_any (is_held x) areas ≡ list_any (is_held x) l.areas =
-            ap (λ (xs : List Area). list_any (is_held x) xs) is ∙ held_put (with_number new a) (without_area old l.areas) x ∙ held_take old l.areas a x e in
+            let same : list_any (is_in_area x) areas ≡ list_any (is_in_area x) l.areas =
+            ap (λ (xs : List Area). list_any (is_in_area x) xs) is ∙ held_put (with_number new a) (without_area old l.areas) x ∙ held_take old l.areas a x e in
             before.ground.land x ∙ ap (λ (t : Bool). is_fixed l.sizes x || t) (sym same);
         pages = rw count before.ground.pages;
         ranges = before.ground.ranges;
@@ -106,9 +106,9 @@ kept l areas old new (Some a) r e leaves table s free before =
       not_false true h = refl
       not_false false h = sym h
 
-pub areas_renumbered : (l m : Land) (old new : ℕ) (r : Result (Unit {0}) ErrorNumber) → Leaves l.areas (renumbered l.areas old new) r m.areas
+pub areas_renumbered : (l m : Land) (old new : ℕ) (r : Result (Unit {0}) ErrorNumber) → Leaves l.areas (areas_after_renumber l.areas old new) r m.areas
     → m.sizes ≡ l.sizes → IsAreaTable m.areas → (s : Store) (free : ℕ) → AreAreas s free l → AreAreas s free m
-unfolding renumbered tested
+unfolding areas_after_renumber tested
 areas_renumbered l m old new r leaves sizes table s free before =
     let is : with_areas l m.areas ≡ m = λ i. record { sizes = sizes_back i; areas = m.areas } in
     subst (λ (k : Land). AreAreas s free k) is (kept l m.areas old new (find_area old l.areas) r refl leaves table s free before) where

@@ -1,17 +1,18 @@
 -- The areas stay apart and in order where one is taken away, put in, or gets another number.
+use Rattle.profile.specs.MemoryMap.{area_window_end, area_window_start, module_area_start}
 use Rattle.std.proofs.Common.{◌≡◌, ◌≢◌, ℕ, ◌+◌, ◌*◌, ◌<◌, ◌≤◌, ◌==◌, true, false, leb, List, [], ◌∷◌, length, refl, sym, ap, subst, ◌∙◌, Some, None, inl, inr, arith}
 use Rattle.std.specs.Prelude.{is_some, Option, ok_or, Ok}
 use Rattle.profile.specs.declared.error.ErrorNumber.TheVariants.{AreaUnknown}
 use Rattle.std.proofs.Math.Bool.{and_comm}
 use Rattle.std.proofs.Math.Dec.{ltb}
 use Rattle.std.proofs.lemmas.Bool.{cases_Bool, cases_eq, cases_lt, eqb-true, eq-eqb, ne_eqb, lt-ltb, le-ltb, leb-true, or_parts, and_parts, false≢true}
-use Rattle.address_map.specs.Bytes.{meets}
+use Rattle.address_map.specs.Bytes.{shares_address}
 use Rattle.dynamic_areas.specs.declared.area.Area.{Area}
 use Rattle.dynamic_areas.specs.Areas.{find_area, area_in, with_area, without_area, with_pages, with_number, is_created}
 use Rattle.dynamic_areas.specs.Creating.{least_number}
-use Rattle.dynamic_areas.specs.Rooms.{IsRoom, IsBefore, AreRooms, IsAreaTable, meets_area, is_place, is_in_window}
+use Rattle.dynamic_areas.specs.Rooms.{IsAreaRoom, IsBefore, AreRooms, IsAreaTable, meets_area, is_place, is_in_window}
 
-pub meets_turned : (at len other other_len : ℕ) → meets at len other other_len ≡ meets other other_len at len
+pub meets_turned : (at len other other_len : ℕ) → shares_address at len other other_len ≡ shares_address other other_len at len
 meets_turned at len other other_len =
     rw (and_comm (ltb 0 len) (ltb 0 other_len), and_comm (ltb at (other + other_len)) (ltb other (at + len))) refl
 
@@ -27,27 +28,27 @@ found_number number (g ∷ others) a e =
       | inr other ↦ found_number number others a (rw other at e)
     ]
 
-pub found_room : (number : ℕ) (others : List Area) (a : Area) → AreRooms others → find_area number others ≡ Some a → IsRoom a
+pub found_room : (number : ℕ) (others : List Area) (a : Area) → AreRooms others → find_area number others ≡ Some a → IsAreaRoom a
 found_room number [] a rooms e = absurd (let none : None ≡ Some a = e in cc)
 found_room number (g ∷ others) a rooms e =
     elim (cases_Bool (g.number == number)) [
       | inl here ↦
           let e' = rw here at e in
           let same : g ≡ a = cc in
-          subst IsRoom same rooms.0
+          subst IsAreaRoom same rooms.0
       | inr other ↦ found_room number others a rooms.1.1 (rw other at e)
     ]
 
 -- an area that comes before others
 pub found_behind : (g a : Area) (number : ℕ) (others : List Area) → IsBefore g others → find_area number others ≡ Some a
-    → (g.number < a.number) × (meets g.base g.maximum a.base a.maximum ≡ false)
+    → (g.number < a.number) × (shares_address g.base g.maximum a.base a.maximum ≡ false)
 found_behind g a number [] before e = absurd (let none : None ≡ Some a = e in cc)
 found_behind g a number (b ∷ bs) before e =
     elim (cases_Bool (b.number == number)) [
       | inl here ↦
           let e' = rw here at e in
           let same : b ≡ a = cc in
-          subst (λ (x : Area). (g.number < x.number) × (meets g.base g.maximum x.base x.maximum ≡ false)) same before.0
+          subst (λ (x : Area). (g.number < x.number) × (shares_address g.base g.maximum x.base x.maximum ≡ false)) same before.0
       | inr other ↦ found_behind g a number bs before.1 (rw other at e)
     ]
 
@@ -59,11 +60,11 @@ before_rest : (area a : Area) (others : List Area) → area.number < a.number �
     → IsBefore area others
 before_rest area a [] less before clear = tt
 before_rest area a (b ∷ bs) less before clear =
-    let parts = or_parts (meets area.base area.maximum b.base b.maximum) (meets_area area.base area.maximum bs) clear in
+    let parts = or_parts (shares_address area.base area.maximum b.base b.maximum) (meets_area area.base area.maximum bs) clear in
     let ahead : a.number < b.number = before.0.0 in
     ((omega arith, parts.0), before_rest area a bs less before.1 parts.1)
 
-before_with : (a area : Area) (others : List Area) → a.number < area.number → meets a.base a.maximum area.base area.maximum ≡ false
+before_with : (a area : Area) (others : List Area) → a.number < area.number → shares_address a.base a.maximum area.base area.maximum ≡ false
     → IsBefore a others → IsBefore a (with_area area others)
 before_with a area [] less clear before = ((less, clear), tt)
 before_with a area (b ∷ bs) less clear before =
@@ -87,11 +88,11 @@ before_none a number (b ∷ bs) low before =
     rw (ne_eqb b.number number (omega arith)) (before_none a number bs low before.1)
 
 -- one area more
-pub rooms_with : (area : Area) (others : List Area) → IsRoom area → find_area area.number others ≡ None → meets_area area.base area.maximum others ≡ false
+pub rooms_with : (area : Area) (others : List Area) → IsAreaRoom area → find_area area.number others ≡ None → meets_area area.base area.maximum others ≡ false
     → AreRooms others → AreRooms (with_area area others)
 rooms_with area [] room new clear rooms = (room, (tt, tt))
 rooms_with area (a ∷ others) room new clear rooms =
-    let parts = or_parts (meets area.base area.maximum a.base a.maximum) (meets_area area.base area.maximum others) clear in
+    let parts = or_parts (shares_address area.base area.maximum a.base a.maximum) (meets_area area.base area.maximum others) clear in
     elim (cases_eq a.number area.number) [
       | inl same ↦ absurd (let e = rw (eq-eqb a.number area.number same) at new in let e' : Some a ≡ None = e in cc)
       | inr differ ↦
@@ -129,7 +130,7 @@ clear_rest number (g ∷ others) a rooms e =
           rw here (subst (λ (x : Area). meets_area x.base x.maximum others ≡ false) same (before_clear g others rooms.1.0))
       | inr other ↦
           let e' = rw other at e in
-          let apart : meets a.base a.maximum g.base g.maximum ≡ false =
+          let apart : shares_address a.base a.maximum g.base g.maximum ≡ false =
           meets_turned a.base a.maximum g.base g.maximum ∙ (found_behind g a number others rooms.1.0 e').1 in
           let rest : meets_area a.base a.maximum (without_area number others) ≡ false = clear_rest number others a rooms.1.1 e' in
           rw (other, apart, rest) refl
@@ -205,16 +206,16 @@ in_window number base maximum other place =
     (and_parts (is_created number) (is_in_window base maximum) e).1
 
 -- no area is larger than the window
-pub room_small : (a : Area) → IsRoom a → a.maximum ≤ 0x01000000
+pub room_small : (a : Area) → IsAreaRoom a → a.maximum ≤ 0x01000000
 room_small a room =
     elim (cases_eq a.number 1) [
       | inl first ↦
           let e = rw (eq-eqb a.number 1 first) at room.place in
-          let same : a.maximum ≡ 4194304 = eqb-true a.maximum 4194304 (and_parts (a.base == 0x01800000) (a.maximum == 4194304) e).1 in
+          let same : a.maximum ≡ 4194304 = eqb-true a.maximum 4194304 (and_parts (a.base == module_area_start) (a.maximum == 4194304) e).1 in
           omega arith
       | inr other ↦
-          let inside = and_parts (leb 0x02000000 a.base) (leb (a.base + a.maximum) 0x03000000) (in_window a.number a.base a.maximum other room.place) in
-          omega (arith, leb-true 0x02000000 a.base inside.0, leb-true (a.base + a.maximum) 0x03000000 inside.1)
+          let inside = and_parts (leb area_window_start a.base) (leb (a.base + a.maximum) area_window_end) (in_window a.number a.base a.maximum other room.place) in
+          omega (arith, leb-true area_window_start a.base inside.0, leb-true (a.base + a.maximum) area_window_end inside.1)
     ]
 
 known : (found : Option Area) (a : Area) → ok_or found AreaUnknown ≡ Ok a → found ≡ Some a
@@ -223,7 +224,7 @@ known (Some b) a e = cc
 
 pub held_small : (areas : List Area) (number : ℕ) (a : Area) → IsAreaTable areas → area_in areas number ≡ Ok a → 4096 * a.pages ≤ 0x01000000
 held_small areas number a table e =
-    let room : IsRoom a = found_room number areas a table.rooms (known (find_area number areas) a e) in
+    let room : IsAreaRoom a = found_room number areas a table.rooms (known (find_area number areas) a e) in
     omega (arith, room.within, room_small a room)
 
 pub none_there : (found : Option Area) → is_some found ≡ false → found ≡ None
@@ -233,7 +234,7 @@ none_there (Some a) e = absurd (false≢true (sym e))
 pub table_renumbered : (areas : List Area) (old new : ℕ) (a : Area) → IsAreaTable areas → find_area old areas ≡ Some a → old ≢ 1
     → is_created new ≡ true → is_some (find_area new areas) ≡ false → IsAreaTable (with_area (with_number new a) (without_area old areas))
 table_renumbered areas old new a table found other good free =
-    let room : IsRoom a = found_room old areas a table.rooms found in
+    let room : IsAreaRoom a = found_room old areas a table.rooms found in
     let number : a.number ≡ old = found_number old areas a found in
     let limits = and_parts (leb 256 new) (leb new 0x7FFFFFFF) good in
     let low : 256 ≤ new = leb-true 256 new limits.0 in

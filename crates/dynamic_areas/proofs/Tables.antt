@@ -4,7 +4,7 @@ use Rattle.std.specs.List.{insert}
 use Rattle.std.proofs.lemmas.Bool.{eq-eqb, ne_eqb, lt-ltb, le-ltb}
 use Rattle.std.proofs.lemmas.List.{drop_more, drop_all, take_more, set_split, get_or_default}
 use Rattle.dynamic_areas.specs.declared.area.Area.{Area}
-use Rattle.dynamic_areas.specs.Areas.{find_area, with_area, without_area, with_pages, paged}
+use Rattle.dynamic_areas.specs.Areas.{find_area, with_area, without_area, with_pages, area_with_pages}
 use Rattle.dynamic_areas.specs.Creating.{lowest_from}
 use Rattle.dynamic_areas.specs.Places.{IsPlaceOf}
 use Rattle.dynamic_areas.specs.Rooms.{meets_area}
@@ -35,8 +35,8 @@ searched_found number areas i e below same so_far =
       without = let f = rw (drop_more areas i e below, here, add-one i) at so_far.without in f;
       pages = λ d pages.
           let f = rw (drop_more areas i e below, here, add-one i) at (so_far.pages pages) in
-          f ∙ sym (set_split areas i (paged pages (get_or areas i e)) below)
-          ∙ ap (λ (x : Area). set areas i (paged pages x)) (get_or_default areas i e d below);
+          f ∙ sym (set_split areas i (area_with_pages pages (get_or areas i e)) below)
+          ∙ ap (λ (x : Area). set areas i (area_with_pages pages x)) (get_or_default areas i e d below);
     }
 
 pub searched_none : (number : ℕ) (areas : List Area) (i : ℕ) → length areas ≤ i → IsSearched number areas i → find_area number areas ≡ None

@@ -1,4 +1,5 @@
 -- What is known of an area that was wanted and may be made.
+use Rattle.profile.specs.MemoryMap.{area_window_end, area_window_start}
 use Rattle.std.proofs.Common.{◌≡◌, ◌≢◌, ℕ, ◌+◌, ◌*◌, ◌%◌, ◌<◌, ◌≤◌, ◌==◌, ◌&&◌, true, false, leb, List, length, suc, zero, refl, subst, Some, None, Ok, Err, inl, inr, arith}
 use Rattle.std.specs.Prelude.{is_some, Option, ok_or, if◌then◌else◌}
 use Rattle.std.proofs.Math.Dec.{ltb}
@@ -8,10 +9,10 @@ use Rattle.profile.specs.Sizes.{Sizes}
 use Rattle.profile.specs.declared.error.ErrorNumber.TheVariants.{AreaTaken, AreaTableFull, AreaNoPages}
 use Rattle.dynamic_areas.specs.declared.area.Area.{Area}
 use Rattle.dynamic_areas.specs.declared.area.Wanted.{Wanted}
-use Rattle.dynamic_areas.specs.Areas.{Land, minus_one, find_area, paged, is_created}
+use Rattle.dynamic_areas.specs.Areas.{Land, minus_one, find_area, area_with_pages, is_created}
 use Rattle.dynamic_areas.specs.Creating.{pages_for, least_number, lowest_from, lowest_gap, gap_count, wanted_maximum, wanted_number, wanted_base, are_good_sizes, is_good_number, is_good_base, is_good, new_area, area_wanted}
 use Rattle.dynamic_areas.specs.Laws.{IsGap}
-use Rattle.dynamic_areas.specs.Rooms.{IsRoom, AreRooms, is_name, is_in_window, meets_area}
+use Rattle.dynamic_areas.specs.Rooms.{IsAreaRoom, AreRooms, can_name_area, is_in_window, meets_area}
 use Rattle.dynamic_areas.proofs.RoomLemmas.{none_there, created_place, least_free, IsLeast}
 
 lowest_is : (areas : List Area) (maximum base n b : ℕ) → lowest_from areas maximum base n ≡ Some b
@@ -34,14 +35,14 @@ lowest_is areas maximum base (suc n) b e =
 pub gap_found : (areas : List Area) (maximum base : ℕ) → maximum ≤ 16777216 → lowest_gap areas maximum ≡ Some base → IsGap areas maximum base
 unfolding lowest_gap
 gap_found areas maximum base small e =
-    let found = lowest_is areas maximum 0x02000000 (gap_count maximum) base e in
+    let found = lowest_is areas maximum area_window_start (gap_count maximum) base e in
     let k : ℕ = found.0 in
     let below : k < gap_count maximum = found.1 in
-    let at : base ≡ 0x02000000 + 4096 * k = found.2 in
+    let at : base ≡ area_window_start + 4096 * k = found.2 in
     record {
       clear = found.3;
       page = omega arith;
-      inside = rw (le-leb 0x02000000 base (omega arith), le-leb (base + maximum) 0x03000000 (omega arith)) refl;
+      inside = rw (le-leb area_window_start base (omega arith), le-leb (base + maximum) area_window_end (omega arith)) refl;
     }
 
 base_found : (areas : List Area) (word maximum base : ℕ) → maximum ≤ 16777216 → is_good_base word maximum ≡ true → wanted_base areas word maximum ≡ Some base
@@ -81,7 +82,7 @@ whole_pages sizes word =
       multiple n = omega arith
 
 pub record IsWanted (l : Land) (free : ℕ) (w : Wanted) (a : Area) : Type 0 where
-  pub room : IsRoom (paged 0 a)
+  pub room : IsAreaRoom (area_with_pages 0 a)
   pub other : a.number ≢ 1
   pub new : find_area a.number l.areas ≡ None
   pub clear : meets_area a.base a.maximum l.areas ≡ false
@@ -95,14 +96,14 @@ made : (l : Land) (free : ℕ) (w : Wanted) (name : List ℕ) (number maximum ba
     → maximum % 4096 ≡ 0 → find_area number l.areas ≡ None → number ≡ wanted_number l.areas w.number → wanted_base l.areas w.base maximum ≡ Some base
     → length l.areas < 32 → pages_for w.size ≤ free → new_area number base maximum w name ≡ a → IsWanted l free w a
 made l free w name number maximum base a rooms good whole new is_number e few pool same =
-    let parts = and_parts (are_good_sizes maximum w.size) ((is_good_number w.number && w.handler == 0) && (is_good_base w.base maximum && is_name name)) good in
+    let parts = and_parts (are_good_sizes maximum w.size) ((is_good_number w.number && w.handler == 0) && (is_good_base w.base maximum && can_name_area name)) good in
     let sizes = and_parts (leb 1 maximum && leb maximum 16777216) (leb (4096 * pages_for w.size) maximum) parts.0 in
     let limits = and_parts (leb 1 maximum) (leb maximum 16777216) sizes.0 in
     let small : maximum ≤ 16777216 = leb-true maximum 16777216 limits.1 in
     let fits : 4096 * pages_for w.size ≤ maximum = leb-true (4096 * pages_for w.size) maximum sizes.1 in
-    let words = and_parts (is_good_number w.number && w.handler == 0) (is_good_base w.base maximum && is_name name) parts.1 in
+    let words = and_parts (is_good_number w.number && w.handler == 0) (is_good_base w.base maximum && can_name_area name) parts.1 in
     let numbers = and_parts (is_good_number w.number) (w.handler == 0) words.0 in
-    let places = and_parts (is_good_base w.base maximum) (is_name name) words.1 in
+    let places = and_parts (is_good_base w.base maximum) (can_name_area name) words.1 in
     let gap : IsGap l.areas maximum base = base_found l.areas w.base maximum base small places.0 e in
     let created : is_created number ≡ true = rw is_number (number_created l.areas w.number few rooms numbers.0) in
     let low : 256 ≤ number = leb-true 256 number (and_parts (leb 256 number) (leb number 0x7FFFFFFF) created).0 in

@@ -1,6 +1,7 @@
 -- Dynamic areas as a list by number, and what calls answer of it (RISC OS 3 Programmer's Reference
 -- Manual, "OS_ReadDynamicArea", and its supplement, "OS_DynamicArea"; the numbers of created areas,
 -- the limits, and the order of the refusals, are this project's own).
+use Rattle.profile.specs.MemoryMap.{module_area_start}
 use Rattle.std.specs.Prelude.{ℕ, ◌+◌, ◌-◌, ◌*◌, ◌==◌, ◌&&◌, ◌||◌, not, Bool, nat_le, nat_lt, Option, Some, None, is_some, ok_or, Result, Ok, Err, List, [], ◌∷◌, codes, if◌then◌else◌}
 use Rattle.profile.specs.Outcome.{bind}
 use Rattle.profile.specs.Sizes.{Sizes}
@@ -23,7 +24,7 @@ abbrev pub module_area : ℕ → Area
 module_area pages = record {
   number = 1;
   name = record { items = codes "RMA" };
-  base = 0x01800000;
+  base = module_area_start;
   pages = pages;
   maximum = 4194304;
   flags = 0;
@@ -43,8 +44,8 @@ abbrev pub area_in : List Area → ℕ → Result Area ErrorNumber
 area_in areas number = ok_or (find_area number areas) AreaUnknown
 
 -- an area, and the areas, after one got another count of pages
-abbrev pub paged : ℕ → Area → Area
-paged pages a = record {
+abbrev pub area_with_pages : ℕ → Area → Area
+area_with_pages pages a = record {
   number = a.number;
   name = a.name;
   base = a.base;
@@ -56,12 +57,14 @@ paged pages a = record {
 
 abbrev pub with_pages : ℕ → ℕ → List Area → List Area
 with_pages number pages [] = []
-with_pages number pages (a ∷ others) = if a.number == number then paged pages a ∷ others else a ∷ with_pages number pages others
+with_pages number pages (a ∷ others) = if a.number == number then area_with_pages pages a ∷ others
+    else a ∷ with_pages number pages others
 
 -- the areas with one more, at its place by number
 abbrev pub with_area : Area → List Area → List Area
 with_area area [] = area ∷ []
-with_area area (a ∷ others) = if nat_lt area.number a.number then area ∷ a ∷ others else a ∷ with_area area others
+with_area area (a ∷ others) = if nat_lt area.number a.number then area ∷ a ∷ others
+    else a ∷ with_area area others
 
 -- and without the one of a number
 abbrev pub without_area : ℕ → List Area → List Area
@@ -82,7 +85,12 @@ abbrev pub asked_number : ℕ → ℕ
 asked_number word = if nat_le 128 word && nat_lt word 256 then word - 128 else word
 
 abbrev pub extent_of : ℕ → Area → Extent
-extent_of word a = record { base = a.base; size = 4096 * a.pages; maximum = if nat_le 128 word then Some a.maximum else None }
+extent_of word a = record {
+  base = a.base;
+  size = 4096 * a.pages;
+  maximum = if nat_le 128 word then
+      Some a.maximum else None;
+}
 
 unfoldable pub extent_asked : List Area → ℕ → Result Extent ErrorNumber
 extent_asked areas word = bind (area_in areas (asked_number word)) (λ a. Ok (extent_of word a))
@@ -95,7 +103,8 @@ next_above number (a ∷ others) = if nat_lt number a.number then a.number else 
 
 unfoldable pub next_number : List Area → ℕ → Result ℕ ErrorNumber
 next_number areas number =
-    if number == minus_one then Ok (next_above 0 areas) else bind (area_in areas number) (λ _. Ok (next_above number areas))
+    if number == minus_one then Ok (next_above 0 areas)
+    else bind (area_in areas number) (λ _. Ok (next_above number areas))
 
 -- the numbers of created areas
 abbrev pub is_created : ℕ → Bool
@@ -114,8 +123,8 @@ with_number number a = record {
   workspace = a.workspace;
 }
 
-unfoldable pub renumbered : List Area → ℕ → ℕ → Result (List Area) ErrorNumber
-renumbered areas old new =
+unfoldable pub areas_after_renumber : List Area → ℕ → ℕ → Result (List Area) ErrorNumber
+areas_after_renumber areas old new =
     bind (area_in areas old) (λ a.
     if old == 1 || not (is_created new) then Err AreaBad else (
     if is_some (find_area new areas) then Err AreaTaken else

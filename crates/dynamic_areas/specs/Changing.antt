@@ -1,6 +1,7 @@
 -- OS_ChangeDynamicArea: an area grows out of the pool, and shrinks down to the first page from its
 -- top that must stay (RISC OS 3 Programmer's Reference Manual, "OS_ChangeDynamicArea"; what must
 -- stay, and that as many pages move as can, are this project's own).
+use Rattle.profile.specs.MemoryMap.{module_area_start}
 use Rattle.std.specs.Prelude.{ℕ, ◌+◌, ◌-◌, ◌*◌, ◌/◌, ◌^◌, ◌==◌, ◌||◌, Bool, false, zero, suc, ◌≡◌, nat_lt, min, Option, Some, None, Result, Ok, Err, List, [], ◌∷◌, ◌≤◌, if◌then◌else◌}
 use Rattle.profile.specs.Outcome.{bind}
 use Rattle.profile.specs.declared.error.ErrorNumber.{ErrorNumber}
@@ -33,7 +34,8 @@ heap_base (Some h) = h.start + (16 + size_of h.items)
 -- Must the page at an address stay? It must where it has a byte of a recorded range or of an
 -- anchor; in the module area, which is itself such a range, up to the last byte below its base.
 unfoldable pub must_stay : Store → ℕ → ℕ → Bool
-must_stay s number page = if number == 1 then nat_lt page (heap_base (find_heap 0x01800000 s.heaps)) else meets_any page 4096 s
+must_stay s number page = if number == 1 then nat_lt page (heap_base (find_heap module_area_start s.heaps))
+    else meets_any page 4096 s
 
 -- how many of the `n` pages from `base` on are left where those at the top go, up to the first that
 -- stays
@@ -43,7 +45,11 @@ held_from stays base (suc n) = if stays (base + 4096 * n) then suc n else held_f
 
 -- as many of the pages asked for as can move; where these are fewer, the error tells why
 abbrev pub moving : ℕ → ℕ → ErrorNumber → Changed
-moving asked room error = record { bytes = 4096 * min asked room; error = if nat_lt room asked then Some error else None }
+moving asked room error = record {
+  bytes = 4096 * min asked room;
+  error = if nat_lt room asked then Some error
+      else None;
+}
 
 abbrev pub growth_room : ℕ → Area → ℕ
 growth_room free a = min (a.maximum / 4096 - a.pages) free
@@ -68,10 +74,12 @@ pages_had None = 0
 pages_had (Some a) = a.pages
 
 abbrev pub land_more : Land → ℕ → ℕ → Land
-land_more l number count = with_areas l (with_pages number (pages_had (find_area number l.areas) + count) l.areas)
+land_more l number count = with_areas l (with_pages number
+    (pages_had (find_area number l.areas) + count) l.areas)
 
 abbrev pub land_less : Land → ℕ → ℕ → Land
-land_less l number count = with_areas l (with_pages number (pages_had (find_area number l.areas) - count) l.areas)
+land_less l number count = with_areas l (with_pages number
+    (pages_had (find_area number l.areas) - count) l.areas)
 
 abbrev pub store_more : Store → ℕ → Option Area → Store
 store_more s count None = s
@@ -99,29 +107,31 @@ abbrev pub store_emptied : Store → Option Area → Store
 store_emptied s None = s
 store_emptied s (Some a) = without_pages_at s a.base (4096 * a.pages)
 
-unfoldable pub removed : Land → Store → ℕ → Result Land ErrorNumber
-removed l s number =
+unfoldable pub land_after_remove : Land → Store → ℕ → Result Land ErrorNumber
+land_after_remove l s number =
     bind (area_in l.areas number) (λ a.
     if number == 1 || nat_lt (loose_pages s a) a.pages then Err AreaInUse else
     Ok (with_areas l (without_area number l.areas)))
 
 -- the store after the module area's heap got another end
-abbrev pub ended_by : Store → ℕ → Option HeapList → Store
-ended_by s end None = s
-ended_by s end (Some h) = ending s h end
+abbrev pub store_after_end : Store → ℕ → Option HeapList → Store
+store_after_end s end None = s
+store_after_end s end (Some h) = ending s h end
 
 abbrev pub with_heap_end : Store → ℕ → Store
-with_heap_end s end = ended_by s end (find_heap 0x01800000 s.heaps)
+with_heap_end s end = store_after_end s end (find_heap module_area_start s.heaps)
 
 -- The store after a whole change: where the module area changes, its heap gets the end that the
 -- area has then, after pages were mapped, or before they are taken away.
 abbrev pub store_extended : Store → ℕ → ℕ → Option Area → Store
 store_extended s number count found =
-    if number == 1 then with_heap_end (store_more s count found) (4096 * (pages_had found + count)) else store_more s count found
+    if number == 1 then with_heap_end (store_more s count found) (4096 * (pages_had found + count))
+    else store_more s count found
 
 abbrev pub store_reduced : Store → ℕ → ℕ → Option Area → Store
 store_reduced s number count found =
-    if number == 1 then store_less (with_heap_end s (4096 * (pages_had found - count))) count found else store_less s count found
+    if number == 1 then store_less (with_heap_end s (4096 * (pages_had found - count))) count found
+    else store_less s count found
 
 -- land and store after a change of so many bytes
 abbrev pub land_changed : Land → ℕ → ℕ → ℕ → Land

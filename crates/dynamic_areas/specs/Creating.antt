@@ -1,6 +1,7 @@
 -- OS_DynamicArea, reason 0: a new area. Refusals come in the order of their numbers (RISC OS 3
 -- Programmer's Reference Manual, supplement, "OS_DynamicArea"; the limits, the lowest gap and the
 -- least number, and the order of the refusals, are this project's own).
+use Rattle.profile.specs.MemoryMap.{area_window_start}
 use Rattle.std.specs.Prelude.{ℕ, ◌+◌, ◌-◌, ◌*◌, ◌/◌, ◌%◌, ◌==◌, ◌&&◌, ◌||◌, not, Bool, zero, suc, nat_le, nat_lt, Option, Some, None, is_some, ok_or, Result, Ok, Err, List, [], ◌∷◌, length, if◌then◌else◌}
 use Rattle.profile.specs.Outcome.{bind}
 use Rattle.profile.specs.Sizes.{Sizes}
@@ -10,7 +11,7 @@ use Rattle.dynamic_areas.specs.declared.area.Area.{Area}
 use Rattle.dynamic_areas.specs.declared.area.Wanted.{Wanted}
 use Rattle.dynamic_areas.specs.declared.area.Created.{Created}
 use Rattle.dynamic_areas.specs.Areas.{Land, minus_one, find_area, with_area, with_areas, is_created}
-use Rattle.dynamic_areas.specs.Rooms.{is_name, is_in_window, meets_area}
+use Rattle.dynamic_areas.specs.Rooms.{can_name_area, is_in_window, meets_area}
 
 -- bytes rounded up to pages
 abbrev pub pages_for : ℕ → ℕ
@@ -36,7 +37,7 @@ abbrev pub gap_count : ℕ → ℕ
 gap_count maximum = (0x01000000 - maximum) / 4096 + 1
 
 unfoldable pub lowest_gap : List Area → ℕ → Option ℕ
-lowest_gap areas maximum = lowest_from areas maximum 0x02000000 (gap_count maximum)
+lowest_gap areas maximum = lowest_from areas maximum area_window_start (gap_count maximum)
 
 -- what is meant by the words of a call: -1 as the maximum is all memory of the machine, as the
 -- number the least free one, as the base the lowest gap
@@ -48,21 +49,24 @@ wanted_number areas word = if word == minus_one then least_number 256 areas else
 
 abbrev pub wanted_base : List Area → ℕ → ℕ → Option ℕ
 wanted_base areas word maximum =
-    if word == minus_one then lowest_gap areas maximum else (if meets_area word maximum areas then None else Some word)
+    if word == minus_one then lowest_gap areas maximum else
+    (if meets_area word maximum areas then None else Some word)
 
 abbrev pub is_good_base : ℕ → ℕ → Bool
 is_good_base word maximum = word == minus_one || (word % 4096 == 0 && is_in_window word maximum)
 
 -- are these sizes, words, and name those of an area that may be?
 abbrev pub are_good_sizes : ℕ → ℕ → Bool
-are_good_sizes maximum size = (nat_le 1 maximum && nat_le maximum 16777216) && nat_le (4096 * pages_for size) maximum
+are_good_sizes maximum size = (nat_le 1 maximum && nat_le maximum 16777216)
+    && nat_le (4096 * pages_for size) maximum
 
 abbrev pub is_good_number : ℕ → Bool
 is_good_number word = word == minus_one || is_created word
 
 abbrev pub is_good : ℕ → Wanted → List ℕ → Bool
 is_good maximum w name =
-    are_good_sizes maximum w.size && ((is_good_number w.number && w.handler == 0) && (is_good_base w.base maximum && is_name name))
+    are_good_sizes maximum w.size && ((is_good_number w.number && w.handler == 0)
+    && (is_good_base w.base maximum && can_name_area name))
 
 abbrev pub new_area : ℕ → ℕ → ℕ → Wanted → List ℕ → Area
 new_area number base maximum w name = record {
@@ -90,6 +94,6 @@ area_wanted l free w name =
 abbrev pub created_of : Area → Created
 created_of a = record { number = a.number; base = a.base; maximum = a.maximum }
 
-unfoldable pub created : Land → ℕ → Wanted → List ℕ → Result (Land × Created) ErrorNumber
-created l free w name =
+unfoldable pub land_after_create : Land → ℕ → Wanted → List ℕ → Result (Land × Created) ErrorNumber
+land_after_create l free w name =
     bind (area_wanted l free w name) (λ a. Ok (with_areas l (with_area a l.areas), created_of a))

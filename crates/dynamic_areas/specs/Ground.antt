@@ -1,6 +1,7 @@
 -- Which memory is mapped, on a machine with dynamic areas: the application space, the system pages,
 -- and each area's pages; all other pages are in the pool (RISC OS 3 Programmer's Reference Manual,
 -- "Memory management"; the places are this project's own).
+use Rattle.profile.specs.MemoryMap.{application_start, module_area_start, system_start}
 use Rattle.std.specs.Prelude.{ℕ, ◌≡◌, ◌+◌, ◌-◌, ◌*◌, ◌||◌, ◌⊎◌, Bool, List, [], ◌∷◌, Option, Some, None}
 use Rattle.std.specs.List.{list_any}
 use Rattle.profile.specs.Sizes.{Sizes, AreGood}
@@ -17,22 +18,22 @@ use Rattle.dynamic_areas.specs.Rooms.{IsAreaTable}
 
 -- the application space and the system pages
 abbrev pub is_fixed : Sizes → ℕ → Bool
-is_fixed sizes x = in_range 0x8000 (4096 * sizes.app) x || in_range 0x01C00000 0x3000 x
+is_fixed sizes x = in_range application_start (4096 * sizes.app) x || in_range system_start 0x3000 x
 
 -- the system pages, a recorded range
-abbrev pub system_pages : Region
-system_pages = record { kind = SystemPage; at = 0x01C00000; len = 0x3000 }
+abbrev pub system_pages_range : Region
+system_pages_range = record { kind = SystemPage; at = system_start; len = 0x3000 }
 
 -- a range is among those recorded
 abbrev pub IsRecorded : Region → List Region → Type 0
 IsRecorded r [] = ⊥
 IsRecorded r (q ∷ rs) = (q ≡ r) ⊎ IsRecorded r rs
 
-abbrev pub is_held : ℕ → Area → Bool
-is_held x a = in_range a.base (4096 * a.pages) x
+abbrev pub is_in_area : ℕ → Area → Bool
+is_in_area x a = in_range a.base (4096 * a.pages) x
 
 abbrev pub is_land : Land → ℕ → Bool
-is_land l x = is_fixed l.sizes x || list_any (is_held x) l.areas
+is_land l x = is_fixed l.sizes x || list_any (is_in_area x) l.areas
 
 abbrev pub AreRangesMapped : (ℕ → Bool) → List Region → Type 0
 AreRangesMapped mapped [] = Unit {0}
@@ -60,7 +61,7 @@ EndsWithArea None area = ⊥
 -- What holds between all calls.
 pub record AreAreas (s : Store) (free : ℕ) (l : Land) : Type 0 where
   pub ground : IsGround s free l
-  pub heap : EndsWithArea (find_heap 0x01800000 s.heaps) (find_area 1 l.areas)
+  pub heap : EndsWithArea (find_heap module_area_start s.heaps) (find_area 1 l.areas)
 
 -- All that calls on memory act on: the store, how many pages are in the pool, and the areas.
 pub record Estate : Type 0 where

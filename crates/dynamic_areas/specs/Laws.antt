@@ -16,7 +16,8 @@ pub record IsGap (areas : List Area) (maximum base : ℕ) : Type 0 where
 
 -- the gap that is chosen is one, and no other is lower; none is chosen only where there is none
 abbrev pub LowestGapIsChosen : Type 0
-LowestGapIsChosen = (areas : List Area) (maximum : ℕ) → maximum ≤ 16777216 → MatchOption (lowest_gap areas maximum)
+LowestGapIsChosen = (areas : List Area) (maximum : ℕ) → maximum ≤ 16777216 →
+    MatchOption (lowest_gap areas maximum)
     ((other : ℕ) → IsGap areas maximum other → ⊥)
     (λ base. IsGap areas maximum base × ((other : ℕ) → IsGap areas maximum other → base ≤ other))
 
@@ -27,7 +28,8 @@ pub record IsLeastFree (areas : List Area) (first least : ℕ) : Type 0 where
   pub taken : (number : ℕ) → first ≤ number → number < least → is_some (find_area number areas) ≡ true
 
 abbrev pub LeastNumberIsChosen : Type 0
-LeastNumberIsChosen = (areas : List Area) (first : ℕ) → IsAreaTable areas → IsLeastFree areas first (least_number first areas)
+LeastNumberIsChosen = (areas : List Area) (first : ℕ) → IsAreaTable areas →
+    IsLeastFree areas first (least_number first areas)
 
 -- of `count` pages, those from `held` on don't stay, and the last one below them does
 pub record IsHeldAt (stays : ℕ → Bool) (base count held : ℕ) : Type 0 where
@@ -36,4 +38,5 @@ pub record IsHeldAt (stays : ℕ → Bool) (base count held : ℕ) : Type 0 wher
   pub last : 0 < held → stays (base + 4096 * (held - 1)) ≡ true
 
 abbrev pub ShrinksToFirstHeld : Type 0
-ShrinksToFirstHeld = (stays : ℕ → Bool) (base count : ℕ) → IsHeldAt stays base count (held_from stays base count)
+ShrinksToFirstHeld = (stays : ℕ → Bool) (base count : ℕ) →
+    IsHeldAt stays base count (held_from stays base count)

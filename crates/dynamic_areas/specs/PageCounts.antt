@@ -8,4 +8,5 @@ use Rattle.os_heap.specs.Store.{store_of}
 
 -- where areas stand on a memory, it has as many pages as the machine that they are of
 abbrev pub AreasCountPages : Type 0
-AreasCountPages = (m : AddressMap) (l : Land) → AreAreas (store_of m) (free_pages m) l → page_total m ≡ l.sizes.pages
+AreasCountPages = (m : AddressMap) (l : Land) → AreAreas (store_of m) (free_pages m) l →
+    page_total m ≡ l.sizes.pages

@@ -6,9 +6,17 @@ use Rattle.os_heap.specs.Store.{Store}
 
 -- the `len` bytes from `at` on are mapped too; they are 0, as those that are not mapped
 abbrev pub with_pages_at : Store → ℕ → ℕ → Store
-with_pages_at s at len = record s { bytes = record { mapped = λ a. in_range at len a || s.bytes.mapped a; at = s.bytes.at } }
+with_pages_at s at len = record s {
+  bytes = record {
+    mapped = λ a. in_range at len a || s.bytes.mapped a;
+    at = s.bytes.at;
+  };
+}
 
 abbrev pub without_pages_at : Store → ℕ → ℕ → Store
 without_pages_at s at len = record s {
-  bytes = record { mapped = λ a. s.bytes.mapped a && not (in_range at len a); at = with_zeros_at s.bytes.at at len };
+  bytes = record {
+    mapped = λ a. s.bytes.mapped a && not (in_range at len a);
+    at = with_zeros_at s.bytes.at at len;
+  };
 }

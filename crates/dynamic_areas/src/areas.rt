@@ -4,7 +4,7 @@ ghost use Rattle.std.specs.Prelude.{ℕ, ◌≡◌, ◌≤◌, ◌<◌, length, 
 ghost use Rattle.profile.specs.Outcome.{Leaves};
 ghost use Rattle.address_map.specs.Memory.{free_pages};
 ghost use Rattle.os_heap.specs.Store.{Store};
-ghost use Rattle.dynamic_areas.specs.Areas.{area_in, asked_number, extent_of, extent_asked, next_number, module_area, start_land, renumbered, with_area, with_areas, with_pages, without_area};
+ghost use Rattle.dynamic_areas.specs.Areas.{area_in, asked_number, extent_of, extent_asked, next_number, module_area, start_land, areas_after_renumber, with_area, with_areas, with_pages, without_area};
 ghost use Rattle.dynamic_areas.specs.Ground.{AreAreas};
 ghost use Rattle.dynamic_areas.specs.Rooms.{IsAreaTable};
 
@@ -122,7 +122,8 @@ impl Areas {
     /// RISC OS 3 Programmer's Reference Manual, supplement, "OS_DynamicArea", reason 4.
     pub fn renumber(&mut self, old: u32, new: u32) -> Result<(), ErrorNumber>
         requires { IsAreaTable self.old.areas }
-        ensures areas { Leaves self.old.areas (renumbered self.old.areas old new) result self.new.areas }
+        ensures areas { Leaves self.old.areas (areas_after_renumber self.old.areas old new) result
+            self.new.areas }
         ensures sizes { self.new.sizes ≡ self.old.sizes }
         ensures table { IsAreaTable self.new.areas }
         ensures ground { (s : Store) (free : ℕ) → AreAreas s free self.old → AreAreas s free self.new }
@@ -132,7 +133,8 @@ impl Areas {
 
     fn renumber_in_list(&mut self, old: u32, new: u32) -> Result<(), ErrorNumber>
         requires { IsAreaTable self.old.areas }
-        ensures areas { Leaves self.old.areas (renumbered self.old.areas old new) result self.new.areas }
+        ensures areas { Leaves self.old.areas (areas_after_renumber self.old.areas old new) result
+            self.new.areas }
         ensures sizes { self.new.sizes ≡ self.old.sizes }
         ensures table { IsAreaTable self.new.areas }
     {

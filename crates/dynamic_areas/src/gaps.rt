@@ -1,7 +1,7 @@
 //! Where a new area has room among the others, and which texts can name one.
 
 ghost use Rattle.std.specs.Prelude.{◌≡◌, ◌≤◌, ◌<◌, ◌%◌, ◌&&◌};
-ghost use Rattle.dynamic_areas.specs.Rooms.{meets_area, is_name, is_name_byte, is_in_window};
+ghost use Rattle.dynamic_areas.specs.Rooms.{meets_area, can_name_area, is_area_name_byte, is_in_window};
 ghost use Rattle.dynamic_areas.specs.Creating.{gap_count, lowest_gap};
 ghost use Rattle.std.specs.List.{list_all};
 
@@ -54,13 +54,13 @@ fn gap_count(maximum: u32) -> u32
 
 /// Whether a text can name an area: 1 to 31 bytes from space to `~`.
 pub(crate) fn is_name(name: &[u8]) -> bool
-    ensures { result ≡ is_name name.now }
+    ensures { result ≡ can_name_area name.now }
 {
     !name.is_empty() && name.len() <= MOST_NAME_BYTES && are_name_bytes(name)
 }
 
 fn are_name_bytes(name: &[u8]) -> bool
-    ensures { result ≡ list_all is_name_byte name.now }
+    ensures { result ≡ list_all is_area_name_byte name.now }
 {
     name.iter().all(|byte| *byte >= 32 && *byte <= 126)
 }

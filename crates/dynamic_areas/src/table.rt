@@ -5,7 +5,7 @@ ghost use Rattle.profile.specs.Outcome.{Leaves};
 ghost use Rattle.std.specs.List.{insert};
 ghost use Rattle.std.specs.Option.{option_copied};
 ghost use Rattle.dynamic_areas.specs.declared.area.Area.{Area};
-ghost use Rattle.dynamic_areas.specs.Areas.{find_area, with_area, without_area, with_pages, next_above, is_created, renumbered};
+ghost use Rattle.dynamic_areas.specs.Areas.{find_area, with_area, without_area, with_pages, next_above, is_created, areas_after_renumber};
 ghost use Rattle.dynamic_areas.specs.Creating.{least_number};
 ghost use Rattle.dynamic_areas.specs.Places.{IsPlaceOf};
 ghost use Rattle.dynamic_areas.specs.Rooms.{IsAreaTable};
@@ -133,14 +133,15 @@ pub(crate) fn put_area(areas: &mut ArrayVec<Area, MOST_AREAS>, area: Area)
 }
 
 /// Gives an area another number. Nothing is changed where this is refused.
-#[tactic(auto, unfolding(crate::specs::Areas::renumbered))]
+#[tactic(auto, unfolding(crate::specs::Areas::areas_after_renumber))]
 pub(crate) fn renumber(
     areas: &mut ArrayVec<Area, MOST_AREAS>,
     old: u32,
     new: u32,
 ) -> Result<(), ErrorNumber>
     requires { IsAreaTable areas.old.items }
-    ensures areas { Leaves areas.old.items (renumbered areas.old.items old new) result areas.new.items }
+    ensures areas { Leaves areas.old.items (areas_after_renumber areas.old.items old new) result
+        areas.new.items }
     ensures table { IsAreaTable areas.new.items }
 {
     if !has_area(areas.as_slice(), old) {

@@ -4,7 +4,7 @@ use Rattle.std.specs.Prelude.{nat_le}
 use Rattle.address_map.specs.Bytes.{word_at}
 use Rattle.address_map.specs.Memory.{byte_at, bytes_of}
 use Rattle.address_map.specs.declared.map.AddressMap.{AddressMap}
-use Rattle.flex_store.specs.Blocks.{Block, is_held_word, is_in_contents, taken}
+use Rattle.flex_store.specs.Blocks.{Block, is_held_word, is_in_contents, bytes_taken_by}
 use Rattle.flex_store.specs.Memory.{blocks_in}
 use Rattle.flex_store.specs.State.{IsText}
 use Rattle.flex_store.proofs.Texts.{IsFirst, text_first, text_next}
@@ -20,7 +20,7 @@ pub record IsSought (m : AddressMap) (at place to end : ℕ) : Type 0 where
 pub record IsLookedAt (m : AddressMap) (at place to end : ℕ) : Type 0 where
   pub here : (nat_le (to + 8) place && nat_le (place + 4) (to + 8 + word_at (byte_at m) (to + 4))) ≡ true → is_in_contents at (blocks_in (byte_at m) at end) place ≡ true
   pub there : (nat_le (to + 8) place && nat_le (place + 4) (to + 8 + word_at (byte_at m) (to + 4))) ≡ false
-      → IsSought m at place (to + taken (word_at (byte_at m) (to + 4))) end
+      → IsSought m at place (to + bytes_taken_by (word_at (byte_at m) (to + 4))) end
 
 looked_by : (m : AddressMap) (at place to end : ℕ) (rest : List Block) → to < end → IsText (bytes_of m) to end rest
     → is_in_contents to rest place ≡ is_in_contents at (blocks_in (byte_at m) at end) place → IsLookedAt m at place to end
@@ -30,11 +30,11 @@ looked_by m at place to end (x ∷ bs) some is same =
     let held : is_held_word to x place ≡ (nat_le (to + 8) place && nat_le (place + 4) (to + 8 + word_at (byte_at m) (to + 4))) =
     ap (λ (n : ℕ). nat_le (to + 8) place && nat_le (place + 4) (to + 8 + n)) (sym f.size) in
     record {
-      here = λ is_here. sym same ∙ ap (λ (t : Bool). t || is_in_contents (to + taken x.size) bs place) (held ∙ is_here);
+      here = λ is_here. sym same ∙ ap (λ (t : Bool). t || is_in_contents (to + bytes_taken_by x.size) bs place) (held ∙ is_here);
       there = λ other. rw f.size (record {
         rest = bs;
         text = text_next (bytes_of m) to end x bs is;
-        same = sym (ap (λ (t : Bool). t || is_in_contents (to + taken x.size) bs place) (held ∙ other)) ∙ same;
+        same = sym (ap (λ (t : Bool). t || is_in_contents (to + bytes_taken_by x.size) bs place) (held ∙ other)) ∙ same;
       });
     }
 

@@ -5,8 +5,8 @@ use Rattle.std.proofs.lemmas.Bool.{cases_Bool, eqb-true, false_from_ne_true, or_
 use Rattle.std.proofs.lemmas.Bool.Decides.{nat_tests}
 use Rattle.std.proofs.lemmas.List.{length-replicate}
 use Rattle.std.proofs.Math.ListN.{length-append}
-use Rattle.flex_store.specs.Blocks.{Block, find_block, FlexStore, has_anchor, holding, new_block, taken, used, whole_words, with_block, without_block}
-use Rattle.flex_store.specs.Laws.{AreDistinct, HasBlocks}
+use Rattle.flex_store.specs.Blocks.{Block, find_block, FlexStore, has_anchor, block_holding, new_block, bytes_taken_by, bytes_taken_by_all, whole_words, with_block, without_block}
+use Rattle.flex_store.specs.Laws.{HaveDistinctAnchors, HasBlocks}
 use Rattle.flex_store.specs.State.{AreWhole}
 use Rattle.flex_store.proofs.Answering.{has_with}
 use Rattle.flex_store.proofs.Lists.{anchor-append}
@@ -19,7 +19,7 @@ AreFilled (b ∷ bs) = (length b.bytes ≡ whole_words b.size) × AreFilled bs
 
 abbrev pub HasFilled : Option FlexStore → Type 0
 HasFilled None = Unit {0}
-HasFilled (Some s) = AreFilled s.blocks × AreDistinct s.blocks
+HasFilled (Some s) = AreFilled s.blocks × HaveDistinctAnchors s.blocks
 
 pub whole_filled : (bs : List Block) → AreWhole bs → AreFilled bs
 whole_filled [] whole = tt
@@ -32,7 +32,7 @@ store_filled (Some s) has = (whole_filled s.blocks has.0, has.1)
 pub new_filled : (anchor size : ℕ) → length (new_block anchor size).bytes ≡ whole_words size
 new_filled anchor size = length-replicate {A = ℕ} (whole_words size) 0
 
-pub holding_filled : (b : Block) (c : List ℕ) → length (holding b c).bytes ≡ whole_words (length c)
+pub holding_filled : (b : Block) (c : List ℕ) → length (block_holding b c).bytes ≡ whole_words (length c)
 holding_filled b c =
     let more : ℕ = whole_words (length c) - length c in
     omega (arith, length-append c (replicate {A = ℕ} more 0), length-replicate {A = ℕ} more 0)
@@ -41,7 +41,7 @@ pub filled_append : (xs ys : List Block) → AreFilled xs → AreFilled ys → A
 filled_append [] ys first then = then
 filled_append (x ∷ xs) ys first then = (first.0, filled_append xs ys first.1 then)
 
-pub distinct_append : (bs : List Block) (b : Block) → has_anchor bs b.anchor ≡ false → AreDistinct bs → AreDistinct (bs ++ b ∷ [])
+pub distinct_append : (bs : List Block) (b : Block) → has_anchor bs b.anchor ≡ false → HaveDistinctAnchors bs → HaveDistinctAnchors (bs ++ b ∷ [])
 distinct_append [] b none distinct = (refl, tt)
 distinct_append (x ∷ bs) b none distinct =
     let parts = or_parts (nat_eq b.anchor x.anchor) (has_anchor bs b.anchor) none in
@@ -55,7 +55,7 @@ filled_without anchor (x ∷ bs) filled = elim (cases_Bool (nat_eq x.anchor anch
   | inr other ↦ rw other (filled.0, filled_without anchor bs filled.1)
 ]
 
-pub distinct_without : (anchor : ℕ) (bs : List Block) → AreDistinct bs → AreDistinct (without_block anchor bs)
+pub distinct_without : (anchor : ℕ) (bs : List Block) → HaveDistinctAnchors bs → HaveDistinctAnchors (without_block anchor bs)
 distinct_without anchor [] distinct = tt
 distinct_without anchor (x ∷ bs) distinct = elim (cases_Bool (nat_eq x.anchor anchor)) [
   | inl here ↦ rw here distinct.1
@@ -72,7 +72,7 @@ filled_with anchor new (x ∷ bs) whole filled = elim (cases_Bool (nat_eq x.anch
   | inr other ↦ rw other (filled.0, filled_with anchor new bs whole filled.1)
 ]
 
-pub distinct_with : (anchor : ℕ) (new : Block) (bs : List Block) → new.anchor ≡ anchor → AreDistinct bs → AreDistinct (with_block anchor new bs)
+pub distinct_with : (anchor : ℕ) (new : Block) (bs : List Block) → new.anchor ≡ anchor → HaveDistinctAnchors bs → HaveDistinctAnchors (with_block anchor new bs)
 distinct_with anchor new [] same distinct = tt
 distinct_with anchor new (x ∷ bs) same distinct = elim (cases_Bool (nat_eq x.anchor anchor)) [
   | inl here ↦
@@ -84,18 +84,18 @@ distinct_with anchor new (x ∷ bs) same distinct = elim (cases_Bool (nat_eq x.a
       rw other (apart, distinct_with anchor new bs same distinct.1)
 ]
 
-pub used_with : (anchor : ℕ) (b new : Block) (bs : List Block) → find_block anchor bs ≡ Some b → new.size ≡ b.size → used (with_block anchor new bs) ≡ used bs
+pub used_with : (anchor : ℕ) (b new : Block) (bs : List Block) → find_block anchor bs ≡ Some b → new.size ≡ b.size → bytes_taken_by_all (with_block anchor new bs) ≡ bytes_taken_by_all bs
 used_with anchor b new [] found same = absurd (let none : None ≡ Some b = found in cc)
 used_with anchor b new (x ∷ bs) found same = elim (cases_Bool (nat_eq x.anchor anchor)) [
   | inl here ↦
       let found' = rw here at found in
       let own : x ≡ b = cc in
       let e : new.size ≡ x.size = same ∙ ap (λ (y : Block). y.size) (sym own) in
-      rw here (ap (λ (n : ℕ). taken n + used bs) e)
-  | inr other ↦ rw other (ap (λ (n : ℕ). taken x.size + n) (used_with anchor b new bs (rw other at found) same))
+      rw here (ap (λ (n : ℕ). bytes_taken_by n + bytes_taken_by_all bs) e)
+  | inr other ↦ rw other (ap (λ (n : ℕ). bytes_taken_by x.size + n) (used_with anchor b new bs (rw other at found) same))
 ]
 
-pub used_without : (anchor : ℕ) (bs : List Block) → used (without_block anchor bs) ≤ used bs
+pub used_without : (anchor : ℕ) (bs : List Block) → bytes_taken_by_all (without_block anchor bs) ≤ bytes_taken_by_all bs
 used_without anchor [] = omega arith
 used_without anchor (x ∷ bs) = elim (cases_Bool (nat_eq x.anchor anchor)) [
   | inl here ↦ rw here (omega arith)

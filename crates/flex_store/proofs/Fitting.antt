@@ -9,8 +9,8 @@ use Rattle.address_map.specs.Memory.{byte_at, class_of, is_mapped, layout}
 use Rattle.address_map.specs.declared.class.Class.{Class}
 use Rattle.address_map.specs.declared.map.AddressMap.{AddressMap}
 use Rattle.flex_store.specs.declared.shift.Shift.{Shift}
-use Rattle.flex_store.specs.Blocks.{Block, has_anchor, is_header, is_in_contents, used}
-use Rattle.flex_store.specs.Memory.{AreAnchored, Holds, standing, text_of}
+use Rattle.flex_store.specs.Blocks.{Block, has_anchor, is_header, is_in_contents, bytes_taken_by_all}
+use Rattle.flex_store.specs.Memory.{AreAnchored, Holds, standing, blocks_text_of}
 use Rattle.flex_store.specs.Shifts.{following}
 use Rattle.flex_store.specs.State.{AreAnchorWords, AreInner, AreWhole, IsFlexRange, IsFlexStore}
 use Rattle.flex_store.proofs.Following.{Above, ArePlaced, Before, Behind, Below, fresh_following, has_following, Inside, IsMove, Move, Past, Place, placed_inside}
@@ -22,20 +22,20 @@ use Rattle.flex_store.proofs.Words.{contents_within, IsHeld, outside_behind, wor
 
 -- blocks that may be laid out after those before them, which stay
 pub record MayFollow (mapped : ℕ → Bool) (start end : ℕ) (front news : List Block) : Type 0 where
-  pub fits : start + (used front + used news) ≤ end
+  pub fits : start + (bytes_taken_by_all front + bytes_taken_by_all news) ≤ end
   pub whole : AreWhole news
-  pub words : AreAnchorWords mapped (start + used front) end news
+  pub words : AreAnchorWords mapped (start + bytes_taken_by_all front) end news
   pub fresh : (p : ℕ) → has_anchor front p ≡ true → has_anchor news p ≡ false
-  pub inner : (p : ℕ) → has_anchor news p ≡ true → start ≤ p → p < end → (is_in_contents start front p || is_in_contents (start + used front) news p) ≡ true
+  pub inner : (p : ℕ) → has_anchor news p ≡ true → start ≤ p → p < end → (is_in_contents start front p || is_in_contents (start + bytes_taken_by_all front) news p) ≡ true
 
 -- an anchor of a block in front lies in contents of one of these
-pub front_inner : (start end : ℕ) (front olds : List Block) (p : ℕ) → AreInner start end (front ++ olds) → (p + 4 ≤ start + used front) ⊎ (end ≤ p)
+pub front_inner : (start end : ℕ) (front olds : List Block) (p : ℕ) → AreInner start end (front ++ olds) → (p + 4 ≤ start + bytes_taken_by_all front) ⊎ (end ≤ p)
     → has_anchor (front ++ olds) p ≡ true → start ≤ p → p < end → is_in_contents start front p ≡ true
 front_inner start end front olds p inner out has up below =
-    elim (or_cases (is_in_contents start front p) (is_in_contents (start + used front) olds p) (sym (contents-append start front olds p) ∙ inner p has up below)) [
+    elim (or_cases (is_in_contents start front p) (is_in_contents (start + bytes_taken_by_all front) olds p) (sym (contents-append start front olds p) ∙ inner p has up below)) [
       | inl held ↦ held
       | inr later ↦
-          let h : IsHeld (start + used front) (used olds) p = contents_within (start + used front) olds p later in
+          let h : IsHeld (start + bytes_taken_by_all front) (bytes_taken_by_all olds) p = contents_within (start + bytes_taken_by_all front) olds p later in
           absurd (elim out [ inl before ↦ omega (arith, h.from) | inr behind ↦ omega arith ])
     ]
 
@@ -48,14 +48,14 @@ before_laid m m2 start end front olds news s marks same kept anchored may =
     let g : ℕ → ℕ = byte_at m2 in
     let now : List Block = standing g start front in
     let mapped : is_mapped m2 ≡ is_mapped m = is_mapped-layout m m2 same in
-    let size : used now ≡ used front = standing_used g start front in
-    let sum : used (now ++ news) ≡ used now + used news = used-append now news in
-    let sum' : used (front ++ olds) ≡ used front + used olds = used-append front olds in
+    let size : bytes_taken_by_all now ≡ bytes_taken_by_all front = standing_used g start front in
+    let sum : bytes_taken_by_all (now ++ news) ≡ bytes_taken_by_all now + bytes_taken_by_all news = used-append now news in
+    let sum' : bytes_taken_by_all (front ++ olds) ≡ bytes_taken_by_all front + bytes_taken_by_all olds = used-append front olds in
     let whole : AreWhole front = whole_left front olds s.whole in
     let words : AreAnchorWords (is_mapped m) start end front = words_left (is_mapped m) start end front olds s.words in
     let words' : AreAnchorWords (is_mapped m) start end now =
     standing_words (is_mapped m) (is_mapped m) start end g start front (all_there (is_mapped m) front (λ a has. (word_of (is_mapped m) start end front a words has).there)) words in
-    let at_is : start + used front ≡ start + used now = ap (λ (n : ℕ). start + n) (sym size) in
+    let at_is : start + bytes_taken_by_all front ≡ start + bytes_taken_by_all now = ap (λ (n : ℕ). start + n) (sym size) in
     record {
       range = subst (λ (q : ℕ → Bool). IsFlexRange q start end) (sym mapped) s.range;
       fits = omega (arith, may.fits);
@@ -63,25 +63,25 @@ before_laid m m2 start end front olds news s marks same kept anchored may =
       whole = whole-append now news (standing_whole g start front whole) may.whole;
       words = subst (λ (q : ℕ → Bool). AreAnchorWords q start end (now ++ news)) (sym mapped)
           (words_joined (is_mapped m) start end now news words' (rw at_is at may.words) (λ p has. may.fresh p (sym (standing_has g start front p) ∙ has)));
-      inner = λ p has up below. contents-append start now news p ∙ (ap (λ (t : Bool). t || is_in_contents (start + used now) news p) (standing_contents g start start front p)
+      inner = λ p has up below. contents-append start now news p ∙ (ap (λ (t : Bool). t || is_in_contents (start + bytes_taken_by_all now) news p) (standing_contents g start start front p)
           ∙ (ap (λ (n : ℕ). is_in_contents start front p || is_in_contents n news p) (sym at_is) ∙ in_either p has up below));
       text = standing_text (byte_at m) g start front s.range.start_aligned whole kept
-          (holds_left (byte_at m) start (text_of front) (text_of olds) (subst (λ (t : List ℕ). Holds (byte_at m) start t) (text-append front olds) s.text));
+          (holds_left (byte_at m) start (blocks_text_of front) (blocks_text_of olds) (subst (λ (t : List ℕ). Holds (byte_at m) start t) (text-append front olds) s.text));
       anchored = standing_anchored (is_mapped m) start end g g g start front words (λ a has. refl) anchored;
       headers = λ a. ap (λ (k : ℕ → Class). is_flex_header (k a)) marks ∙ (s.headers a ∙ (header-append start front olds (word_start a)
-          ∙ (ap (λ (t : Bool). t || is_header (start + used front) olds (word_start a)) (sym (standing_header g start front (word_start a)))
+          ∙ (ap (λ (t : Bool). t || is_header (start + bytes_taken_by_all front) olds (word_start a)) (sym (standing_header g start front (word_start a)))
           ∙ ap (λ (n : ℕ). is_header start now (word_start a) || is_header n olds (word_start a)) at_is)));
       anchors = λ a. ap (λ (k : ℕ → Class). is_anchor (k a)) marks ∙ (s.anchors a ∙ (anchor-append front olds (word_start a)
           ∙ ap (λ (t : Bool). t || has_anchor olds (word_start a)) (sym (standing_has g start front (word_start a)))));
       apart = λ p has. standing_has g start front p ∙ words_apart (is_mapped m) start end front olds p s.words has;
     } where
       in_either : (p : ℕ) → has_anchor (standing (byte_at m2) start front ++ news) p ≡ true → start ≤ p → p < end
-          → (is_in_contents start front p || is_in_contents (start + used front) news p) ≡ true
+          → (is_in_contents start front p || is_in_contents (start + bytes_taken_by_all front) news p) ≡ true
       in_either p has up below =
           elim (or_cases (has_anchor (standing (byte_at m2) start front) p) (has_anchor news p) (sym (anchor-append (standing (byte_at m2) start front) news p) ∙ has)) [
             | inl own ↦
                 let had : has_anchor front p ≡ true = sym (standing_has (byte_at m2) start front p) ∙ own in
-                or_left (is_in_contents start front p) (is_in_contents (start + used front) news p)
+                or_left (is_in_contents start front p) (is_in_contents (start + bytes_taken_by_all front) news p)
                 (front_inner start end front olds p s.inner (outside_behind (is_mapped m) start end front p (words_left (is_mapped m) start end front olds s.words) had)
                 (anchor-append front olds p ∙ or_left (has_anchor front p) (has_anchor olds p) had) up below)
             | inr new ↦ may.inner p new up below
@@ -90,7 +90,7 @@ before_laid m m2 start end front olds news s marks same kept anchored may =
 -- Later blocks, whose anchors moved: no anchor of a block in front is one of theirs, and theirs lie
 -- in contents where they lie in the store.
 module _ (mapped : ℕ → Bool) (start end : ℕ) (front after : List Block) (b : Block) (k : Move) (is : IsMove k) (ss : List Shift)
-    (places : ArePlaced k start front after ss after) (words : AreAnchorWords mapped start end (front ++ b ∷ after)) (at_is : k.at ≡ start + used front) (end_is : k.end ≡ end) where
+    (places : ArePlaced k start front after ss after) (words : AreAnchorWords mapped start end (front ++ b ∷ after)) (at_is : k.at ≡ start + bytes_taken_by_all front) (end_is : k.end ≡ end) where
   -- the block's own anchor, and those in front of it
   pub own_outside : (b.anchor + 4 ≤ k.at) ⊎ (k.end ≤ b.anchor)
   own_outside =

@@ -4,7 +4,7 @@ use Rattle.std.proofs.Common.{◌≡◌, ℕ, Bool, ◌+◌, ◌-◌, ◌%◌, �
 use Rattle.std.proofs.lemmas.Bool.{both_ways, eqb-true, eq-eqb, false_from_ne_true, false≢true, le-leb, or_cases, or_left, or_right}
 use Rattle.address_map.specs.Bytes.{AreMapped}
 use Rattle.flex_store.specs.declared.shift.Shift.{Shift}
-use Rattle.flex_store.specs.Blocks.{Block, has_anchor, is_held_word, is_in_contents, taken, used}
+use Rattle.flex_store.specs.Blocks.{Block, has_anchor, is_held_word, is_in_contents, bytes_taken_by, bytes_taken_by_all}
 use Rattle.flex_store.specs.Shifts.{following, gone_to}
 use Rattle.flex_store.specs.State.{AreAnchorWords, AreWhole, IsAnchorWord}
 use Rattle.flex_store.proofs.Words.{contents_within, held_word, IsHeld}
@@ -82,9 +82,9 @@ outer_place k start xs bs a g is (Behind e from below _) (inr high) = absurd (om
 outer_place k start xs bs a g is (Above e past) out = e
 
 -- lists of blocks whose anchors moved
-pub following_used : (ss : List Shift) (bs : List Block) → used (following ss bs) ≡ used bs
+pub following_used : (ss : List Shift) (bs : List Block) → bytes_taken_by_all (following ss bs) ≡ bytes_taken_by_all bs
 following_used ss [] = refl
-following_used ss (b ∷ bs) = ap (λ (n : ℕ). taken b.size + n) (following_used ss bs)
+following_used ss (b ∷ bs) = ap (λ (n : ℕ). bytes_taken_by b.size + n) (following_used ss bs)
 
 pub following_whole : (ss : List Shift) (bs : List Block) → AreWhole bs → AreWhole (following ss bs)
 following_whole ss [] whole = tt
@@ -148,7 +148,7 @@ following_words mapped k start xs bs ss [] h is there low past places words = tt
 following_words mapped k start xs bs ss (y ∷ ys) h is there low past places words =
     let own : Place k start xs bs y.anchor (gone_to ss y.anchor) = places y.anchor (or_left (nat_eq y.anchor y.anchor) (has_anchor ys y.anchor) (eq-eqb y.anchor y.anchor refl)) in
     let rest : ArePlaced k start xs bs ss ys = λ a has. places a (or_right (nat_eq a y.anchor) (has_anchor ys a) has) in
-    let e : k.new + (h + taken y.size - k.old) ≡ k.new + (h - k.old) + taken y.size = omega arith in (
+    let e : k.new + (h + bytes_taken_by y.size - k.old) ≡ k.new + (h - k.old) + bytes_taken_by y.size = omega arith in (
       (
         gone_word mapped k start xs bs h y.anchor (gone_to ss y.anchor) is there low past own words.0.0,
         false_from_ne_true (has_anchor (following ss ys) (gone_to ss y.anchor)) (λ has.
@@ -156,7 +156,7 @@ following_words mapped k start xs bs ss (y ∷ ys) h is there low past places wo
             places_apart k start xs bs f.0 y.anchor (gone_to ss f.0) (gone_to ss y.anchor) is (rest f.0 f.1.0) own
             (λ same. both_ways (has_anchor ys y.anchor) words.0.1 (ap (has_anchor ys) (sym same) ∙ f.1.0)) f.1.1),
       ),
-      rw e at (following_words mapped k start xs bs ss ys (h + taken y.size) is there low (omega arith) rest words.1),
+      rw e at (following_words mapped k start xs bs ss ys (h + bytes_taken_by y.size) is there low (omega arith) rest words.1),
     )
 
 -- A word outside what changes is an anchor of theirs then only if it was.
@@ -171,16 +171,16 @@ fresh_following k start xs bs ss ys p is places out none = false_from_ne_true (h
 pub contents_moved : (old new : ℕ) (ss : List Shift) (bs : List Block) (a : ℕ) → is_in_contents old bs a ≡ true
     → is_in_contents new (following ss bs) (new + (a - old)) ≡ true
 contents_moved old new ss [] a held = absurd (false≢true held)
-contents_moved old new ss (b ∷ bs) a held = elim (or_cases (is_held_word old b a) (is_in_contents (old + taken b.size) bs a) held) [
+contents_moved old new ss (b ∷ bs) a held = elim (or_cases (is_held_word old b a) (is_in_contents (old + bytes_taken_by b.size) bs a) held) [
   | inl here ↦
       let h = held_word old b a here in
-      or_left (is_held_word new b (new + (a - old))) (is_in_contents (new + taken b.size) (following ss bs) (new + (a - old)))
+      or_left (is_held_word new b (new + (a - old))) (is_in_contents (new + bytes_taken_by b.size) (following ss bs) (new + (a - old)))
       (rw (le-leb (new + 8) (new + (a - old)) (omega (arith, h.0)), le-leb (new + (a - old) + 4) (new + 8 + b.size) (omega (arith, h.0, h.1))) refl)
   | inr later ↦
-      let w : IsHeld (old + taken b.size) (used bs) a = contents_within (old + taken b.size) bs a later in
-      let e : new + taken b.size + (a - (old + taken b.size)) ≡ new + (a - old) = omega (arith, w.from) in
-      or_right (is_held_word new b (new + (a - old))) (is_in_contents (new + taken b.size) (following ss bs) (new + (a - old)))
-      (rw e at (contents_moved (old + taken b.size) (new + taken b.size) ss bs a later))
+      let w : IsHeld (old + bytes_taken_by b.size) (bytes_taken_by_all bs) a = contents_within (old + bytes_taken_by b.size) bs a later in
+      let e : new + bytes_taken_by b.size + (a - (old + bytes_taken_by b.size)) ≡ new + (a - old) = omega (arith, w.from) in
+      or_right (is_held_word new b (new + (a - old))) (is_in_contents (new + bytes_taken_by b.size) (following ss bs) (new + (a - old)))
+      (rw e at (contents_moved (old + bytes_taken_by b.size) (new + bytes_taken_by b.size) ss bs a later))
 ]
 
 -- Where an anchor in the store's range is then: in contents of the blocks before, of the block that

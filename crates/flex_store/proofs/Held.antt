@@ -8,8 +8,8 @@ use Rattle.address_map.specs.Memory.{byte_at, class_of, is_mapped}
 use Rattle.os_heap.specs.Store.{store_of}
 use Rattle.address_map.specs.declared.map.AddressMap.{AddressMap}
 use Rattle.flex_store.specs.declared.flex.Extent.{Extent}
-use Rattle.flex_store.specs.Blocks.{Block, has_anchor, used}
-use Rattle.flex_store.specs.Memory.{Holds, blocks_in, standing, text_of}
+use Rattle.flex_store.specs.Blocks.{Block, has_anchor, bytes_taken_by_all}
+use Rattle.flex_store.specs.Memory.{Holds, blocks_in, standing, blocks_text_of}
 use Rattle.flex_store.specs.State.{AreAnchorWords, AreWhole, blocks_of, IsFlexStore, IsMappedWord, IsRecordedStore, is_recorded}
 use Rattle.flex_store.proofs.Reading.{reads}
 use Rattle.flex_store.proofs.Standing.{all_there, AreThere, standing_anchored, standing_contents, standing_has, standing_header, standing_text, standing_used, standing_whole, standing_words}
@@ -40,10 +40,10 @@ flex_left m n e is k =
     let here : word_start a ≡ a = aligned_has (is_mapped m) e.start e.end bs a s.words has in
     k.there a (s.anchors a ∙ ap (has_anchor bs) here ∙ has)) in
     let words : AreAnchorWords (is_mapped n) e.start e.end news = standing_words (is_mapped m) (is_mapped n) e.start e.end (byte_at n) e.start bs there s.words in
-    let text : Holds (byte_at n) e.start (text_of news) =
+    let text : Holds (byte_at n) e.start (blocks_text_of news) =
     standing_text (byte_at m) (byte_at n) e.start bs s.range.start_aligned s.whole (λ a header. k.header_bytes a (s.headers a ∙ header)) s.text in
-    let size : used news ≡ used bs = standing_used (byte_at n) e.start bs in
-    let total : used news ≡ e.used = size ∙ is.held.used_is in
+    let size : bytes_taken_by_all news ≡ bytes_taken_by_all bs = standing_used (byte_at n) e.start bs in
+    let total : bytes_taken_by_all news ≡ e.used = size ∙ is.held.used_is in
     let read : blocks_of n e ≡ news =
     ap (λ (u : ℕ). blocks_in (byte_at n) e.start (e.start + u)) (sym total) ∙
     reads (byte_at n) e.start news whole (words_low (is_mapped n) e.start e.end news words) text in
@@ -61,7 +61,7 @@ flex_left m n e is k =
           headers = λ a. k.headers a ∙ (s.headers a ∙ sym (standing_header (byte_at n) e.start bs (word_start a)));
           anchors = λ a. k.anchors a ∙ (s.anchors a ∙ sym (standing_has (byte_at n) e.start bs (word_start a)));
         });
-        used_is = ap used read ∙ total;
+        used_is = ap bytes_taken_by_all read ∙ total;
       };
       recorded = k.recorded;
     }

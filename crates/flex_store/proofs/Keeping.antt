@@ -3,7 +3,7 @@ use Rattle.std.proofs.Common.{◌≡◌, ◌⊎◌, ℕ, ◌+◌, ◌-◌, ◌%�
 use Rattle.std.specs.List.{list_any}
 use Rattle.std.proofs.lemmas.Bool.{and_parts, cases_Bool, eqb-true, false≢true, le-leb, lt-ltb, not-true, or_left, or_right}
 use Rattle.address_map.proofs.Bytes.{is_mapped-page}
-use Rattle.address_map.specs.Bytes.{Bytes, in_range, meets, word_start}
+use Rattle.address_map.specs.Bytes.{Bytes, in_range, shares_address, word_start}
 use Rattle.address_map.specs.Classes.{is_anchor, is_flex_header, is_heap_class}
 use Rattle.address_map.specs.Memory.{class_of, is_mapped}
 use Rattle.address_map.specs.declared.map.AddressMap.{AddressMap}
@@ -17,9 +17,9 @@ use Rattle.os_heap.proofs.PayloadLemmas.{anchor_placed}
 use Rattle.os_heap.specs.Payloads.{is_other, payload_of}
 use Rattle.os_heap.specs.Store.{AreClasses, ArePlaced, IsAnchorPlace, IsClearOfHeaps, is_flex_store, is_in_flex_store, IsSound, Store, store_of}
 use Rattle.flex_store.specs.declared.flex.Extent.{Extent}
-use Rattle.flex_store.specs.Blocks.{used}
+use Rattle.flex_store.specs.Blocks.{bytes_taken_by_all}
 use Rattle.flex_store.specs.Calls.{is_anchor_place}
-use Rattle.flex_store.specs.State.{blocks_of, HasNoHead, IsRecordedStore, is_recorded, is_store_record, Keeps, KeepsHeads}
+use Rattle.flex_store.specs.State.{blocks_of, HasNoHead, IsRecordedStore, is_recorded, is_store_record, KeepsBesidesFlex, KeepsHeads}
 use Rattle.flex_store.proofs.Headers.{IsWithin, header_within}
 
 -- what holds of a word that may be an anchor
@@ -31,9 +31,9 @@ pub record IsPlace (s : Store) (a : ℕ) : Type 0 where
 pub place_parts : (s : Store) (a : ℕ) → is_anchor_place s a ≡ true → IsPlace s a
 unfolding is_anchor_place
 place_parts s a place =
-    let one = and_parts ((a % 4) == 0 && s.bytes.mapped a) (not (list_any (λ r. not (is_flex_store r.kind) && meets a 4 r.at r.len) s.others) && not (is_other (payload_of s.heaps a))) place in
+    let one = and_parts ((a % 4) == 0 && s.bytes.mapped a) (not (list_any (λ r. not (is_flex_store r.kind) && shares_address a 4 r.at r.len) s.others) && not (is_other (payload_of s.heaps a))) place in
     let two = and_parts ((a % 4) == 0) (s.bytes.mapped a) one.0 in
-    let three = and_parts (not (list_any (λ r. not (is_flex_store r.kind) && meets a 4 r.at r.len) s.others)) (not (is_other (payload_of s.heaps a))) one.1 in
+    let three = and_parts (not (list_any (λ r. not (is_flex_store r.kind) && shares_address a 4 r.at r.len) s.others)) (not (is_other (payload_of s.heaps a))) one.1 in
     record { aligned = eqb-true (a % 4) 0 two.0; mapped = two.1; held = not-true (is_other (payload_of s.heaps a)) three.1 }
 
 -- each byte of such a word
@@ -110,7 +110,7 @@ inside_place m e a sound is low high =
     )
 
 -- an anchor after a call
-kept_anchor : (m n : AddressMap) (e f : Extent) → IsSound (store_of m) → IsRecordedStore m e → Keeps m e n f → (a : ℕ) → is_anchor (class_of n a) ≡ true
+kept_anchor : (m n : AddressMap) (e f : Extent) → IsSound (store_of m) → IsRecordedStore m e → KeepsBesidesFlex m e n f → (a : ℕ) → is_anchor (class_of n a) ≡ true
     → (is_mapped m a ≡ true) × IsAnchorPlace (store_of m).heaps a
 kept_anchor m n e f sound is k a anchor =
     elim (k.anchors (word_start a) (sym (k.store.store.anchors a) ∙ anchor)) [
@@ -123,18 +123,18 @@ kept_anchor m n e f sound is k a anchor =
       ]
     ]
 
-kept_header : (m n : AddressMap) (e f : Extent) → IsRecordedStore m e → Keeps m e n f → (a : ℕ) → is_flex_header (class_of n a) ≡ true
+kept_header : (m n : AddressMap) (e f : Extent) → IsRecordedStore m e → KeepsBesidesFlex m e n f → (a : ℕ) → is_flex_header (class_of n a) ≡ true
     → is_in_flex_store (store_of m).others a ≡ true
 kept_header m n e f is k a header =
-    let inside : IsWithin f.start (used (blocks_of n f)) (word_start a) =
+    let inside : IsWithin f.start (bytes_taken_by_all (blocks_of n f)) (word_start a) =
     header_within f.start (blocks_of n f) (word_start a) (sym (k.store.store.headers a) ∙ header) in
-    let fits : f.start + used (blocks_of n f) ≤ f.end = k.store.store.fits in
+    let fits : f.start + bytes_taken_by_all (blocks_of n f) ≤ f.end = k.store.store.fits in
     let whole : f.end % 4 ≡ 0 = k.store.store.range.end_aligned in
     let start : f.start ≡ e.start = k.start in
     let end : f.end ≡ e.end = k.end in
     in_extent m e a is (omega (arith, inside.from)) (omega (arith, inside.below))
 
-kept : (m n : AddressMap) (e f : Extent) → IsSound (store_of m) → AreClasses m → IsRecordedStore m e → Keeps m e n f → IsSoundFlexed m n
+kept : (m n : AddressMap) (e f : Extent) → IsSound (store_of m) → AreClasses m → IsRecordedStore m e → KeepsBesidesFlex m e n f → IsSoundFlexed m n
 kept m n e f sound classes is k =
     let h : KeepsHeads m n = k.heads (no_head m e sound classes is) in
     sound_flexed m n sound classes (record {
@@ -145,25 +145,25 @@ kept m n e f sound classes is k =
       headers = kept_header m n e f is k;
     })
 
-pub kept_sound : (m n : AddressMap) (e f : Extent) → IsSound (store_of m) → AreClasses m → IsRecordedStore m e → Keeps m e n f → IsSound (store_of n)
+pub kept_sound : (m n : AddressMap) (e f : Extent) → IsSound (store_of m) → AreClasses m → IsRecordedStore m e → KeepsBesidesFlex m e n f → IsSound (store_of n)
 kept_sound m n e f sound classes is k = (kept m n e f sound classes is k).sound
 
-pub kept_classes : (m n : AddressMap) (e f : Extent) → IsSound (store_of m) → AreClasses m → IsRecordedStore m e → Keeps m e n f → AreClasses n
+pub kept_classes : (m n : AddressMap) (e f : Extent) → IsSound (store_of m) → AreClasses m → IsRecordedStore m e → KeepsBesidesFlex m e n f → AreClasses n
 kept_classes m n e f sound classes is k = (kept m n e f sound classes is k).classes
 
-pub kept_heaps : (m n : AddressMap) (e f : Extent) → IsSound (store_of m) → AreClasses m → IsRecordedStore m e → Keeps m e n f
+pub kept_heaps : (m n : AddressMap) (e f : Extent) → IsSound (store_of m) → AreClasses m → IsRecordedStore m e → KeepsBesidesFlex m e n f
     → (store_of n).heaps ≡ (store_of m).heaps
 kept_heaps m n e f sound classes is k = (kept m n e f sound classes is k).heaps
 
 -- the store stays recorded
-pub kept_flex : (m n : AddressMap) (e f : Extent) → IsRecordedStore m e → Keeps m e n f → IsRecordedStore n f
+pub kept_flex : (m n : AddressMap) (e f : Extent) → IsRecordedStore m e → KeepsBesidesFlex m e n f → IsRecordedStore n f
 kept_flex m n e f is k = record {
   held = k.store;
   recorded = rw (layout-others m n k.same, k.start, k.end) is.recorded;
 }
 
 -- Each anchor was one, or its word may be one, or it lies in the store.
-pub kept_anchors : (m n : AddressMap) (e f : Extent) → IsRecordedStore m e → Keeps m e n f → (a : ℕ) → (store_of n).anchor a ≡ true
+pub kept_anchors : (m n : AddressMap) (e f : Extent) → IsRecordedStore m e → KeepsBesidesFlex m e n f → (a : ℕ) → (store_of n).anchor a ≡ true
     → ((store_of m).anchor a ≡ true) ⊎ ((is_anchor_place (store_of m) (word_start a) ≡ true) ⊎ (is_in_flex_store (store_of m).others a ≡ true))
 kept_anchors m n e f is k a anchor =
     elim (k.anchors (word_start a) (sym (k.store.store.anchors a) ∙ (sym (store_anchor n a) ∙ anchor))) [

@@ -4,7 +4,7 @@ use Rattle.std.proofs.lemmas.Bool.{cases_Bool, eqb-true}
 use Rattle.std.proofs.lemmas.List.{append-nil, length-take-le, take-append-drop}
 use Rattle.std.proofs.Math.Seq.{take-length}
 use Rattle.profile.specs.declared.error.ErrorNumber.{ErrorNumber}
-use Rattle.flex_store.specs.Blocks.{Block, contents, cut_of, find_block, more_of, resized, spliced, whole_words}
+use Rattle.flex_store.specs.Blocks.{Block, contents, cut_of, find_block, more_of, bytes_with_size, bytes_after_splice, whole_words}
 use Rattle.flex_store.proofs.Filled.{AreFilled}
 
 -- two answers that are the same
@@ -41,7 +41,7 @@ found_filled anchor (x ∷ bs) b whole found = elim (cases_Bool (nat_eq x.anchor
 ]
 
 -- sizes that stay
-pub resized_same : (c : List ℕ) (size : ℕ) → length c ≡ size → resized c size ≡ c
+pub resized_same : (c : List ℕ) (size : ℕ) → length c ≡ size → bytes_with_size c size ≡ c
 resized_same c size len =
     let none : size - length c ≡ 0 = omega arith in
     let all : take size c ≡ c = ap (λ (n : ℕ). take n c) (sym len) ∙ take-length c in
@@ -51,7 +51,7 @@ pub contents_size : (b : Block) → length b.bytes ≡ whole_words b.size → le
 contents_size b whole = length-take-le b.size b.bytes (omega (arith, whole))
 
 -- a middle extend by 0 leaves all as it is
-pub spliced_none : (c : List ℕ) (at by : ℕ) → by ≡ 0 → spliced c at (cut_of by) (more_of by) ≡ c
+pub spliced_none : (c : List ℕ) (at by : ℕ) → by ≡ 0 → bytes_after_splice c at (cut_of by) (more_of by) ≡ c
 spliced_none c at by none =
     let cut : cut_of by ≡ 0 = ap cut_of none in
     let more : more_of by ≡ 0 = ap more_of none in

@@ -8,7 +8,7 @@ use Rattle.address_map.proofs.Moving.{moved_in}
 use Rattle.address_map.proofs.Viewing.{bytes_counted}
 use Rattle.address_map.specs.raw_store.specs.Region.{word_bytes}
 use Rattle.address_map.specs.Bytes.{bytes_between, with_bytes_at, with_moved_at, with_word_at, with_zeros_at}
-use Rattle.flex_store.specs.Blocks.{Block, filled, spliced, whole_words}
+use Rattle.flex_store.specs.Blocks.{Block, whole_words_of_bytes, bytes_after_splice, whole_words}
 use Rattle.flex_store.specs.Memory.{Holds}
 use Rattle.flex_store.proofs.Holding.{bytes_beside, bytes_held, bytes_written, holds_append, holds_kept, holds_moved, holds_word, holds_zeros, word_beside}
 use Rattle.flex_store.proofs.Reading.{bytes_read}
@@ -16,16 +16,16 @@ use Rattle.flex_store.proofs.Splicing.{between_held, filled_length, moved_out, s
 
 -- the bytes after a block move up before its own change, or down after it
 pub respaced_up : (f g : ℕ → ℕ) (c size w w' r at cut more : ℕ) → at ≤ size → size ≤ w → w ≤ w' → w' ≡ whole_words (at - cut + more + (size - at))
-    → ((a : ℕ) → g a ≡ with_bytes_at (with_moved_at f (c + w) (c + w') r) c (filled (spliced (bytes_between (with_moved_at f (c + w) (c + w') r) c size) at cut more)) a)
-    → (a : ℕ) → g a ≡ with_bytes_at f c (filled (spliced (bytes_between f c size) at cut more) ++ bytes_between f (c + w) r) a
+    → ((a : ℕ) → g a ≡ with_bytes_at (with_moved_at f (c + w) (c + w') r) c (whole_words_of_bytes (bytes_after_splice (bytes_between (with_moved_at f (c + w) (c + w') r) c size) at cut more)) a)
+    → (a : ℕ) → g a ≡ with_bytes_at f c (whole_words_of_bytes (bytes_after_splice (bytes_between f c size) at cut more) ++ bytes_between f (c + w) r) a
 respaced_up f g c size w w' r at cut more inside fits up new h =
     let f1 : ℕ → ℕ = with_moved_at f (c + w) (c + w') r in
     let same : bytes_between f1 c size ≡ bytes_between f c size = bytes_read f1 c size (bytes_between f c size) (bytes_counted f c size)
     (holds_kept f f1 c (bytes_between f c size) (λ a low high. moved_out f (c + w) (c + w') r a (inl (omega (arith, bytes_counted f c size)))) (between_held f c size)) in
-    let l : List ℕ = filled (spliced (bytes_between f c size) at cut more) in
+    let l : List ℕ = whole_words_of_bytes (bytes_after_splice (bytes_between f c size) at cut more) in
     let rest : List ℕ = bytes_between f (c + w) r in
-    let h' : (a : ℕ) → g a ≡ with_bytes_at f1 c l a = λ a. h a ∙ ap (λ (xs : List ℕ). with_bytes_at f1 c (filled (spliced xs at cut more)) a) same in
-    let size_is : length l ≡ w' = filled_length (spliced (bytes_between f c size) at cut more)
+    let h' : (a : ℕ) → g a ≡ with_bytes_at f1 c l a = λ a. h a ∙ ap (λ (xs : List ℕ). with_bytes_at f1 c (whole_words_of_bytes (bytes_after_splice xs at cut more)) a) same in
+    let size_is : length l ≡ w' = filled_length (bytes_after_splice (bytes_between f c size) at cut more)
     ∙ ap whole_words (spliced_length (bytes_between f c size) at cut more (omega (arith, bytes_counted f c size)) ∙ ap (λ (n : ℕ). at - cut + more + (n - at)) (bytes_counted f c size)) ∙ sym new in
     let e : c + length l ≡ c + w' = omega arith in
     bytes_written f g c (l ++ rest)
@@ -38,13 +38,13 @@ respaced_up f g c size w w' r at cut more inside fits up new h =
     ∙ moved_out f (c + w) (c + w') r a (elim out [ inl low ↦ inl (omega arith) | inr high ↦ inr (omega (arith, length-append l rest, bytes_counted f (c + w) r)) ])))
 
 pub respaced_down : (f g : ℕ → ℕ) (c size w w' r at cut more : ℕ) → at ≤ size → w' ≤ w → w' ≡ whole_words (at - cut + more + (size - at))
-    → ((a : ℕ) → g a ≡ with_moved_at (with_bytes_at f c (filled (spliced (bytes_between f c size) at cut more))) (c + w) (c + w') r a)
-    → (a : ℕ) → g a ≡ with_bytes_at f c (filled (spliced (bytes_between f c size) at cut more) ++ bytes_between f (c + w) r) a
+    → ((a : ℕ) → g a ≡ with_moved_at (with_bytes_at f c (whole_words_of_bytes (bytes_after_splice (bytes_between f c size) at cut more))) (c + w) (c + w') r a)
+    → (a : ℕ) → g a ≡ with_bytes_at f c (whole_words_of_bytes (bytes_after_splice (bytes_between f c size) at cut more) ++ bytes_between f (c + w) r) a
 respaced_down f g c size w w' r at cut more inside down new h =
-    let l : List ℕ = filled (spliced (bytes_between f c size) at cut more) in
+    let l : List ℕ = whole_words_of_bytes (bytes_after_splice (bytes_between f c size) at cut more) in
     let rest : List ℕ = bytes_between f (c + w) r in
     let f1 : ℕ → ℕ = with_bytes_at f c l in
-    let size_is : length l ≡ w' = filled_length (spliced (bytes_between f c size) at cut more)
+    let size_is : length l ≡ w' = filled_length (bytes_after_splice (bytes_between f c size) at cut more)
     ∙ ap whole_words (spliced_length (bytes_between f c size) at cut more (omega (arith, bytes_counted f c size)) ∙ ap (λ (n : ℕ). at - cut + more + (n - at)) (bytes_counted f c size)) ∙ sym new in
     let e : c + length l ≡ c + w' = omega arith in
     bytes_written f g c (l ++ rest)
@@ -62,21 +62,21 @@ contents_between f at size = take-map-range_with_len f at (whole_words size) siz
 
 -- a block that holds other bytes, and those after it
 pub replaced : (f f2 g : ℕ → ℕ) (h : ℕ) (b : Block) (xs rest : List ℕ) → Holds f h (word_bytes b.anchor)
-    → ((a : ℕ) → f2 a ≡ with_bytes_at f (h + 8) (filled xs ++ rest) a)
+    → ((a : ℕ) → f2 a ≡ with_bytes_at f (h + 8) (whole_words_of_bytes xs ++ rest) a)
     → ((a : ℕ) → g a ≡ with_word_at f2 (h + 4) (length xs) a)
-    → (a : ℕ) → g a ≡ with_bytes_at f h (word_bytes b.anchor ++ (word_bytes (length xs) ++ (filled xs ++ rest))) a
+    → (a : ℕ) → g a ≡ with_bytes_at f h (word_bytes b.anchor ++ (word_bytes (length xs) ++ (whole_words_of_bytes xs ++ rest))) a
 replaced f f2 g h b xs rest anchor h2 h3 =
     let e : h + 4 + 4 ≡ h + 8 = omega arith in
-    bytes_written f g h (word_bytes b.anchor ++ (word_bytes (length xs) ++ (filled xs ++ rest)))
-    (holds_append g h (word_bytes b.anchor) (word_bytes (length xs) ++ (filled xs ++ rest))
+    bytes_written f g h (word_bytes b.anchor ++ (word_bytes (length xs) ++ (whole_words_of_bytes xs ++ rest)))
+    (holds_append g h (word_bytes b.anchor) (word_bytes (length xs) ++ (whole_words_of_bytes xs ++ rest))
     (holds_kept f g h (word_bytes b.anchor) (λ a low high. h3 a ∙ (word_beside f2 (h + 4) (length xs) a (inl (omega arith))
-    ∙ (h2 a ∙ bytes_beside f (h + 8) (filled xs ++ rest) a (inl (omega arith))))) anchor)
-    (holds_append g (h + 4) (word_bytes (length xs)) (filled xs ++ rest)
+    ∙ (h2 a ∙ bytes_beside f (h + 8) (whole_words_of_bytes xs ++ rest) a (inl (omega arith))))) anchor)
+    (holds_append g (h + 4) (word_bytes (length xs)) (whole_words_of_bytes xs ++ rest)
     (λ k below. h3 (h + 4 + k) ∙ holds_word f2 (h + 4) (length xs) k below)
     (rw e (λ k below. h3 (h + 8 + k) ∙ (word_beside f2 (h + 4) (length xs) (h + 8 + k) (inr (omega arith))
-    ∙ (h2 (h + 8 + k) ∙ bytes_held f (h + 8) (filled xs ++ rest) k below))))))
+    ∙ (h2 (h + 8 + k) ∙ bytes_held f (h + 8) (whole_words_of_bytes xs ++ rest) k below))))))
     (λ a out. h3 a ∙ (word_beside f2 (h + 4) (length xs) a (elim out [ inl low ↦ inl (omega arith) | inr high ↦ inr (omega arith) ])
-    ∙ (h2 a ∙ bytes_beside f (h + 8) (filled xs ++ rest) a (elim out [ inl low ↦ inl (omega arith) | inr high ↦ inr (omega arith) ]))))
+    ∙ (h2 a ∙ bytes_beside f (h + 8) (whole_words_of_bytes xs ++ rest) a (elim out [ inl low ↦ inl (omega arith) | inr high ↦ inr (omega arith) ]))))
 
 -- the text after a block in its place
 pub closed : (f g : ℕ → ℕ) (h next len : ℕ) (text : List ℕ) → length text ≡ len → Holds f next text

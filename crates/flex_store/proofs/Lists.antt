@@ -5,41 +5,41 @@ use Rattle.std.proofs.lemmas.Bool.{cases_Bool, eqb-true, or_parts, true≢false}
 use Rattle.std.proofs.lemmas.Bool.Decides.{nat_tests}
 use Rattle.std.proofs.Math.ListN.{length-append}
 use Rattle.address_map.specs.raw_store.specs.Region.{word_bytes}
-use Rattle.flex_store.specs.Blocks.{before, Block, find_block, has_anchor, is_header, is_held_word, is_in_contents, taken, used, without_block}
-use Rattle.flex_store.specs.Memory.{text_of, AreAnchored}
+use Rattle.flex_store.specs.Blocks.{before, Block, find_block, has_anchor, is_header, is_held_word, is_in_contents, bytes_taken_by, bytes_taken_by_all, without_block}
+use Rattle.flex_store.specs.Memory.{blocks_text_of, AreAnchored}
 use Rattle.flex_store.specs.Places.{Split}
 use Rattle.flex_store.specs.State.{AreWhole}
 
-pub used-append : (xs ys : List Block) → used (xs ++ ys) ≡ used xs + used ys
+pub used-append : (xs ys : List Block) → bytes_taken_by_all (xs ++ ys) ≡ bytes_taken_by_all xs + bytes_taken_by_all ys
 used-append [] ys = omega arith
 used-append (b ∷ xs) ys = omega (arith, used-append xs ys)
 
-pub used_aligned : (bs : List Block) → used bs % 4 ≡ 0
+pub used_aligned : (bs : List Block) → bytes_taken_by_all bs % 4 ≡ 0
 used_aligned [] = refl
-used_aligned (b ∷ bs) = let rest : used bs % 4 ≡ 0 = used_aligned bs in omega arith
+used_aligned (b ∷ bs) = let rest : bytes_taken_by_all bs % 4 ≡ 0 = used_aligned bs in omega arith
 
-pub text-append : (xs ys : List Block) → text_of (xs ++ ys) ≡ text_of xs ++ text_of ys
+pub text-append : (xs ys : List Block) → blocks_text_of (xs ++ ys) ≡ blocks_text_of xs ++ blocks_text_of ys
 text-append [] ys = refl
 text-append (b ∷ xs) ys =
     ap (λ (t : List ℕ). word_bytes b.anchor ++ (word_bytes b.size ++ t))
-    (ap (λ (t : List ℕ). b.bytes ++ t) (text-append xs ys) ∙ sym (append_assoc b.bytes (text_of xs) (text_of ys)))
+    (ap (λ (t : List ℕ). b.bytes ++ t) (text-append xs ys) ∙ sym (append_assoc b.bytes (blocks_text_of xs) (blocks_text_of ys)))
 
 pub anchor-append : (xs ys : List Block) (a : ℕ) → has_anchor (xs ++ ys) a ≡ (has_anchor xs a || has_anchor ys a)
 anchor-append [] ys a = refl
 anchor-append (b ∷ xs) ys a = rw (anchor-append xs ys a) (sym (or_assoc (nat_eq a b.anchor) (has_anchor xs a) (has_anchor ys a)))
 
-pub header-append : (at : ℕ) (xs ys : List Block) (a : ℕ) → is_header at (xs ++ ys) a ≡ (is_header at xs a || is_header (at + used xs) ys a)
+pub header-append : (at : ℕ) (xs ys : List Block) (a : ℕ) → is_header at (xs ++ ys) a ≡ (is_header at xs a || is_header (at + bytes_taken_by_all xs) ys a)
 header-append at [] ys a =
     let e : at ≡ at + 0 = omega arith in ap (λ p. is_header p ys a) e
 header-append at (b ∷ xs) ys a =
-    let e : at + taken b.size + used xs ≡ at + (taken b.size + used xs) = omega arith in
-    rw (header-append (at + taken b.size) xs ys a, e) (sym (or_assoc (nat_eq a at || nat_eq a (at + 4)) (is_header (at + taken b.size) xs a) (is_header (at + (taken b.size + used xs)) ys a)))
+    let e : at + bytes_taken_by b.size + bytes_taken_by_all xs ≡ at + (bytes_taken_by b.size + bytes_taken_by_all xs) = omega arith in
+    rw (header-append (at + bytes_taken_by b.size) xs ys a, e) (sym (or_assoc (nat_eq a at || nat_eq a (at + 4)) (is_header (at + bytes_taken_by b.size) xs a) (is_header (at + (bytes_taken_by b.size + bytes_taken_by_all xs)) ys a)))
 
-pub contents-append : (at : ℕ) (xs ys : List Block) (a : ℕ) → is_in_contents at (xs ++ ys) a ≡ (is_in_contents at xs a || is_in_contents (at + used xs) ys a)
+pub contents-append : (at : ℕ) (xs ys : List Block) (a : ℕ) → is_in_contents at (xs ++ ys) a ≡ (is_in_contents at xs a || is_in_contents (at + bytes_taken_by_all xs) ys a)
 contents-append at [] ys a = let e : at ≡ at + 0 = omega arith in ap (λ p. is_in_contents p ys a) e
 contents-append at (b ∷ xs) ys a =
-    let e : at + taken b.size + used xs ≡ at + (taken b.size + used xs) = omega arith in
-    rw (contents-append (at + taken b.size) xs ys a, e) (sym (or_assoc (is_held_word at b a) (is_in_contents (at + taken b.size) xs a) (is_in_contents (at + (taken b.size + used xs)) ys a)))
+    let e : at + bytes_taken_by b.size + bytes_taken_by_all xs ≡ at + (bytes_taken_by b.size + bytes_taken_by_all xs) = omega arith in
+    rw (contents-append (at + bytes_taken_by b.size) xs ys a, e) (sym (or_assoc (is_held_word at b a) (is_in_contents (at + bytes_taken_by b.size) xs a) (is_in_contents (at + (bytes_taken_by b.size + bytes_taken_by_all xs)) ys a)))
 
 pub whole-append : (xs ys : List Block) → AreWhole xs → AreWhole ys → AreWhole (xs ++ ys)
 whole-append [] ys p q = q
@@ -55,21 +55,21 @@ whole_right (b ∷ xs) ys p = whole_right xs ys p.1
 
 pub anchored_left : (f : ℕ → ℕ) (at : ℕ) (xs ys : List Block) → AreAnchored f at (xs ++ ys) → AreAnchored f at xs
 anchored_left f at [] ys p = tt
-anchored_left f at (b ∷ xs) ys p = (p.0, anchored_left f (at + taken b.size) xs ys p.1)
+anchored_left f at (b ∷ xs) ys p = (p.0, anchored_left f (at + bytes_taken_by b.size) xs ys p.1)
 
-pub anchored_right : (f : ℕ → ℕ) (at : ℕ) (xs ys : List Block) → AreAnchored f at (xs ++ ys) → AreAnchored f (at + used xs) ys
+pub anchored_right : (f : ℕ → ℕ) (at : ℕ) (xs ys : List Block) → AreAnchored f at (xs ++ ys) → AreAnchored f (at + bytes_taken_by_all xs) ys
 anchored_right f at [] ys p = let e : at ≡ at + 0 = omega arith in rw (← e) p
 anchored_right f at (b ∷ xs) ys p =
-    let e : at + taken b.size + used xs ≡ at + (taken b.size + used xs) = omega arith in
-    rw e at (anchored_right f (at + taken b.size) xs ys p.1)
+    let e : at + bytes_taken_by b.size + bytes_taken_by_all xs ≡ at + (bytes_taken_by b.size + bytes_taken_by_all xs) = omega arith in
+    rw e at (anchored_right f (at + bytes_taken_by b.size) xs ys p.1)
 
 -- the text has as many bytes as the blocks use
 text_length : (b : Block) (rest : List ℕ) → length (word_bytes b.anchor ++ (word_bytes b.size ++ (b.bytes ++ rest))) ≡ 8 + length b.bytes + length rest
 text_length b rest = omega (arith, length-append b.bytes rest)
 
-pub text_used : (bs : List Block) → AreWhole bs → length (text_of bs) ≡ used bs
+pub text_used : (bs : List Block) → AreWhole bs → length (blocks_text_of bs) ≡ bytes_taken_by_all bs
 text_used [] p = refl
-text_used (b ∷ bs) p = omega (arith, text_length b (text_of bs), text_used bs p.1, p.0.0)
+text_used (b ∷ bs) p = omega (arith, text_length b (blocks_text_of bs), text_used bs p.1, p.0.0)
 
 split_by : (wanted : ℕ) (b : Block) (bs : List Block) → b.anchor ≡ wanted → nat_eq b.anchor wanted ≡ true → Split wanted (b ∷ bs)
 split_by wanted b bs e same = record {

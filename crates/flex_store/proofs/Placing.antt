@@ -7,7 +7,7 @@ use Rattle.address_map.proofs.Anchors.{none_among}
 use Rattle.address_map.specs.Bytes.{word_start}
 use Rattle.address_map.specs.Records.{anchor_among}
 use Rattle.flex_store.specs.declared.shift.Shift.{Shift}
-use Rattle.flex_store.specs.Blocks.{Block, FlexStore, has_anchor, is_held_word, is_in_contents, taken, used}
+use Rattle.flex_store.specs.Blocks.{Block, FlexStore, has_anchor, is_held_word, is_in_contents, bytes_taken_by, bytes_taken_by_all}
 use Rattle.flex_store.specs.Calls.{breaks_anchor, is_anchor_byte}
 use Rattle.flex_store.specs.Shifts.{gone_to, removal_shifts, splice_shifts}
 use Rattle.flex_store.specs.State.{AreInner}
@@ -36,8 +36,8 @@ splice_move at b place cut more last end = record {
   from = at + 8 + place;
   to = at + 8 + (place - cut + more);
   held = at + 8 + (place - cut + more + (b.size - place));
-  old = at + taken b.size;
-  new = at + taken (place - cut + more + (b.size - place));
+  old = at + bytes_taken_by b.size;
+  new = at + bytes_taken_by (place - cut + more + (b.size - place));
   last = last;
   end = end;
 }
@@ -49,7 +49,7 @@ removal_move at b last end = record {
   from = at;
   to = at + 8;
   held = at;
-  old = at + taken b.size;
+  old = at + bytes_taken_by b.size;
   new = at;
   last = last;
   end = end;
@@ -59,8 +59,8 @@ removal_move at b last end = record {
 abbrev pub IsUnbroken : ℕ → ℕ → ℕ → ℕ → ℕ → Type 0
 IsUnbroken c place cut more a = (a + 4 ≤ c + (place - cut)) ⊎ ((c + place ≤ a) × (more % 4 ≡ cut % 4))
 
-module _ (start end at last : ℕ) (xs after : List Block) (b : Block) (inner : AreInner start end (xs ++ b ∷ after)) (place_is : at ≡ start + used xs)
-    (last_is : last ≡ at + (taken b.size + used after)) (fits : last ≤ end) (aligned : start % 4 ≡ 0) where
+module _ (start end at last : ℕ) (xs after : List Block) (b : Block) (inner : AreInner start end (xs ++ b ∷ after)) (place_is : at ≡ start + bytes_taken_by_all xs)
+    (last_is : last ≡ at + (bytes_taken_by b.size + bytes_taken_by_all after)) (fits : last ≤ end) (aligned : start % 4 ≡ 0) where
   at_aligned : at % 4 ≡ 0
   at_aligned = omega (arith, aligned, place_is, used_aligned xs)
 
@@ -68,7 +68,7 @@ module _ (start end at last : ℕ) (xs after : List Block) (b : Block) (inner : 
   has_all a has = anchor-append xs (b ∷ after) a ∙ or_right (has_anchor xs a) (has_anchor (b ∷ after) a) (or_right (nat_eq a b.anchor) (has_anchor after a) has)
 
   pub splice_numbers : (place cut more : ℕ) → cut ≤ place → place ≤ b.size
-      → at + taken (place - cut + more + (b.size - place)) + used after ≤ end → IsMove (splice_move at b place cut more last end)
+      → at + bytes_taken_by (place - cut + more + (b.size - place)) + bytes_taken_by_all after ≤ end → IsMove (splice_move at b place cut more last end)
   splice_numbers place cut more cut_fits place_fits room = record {
     low = omega arith;
     to = omega arith;
@@ -98,17 +98,17 @@ module _ (start end at last : ℕ) (xs after : List Block) (b : Block) (inner : 
   data Was (a : ℕ) : Type 0 where
     Under : a + 4 ≤ at → (start ≤ a → is_in_contents start xs a ≡ true) → Was a
     Held : at + 8 ≤ a → a + 4 ≤ at + 8 + b.size → Was a
-    Later : is_in_contents (at + taken b.size) after a ≡ true → Was a
+    Later : is_in_contents (at + bytes_taken_by b.size) after a ≡ true → Was a
     Over : end ≤ a → Was a
 
   was_inside : (a : ℕ) → is_in_contents start (xs ++ b ∷ after) a ≡ true → Was a
-  was_inside a held = elim (or_cases (is_in_contents start xs a) (is_in_contents (start + used xs) (b ∷ after) a) (sym (contents-append start xs (b ∷ after) a) ∙ held)) [
+  was_inside a held = elim (or_cases (is_in_contents start xs a) (is_in_contents (start + bytes_taken_by_all xs) (b ∷ after) a) (sym (contents-append start xs (b ∷ after) a) ∙ held)) [
     | inl front ↦
-        let w : IsHeld start (used xs) a = contents_within start xs a front in
+        let w : IsHeld start (bytes_taken_by_all xs) a = contents_within start xs a front in
         Under (omega (arith, w.below, place_is)) (λ up. front)
     | inr rest ↦
         let rest' : is_in_contents at (b ∷ after) a ≡ true = ap (λ (p : ℕ). is_in_contents p (b ∷ after) a) place_is ∙ rest in
-        elim (or_cases (is_held_word at b a) (is_in_contents (at + taken b.size) after a) rest') [
+        elim (or_cases (is_held_word at b a) (is_in_contents (at + bytes_taken_by b.size) after a) rest') [
           | inl here ↦ let h = held_word at b a here in Held h.0 h.1
           | inr later ↦ Later later
         ]
@@ -132,7 +132,7 @@ module _ (start end at last : ℕ) (xs after : List Block) (b : Block) (inner : 
     inside = record { from = at + 8 + place; end = at + 8 + b.size; to = at + 8 + (place - cut + more) }
 
     behind : Shift
-    behind = record { from = at + taken b.size; end = last; to = at + taken (place - cut + more + (b.size - place)) }
+    behind = record { from = at + bytes_taken_by b.size; end = last; to = at + bytes_taken_by (place - cut + more + (b.size - place)) }
 
     stays : (a : ℕ) → (a < at + 8 + place) ⊎ (last ≤ a) → gone_to (splice_shifts at last b.size place cut more) a ≡ a
     unfolding inside behind
@@ -155,7 +155,7 @@ module _ (start end at last : ℕ) (xs after : List Block) (b : Block) (inner : 
     placed_was a word has (Held low high) = placed_held a word low high (free a word has low high)
     placed_was a word has (Over past) = Above (stays a (inr (omega (arith, fits, past)))) past
     placed_was a word has (Later later) =
-        let w : IsHeld (at + taken b.size) (used after) a = contents_within (at + taken b.size) after a later in
+        let w : IsHeld (at + bytes_taken_by b.size) (bytes_taken_by_all after) a = contents_within (at + bytes_taken_by b.size) after a later in
         Behind (gone_past inside (behind ∷ []) a (inr (omega (arith, w.from))) ∙ gone_here behind [] a (omega (arith, w.from)) (omega (arith, w.below, last_is)))
         (omega (arith, w.from)) (omega (arith, w.below, last_is)) later
 
@@ -165,7 +165,7 @@ module _ (start end at last : ℕ) (xs after : List Block) (b : Block) (inner : 
 
   module _ (free : (a : ℕ) → a % 4 ≡ 0 → has_anchor after a ≡ true → at + 8 ≤ a → a + 4 ≤ at + 8 + b.size → ⊥) where
     closed : Shift
-    closed = record { from = at + taken b.size; end = last; to = at }
+    closed = record { from = at + bytes_taken_by b.size; end = last; to = at }
 
     closed_was : (a : ℕ) → a % 4 ≡ 0 → has_anchor after a ≡ true → Was a
         → Place (removal_move at b last end) start xs after a (gone_to (removal_shifts at last b.size) a)
@@ -174,7 +174,7 @@ module _ (start end at last : ℕ) (xs after : List Block) (b : Block) (inner : 
     closed_was a word has (Held low high) = absurd (free a word has low high)
     closed_was a word has (Over past) = Above (gone_past closed [] a (inr (omega (arith, fits, past)))) past
     closed_was a word has (Later later) =
-        let w : IsHeld (at + taken b.size) (used after) a = contents_within (at + taken b.size) after a later in
+        let w : IsHeld (at + bytes_taken_by b.size) (bytes_taken_by_all after) a = contents_within (at + bytes_taken_by b.size) after a later in
         Behind (gone_here closed [] a (omega (arith, w.from)) (omega (arith, w.below, last_is))) (omega (arith, w.from)) (omega (arith, w.below, last_is)) later
 
     pub removal_placed : (a : ℕ) → a % 4 ≡ 0 → has_anchor after a ≡ true

@@ -2,7 +2,7 @@
 -- and keeps all heaps.
 use Rattle.std.proofs.Common.{◌≡◌, ℕ, ◌+◌, ◌-◌, ◌<◌, ◌++◌, true, false, List, [], ◌∷◌, length, refl, sym, ap, subst, ◌∙◌, inl, inr}
 use Rattle.std.proofs.lemmas.Bool.{cases_Bool, eq-eqb, or_parts, or_right, true≢false}
-use Rattle.address_map.specs.Bytes.{Bytes, in_range, meets}
+use Rattle.address_map.specs.Bytes.{Bytes, in_range, shares_address}
 use Rattle.address_map.specs.Memory.{byte_at, bytes_of, class_of, is_mapped, mapping, regions}
 use Rattle.address_map.specs.Records.{is_heap_kind, meets_record}
 use Rattle.address_map.specs.declared.class.Class.{Class}
@@ -16,7 +16,7 @@ use Rattle.flex_store.specs.Calls.{flex_record, is_flex_range}
 use Rattle.flex_store.specs.State.{is_recorded, is_store_record}
 use Rattle.flex_store.proofs.Starting.{mapped_same, range_apart}
 
-pub range_clear_back : (at len other other_len : ℕ) → meets at len other other_len ≡ false → AreClear other other_len at len
+pub range_clear_back : (at len other other_len : ℕ) → shares_address at len other other_len ≡ false → AreClear other other_len at len
 range_clear_back at len other other_len apart a inside = elim (cases_Bool (in_range at len a)) [
   | inr clear ↦ clear
   | inl there ↦ absurd (true≢false (sym inside ∙ clear_unless at len other other_len apart a there))
@@ -25,7 +25,7 @@ range_clear_back at len other other_len apart a inside = elim (cases_Bool (in_ra
 heaps_clear : (b : Bytes) (rs : List Region) (at len : ℕ) → meets_record rs at len ≡ false → IsClearOfHeaps at len (heaps_in b rs)
 heaps_clear b [] at len apart = tt
 heaps_clear b (r ∷ rs) at len apart =
-    let parts = or_parts (meets at len r.at r.len) (meets_record rs at len) apart in
+    let parts = or_parts (shares_address at len r.at r.len) (meets_record rs at len) apart in
     elim (cases_Bool (is_heap_kind r.kind)) [
       | inl heap ↦ rw heap (clear_unless at len r.at r.len parts.0, heaps_clear b rs at len parts.1)
       | inr other ↦ rw other (heaps_clear b rs at len parts.1)
@@ -34,7 +34,7 @@ heaps_clear b (r ∷ rs) at len apart =
 ranges_clear : (rs : List Region) (r : Region) → meets_record rs r.at r.len ≡ false → IsClearOfAll r (others_in rs)
 ranges_clear [] r apart = tt
 ranges_clear (q ∷ rs) r apart =
-    let parts = or_parts (meets r.at r.len q.at q.len) (meets_record rs r.at r.len) apart in
+    let parts = or_parts (shares_address r.at r.len q.at q.len) (meets_record rs r.at r.len) apart in
     elim (cases_Bool (is_heap_kind q.kind)) [
       | inl heap ↦ rw heap (ranges_clear rs r parts.1)
       | inr other ↦ rw other (range_clear_back r.at r.len q.at q.len parts.0, ranges_clear rs r parts.1)

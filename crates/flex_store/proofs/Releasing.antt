@@ -15,13 +15,13 @@ use Rattle.address_map.specs.declared.class.Class.{Class}
 use Rattle.address_map.specs.declared.map.AddressMap.{AddressMap}
 use Rattle.flex_store.specs.declared.flex.Extent.{Extent}
 use Rattle.flex_store.specs.declared.shift.Shift.{Shift}
-use Rattle.flex_store.specs.Blocks.{Block, FlexStore, has_anchor, is_header, is_in_contents, taken, used, without_block}
-use Rattle.flex_store.specs.Calls.{end_in, FlexState, header_in, is_anchor_byte, released, with_blocks, without_anchor}
+use Rattle.flex_store.specs.Blocks.{Block, FlexStore, has_anchor, is_header, is_in_contents, bytes_taken_by, bytes_taken_by_all, without_block}
+use Rattle.flex_store.specs.Calls.{end_in, FlexState, header_place_in, is_anchor_byte, flex_after_release, with_blocks, state_without_anchor}
 use Rattle.flex_store.specs.Changes.{GotBlocks}
 use Rattle.flex_store.specs.Memory.{AreAnchored, blocks_in, laid_out, standing}
-use Rattle.flex_store.specs.Relaid.{behind, closed, first_at, MayLie, Relaid}
+use Rattle.flex_store.specs.Relaid.{blocks_behind_first, blocks_after_removal, first_at, MayLie, Relaid}
 use Rattle.flex_store.specs.Shifts.{following, removal_shifts}
-use Rattle.flex_store.specs.State.{AreAnchorWords, IsAllowed, IsMappedWord, IsStoreAt, IsText, Keeps, KeepsHeads, blocks_of, held_in, store_in}
+use Rattle.flex_store.specs.State.{AreAnchorWords, IsAnchorAllowed, IsMappedWord, IsStoreAt, IsText, KeepsBesidesFlex, KeepsHeads, blocks_of, held_in, flex_store_in}
 use Rattle.flex_store.proofs.Anchoring.{other_word}
 use Rattle.flex_store.proofs.Changing.{AreHeadless, got, no_heap_anchor}
 use Rattle.flex_store.proofs.Finding.{IsPlaced}
@@ -38,7 +38,7 @@ use Rattle.flex_store.proofs.Words.{anchor_no_header, word_of, words_apart, word
 -- what memory spells first, and what after that
 pub record IsSpelledAt (m : AddressMap) (h end : ℕ) (b : Block) (after : List Block) : Type 0 where
   pub first : first_at m h ≡ b
-  pub rest : behind m h end ≡ after
+  pub rest : blocks_behind_first m h end ≡ after
 
 pub spelled_at : (m : AddressMap) (h end : ℕ) (b : Block) (after : List Block) → IsText (bytes_of m) h end (b ∷ after) → IsSpelledAt m h end b after
 spelled_at m h end b after text =
@@ -47,8 +47,8 @@ spelled_at m h end b after text =
     let is_first : first_at m h ≡ b = block_read (byte_at m) h b after first.whole (omega arith) text.whole.0.1 first.spelled in
     record {
       first = is_first;
-      rest = ap (λ (x : Block). blocks_in (byte_at m) (h + taken x.size) end) is_first
-          ∙ text_read (bytes_of m) (h + taken b.size) end after (text_next (bytes_of m) h end b after text);
+      rest = ap (λ (x : Block). blocks_in (byte_at m) (h + bytes_taken_by x.size) end) is_first
+          ∙ text_read (bytes_of m) (h + bytes_taken_by b.size) end after (text_next (bytes_of m) h end b after text);
     }
 
 -- anchors that stay where one word changes that is none of them
@@ -60,7 +60,7 @@ anchored_other mapped start end f g at (b ∷ bs) word words none same anchored 
     let aligned : b.anchor % 4 ≡ 0 = words.0.0.aligned in (
       holds_kept f g b.anchor (word_bytes (at + 8))
           (λ a low high. same a (λ here. let there : word_start a ≡ b.anchor = omega arith in eqb-false word b.anchor parts.0 (sym here ∙ there))) anchored.0,
-      anchored_other mapped (start + taken b.size) end f g (at + taken b.size) bs word words.1 parts.1 same anchored.1,
+      anchored_other mapped (start + bytes_taken_by b.size) end f g (at + bytes_taken_by b.size) bs word words.1 parts.1 same anchored.1,
     )
 
 -- an anchor that was made 0
@@ -75,8 +75,8 @@ has_here (y ∷ xs) b ys x same = or_right (nat_eq x y.anchor) (has_anchor (xs +
 
 pub anchor_word : (m : AddressMap) (e : Extent) (anchor header : ℕ) (before : List Block) → IsPlaced m e anchor header before → IsMappedWord (is_mapped m) anchor
 anchor_word m e anchor header before p =
-    word_of (is_mapped m) e.start e.end (before ++ first_at m header ∷ behind m header (e.start + e.used)) anchor p.store.words
-    (has_here before (first_at m header) (behind m header (e.start + e.used)) anchor p.split.anchor)
+    word_of (is_mapped m) e.start e.end (before ++ first_at m header ∷ blocks_behind_first m header (e.start + e.used)) anchor p.store.words
+    (has_here before (first_at m header) (blocks_behind_first m header (e.start + e.used)) anchor p.split.anchor)
 
 -- it lies outside the text from its block's header on
 own_outside : (m : AddressMap) (e : Extent) (anchor header : ℕ) (before : List Block) → IsPlaced m e anchor header before
@@ -91,40 +91,40 @@ pub inside_other : (start end anchor a : ℕ) → start % 4 ≡ 0 → (anchor + 
 inside_other start end anchor a aligned outside low high here = elim outside [ inl before ↦ omega arith | inr behind ↦ omega arith ]
 
 pub cleared_text : (m m2 : AddressMap) (e : Extent) (anchor header : ℕ) (before : List Block) → IsPlaced m e anchor header before → IsCleared m m2 anchor
-    → IsText (bytes_of m2) header (e.start + e.used) (first_at m header ∷ behind m header (e.start + e.used))
+    → IsText (bytes_of m2) header (e.start + e.used) (first_at m header ∷ blocks_behind_first m header (e.start + e.used))
 cleared_text m m2 e anchor header before p c =
     let w : IsMappedWord (is_mapped m) anchor = anchor_word m e anchor header before p in
-    text_kept (bytes_of m) (bytes_of m2) header (e.start + e.used) (first_at m header ∷ behind m header (e.start + e.used)) (is_mapped-layout m m2 c.same)
+    text_kept (bytes_of m) (bytes_of m2) header (e.start + e.used) (first_at m header ∷ blocks_behind_first m header (e.start + e.used)) (is_mapped-layout m m2 c.same)
     (λ a low high. cleared_same m m2 anchor a c w.aligned (inside_other header (e.start + e.used) anchor a p.text.aligned (own_outside m e anchor header before p) low high)) p.text
 
 -- a release, by the place of its block
 released_is : (m : AddressMap) (e : Extent) (anchor header : ℕ) (front : List Block) → IsStoreAt m e → IsPlaced m e anchor header front
-    → released (held_in m e) anchor
+    → flex_after_release (held_in m e) anchor
     ≡ (if anchor_among (anchor_of m) (header + 8) (first_at m header).size then Err FlexHoldsAnchor else
-    Ok (with_blocks (without_anchor (held_in m e) anchor) (store_in m e) front (following (removal_shifts header (e.start + e.used) (first_at m header).size) (behind m header (e.start + e.used))), tt))
-unfolding released
+    Ok (with_blocks (state_without_anchor (held_in m e) anchor) (flex_store_in m e) front (following (removal_shifts header (e.start + e.used) (first_at m header).size) (blocks_behind_first m header (e.start + e.used))), tt))
+unfolding flex_after_release
 released_is m e anchor header front is p =
     let size : ℕ = (first_at m header).size in
-    let at_is : header_in (store_in m e) anchor ≡ header = ap (λ (l : List Block). e.start + used l) p.split.front_is ∙ sym p.place in
-    let end_is : end_in (store_in m e) ≡ e.start + e.used = ap (λ (n : ℕ). e.start + n) is.used_is in
-    let anchors : is_anchor_byte (store_in m e) ≡ anchor_of m = λ i a. sym (is.store.anchors a) i in
+    let at_is : header_place_in (flex_store_in m e) anchor ≡ header = ap (λ (l : List Block). e.start + bytes_taken_by_all l) p.split.front_is ∙ sym p.place in
+    let end_is : end_in (flex_store_in m e) ≡ e.start + e.used = ap (λ (n : ℕ). e.start + n) is.used_is in
+    let anchors : is_anchor_byte (flex_store_in m e) ≡ anchor_of m = λ i a. sym (is.store.anchors a) i in
     rw p.split.found (λ i. if anchor_among (anchors i) (at_is i + 8) size then Err FlexHoldsAnchor else
-    Ok (with_blocks (without_anchor (held_in m e) anchor) (store_in m e) (p.split.front_is i) (following (removal_shifts (at_is i) (end_is i) size) (p.split.rest_is i)), tt))
+    Ok (with_blocks (state_without_anchor (held_in m e) anchor) (flex_store_in m e) (p.split.front_is i) (following (removal_shifts (at_is i) (end_is i) size) (p.split.rest_is i)), tt))
 
 pub release_refused : (m : AddressMap) (e : Extent) (anchor header : ℕ) (front : List Block) → IsStoreAt m e → IsPlaced m e anchor header front
     → anchor_among (anchor_of m) (header + 8) (first_at m header).size ≡ true
-    → Gives {U = Unit {0}} {E = ErrorNumber} (held_in m e) (released (held_in m e) anchor) (Err FlexHoldsAnchor) (held_in m e)
+    → Gives {U = Unit {0}} {E = ErrorNumber} (held_in m e) (flex_after_release (held_in m e) anchor) (Err FlexHoldsAnchor) (held_in m e)
 release_refused m e anchor header front is p holds =
     let way = released_is m e anchor header front is p
     ∙ ap (λ (t : Bool). let r : Result (FlexState × Unit {0}) ErrorNumber = if t then Err FlexHoldsAnchor else
-    Ok (with_blocks (without_anchor (held_in m e) anchor) (store_in m e) front (following (removal_shifts header (e.start + e.used) (first_at m header).size) (behind m header (e.start + e.used))), tt) in r) holds in
+    Ok (with_blocks (state_without_anchor (held_in m e) anchor) (flex_store_in m e) front (following (removal_shifts header (e.start + e.used) (first_at m header).size) (blocks_behind_first m header (e.start + e.used))), tt) in r) holds in
     subst (λ (x : Result (FlexState × Unit {0}) ErrorNumber). Gives (held_in m e) x (Err FlexHoldsAnchor) (held_in m e)) (sym way) (refl, refl)
 
 -- what its removal asks for
 pub record MayRemove (m2 : AddressMap) (header end : ℕ) : Type 0 where
-  pub text : IsText (bytes_of m2) header end (first_at m2 header ∷ behind m2 header end)
-  pub words : AreAnchorWords (is_mapped m2) header end (first_at m2 header ∷ behind m2 header end)
-  pub room : MayLie m2 header (closed m2 header end)
+  pub text : IsText (bytes_of m2) header end (first_at m2 header ∷ blocks_behind_first m2 header end)
+  pub words : AreAnchorWords (is_mapped m2) header end (first_at m2 header ∷ blocks_behind_first m2 header end)
+  pub room : MayLie m2 header (blocks_after_removal m2 header end)
 
 -- Its removal, where none of its bytes is one of an anchor.
 module _ (m : AddressMap) (e : Extent) (anchor header : ℕ) (front : List Block) (p : IsPlaced m e anchor header front)
@@ -136,7 +136,7 @@ module _ (m : AddressMap) (e : Extent) (anchor header : ℕ) (front : List Block
   b = first_at m header
 
   abbrev after : List Block
-  after = behind m header (e.start + e.used)
+  after = blocks_behind_first m header (e.start + e.used)
 
   abbrev shifts : List Shift
   shifts = removal_shifts header last b.size
@@ -177,16 +177,16 @@ module _ (m : AddressMap) (e : Extent) (anchor header : ℕ) (front : List Block
 
   rest_words : AreAnchorWords (is_mapped m) header e.end news
   rest_words =
-      let old : AreAnchorWords (is_mapped m) (header + taken b.size) e.end after =
-      subst (λ (n : ℕ). AreAnchorWords (is_mapped m) (n + taken b.size) e.end after) (sym p.place) (words_right (is_mapped m) e.start e.end front (b ∷ after) p.store.words).1 in
-      let e' : header + (header + taken b.size - (header + taken b.size)) ≡ header = omega arith in
-      rw e' at (following_words (is_mapped m) k e.start front after shifts after (header + taken b.size) is there p.low (omega arith) places old)
+      let old : AreAnchorWords (is_mapped m) (header + bytes_taken_by b.size) e.end after =
+      subst (λ (n : ℕ). AreAnchorWords (is_mapped m) (n + bytes_taken_by b.size) e.end after) (sym p.place) (words_right (is_mapped m) e.start e.end front (b ∷ after) p.store.words).1 in
+      let e' : header + (header + bytes_taken_by b.size - (header + bytes_taken_by b.size)) ≡ header = omega arith in
+      rw e' at (following_words (is_mapped m) k e.start front after shifts after (header + bytes_taken_by b.size) is there p.low (omega arith) places old)
 
-  in_rest : (x : ℕ) → Inside k e.start front after shifts x → (is_in_contents e.start front x || is_in_contents (e.start + used front) news x) ≡ true
-  in_rest x (InFront held) = or_left (is_in_contents e.start front x) (is_in_contents (e.start + used front) news x) held
+  in_rest : (x : ℕ) → Inside k e.start front after shifts x → (is_in_contents e.start front x || is_in_contents (e.start + bytes_taken_by_all front) news x) ≡ true
+  in_rest x (InFront held) = or_left (is_in_contents e.start front x) (is_in_contents (e.start + bytes_taken_by_all front) news x) held
   in_rest x (InBlock low high) = absurd (omega (arith, low, high))
   in_rest x (InRest held) =
-      or_right (is_in_contents e.start front x) (is_in_contents (e.start + used front) news x) (ap (λ (q : ℕ). is_in_contents q news x) (sym p.place) ∙ held)
+      or_right (is_in_contents e.start front x) (is_in_contents (e.start + bytes_taken_by_all front) news x) (ap (λ (q : ℕ). is_in_contents q news x) (sym p.place) ∙ held)
 
   may_follow : MayFollow (is_mapped m) e.start e.end front news
   may_follow = record {
@@ -200,7 +200,7 @@ module _ (m : AddressMap) (e : Extent) (anchor header : ℕ) (front : List Block
 
   may_lie : MayLie m header news
   may_lie = record {
-    words = words_within (is_mapped m) header e.end header (header + used news) news (omega arith) (omega (arith, fits, p.total, p.place, following_used shifts after)) rest_words;
+    words = words_within (is_mapped m) header e.end header (header + bytes_taken_by_all news) news (omega arith) (omega (arith, fits, p.total, p.place, following_used shifts after)) rest_words;
     there = λ a low high. p.text.mapped a low (omega (arith, high, following_used shifts after));
   }
 
@@ -228,10 +228,10 @@ module _ (m : AddressMap) (e : Extent) (anchor header : ℕ) (front : List Block
         let s : IsSpelledAt m2 header last b after = spelled_at m2 header last b after text in
         let mapped : is_mapped m2 ≡ is_mapped m = is_mapped-layout m m2 c.same in
         let words : AreAnchorWords (is_mapped m2) header last (b ∷ after) = subst (λ (q : ℕ → Bool). AreAnchorWords q header last (b ∷ after)) (sym mapped) p.words in
-        let same : b ∷ after ≡ first_at m2 header ∷ behind m2 header last = λ i. sym s.first i ∷ sym s.rest i in
+        let same : b ∷ after ≡ first_at m2 header ∷ blocks_behind_first m2 header last = λ i. sym s.first i ∷ sym s.rest i in
         let room : MayLie m2 header news = record {
-          words = subst (λ (q : ℕ → Bool). AreAnchorWords q header (header + used news) news) (sym mapped) may_lie.words;
-          there = subst (λ (q : ℕ → Bool). AreMapped q header (used news)) (sym mapped) may_lie.there;
+          words = subst (λ (q : ℕ → Bool). AreAnchorWords q header (header + bytes_taken_by_all news) news) (sym mapped) may_lie.words;
+          there = subst (λ (q : ℕ → Bool). AreMapped q header (bytes_taken_by_all news)) (sym mapped) may_lie.there;
         } in
         record {
           text = subst (λ (l : List Block). IsText (bytes_of m2) header last l) same text;
@@ -243,7 +243,7 @@ module _ (m : AddressMap) (e : Extent) (anchor header : ℕ) (front : List Block
     kept_header a header_word = cleared_same m m2 anchor a c own_word.aligned (λ here.
         let none = anchor_no_header e.start e.end (front ++ b ∷ after) anchor p.store.fits p.store.inner (has_here front b after anchor p.split.anchor) in
         both_ways (is_header e.start (front ++ b ∷ after) anchor) none
-        (header-append e.start front (b ∷ after) anchor ∙ or_left (is_header e.start front anchor) (is_header (e.start + used front) (b ∷ after) anchor)
+        (header-append e.start front (b ∷ after) anchor ∙ or_left (is_header e.start front anchor) (is_header (e.start + bytes_taken_by_all front) (b ∷ after) anchor)
         (ap (is_header e.start front) (sym here) ∙ header_word)))
 
     kept_anchors : AreAnchored (byte_at m2) e.start front
@@ -253,14 +253,14 @@ module _ (m : AddressMap) (e : Extent) (anchor header : ℕ) (front : List Block
         (λ a other. cleared_same m m2 anchor a c own_word.aligned other)
         (anchored_left (byte_at m) e.start front (b ∷ after) p.store.anchored)
 
-    pub release_gets : (n : AddressMap) (f : Extent) → Relaid m2 n header (first_at m2 header ∷ behind m2 header last) (closed m2 header last)
-        → f.start ≡ e.start → f.end ≡ e.end → f.used ≡ e.used - taken b.size → GotBlocks m2 e front news n f
+    pub release_gets : (n : AddressMap) (f : Extent) → Relaid m2 n header (first_at m2 header ∷ blocks_behind_first m2 header last) (blocks_after_removal m2 header last)
+        → f.start ≡ e.start → f.end ≡ e.end → f.used ≡ e.used - bytes_taken_by b.size → GotBlocks m2 e front news n f
     release_gets n f r same_start same_end used_is =
         let text : IsText (bytes_of m2) header last (b ∷ after) = cleared_text m m2 e anchor header front p c in
         let s : IsSpelledAt m2 header last b after = spelled_at m2 header last b after text in
         let r' : Relaid m2 n header (b ∷ after) news = subst (λ (l : List Block). Relaid m2 n header l news) (λ i. s.first i ∷ s.rest i)
-        (subst (λ (l : List Block). Relaid m2 n header (first_at m2 header ∷ behind m2 header last) l) (λ i. following (removal_shifts header last (s.first i).size) (s.rest i)) r) in
-        let total : e.used ≡ used front + (taken b.size + used after) = p.total in
+        (subst (λ (l : List Block). Relaid m2 n header (first_at m2 header ∷ blocks_behind_first m2 header last) l) (λ i. following (removal_shifts header last (s.first i).size) (s.rest i)) r) in
+        let total : e.used ≡ bytes_taken_by_all front + (bytes_taken_by b.size + bytes_taken_by_all after) = p.total in
         got m2 n e f (byte_at m2) front (b ∷ after) news
         (before_laid m m2 e.start e.end front (b ∷ after) news p.store c.marks c.same kept_header kept_anchors may_follow)
         (subst (λ (q : ℕ). Relaid m2 n q (b ∷ after) news) p.place r')
@@ -268,12 +268,12 @@ module _ (m : AddressMap) (e : Extent) (anchor header : ℕ) (front : List Block
         same_start same_end (omega (arith, used_is, total, used-append front news, following_used shifts after))
 
     release_state : (n : AddressMap) (f : Extent) → GotBlocks m2 e front news n f
-        → held_in n f ≡ with_blocks (without_anchor (held_in m e) anchor) (store_in m e) front news
+        → held_in n f ≡ with_blocks (state_without_anchor (held_in m e) anchor) (flex_store_in m e) front news
     release_state n f g =
         let zeroed : byte_at m2 ≡ with_word_at (byte_at m) anchor 0 = λ i a. c.bytes a i in
-        let bytes : byte_at n ≡ laid_out (e.start + used front) news (with_word_at (byte_at m) anchor 0) =
-        (λ i a. g.bytes a i) ∙ ap (λ (h : ℕ → ℕ). laid_out (e.start + used front) news h) zeroed in
-        let blocks : blocks_of n f ≡ standing (laid_out (e.start + used front) news (with_word_at (byte_at m) anchor 0)) e.start (front ++ news) =
+        let bytes : byte_at n ≡ laid_out (e.start + bytes_taken_by_all front) news (with_word_at (byte_at m) anchor 0) =
+        (λ i a. g.bytes a i) ∙ ap (λ (h : ℕ → ℕ). laid_out (e.start + bytes_taken_by_all front) news h) zeroed in
+        let blocks : blocks_of n f ≡ standing (laid_out (e.start + bytes_taken_by_all front) news (with_word_at (byte_at m) anchor 0)) e.start (front ++ news) =
         g.blocks_are ∙ ap (λ (h : ℕ → ℕ). standing h e.start (front ++ news)) bytes in
         λ i. record {
           bytes = record { mapped = (is_mapped-layout m2 n g.same ∙ is_mapped-layout m m2 c.same) i; at = bytes i };
@@ -281,15 +281,15 @@ module _ (m : AddressMap) (e : Extent) (anchor header : ℕ) (front : List Block
         }
 
     pub release_gives : (n : AddressMap) (f : Extent) → IsStoreAt m e → GotBlocks m2 e front news n f
-        → Gives {U = Unit {0}} {E = ErrorNumber} (held_in m e) (released (held_in m e) anchor) (Ok tt) (held_in n f)
+        → Gives {U = Unit {0}} {E = ErrorNumber} (held_in m e) (flex_after_release (held_in m e) anchor) (Ok tt) (held_in n f)
     release_gives n f s g =
         let way = released_is m e anchor header front s p
-        ∙ ap (λ (t : Bool). let r : Result (FlexState × Unit {0}) ErrorNumber = if t then Err FlexHoldsAnchor else Ok (with_blocks (without_anchor (held_in m e) anchor) (store_in m e) front news, tt) in r) free in
+        ∙ ap (λ (t : Bool). let r : Result (FlexState × Unit {0}) ErrorNumber = if t then Err FlexHoldsAnchor else Ok (with_blocks (state_without_anchor (held_in m e) anchor) (flex_store_in m e) front news, tt) in r) free in
         subst (λ (x : Result (FlexState × Unit {0}) ErrorNumber). Gives (held_in m e) x (Ok tt) (held_in n f)) (sym way) (release_state n f g, refl)
 
-    allowed : (a : ℕ) → has_anchor (front ++ news) a ≡ true → IsAllowed m e a
+    allowed : (a : ℕ) → has_anchor (front ++ news) a ≡ true → IsAnchorAllowed m e a
     allowed a has =
-        let was : has_anchor (front ++ b ∷ after) a ≡ true → IsAllowed m e a = λ had. inl (ap (λ (l : List Block). has_anchor l a) p.split.list ∙ had) in
+        let was : has_anchor (front ++ b ∷ after) a ≡ true → IsAnchorAllowed m e a = λ had. inl (ap (λ (l : List Block). has_anchor l a) p.split.list ∙ had) in
         elim (or_cases (has_anchor front a) (has_anchor news a) (sym (anchor-append front news a) ∙ has)) [
           | inl own ↦ was (anchor-append front (b ∷ after) a ∙ or_left (has_anchor front a) (has_anchor (b ∷ after) a) own)
           | inr new ↦ elim (new_old a new) [
@@ -298,7 +298,7 @@ module _ (m : AddressMap) (e : Extent) (anchor header : ℕ) (front : List Block
           ]
         ]
 
-    pub release_keeps : (n : AddressMap) (f : Extent) → GotBlocks m2 e front news n f → Keeps m e n f
+    pub release_keeps : (n : AddressMap) (f : Extent) → GotBlocks m2 e front news n f → KeepsBesidesFlex m e n f
     release_keeps n f g =
         let live : (a : ℕ) → word_start a ≡ anchor → is_heap_class (class_of m a) ≡ false = λ a here.
         no_heap_anchor (class_of m a) (p.store.anchors a ∙ (ap (has_anchor (front ++ b ∷ after)) here ∙ has_here front b after anchor p.split.anchor)) in

@@ -7,10 +7,10 @@ use Rattle.profile.specs.declared.error.ErrorNumber.TheVariants.{FlexHoldsAnchor
 use Rattle.address_map.specs.Bytes.{Bytes}
 use Rattle.os_heap.specs.Store.{Store}
 use Rattle.flex_store.specs.declared.shift.Shift.{Shift}
-use Rattle.flex_store.specs.Blocks.{before, behind_of, Block, contents, cut_of, find_block, FlexStore, has_anchor, holding, more_of, new_block, resized, spliced, taken, used, with_block, without_block}
-use Rattle.flex_store.specs.Calls.{allocated, breaks_anchor, end_in, extended, fitted, FlexState, header_in, is_anchor_byte, is_anchor_place, may_stand, mid_extended, spliced_at, with_blocks}
+use Rattle.flex_store.specs.Blocks.{before, behind_of, Block, contents, cut_of, find_block, FlexStore, has_anchor, block_holding, more_of, new_block, bytes_with_size, bytes_after_splice, bytes_taken_by, bytes_taken_by_all, with_block, without_block}
+use Rattle.flex_store.specs.Calls.{flex_after_alloc, breaks_anchor, end_in, flex_after_extend, flex_if_room, FlexState, header_place_in, is_anchor_byte, is_anchor_place, may_stand, mid_extended, spliced_at, with_blocks}
 use Rattle.flex_store.specs.Laws.{HasBlocks}
-use Rattle.flex_store.specs.Runs.{Alloc, AnswersAreRoom, blocks_after, blocks_changed, Extend, FlexCall, IsDone, MidExtend, Release}
+use Rattle.flex_store.specs.Runs.{Alloc, AnswersAreRoom, blocks_after, blocks_changed, Extend, FlexCall, IsFlexCallDone, MidExtend, Release}
 use Rattle.flex_store.specs.Shifts.{following, splice_shifts}
 use Rattle.flex_store.specs.State.{AreWhole}
 use Rattle.flex_store.proofs.Answering.{resized_is}
@@ -26,28 +26,28 @@ fit_answer : (t : FlexState) (s : FlexStore) (olds news : List Block) (fits : Bo
 fit_answer t s olds news true q is = sym (ap (λ (r : FlexState × Bool). r.1) is)
 fit_answer t s olds news false q is = sym (ap (λ (r : FlexState × Bool). r.1) is)
 
-fitted_room : (t : FlexState) (s : FlexStore) (olds news bs : List Block) (v : FlexState) (answer : Bool) → used (olds ++ news) ≡ used bs
-    → (let given : FlexState × Bool = (v, answer) in Answers (fitted t s olds news) given) → answer ≡ nat_le (s.start + used bs) s.end
+fitted_room : (t : FlexState) (s : FlexStore) (olds news bs : List Block) (v : FlexState) (answer : Bool) → bytes_taken_by_all (olds ++ news) ≡ bytes_taken_by_all bs
+    → (let given : FlexState × Bool = (v, answer) in Answers (flex_if_room t s olds news) given) → answer ≡ nat_le (s.start + bytes_taken_by_all bs) s.end
 fitted_room t s olds news bs v answer same done =
     let given : FlexState × Bool = (v, answer) in
-    fit_answer t s olds news (nat_le (s.start + used (olds ++ news)) s.end) given (same_answer (fitted t s olds news) given done)
+    fit_answer t s olds news (nat_le (s.start + bytes_taken_by_all (olds ++ news)) s.end) given (same_answer (flex_if_room t s olds news) given done)
     ∙ ap (λ (n : ℕ). nat_le (s.start + n) s.end) same
 
 stays_room : (t v : FlexState) (s : FlexStore) (bs : List Block) (answer : Bool)
     → (let was : FlexState × Bool = (t, true) in let given : FlexState × Bool = (v, answer) in Answers was given)
-    → s.start + used s.blocks ≤ s.end → used bs ≤ used s.blocks → answer ≡ nat_le (s.start + used bs) s.end
+    → s.start + bytes_taken_by_all s.blocks ≤ s.end → bytes_taken_by_all bs ≤ bytes_taken_by_all s.blocks → answer ≡ nat_le (s.start + bytes_taken_by_all bs) s.end
 stays_room t v s bs answer done fits fewer =
     let was : FlexState × Bool = (t, true) in
     let given : FlexState × Bool = (v, answer) in
-    sym (ap (λ (r : FlexState × Bool). r.1) (same_answer was given done)) ∙ sym (le-leb (s.start + used bs) s.end (omega arith))
+    sym (ap (λ (r : FlexState × Bool). r.1) (same_answer was given done)) ∙ sym (le-leb (s.start + bytes_taken_by_all bs) s.end (omega arith))
 
 -- a block in its place, and those after it with other anchors
 used_spliced : (anchor : ℕ) (b new : Block) (ss : List Shift) (bs : List Block) → find_block anchor bs ≡ Some b
-    → used (before anchor bs ++ new ∷ following ss (behind_of anchor bs)) ≡ used (with_block anchor new bs)
+    → bytes_taken_by_all (before anchor bs ++ new ∷ following ss (behind_of anchor bs)) ≡ bytes_taken_by_all (with_block anchor new bs)
 used_spliced anchor b new ss [] found = absurd (let none : None ≡ Some b = found in cc)
 used_spliced anchor b new ss (x ∷ bs) found = elim (cases_Bool (nat_eq x.anchor anchor)) [
-  | inl here ↦ rw here (ap (λ (n : ℕ). taken new.size + n) (following_used ss bs))
-  | inr other ↦ rw other (ap (λ (n : ℕ). taken x.size + n) (used_spliced anchor b new ss bs (rw other at found)))
+  | inl here ↦ rw here (ap (λ (n : ℕ). bytes_taken_by new.size + n) (following_used ss bs))
+  | inr other ↦ rw other (ap (λ (n : ℕ). bytes_taken_by x.size + n) (used_spliced anchor b new ss bs (rw other at found)))
 ]
 
 unbroken : (broken : Bool) (q : FlexState × Bool) (v : FlexState) (answer : Bool)
@@ -58,21 +58,21 @@ unbroken false q v answer is = is
 
 spliced_room : (t : FlexState) (s : FlexStore) (anchor : ℕ) (b : Block) (place cut more : ℕ) (v : FlexState) (answer : Bool) → find_block anchor s.blocks ≡ Some b
     → spliced_at t s anchor b place cut more ≡ Ok (v, answer)
-    → answer ≡ nat_le (s.start + used (with_block anchor (holding b (spliced (contents b) place cut more)) s.blocks)) s.end
+    → answer ≡ nat_le (s.start + bytes_taken_by_all (with_block anchor (block_holding b (bytes_after_splice (contents b) place cut more)) s.blocks)) s.end
 spliced_room t s anchor b place cut more v answer found is =
-    let new : Block = holding b (spliced (contents b) place cut more) in
-    let shifts : List Shift = splice_shifts (header_in s anchor) (end_in s) b.size place cut more in
+    let new : Block = block_holding b (bytes_after_splice (contents b) place cut more) in
+    let shifts : List Shift = splice_shifts (header_place_in s anchor) (end_in s) b.size place cut more in
     let news : List Block = new ∷ following shifts (behind_of anchor s.blocks) in
     fitted_room t s (before anchor s.blocks) news (with_block anchor new s.blocks) v answer (used_spliced anchor b new shifts s.blocks found)
-    (unbroken (breaks_anchor (is_anchor_byte s) (header_in s anchor + 8) b.size place cut more) (fitted t s (before anchor s.blocks) news) v answer is)
+    (unbroken (breaks_anchor (is_anchor_byte s) (header_place_in s anchor + 8) b.size place cut more) (flex_if_room t s (before anchor s.blocks) news) v answer is)
 
-module _ (b : Bytes) (s : FlexStore) (filled : AreFilled s.blocks) (fits : s.start + used s.blocks ≤ s.end) where
+module _ (b : Bytes) (s : FlexStore) (filled : AreFilled s.blocks) (fits : s.start + bytes_taken_by_all s.blocks ≤ s.end) where
   abbrev state : FlexState
   state = record { bytes = b; flex = Some s }
 
-  alloc_room : (places : Store) (v : FlexState) (anchor size : ℕ) (answer : Bool) → allocated places (record { bytes = b; flex = Some s }) anchor size ≡ Ok (v, answer)
-      → answer ≡ nat_le (s.start + used (s.blocks ++ new_block anchor size ∷ [])) s.end
-  unfolding allocated
+  alloc_room : (places : Store) (v : FlexState) (anchor size : ℕ) (answer : Bool) → flex_after_alloc places (record { bytes = b; flex = Some s }) anchor size ≡ Ok (v, answer)
+      → answer ≡ nat_le (s.start + bytes_taken_by_all (s.blocks ++ new_block anchor size ∷ [])) s.end
+  unfolding flex_after_alloc
   alloc_room places v anchor size answer is = elim (cases_Bool (is_anchor_place places anchor && may_stand s anchor)) [
     | inr bad ↦ let is' = rw bad at is in absurd (cc)
     | inl may ↦ elim (cases_Bool (has_anchor s.blocks anchor)) [
@@ -82,37 +82,37 @@ module _ (b : Bytes) (s : FlexStore) (filled : AreFilled s.blocks) (fits : s.sta
   ]
 
   extend_room : (v : FlexState) (anchor size : ℕ) (answer : Bool) (found : Option Block) → find_block anchor s.blocks ≡ found
-      → extended (record { bytes = b; flex = Some s }) anchor size ≡ Ok (v, answer)
-      → answer ≡ nat_le (s.start + used (blocks_changed anchor (λ c. resized c size) found s.blocks)) s.end
-  unfolding extended
+      → flex_after_extend (record { bytes = b; flex = Some s }) anchor size ≡ Ok (v, answer)
+      → answer ≡ nat_le (s.start + bytes_taken_by_all (blocks_changed anchor (λ c. bytes_with_size c size) found s.blocks)) s.end
+  unfolding flex_after_extend
   extend_room v anchor size answer None none is = let is' = rw none at is in absurd (cc)
   extend_room v anchor size answer (Some x) found is =
       let own : length (contents x) ≡ x.size = contents_size x (found_filled anchor s.blocks x filled found) in
       elim (cases_Bool (nat_eq size x.size)) [
         | inl stays ↦
             let len : length (contents x) ≡ size = own ∙ sym (eqb-true size x.size stays) in
-            let same : used (with_block anchor (holding x (resized (contents x) size)) s.blocks) ≡ used s.blocks =
-            used_with anchor x (holding x (resized (contents x) size)) s.blocks found (ap length (resized_same (contents x) size len) ∙ own) in
-            stays_room state v s (with_block anchor (holding x (resized (contents x) size)) s.blocks) answer (rw (found, stays) at is) fits (omega arith)
+            let same : bytes_taken_by_all (with_block anchor (block_holding x (bytes_with_size (contents x) size)) s.blocks) ≡ bytes_taken_by_all s.blocks =
+            used_with anchor x (block_holding x (bytes_with_size (contents x) size)) s.blocks found (ap length (resized_same (contents x) size len) ∙ own) in
+            stays_room state v s (with_block anchor (block_holding x (bytes_with_size (contents x) size)) s.blocks) answer (rw (found, stays) at is) fits (omega arith)
         | inr other ↦
             spliced_room state s anchor x x.size (x.size - size) (size - x.size) v answer found (rw (found, other) at is)
-            ∙ ap (λ (c : List ℕ). nat_le (s.start + used (with_block anchor (holding x c) s.blocks)) s.end) (sym (resized_is (contents x) x.size size own))
+            ∙ ap (λ (c : List ℕ). nat_le (s.start + bytes_taken_by_all (with_block anchor (block_holding x c) s.blocks)) s.end) (sym (resized_is (contents x) x.size size own))
       ]
 
   mid_room : (v : FlexState) (anchor at by : ℕ) (answer : Bool) (found : Option Block) → find_block anchor s.blocks ≡ found → nat_lt at (cut_of by) ≡ false
       → mid_extended (record { bytes = b; flex = Some s }) anchor at by ≡ Ok (v, answer)
-      → answer ≡ nat_le (s.start + used (blocks_changed anchor (λ c. spliced c at (cut_of by) (more_of by)) found s.blocks)) s.end
+      → answer ≡ nat_le (s.start + bytes_taken_by_all (blocks_changed anchor (λ c. bytes_after_splice c at (cut_of by) (more_of by)) found s.blocks)) s.end
   unfolding mid_extended
   mid_room v anchor at by answer None none inside is = let is' = rw (inside, none) at is in absurd (cc)
   mid_room v anchor at by answer (Some x) found inside is = elim (cases_Bool (nat_lt x.size at)) [
     | inl past ↦ let is' = rw (inside, found, past) at is in absurd (cc)
     | inr within ↦ elim (cases_Bool (nat_eq by 0)) [
       | inl none ↦
-          let c : List ℕ = spliced (contents x) at (cut_of by) (more_of by) in
+          let c : List ℕ = bytes_after_splice (contents x) at (cut_of by) (more_of by) in
           let same : c ≡ contents x = spliced_none (contents x) at by (eqb-true by 0 none) in
-          let size : used (with_block anchor (holding x c) s.blocks) ≡ used s.blocks =
-          used_with anchor x (holding x c) s.blocks found (ap length same ∙ contents_size x (found_filled anchor s.blocks x filled found)) in
-          stays_room state v s (with_block anchor (holding x c) s.blocks) answer (rw (inside, found, within, none) at is) fits (omega arith)
+          let size : bytes_taken_by_all (with_block anchor (block_holding x c) s.blocks) ≡ bytes_taken_by_all s.blocks =
+          used_with anchor x (block_holding x c) s.blocks found (ap length same ∙ contents_size x (found_filled anchor s.blocks x filled found)) in
+          stays_room state v s (with_block anchor (block_holding x c) s.blocks) answer (rw (inside, found, within, none) at is) fits (omega arith)
       | inr some ↦ spliced_room state s anchor x at (cut_of by) (more_of by) v answer found (rw (inside, found, within, some) at is)
     ]
   ]
@@ -122,11 +122,11 @@ module _ (b : Bytes) (s : FlexStore) (filled : AreFilled s.blocks) (fits : s.sta
   unfolding mid_extended
   past_range v anchor at by answer past is = let is' = rw past at is in cc
 
-  call_room : (v : FlexState) (call : FlexCall) (answer : Bool) → IsDone (record { bytes = b; flex = Some s }) call answer v
-      → answer ≡ nat_le (s.start + used (blocks_after call s.blocks)) s.end
+  call_room : (v : FlexState) (call : FlexCall) (answer : Bool) → IsFlexCallDone (record { bytes = b; flex = Some s }) call answer v
+      → answer ≡ nat_le (s.start + bytes_taken_by_all (blocks_after call s.blocks)) s.end
   call_room v (Alloc anchor size) answer done = alloc_room done.0 v anchor size answer done.1
   call_room v (Release anchor) answer done =
-      done.0 ∙ sym (le-leb (s.start + used (without_block anchor s.blocks)) s.end (omega (arith, used_without anchor s.blocks, fits)))
+      done.0 ∙ sym (le-leb (s.start + bytes_taken_by_all (without_block anchor s.blocks)) s.end (omega (arith, used_without anchor s.blocks, fits)))
   call_room v (Extend anchor size) answer done = extend_room v anchor size answer (find_block anchor s.blocks) refl done
   call_room v (MidExtend anchor at by) answer done = elim (cases_Bool (nat_lt at (cut_of by))) [
     | inl past ↦ absurd (past_range v anchor at by answer past done)
@@ -143,11 +143,11 @@ unfolding some_or
 some_same x s is = ap (some_or x) is
 
 room_at : (b : Bytes) (o : Option FlexStore) (u : FlexState) (s : FlexStore) (call : FlexCall) (answer : Bool) → HasBlocks o → o ≡ Some s
-    → s.start + used s.blocks ≤ s.end → IsDone (record { bytes = b; flex = o }) call answer u → answer ≡ nat_le (s.start + used (blocks_after call s.blocks)) s.end
+    → s.start + bytes_taken_by_all s.blocks ≤ s.end → IsFlexCallDone (record { bytes = b; flex = o }) call answer u → answer ≡ nat_le (s.start + bytes_taken_by_all (blocks_after call s.blocks)) s.end
 room_at b None u s call answer has is fits done = absurd (cc)
 room_at b (Some x) u s call answer has is fits done =
     let same : x ≡ s = some_same x s is in
-    let done' : IsDone (record { bytes = b; flex = Some s }) call answer u = subst (λ (y : FlexStore). IsDone (record { bytes = b; flex = Some y }) call answer u) same done in
+    let done' : IsFlexCallDone (record { bytes = b; flex = Some s }) call answer u = subst (λ (y : FlexStore). IsFlexCallDone (record { bytes = b; flex = Some y }) call answer u) same done in
     let whole : AreWhole s.blocks = subst (λ (y : FlexStore). AreWhole y.blocks) same has.0 in
     call_room b s (whole_filled s.blocks whole) fits u call answer done'
 

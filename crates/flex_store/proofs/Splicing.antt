@@ -8,7 +8,7 @@ use Rattle.std.proofs.Math.ListN.{length-append}
 use Rattle.address_map.proofs.Moving.{moved_in}
 use Rattle.address_map.proofs.Viewing.{bytes_counted}
 use Rattle.address_map.specs.Bytes.{bytes_between, with_bytes_at, with_moved_at, with_zeros_at}
-use Rattle.flex_store.specs.Blocks.{filled, spliced, whole_words}
+use Rattle.flex_store.specs.Blocks.{whole_words_of_bytes, bytes_after_splice, whole_words}
 use Rattle.flex_store.specs.Memory.{Holds}
 use Rattle.flex_store.proofs.Holding.{bytes_written, holds_append, holds_zeros}
 
@@ -38,7 +38,7 @@ held_back f g at to n xs same h k below =
     let low : n + k < length xs = omega (arith, length-drop n xs) in
     same k low ∙ h (n + k) low ∙ sym (get_or-drop n xs k 0)
 
-pub spliced_length : (bytes : List ℕ) (at cut more : ℕ) → at ≤ length bytes → length (spliced bytes at cut more) ≡ at - cut + more + (length bytes - at)
+pub spliced_length : (bytes : List ℕ) (at cut more : ℕ) → at ≤ length bytes → length (bytes_after_splice bytes at cut more) ≡ at - cut + more + (length bytes - at)
 spliced_length bytes at cut more fits =
     omega (
       arith,
@@ -49,7 +49,7 @@ spliced_length bytes at cut more fits =
       length-drop at bytes,
     )
 
-pub filled_length : (bytes : List ℕ) → length (filled bytes) ≡ whole_words (length bytes)
+pub filled_length : (bytes : List ℕ) → length (whole_words_of_bytes bytes) ≡ whole_words (length bytes)
 filled_length bytes =
     omega (arith, length-append bytes (replicate {A = ℕ} (whole_words (length bytes) - length bytes) 0), length-replicate {A = ℕ} (whole_words (length bytes) - length bytes) 0)
 
@@ -87,7 +87,7 @@ splice_out f c size at cut more a out =
     ∙ moved_out f (c + at) (c + (at - cut + more)) (size - at) a (elim out [ inl low ↦ inl (omega arith) | inr high ↦ inr (omega arith) ])
 
 splice_held : (f : ℕ → ℕ) (c size at cut more : ℕ) (xs : List ℕ) → at ≤ size → length xs ≡ size → Holds f c xs
-    → Holds (after_splice f c size at cut more) c (spliced xs at cut more)
+    → Holds (after_splice f c size at cut more) c (bytes_after_splice xs at cut more)
 splice_held f c size at cut more xs fits len h =
     let g : ℕ → ℕ = after_splice f c size at cut more in
     let front : Holds g c (take (at - cut) xs) = held_front f g c (at - cut) xs (omega arith) (λ j low. splice_front f c size at cut more j low) h in
@@ -102,26 +102,26 @@ splice_held f c size at cut more xs fits len h =
     (rw e1 (holds_append g (c + (at - cut)) (replicate more 0) (drop at xs) gap (rw e2 tail)))
 
 pub splice_done : (f : ℕ → ℕ) (c size at cut more : ℕ) → at ≤ size
-    → (a : ℕ) → after_splice f c size at cut more a ≡ with_bytes_at f c (filled (spliced (bytes_between f c size) at cut more)) a
+    → (a : ℕ) → after_splice f c size at cut more a ≡ with_bytes_at f c (whole_words_of_bytes (bytes_after_splice (bytes_between f c size) at cut more)) a
 splice_done f c size at cut more fits =
     let g : ℕ → ℕ = after_splice f c size at cut more in
     let xs : List ℕ = bytes_between f c size in
     let len : length xs ≡ size = bytes_counted f c size in
-    let new : length (spliced xs at cut more) ≡ at - cut + more + (size - at) = rw len at (spliced_length xs at cut more (omega arith)) in
-    let pad : ℕ = whole_words (length (spliced xs at cut more)) - length (spliced xs at cut more) in
-    bytes_written f g c (filled (spliced xs at cut more))
-    (holds_append g c (spliced xs at cut more) (replicate pad 0) (splice_held f c size at cut more xs fits len (between_held f c size))
-    (holds_zeros g (c + length (spliced xs at cut more)) pad (λ a low high.
+    let new : length (bytes_after_splice xs at cut more) ≡ at - cut + more + (size - at) = rw len at (spliced_length xs at cut more (omega arith)) in
+    let pad : ℕ = whole_words (length (bytes_after_splice xs at cut more)) - length (bytes_after_splice xs at cut more) in
+    bytes_written f g c (whole_words_of_bytes (bytes_after_splice xs at cut more))
+    (holds_append g c (bytes_after_splice xs at cut more) (replicate pad 0) (splice_held f c size at cut more xs fits len (between_held f c size))
+    (holds_zeros g (c + length (bytes_after_splice xs at cut more)) pad (λ a low high.
     zeros_in (with_zeros_at (with_moved_at f (c + at) (c + (at - cut + more)) (size - at)) (c + (at - cut)) more) (c + (at - cut + more + (size - at)))
     (whole_words (at - cut + more + (size - at)) - (at - cut + more + (size - at))) a (omega arith) (omega arith))))
-    (λ a out. splice_out f c size at cut more a (elim out [ inl low ↦ inl low | inr high ↦ inr (omega (arith, filled_length (spliced xs at cut more))) ]))
+    (λ a out. splice_out f c size at cut more a (elim out [ inl low ↦ inl low | inr high ↦ inr (omega (arith, filled_length (bytes_after_splice xs at cut more))) ]))
 
 pub three_writes : (f f1 f2 g : ℕ → ℕ) (c size at cut more pad : ℕ) → at ≤ size
     → pad ≡ whole_words (at - cut + more + (size - at)) - (at - cut + more + (size - at))
     → ((a : ℕ) → f1 a ≡ with_moved_at f (c + at) (c + (at - cut + more)) (size - at) a)
     → ((a : ℕ) → f2 a ≡ with_zeros_at f1 (c + (at - cut)) more a)
     → ((a : ℕ) → g a ≡ with_zeros_at f2 (c + (at - cut + more + (size - at))) pad a)
-    → (a : ℕ) → g a ≡ with_bytes_at f c (filled (spliced (bytes_between f c size) at cut more)) a
+    → (a : ℕ) → g a ≡ with_bytes_at f c (whole_words_of_bytes (bytes_after_splice (bytes_between f c size) at cut more)) a
 three_writes f f1 f2 g c size at cut more pad inside pad_is h1 h2 h3 a =
     let new : ℕ = at - cut + more + (size - at) in
     h3 a

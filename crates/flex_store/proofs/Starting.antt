@@ -2,17 +2,17 @@
 use Rattle.std.proofs.Common.{◌≡◌, ℕ, Bool, ◌+◌, ◌-◌, ◌%◌, ◌^◌, ◌<◌, ◌≤◌, ◌==◌, ◌&&◌, not, true, false, nat_eq, nat_lt, List, [], Some, is_some, arith, refl, sym, ◌∙◌, ap, subst, ◌↔◌}
 use Rattle.std.proofs.lemmas.Bool.{and_parts, eqb-true, eq-eqb, false≢true, ltb-true, lt-ltb, not-true}
 use Rattle.os_heap.proofs.RangeTests.{are_mapped_all, are_mapped_from, ranges_split, same_tests}
-use Rattle.os_heap.specs.Ranges.{are_mapped}
+use Rattle.os_heap.specs.Ranges.{are_bytes_mapped}
 use Rattle.os_heap.specs.Store.{store_of}
 use Rattle.address_map.proofs.Spans.{mapped_below}
-use Rattle.address_map.specs.Bytes.{AreMapped, meets}
+use Rattle.address_map.specs.Bytes.{AreMapped, shares_address}
 use Rattle.address_map.specs.Memory.{byte_at, bytes_of, class_of, is_mapped, mapping, Mapping, regions}
 use Rattle.address_map.specs.Classes.{is_anchor, is_flex_header}
 use Rattle.address_map.specs.Records.{meets_record}
 use Rattle.address_map.specs.declared.class.Class.{Class}
 use Rattle.address_map.specs.declared.map.AddressMap.{AddressMap}
 use Rattle.flex_store.specs.declared.flex.Extent.{Extent}
-use Rattle.flex_store.specs.Blocks.{Block, used}
+use Rattle.flex_store.specs.Blocks.{Block, bytes_taken_by_all}
 use Rattle.flex_store.specs.Calls.{is_flex_range}
 use Rattle.flex_store.specs.Memory.{blocks_in}
 use Rattle.flex_store.specs.State.{IsFlexStore, IsNoFlex, IsStoreAt, blocks_of, held_in}
@@ -25,21 +25,21 @@ pub record IsGoodRange (mapped : ℕ → Bool) (start end : ℕ) : Type 0 where
 
 -- The test of the range, over the list of all that is recorded.
 range_is : (m : AddressMap) (start end : ℕ) → is_flex_range (store_of m) start end
-    ≡ ((start % 4 == 0 && end % 4 == 0) && (nat_lt start end && (are_mapped (is_mapped m) start (end - start) && not (meets_record (regions m) start (end - start)))))
+    ≡ ((start % 4 == 0 && end % 4 == 0) && (nat_lt start end && (are_bytes_mapped (is_mapped m) start (end - start) && not (meets_record (regions m) start (end - start)))))
 unfolding store_of is_flex_range
 range_is m start end =
-    ap (λ (t : Bool). (start % 4 == 0 && end % 4 == 0) && (nat_lt start end && (are_mapped (is_mapped m) start (end - start) && not t)))
-    (sym (ranges_split (meets start (end - start)) (bytes_of m) (regions m)))
+    ap (λ (t : Bool). (start % 4 == 0 && end % 4 == 0) && (nat_lt start end && (are_bytes_mapped (is_mapped m) start (end - start) && not t)))
+    (sym (ranges_split (shares_address start (end - start)) (bytes_of m) (regions m)))
 
 pub good_range : (m : AddressMap) (start end : ℕ) → is_flex_range (store_of m) start end ≡ true → IsGoodRange (is_mapped m) start end
 good_range m start end range =
     let mapped : ℕ → Bool = is_mapped m in
     let is = sym (range_is m start end) ∙ range in
     let clear : Bool = not (meets_record (regions m) start (end - start)) in
-    let one = and_parts (nat_eq (start % 4) 0 && nat_eq (end % 4) 0) (nat_lt start end && (are_mapped mapped start (end - start) && clear)) is in
+    let one = and_parts (nat_eq (start % 4) 0 && nat_eq (end % 4) 0) (nat_lt start end && (are_bytes_mapped mapped start (end - start) && clear)) is in
     let two = and_parts (nat_eq (start % 4) 0) (nat_eq (end % 4) 0) one.0 in
-    let three = and_parts (nat_lt start end) (are_mapped mapped start (end - start) && clear) one.1 in
-    let four = and_parts (are_mapped mapped start (end - start)) clear three.1 in
+    let three = and_parts (nat_lt start end) (are_bytes_mapped mapped start (end - start) && clear) one.1 in
+    let four = and_parts (are_bytes_mapped mapped start (end - start)) clear three.1 in
     record {
       start_aligned = eqb-true (start % 4) 0 two.0;
       end_aligned = eqb-true (end % 4) 0 two.1;
@@ -87,7 +87,7 @@ starts_empty m n start end none is same marks =
         headers = λ a. ap (λ (c : ℕ → Class). is_flex_header (c a)) marks ∙ none.headers a;
         anchors = λ a. ap (λ (c : ℕ → Class). is_anchor (c a)) marks ∙ none.anchors a;
       });
-      used_is = ap used empty;
+      used_is = ap bytes_taken_by_all empty;
     }
 
 pub begins_state : (m n : AddressMap) (start end : ℕ) → mapping n ≡ mapping m → byte_at n ≡ byte_at m
@@ -102,13 +102,13 @@ pub range_tested : (m : AddressMap) (start end : ℕ) (all met : Bool) → start
 range_tested m start end all met aligned whole some tested met_is =
     let mapped : ℕ → Bool = is_mapped m in
     rw (range_is m start end, eq-eqb (start % 4) 0 aligned, eq-eqb (end % 4) 0 whole, lt-ltb start end some, ← met_is)
-    (ap (λ (t : Bool). t && not met) (same_tests all (are_mapped mapped start (end - start))
+    (ap (λ (t : Bool). t && not met) (same_tests all (are_bytes_mapped mapped start (end - start))
     (λ e. are_mapped_from mapped start (end - start) (tested.0 e)) (λ e. tested.1 (are_mapped_all mapped start (end - start) e))))
 
 pub range_apart : (m : AddressMap) (start end : ℕ) → is_flex_range (store_of m) start end ≡ true → meets_record (regions m) start (end - start) ≡ false
 range_apart m start end range =
     let apart : Bool = not (meets_record (regions m) start (end - start)) in
-    let mapped : Bool = are_mapped (is_mapped m) start (end - start) in
+    let mapped : Bool = are_bytes_mapped (is_mapped m) start (end - start) in
     let one = and_parts ((start % 4) == 0 && (end % 4) == 0) (nat_lt start end && (mapped && apart)) (sym (range_is m start end) ∙ range) in
     let two = and_parts (nat_lt start end) (mapped && apart) one.1 in
     not-true (meets_record (regions m) start (end - start)) (and_parts mapped apart two.1).1

@@ -6,7 +6,7 @@ use Rattle.profile.specs.Outcome.{Leaves}
 use Rattle.profile.specs.declared.fault.Fault.{Fault}
 use Rattle.address_map.proofs.Bytes.{is_mapped-layout, is_mapped-page}
 use Rattle.address_map.proofs.Words.{unowned}
-use Rattle.address_map.specs.Bytes.{byte_stored, Bytes, store_fault, unless, with_byte, word_start}
+use Rattle.address_map.specs.Bytes.{byte_stored, Bytes, store_fault, ok_unless_fault, with_byte, word_start}
 use Rattle.address_map.specs.Classes.{is_anchor, is_flex_header}
 use Rattle.address_map.specs.Memory.{byte_at, bytes_of, class_of, is_mapped, is_owned, is_plain, layout}
 use Rattle.address_map.specs.declared.class.Class.{Class}
@@ -77,7 +77,7 @@ not_met owned x a is free = elim (cases_Bool (nat_eq x a)) [
 ]
 
 kept_by : (owned : ℕ → Bool) (b c : Bytes) (a v : ℕ) (f : Option Fault) (r : Result Unit Fault) → (f ≡ None → owned a ≡ false)
-    → Leaves b (unless f (with_byte b a v)) r c → (x : ℕ) → owned x ≡ true → c.at x ≡ b.at x
+    → Leaves b (ok_unless_fault f (with_byte b a v)) r c → (x : ℕ) → owned x ≡ true → c.at x ≡ b.at x
 kept_by owned b c a v None (Ok u) free left x is =
     ap (λ (d : Bytes). d.at x) left ∙ rw (not_met owned x a is (free refl)) refl
 kept_by owned b c a v None (Err e) free left x is = absurd left

@@ -10,9 +10,9 @@ use Rattle.address_map.specs.Memory.{byte_at, bytes_of, class_of, is_mapped, lay
 use Rattle.address_map.specs.declared.class.Class.{Class}
 use Rattle.address_map.specs.declared.class.Class.TheVariants as class
 use Rattle.address_map.specs.declared.map.AddressMap.{AddressMap}
-use Rattle.flex_store.specs.Blocks.{Block, has_anchor, is_header, taken, used}
-use Rattle.flex_store.specs.Marks.{marked, with_marks}
-use Rattle.flex_store.specs.Memory.{AreAnchored, Holds, laid_out, standing, text_of, with_anchors}
+use Rattle.flex_store.specs.Blocks.{Block, has_anchor, is_header, bytes_taken_by, bytes_taken_by_all}
+use Rattle.flex_store.specs.Marks.{class_with_mark, with_marks}
+use Rattle.flex_store.specs.Memory.{AreAnchored, Holds, laid_out, standing, blocks_text_of, with_anchors}
 use Rattle.flex_store.specs.Relaid.{Relaid}
 use Rattle.flex_store.specs.State.{AreAnchorWords, AreInner, AreWhole, IsFlexRange, IsFlexStore, IsText}
 use Rattle.flex_store.proofs.Anchoring.{anchors-append, anchors_again, anchors_beside, anchors_hold}
@@ -23,35 +23,35 @@ use Rattle.flex_store.proofs.Standing.{all_there, standing_anchored, standing_co
 use Rattle.flex_store.proofs.Words.{anchor_no_header, words_left, words_low, words_right, word_of}
 
 -- anchors keep what they hold where only bytes after their blocks change, up to the end
-pub anchored_kept : (mapped : ℕ → Bool) (start end place : ℕ) (f g : ℕ → ℕ) (at : ℕ) (bs : List Block) → AreAnchorWords mapped start end bs → start + used bs ≤ place
+pub anchored_kept : (mapped : ℕ → Bool) (start end place : ℕ) (f g : ℕ → ℕ) (at : ℕ) (bs : List Block) → AreAnchorWords mapped start end bs → start + bytes_taken_by_all bs ≤ place
     → ((a : ℕ) → (a < place) ⊎ (end ≤ a) → g a ≡ f a) → AreAnchored f at bs → AreAnchored g at bs
 anchored_kept mapped start end place f g at [] words room same anchored = tt
 anchored_kept mapped start end place f g at (b ∷ bs) words room same anchored = (
   holds_kept f g b.anchor (word_bytes (at + 8))
       (λ a low high. same a (elim words.0.0.outside [ inl before ↦ inl (omega arith) | inr behind ↦ inr (omega arith) ])) anchored.0,
-  anchored_kept mapped (start + taken b.size) end place f g (at + taken b.size) bs words.1 (omega arith) same anchored.1,
+  anchored_kept mapped (start + bytes_taken_by b.size) end place f g (at + bytes_taken_by b.size) bs words.1 (omega arith) same anchored.1,
 )
 
 -- What stands before a place stays where the blocks after it are laid out.
 pub laid_behind : (mapped : ℕ → Bool) (start end : ℕ) (f : ℕ → ℕ) (xs ys : List Block) → AreWhole (xs ++ ys) → AreAnchorWords mapped start end (xs ++ ys)
-    → start + used (xs ++ ys) ≤ end → Holds f start (text_of xs) → AreAnchored f start xs
-    → (a : ℕ) → laid_out (start + used xs) ys f a ≡ laid_out start (xs ++ ys) f a
+    → start + bytes_taken_by_all (xs ++ ys) ≤ end → Holds f start (blocks_text_of xs) → AreAnchored f start xs
+    → (a : ℕ) → laid_out (start + bytes_taken_by_all xs) ys f a ≡ laid_out start (xs ++ ys) f a
 unfolding laid_out
 laid_behind mapped start end f xs ys whole words fits held anchored a =
-    let at : ℕ = start + used xs in
-    let g : ℕ → ℕ = with_bytes_at f at (text_of ys) in
-    let size : length (text_of xs) ≡ used xs = text_used xs (whole_left xs ys whole) in
-    let size' : length (text_of ys) ≡ used ys = text_used ys (whole_right xs ys whole) in
-    let e : start + length (text_of xs) ≡ at = omega arith in
-    let fits' : at + used ys ≤ end = omega (arith, used-append xs ys) in
-    let one : (x : ℕ) → g x ≡ with_bytes_at f start (text_of xs ++ text_of ys) x =
-    bytes_written f g start (text_of xs ++ text_of ys)
-    (holds_append g start (text_of xs) (text_of ys)
-    (holds_kept f g start (text_of xs) (λ x low high. bytes_beside f at (text_of ys) x (inl (omega arith))) held)
-    (rw e (bytes_held f at (text_of ys))))
-    (λ x out. bytes_beside f at (text_of ys) x (elim out [ inl low ↦ inl (omega arith) | inr high ↦ inr (omega (arith, length-append (text_of xs) (text_of ys))) ])) in
+    let at : ℕ = start + bytes_taken_by_all xs in
+    let g : ℕ → ℕ = with_bytes_at f at (blocks_text_of ys) in
+    let size : length (blocks_text_of xs) ≡ bytes_taken_by_all xs = text_used xs (whole_left xs ys whole) in
+    let size' : length (blocks_text_of ys) ≡ bytes_taken_by_all ys = text_used ys (whole_right xs ys whole) in
+    let e : start + length (blocks_text_of xs) ≡ at = omega arith in
+    let fits' : at + bytes_taken_by_all ys ≤ end = omega (arith, used-append xs ys) in
+    let one : (x : ℕ) → g x ≡ with_bytes_at f start (blocks_text_of xs ++ blocks_text_of ys) x =
+    bytes_written f g start (blocks_text_of xs ++ blocks_text_of ys)
+    (holds_append g start (blocks_text_of xs) (blocks_text_of ys)
+    (holds_kept f g start (blocks_text_of xs) (λ x low high. bytes_beside f at (blocks_text_of ys) x (inl (omega arith))) held)
+    (rw e (bytes_held f at (blocks_text_of ys))))
+    (λ x out. bytes_beside f at (blocks_text_of ys) x (elim out [ inl low ↦ inl (omega arith) | inr high ↦ inr (omega (arith, length-append (blocks_text_of xs) (blocks_text_of ys))) ])) in
     let two : AreAnchored g start xs = anchored_kept mapped start end at f g start xs (words_left mapped start end xs ys words) (omega arith)
-    (λ x out. bytes_beside f at (text_of ys) x (elim out [ inl low ↦ inl (omega arith) | inr high ↦ inr (omega arith) ])) anchored in
+    (λ x out. bytes_beside f at (blocks_text_of ys) x (elim out [ inl low ↦ inl (omega arith) | inr high ↦ inr (omega arith) ])) anchored in
     ap (λ (h : ℕ → ℕ). with_anchors at ys h a) (λ i x. sym (anchors_again start xs g x two) i)
     ∙ (sym (anchors-append start xs ys g a)
     ∙ (ap (λ (h : ℕ → ℕ). with_anchors start (xs ++ ys) h a) (λ i x. one x i)
@@ -60,20 +60,20 @@ laid_behind mapped start end f xs ys whole words fits held anchored a =
 -- Blocks that were laid out are there, with the anchors that lie in their contents, and each anchor
 -- holds its block's address.
 pub record IsLaid (f : ℕ → ℕ) (start : ℕ) (bs : List Block) : Type 0 where
-  pub text : Holds f start (text_of (standing f start bs))
+  pub text : Holds f start (blocks_text_of (standing f start bs))
   pub anchored : AreAnchored f start bs
 
 pub laid : (mapped : ℕ → Bool) (start end : ℕ) (f g : ℕ → ℕ) (bs : List Block) → start % 4 ≡ 0 → AreWhole bs → AreAnchorWords mapped start end bs
-    → AreInner start end bs → start + used bs ≤ end → ((a : ℕ) → g a ≡ laid_out start bs f a) → IsLaid g start bs
+    → AreInner start end bs → start + bytes_taken_by_all bs ≤ end → ((a : ℕ) → g a ≡ laid_out start bs f a) → IsLaid g start bs
 unfolding laid_out
 laid mapped start end f g bs aligned whole words inner fits h =
-    let same : g ≡ with_anchors start bs (with_bytes_at f start (text_of bs)) = λ i a. h a i in
-    let written : ℕ → ℕ = with_bytes_at f start (text_of bs) in
+    let same : g ≡ with_anchors start bs (with_bytes_at f start (blocks_text_of bs)) = λ i a. h a i in
+    let written : ℕ → ℕ = with_bytes_at f start (blocks_text_of bs) in
     record {
       text = standing_text written g start bs aligned whole
           (λ a header. h a ∙ anchors_beside mapped start end start bs written a words (false_from_ne_true (has_anchor bs (word_start a)) (λ has.
           both_ways (is_header start bs (word_start a)) (anchor_no_header start end bs (word_start a) fits inner has) header)))
-          (bytes_held f start (text_of bs));
+          (bytes_held f start (blocks_text_of bs));
       anchored = subst (λ (k : ℕ → ℕ). AreAnchored k start bs) (sym same) (anchors_hold mapped start end start bs written words);
     }
 
@@ -81,14 +81,14 @@ laid mapped start end f g bs aligned whole words inner fits h =
 -- blocks after it are laid out
 pub record IsBefore (m : AddressMap) (start end : ℕ) (xs olds news : List Block) : Type 0 where
   pub range : IsFlexRange (is_mapped m) start end
-  pub fits : start + used (xs ++ news) ≤ end
-  pub fitted : start + used xs + used olds ≤ end
+  pub fits : start + bytes_taken_by_all (xs ++ news) ≤ end
+  pub fitted : start + bytes_taken_by_all xs + bytes_taken_by_all olds ≤ end
   pub whole : AreWhole (xs ++ news)
   pub words : AreAnchorWords (is_mapped m) start end (xs ++ news)
   pub inner : AreInner start end (xs ++ news)
-  pub text : Holds (byte_at m) start (text_of xs)
+  pub text : Holds (byte_at m) start (blocks_text_of xs)
   pub anchored : AreAnchored (byte_at m) start xs
-  pub headers : (a : ℕ) → is_flex_header (class_of m a) ≡ (is_header start xs (word_start a) || is_header (start + used xs) olds (word_start a))
+  pub headers : (a : ℕ) → is_flex_header (class_of m a) ≡ (is_header start xs (word_start a) || is_header (start + bytes_taken_by_all xs) olds (word_start a))
   pub anchors : (a : ℕ) → is_anchor (class_of m a) ≡ (has_anchor xs (word_start a) || has_anchor olds (word_start a))
   pub apart : (p : ℕ) → has_anchor olds p ≡ true → has_anchor xs p ≡ false
 
@@ -100,51 +100,51 @@ header_no_anchor class.Heap is = absurd (false≢true is)
 header_no_anchor class.Plain is = absurd (false≢true is)
 
 new_apart : (m : AddressMap) (start end : ℕ) (xs olds news : List Block) → IsBefore m start end xs olds news → (p : ℕ) → (has_anchor xs p || has_anchor news p) ≡ true
-    → (is_header start xs p || is_header (start + used xs) news p) ≡ false
+    → (is_header start xs p || is_header (start + bytes_taken_by_all xs) news p) ≡ false
 new_apart m start end xs olds news b p has =
     sym (header-append start xs news p) ∙ anchor_no_header start end (xs ++ news) p b.fits b.inner (anchor-append xs news p ∙ has)
 
 old_apart : (m : AddressMap) (start end : ℕ) (xs olds news : List Block) → IsBefore m start end xs olds news → (a : ℕ)
     → (has_anchor xs (word_start a) || has_anchor olds (word_start a)) ≡ true
-    → (is_header start xs (word_start a) || is_header (start + used xs) olds (word_start a)) ≡ false
+    → (is_header start xs (word_start a) || is_header (start + bytes_taken_by_all xs) olds (word_start a)) ≡ false
 old_apart m start end xs olds news b a has = sym (b.headers a) ∙ header_no_anchor (class_of m a) (b.anchors a ∙ has)
 
 -- the marks then
 abbrev pub class_then : Class → ℕ → List Block → List Block → ℕ → Class
 class_then own at olds news p =
-    marked class.FlexHeader (is_header at news p) (marked class.Anchor (has_anchor news p) (marked class.Plain (is_header at olds p) (marked class.Plain (has_anchor olds p) own)))
+    class_with_mark class.FlexHeader (is_header at news p) (class_with_mark class.Anchor (has_anchor news p) (class_with_mark class.Plain (is_header at olds p) (class_with_mark class.Plain (has_anchor olds p) own)))
 
 pub relaid_marks : (m n : AddressMap) (start end : ℕ) (xs olds news : List Block) → IsBefore m start end xs olds news
-    → Relaid m n (start + used xs) olds news → (a : ℕ) → class_of n a ≡ class_then (class_of m a) (start + used xs) olds news (word_start a)
+    → Relaid m n (start + bytes_taken_by_all xs) olds news → (a : ℕ) → class_of n a ≡ class_then (class_of m a) (start + bytes_taken_by_all xs) olds news (word_start a)
 relaid_marks m n start end xs olds news b r a =
-    let at : ℕ = start + used xs in
+    let at : ℕ = start + bytes_taken_by_all xs in
     let p : ℕ = word_start a in
     r.marks a
     ∙ (marks_made class.FlexHeader class.Anchor at news (with_marks class.Plain class.Plain at olds (class_of m)) a
     (λ is. (or_parts (is_header start xs p) (is_header at news p) (new_apart m start end xs olds news b p (or_right (has_anchor xs p) (has_anchor news p) is))).1)
-    ∙ ap (λ (c : Class). marked class.FlexHeader (is_header at news p) (marked class.Anchor (has_anchor news p) c))
+    ∙ ap (λ (c : Class). class_with_mark class.FlexHeader (is_header at news p) (class_with_mark class.Anchor (has_anchor news p) c))
     (marks_made class.Plain class.Plain at olds (class_of m) a
     (λ is. (or_parts (is_header start xs p) (is_header at olds p) (old_apart m start end xs olds news b a (or_right (has_anchor xs p) (has_anchor olds p) is))).1)))
 
 headers_then : (m n : AddressMap) (start end : ℕ) (xs olds news : List Block) → IsBefore m start end xs olds news
-    → Relaid m n (start + used xs) olds news → (a : ℕ) → is_flex_header (class_of n a) ≡ is_header start (xs ++ news) (word_start a)
+    → Relaid m n (start + bytes_taken_by_all xs) olds news → (a : ℕ) → is_flex_header (class_of n a) ≡ is_header start (xs ++ news) (word_start a)
 headers_then m n start end xs olds news b r a =
-    let at : ℕ = start + used xs in
+    let at : ℕ = start + bytes_taken_by_all xs in
     let p : ℕ = word_start a in
     ap is_flex_header (relaid_marks m n start end xs olds news b r a)
     ∙ (header_by (class_of m a) (is_header at news p) (has_anchor news p) (is_header at olds p) (has_anchor olds p) (is_header start xs p)
     (λ is. new_apart m start end xs olds news b p (or_right (has_anchor xs p) (has_anchor news p) is))
     (λ old. false_from_ne_true (is_header start xs p) (λ before.
-    let o : IsWithin at (used olds) p = header_within at olds p old in
-    let x : IsWithin start (used xs) p = header_within start xs p before in
+    let o : IsWithin at (bytes_taken_by_all olds) p = header_within at olds p old in
+    let x : IsWithin start (bytes_taken_by_all xs) p = header_within start xs p before in
     omega (arith, o.from, x.below)))
     (λ is. old_apart m start end xs olds news b a (or_right (has_anchor xs p) (has_anchor olds p) is)) (b.headers a)
     ∙ sym (header-append start xs news p))
 
 anchors_then : (m n : AddressMap) (start end : ℕ) (xs olds news : List Block) → IsBefore m start end xs olds news
-    → Relaid m n (start + used xs) olds news → (a : ℕ) → is_anchor (class_of n a) ≡ has_anchor (xs ++ news) (word_start a)
+    → Relaid m n (start + bytes_taken_by_all xs) olds news → (a : ℕ) → is_anchor (class_of n a) ≡ has_anchor (xs ++ news) (word_start a)
 anchors_then m n start end xs olds news b r a =
-    let at : ℕ = start + used xs in
+    let at : ℕ = start + bytes_taken_by_all xs in
     let p : ℕ = word_start a in
     ap is_anchor (relaid_marks m n start end xs olds news b r a)
     ∙ (anchor_by (class_of m a) (is_header at news p) (has_anchor news p) (is_header at olds p) (has_anchor olds p) (has_anchor xs p)
@@ -163,7 +163,7 @@ pub record IsRelaid (m n : AddressMap) (start end : ℕ) (news : List Block) : T
   pub same : layout n ≡ layout m
 
 pub relaid : (m n : AddressMap) (start end : ℕ) (xs olds news : List Block) → IsBefore m start end xs olds news
-    → Relaid m n (start + used xs) olds news → IsRelaid m n start end (xs ++ news)
+    → Relaid m n (start + bytes_taken_by_all xs) olds news → IsRelaid m n start end (xs ++ news)
 relaid m n start end xs olds news b r =
     let bytes : (a : ℕ) → byte_at n a ≡ laid_out start (xs ++ news) (byte_at m) a =
     λ a. r.bytes a ∙ laid_behind (is_mapped m) start end (byte_at m) xs news b.whole b.words b.fits b.text b.anchored a in
@@ -175,12 +175,12 @@ relaid m n start end xs olds news b r =
     }
 
 pub relaid_store : (m n : AddressMap) (start end : ℕ) (xs olds news : List Block) → IsBefore m start end xs olds news
-    → Relaid m n (start + used xs) olds news → IsFlexStore n start end (standing (byte_at n) start (xs ++ news))
+    → Relaid m n (start + bytes_taken_by_all xs) olds news → IsFlexStore n start end (standing (byte_at n) start (xs ++ news))
 relaid_store m n start end xs olds news b r =
     let bs : List Block = xs ++ news in
     let g : ℕ → ℕ = byte_at n in
     let k : IsRelaid m n start end bs = relaid m n start end xs olds news b r in
-    let size : used (standing g start bs) ≡ used bs = standing_used g start bs in
+    let size : bytes_taken_by_all (standing g start bs) ≡ bytes_taken_by_all bs = standing_used g start bs in
     record {
       range = subst (λ (p : ℕ → Bool). IsFlexRange p start end) (sym (is_mapped-layout m n r.same)) b.range;
       fits = omega (arith, b.fits);
@@ -195,18 +195,18 @@ relaid_store m n start end xs olds news b r =
 
 -- the text from a block on
 pub tail_text : (m : AddressMap) (start end : ℕ) (xs ys : List Block) → IsFlexStore m start end (xs ++ ys)
-    → IsText (bytes_of m) (start + used xs) (start + used (xs ++ ys)) ys
+    → IsText (bytes_of m) (start + bytes_taken_by_all xs) (start + bytes_taken_by_all (xs ++ ys)) ys
 tail_text m start end xs ys s =
-    let size : length (text_of xs) ≡ used xs = text_used xs (whole_left xs ys s.whole) in
-    let all : used (xs ++ ys) ≡ used xs + used ys = used-append xs ys in
+    let size : length (blocks_text_of xs) ≡ bytes_taken_by_all xs = text_used xs (whole_left xs ys s.whole) in
+    let all : bytes_taken_by_all (xs ++ ys) ≡ bytes_taken_by_all xs + bytes_taken_by_all ys = used-append xs ys in
     let aligned : start % 4 ≡ 0 = s.range.start_aligned in
-    let multiple : used xs % 4 ≡ 0 = used_aligned xs in
-    let fits : start + used (xs ++ ys) ≤ end = s.fits in
-    let held : Holds (byte_at m) (start + length (text_of xs)) (text_of ys) =
-    holds_right (byte_at m) start (text_of xs) (text_of ys) (rw text-append at s.text) in
+    let multiple : bytes_taken_by_all xs % 4 ≡ 0 = used_aligned xs in
+    let fits : start + bytes_taken_by_all (xs ++ ys) ≤ end = s.fits in
+    let held : Holds (byte_at m) (start + length (blocks_text_of xs)) (blocks_text_of ys) =
+    holds_right (byte_at m) start (blocks_text_of xs) (blocks_text_of ys) (rw text-append at s.text) in
     record {
       whole = whole_right xs ys s.whole;
-      low = words_low (is_mapped m) (start + used xs) end ys (words_right (is_mapped m) start end xs ys s.words);
+      low = words_low (is_mapped m) (start + bytes_taken_by_all xs) end ys (words_right (is_mapped m) start end xs ys s.words);
       text = rw size at held;
       length = omega arith;
       aligned = omega arith;

@@ -14,9 +14,9 @@ use Rattle.address_map.specs.Memory.{bytes_of, byte_at, class_of, is_mapped, lay
 use Rattle.os_heap.proofs.Added.{sound_empty}
 use Rattle.os_heap.proofs.Frame.{classes_empty, classes_same, layout-others}
 use Rattle.os_heap.proofs.Recorded.{recorded_sound, store_recorded}
-use Rattle.os_heap.specs.Calls.{begun, begun_with, got, heap_at, holding}
+use Rattle.os_heap.specs.Calls.{store_after_init, store_with_new_heap, store_after_get, heap_at, store_holding}
 use Rattle.os_heap.specs.Ranges.{is_heap_region, overlaps}
-use Rattle.os_heap.specs.os_heap_lists.specs.Lists.{claimed, total_for}
+use Rattle.os_heap.specs.os_heap_lists.specs.Lists.{claim_in_items, total_for}
 use Rattle.std.specs.Prelude.{if◌then◌else◌, nat_le, not, ok_or, ◌+◌, ◌-◌}
 use Rattle.profile.specs.declared.error.ErrorNumber.TheVariants.{HeapBadRegion, HeapOverlaps, HeapNoRoom, HeapTableFull}
 use Rattle.os_heap.specs.Store.{AreClasses, guest_count, IsSound, others_in, Store, store_of}
@@ -81,17 +81,17 @@ beside_if : {U : Type 0} (s : Store) (refused : Bool) (e : ErrorNumber) (x : Res
 beside_if s true e x are = tt
 beside_if s false e x are = are
 
-begun_beside : (s : Store) (at size : ℕ) → AreBeside s (begun s at size)
-unfolding begun
+begun_beside : (s : Store) (at size : ℕ) → AreBeside s (store_after_init s at size)
+unfolding store_after_init
 begun_beside s at size =
     beside_if s (not (is_heap_region s.bytes at size)) HeapBadRegion _ (beside_if s (overlaps at size s) HeapOverlaps _
-    (beside_if s (nat_le 64 (guest_count s.heaps)) HeapTableFull (Ok (begun_with kind.Heap s at size, tt)) (record { anchor = refl; header = refl; others = refl })))
+    (beside_if s (nat_le 64 (guest_count s.heaps)) HeapTableFull (Ok (store_with_new_heap kind.Heap s at size, tt)) (record { anchor = refl; header = refl; others = refl })))
 
-got_beside : (s : Store) (heap size : ℕ) → AreBeside s (got s heap size)
-unfolding got
+got_beside : (s : Store) (heap size : ℕ) → AreBeside s (store_after_get s heap size)
+unfolding store_after_get
 got_beside s heap size =
     beside_bind s (heap_at s heap) _ (λ h.
-    beside_bind s (ok_or (claimed (total_for size) (h.end - 16) h.items) HeapNoRoom) (λ c. Ok (holding s h c.items, h.start + 16 + c.offset + 4)) (λ c.
+    beside_bind s (ok_or (claim_in_items (total_for size) (h.end - 16) h.items) HeapNoRoom) (λ c. Ok (store_holding s h c.items, h.start + 16 + c.offset + 4)) (λ c.
     record { anchor = refl; header = refl; others = refl }))
 
 store_anchors : (m : AddressMap) (a : ℕ) → ((store_of m).anchor a ≡ is_anchor (class_of m a)) × ((store_of m).header a ≡ is_flex_header (class_of m a))
@@ -113,14 +113,14 @@ start_kept m n f start beside sound classes =
     }
 
 pub start_begun : (m n : AddressMap) (f : Flex) (at size : ℕ) (r : Result (Unit {0}) ErrorNumber) → IsStart m f
-    → Gives (store_of m) (begun (store_of m) at size) r (store_of n) → IsSound (store_of n) → AreClasses n → IsStart n f
+    → Gives (store_of m) (store_after_init (store_of m) at size) r (store_of n) → IsSound (store_of n) → AreClasses n → IsStart n f
 start_begun m n f at size r start gives sound classes =
-    start_kept m n f start (beside_by (store_of m) (store_of n) (begun (store_of m) at size) r (begun_beside (store_of m) at size) gives) sound classes
+    start_kept m n f start (beside_by (store_of m) (store_of n) (store_after_init (store_of m) at size) r (begun_beside (store_of m) at size) gives) sound classes
 
 pub start_got : (m n : AddressMap) (f : Flex) (heap size : ℕ) (r : Result ℕ ErrorNumber) → IsStart m f
-    → Gives (store_of m) (got (store_of m) heap size) r (store_of n) → IsSound (store_of n) → AreClasses n → IsStart n f
+    → Gives (store_of m) (store_after_get (store_of m) heap size) r (store_of n) → IsSound (store_of n) → AreClasses n → IsStart n f
 start_got m n f heap size r start gives sound classes =
-    start_kept m n f start (beside_by (store_of m) (store_of n) (got (store_of m) heap size) r (got_beside (store_of m) heap size) gives) sound classes
+    start_kept m n f start (beside_by (store_of m) (store_of n) (store_after_get (store_of m) heap size) r (got_beside (store_of m) heap size) gives) sound classes
 
 -- a record more is at most one more
 others_more : (rs : List Region) (q : Region) → length (others_in (rs ++ q ∷ [])) ≤ 1 + length (others_in rs)

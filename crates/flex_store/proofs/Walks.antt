@@ -12,7 +12,7 @@ use Rattle.address_map.specs.declared.region.Kind.{Kind}
 use Rattle.address_map.specs.declared.region.Region.{Region}
 use Rattle.address_map.specs.Memory.{byte_at, bytes_of, class_of, is_mapped, layout}
 use Rattle.flex_store.specs.declared.shift.Shift.{Shift}
-use Rattle.flex_store.specs.Blocks.{Block, taken, used}
+use Rattle.flex_store.specs.Blocks.{Block, bytes_taken_by, bytes_taken_by_all}
 use Rattle.flex_store.specs.Marks.{with_block_marks, with_marks}
 use Rattle.flex_store.specs.Memory.{blocks_in, laid_out}
 use Rattle.flex_store.specs.Shifts.{following}
@@ -46,7 +46,7 @@ with_word_region rs k at word = rw word refl
 -- a text lies below 2^26
 pub text_low : (m : AddressMap) (at end : ℕ) (bs : List Block) → IsText (bytes_of m) at end bs → at < end → end ≤ 2 ^ 26
 text_low m at end bs is some =
-    let length_is : end ≡ at + used bs = is.length in
+    let length_is : end ≡ at + bytes_taken_by_all bs = is.length in
     let last : is_mapped m (end - 1) ≡ true = is.mapped (end - 1) (omega arith) (omega arith) in
     omega (arith, mapped_below m (end - 1) last)
 
@@ -55,7 +55,7 @@ pub record IsAhead (m : AddressMap) (at end : ℕ) : Type 0 where
   pub aligned : at % 4 ≡ 0
   pub here : is_mapped m at ≡ true
   pub second : is_mapped m (at + 4) ≡ true
-  pub fits : at + taken (word_at (byte_at m) (at + 4)) ≤ end
+  pub fits : at + bytes_taken_by (word_at (byte_at m) (at + 4)) ≤ end
   pub low : end ≤ 2 ^ 26
 
 pub ahead : (m : AddressMap) (at end : ℕ) (bs : List Block) → IsText (bytes_of m) at end bs → at < end → IsAhead m at end
@@ -88,7 +88,7 @@ marking_by : (mark : Class) (m : AddressMap) (at : ℕ) (n n' : AddressMap) (to 
     → ((a : ℕ) → with_marks mark mark to rest (class_of n) a ≡ with_marks mark mark at (blocks_in (byte_at m) at end) (class_of m) a)
     → layout n' ≡ layout n → byte_at n' ≡ byte_at n
     → ((a : ℕ) → class_of n' a ≡ with_block_marks mark mark to (word_at (byte_at n) to) (class_of n) a)
-    → IsMarking mark m at n' (to + taken (word_at (byte_at n) (to + 4))) end
+    → IsMarking mark m at n' (to + bytes_taken_by (word_at (byte_at n) (to + 4))) end
 marking_by mark m at n n' to end [] some is words bytes same marks same' bytes' marked =
     absurd (let length_is : end ≡ to + 0 = is.length in omega arith)
 marking_by mark m at n n' to end (x ∷ bs) some is words bytes same marks same' bytes' marked =
@@ -98,25 +98,25 @@ marking_by mark m at n n' to end (x ∷ bs) some is words bytes same marks same'
     let made : (a : ℕ) → class_of n' a ≡ with_block_marks mark mark to x.anchor (class_of n) a = rw e' at marked in
     rw e (record {
       rest = bs;
-      text = text_kept (bytes_of n) (bytes_of n') (to + taken x.size) end bs (is_mapped-layout n n' same') (λ a low high. ap (λ (g : ℕ → ℕ). g a) bytes')
+      text = text_kept (bytes_of n) (bytes_of n') (to + bytes_taken_by x.size) end bs (is_mapped-layout n n' same') (λ a low high. ap (λ (g : ℕ → ℕ). g a) bytes')
           (text_next (bytes_of n) to end x bs is);
-      words = words_mapped n n' (to + taken x.size) end bs same' words.1;
+      words = words_mapped n n' (to + bytes_taken_by x.size) end bs same' words.1;
       bytes = bytes' ∙ bytes;
       same = same' ∙ same;
-      marks = λ a. ap (λ (c : ℕ → Class). with_marks mark mark (to + taken x.size) bs c a) (λ i p. made p i) ∙ marks a;
+      marks = λ a. ap (λ (c : ℕ → Class). with_marks mark mark (to + bytes_taken_by x.size) bs c a) (λ i p. made p i) ∙ marks a;
     })
 
 pub marking_more : (mark : Class) (m : AddressMap) (at : ℕ) (n n' : AddressMap) (to end : ℕ) → to < end → IsMarking mark m at n to end
     → layout n' ≡ layout n → byte_at n' ≡ byte_at n
     → ((a : ℕ) → class_of n' a ≡ with_block_marks mark mark to (word_at (byte_at n) to) (class_of n) a)
-    → IsMarking mark m at n' (to + taken (word_at (byte_at n) (to + 4))) end
+    → IsMarking mark m at n' (to + bytes_taken_by (word_at (byte_at n) (to + 4))) end
 marking_more mark m at n n' to end some h same' bytes' marked =
     marking_by mark m at n n' to end h.rest some h.text h.words h.bytes h.same h.marks same' bytes' marked
 
 -- at the end nothing is left
 pub ended : (at end : ℕ) (b : Bytes) (rest : List Block) → end ≤ at → IsText b at end rest → rest ≡ []
 ended at end b [] past is = refl
-ended at end b (x ∷ bs) past is = absurd (let length_is : end ≡ at + (taken x.size + used bs) = is.length in omega arith)
+ended at end b (x ∷ bs) past is = absurd (let length_is : end ≡ at + (bytes_taken_by x.size + bytes_taken_by_all bs) = is.length in omega arith)
 
 pub marking_all : (mark : Class) (m : AddressMap) (at : ℕ) (n : AddressMap) (to end : ℕ) → end ≤ to → IsMarking mark m at n to end
     → (a : ℕ) → class_of n a ≡ with_marks mark mark at (blocks_in (byte_at m) at end) (class_of m) a

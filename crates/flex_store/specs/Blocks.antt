@@ -21,27 +21,27 @@ abbrev pub whole_words : ℕ → ℕ
 whole_words n = 4 * ((n + 3) / 4)
 
 -- the bytes that a block of some size takes up, those of its header too
-abbrev pub taken : ℕ → ℕ
-taken size = 8 + whole_words size
+abbrev pub bytes_taken_by : ℕ → ℕ
+bytes_taken_by size = 8 + whole_words size
 
-abbrev pub used : List Block → ℕ
-used [] = 0
-used (b ∷ bs) = taken b.size + used bs
+abbrev pub bytes_taken_by_all : List Block → ℕ
+bytes_taken_by_all [] = 0
+bytes_taken_by_all (b ∷ bs) = bytes_taken_by b.size + bytes_taken_by_all bs
 
 -- the guest's own bytes of a block
 abbrev pub contents : Block → List ℕ
 contents b = take b.size b.bytes
 
 -- bytes, and zeros up to whole words
-abbrev pub filled : List ℕ → List ℕ
-filled bytes = bytes ++ replicate (whole_words (length bytes) - length bytes) 0
+abbrev pub whole_words_of_bytes : List ℕ → List ℕ
+whole_words_of_bytes bytes = bytes ++ replicate (whole_words (length bytes) - length bytes) 0
 
 -- a block of zeros, and a block that got other contents
 abbrev pub new_block : ℕ → ℕ → Block
 new_block anchor size = record { anchor = anchor; size = size; bytes = replicate (whole_words size) 0 }
 
-abbrev pub holding : Block → List ℕ → Block
-holding b bytes = record { anchor = b.anchor; size = length bytes; bytes = filled bytes }
+abbrev pub block_holding : Block → List ℕ → Block
+block_holding b bytes = record { anchor = b.anchor; size = length bytes; bytes = whole_words_of_bytes bytes }
 
 -- the block of an anchor
 abbrev pub find_block : ℕ → List Block → Option Block
@@ -72,13 +72,13 @@ behind_of anchor [] = []
 behind_of anchor (b ∷ bs) = if b.anchor == anchor then bs else behind_of anchor bs
 
 -- A new size cuts bytes off, or appends zeros.
-abbrev pub resized : List ℕ → ℕ → List ℕ
-resized bytes size = take size bytes ++ replicate (size - length bytes) 0
+abbrev pub bytes_with_size : List ℕ → ℕ → List ℕ
+bytes_with_size bytes size = take size bytes ++ replicate (size - length bytes) 0
 
 -- The bytes before `at` without the last `cut` of them, then `more` zeros, then the bytes from `at`
 -- on.
-abbrev pub spliced : List ℕ → ℕ → ℕ → ℕ → List ℕ
-spliced bytes at cut more = take (at - cut) bytes ++ (replicate more 0 ++ drop at bytes)
+abbrev pub bytes_after_splice : List ℕ → ℕ → ℕ → ℕ → List ℕ
+bytes_after_splice bytes at cut more = take (at - cut) bytes ++ (replicate more 0 ++ drop at bytes)
 
 -- a signed word in two's complement: how many bytes a change of it takes away, and how many it adds
 abbrev pub cut_of : ℕ → ℕ
@@ -90,7 +90,7 @@ more_of by = if nat_le (2 ^ 31) by then 0 else by
 -- the words of a header, where the first block's is at `at`: is the word at `a` one of these?
 abbrev pub is_header : ℕ → List Block → ℕ → Bool
 is_header at [] a = false
-is_header at (b ∷ bs) a = (a == at || a == at + 4) || is_header (at + taken b.size) bs a
+is_header at (b ∷ bs) a = (a == at || a == at + 4) || is_header (at + bytes_taken_by b.size) bs a
 
 -- Do the four bytes from `a` on lie among those that a block has for its guest, where its header is
 -- at `at`?
@@ -100,4 +100,4 @@ is_held_word at b a = nat_le (at + 8) a && nat_le (a + 4) (at + 8 + b.size)
 -- among those of one of these blocks, where the first one's header is at `at`?
 abbrev pub is_in_contents : ℕ → List Block → ℕ → Bool
 is_in_contents at [] a = false
-is_in_contents at (b ∷ bs) a = is_held_word at b a || is_in_contents (at + taken b.size) bs a
+is_in_contents at (b ∷ bs) a = is_held_word at b a || is_in_contents (at + bytes_taken_by b.size) bs a

@@ -13,14 +13,14 @@ contents_in None a = None
 contents_in (Some s) a = option_map contents (find_block a s.blocks)
 
 -- no two blocks have the same anchor
-abbrev pub AreDistinct : List Block → Type 0
-AreDistinct [] = Unit {0}
-AreDistinct (b ∷ bs) = (has_anchor bs b.anchor ≡ false) × AreDistinct bs
+abbrev pub HaveDistinctAnchors : List Block → Type 0
+HaveDistinctAnchors [] = Unit {0}
+HaveDistinctAnchors (b ∷ bs) = (has_anchor bs b.anchor ≡ false) × HaveDistinctAnchors bs
 
 -- what holds of the blocks that memory spells
 abbrev pub HasBlocks : Option FlexStore → Type 0
 HasBlocks None = Unit {0}
-HasBlocks (Some s) = AreWhole s.blocks × AreDistinct s.blocks
+HasBlocks (Some s) = AreWhole s.blocks × HaveDistinctAnchors s.blocks
 
 -- Calls of other stores, and a guest's own stores, keep the flex store where they keep its words,
 -- their marks, and the record of its range.

@@ -2,18 +2,20 @@
 use Rattle.std.specs.Prelude.{ℕ, ◌+◌, Bool, List, [], ◌∷◌, if◌then◌else◌}
 use Rattle.address_map.specs.declared.class.Class.{Class}
 use Rattle.address_map.specs.Records.{with_class}
-use Rattle.flex_store.specs.Blocks.{Block, taken}
+use Rattle.flex_store.specs.Blocks.{Block, bytes_taken_by}
 
-abbrev pub marked : Class → Bool → Class → Class
-marked mark is own = if is then mark else own
+abbrev pub class_with_mark : Class → Bool → Class → Class
+class_with_mark mark is own = if is then mark else own
 
 -- the two words of the header at `at` got one class, and the word at `word`, its block's anchor,
 -- another
 abbrev pub with_block_marks : Class → Class → ℕ → ℕ → (ℕ → Class) → ℕ → Class
-with_block_marks of_header of_word at word classes = with_class (with_class (with_class classes at of_header) (at + 4) of_header) word of_word
+with_block_marks of_header of_word at word classes = with_class
+    (with_class (with_class classes at of_header) (at + 4) of_header) word of_word
 
 -- and so those of all these blocks, where the first one's header is at `at`
 abbrev pub with_marks : Class → Class → ℕ → List Block → (ℕ → Class) → ℕ → Class
 with_marks of_header of_word at [] classes = classes
 with_marks of_header of_word at (b ∷ bs) classes =
-    with_marks of_header of_word (at + taken b.size) bs (with_block_marks of_header of_word at b.anchor classes)
+    with_marks of_header of_word (at + bytes_taken_by b.size) bs
+    (with_block_marks of_header of_word at b.anchor classes)

@@ -1,6 +1,6 @@
 -- Where the block of an anchor lies.
 use Rattle.std.specs.Prelude.{ℕ, ◌≡◌, ◌+◌, List, ◌∷◌, ◌++◌, Some}
-use Rattle.flex_store.specs.Blocks.{Block, before, behind_of, find_block, used, with_block, without_block}
+use Rattle.flex_store.specs.Blocks.{Block, before, behind_of, find_block, bytes_taken_by_all, with_block, without_block}
 
 -- a list is split at the block of an anchor
 pub record IsSplit (wanted : ℕ) (bs front : List Block) (b : Block) (after : List Block) : Type 0 where
@@ -21,4 +21,4 @@ pub record Split (wanted : ℕ) (bs : List Block) : Type 0 where
 -- the header of an anchor's block is at an address, where the first block's is at `start`
 pub record IsHeaderOf (start wanted : ℕ) (bs : List Block) (at : ℕ) : Type 0 where
   pub split : Split wanted bs
-  pub place : at ≡ start + used split.before
+  pub place : at ≡ start + bytes_taken_by_all split.before

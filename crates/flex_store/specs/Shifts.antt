@@ -1,7 +1,7 @@
 -- Words that move with the bytes around them, and blocks whose anchors do.
 use Rattle.std.specs.Prelude.{ℕ, ◌≤◌, ◌+◌, ◌-◌, ◌^◌, ◌&&◌, nat_le, nat_lt, List, [], ◌∷◌, map, if◌then◌else◌}
 use Rattle.flex_store.specs.declared.shift.Shift.{Shift}
-use Rattle.flex_store.specs.Blocks.{Block, taken}
+use Rattle.flex_store.specs.Blocks.{Block, bytes_taken_by}
 
 -- moves of bytes, as crates above name them
 abbrev pub Shifts : Type 0
@@ -14,7 +14,11 @@ gone_to (s ∷ ss) a = if nat_le s.from a && nat_lt a s.end then s.to + (a - s.f
 
 -- the blocks with the anchors where they are then
 abbrev pub following : List Shift → List Block → List Block
-following shifts bs = map (λ b. record { anchor = gone_to shifts b.anchor; size = b.size; bytes = b.bytes }) bs
+following shifts bs = map (λ b. record {
+  anchor = gone_to shifts b.anchor;
+  size = b.size;
+  bytes = b.bytes;
+}) bs
 
 -- what goes to its place ends below 2^26
 abbrev pub AreShort : List Shift → Type 0
@@ -27,8 +31,12 @@ AreShort (s ∷ ss) = (s.to + (s.end - s.from) ≤ 2 ^ 26) × AreShort ss
 abbrev pub splice_shifts : ℕ → ℕ → ℕ → ℕ → ℕ → ℕ → List Shift
 splice_shifts at end size place cut more =
     record { from = at + 8 + place; end = at + 8 + size; to = at + 8 + (place - cut + more) }
-    ∷ (record { from = at + taken size; end = end; to = at + taken (place - cut + more + (size - place)) } ∷ [])
+    ∷ (record {
+      from = at + bytes_taken_by size;
+      end = end;
+      to = at + bytes_taken_by (place - cut + more + (size - place));
+    } ∷ [])
 
 -- what moves where the block goes
 abbrev pub removal_shifts : ℕ → ℕ → ℕ → List Shift
-removal_shifts at end size = record { from = at + taken size; end = end; to = at } ∷ []
+removal_shifts at end size = record { from = at + bytes_taken_by size; end = end; to = at } ∷ []

@@ -9,8 +9,8 @@ use Rattle.address_map.specs.Memory.{byte_at, bytes_of, class_of, is_mapped, lay
 use Rattle.os_heap.specs.Store.{is_flex_store, store_of}
 use Rattle.flex_store.specs.declared.flex.Extent.{Extent}
 use Rattle.flex_store.specs.declared.flex.Flex.{Flex}
-use Rattle.flex_store.specs.Blocks.{Block, FlexStore, has_anchor, is_header, is_in_contents, taken, used, whole_words}
-use Rattle.flex_store.specs.Memory.{Holds, AreAnchored, blocks_in, text_of}
+use Rattle.flex_store.specs.Blocks.{Block, FlexStore, has_anchor, is_header, is_in_contents, bytes_taken_by, bytes_taken_by_all, whole_words}
+use Rattle.flex_store.specs.Memory.{Holds, AreAnchored, blocks_in, blocks_text_of}
 use Rattle.flex_store.specs.Calls.{FlexState, is_anchor_place}
 
 -- the flex store that the words of memory spell in a range
@@ -21,15 +21,19 @@ abbrev pub flex_in : AddressMap → Option Extent → Option FlexStore
 flex_in m None = None
 flex_in m (Some e) = Some (record { start = e.start; end = e.end; blocks = blocks_of m e })
 
-abbrev pub store_in : AddressMap → Extent → FlexStore
-store_in m e = record { start = e.start; end = e.end; blocks = blocks_of m e }
+abbrev pub flex_store_in : AddressMap → Extent → FlexStore
+flex_store_in m e = record { start = e.start; end = e.end; blocks = blocks_of m e }
 
 -- memory with the store in a range
 abbrev pub held_in : AddressMap → Extent → FlexState
-held_in m e = record { bytes = bytes_of m; flex = Some (record { start = e.start; end = e.end; blocks = blocks_of m e }) }
+held_in m e = record {
+  bytes = bytes_of m;
+  flex = Some (record
+      { start = e.start; end = e.end; blocks = blocks_of m e });
+}
 
-unfoldable pub state_of : AddressMap → Flex → FlexState
-state_of m f = record { bytes = bytes_of m; flex = flex_in m f.extent }
+unfoldable pub state_of_flex : AddressMap → Flex → FlexState
+state_of_flex m f = record { bytes = bytes_of m; flex = flex_in m f.extent }
 
 -- A block has as many bytes as its size says, filled up to whole words, and its size is a word.
 abbrev pub AreWhole : List Block → Type 0
@@ -54,11 +58,13 @@ pub record IsAnchorWord (mapped : ℕ → Bool) (start end a : ℕ) : Type 0 whe
 abbrev pub AreAnchorWords : (ℕ → Bool) → ℕ → ℕ → List Block → Type 0
 AreAnchorWords mapped at end [] = Unit {0}
 AreAnchorWords mapped at end (b ∷ bs) =
-    (IsAnchorWord mapped at end b.anchor × (has_anchor bs b.anchor ≡ false)) × AreAnchorWords mapped (at + taken b.size) end bs
+    (IsAnchorWord mapped at end b.anchor × (has_anchor bs b.anchor ≡ false)) ×
+    AreAnchorWords mapped (at + bytes_taken_by b.size) end bs
 
 -- an anchor in the store lies in what a block has for its guest
 abbrev pub AreInner : ℕ → ℕ → List Block → Type 0
-AreInner start end bs = (a : ℕ) → has_anchor bs a ≡ true → start ≤ a → a < end → is_in_contents start bs a ≡ true
+AreInner start end bs = (a : ℕ) → has_anchor bs a ≡ true → start ≤ a → a < end →
+    is_in_contents start bs a ≡ true
 
 -- the anchors' addresses lie below 2^26
 abbrev pub AreLow : List Block → Type 0
@@ -69,10 +75,10 @@ AreLow (b ∷ bs) = (b.anchor < 2 ^ 26) × AreLow bs
 pub record IsText (b : Bytes) (at end : ℕ) (blocks : List Block) : Type 0 where
   pub whole : AreWhole blocks
   pub low : AreLow blocks
-  pub text : Holds b.at at (text_of blocks)
-  pub length : end ≡ at + used blocks
+  pub text : Holds b.at at (blocks_text_of blocks)
+  pub length : end ≡ at + bytes_taken_by_all blocks
   pub aligned : at % 4 ≡ 0
-  pub mapped : AreMapped b.mapped at (used blocks)
+  pub mapped : AreMapped b.mapped at (bytes_taken_by_all blocks)
 
 -- The range has whole words, all mapped.
 pub record IsFlexRange (mapped : ℕ → Bool) (start end : ℕ) : Type 0 where
@@ -84,11 +90,11 @@ pub record IsFlexRange (mapped : ℕ → Bool) (start end : ℕ) : Type 0 where
 -- bytes; and just the words of their headers and their anchors are marked as such.
 pub record IsFlexStore (m : AddressMap) (start end : ℕ) (blocks : List Block) : Type 0 where
   pub range : IsFlexRange (is_mapped m) start end
-  pub fits : start + used blocks ≤ end
+  pub fits : start + bytes_taken_by_all blocks ≤ end
   pub whole : AreWhole blocks
   pub words : AreAnchorWords (is_mapped m) start end blocks
   pub inner : AreInner start end blocks
-  pub text : Holds (byte_at m) start (text_of blocks)
+  pub text : Holds (byte_at m) start (blocks_text_of blocks)
   pub anchored : AreAnchored (byte_at m) start blocks
   pub headers : (a : ℕ) → is_flex_header (class_of m a) ≡ is_header start blocks (word_start a)
   pub anchors : (a : ℕ) → is_anchor (class_of m a) ≡ has_anchor blocks (word_start a)
@@ -107,7 +113,7 @@ is_recorded rs start end = list_any (is_store_record start end) rs
 
 pub record IsStoreAt (m : AddressMap) (e : Extent) : Type 0 where
   pub store : IsFlexStore m e.start e.end (blocks_of m e)
-  pub used_is : used (blocks_of m e) ≡ e.used
+  pub used_is : bytes_taken_by_all (blocks_of m e) ≡ e.used
 
 -- and its range is recorded
 pub record IsRecordedStore (m : AddressMap) (e : Extent) : Type 0 where
@@ -125,7 +131,7 @@ IsFlex m f = IsFlexAt m f.extent
 -- a word that may be a new block's anchor: it lies outside what is after the other blocks, and in
 -- contents of one of them where it lies in the store
 pub record IsNewAnchor (m : AddressMap) (e : Extent) (anchor : ℕ) : Type 0 where
-  pub word : IsAnchorWord (is_mapped m) (e.start + used (blocks_of m e)) e.end anchor
+  pub word : IsAnchorWord (is_mapped m) (e.start + bytes_taken_by_all (blocks_of m e)) e.end anchor
   pub inside : e.start ≤ anchor → anchor < e.end → is_in_contents e.start (blocks_of m e) anchor ≡ true
 
 -- no head of a heap lies in the store
@@ -139,15 +145,16 @@ pub record KeepsHeads (m n : AddressMap) : Type 0 where
   pub classes : (a : ℕ) → is_heap_class (class_of n a) ≡ is_heap_class (class_of m a)
 
 -- an anchor after a call: it was one, or its word may be one, or it lies in the store
-abbrev pub IsAllowed : AddressMap → Extent → ℕ → Type 0
-IsAllowed m e a = (has_anchor (blocks_of m e) a ≡ true) ⊎ ((is_anchor_place (store_of m) a ≡ true) ⊎ ((e.start ≤ a) × (a < e.end)))
+abbrev pub IsAnchorAllowed : AddressMap → Extent → ℕ → Type 0
+IsAnchorAllowed m e a = (has_anchor (blocks_of m e) a ≡ true) ⊎
+    ((is_anchor_place (store_of m) a ≡ true) ⊎ ((e.start ≤ a) × (a < e.end)))
 
 -- What each call on a store keeps. An anchor that comes is a word that may be one, or lies in the
 -- store.
-pub record Keeps (m : AddressMap) (e : Extent) (n : AddressMap) (f : Extent) : Type 0 where
+pub record KeepsBesidesFlex (m : AddressMap) (e : Extent) (n : AddressMap) (f : Extent) : Type 0 where
   pub store : IsStoreAt n f
   pub same : layout n ≡ layout m
   pub heads : HasNoHead m (Some e) → KeepsHeads m n
-  pub anchors : (a : ℕ) → has_anchor (blocks_of n f) a ≡ true → IsAllowed m e a
+  pub anchors : (a : ℕ) → has_anchor (blocks_of n f) a ≡ true → IsAnchorAllowed m e a
   pub start : f.start ≡ e.start
   pub end : f.end ≡ e.end

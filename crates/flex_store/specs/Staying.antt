@@ -22,4 +22,5 @@ pub record StaysFlex (m n : AddressMap) (f : Flex) : Type 0 where
   pub headers : (a : ℕ) → (store_of n).header a ≡ (store_of m).header a
   pub mapped : (a : ℕ) → (store_of m).anchor a ≡ true → is_mapped n a ≡ true
   pub range : IsExtentThere (is_mapped n) f.extent
-  pub recorded : (start end : ℕ) → is_recorded (store_of m).others start end ≡ true → is_recorded (store_of n).others start end ≡ true
+  pub recorded : (start end : ℕ) → is_recorded (store_of m).others start end ≡ true →
+      is_recorded (store_of n).others start end ≡ true

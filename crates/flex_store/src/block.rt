@@ -5,16 +5,16 @@ ghost use Rattle.std.specs.List.{list_any};
 ghost use Rattle.profile.specs.Outcome.{Gives};
 ghost use Rattle.address_map.specs.Records.{is_heap_kind};
 ghost use Rattle.os_heap.specs.Store.{AreClasses, is_flex_store, IsSound, store_of};
-ghost use Rattle.address_map.specs.Bytes.{meets, word_at};
+ghost use Rattle.address_map.specs.Bytes.{shares_address, word_at};
 ghost use Rattle.address_map.specs.Classes.{is_anchor, is_heap_class};
 ghost use Rattle.address_map.specs.Memory.{byte_at, class_of};
 ghost use Rattle.flex_store.specs.Blocks.{cut_of, find_block, has_anchor, more_of, new_block};
-ghost use Rattle.flex_store.specs.Calls.{allocated, extended, is_anchor_place, may_stand, mid_extended, released, sized, spliced_at};
+ghost use Rattle.flex_store.specs.Calls.{flex_after_alloc, flex_after_extend, is_anchor_place, may_stand, mid_extended, flex_after_release, flex_block_size, spliced_at};
 ghost use Rattle.flex_store.specs.Changes.{Fits};
 ghost use Rattle.flex_store.specs.Relaid.{first_at};
 ghost use Rattle.flex_store.specs.Places.{IsHeaderOf};
 ghost use Rattle.flex_store.specs.Splices.{IsSplice};
-ghost use Rattle.flex_store.specs.State.{blocks_of, held_in, store_in, IsNewAnchor, IsStoreAt, Keeps};
+ghost use Rattle.flex_store.specs.State.{blocks_of, held_in, flex_store_in, IsNewAnchor, IsStoreAt, KeepsBesidesFlex};
 
 use crate::flex::Extent;
 use crate::slide::{append, remove, replace};
@@ -27,7 +27,7 @@ use profile::ErrorNumber;
 /// The size of an anchor's block.
 pub(crate) fn block_size(map: &AddressMap, extent: &Extent, anchor: u32) -> Result<u32, ErrorNumber>
     requires { IsStoreAt map.now extent.now }
-    ensures { result ≡ sized (held_in map.now extent.now) anchor }
+    ensures { result ≡ flex_block_size (held_in map.now extent.now) anchor }
 {
     let Some(header) = find_header(map, extent, anchor) else {
         return Err(ErrorNumber::FlexBadAnchor);
@@ -36,7 +36,7 @@ pub(crate) fn block_size(map: &AddressMap, extent: &Extent, anchor: u32) -> Resu
 }
 
 /// Cuts a block, or appends zeros to it.
-#[tactic(auto, unfolding(crate::specs::Calls::extended))]
+#[tactic(auto, unfolding(crate::specs::Calls::flex_after_extend))]
 pub(crate) fn extend_block(
     map: &mut AddressMap,
     extent: &mut Extent,
@@ -44,9 +44,10 @@ pub(crate) fn extend_block(
     size: u32,
 ) -> Result<bool, ErrorNumber>
     requires { IsStoreAt map.old extent.old }
-    ensures state { Gives (held_in map.old extent.old) (extended (held_in map.old extent.old) anchor size) result
+    ensures state { Gives (held_in map.old extent.old) (flex_after_extend
+        (held_in map.old extent.old) anchor size) result
         (held_in map.new extent.new) }
-    ensures keeps { Keeps map.old extent.old map.new extent.new }
+    ensures keeps { KeepsBesidesFlex map.old extent.old map.new extent.new }
 {
     let Some(header) = find_header(map, extent, anchor) else {
         return Err(ErrorNumber::FlexBadAnchor);
@@ -73,9 +74,10 @@ pub(crate) fn mid_extend_block(
     by: u32,
 ) -> Result<bool, ErrorNumber>
     requires { IsStoreAt map.old extent.old }
-    ensures state { Gives (held_in map.old extent.old) (mid_extended (held_in map.old extent.old) anchor at by) result
+    ensures state { Gives (held_in map.old extent.old) (mid_extended
+        (held_in map.old extent.old) anchor at by) result
         (held_in map.new extent.new) }
-    ensures keeps { Keeps map.old extent.old map.new extent.new }
+    ensures keeps { KeepsBesidesFlex map.old extent.old map.new extent.new }
 {
     let cut = cut_of(by);
     if cut > at {
@@ -117,16 +119,17 @@ fn more_of(by: u32) -> u32
 }
 
 /// Takes a block away, and makes its anchor 0.
-#[tactic(auto, unfolding(crate::specs::Calls::released))]
+#[tactic(auto, unfolding(crate::specs::Calls::flex_after_release))]
 pub(crate) fn release_block(
     map: &mut AddressMap,
     extent: &mut Extent,
     anchor: u32,
 ) -> Result<(), ErrorNumber>
     requires { IsStoreAt map.old extent.old }
-    ensures state { Gives (held_in map.old extent.old) (released (held_in map.old extent.old) anchor) result
+    ensures state { Gives (held_in map.old extent.old)
+        (flex_after_release (held_in map.old extent.old) anchor) result
         (held_in map.new extent.new) }
-    ensures keeps { Keeps map.old extent.old map.new extent.new }
+    ensures keeps { KeepsBesidesFlex map.old extent.old map.new extent.new }
 {
     let Some(header) = find_header(map, extent, anchor) else {
         return Err(ErrorNumber::FlexBadAnchor);
@@ -172,9 +175,11 @@ fn splice_block(
     requires place { IsHeaderOf extent.old.start anchor (blocks_of map.old extent.old) header }
     requires splice { IsSplice splice.now (word_at (byte_at map.old) (header + 4)) }
     requires some { 0 < splice.now.cut + splice.now.more }
-    ensures state { Gives (held_in map.old extent.old) (spliced_at (held_in map.old extent.old) (store_in map.old extent.old)
-        anchor (first_at map.old header) splice.now.at splice.now.cut splice.now.more) result (held_in map.new extent.new) }
-    ensures keeps { Keeps map.old extent.old map.new extent.new }
+    ensures state { Gives (held_in map.old extent.old) (spliced_at (held_in map.old extent.old)
+        (flex_store_in map.old extent.old)
+        anchor (first_at map.old header) splice.now.at splice.now.cut splice.now.more) result
+        (held_in map.new extent.new) }
+    ensures keeps { KeepsBesidesFlex map.old extent.old map.new extent.new }
 {
     let size = word(map, header + SIZE);
     if splice.breaks_anchor(map, header + HEADER, size) {
@@ -201,8 +206,9 @@ pub(crate) fn alloc_block(
     requires sound { IsSound (store_of map.old) }
     requires classes { AreClasses map.old }
     ensures state { Gives (held_in map.old extent.old)
-        (allocated (store_of map.old) (held_in map.old extent.old) anchor size) result (held_in map.new extent.new) }
-    ensures keeps { Keeps map.old extent.old map.new extent.new }
+        (flex_after_alloc (store_of map.old) (held_in map.old extent.old) anchor size) result
+        (held_in map.new extent.new) }
+    ensures keeps { KeepsBesidesFlex map.old extent.old map.new extent.new }
 {
     if !may_hold(map, extent, anchor) {
         return Err(ErrorNumber::FlexBadAnchor);
@@ -218,7 +224,7 @@ fn may_hold(map: &AddressMap, extent: &Extent, anchor: u32) -> bool
     requires store { IsStoreAt map.now extent.now }
     requires sound { IsSound (store_of map.now) }
     ensures { result ≡ (is_anchor_place (store_of map.now) anchor
-        && may_stand (store_in map.now extent.now) anchor) }
+        && may_stand (flex_store_in map.now extent.now) anchor) }
 {
     if anchor % 4 != 0 {
         return false;
@@ -241,7 +247,8 @@ fn may_hold(map: &AddressMap, extent: &Extent, anchor: u32) -> bool
 
 /// Whether a word meets a recorded range that is neither a heap nor the flex store.
 fn meets_other(regions: &[Region], at: u32) -> bool
-    ensures { result ≡ list_any (λ r. not (is_heap_kind r.kind) && (not (is_flex_store r.kind) && meets at 4 r.at r.len)) regions.now }
+    ensures { result ≡ list_any (λ r. not (is_heap_kind r.kind)
+        && (not (is_flex_store r.kind) && shares_address at 4 r.at r.len)) regions.now }
 {
     for region in regions {
         if is_in_other(region, at) {
@@ -253,7 +260,8 @@ fn meets_other(regions: &[Region], at: u32) -> bool
 
 /// Whether a word meets a range, and this is neither a heap nor the flex store.
 fn is_in_other(region: &Region, at: u32) -> bool
-    ensures { result ≡ (not (is_heap_kind region.now.kind) && (not (is_flex_store region.now.kind) && meets at 4 region.now.at region.now.len)) }
+    ensures { result ≡ (not (is_heap_kind region.now.kind)
+        && (not (is_flex_store region.now.kind) && shares_address at 4 region.now.at region.now.len)) }
 {
     !region.kind.is_heap()
         && !matches!(region.kind, Kind::FlexStore)
@@ -262,7 +270,7 @@ fn is_in_other(region: &Region, at: u32) -> bool
 
 /// Whether a word meets a range.
 fn is_met(at: u32, start: u32, len: u32) -> bool
-    ensures { result ≡ meets at 4 start len }
+    ensures { result ≡ shares_address at 4 start len }
 {
     let end = u64::from(start) + u64::from(len);
     len > 0 && u64::from(at) < end && u64::from(start) < u64::from(at) + 4

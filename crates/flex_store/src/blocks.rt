@@ -4,7 +4,7 @@ ghost use Rattle.std.specs.Prelude.{◌≡◌, List};
 ghost use Rattle.std.specs.Iterator.{YieldsFirst, item_count};
 ghost use Rattle.address_map.specs.Memory.{byte_at, bytes_of};
 ghost use Rattle.flex_store.specs.declared.blocks.FlexBlock.{FlexBlock};
-ghost use Rattle.flex_store.specs.Listed.{all_listed, listed};
+ghost use Rattle.flex_store.specs.Listed.{all_listed, blocks_with_places};
 ghost use Rattle.flex_store.specs.Memory.{blocks_in};
 ghost use Rattle.flex_store.specs.State.{flex_in, IsFlex, IsText};
 
@@ -33,7 +33,7 @@ pub struct FlexBlocks<'a> {
 impl<'a> Model for FlexBlocks<'a> {
     ghost Value = { List FlexBlock };
 
-    ghost view = { λ b. listed b.header (blocks_in (byte_at b.map.now) b.header b.end) };
+    ghost view = { λ b. blocks_with_places b.header (blocks_in (byte_at b.map.now) b.header b.end) };
 
     ghost invariant = { λ b. IsText (bytes_of b.map.now) b.header b.end
         (blocks_in (byte_at b.map.now) b.header b.end) };

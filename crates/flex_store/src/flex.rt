@@ -5,8 +5,8 @@ ghost use Rattle.profile.specs.Outcome.{Gives};
 ghost use Rattle.os_heap.specs.Store.{AreClasses, is_in_flex_store, IsSound, store_of};
 ghost use Rattle.address_map.specs.Bytes.{word_start};
 ghost use Rattle.address_map.specs.Memory.{bytes_of, class_of, is_mapped, layout, mapping, regions};
-ghost use Rattle.flex_store.specs.Calls.{allocated, begun, extended, flex_record, is_anchor_place, is_flex_range, mid_extended, released, sized};
-ghost use Rattle.flex_store.specs.State.{held_in, state_of, IsFlex, IsNoFlex, IsRecordedStore};
+ghost use Rattle.flex_store.specs.Calls.{flex_after_alloc, flex_after_init, flex_after_extend, flex_record, is_anchor_place, is_flex_range, mid_extended, flex_after_release, flex_block_size};
+ghost use Rattle.flex_store.specs.State.{held_in, state_of_flex, IsFlex, IsNoFlex, IsRecordedStore};
 
 use crate::block::{alloc_block, block_size, extend_block, mid_extend_block, release_block};
 use address_map::{AddressMap, Kind};
@@ -52,10 +52,10 @@ impl Flex {
     /// `FlexNotReady` before `init`; `FlexBadAnchor` where no block has the anchor.
     ///
     /// Acorn C manual, "flex", flex_size.
-    #[tactic(auto, unfolding(crate::specs::State::state_of))]
+    #[tactic(auto, unfolding(crate::specs::State::state_of_flex))]
     pub fn size(&self, map: &AddressMap, anchor: u32) -> Result<u32, ErrorNumber>
         requires { IsFlex map.now self.now }
-        ensures { result ≡ sized (state_of map.now self.now) anchor }
+        ensures { result ≡ flex_block_size (state_of_flex map.now self.now) anchor }
     {
         let Some(extent) = self.extent else {
             return Err(ErrorNumber::FlexNotReady);
@@ -72,14 +72,15 @@ impl Flex {
     /// not all of the range is mapped or it meets a recorded range.
     ///
     /// Acorn C manual, "flex", flex_init; that the caller names the range is this project's own.
-    #[tactic(auto, unfolding(crate::specs::State::state_of, crate::specs::Calls::begun))]
+    #[tactic(auto, unfolding(crate::specs::State::state_of_flex, crate::specs::Calls::flex_after_init))]
     pub fn init(&mut self, map: &mut AddressMap, start: u32, end: u32) -> Result<(), ErrorNumber>
         requires flex { IsFlex map.old self.old }
         requires sound { IsSound (store_of map.old) }
         requires classes { AreClasses map.old }
         requires few { length (store_of map.old).others < 68 }
-        ensures state { Gives (state_of map.old self.old)
-            (begun (store_of map.old) (state_of map.old self.old) start end) result (state_of map.new self.new) }
+        ensures state { Gives (state_of_flex map.old self.old)
+            (flex_after_init (store_of map.old) (state_of_flex map.old self.old) start end) result
+            (state_of_flex map.new self.new) }
         ensures flex { IsFlex map.new self.new }
         ensures regions { MatchResult result
             (λ _. regions map.new ≡ regions map.old ++ flex_record start end ∷ [])
@@ -116,7 +117,7 @@ impl Flex {
     /// among the bytes that a live block holds; `FlexAnchorInUse` where a block has it.
     ///
     /// Acorn C manual, "flex", flex_alloc.
-    #[tactic(auto, unfolding(crate::specs::State::state_of, crate::specs::Calls::allocated), using(crate::proofs::Keeping::keeping))]
+    #[tactic(auto, unfolding(crate::specs::State::state_of_flex, crate::specs::Calls::flex_after_alloc), using(crate::proofs::Keeping::keeping))]
     pub fn alloc(
         &mut self,
         map: &mut AddressMap,
@@ -126,12 +127,14 @@ impl Flex {
         requires flex { IsFlex map.old self.old }
         requires sound { IsSound (store_of map.old) }
         requires classes { AreClasses map.old }
-        ensures state { Gives (state_of map.old self.old)
-            (allocated (store_of map.old) (state_of map.old self.old) anchor size) result (state_of map.new self.new) }
+        ensures state { Gives (state_of_flex map.old self.old)
+            (flex_after_alloc (store_of map.old) (state_of_flex map.old self.old) anchor size) result
+            (state_of_flex map.new self.new) }
         ensures flex { IsFlex map.new self.new }
         ensures layout { layout map.new ≡ layout map.old }
         ensures anchors { (a : ℕ) → (store_of map.new).anchor a ≡ true
-            → ((store_of map.old).anchor a ≡ true) ⊎ ((is_anchor_place (store_of map.old) (word_start a) ≡ true)
+            → ((store_of map.old).anchor a ≡ true) ⊎ ((is_anchor_place (store_of map.old) (word_start a)
+            ≡ true)
             ⊎ (is_in_flex_store (store_of map.old).others a ≡ true)) }
         ensures heaps { (store_of map.new).heaps ≡ (store_of map.old).heaps }
         ensures sound { IsSound (store_of map.new) }
@@ -154,17 +157,19 @@ impl Flex {
     /// `FlexHoldsAnchor` where one of its bytes is an anchor's. Nothing is changed then.
     ///
     /// Acorn C manual, "flex", flex_free.
-    #[tactic(auto, unfolding(crate::specs::State::state_of, crate::specs::Calls::released), using(crate::proofs::Keeping::keeping))]
+    #[tactic(auto, unfolding(crate::specs::State::state_of_flex, crate::specs::Calls::flex_after_release), using(crate::proofs::Keeping::keeping))]
     pub fn release(&mut self, map: &mut AddressMap, anchor: u32) -> Result<(), ErrorNumber>
         requires flex { IsFlex map.old self.old }
         requires sound { IsSound (store_of map.old) }
         requires classes { AreClasses map.old }
-        ensures state { Gives (state_of map.old self.old) (released (state_of map.old self.old) anchor) result
-            (state_of map.new self.new) }
+        ensures state { Gives (state_of_flex map.old self.old)
+            (flex_after_release (state_of_flex map.old self.old) anchor) result
+            (state_of_flex map.new self.new) }
         ensures flex { IsFlex map.new self.new }
         ensures layout { layout map.new ≡ layout map.old }
         ensures anchors { (a : ℕ) → (store_of map.new).anchor a ≡ true
-            → ((store_of map.old).anchor a ≡ true) ⊎ ((is_anchor_place (store_of map.old) (word_start a) ≡ true)
+            → ((store_of map.old).anchor a ≡ true) ⊎ ((is_anchor_place (store_of map.old) (word_start a)
+            ≡ true)
             ⊎ (is_in_flex_store (store_of map.old).others a ≡ true)) }
         ensures heaps { (store_of map.new).heaps ≡ (store_of map.old).heaps }
         ensures sound { IsSound (store_of map.new) }
@@ -189,7 +194,7 @@ impl Flex {
     /// Nothing is changed then.
     ///
     /// Acorn C manual, "flex", flex_extend.
-    #[tactic(auto, unfolding(crate::specs::State::state_of, crate::specs::Calls::extended), using(crate::proofs::Keeping::keeping))]
+    #[tactic(auto, unfolding(crate::specs::State::state_of_flex, crate::specs::Calls::flex_after_extend), using(crate::proofs::Keeping::keeping))]
     pub fn extend(
         &mut self,
         map: &mut AddressMap,
@@ -199,12 +204,14 @@ impl Flex {
         requires flex { IsFlex map.old self.old }
         requires sound { IsSound (store_of map.old) }
         requires classes { AreClasses map.old }
-        ensures state { Gives (state_of map.old self.old) (extended (state_of map.old self.old) anchor size) result
-            (state_of map.new self.new) }
+        ensures state { Gives (state_of_flex map.old self.old)
+            (flex_after_extend (state_of_flex map.old self.old) anchor size) result
+            (state_of_flex map.new self.new) }
         ensures flex { IsFlex map.new self.new }
         ensures layout { layout map.new ≡ layout map.old }
         ensures anchors { (a : ℕ) → (store_of map.new).anchor a ≡ true
-            → ((store_of map.old).anchor a ≡ true) ⊎ ((is_anchor_place (store_of map.old) (word_start a) ≡ true)
+            → ((store_of map.old).anchor a ≡ true) ⊎ ((is_anchor_place (store_of map.old) (word_start a)
+            ≡ true)
             ⊎ (is_in_flex_store (store_of map.old).others a ≡ true)) }
         ensures heaps { (store_of map.new).heaps ≡ (store_of map.old).heaps }
         ensures sound { IsSound (store_of map.new) }
@@ -232,7 +239,7 @@ impl Flex {
     /// would move by other than whole words, whether there is room or not.
     ///
     /// Acorn C manual, "flex", flex_midextend.
-    #[tactic(auto, unfolding(crate::specs::State::state_of, crate::specs::Calls::mid_extended), using(crate::proofs::Keeping::keeping))]
+    #[tactic(auto, unfolding(crate::specs::State::state_of_flex, crate::specs::Calls::mid_extended), using(crate::proofs::Keeping::keeping))]
     pub fn mid_extend(
         &mut self,
         map: &mut AddressMap,
@@ -243,12 +250,14 @@ impl Flex {
         requires flex { IsFlex map.old self.old }
         requires sound { IsSound (store_of map.old) }
         requires classes { AreClasses map.old }
-        ensures state { Gives (state_of map.old self.old)
-            (mid_extended (state_of map.old self.old) anchor at by) result (state_of map.new self.new) }
+        ensures state { Gives (state_of_flex map.old self.old)
+            (mid_extended (state_of_flex map.old self.old) anchor at by) result
+            (state_of_flex map.new self.new) }
         ensures flex { IsFlex map.new self.new }
         ensures layout { layout map.new ≡ layout map.old }
         ensures anchors { (a : ℕ) → (store_of map.new).anchor a ≡ true
-            → ((store_of map.old).anchor a ≡ true) ⊎ ((is_anchor_place (store_of map.old) (word_start a) ≡ true)
+            → ((store_of map.old).anchor a ≡ true) ⊎ ((is_anchor_place (store_of map.old) (word_start a)
+            ≡ true)
             ⊎ (is_in_flex_store (store_of map.old).others a ≡ true)) }
         ensures heaps { (store_of map.new).heaps ≡ (store_of map.old).heaps }
         ensures sound { IsSound (store_of map.new) }
@@ -288,7 +297,11 @@ fn record_store(map: &mut AddressMap, start: u32, end: u32)
     requires few { length (store_of map.old).others < 68 }
     ensures store { IsRecordedStore map.new (record { start = start; end = end; used = 0 }) }
     ensures state { held_in map.new (record { start = start; end = end; used = 0 })
-        ≡ record { bytes = bytes_of map.old; flex = Some (record { start = start; end = end; blocks = [] }) } }
+        ≡ record {
+          bytes = bytes_of map.old;
+          flex = Some
+              (record { start = start; end = end; blocks = [] });
+        } }
     ensures regions { regions map.new ≡ regions map.old ++ flex_record start end ∷ [] }
     ensures mapping { mapping map.new ≡ mapping map.old }
     ensures marks { class_of map.new ≡ class_of map.old }

@@ -44,7 +44,8 @@ pub(crate) fn mark_block(map: &mut AddressMap, header: u32, anchor: u32)
     requires low { header < 2 ^ 26 }
     requires anchor { anchor % 4 ≡ 0 }
     requires there { is_mapped map.old anchor ≡ true }
-    ensures marks { (a : ℕ) → class_of map.new a ≡ with_block_marks FlexHeader Anchor header anchor (class_of map.old) a }
+    ensures marks { (a : ℕ) → class_of map.new a ≡ with_block_marks FlexHeader Anchor header anchor
+        (class_of map.old) a }
     ensures bytes { byte_at map.new ≡ byte_at map.old }
     ensures layout { layout map.new ≡ layout map.old }
 {
@@ -61,7 +62,8 @@ pub(crate) fn clear_block(map: &mut AddressMap, header: u32, anchor: u32)
     requires low { header < 2 ^ 26 }
     requires anchor { anchor % 4 ≡ 0 }
     requires there { is_mapped map.old anchor ≡ true }
-    ensures marks { (a : ℕ) → class_of map.new a ≡ with_block_marks Plain Plain header anchor (class_of map.old) a }
+    ensures marks { (a : ℕ) → class_of map.new a ≡ with_block_marks Plain Plain header anchor
+        (class_of map.old) a }
     ensures bytes { byte_at map.new ≡ byte_at map.old }
     ensures layout { layout map.new ≡ layout map.old }
 {

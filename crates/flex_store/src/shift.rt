@@ -1,9 +1,9 @@
 //! Ranges of bytes that move, and where a word among them goes.
 
 ghost use Rattle.std.specs.Prelude.{◌≡◌, ◌≤◌, ◌+◌, ◌^◌};
-ghost use Rattle.flex_store.specs.Blocks.{taken};
+ghost use Rattle.flex_store.specs.Blocks.{bytes_taken_by};
 ghost use Rattle.flex_store.specs.Shifts.{AreShort, gone_to, splice_shifts};
-ghost use Rattle.flex_store.specs.Splices.{size_after, IsSplice};
+ghost use Rattle.flex_store.specs.Splices.{size_after_splice, IsSplice};
 
 use crate::splice::Splice;
 use crate::walk::{HEADER, taken};
@@ -33,8 +33,8 @@ pub(crate) fn gone_to(shifts: &[Shift], at: u32) -> u32
 /// to `end`.
 pub(crate) fn splice_shifts(header: u32, size: u32, splice: &Splice, end: u32) -> [Shift; 2]
     requires splice { IsSplice splice.now size }
-    requires old { header + taken size ≤ 2 ^ 26 }
-    requires new { header + taken (size_after splice.now size) ≤ 2 ^ 26 }
+    requires old { header + bytes_taken_by size ≤ 2 ^ 26 }
+    requires new { header + bytes_taken_by (size_after_splice splice.now size) ≤ 2 ^ 26 }
     ensures { result ≡ splice_shifts header end size splice.now.at splice.now.cut splice.now.more }
 {
     let contents = header + HEADER;

@@ -3,9 +3,9 @@
 ghost use Rattle.std.specs.Prelude.{ℕ, ◌≡◌, ◌≤◌, ◌<◌, ◌+◌, ◌-◌, ◌%◌, ◌^◌, ◌++◌, [], ◌∷◌, true};
 ghost use Rattle.address_map.specs.Bytes.{AreMapped, bytes_between, with_bytes_at};
 ghost use Rattle.address_map.specs.Memory.{byte_at, bytes_of, class_of, is_mapped, layout};
-ghost use Rattle.flex_store.specs.Blocks.{contents, filled, holding, new_block, spliced, taken, whole_words};
-ghost use Rattle.flex_store.specs.Relaid.{behind, closed, first_at, MayLie, Relaid, replaced};
-ghost use Rattle.flex_store.specs.Splices.{size_after, IsRest, IsSplice, HasRoom};
+ghost use Rattle.flex_store.specs.Blocks.{contents, whole_words_of_bytes, block_holding, new_block, bytes_after_splice, bytes_taken_by, whole_words};
+ghost use Rattle.flex_store.specs.Relaid.{blocks_behind_first, blocks_after_removal, first_at, MayLie, Relaid, blocks_after_splice};
+ghost use Rattle.flex_store.specs.Splices.{size_after_splice, CanBytesMove, IsSplice, HasBytesForSizes};
 ghost use Rattle.flex_store.specs.State.{AreAnchorWords, IsText};
 
 use crate::shift::{Shift, splice_shifts};
@@ -16,12 +16,14 @@ use address_map::AddressMap;
 /// Changes a block's bytes, and moves those after it, up to `end`, to where the block then ends.
 fn respace(map: &mut AddressMap, contents: u32, size: u32, splice: &Splice, end: u32)
     requires splice { IsSplice splice.now size }
-    requires room { HasRoom (is_mapped map.old) contents size (size_after splice.now size) }
-    requires rest { IsRest (is_mapped map.old) (contents + whole_words size)
-        (contents + whole_words (size_after splice.now size)) end }
+    requires room { HasBytesForSizes (is_mapped map.old) contents size (size_after_splice splice.now size) }
+    requires rest { CanBytesMove (is_mapped map.old) (contents + whole_words size)
+        (contents + whole_words (size_after_splice splice.now size)) end }
     ensures bytes { (a : ℕ) → byte_at map.new a ≡ with_bytes_at (byte_at map.old) contents
-        (filled (spliced (bytes_between (byte_at map.old) contents size) splice.now.at splice.now.cut splice.now.more)
-        ++ bytes_between (byte_at map.old) (contents + whole_words size) (end - (contents + whole_words size))) a }
+        (whole_words_of_bytes (bytes_after_splice (bytes_between
+        (byte_at map.old) contents size) splice.now.at splice.now.cut splice.now.more)
+        ++ bytes_between (byte_at map.old) (contents + whole_words size)
+        (end - (contents + whole_words size))) a }
     ensures layout { layout map.new ≡ layout map.old }
     ensures marks { class_of map.new ≡ class_of map.old }
 {
@@ -40,12 +42,14 @@ fn respace(map: &mut AddressMap, contents: u32, size: u32, splice: &Splice, end:
 /// Changes the bytes of the block whose header is at `header`. Those after it, up to `end`, slide,
 /// and the anchors that lie in what moves with them.
 pub(crate) fn replace(map: &mut AddressMap, header: u32, splice: &Splice, end: u32)
-    requires text { IsText (bytes_of map.old) header end (first_at map.old header ∷ behind map.old header end) }
-    requires words { AreAnchorWords (is_mapped map.old) header end (first_at map.old header ∷ behind map.old header end) }
+    requires text { IsText (bytes_of map.old) header end
+        (first_at map.old header ∷ blocks_behind_first map.old header end) }
+    requires words { AreAnchorWords (is_mapped map.old) header end
+        (first_at map.old header ∷ blocks_behind_first map.old header end) }
     requires splice { IsSplice splice.now (first_at map.old header).size }
-    requires room { MayLie map.old header (replaced map.old header end splice.now) }
-    ensures { Relaid map.old map.new header (first_at map.old header ∷ behind map.old header end)
-        (replaced map.old header end splice.now) }
+    requires room { MayLie map.old header (blocks_after_splice map.old header end splice.now) }
+    ensures { Relaid map.old map.new header (first_at map.old header ∷ blocks_behind_first map.old header end)
+        (blocks_after_splice map.old header end splice.now) }
 {
     let size = word(map, header + SIZE);
     let new_size = splice.size_after(size) as u32;
@@ -61,11 +65,13 @@ pub(crate) fn replace(map: &mut AddressMap, header: u32, splice: &Splice, end: u
 /// Takes the block whose header is at `header` out of the text. Those after it, up to `end`, slide,
 /// and the anchors that lie in them with them.
 pub(crate) fn remove(map: &mut AddressMap, header: u32, end: u32)
-    requires text { IsText (bytes_of map.old) header end (first_at map.old header ∷ behind map.old header end) }
-    requires words { AreAnchorWords (is_mapped map.old) header end (first_at map.old header ∷ behind map.old header end) }
-    requires room { MayLie map.old header (closed map.old header end) }
-    ensures { Relaid map.old map.new header (first_at map.old header ∷ behind map.old header end)
-        (closed map.old header end) }
+    requires text { IsText (bytes_of map.old) header end
+        (first_at map.old header ∷ blocks_behind_first map.old header end) }
+    requires words { AreAnchorWords (is_mapped map.old) header end
+        (first_at map.old header ∷ blocks_behind_first map.old header end) }
+    requires room { MayLie map.old header (blocks_after_removal map.old header end) }
+    ensures { Relaid map.old map.new header (first_at map.old header ∷ blocks_behind_first map.old header end)
+        (blocks_after_removal map.old header end) }
 {
     let size = word(map, header + SIZE);
     let next = header + taken(u64::from(size)) as u32;

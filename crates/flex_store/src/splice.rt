@@ -4,8 +4,8 @@ ghost use Rattle.std.specs.Prelude.{ℕ, ◌≡◌, ◌≤◌, ◌<◌, ◌+◌,
 ghost use Rattle.address_map.specs.Bytes.{AreMapped, bytes_between, with_bytes_at};
 ghost use Rattle.address_map.specs.Memory.{anchor_of, byte_at, class_of, is_mapped, layout};
 ghost use Rattle.flex_store.specs.Calls.{breaks_anchor};
-ghost use Rattle.flex_store.specs.Blocks.{filled, spliced, taken, whole_words};
-ghost use Rattle.flex_store.specs.Splices.{size_after, IsSplice, HasRoom};
+ghost use Rattle.flex_store.specs.Blocks.{whole_words_of_bytes, bytes_after_splice, bytes_taken_by, whole_words};
+ghost use Rattle.flex_store.specs.Splices.{size_after_splice, IsSplice, HasBytesForSizes};
 
 use crate::walk::{HEADER, taken, whole_words};
 use address_map::AddressMap;
@@ -23,7 +23,7 @@ impl Splice {
     /// The size of a block after it.
     pub(crate) fn size_after(&self, size: u32) -> u64
         requires { IsSplice self.now size }
-        ensures { result ≡ size_after self.now size }
+        ensures { result ≡ size_after_splice self.now size }
     {
         u64::from(self.at - self.cut) + u64::from(self.more) + u64::from(size - self.at)
     }
@@ -33,7 +33,8 @@ impl Splice {
     pub(crate) fn breaks_anchor(&self, map: &AddressMap, contents: u32, size: u32) -> bool
         requires splice { IsSplice self.now size }
         requires low { contents + size ≤ 2 ^ 26 }
-        ensures { result ≡ breaks_anchor (anchor_of map.now) contents size self.now.at self.now.cut self.now.more }
+        ensures { result ≡ breaks_anchor
+            (anchor_of map.now) contents size self.now.at self.now.cut self.now.more }
     {
         let place = contents + self.at;
         if map.anchor_in(place - self.cut, self.cut) {
@@ -50,9 +51,9 @@ impl Splice {
 /// zero.
 pub(crate) fn splice_bytes(map: &mut AddressMap, contents: u32, size: u32, splice: &Splice)
     requires splice { IsSplice splice.now size }
-    requires room { HasRoom (is_mapped map.old) contents size (size_after splice.now size) }
+    requires room { HasBytesForSizes (is_mapped map.old) contents size (size_after_splice splice.now size) }
     ensures bytes { (a : ℕ) → byte_at map.new a ≡ with_bytes_at (byte_at map.old) contents
-        (filled (spliced (bytes_between (byte_at map.old) contents size)
+        (whole_words_of_bytes (bytes_after_splice (bytes_between (byte_at map.old) contents size)
         splice.now.at splice.now.cut splice.now.more)) a }
     ensures layout { layout map.new ≡ layout map.old }
     ensures marks { class_of map.new ≡ class_of map.old }

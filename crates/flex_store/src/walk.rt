@@ -5,7 +5,7 @@ ghost use Rattle.std.specs.Prelude.{ℕ, ◌≡◌, ◌≤◌, ◌<◌, ◌+◌,
 ghost use Rattle.address_map.specs.Bytes.{word_at};
 ghost use Rattle.address_map.specs.Memory.{byte_at, bytes_of, class_of, is_mapped, layout};
 ghost use Rattle.address_map.specs.declared.class.Class.TheVariants.{Anchor, FlexHeader, Plain};
-ghost use Rattle.flex_store.specs.Blocks.{is_in_contents, taken, whole_words};
+ghost use Rattle.flex_store.specs.Blocks.{is_in_contents, bytes_taken_by, whole_words};
 ghost use Rattle.flex_store.specs.Marks.{with_marks};
 ghost use Rattle.flex_store.specs.Memory.{blocks_in, laid_out};
 ghost use Rattle.flex_store.specs.Shifts.{following, AreShort};
@@ -42,7 +42,7 @@ pub(crate) fn whole_words(size: u64) -> u64
 /// The bytes that a block of some size takes up, those of its header too.
 pub(crate) fn taken(size: u64) -> u64
     requires { size < 2 ^ 33 }
-    ensures { result ≡ taken size }
+    ensures { result ≡ bytes_taken_by size }
 {
     u64::from(HEADER) + whole_words(size)
 }

@@ -11,39 +11,39 @@ pub record Entry : Type 0 where
   pub bytes : List ℕ
 
 -- the bytes of the image of that name
-abbrev pub bytes_of : List Entry → List ℕ → Option (List ℕ)
-bytes_of [] name = None
-bytes_of (e ∷ es) name = if bytes_eq e.name name then Some e.bytes else bytes_of es name
+abbrev pub bytes_of_image : List Entry → List ℕ → Option (List ℕ)
+bytes_of_image [] name = None
+bytes_of_image (e ∷ es) name = if bytes_eq e.name name then Some e.bytes else bytes_of_image es name
 
 -- the list with one more image at its end
 abbrev pub with_entry : List Entry → List ℕ → List ℕ → List Entry
 with_entry entries name bytes = entries ++ record { name = name; bytes = bytes } ∷ []
 
 -- the bytes that may stand in a name: printing ASCII characters other than the space
-abbrev pub is_name_byte : ℕ → Bool
-is_name_byte byte = nat_le 33 byte && nat_le byte 126
+abbrev pub is_image_name_byte : ℕ → Bool
+is_image_name_byte byte = nat_le 33 byte && nat_le byte 126
 
 -- an image's name: 1 to 63 such bytes
-abbrev pub is_name : List ℕ → Bool
-is_name name = nat_le 1 (length name) && nat_le (length name) 63 && list_all is_name_byte name
+abbrev pub can_name_image : List ℕ → Bool
+can_name_image name = nat_le 1 (length name) && nat_le (length name) 63 && list_all is_image_name_byte name
 
 -- Why an image of that name and of so many bytes is refused: the first reason of a fixed order.
 abbrev pub refusal_for : List Entry → List ℕ → ℕ → Option ImageError
 refusal_for entries name len =
-    if not (is_name name) then Some BadName else (
-    if is_some (bytes_of entries name) then Some NameTaken else (
+    if not (can_name_image name) then Some BadName else (
+    if is_some (bytes_of_image entries name) then Some NameTaken else (
     if nat_lt 1048576 len then Some TooLarge else (
     if nat_le 64 (length entries) then Some TableFull else
     None)))
 
 -- no two images have one name
-abbrev pub AreDistinct : List Entry → Type 0
-AreDistinct [] = Unit {0}
-AreDistinct (e ∷ es) = (bytes_of es e.name ≡ None) × AreDistinct es
+abbrev pub HaveDistinctNames : List Entry → Type 0
+HaveDistinctNames [] = Unit {0}
+HaveDistinctNames (e ∷ es) = (bytes_of_image es e.name ≡ None) × HaveDistinctNames es
 
 -- an image that `refusal_for` lets in
 pub record IsImage (e : Entry) : Type 0 where
-  pub named : is_name e.name ≡ true
+  pub named : can_name_image e.name ≡ true
   pub in_limit : length e.bytes ≤ 1048576
 
 abbrev pub AreImages : List Entry → Type 0
@@ -51,7 +51,7 @@ AreImages [] = Unit {0}
 AreImages (e ∷ es) = IsImage e × AreImages es
 
 -- what is true of every `Images`
-pub record IsTable (entries : List Entry) : Type 0 where
-  pub distinct : AreDistinct entries
+pub record IsImageTable (entries : List Entry) : Type 0 where
+  pub distinct : HaveDistinctNames entries
   pub images : AreImages entries
   pub in_limit : length entries ≤ 64

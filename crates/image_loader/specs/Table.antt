@@ -8,8 +8,8 @@ abbrev pub entry_bytes : Option (Vec ℕ) → List ℕ
 entry_bytes None = []
 entry_bytes (Some bytes) = bytes.items
 
-abbrev pub entry_of : Image → Entry
-entry_of image = record { name = image.name.items; bytes = entry_bytes image.bytes }
+abbrev pub entry_of_image : Image → Entry
+entry_of_image image = record { name = image.name.items; bytes = entry_bytes image.bytes }
 
 abbrev pub entries_of : List Image → List Entry
-entries_of images = map entry_of images
+entries_of images = map entry_of_image images

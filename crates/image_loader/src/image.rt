@@ -14,12 +14,13 @@ pub(crate) struct Image {
 }
 
 impl Image {
-    ghost use Rattle.image_loader.specs.Table.{entry_bytes, entry_of};
+    ghost use Rattle.image_loader.specs.Table.{entry_bytes, entry_of_image};
 
     /// A copy of name and bytes.
     pub(crate) fn new(alloc: Global, name: &[u8], bytes: &[u8]) -> Result<Image, AllocError>
         requires { length name.now ≤ 63 }
-        ensures { IfOk result (λ image. entry_of image ≡ record { name = name.now; bytes = bytes.now }) }
+        ensures { IfOk result (λ image. entry_of_image image
+            ≡ record { name = name.now; bytes = bytes.now }) }
     {
         let copy = Vec::from_slice(alloc, bytes)?;
         let mut short = ArrayVec::new();

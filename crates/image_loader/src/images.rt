@@ -2,7 +2,7 @@
 
 ghost use Rattle.std.specs.Prelude.{◌≡◌, ◌≤◌, [], length, MatchOption, IfOk, OnOk, OnErr, IsOkUnless, option_map};
 ghost use Rattle.std.specs.List.{list_all};
-ghost use Rattle.image_loader.specs.Entries.{bytes_of, is_name, is_name_byte, refusal_for, with_entry, IsTable};
+ghost use Rattle.image_loader.specs.Entries.{bytes_of_image, can_name_image, is_image_name_byte, refusal_for, with_entry, IsImageTable};
 ghost use Rattle.image_loader.specs.Table.{entries_of};
 
 use crate::error::ImageError;
@@ -29,14 +29,14 @@ pub struct Images {
 
 impl Model for Images {
     ghost use Rattle.std.specs.Prelude.{List};
-    ghost use Rattle.image_loader.specs.Entries.{Entry, IsTable};
+    ghost use Rattle.image_loader.specs.Entries.{Entry, IsImageTable};
     ghost use Rattle.image_loader.specs.Table.{entries_of};
 
     ghost Value = { List Entry };
 
     ghost view = { λ t. entries_of t.list.items };
 
-    ghost invariant = { λ t. IsTable (entries_of t.list.items) };
+    ghost invariant = { λ t. IsImageTable (entries_of t.list.items) };
 }
 
 impl Images {
@@ -51,8 +51,8 @@ impl Images {
 
     /// The bytes of the image of that name, if there is one.
     pub fn get(&self, name: &[u8]) -> Option<&[u8]>
-        ensures bytes { option_map (λ bytes. bytes.now) result ≡ bytes_of self.now name.now }
-        ensures table { IsTable self.now }
+        ensures bytes { option_map (λ bytes. bytes.now) result ≡ bytes_of_image self.now name.now }
+        ensures table { IsImageTable self.now }
     {
         find(self.list.as_slice(), name)
     }
@@ -96,19 +96,19 @@ impl Images {
 
 /// Whether a text can name an image.
 pub fn is_image_name(name: &[u8]) -> bool
-    ensures { result ≡ is_name name.now }
+    ensures { result ≡ can_name_image name.now }
 {
     !name.is_empty() && name.len() <= MOST_NAME_BYTES && are_name_bytes(name)
 }
 
 fn are_name_bytes(name: &[u8]) -> bool
-    ensures { result ≡ list_all is_name_byte name.now }
+    ensures { result ≡ list_all is_image_name_byte name.now }
 {
     name.iter().all(|byte| byte.is_ascii_graphic())
 }
 
 fn find<'a>(images: &'a [Image], name: &[u8]) -> Option<&'a [u8]>
-    ensures { option_map (λ bytes. bytes.now) result ≡ bytes_of (entries_of images.now) name.now }
+    ensures { option_map (λ bytes. bytes.now) result ≡ bytes_of_image (entries_of images.now) name.now }
 {
     for image in images {
         if image.name.as_slice() == name {

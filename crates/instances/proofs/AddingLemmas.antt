@@ -11,21 +11,21 @@ use Rattle.instances_plans.specs.module_header.specs.Header.{header_of}
 use Rattle.instances_plans.specs.module_header.specs.declared.fault.HeaderFault.{HeaderFault}
 use Rattle.instances_plans.specs.module_header.specs.declared.fault.HeaderFault.TheVariants.{Short}
 use Rattle.instances_plans.specs.module_header.specs.declared.header.Header.{Header}
-use Rattle.instances_slide.specs.os_heap_lists.specs.Lists.{total_for}
-use Rattle.instances_slide.specs.os_heap.proofs.RangeTests.{are_mapped_all, clear_of_heaps}
-use Rattle.instances_slide.specs.os_heap.specs.Ranges.{are_mapped}
-use Rattle.instances_slide.specs.os_heap.specs.Store.{Store, has_image, is_image}
-use Rattle.instances_slide.specs.dynamic_areas.specs.Ground.{Estate, IsEstate}
-use Rattle.instances_slide.specs.rma.specs.Copies.{has_bare, may_be_copied}
-use Rattle.instances_slide.specs.flex_kept.specs.Keeping.{is_in_record}
-use Rattle.instances_slide.specs.rma.specs.NewImages.{image_record, may_be_in_place, with_image_in_place}
-use Rattle.instances_slide.specs.rma.proofs.InPlaceLemmas.{MayBe, may_be}
+use Rattle.module_tidy.specs.os_heap_lists.specs.Lists.{total_for}
+use Rattle.module_tidy.specs.os_heap.proofs.RangeTests.{are_mapped_all, clear_of_heaps}
+use Rattle.module_tidy.specs.os_heap.specs.Ranges.{are_bytes_mapped}
+use Rattle.module_tidy.specs.os_heap.specs.Store.{Store, has_image, is_image}
+use Rattle.module_tidy.specs.dynamic_areas.specs.Ground.{Estate, IsEstate}
+use Rattle.module_tidy.specs.rma.specs.Copies.{has_bare, may_be_copied}
+use Rattle.module_tidy.specs.flex_frame.specs.Keeping.{is_in_record}
+use Rattle.module_tidy.specs.rma.specs.NewImages.{image_record, may_be_in_place, with_image_in_place}
+use Rattle.module_tidy.specs.rma.proofs.InPlaceLemmas.{MayBe, may_be}
 use Rattle.instances_table.specs.ModuleArea.{is_in_module_area}
 use Rattle.instances_table.specs.declared.parts.Image.{Image}
-use Rattle.instances_slide.specs.instances_ground.specs.Sound.{AreSolid, IsWorld, range_of, recorded_len}
-use Rattle.instances_slide.specs.instances_ground.specs.World.{World}
-use Rattle.instances_slide.specs.instances_ground.proofs.AreaLemmas.{stays_outside}
-use Rattle.instances_slide.specs.instances_ground.proofs.Worlds.{world_more}
+use Rattle.module_tidy.specs.module_world.specs.Sound.{AreSolid, IsWorld, range_of, recorded_len}
+use Rattle.module_tidy.specs.module_world.specs.World.{World}
+use Rattle.module_tidy.specs.module_world.proofs.AreaLemmas.{stays_outside}
+use Rattle.module_tidy.specs.module_world.proofs.Worlds.{world_more}
 use Rattle.instances.specs.Adding.{good_header}
 
 -- where no record lies no image begins, since none is empty
@@ -87,4 +87,4 @@ header_some f at len = go (header_of (bytes_between f at len)) refl where
 -- a range that may be copied is mapped
 pub copied_mapped : (e : Estate) (at len : ℕ) → may_be_copied e at len ≡ true → AreMapped e.store.bytes.mapped at len
 copied_mapped e at len may =
-    are_mapped_all e.store.bytes.mapped at len (and_parts (are_mapped e.store.bytes.mapped at len) (not (has_bare e at len)) may).0
+    are_mapped_all e.store.bytes.mapped at len (and_parts (are_bytes_mapped e.store.bytes.mapped at len) (not (has_bare e at len)) may).0

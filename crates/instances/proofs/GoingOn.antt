@@ -8,20 +8,20 @@ use Rattle.profile.specs.Outcome.{Leaves, bind}
 use Rattle.profile.specs.declared.error.ErrorNumber.{ErrorNumber}
 use Rattle.profile.specs.declared.error.ErrorNumber.TheVariants.{InstanceExists}
 use Rattle.instances_plans.specs.module_header.specs.declared.header.Header.{Header}
-use Rattle.instances_slide.specs.dynamic_areas.specs.Ground.{Estate, IsEstate}
-use Rattle.instances_plans.specs.declared.action.Action.{Action}
-use Rattle.instances_plans.specs.declared.action.Action.TheVariants.{Finalise, Remove, FreePrivate, Insert, Instantiate, GiveUp, Slide, Initialise}
+use Rattle.module_tidy.specs.dynamic_areas.specs.Ground.{Estate, IsEstate}
+use Rattle.instances_plans.specs.declared.action.PlanAction.{PlanAction}
+use Rattle.instances_plans.specs.declared.action.PlanAction.TheVariants.{Finalise, Remove, FreePrivate, Insert, Instantiate, GiveUp, Slide, Initialise}
 use Rattle.instances_plans.specs.declared.given.Given.{Given}
 use Rattle.instances_plans.specs.Doable.{IsDoable}
-use Rattle.instances_plans.specs.Plans.{Plan, first_of}
+use Rattle.instances_plans.specs.Plans.{Plan, first_action}
 use Rattle.instances_table.specs.declared.parts.Image.{Image}
-use Rattle.instances_table.specs.Changes.{is_named, named, preferring, renamed, with_name, with_names, with_preferred}
+use Rattle.instances_table.specs.Changes.{is_named, modules_with_names, preferring, modules_after_rename, with_name, with_names, with_preferred}
 use Rattle.instances_table.specs.Lookup.{place_meant, slot_at}
 use Rattle.instances_table.specs.Modules.{Instance, Module, changed_at, slots_of}
-use Rattle.instances_table.specs.Names.{name_given, new_name, parted}
-use Rattle.instances_slide.specs.instances_ground.specs.Sound.{IsWorld, images_of}
-use Rattle.instances_slide.specs.instances_ground.specs.World.{World}
-use Rattle.instances_slide.specs.instances_ground.proofs.Worlds.{world_kept, world_renewed}
+use Rattle.instances_table.specs.Names.{name_given, new_name, full_name_parts}
+use Rattle.module_tidy.specs.module_world.specs.Sound.{IsWorld, images_of}
+use Rattle.module_tidy.specs.module_world.specs.World.{World}
+use Rattle.module_tidy.specs.module_world.proofs.Worlds.{world_kept, world_renewed}
 use Rattle.instances_actions.specs.Pending.{IsSettledOnce, pending_of, slots_titled}
 use Rattle.instances_actions.specs.Ready.{CanNameFirst, IsReady, instantiates}
 use Rattle.instances_actions.proofs.Slots.{slots_in}
@@ -75,7 +75,7 @@ slots_named slot name (i ∷ is) = elim (cases_Bool (i.slot == slot)) [
   | inr e ↦ rw e (ap (λ (xs : List ℕ). i.slot ∷ xs) (slots_named slot name is))
 ]
 
-named_alike : (slot : ℕ) (name : List ℕ) (ms : List Module) → KeepsSlots ms (named slot name ms)
+named_alike : (slot : ℕ) (name : List ℕ) (ms : List Module) → KeepsSlots ms (modules_with_names slot name ms)
 named_alike slot name ms =
     map_alike (with_names slot name) ms (λ m. record { header = refl; image = refl; slots = slots_named slot name m.instances })
 
@@ -98,26 +98,26 @@ left_alike old new (Err f) (Err e) keeps left = subst (KeepsSlots old) (sym left
 left_alike old new (Ok s) (Err e) keeps left = absurd left
 left_alike old new (Err f) (Ok u) keeps left = absurd left
 
-renamed_alike : (ms : List Module) (full new : List ℕ) → IfOk (renamed ms full new) (KeepsSlots ms)
-unfolding renamed
+renamed_alike : (ms : List Module) (full new : List ℕ) → IfOk (modules_after_rename ms full new) (KeepsSlots ms)
+unfolding modules_after_rename
 renamed_alike ms full new =
-    bound (KeepsSlots ms) (name_given (parted full).name) _ (λ old.
+    bound (KeepsSlots ms) (name_given (full_name_parts full).name) _ (λ old.
     bound (KeepsSlots ms) (new_name new) _ (λ name.
-    bound (KeepsSlots ms) (place_meant (parted full) ms) _ (λ place.
+    bound (KeepsSlots ms) (place_meant (full_name_parts full) ms) _ (λ place.
     bound (KeepsSlots ms) (slot_at ms place) _ (λ slot.
-    unless_taken (KeepsSlots ms) (is_named name (slice_get ms place.number)) InstanceExists (named slot name ms) (named_alike slot name ms)))))
+    unless_taken (KeepsSlots ms) (is_named name (slice_get ms place.number)) InstanceExists (modules_with_names slot name ms) (named_alike slot name ms)))))
 
 preferring_alike : (ms : List Module) (full : List ℕ) → IfOk (preferring ms full) (KeepsSlots ms)
 unfolding preferring
 preferring_alike ms full =
-    bound (KeepsSlots ms) (name_given (parted full).name) _ (λ name.
-    bound (KeepsSlots ms) (place_meant (parted full) ms) _ (λ place.
+    bound (KeepsSlots ms) (name_given (full_name_parts full).name) _ (λ name.
+    bound (KeepsSlots ms) (place_meant (full_name_parts full) ms) _ (λ place.
     bound (KeepsSlots ms) (slot_at ms place) _ (λ slot.
     preferred_alike place.number slot ms)))
 
 -- While module code runs the first action has it, so that no instantiation is left whose name the
 -- modules must leave free.
-names_none : (a : Action) → calls_module (Some a) ≡ true → instantiates a ≡ false
+names_none : (a : PlanAction) → calls_module (Some a) ≡ true → instantiates a ≡ false
 names_none (Finalise s f) calls = refl
 names_none (Remove s) calls = refl
 names_none (FreePrivate s) calls = refl
@@ -127,12 +127,12 @@ names_none GiveUp calls = refl
 names_none Slide calls = refl
 names_none (Initialise s) calls = refl
 
-names_kept : (g : Given) (old new : List Module) (actions : List Action) → calls_module (first_of actions) ≡ true → CanNameFirst g old actions
+names_kept : (g : Given) (old new : List Module) (actions : List PlanAction) → calls_module (first_action actions) ≡ true → CanNameFirst g old actions
     → CanNameFirst g new actions
 names_kept g old new [] calls names = tt
 names_kept g old new (a ∷ others) calls names = (names.0, λ is. absurd (false≢true (sym (names_none a calls) ∙ is)))
 
-ready_kept : (old new : List Module) (p : Plan) → KeepsSlots old new → calls_module (first_of p.actions) ≡ true → IsReady old p → IsReady new p
+ready_kept : (old new : List Module) (p : Plan) → KeepsSlots old new → calls_module (first_action p.actions) ≡ true → IsReady old p → IsReady new p
 ready_kept old new p keeps calls ready = record {
   doable = subst (λ (xs : List ℕ). IsDoable xs p) (sym keeps.slots) ready.doable;
   settles = subst (λ (xs : List ℕ). IsSettledOnce xs p) (sym (keeps.titled p.given.header.title.items)) ready.settles;
@@ -162,18 +162,18 @@ goes_on_alike : (old new : List Module) → KeepsSlots old new → (e : Estate) 
 goes_on_alike old new keeps e plan going =
     going_alike (record { estate = e; modules = old }) (record { estate = e; modules = new }) plan refl keeps going
 
-pub rename_goes_on : (old new : List Module) (full name : List ℕ) (r : Result (Unit {0}) ErrorNumber) → Leaves old (renamed old full name) r new
+pub rename_goes_on : (old new : List Module) (full name : List ℕ) (r : Result (Unit {0}) ErrorNumber) → Leaves old (modules_after_rename old full name) r new
     → (e : Estate) (plan : Option Plan) → MayGoOn (record { estate = e; modules = old }) plan → MayGoOn (record { estate = e; modules = new }) plan
-rename_goes_on old new full name r left = goes_on_alike old new (left_alike old new (renamed old full name) r (renamed_alike old full name) left)
+rename_goes_on old new full name r left = goes_on_alike old new (left_alike old new (modules_after_rename old full name) r (renamed_alike old full name) left)
 
 pub prefer_goes_on : (old new : List Module) (full : List ℕ) (r : Result (Unit {0}) ErrorNumber) → Leaves old (preferring old full) r new
     → (e : Estate) (plan : Option Plan) → MayGoOn (record { estate = e; modules = old }) plan → MayGoOn (record { estate = e; modules = new }) plan
 prefer_goes_on old new full r left = goes_on_alike old new (left_alike old new (preferring old full) r (preferring_alike old full) left)
 
 -- and keeps the slots
-pub rename_keeps_slots : (old new : List Module) (full name : List ℕ) (r : Result (Unit {0}) ErrorNumber) → Leaves old (renamed old full name) r new
+pub rename_keeps_slots : (old new : List Module) (full name : List ℕ) (r : Result (Unit {0}) ErrorNumber) → Leaves old (modules_after_rename old full name) r new
     → slots_of new ≡ slots_of old
-rename_keeps_slots old new full name r left = (left_alike old new (renamed old full name) r (renamed_alike old full name) left).slots
+rename_keeps_slots old new full name r left = (left_alike old new (modules_after_rename old full name) r (renamed_alike old full name) left).slots
 
 pub prefer_keeps_slots : (old new : List Module) (full : List ℕ) (r : Result (Unit {0}) ErrorNumber) → Leaves old (preferring old full) r new
     → slots_of new ≡ slots_of old

@@ -6,18 +6,18 @@ use Rattle.std.proofs.lemmas.Bool.{cases_Bool}
 use Rattle.std.proofs.lemmas.Option.{IfSome_then}
 use Rattle.instances_plans.specs.Doable.{is_used}
 use Rattle.instances_table.specs.declared.parts.Handler.{Handler}
-use Rattle.instances_table.specs.Changes.{is_held}
+use Rattle.instances_table.specs.Changes.{is_slot_held}
 use Rattle.instances_table.specs.Lookup.{handled_at, handled_in, handler_of, has_call}
 use Rattle.instances_table.specs.Modules.{AreModules, EachIsModule, Module, has_instance, slots_of}
 use Rattle.instances_actions.proofs.Slots.{used_slots}
 
-held_before : (m : Module) (ms : List Module) (h : Handler) → is_held h.slot ms ≡ true → is_held h.slot (m ∷ ms) ≡ true
+held_before : (m : Module) (ms : List Module) (h : Handler) → is_slot_held h.slot ms ≡ true → is_slot_held h.slot (m ∷ ms) ≡ true
 held_before m ms h held = elim (cases_Bool (has_instance h.slot m)) [
   | inl here ↦ rw here refl
   | inr not ↦ rw not held
 ]
 
-held_at : (ms : List Module) (number : ℕ) → EachIsModule ms → IfSome (option_map handled_in (slice_get ms number)) (λ (h : Handler). is_held h.slot ms ≡ true)
+held_at : (ms : List Module) (number : ℕ) → EachIsModule ms → IfSome (option_map handled_in (slice_get ms number)) (λ (h : Handler). is_slot_held h.slot ms ≡ true)
 held_at [] number each = tt
 held_at (m ∷ ms) zero each = rw each.0.preferred refl
 held_at (m ∷ ms) (suc number) each = IfSome_then (option_map handled_in (slice_get ms number)) (held_at ms number each.1) (held_before m ms)

@@ -1,2 +1,2 @@
 -- What keeps the flex store where nothing happens to it.
-pub use Rattle.instances_slide.specs.flex_kept.proofs.Keeping.{keeps_same}
+pub use Rattle.module_tidy.specs.flex_frame.proofs.Keeping.{keeps_same}

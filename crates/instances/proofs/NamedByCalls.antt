@@ -10,24 +10,24 @@ use Rattle.address_map.specs.Bytes.{bytes_between}
 use Rattle.instances_plans.specs.module_header.specs.declared.fault.HeaderFault.{HeaderFault}
 use Rattle.instances_plans.specs.module_header.specs.declared.header.Header.{Header}
 use Rattle.instances_plans.specs.module_header.specs.Header.{header_of}
-use Rattle.instances_slide.specs.rma.specs.Calls.{with_store}
-use Rattle.instances_slide.specs.rma.specs.Copies.{may_be_copied}
-use Rattle.instances_slide.specs.rma.specs.NewImages.{image_copied, image_made, may_be_in_place, with_image_in_place}
-use Rattle.instances_plans.specs.declared.action.Action.{Action}
-use Rattle.instances_plans.specs.declared.action.Action.TheVariants.{GiveUp, Initialise, Insert}
+use Rattle.module_tidy.specs.rma.specs.Calls.{with_store}
+use Rattle.module_tidy.specs.rma.specs.Copies.{may_be_copied}
+use Rattle.module_tidy.specs.rma.specs.NewImages.{image_copied, image_made, may_be_in_place, with_image_in_place}
+use Rattle.instances_plans.specs.declared.action.PlanAction.{PlanAction}
+use Rattle.instances_plans.specs.declared.action.PlanAction.TheVariants.{GiveUp, Initialise, Insert}
 use Rattle.instances_plans.specs.Calls.{clear_actions, delete_plan, reinit_plan}
 use Rattle.instances_plans.specs.Doable.{CanDo, IsDoable, is_used, without, without_all}
 use Rattle.instances_plans.specs.Plans.{Plan}
 use Rattle.instances_table.specs.declared.parts.Image.{Image}
 use Rattle.instances_table.specs.declared.parts.Place.{Place}
-use Rattle.instances_table.specs.Changes.{instance_room, titled}
+use Rattle.instances_table.specs.Changes.{instance_room, modules_of_title}
 use Rattle.instances_table.specs.Lookup.{looked_up, module_at, slot_at}
 use Rattle.instances_table.specs.Modules.{Module, slots_of}
-use Rattle.instances_slide.specs.instances_ground.specs.World.{World}
+use Rattle.module_tidy.specs.module_world.specs.World.{World}
 use Rattle.instances_actions.specs.Ready.{IsReady}
 use Rattle.instances_actions.proofs.Used.{others_stay}
 use Rattle.instances.specs.Adding.{adding_plan, copying, good_header, inserting, instantiation, loading, slot_for}
-use Rattle.instances.specs.Given.{given_only, is_too_long}
+use Rattle.instances.specs.Given.{given_only, is_text_too_long}
 use Rattle.instances.specs.Naming.{NamesOnly, NamesTitled, slots_of_actions}
 use Rattle.instances.specs.Plans.{deletion, reinitialisation}
 use Rattle.instances.specs.Reading.{slot_meant}
@@ -49,12 +49,12 @@ still_there s (o ∷ os) used none there =
     still_there s os (without o used) parts.1 (others_stay o s used parts.0 ∙ there)
 
 -- a plan that clears some slots, and then adds an instance in another that is free by then
-added_free : (used old : List ℕ) (instead : List Action) (slot : ℕ) → CanDo used instead (clear_actions old ++ Insert slot ∷ Initialise slot ∷ [])
+added_free : (used old : List ℕ) (instead : List PlanAction) (slot : ℕ) → CanDo used instead (clear_actions old ++ Insert slot ∷ Initialise slot ∷ [])
     → is_used slot (without_all old used) ≡ false
 added_free used [] instead slot can = can.0
 added_free used (o ∷ os) instead slot can = added_free (without o used) os instead slot can.1.1.1
 
-none_cleared : (s : ℕ) (old : List ℕ) (others : List Action) → is_used s old ≡ false → is_used s (slots_of_actions others) ≡ false
+none_cleared : (s : ℕ) (old : List ℕ) (others : List PlanAction) → is_used s old ≡ false → is_used s (slots_of_actions others) ≡ false
     → is_used s (slots_of_actions (clear_actions old ++ others)) ≡ false
 none_cleared s [] others none rest = rest
 none_cleared s (o ∷ os) others none rest =
@@ -67,9 +67,9 @@ without_end (x ∷ xs) = ap (λ (ys : List ℕ). x ∷ ys) (without_end xs)
 
 adding_names : (ms : List Module) (header : Header) (image : Image) (text : List ℕ) (slot : ℕ)
     → IsDoable (slots_of ms) (adding_plan ms header image text slot)
-    → NamesOnly (slots_of (titled header.title.items ms)) ms (adding_plan ms header image text slot)
+    → NamesOnly (slots_of (modules_of_title header.title.items ms)) ms (adding_plan ms header image text slot)
 adding_names ms header image text slot can s there none =
-    let old = slots_of (titled header.title.items ms) in
+    let old = slots_of (modules_of_title header.title.items ms) in
     let apart : (slot == s) ≡ false =
     apart_used s slot (without_all old (slots_of ms)) (still_there s old (slots_of ms) none there) (added_free (slots_of ms) old (GiveUp ∷ []) slot can) in
     ap (is_used s) (without_end (slots_of_actions (clear_actions old ++ Insert slot ∷ Initialise slot ∷ [])))
@@ -87,7 +87,7 @@ ReadyTitled ms h r = IsReady ms r.1 → NamesTitled ms r.1 h
 pub loading_names : (w : World) (image text : List ℕ) → IfOk (loading w image text) (ReadyTitled w.modules (header_of image))
 unfolding loading
 loading_names w image text =
-    unless (ReadyTitled w.modules (header_of image)) (is_too_long text) BadString _ (by (header_of image)) where
+    unless (ReadyTitled w.modules (header_of image)) (is_text_too_long text) BadString _ (by (header_of image)) where
       by : (h : Result Header HeaderFault) → IfOk (bind (good_header h) (λ header.
           bind (slot_for w.modules header) (λ slot.
           bind (image_made w.estate image) (λ made.
@@ -158,7 +158,7 @@ deletion_names ms full = by (looked_up ms full) where
 
 pub reinitialisation_names : (ms : List Module) (full text : List ℕ) → IfOk (slot_meant ms full) (NamesOne ms (reinitialisation ms full text))
 unfolding reinitialisation slot_meant
-reinitialisation_names ms full text = kept (is_too_long text) (bind (looked_up ms full) (λ place. slot_at ms place)) _ (by (looked_up ms full)) where
+reinitialisation_names ms full text = kept (is_text_too_long text) (bind (looked_up ms full) (λ place. slot_at ms place)) _ (by (looked_up ms full)) where
   kept : (t : Bool) (meant : Result ℕ ErrorNumber) (r : Result Plan ErrorNumber) → IfOk meant (NamesOne ms r)
       → IfOk meant (NamesOne ms (if t then Err BadString else r))
   kept t (Err e) r names = tt
@@ -181,7 +181,7 @@ NamesNone ms p = IsReady ms p → NamesOnly [] ms p
 pub instantiation_names : (ms : List Module) (full text : List ℕ) → IfOk (instantiation ms full text) (NamesNone ms)
 unfolding instantiation
 instantiation_names ms full text =
-    unless (NamesNone ms) (is_too_long text) BadString _
+    unless (NamesNone ms) (is_text_too_long text) BadString _
     (bound (NamesNone ms) (instance_room ms full) _ (λ new.
     bound (NamesNone ms) (module_at ms new.number) _ (λ m ready s there none.
     rw (apart_used s new.slot (slots_of ms) there ready.doable.0) refl)))

@@ -1,41 +1,41 @@
 -- The code that a call that is carried on enters next: that of the first action that is left.
 use Rattle.std.proofs.Common.{◌≡◌, Some, None, List, [], ◌∷◌, refl, ap, subst, ◌∙◌}
 use Rattle.std.specs.Prelude.{Option}
-use Rattle.instances_plans.specs.declared.action.Action.{Action}
+use Rattle.instances_plans.specs.declared.action.PlanAction.{PlanAction}
 use Rattle.instances_plans.specs.declared.code.Code.{Code}
 use Rattle.instances_plans.specs.declared.given.Given.{Given}
-use Rattle.instances_plans.specs.Carrying.{Carried, carried, carried_by, carried_from}
-use Rattle.instances_plans.specs.Plans.{Plan, first_of}
+use Rattle.instances_plans.specs.Carrying.{Carried, carry_of_plan, carried_by, carried_from}
+use Rattle.instances_plans.specs.Plans.{Plan, first_action}
 use Rattle.instances_table.specs.Modules.{Module}
-use Rattle.instances_slide.specs.instances_ground.specs.World.{World}
-use Rattle.instances_actions.specs.Actions.{acted}
+use Rattle.module_tidy.specs.module_world.specs.World.{World}
+use Rattle.instances_actions.specs.Actions.{world_after_action}
 use Rattle.instances_actions.specs.Codes.{code_among}
-use Rattle.instances_slide.specs.Slid.{world_slid}
+use Rattle.module_tidy.specs.Slid.{world_slid}
 use Rattle.instances.specs.Turns.{code_called, module_doing}
 use Rattle.instances.proofs.Turning.{calls_by, same_modules}
 
 -- an action with code has the same code after its own part
-code_stays : (g : Given) (a : Action) (w : World) (code : Code) → code_among w.modules a ≡ Some code
-    → code_among (acted world_slid g w a).modules a ≡ Some code
+code_stays : (g : Given) (a : PlanAction) (w : World) (code : Code) → code_among w.modules a ≡ Some code
+    → code_among (world_after_action world_slid g w a).modules a ≡ Some code
 code_stays g a w code is = ap (λ (ms : List Module). code_among ms a) (same_modules g a w (calls_by w.modules a code is)) ∙ is
 
-code_by : (w : World) (p : Plan) (a : Action) (others : List Action) (o : Option Code) (on : World → Plan → Carried World) (code : Code)
+code_by : (w : World) (p : Plan) (a : PlanAction) (others : List PlanAction) (o : Option Code) (on : World → Plan → Carried World) (code : Code)
     → code_among w.modules a ≡ o
-    → ((v : World) (q : Plan) → (on v q).code ≡ Some code → code_called (on v q).world.modules (first_of (on v q).rest.actions) ≡ Some code)
+    → ((v : World) (q : Plan) → (on v q).code ≡ Some code → code_called (on v q).world.modules (first_action (on v q).rest.actions) ≡ Some code)
     → (carried_by module_doing w p a others o on).code ≡ Some code
-    → (let c = carried_by module_doing w p a others o on in code_called c.world.modules (first_of c.rest.actions) ≡ Some code)
+    → (let c = carried_by module_doing w p a others o on in code_called c.world.modules (first_action c.rest.actions) ≡ Some code)
 code_by w p a others (Some c) on code is later has = code_stays p.given a w code (is ∙ has)
 code_by w p a others None on code is later has = later _ _ has
 
-code_from : (actions : List Action) (w : World) (p : Plan) (code : Code) → (carried_from module_doing actions w p).code ≡ Some code
-    → (let c = carried_from module_doing actions w p in code_called c.world.modules (first_of c.rest.actions) ≡ Some code)
+code_from : (actions : List PlanAction) (w : World) (p : Plan) (code : Code) → (carried_from module_doing actions w p).code ≡ Some code
+    → (let c = carried_from module_doing actions w p in code_called c.world.modules (first_action c.rest.actions) ≡ Some code)
 code_from [] w p code has = cc
 code_from (a ∷ others) w p code has =
     code_by w p a others (code_among w.modules a) (carried_from module_doing others) code refl (λ v q later. code_from others v q code later) has
 
 pub code_is_first : (w v : World) (p q : Plan) (o : Option Code) (code : Code)
-    → carried module_doing w p ≡ record { world = v; rest = q; code = o } → o ≡ Some code → code_called v.modules (first_of q.actions) ≡ Some code
-unfolding carried
+    → carry_of_plan module_doing w p ≡ record { world = v; rest = q; code = o } → o ≡ Some code → code_called v.modules (first_action q.actions) ≡ Some code
+unfolding carry_of_plan
 code_is_first w v p q o code is has =
-    subst (λ (x : Carried World). code_called x.world.modules (first_of x.rest.actions) ≡ Some code) is
+    subst (λ (x : Carried World). code_called x.world.modules (first_action x.rest.actions) ≡ Some code) is
     (code_from p.actions w p code (ap (λ (x : Carried World). x.code) is ∙ has))

@@ -11,16 +11,16 @@ use Rattle.profile.specs.Outcome.{bind}
 use Rattle.profile.specs.declared.error.ErrorNumber.{ErrorNumber}
 use Rattle.profile.specs.declared.error.ErrorNumber.TheVariants.{InstanceExists, InstanceTableFull, ModuleNotFound}
 use Rattle.arrayvec.specs.ArrayVec.{ArrayVec}
-use Rattle.instances_plans.specs.declared.action.Action.TheVariants.{Insert, Initialise}
+use Rattle.instances_plans.specs.declared.action.PlanAction.TheVariants.{Insert, Initialise}
 use Rattle.instances_plans.specs.declared.given.Given.{Given}
 use Rattle.instances_plans.specs.Calls.{clear_plan, delete_plan, instantiate_plan, load_plan, reinit_plan, tidy_plan}
 use Rattle.instances_plans.specs.Doable.{without_all}
 use Rattle.instances_table.specs.declared.parts.NewInstance.{NewInstance}
-use Rattle.instances_table.specs.Changes.{IsRoomFor, free_slot, holds, instance_room, is_held, is_named, titled, titled_otherwise}
+use Rattle.instances_table.specs.Changes.{IsRoomFor, free_slot, module_has_slot, instance_room, is_slot_held, is_named, modules_of_title, titled_otherwise}
 use Rattle.instances_table.specs.declared.parts.ModuleInfo.{ModuleInfo}
 use Rattle.instances_table.specs.Lookup.{number_of_title, told_of_module}
 use Rattle.instances_table.specs.Modules.{AreModules, Instance, Module, has_title, slots_of}
-use Rattle.instances_table.specs.Names.{name_given, new_name, parted}
+use Rattle.instances_table.specs.Names.{name_given, new_name, full_name_parts}
 use Rattle.instances_table.proofs.Counting.{same_test}
 use Rattle.instances_actions.specs.Actions.{image_given}
 use Rattle.instances_actions.specs.Pending.{pending_of, slots_titled}
@@ -30,7 +30,7 @@ use Rattle.instances_actions.proofs.Settling.{clear_none, clear_then, tidy_none}
 use Rattle.instances.proofs.DoableLemmas.{clear_doable, delete_doable, instantiate_doable, load_doable, reinit_doable, tidy_doable}
 
 -- a load's plan
-same_slots : (title : List ℕ) (ms : List Module) → slots_of (titled title ms) ≡ slots_titled title ms
+same_slots : (title : List ℕ) (ms : List Module) → slots_of (modules_of_title title ms) ≡ slots_titled title ms
 same_slots title [] = refl
 same_slots title (m ∷ ms) = elim (cases_Bool (has_title title m)) [
   | inl is ↦ rw is (ap (λ (xs : List ℕ). map (λ (i : Instance). i.slot) m.instances ++ xs) (same_slots title ms))
@@ -38,22 +38,22 @@ same_slots title (m ∷ ms) = elim (cases_Bool (has_title title m)) [
 ]
 
 pub load_ready : (given : Given) (title : List ℕ) (slot : ℕ) (ms : List Module) → given.header.title.items ≡ title → AreModules ms → slot < 64
-    → is_held slot (titled_otherwise title ms) ≡ false → IsReady ms (load_plan given (slots_of (titled title ms)) slot)
+    → is_slot_held slot (titled_otherwise title ms) ≡ false → IsReady ms (load_plan given (slots_of (modules_of_title title ms)) slot)
 load_ready given title slot ms same are below free =
-    let old : List ℕ = slots_of (titled title ms) in
-    let none : without_all (slots_of (titled title ms)) (slots_titled given.header.title.items ms) ≡ [] =
-    ap (λ (t : List ℕ). without_all (slots_of (titled title ms)) (slots_titled t ms)) same
-    ∙ ap (without_all (slots_of (titled title ms))) (sym (same_slots title ms)) ∙ all_go (slots_of (titled title ms)) in
-    load_is_ready given ms (slots_of (titled title ms)) slot (load_doable given title slot ms are below free) none
+    let old : List ℕ = slots_of (modules_of_title title ms) in
+    let none : without_all (slots_of (modules_of_title title ms)) (slots_titled given.header.title.items ms) ≡ [] =
+    ap (λ (t : List ℕ). without_all (slots_of (modules_of_title title ms)) (slots_titled t ms)) same
+    ∙ ap (without_all (slots_of (modules_of_title title ms))) (sym (same_slots title ms)) ∙ all_go (slots_of (modules_of_title title ms)) in
+    load_is_ready given ms (slots_of (modules_of_title title ms)) slot (load_doable given title slot ms are below free) none
 
 pub load_pending : (given : Given) (old : List ℕ) (slot : ℕ) → pending_of (load_plan given old slot) ≡ image_given given ∷ []
 load_pending given old slot = rw (clear_then old (Insert slot ∷ Initialise slot ∷ [])) refl
 
 -- the plans of calls on instances that are there
-pub delete_ready : (given : Given) (slot k : ℕ) (ms : List Module) → holds slot (slice_get ms k) ≡ true → IsReady ms (delete_plan given slot)
+pub delete_ready : (given : Given) (slot k : ℕ) (ms : List Module) → module_has_slot slot (slice_get ms k) ≡ true → IsReady ms (delete_plan given slot)
 delete_ready given slot k ms here = clear_is_ready given ms (slot ∷ []) (delete_doable given slot k ms here)
 
-pub reinit_ready : (given : Given) (slot k : ℕ) (ms : List Module) → holds slot (slice_get ms k) ≡ true → IsReady ms (reinit_plan given slot)
+pub reinit_ready : (given : Given) (slot k : ℕ) (ms : List Module) → module_has_slot slot (slice_get ms k) ≡ true → IsReady ms (reinit_plan given slot)
 reinit_ready given slot k ms here = reinit_is_ready given ms slot (reinit_doable given slot k ms here)
 
 pub clear_ready : (given : Given) (ms : List Module) → AreModules ms → IsReady ms (clear_plan given (slots_of ms))
@@ -83,15 +83,15 @@ slot_by number name (Some slot) new e =
     ap (λ (x : NewInstance). x.number) same
 
 pub room_titled : (modules : List Module) (full : List ℕ) (new : NewInstance) → instance_room modules full ≡ Ok new
-    → number_of_title (parted full).title modules ≡ Some new.number
+    → number_of_title (full_name_parts full).title modules ≡ Some new.number
 unfolding instance_room
-room_titled modules full new e = given (name_given (parted full).name) refl where
-  found : (name : List ℕ) (o : Option ℕ) → number_of_title (parted full).title modules ≡ o
+room_titled modules full new e = given (name_given (full_name_parts full).name) refl where
+  found : (name : List ℕ) (o : Option ℕ) → number_of_title (full_name_parts full).title modules ≡ o
       → (let room : Result NewInstance ErrorNumber = bind (ok_or o ModuleNotFound) (λ number.
       if is_named name (slice_get modules number) then Err InstanceExists else
       bind (ok_or (free_slot modules) InstanceTableFull) (λ slot.
       Ok (record { number = number; name = record { items = name }; slot = slot }))) in room ≡ Ok new)
-      → number_of_title (parted full).title modules ≡ Some new.number
+      → number_of_title (full_name_parts full).title modules ≡ Some new.number
   found name None is e = absurd (let no : Err ModuleNotFound ≡ Ok new = e in cc)
   found name (Some number) is e = elim (cases_Bool (is_named name (slice_get modules number))) [
     | inl taken ↦ absurd (let no : Err InstanceExists ≡ Ok new = rw taken at e in cc)
@@ -99,15 +99,15 @@ room_titled modules full new e = given (name_given (parted full).name) refl wher
   ]
 
   formed : (r : Result (List ℕ) ErrorNumber)
-      → (let room : Result NewInstance ErrorNumber = bind r (λ name. bind (ok_or (number_of_title (parted full).title modules) ModuleNotFound) (λ number.
+      → (let room : Result NewInstance ErrorNumber = bind r (λ name. bind (ok_or (number_of_title (full_name_parts full).title modules) ModuleNotFound) (λ number.
       if is_named name (slice_get modules number) then Err InstanceExists else
       bind (ok_or (free_slot modules) InstanceTableFull) (λ slot.
       Ok (record { number = number; name = record { items = name }; slot = slot })))) in room ≡ Ok new)
-      → number_of_title (parted full).title modules ≡ Some new.number
+      → number_of_title (full_name_parts full).title modules ≡ Some new.number
   formed (Err f) e = absurd (let no : Err f ≡ Ok new = e in cc)
-  formed (Ok name) e = found name (number_of_title (parted full).title modules) refl e
+  formed (Ok name) e = found name (number_of_title (full_name_parts full).title modules) refl e
 
-  given : (r : Result (List ℕ) ErrorNumber) → name_given (parted full).name ≡ r → number_of_title (parted full).title modules ≡ Some new.number
+  given : (r : Result (List ℕ) ErrorNumber) → name_given (full_name_parts full).name ≡ r → number_of_title (full_name_parts full).title modules ≡ Some new.number
   given (Err f) is = absurd (let no : Err f ≡ Ok new = rw is at e in cc)
   given (Ok name) is = formed (new_name name) (let t = rw is at e in t)
 
@@ -135,8 +135,8 @@ pub can_name : (given : Given) (modules : List Module) (full : List ℕ) (new : 
     → IsRoomFor new modules → slice_get modules new.number ≡ Some m → given.header.title.items ≡ m.header.title.items → given.name.items ≡ new.name.items
     → CanName given modules
 can_name given modules full new m room is there title name =
-    let found : number_of_title (parted full).title modules ≡ Some new.number = room_titled modules full new room in
-    let number : number_of_title m.header.title.items modules ≡ Some new.number = same_number (parted full).title modules new.number m found there in
+    let found : number_of_title (full_name_parts full).title modules ≡ Some new.number = room_titled modules full new room in
+    let number : number_of_title m.header.title.items modules ≡ Some new.number = same_number (full_name_parts full).title modules new.number m found there in
     let own : has_title m.header.title.items m ≡ true = title_there m.header.title.items modules new.number m number there in
     record {
       titled = rw title (some_titled (has_title m.header.title.items) modules new.number m there own);
@@ -167,9 +167,9 @@ instantiate_told given modules full new t e info room is told ok title name = go
 
 -- the slot that is found is one of the module's
 pub slot_held : (ms : List Module) (k : ℕ) (o : Option ℕ) (e : ErrorNumber) (slot : ℕ) → Ok slot ≡ ok_or o e
-    → IfSome o (λ s. holds s (slice_get ms k) ≡ true) → holds slot (slice_get ms k) ≡ true
+    → IfSome o (λ s. module_has_slot s (slice_get ms k) ≡ true) → module_has_slot slot (slice_get ms k) ≡ true
 slot_held ms k None e slot ok held = absurd (let no : Ok slot ≡ Err e = ok in cc)
 slot_held ms k (Some s) e slot ok held =
     let both : Ok slot ≡ Ok s = ok in
     let same : slot ≡ s = cc in
-    subst (λ (x : ℕ). holds x (slice_get ms k) ≡ true) (sym same) held
+    subst (λ (x : ℕ). module_has_slot x (slice_get ms k) ≡ true) (sym same) held

@@ -1,30 +1,31 @@
 -- A turn of a call: what it makes of the world and of the plan, and that both go on well.
+use Rattle.profile.specs.MemoryMap.{module_area_start}
 use Rattle.std.proofs.Common.{◌≡◌, ℕ, Bool, true, false, Some, None, inl, inr, List, [], ◌∷◌, map, refl, sym, ap, subst, ◌∙◌}
 use Rattle.std.specs.Prelude.{Option, if◌then◌else◌}
 use Rattle.std.proofs.lemmas.Bool.{cases_Bool, false≢true}
 use Rattle.address_map.specs.declared.follow.Move.{Move}
-use Rattle.instances_slide.specs.os_heap_lists.specs.Heap.{HeapList}
-use Rattle.instances_slide.specs.os_heap.specs.Store.{find_heap}
-use Rattle.instances_plans.specs.declared.action.Action.{Action}
-use Rattle.instances_plans.specs.declared.action.Action.TheVariants.{Finalise, Remove, FreePrivate, Insert, Instantiate, GiveUp, Slide, Initialise}
+use Rattle.module_tidy.specs.os_heap_lists.specs.Heap.{HeapList}
+use Rattle.module_tidy.specs.os_heap.specs.Store.{find_heap}
+use Rattle.instances_plans.specs.declared.action.PlanAction.{PlanAction}
+use Rattle.instances_plans.specs.declared.action.PlanAction.TheVariants.{Finalise, Remove, FreePrivate, Insert, Instantiate, GiveUp, Slide, Initialise}
 use Rattle.instances_plans.specs.declared.code.Advance.TheVariants as advance
 use Rattle.instances_plans.specs.declared.code.Code.{Code}
 use Rattle.instances_plans.specs.declared.code.Outcome.{Outcome}
 use Rattle.instances_plans.specs.declared.code.Outcome.TheVariants.{Refused, Well}
 use Rattle.instances_plans.specs.declared.given.Given.{Given}
-use Rattle.instances_plans.specs.Carrying.{Advanced, Doing, advanced, advanced_by, advanced_from}
-use Rattle.instances_plans.specs.Plans.{Plan, end_by, finished, first_of, refused, settled, settled_by, started}
+use Rattle.instances_plans.specs.Carrying.{Advanced, Doing, advance_of_plan, advanced_by, advanced_from}
+use Rattle.instances_plans.specs.Plans.{Plan, end_by, plan_after_action, first_action, plan_after_refusal, plan_after_code, settled_by, plan_with_code_entered}
 use Rattle.instances_table.specs.declared.parts.Image.{Image}
 use Rattle.instances_table.specs.Modules.{AreModules, Module}
-use Rattle.instances_slide.specs.instances_ground.specs.Sound.{IsWorld}
-use Rattle.instances_slide.specs.instances_ground.specs.World.{World, removed}
-use Rattle.instances_actions.specs.Actions.{acted, image_given}
+use Rattle.module_tidy.specs.module_world.specs.Sound.{IsWorld}
+use Rattle.module_tidy.specs.module_world.specs.World.{World, world_after_remove}
+use Rattle.instances_actions.specs.Actions.{world_after_action, image_given}
 use Rattle.instances_actions.specs.Codes.{code_among}
 use Rattle.instances_actions.specs.Pending.{pending_of, settles}
-use Rattle.instances_actions.specs.Ready.{AreAfter, IsReady, IsSlid, outline}
+use Rattle.instances_actions.specs.Ready.{AreAfter, IsReady, HaveSameOutlines, outline}
 use Rattle.instances_actions.proofs.Readying.{stays_ready, stays_ready_refused}
 use Rattle.instances_actions.proofs.Settling.{none_slides, pending_is_settled, pending_outlasts, pending_stays}
-use Rattle.instances_slide.specs.Slid.{image_moved, world_slid, world_slid_in}
+use Rattle.module_tidy.specs.Slid.{image_moved, world_slid, world_slid_in}
 use Rattle.instances.specs.Turns.{IsUnderWay, calls_module, module_doing}
 
 -- A call begins.
@@ -32,25 +33,25 @@ pub begins : (w : World) (p : Plan) → IsWorld w (pending_of p) → IsReady w.m
 begins w p world ready rests = record { world = world; ready = ready; code = λ runs. absurd (false≢true (sym rests ∙ runs)) }
 
 -- Code came back: it was that of a finalisation or of an initialisation.
-well_back : (w : World) (p : Plan) (a : Action) → first_of p.actions ≡ Some a → AreModules w.modules → IsUnderWay w p → settles a ≡ false
-    → AreAfter p.given a w.modules w.modules → IsUnderWay w (finished p a)
+well_back : (w : World) (p : Plan) (a : PlanAction) → first_action p.actions ≡ Some a → AreModules w.modules → IsUnderWay w p → settles a ≡ false
+    → AreAfter p.given a w.modules w.modules → IsUnderWay w (plan_after_action p a)
 well_back w p a first are going none same = record {
   world = subst (IsWorld w) (sym (pending_stays p a first none)) going.world;
   ready = stays_ready w.modules w.modules p a are first going.ready same;
   code = λ runs. absurd (false≢true runs);
 }
 
-abbrev EndsCode : Plan → Action → Type 0
-EndsCode p a = (r0 : ℕ) → (refused p a r0).runs ≡ false
+abbrev EndsCode : Plan → PlanAction → Type 0
+EndsCode p a = (r0 : ℕ) → (plan_after_refusal p a r0).runs ≡ false
 
-refused_back : (w : World) (p : Plan) (a : Action) (r0 : ℕ) → first_of p.actions ≡ Some a → IsUnderWay w p → EndsCode p a → IsUnderWay w (refused p a r0)
+refused_back : (w : World) (p : Plan) (a : PlanAction) (r0 : ℕ) → first_action p.actions ≡ Some a → IsUnderWay w p → EndsCode p a → IsUnderWay w (plan_after_refusal p a r0)
 refused_back w p a r0 first going ends = record {
   world = subst (IsWorld w) (sym (pending_outlasts _ p a r0 first going.ready.settles)) going.world;
   ready = stays_ready_refused w.modules p a r0 first going.ready;
   code = λ runs. absurd (false≢true (sym (ends r0) ∙ runs));
 }
 
-back_by : (w : World) (p : Plan) (o : Outcome) (head : Option Action) → first_of p.actions ≡ head → AreModules w.modules → IsUnderWay w p
+back_by : (w : World) (p : Plan) (o : Outcome) (head : Option PlanAction) → first_action p.actions ≡ head → AreModules w.modules → IsUnderWay w p
     → calls_module head ≡ true → IsUnderWay w (settled_by p o head)
 back_by w p o None first are going calls = absurd (false≢true calls)
 back_by w p Well (Some (Finalise s f)) first are going calls = well_back w p (Finalise s f) first are going refl refl
@@ -68,29 +69,29 @@ chosen : (t : Bool) (w : World) (p q : Plan) → (t ≡ true → IsUnderWay w p)
 chosen true w p q first second = first refl
 chosen false w p q first second = second refl
 
-pub going_back : (w : World) (p : Plan) (o : Outcome) → AreModules w.modules → IsUnderWay w p → IsUnderWay w (settled p o)
-unfolding settled
+pub going_back : (w : World) (p : Plan) (o : Outcome) → AreModules w.modules → IsUnderWay w p → IsUnderWay w (plan_after_code p o)
+unfolding plan_after_code
 going_back w p o are going =
-    chosen p.runs w (settled_by p o (first_of p.actions)) p (λ runs. back_by w p o (first_of p.actions) refl are going (going.code runs)) (λ rests. going)
+    chosen p.runs w (settled_by p o (first_action p.actions)) p (λ runs. back_by w p o (first_action p.actions) refl are going (going.code runs)) (λ rests. going)
 
 -- What an action leaves of the modules.
 outline_moved : (moves : List Move) (ms : List Module) → map outline (map (image_moved moves) ms) ≡ map outline ms
 outline_moved moves [] = refl
 outline_moved moves (m ∷ ms) = ap (λ (xs : List Module). outline m ∷ xs) (outline_moved moves ms)
 
-outline_slid : (to : ℕ) (w : World) (found : Option HeapList) → IsSlid w.modules (world_slid_in to w found).modules
+outline_slid : (to : ℕ) (w : World) (found : Option HeapList) → HaveSameOutlines w.modules (world_slid_in to w found).modules
 outline_slid to w None = refl
 outline_slid to w (Some h) = outline_moved _ w.modules
 
-pub after_slide : (to : ℕ) (w : World) → IsSlid w.modules (world_slid to w).modules
+pub after_slide : (to : ℕ) (w : World) → HaveSameOutlines w.modules (world_slid to w).modules
 unfolding world_slid
-after_slide to w = outline_slid to w (find_heap 0x01800000 w.estate.store.heaps)
+after_slide to w = outline_slid to w (find_heap module_area_start w.estate.store.heaps)
 
-after_removal : (slot : ℕ) (g : Given) (w : World) → AreAfter g (Remove slot) w.modules (removed w slot).modules
-unfolding removed
+after_removal : (slot : ℕ) (g : Given) (w : World) → AreAfter g (Remove slot) w.modules (world_after_remove w slot).modules
+unfolding world_after_remove
 after_removal slot g w = refl
 
-after_acted : (g : Given) (a : Action) (w : World) → AreAfter g a w.modules (acted world_slid g w a).modules
+after_acted : (g : Given) (a : PlanAction) (w : World) → AreAfter g a w.modules (world_after_action world_slid g w a).modules
 after_acted g (Finalise s f) w = refl
 after_acted g (Remove s) w = after_removal s g w
 after_acted g (FreePrivate s) w = refl
@@ -101,8 +102,8 @@ after_acted g Slide w = after_slide g.return_address w
 after_acted g (Initialise s) w = refl
 
 -- The call goes on after an action is done, and while its code runs.
-pub goes_on : (w v : World) (p : Plan) (a : Action) → first_of p.actions ≡ Some a → AreModules w.modules → IsUnderWay w p
-    → v ≡ acted world_slid p.given w a → IsWorld v (pending_of (finished p a)) → IsUnderWay v (finished p a)
+pub goes_on : (w v : World) (p : Plan) (a : PlanAction) → first_action p.actions ≡ Some a → AreModules w.modules → IsUnderWay w p
+    → v ≡ world_after_action world_slid p.given w a → IsWorld v (pending_of (plan_after_action p a)) → IsUnderWay v (plan_after_action p a)
 goes_on w v p a first are going acts world =
     let after : AreAfter p.given a w.modules v.modules = subst (λ (x : World). AreAfter p.given a w.modules x.modules) (sym acts) (after_acted p.given a w) in
     record {
@@ -111,7 +112,7 @@ goes_on w v p a first are going acts world =
       code = λ runs. absurd (false≢true runs);
     }
 
-pub same_modules : (g : Given) (a : Action) (w : World) → calls_module (Some a) ≡ true → (acted world_slid g w a).modules ≡ w.modules
+pub same_modules : (g : Given) (a : PlanAction) (w : World) → calls_module (Some a) ≡ true → (world_after_action world_slid g w a).modules ≡ w.modules
 same_modules g (Finalise s f) w calls = refl
 same_modules g (Initialise s) w calls = refl
 same_modules g (Remove s) w calls = absurd (false≢true calls)
@@ -121,7 +122,7 @@ same_modules g (Instantiate s) w calls = absurd (false≢true calls)
 same_modules g GiveUp w calls = absurd (false≢true calls)
 same_modules g Slide w calls = absurd (false≢true calls)
 
-none_settled : (a : Action) → calls_module (Some a) ≡ true → settles a ≡ false
+none_settled : (a : PlanAction) → calls_module (Some a) ≡ true → settles a ≡ false
 none_settled (Finalise s f) calls = refl
 none_settled (Initialise s) calls = refl
 none_settled (Remove s) calls = refl
@@ -131,7 +132,7 @@ none_settled (Instantiate s) calls = refl
 none_settled GiveUp calls = absurd (false≢true calls)
 none_settled Slide calls = refl
 
-pub calls_by : (ms : List Module) (a : Action) (code : Code) → code_among ms a ≡ Some code → calls_module (Some a) ≡ true
+pub calls_by : (ms : List Module) (a : PlanAction) (code : Code) → code_among ms a ≡ Some code → calls_module (Some a) ≡ true
 unfolding code_among
 calls_by ms (Finalise s f) code is = refl
 calls_by ms (Initialise s) code is = refl
@@ -142,8 +143,8 @@ calls_by ms (Instantiate s) code is = cc
 calls_by ms GiveUp code is = cc
 calls_by ms Slide code is = cc
 
-pub goes_into_code : (w v : World) (p : Plan) (a : Action) (code : Code) → first_of p.actions ≡ Some a → IsUnderWay w p
-    → v ≡ acted world_slid p.given w a → IsWorld v (pending_of (finished p a)) → code_among w.modules a ≡ Some code → IsUnderWay v (started p)
+pub goes_into_code : (w v : World) (p : Plan) (a : PlanAction) (code : Code) → first_action p.actions ≡ Some a → IsUnderWay w p
+    → v ≡ world_after_action world_slid p.given w a → IsWorld v (pending_of (plan_after_action p a)) → code_among w.modules a ≡ Some code → IsUnderWay v (plan_with_code_entered p)
 goes_into_code w v p a code first going acts world is =
     let calls : calls_module (Some a) ≡ true = calls_by w.modules a code is in
     let same : v.modules ≡ w.modules = ap (λ (x : World). x.modules) acts ∙ same_modules p.given a w calls in
@@ -155,10 +156,10 @@ goes_into_code w v p a code first going acts world is =
     }
 
 -- What an action leaves pending.
-pub world_acted : (w v : World) (p : Plan) (a : Action) → first_of p.actions ≡ Some a → IsUnderWay w p
+pub world_acted : (w v : World) (p : Plan) (a : PlanAction) → first_action p.actions ≡ Some a → IsUnderWay w p
     → ((pending : List Image) → settles a ≡ false → IsWorld w pending → IsWorld v pending)
     → (settles a ≡ true → IsWorld w (image_given p.given ∷ []) → IsWorld v [])
-    → IsWorld v (pending_of (finished p a))
+    → IsWorld v (pending_of (plan_after_action p a))
 world_acted w v p a first going keeps ends = elim (cases_Bool (settles a)) [
   | inl does ↦
       let both = pending_is_settled _ p a first going.ready.settles does in
@@ -166,47 +167,47 @@ world_acted w v p a first going keeps ends = elim (cases_Bool (settles a)) [
   | inr none ↦ subst (IsWorld v) (sym (pending_stays p a first none)) (keeps (pending_of p) none going.world)
 ]
 
-pub world_before_slide : (w : World) (p : Plan) → first_of p.actions ≡ Some Slide → IsUnderWay w p → IsWorld w []
+pub world_before_slide : (w : World) (p : Plan) → first_action p.actions ≡ Some Slide → IsUnderWay w p → IsWorld w []
 world_before_slide w p first going = subst (IsWorld w) (none_slides _ p first going.ready.settles).0 going.world
 
-pub world_after_slide : (w v : World) (p : Plan) → first_of p.actions ≡ Some Slide → IsUnderWay w p → IsWorld v [] → IsWorld v (pending_of (finished p Slide))
+pub world_after_slide : (w v : World) (p : Plan) → first_action p.actions ≡ Some Slide → IsUnderWay w p → IsWorld v [] → IsWorld v (pending_of (plan_after_action p Slide))
 world_after_slide w v p first going world = subst (IsWorld v) (sym (none_slides _ p first going.ready.settles).1) world
 
 -- The turn is that of the definitions.
-ends_by : (d : Doing World) (w : World) (q : Plan) (actions : List Action) → first_of actions ≡ None
+ends_by : (d : Doing World) (w : World) (q : Plan) (actions : List PlanAction) → first_action actions ≡ None
     → advanced_from d actions w q ≡ record { world = w; rest = q; step = advance.End (end_by q.first) }
 ends_by d w q [] none = refl
 ends_by d w q (a ∷ others) none = cc
 
-acts_by : (d : Doing World) (w : World) (q : Plan) (actions : List Action) (a : Action) → first_of actions ≡ Some a
+acts_by : (d : Doing World) (w : World) (q : Plan) (actions : List PlanAction) (a : PlanAction) → first_action actions ≡ Some a
     → advanced_from d actions w q ≡ advanced_by d w q a (d.code_of w a)
 acts_by d w q [] a first = cc
-acts_by d w q (b ∷ others) a first = ap (λ (x : Action). advanced_by d w q x (d.code_of w x)) (same b a first) where
-  same : (b a : Action) → Some b ≡ Some a → b ≡ a
+acts_by d w q (b ∷ others) a first = ap (λ (x : PlanAction). advanced_by d w q x (d.code_of w x)) (same b a first) where
+  same : (b a : PlanAction) → Some b ≡ Some a → b ≡ a
   same b a e = cc
 
-pub turn_ends : (w : World) (p q : Plan) (o : Outcome) → q ≡ settled p o → first_of q.actions ≡ None
-    → advanced module_doing w p o ≡ record { world = w; rest = q; step = advance.End (end_by q.first) }
-unfolding advanced
+pub turn_ends : (w : World) (p q : Plan) (o : Outcome) → q ≡ plan_after_code p o → first_action q.actions ≡ None
+    → advance_of_plan module_doing w p o ≡ record { world = w; rest = q; step = advance.End (end_by q.first) }
+unfolding advance_of_plan
 turn_ends w p q o is none =
     ap (λ (x : Plan). advanced_from module_doing x.actions w x) (sym is) ∙ ends_by module_doing w q q.actions none
 
-turn_acts : (w : World) (p q : Plan) (o : Outcome) (a : Action) → q ≡ settled p o → first_of q.actions ≡ Some a
-    → advanced module_doing w p o ≡ advanced_by module_doing w q a (code_among w.modules a)
-unfolding advanced
+turn_acts : (w : World) (p q : Plan) (o : Outcome) (a : PlanAction) → q ≡ plan_after_code p o → first_action q.actions ≡ Some a
+    → advance_of_plan module_doing w p o ≡ advanced_by module_doing w q a (code_among w.modules a)
+unfolding advance_of_plan
 turn_acts w p q o a is first =
     ap (λ (x : Plan). advanced_from module_doing x.actions w x) (sym is) ∙ acts_by module_doing w q q.actions a first
 
-pub turn_enters : (w v : World) (p q : Plan) (o : Outcome) (a : Action) (code : Code) → q ≡ settled p o → first_of q.actions ≡ Some a
-    → v ≡ acted world_slid q.given w a → code_among w.modules a ≡ Some code
-    → advanced module_doing w p o ≡ record { world = v; rest = started q; step = advance.Code code }
+pub turn_enters : (w v : World) (p q : Plan) (o : Outcome) (a : PlanAction) (code : Code) → q ≡ plan_after_code p o → first_action q.actions ≡ Some a
+    → v ≡ world_after_action world_slid q.given w a → code_among w.modules a ≡ Some code
+    → advance_of_plan module_doing w p o ≡ record { world = v; rest = plan_with_code_entered q; step = advance.Code code }
 turn_enters w v p q o a code is first acts has =
     turn_acts w p q o a is first ∙ ap (advanced_by module_doing w q a) has
-    ∙ ap (λ (x : World). let r : Advanced World = record { world = x; rest = started q; step = advance.Code code } in r) (sym acts)
+    ∙ ap (λ (x : World). let r : Advanced World = record { world = x; rest = plan_with_code_entered q; step = advance.Code code } in r) (sym acts)
 
-pub turn_goes_on : (w v : World) (p q : Plan) (o : Outcome) (a : Action) → q ≡ settled p o → first_of q.actions ≡ Some a
-    → v ≡ acted world_slid q.given w a → code_among w.modules a ≡ None
-    → advanced module_doing w p o ≡ record { world = v; rest = finished q a; step = advance.Next }
+pub turn_goes_on : (w v : World) (p q : Plan) (o : Outcome) (a : PlanAction) → q ≡ plan_after_code p o → first_action q.actions ≡ Some a
+    → v ≡ world_after_action world_slid q.given w a → code_among w.modules a ≡ None
+    → advance_of_plan module_doing w p o ≡ record { world = v; rest = plan_after_action q a; step = advance.Next }
 turn_goes_on w v p q o a is first acts has =
     turn_acts w p q o a is first ∙ ap (advanced_by module_doing w q a) has
-    ∙ ap (λ (x : World). let r : Advanced World = record { world = x; rest = finished q a; step = advance.Next } in r) (sym acts)
+    ∙ ap (λ (x : World). let r : Advanced World = record { world = x; rest = plan_after_action q a; step = advance.Next } in r) (sym acts)

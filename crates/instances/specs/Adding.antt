@@ -12,24 +12,24 @@ use Rattle.address_map.specs.declared.region.Kind.TheVariants as kind
 use Rattle.instances_plans.specs.module_header.specs.Header.{header_of}
 use Rattle.instances_plans.specs.module_header.specs.declared.fault.HeaderFault.{HeaderFault}
 use Rattle.instances_plans.specs.module_header.specs.declared.header.Header.{Header}
-use Rattle.instances_slide.specs.os_heap.specs.Order.{AddsRecord}
-use Rattle.instances_slide.specs.rma.specs.Calls.{with_store}
-use Rattle.instances_slide.specs.rma.specs.Copies.{may_be_copied}
-use Rattle.instances_slide.specs.rma.specs.NewImages.{image_copied, image_made, may_be_in_place, with_image_in_place}
+use Rattle.module_tidy.specs.os_heap.specs.Order.{AddsRecord}
+use Rattle.module_tidy.specs.rma.specs.Calls.{with_store}
+use Rattle.module_tidy.specs.rma.specs.Copies.{may_be_copied}
+use Rattle.module_tidy.specs.rma.specs.NewImages.{image_copied, image_made, may_be_in_place, with_image_in_place}
 use Rattle.instances_plans.specs.Calls.{instantiate_plan, load_plan}
 use Rattle.instances_plans.specs.Plans.{Plan}
 use Rattle.instances_table.specs.declared.parts.Image.{Image}
 use Rattle.instances_table.specs.Modules.{Module, slots_of}
-use Rattle.instances_table.specs.Changes.{free_slot_for, instance_room, titled}
+use Rattle.instances_table.specs.Changes.{free_slot_for, instance_room, modules_of_title}
 use Rattle.instances_table.specs.Lookup.{module_at}
-use Rattle.instances_slide.specs.instances_ground.specs.World.{World}
-use Rattle.instances.specs.Given.{given_instance, given_module, is_too_long}
+use Rattle.module_tidy.specs.module_world.specs.World.{World}
+use Rattle.instances.specs.Given.{given_instance, given_module, is_text_too_long}
 
 -- Reason 14: a new instance of a module that is there, with its name, and a text, which has to be
 -- one that can be kept
 unfoldable pub instantiation : List Module → List ℕ → List ℕ → Result Plan ErrorNumber
 instantiation modules full text =
-    if is_too_long text then Err BadString else
+    if is_text_too_long text then Err BadString else
     bind (instance_room modules full) (λ new.
     bind (module_at modules new.number) (λ m.
     Ok (instantiate_plan (given_instance m.header.title new text) new.slot)))
@@ -45,12 +45,13 @@ abbrev pub slot_for : List Module → Header → Result ℕ ErrorNumber
 slot_for modules header = ok_or (free_slot_for header.title.items modules) InstanceTableFull
 
 abbrev pub adding_plan : List Module → Header → Image → List ℕ → ℕ → Plan
-adding_plan modules header image text slot = load_plan (given_module header image text) (slots_of (titled header.title.items modules)) slot
+adding_plan modules header image text slot = load_plan (given_module header image text)
+    (slots_of (modules_of_title header.title.items modules)) slot
 
 -- Reason 1: an image that is given, with a text that can be kept, gets a block of the module area.
 unfoldable pub loading : World → List ℕ → List ℕ → Result (World × Plan) ErrorNumber
 loading w image text =
-    if is_too_long text then Err BadString else
+    if is_text_too_long text then Err BadString else
     bind (good_header (header_of image)) (λ header.
     bind (slot_for w.modules header) (λ slot.
     bind (image_made w.estate image) (λ made.
@@ -64,7 +65,10 @@ inserting w at len =
     bind (good_header (header_of (bytes_between w.estate.store.bytes.at at len))) (λ header.
     bind (slot_for w.modules header) (λ slot.
     let placed : Image = record { at = at; len = len } in
-    Ok (record w { estate = with_store w.estate (with_image_in_place w.estate.store at len) }, adding_plan w.modules header placed [] slot)))
+    Ok (
+      record w { estate = with_store w.estate (with_image_in_place w.estate.store at len) },
+      adding_plan w.modules header placed [] slot,
+    )))
 
 -- Reason 11: of an image that stands in memory the module area gets a copy.
 unfoldable pub copying : World → ℕ → ℕ → Result (World × Plan) ErrorNumber

@@ -8,11 +8,18 @@ use Rattle.instances_table.specs.declared.parts.Image.{Image}
 use Rattle.instances_table.specs.declared.parts.NewInstance.{NewInstance}
 
 abbrev pub no_header : Header
-no_header = record { title = record { items = [] }; start = 0; initialise = 0; finalise = 0; chunk = 0; handler = 0 }
+no_header = record {
+  title = record { items = [] };
+  start = 0;
+  initialise = 0;
+  finalise = 0;
+  chunk = 0;
+  handler = 0;
+}
 
 -- Of a text at most 255 bytes are kept.
-abbrev pub is_too_long : List ℕ → Bool
-is_too_long text = nat_lt 255 (length text)
+abbrev pub is_text_too_long : List ℕ → Bool
+is_text_too_long text = nat_lt 255 (length text)
 
 -- a call that names an instance
 abbrev pub given_only : List ℕ → ℕ → Given
@@ -27,8 +34,10 @@ given_only text return = record {
 
 -- a call that adds an instance to the module of a title
 abbrev pub given_instance : ArrayVec ℕ → NewInstance → List ℕ → Given
-given_instance title new text = record (given_only text 0) { header = record no_header { title = title }; name = new.name }
+given_instance title new text = record (given_only text 0)
+    { header = record no_header { title = title }; name = new.name }
 
 -- a call that adds a module
 abbrev pub given_module : Header → Image → List ℕ → Given
-given_module header image text = record (given_only text 0) { header = header; image = image.at; len = image.len }
+given_module header image text = record (given_only text 0)
+    { header = header; image = image.at; len = image.len }

@@ -8,7 +8,7 @@ use Rattle.instances_plans.specs.Calls.{delete_plan, clear_plan, reinit_plan, ti
 use Rattle.instances_plans.specs.Plans.{Plan}
 use Rattle.instances_table.specs.Modules.{Module, slots_of}
 use Rattle.instances_table.specs.Lookup.{looked_up, slot_at}
-use Rattle.instances.specs.Given.{given_only, is_too_long}
+use Rattle.instances.specs.Given.{given_only, is_text_too_long}
 
 -- the instance that a name means goes
 unfoldable pub deletion : List Module → List ℕ → Result Plan ErrorNumber
@@ -20,7 +20,7 @@ deletion modules full =
 -- or is finalised and initialised again, with a text that can be kept
 unfoldable pub reinitialisation : List Module → List ℕ → List ℕ → Result Plan ErrorNumber
 reinitialisation modules full text =
-    if is_too_long text then Err BadString else
+    if is_text_too_long text then Err BadString else
     bind (looked_up modules full) (λ place.
     bind (slot_at modules place) (λ slot.
     Ok (reinit_plan (given_only text 0) slot)))

@@ -13,17 +13,17 @@ use Rattle.instances.specs.declared.answers.Start.{Start}
 use Rattle.instances.specs.declared.answers.Told.{Told}
 
 -- OS_Module 12: the place after an instance, its module's image, and the value of its private word
-abbrev pub told : (ℕ → ℕ) → List Module → Place → Result Told ErrorNumber
-told bytes modules place =
+abbrev pub instance_info : (ℕ → ℕ) → List Module → Place → Result Told ErrorNumber
+instance_info bytes modules place =
     bind (information modules place.number place.instance) (λ i.
     bind (slot_at modules place) (λ slot.
     Ok (record { next = i.next; image = i.image; word = word_at bytes (private_of slot) })))
 
 -- OS_Module 18: where an instance is, and the same of it
-abbrev pub found : (ℕ → ℕ) → List Module → List ℕ → Result Found ErrorNumber
-found bytes modules full =
+abbrev pub instance_looked_up : (ℕ → ℕ) → List Module → List ℕ → Result Found ErrorNumber
+instance_looked_up bytes modules full =
     bind (looked_up modules full) (λ place.
-    bind (told bytes modules place) (λ t.
+    bind (instance_info bytes modules place) (λ t.
     Ok (record { place = place; image = t.image; word = t.word })))
 
 -- OS_Module 2: where the module of an instance is entered, at an offset in its image, and the

@@ -1,39 +1,39 @@
 -- A call that is under way on the world: its plan finds what its actions ask for, and module code
 -- runs only where an action has some (this project's own).
 use Rattle.std.specs.Prelude.{◌≡◌, Bool, true, false, Option, Some, None, List, []}
-use Rattle.instances_plans.specs.declared.action.Action.{Action}
-use Rattle.instances_plans.specs.declared.action.Action.TheVariants.{Finalise, Initialise}
+use Rattle.instances_plans.specs.declared.action.PlanAction.{PlanAction}
+use Rattle.instances_plans.specs.declared.action.PlanAction.TheVariants.{Finalise, Initialise}
 use Rattle.instances_plans.specs.declared.code.Code.{Code}
 use Rattle.instances_plans.specs.Carrying.{Doing}
-use Rattle.instances_plans.specs.Plans.{Plan, first_of}
-use Rattle.instances_slide.specs.instances_ground.specs.Sound.{IsWorld}
-use Rattle.instances_slide.specs.instances_ground.specs.World.{World}
+use Rattle.instances_plans.specs.Plans.{Plan, first_action}
+use Rattle.module_tidy.specs.module_world.specs.Sound.{IsWorld}
+use Rattle.module_tidy.specs.module_world.specs.World.{World}
 use Rattle.instances_table.specs.Modules.{Module}
 use Rattle.instances_actions.specs.Actions.{doing}
 use Rattle.instances_actions.specs.Codes.{code_among}
 use Rattle.instances_actions.specs.Pending.{pending_of}
 use Rattle.instances_actions.specs.Ready.{IsReady}
-use Rattle.instances_slide.specs.Slid.{world_slid}
+use Rattle.module_tidy.specs.Slid.{world_slid}
 
 -- What actions do to the world, the slide of the module area among them.
 abbrev pub module_doing : Doing World
 module_doing = doing world_slid
 
 -- has an action an entry of a module to call?
-abbrev pub calls_module : Option Action → Bool
+abbrev pub calls_module : Option PlanAction → Bool
 calls_module (Some (Finalise slot fatal)) = true
 calls_module (Some (Initialise slot)) = true
 calls_module _ = false
 
 -- the code at that entry, with what it is given in R10 to R12, if the module of its instance has it
-abbrev pub code_called : List Module → Option Action → Option Code
+abbrev pub code_called : List Module → Option PlanAction → Option Code
 code_called modules None = None
 code_called modules (Some action) = code_among modules action
 
 pub record IsUnderWay (w : World) (p : Plan) : Type 0 where
   pub world : IsWorld w (pending_of p)
   pub ready : IsReady w.modules p
-  pub code : p.runs ≡ true → calls_module (first_of p.actions) ≡ true
+  pub code : p.runs ≡ true → calls_module (first_action p.actions) ≡ true
 
 -- A world between module calls, or one whose call is under way while module code runs.
 abbrev pub MayGoOn : World → Option Plan → Type 0

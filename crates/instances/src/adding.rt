@@ -3,16 +3,16 @@ ghost use Rattle.std.specs.Prelude.{◌≡◌, ◌≤◌, ◌<◌, ◌∷◌, []
 ghost use Rattle.profile.specs.Outcome.{Gives};
 ghost use Rattle.address_map.specs.Bytes.{bytes_between, AreMapped};
 ghost use Rattle.address_map.specs.Memory.{is_mapped};
-ghost use Rattle.instances_slide.specs.os_heap.specs.Order.{KeepsOrder};
-ghost use Rattle.instances_slide.specs.os_heap.specs.Store.{store_of, AreClasses};
-ghost use Rattle.instances_slide.specs.flex_kept.specs.Keeping.{KeepsFlex};
-ghost use Rattle.instances_slide.specs.rma.specs.Places.{KeepsPlaces};
+ghost use Rattle.module_tidy.specs.os_heap.specs.Order.{KeepsOrder};
+ghost use Rattle.module_tidy.specs.os_heap.specs.Store.{store_of, AreClasses};
+ghost use Rattle.module_tidy.specs.flex_frame.specs.Keeping.{KeepsFlex};
+ghost use Rattle.module_tidy.specs.rma.specs.Places.{KeepsPlaces};
 ghost use Rattle.instances_plans.specs.module_header.specs.Header.{header_of};
 ghost use Rattle.instances_actions.specs.Pending.{pending_of};
 ghost use Rattle.instances_actions.specs.Ready.{IsReady};
-ghost use Rattle.instances_table.specs.Changes.{is_held, titled_otherwise};
-ghost use Rattle.instances_slide.specs.instances_ground.specs.Sound.{IsWorld};
-ghost use Rattle.instances_slide.specs.instances_ground.specs.World.{world_of};
+ghost use Rattle.instances_table.specs.Changes.{is_slot_held, titled_otherwise};
+ghost use Rattle.module_tidy.specs.module_world.specs.Sound.{IsWorld};
+ghost use Rattle.module_tidy.specs.module_world.specs.World.{world_of};
 ghost use Rattle.instances.specs.Adding.{AddsImage, adding_plan, good_header, loading, slot_for};
 
 use crate::given::{given_module, is_too_long};
@@ -20,9 +20,9 @@ use crate::instances::Instances;
 use address_map::AddressMap;
 use instances_plans::Plan;
 use instances_plans::module_header::{Header, HeaderFault};
-use instances_slide::dynamic_areas::Areas;
-use instances_slide::rma::Rma;
 use instances_table::Image;
+use module_tidy::dynamic_areas::Areas;
+use module_tidy::rma::Rma;
 use profile::ErrorNumber;
 
 impl Instances {
@@ -51,7 +51,8 @@ impl Instances {
         ensures world { Gives (world_of map.old areas.old self.now)
             (loading (world_of map.old areas.old self.now) image.now text.now) result
             (world_of map.new areas.new self.now) }
-        ensures sound { IfOk result (λ plan. IsWorld (world_of map.new areas.new self.now) (pending_of plan)) }
+        ensures sound { IfOk result (λ plan. IsWorld (world_of map.new areas.new self.now)
+            (pending_of plan)) }
         ensures classes { AreClasses map.new }
         ensures order { MatchResult result (λ plan. AddsImage map.old map.new plan.given.image)
             (λ _. KeepsOrder map.old map.new) }
@@ -78,7 +79,8 @@ impl Instances {
     pub(crate) fn slot_for(&self, header: &Header) -> Result<u32, ErrorNumber>
         ensures value { result ≡ slot_for self.now header.now }
         ensures below { IfOk result (λ slot. slot < 64) }
-        ensures free { IfOk result (λ slot. is_held slot (titled_otherwise header.now.title.items self.now) ≡ false) }
+        ensures free { IfOk result (λ slot. is_slot_held slot
+            (titled_otherwise header.now.title.items self.now) ≡ false) }
         ensures few { length self.now ≤ 64 }
     {
         self.table
@@ -91,7 +93,7 @@ impl Instances {
     pub(crate) fn adding_plan(&self, header: Header, image: Image, text: &[u8], slot: u32) -> Plan
         requires text { length text.now ≤ 255 }
         requires below { slot < 64 }
-        requires free { is_held slot (titled_otherwise header.title.items self.now) ≡ false }
+        requires free { is_slot_held slot (titled_otherwise header.title.items self.now) ≡ false }
         ensures value { result ≡ adding_plan self.now header image text.now slot }
         ensures ready { IsReady self.now result }
         ensures rests { result.runs ≡ false }

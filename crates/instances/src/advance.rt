@@ -3,25 +3,25 @@
 
 ghost use Rattle.std.specs.Prelude.{◌≡◌, [], None, Some, IfSome};
 ghost use Rattle.address_map.specs.Memory.{mapping, regions};
-ghost use Rattle.instances_slide.specs.os_heap.specs.Store.{AreClasses, store_of};
-ghost use Rattle.instances_slide.specs.flex_kept.specs.Keeping.{KeepsFlex};
-ghost use Rattle.instances_plans.specs.Carrying.{advanced, carried};
-ghost use Rattle.instances_plans.specs.Plans.{finished, first_of, settled};
-ghost use Rattle.instances_slide.specs.instances_ground.specs.Records.{CarriesRecords, MayTurnRecords, TurnsRecords};
-ghost use Rattle.instances_slide.specs.instances_ground.specs.Sound.{IsWorld};
-ghost use Rattle.instances_slide.specs.instances_ground.specs.World.{world_of};
-ghost use Rattle.instances_actions.specs.Actions.{acted};
+ghost use Rattle.module_tidy.specs.os_heap.specs.Store.{AreClasses, store_of};
+ghost use Rattle.module_tidy.specs.flex_frame.specs.Keeping.{KeepsFlex};
+ghost use Rattle.instances_plans.specs.Carrying.{advance_of_plan, carry_of_plan};
+ghost use Rattle.instances_plans.specs.Plans.{plan_after_action, first_action, plan_after_code};
+ghost use Rattle.module_tidy.specs.module_world.specs.Records.{CarriesRecords, MayTurnRecords, TurnsRecords};
+ghost use Rattle.module_tidy.specs.module_world.specs.Sound.{IsWorld};
+ghost use Rattle.module_tidy.specs.module_world.specs.World.{world_of};
+ghost use Rattle.instances_actions.specs.Actions.{world_after_action};
 ghost use Rattle.instances_actions.specs.Pending.{pending_of};
-ghost use Rattle.instances_slide.specs.Slid.{world_slid};
-ghost use Rattle.instances.specs.Naming.{KeepsOthers};
+ghost use Rattle.module_tidy.specs.Slid.{world_slid};
+ghost use Rattle.instances.specs.Naming.{KeepsOtherInstances};
 ghost use Rattle.instances.specs.Turns.{IsUnderWay, code_called, module_doing};
 
 use crate::instances::Instances;
 use address_map::AddressMap;
 use instances_actions::{act, code_of};
-use instances_plans::{Action, Advance, Code, Outcome, Plan};
-use instances_slide::dynamic_areas::Areas;
-use instances_slide::slide;
+use instances_plans::{Advance, Code, Outcome, Plan, PlanAction};
+use module_tidy::dynamic_areas::Areas;
+use module_tidy::slide;
 
 impl Instances {
     /// Carries a call on: the code that was under way, if any was, has come back with this outcome;
@@ -39,15 +39,18 @@ impl Instances {
     ) -> Option<Code>
         requires going { IsUnderWay (world_of map.old areas.now self.old) plan.old }
         requires classes { AreClasses map.old }
-        ensures carried { carried module_doing (world_of map.old areas.now self.old) (settled plan.old outcome)
+        ensures carried { carry_of_plan module_doing (world_of map.old areas.now self.old)
+            (plan_after_code plan.old outcome)
             ≡ record { world = world_of map.new areas.now self.new; rest = plan.new; code = result } }
-        ensures code { IfSome result (λ code. code_called self.new (first_of plan.new.actions) ≡ Some code) }
+        ensures code { IfSome result (λ code. code_called self.new (first_action plan.new.actions) ≡ Some
+            code) }
         ensures ended { result ≡ None → IsWorld (world_of map.new areas.now self.new) [] }
         ensures going { IsUnderWay (world_of map.new areas.now self.new) plan.new }
-        ensures others { KeepsOthers self.old self.new plan.old plan.new result }
+        ensures others { KeepsOtherInstances self.old self.new plan.old plan.new result }
         ensures classes { AreClasses map.new }
         ensures mapping { mapping map.new ≡ mapping map.old }
-        ensures records { CarriesRecords (settled plan.old outcome).actions (regions map.old) (regions map.new) }
+        ensures records { CarriesRecords (plan_after_code plan.old outcome).actions (regions map.old)
+            (regions map.new) }
         ensures flex { KeepsFlex (store_of map.old) (store_of map.new) }
     {
         let mut outcome = outcome;
@@ -71,12 +74,13 @@ impl Instances {
     ) -> Advance
         requires going { IsUnderWay (world_of map.old areas.now self.old) plan.old }
         requires classes { AreClasses map.old }
-        ensures advanced { advanced module_doing (world_of map.old areas.now self.old) plan.old outcome
+        ensures advanced { advance_of_plan module_doing (world_of map.old areas.now self.old) plan.old outcome
             ≡ record { world = world_of map.new areas.now self.new; rest = plan.new; step = result } }
         ensures going { IsUnderWay (world_of map.new areas.now self.new) plan.new }
         ensures classes { AreClasses map.new }
         ensures mapping { mapping map.new ≡ mapping map.old }
-        ensures records { MayTurnRecords (first_of (settled plan.old outcome).actions) (regions map.old) (regions map.new) }
+        ensures records { MayTurnRecords (first_action (plan_after_code plan.old outcome).actions)
+            (regions map.old) (regions map.new) }
         ensures flex { KeepsFlex (store_of map.old) (store_of map.new) }
     {
         self.table.known();
@@ -99,13 +103,14 @@ impl Instances {
     }
 
     /// An action's own part.
-    fn act(&mut self, map: &mut AddressMap, areas: &Areas, plan: &Plan, action: Action)
-        requires first { first_of plan.now.actions ≡ Some action }
+    fn act(&mut self, map: &mut AddressMap, areas: &Areas, plan: &Plan, action: PlanAction)
+        requires first { first_action plan.now.actions ≡ Some action }
         requires going { IsUnderWay (world_of map.old areas.now self.old) plan.now }
         requires classes { AreClasses map.old }
         ensures world { world_of map.new areas.now self.new
-            ≡ acted world_slid plan.now.given (world_of map.old areas.now self.old) action }
-        ensures sound { IsWorld (world_of map.new areas.now self.new) (pending_of (finished plan.now action)) }
+            ≡ world_after_action world_slid plan.now.given (world_of map.old areas.now self.old) action }
+        ensures sound { IsWorld (world_of map.new areas.now self.new)
+            (pending_of (plan_after_action plan.now action)) }
         ensures classes { AreClasses map.new }
         ensures mapping { mapping map.new ≡ mapping map.old }
         ensures records { TurnsRecords action (regions map.old) (regions map.new) }
@@ -114,7 +119,7 @@ impl Instances {
         self.table.known();
         let given = plan.given();
         match action {
-            Action::Slide => slide(map, areas, &mut self.table, given.return_address),
+            PlanAction::Slide => slide(map, areas, &mut self.table, given.return_address),
             other => act(map, &mut self.table, given, other),
         }
     }

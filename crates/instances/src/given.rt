@@ -1,6 +1,6 @@
 //! What the actions of each call need.
 ghost use Rattle.std.specs.Prelude.{◌≡◌, ◌≤◌, false, length};
-ghost use Rattle.instances.specs.Given.{given_instance, given_module, given_only, is_too_long};
+ghost use Rattle.instances.specs.Given.{given_instance, given_module, given_only, is_text_too_long};
 
 use arrayvec::ArrayVec;
 use instances_plans::Given;
@@ -10,7 +10,7 @@ use instances_table::{Image, ModuleInfo, NewInstance};
 
 /// Whether a text is longer than one that is kept.
 pub(crate) fn is_too_long(text: &[u8]) -> bool
-    ensures value { result ≡ is_too_long text.now }
+    ensures value { result ≡ is_text_too_long text.now }
     ensures else_fits { result ≡ false → length text.now ≤ 255 }
 {
     text.len() > MOST_TEXT_BYTES

@@ -2,22 +2,22 @@
 ghost use Rattle.std.specs.Prelude.{◌≡◌, ◌∷◌, [], false, IfOk, MatchResult};
 ghost use Rattle.profile.specs.Outcome.{Gives};
 ghost use Rattle.address_map.specs.Memory.{mapping};
-ghost use Rattle.instances_slide.specs.os_heap.specs.Order.{KeepsOrder};
-ghost use Rattle.instances_slide.specs.os_heap.specs.Store.{AreClasses, store_of};
-ghost use Rattle.instances_slide.specs.flex_kept.specs.Keeping.{KeepsFlex};
+ghost use Rattle.module_tidy.specs.os_heap.specs.Order.{KeepsOrder};
+ghost use Rattle.module_tidy.specs.os_heap.specs.Store.{AreClasses, store_of};
+ghost use Rattle.module_tidy.specs.flex_frame.specs.Keeping.{KeepsFlex};
 ghost use Rattle.instances_actions.specs.Pending.{pending_of};
 ghost use Rattle.instances_actions.specs.Ready.{IsReady};
-ghost use Rattle.instances_slide.specs.instances_ground.specs.Sound.{IsWorld};
-ghost use Rattle.instances_slide.specs.instances_ground.specs.World.{world_of};
+ghost use Rattle.module_tidy.specs.module_world.specs.Sound.{IsWorld};
+ghost use Rattle.module_tidy.specs.module_world.specs.World.{world_of};
 ghost use Rattle.instances.specs.Adding.{AddsImage, inserting};
 
 use crate::adding::header_at;
 use crate::instances::Instances;
 use address_map::AddressMap;
 use instances_plans::Plan;
-use instances_slide::dynamic_areas::Areas;
-use instances_slide::rma::Rma;
 use instances_table::Image;
+use module_tidy::dynamic_areas::Areas;
+use module_tidy::rma::Rma;
 use profile::ErrorNumber;
 
 impl Instances {
@@ -43,8 +43,10 @@ impl Instances {
         requires sound { IsWorld (world_of map.old areas.now self.now) [] }
         requires classes { AreClasses map.old }
         ensures world { Gives (world_of map.old areas.now self.now)
-            (inserting (world_of map.old areas.now self.now) at len) result (world_of map.new areas.now self.now) }
-        ensures sound { IfOk result (λ plan. IsWorld (world_of map.new areas.now self.now) (pending_of plan)) }
+            (inserting (world_of map.old areas.now self.now) at len) result
+            (world_of map.new areas.now self.now) }
+        ensures sound { IfOk result (λ plan. IsWorld (world_of map.new areas.now self.now)
+            (pending_of plan)) }
         ensures classes { AreClasses map.new }
         ensures mapping { mapping map.new ≡ mapping map.old }
         ensures order { MatchResult result (λ plan. AddsImage map.old map.new plan.given.image)

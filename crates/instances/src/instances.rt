@@ -4,18 +4,18 @@ ghost use Rattle.std.specs.Prelude.{◌≡◌, ◌<◌, [], Option, option_map, 
 ghost use Rattle.profile.specs.Outcome.{Leaves};
 ghost use Rattle.address_map.specs.Bytes.{AreMapped};
 ghost use Rattle.address_map.specs.Memory.{byte_at, is_mapped};
-ghost use Rattle.instances_slide.specs.dynamic_areas.specs.Ground.{Estate};
+ghost use Rattle.module_tidy.specs.dynamic_areas.specs.Ground.{Estate};
 ghost use Rattle.instances_plans.specs.Plans.{Plan};
 ghost use Rattle.instances_table.specs.Lookup.{told_of_module, told_of_place};
-ghost use Rattle.instances_table.specs.Changes.{preferring, renamed};
+ghost use Rattle.instances_table.specs.Changes.{preferring, modules_after_rename};
 ghost use Rattle.instances_table.specs.Modules.{AreModules, slots_of};
-ghost use Rattle.instances.specs.Reading.{found, told};
+ghost use Rattle.instances.specs.Reading.{instance_looked_up, instance_info};
 ghost use Rattle.instances.specs.Turns.{MayGoOn};
 
 use crate::answers::{Found, Told};
 use address_map::AddressMap;
-use instances_slide::instances_ground::private_value;
 use instances_table::{InstanceInfo, InstanceTable, ModuleInfo, Place};
+use module_tidy::module_world::private_value;
 use profile::ErrorNumber;
 use std::marker::Model;
 
@@ -85,7 +85,7 @@ impl Instances {
     /// RISC OS 3 Programmer's Reference Manual, "OS_Module", reason 12.
     pub fn info(&self, map: &AddressMap, place: Place) -> Result<Told, ErrorNumber>
         requires { AreMapped (is_mapped map.now) 0x01C02000 256 }
-        ensures { result ≡ told (byte_at map.now) self.now place }
+        ensures { result ≡ instance_info (byte_at map.now) self.now place }
     {
         let information = self.table.info(place.number, place.instance)?;
         let slot = self
@@ -109,7 +109,7 @@ impl Instances {
     /// RISC OS 3 Programmer's Reference Manual, "OS_Module", reason 18.
     pub fn lookup(&self, map: &AddressMap, full: &[u8]) -> Result<Found, ErrorNumber>
         requires { AreMapped (is_mapped map.now) 0x01C02000 256 }
-        ensures { result ≡ found (byte_at map.now) self.now full.now }
+        ensures { result ≡ instance_looked_up (byte_at map.now) self.now full.now }
     {
         let place = self.table.lookup(full)?;
         let told = self.info(map, place)?;
@@ -130,8 +130,9 @@ impl Instances {
     ///
     /// RISC OS 3 Programmer's Reference Manual, "OS_Module", reason 15.
     pub fn rename(&mut self, full: &[u8], new: &[u8]) -> Result<(), ErrorNumber>
-        ensures value { Leaves self.old (renamed self.old full.now new.now) result self.new }
-        ensures going { (e : Estate) (plan : Option Plan) → MayGoOn (record { estate = e; modules = self.old }) plan
+        ensures value { Leaves self.old (modules_after_rename self.old full.now new.now) result self.new }
+        ensures going { (e : Estate) (plan : Option Plan) →
+            MayGoOn (record { estate = e; modules = self.old }) plan
             → MayGoOn (record { estate = e; modules = self.new }) plan }
         ensures slots { slots_of self.new ≡ slots_of self.old }
     {
@@ -149,7 +150,8 @@ impl Instances {
     /// RISC OS 3 Programmer's Reference Manual, "OS_Module", reason 16.
     pub fn prefer(&mut self, full: &[u8]) -> Result<(), ErrorNumber>
         ensures value { Leaves self.old (preferring self.old full.now) result self.new }
-        ensures going { (e : Estate) (plan : Option Plan) → MayGoOn (record { estate = e; modules = self.old }) plan
+        ensures going { (e : Estate) (plan : Option Plan) →
+            MayGoOn (record { estate = e; modules = self.old }) plan
             → MayGoOn (record { estate = e; modules = self.new }) plan }
         ensures slots { slots_of self.new ≡ slots_of self.old }
     {

@@ -2,7 +2,7 @@
 
 ghost use Rattle.std.specs.Prelude.{◌≡◌, ◌<◌, ◌≤◌, ◌+◌, ◌%◌, ◌^◌, ◌==◌, if◌then◌else◌, length, slice_get, IfOk, IfSome, Some, None, true};
 ghost use Rattle.instances_plans.specs.Doable.{is_used};
-ghost use Rattle.instances_table.specs.Changes.{titled};
+ghost use Rattle.instances_table.specs.Changes.{modules_of_title};
 ghost use Rattle.instances_table.specs.Lookup.{handler_of, instance_count};
 ghost use Rattle.instances_table.specs.Modules.{slots_of};
 ghost use Rattle.instances.specs.Reading.{slot_meant, start_found};
@@ -46,7 +46,7 @@ impl Instances {
     /// The slots of the instances of the module of a title, oldest first; none where there is no
     /// such module.
     pub fn slots_of_title(&self, title: &[u8]) -> ArrayVec<u32, MOST_INSTANCES>
-        ensures { result.items ≡ slots_of (titled title.now self.now) }
+        ensures { result.items ≡ slots_of (modules_of_title title.now self.now) }
     {
         self.table.slots_of_title(title)
     }
@@ -94,7 +94,8 @@ impl Instances {
 
 // The address of a module's start, if it has one.
 fn start_of(info: &ModuleInfo) -> Option<u32>
-    ensures { result ≡ (if info.now.start == 0 then None else Some ((info.now.image + info.now.start) % 2 ^ 32)) }
+    ensures { result ≡ (if info.now.start == 0 then None
+        else Some ((info.now.image + info.now.start) % 2 ^ 32)) }
 {
     if info.start == 0 {
         return None;

@@ -2,8 +2,8 @@
 use Rattle.std.proofs.Common.{◌≡◌, ℕ, ◌==◌, true, false, List, [], ◌∷◌, ◌++◌, refl, sym, ◌∙◌, inl, inr}
 use Rattle.std.specs.List.{list_any}
 use Rattle.std.proofs.lemmas.Bool.{cases_Bool, eq-eqb, eqb-true, false≢true}
-use Rattle.instances_plans.specs.declared.action.Action.{Action}
-use Rattle.instances_plans.specs.declared.action.Action.TheVariants.{Insert, Initialise, Slide}
+use Rattle.instances_plans.specs.declared.action.PlanAction.{PlanAction}
+use Rattle.instances_plans.specs.declared.action.PlanAction.TheVariants.{Insert, Initialise, Slide}
 use Rattle.instances_plans.specs.Calls.{clear_actions, finalise_all, initialise_all, load_actions, tidy_actions}
 use Rattle.instances_plans.specs.Doable.{is_used, without, without_all}
 use Rattle.instances_actions.specs.Ready.{AllGo, ClearIsReady, InstantiateIsReady, LoadIsReady, ReinitIsReady, TidyIsReady, instantiates}
@@ -13,7 +13,7 @@ use Rattle.instances_actions.proofs.Settling.{clear_settles, instantiate_settles
 use Rattle.instances_actions.proofs.Used.{gone, others_stay}
 
 -- only an instantiation's plan has one
-clear_names : (slots : List ℕ) (after : List Action) → list_any instantiates after ≡ false → list_any instantiates (clear_actions slots ++ after) ≡ false
+clear_names : (slots : List ℕ) (after : List PlanAction) → list_any instantiates after ≡ false → list_any instantiates (clear_actions slots ++ after) ≡ false
 clear_names [] after none = none
 clear_names (s ∷ others) after none = clear_names others after none
 

@@ -5,13 +5,13 @@ use Rattle.std.specs.List.{position}
 use Rattle.std.proofs.lemmas.List.Folds.{list_any_at}
 use Rattle.std.proofs.lemmas.List.Quantifiers.{position-Some}
 use Rattle.instances_table.specs.declared.parts.Place.{Place}
-use Rattle.instances_table.specs.Lookup.{place_in, place_of_slot}
+use Rattle.instances_table.specs.Lookup.{instance_place_in, place_of_slot}
 use Rattle.instances_table.specs.Modules.{AreModules, Module, has_instance}
-use Rattle.instances_table.specs.Changes.{is_held}
+use Rattle.instances_table.specs.Changes.{is_slot_held}
 use Rattle.instances_table.proofs.RoomLemmas.{held_slot}
 
-placed_held : (slot : ℕ) (ms : List Module) (o : Option ℕ) (p : Place) → position (has_instance slot) ms ≡ o → place_in slot ms o ≡ Some p
-    → is_held slot ms ≡ true
+placed_held : (slot : ℕ) (ms : List Module) (o : Option ℕ) (p : Place) → position (has_instance slot) ms ≡ o → instance_place_in slot ms o ≡ Some p
+    → is_slot_held slot ms ≡ true
 placed_held slot ms None p found placed = absurd (let no : None ≡ Some p = placed in cc)
 placed_held slot [] (Some k) p found placed = absurd (let no : None ≡ Some k = found in cc)
 placed_held slot (m ∷ ms) (Some k) p found placed =

@@ -7,16 +7,16 @@ use Rattle.std.proofs.lemmas.Bool.{cases_Bool, false≢true, or_parts, lt-ltb}
 use Rattle.std.proofs.lemmas.List.{length-map}
 use Rattle.std.proofs.lemmas.List.Folds.{list_any-append}
 use Rattle.std.proofs.lemmas.List.Quantifiers.{position-Some}
-use Rattle.instances_plans.specs.declared.action.Action.{Action}
-use Rattle.instances_plans.specs.declared.action.Action.TheVariants.{Finalise, Remove, FreePrivate, Insert, Instantiate, GiveUp, Slide, Initialise}
+use Rattle.instances_plans.specs.declared.action.PlanAction.{PlanAction}
+use Rattle.instances_plans.specs.declared.action.PlanAction.TheVariants.{Finalise, Remove, FreePrivate, Insert, Instantiate, GiveUp, Slide, Initialise}
 use Rattle.instances_plans.specs.declared.given.Given.{Given}
 use Rattle.instances_plans.specs.Doable.{CanDo, is_used, used_after, without}
-use Rattle.instances_plans.specs.Plans.{Plan, all_but_first, first_of, owed, refused}
+use Rattle.instances_plans.specs.Plans.{Plan, all_but_first, first_action, actions_owed, plan_after_refusal}
 use Rattle.instances_plans.proofs.Doable.{some_head, stays_doable, stays_doable_refused}
 use Rattle.instances_table.specs.Additions.{added_to}
 use Rattle.instances_table.specs.Lookup.{number_of_title}
 use Rattle.instances_table.specs.Modules.{AreModules, EachIsModule, Instance, Module, changed_at, has_instance, has_slot, has_title, slots_of}
-use Rattle.instances_table.specs.Changes.{is_held, is_new, new_module, with_instance, with_module, without_instance}
+use Rattle.instances_table.specs.Changes.{is_slot_held, is_new, new_module, with_instance, with_module, without_instance}
 use Rattle.instances_table.proofs.PlaceLemmas.{nowhere}
 use Rattle.instances_table.proofs.RoomLemmas.{at_most_one, held_slot}
 use Rattle.instances_actions.specs.Actions.{image_given, with_another, with_new}
@@ -44,7 +44,7 @@ no_title title (m ∷ ms) each none = elim (cases_Bool (has_title title m)) [
 ]
 
 -- what the next action asks for
-held_in : (slot : ℕ) (ms : List Module) (t : Bool) → is_used slot (slots_of ms) ≡ t → is_held slot ms ≡ t
+held_in : (slot : ℕ) (ms : List Module) (t : Bool) → is_used slot (slots_of ms) ≡ t → is_slot_held slot ms ≡ t
 held_in slot ms t used = sym (used_slots slot ms) ∙ used
 
 is_new_here : (g : Given) (slot : ℕ) (ms : List Module) → AreModules ms → is_used slot (slots_of ms) ≡ false → slot < 64
@@ -52,7 +52,7 @@ is_new_here : (g : Given) (slot : ℕ) (ms : List Module) → AreModules ms → 
 is_new_here g slot ms are free below none =
     rw (lt-ltb slot 64 below, held_in slot ms false free, no_title g.header.title.items ms are.each none) refl
 
-acts : (g : Given) (ms : List Module) (instead : List Action) (a : Action) (others : List Action) → AreModules ms → CanDo (slots_of ms) instead (a ∷ others)
+acts : (g : Given) (ms : List Module) (instead : List PlanAction) (a : PlanAction) (others : List PlanAction) → AreModules ms → CanDo (slots_of ms) instead (a ∷ others)
     → SettlesOnce (slots_titled g.header.title.items ms) instead (a ∷ others) → CanNameFirst g ms (a ∷ others) → a ≢ Slide → CanAct g ms a
 acts g ms instead (Finalise s f) others are can once names other = tt
 acts g ms instead (Remove s) others are can once names other = held_slot s ms are (held_in s ms true can.0)
@@ -64,7 +64,7 @@ acts g ms instead GiveUp others are can once names other = tt
 acts g ms instead Slide others are can once names other = absurd (other refl)
 acts g ms instead (Initialise s) others are can once names other = tt
 
-acts_from : (g : Given) (ms : List Module) (instead actions : List Action) (a : Action) → first_of actions ≡ Some a → AreModules ms
+acts_from : (g : Given) (ms : List Module) (instead actions : List PlanAction) (a : PlanAction) → first_action actions ≡ Some a → AreModules ms
     → CanDo (slots_of ms) instead actions → SettlesOnce (slots_titled g.header.title.items ms) instead actions → CanNameFirst g ms actions → a ≢ Slide
     → CanAct g ms a
 acts_from g ms instead [] a first are can once names other = cc
@@ -104,15 +104,15 @@ swapped false false true = refl
 swapped false false false = refl
 
 held_more : (t s k : ℕ) (name : List ℕ) (ms : List Module) → k < length ms
-    → is_held t (changed_at k (with_instance name s) ms) ≡ (is_held t ms || (s == t || false))
+    → is_slot_held t (changed_at k (with_instance name s) ms) ≡ (is_slot_held t ms || (s == t || false))
 held_more t s k name [] within = absurd (omega arith)
 held_more t s zero name (m ∷ ms) within =
-    rw (list_any-append (has_slot t) m.instances (record { name = name; slot = s } ∷ [])) (swapped (has_instance t m) (s == t || false) (is_held t ms))
+    rw (list_any-append (has_slot t) m.instances (record { name = name; slot = s } ∷ [])) (swapped (has_instance t m) (s == t || false) (is_slot_held t ms))
 held_more t s (suc k) name (m ∷ ms) within =
-    ap (λ (b : Bool). has_instance t m || b) (held_more t s k name ms (omega arith)) ∙ sym (or_assoc (has_instance t m) (is_held t ms) (s == t || false))
+    ap (λ (b : Bool). has_instance t m || b) (held_more t s k name ms (omega arith)) ∙ sym (or_assoc (has_instance t m) (is_slot_held t ms) (s == t || false))
 
 another_at : (t s : ℕ) (number : Option ℕ) (name title : List ℕ) (ms : List Module) → position (has_title title) ms ≡ number
-    → list_any (has_title title) ms ≡ true → is_held t (added_to number name s ms) ≡ (is_held t ms || (s == t || false))
+    → list_any (has_title title) ms ≡ true → is_slot_held t (added_to number name s ms) ≡ (is_slot_held t ms || (s == t || false))
 another_at t s None name title ms found titled = absurd (false≢true (sym (nowhere (has_title title) ms found) ∙ titled))
 another_at t s (Some k) name title ms found titled = held_more t s k name ms (within ms k found)
   where
@@ -140,7 +140,7 @@ titled_outlined : (title : List ℕ) (ms : List Module) → slots_titled title (
 titled_outlined title [] = refl
 titled_outlined title (m ∷ ms) = rw (titled_outlined title ms) refl
 
-used_after_same : (g : Given) (ms new : List Module) (instead : List Action) (a : Action) (others : List Action) → AreModules ms
+used_after_same : (g : Given) (ms new : List Module) (instead : List PlanAction) (a : PlanAction) (others : List PlanAction) → AreModules ms
     → CanDo (slots_of ms) instead (a ∷ others) → SettlesOnce (slots_titled g.header.title.items ms) instead (a ∷ others) → CanNameFirst g ms (a ∷ others)
     → AreAfter g a ms new → SameUsed (used_after (slots_of ms) a) (slots_of new)
 used_after_same g ms new instead (Finalise s f) others are can once names after t = ap (λ (xs : List Module). is_used t (slots_of xs)) after
@@ -156,7 +156,7 @@ used_after_same g ms new instead Slide others are can once names after t =
     ap (is_used t) (sym (slots_outlined new) ∙ ap slots_of after ∙ slots_outlined ms)
 used_after_same g ms new instead (Initialise s) others are can once names after t = ap (λ (xs : List Module). is_used t (slots_of xs)) after
 
-titled_after : (g : Given) (ms new : List Module) (a : Action) → AreModules ms → AreAfter g a ms new
+titled_after : (g : Given) (ms new : List Module) (a : PlanAction) → AreModules ms → AreAfter g a ms new
     → AreTitledAfter a (slots_titled g.header.title.items ms) (slots_titled g.header.title.items new)
 titled_after g ms new (Finalise s f) are after = ap (slots_titled g.header.title.items) after
 titled_after g ms new (Remove s) are after = ap (slots_titled g.header.title.items) after ∙ titled_removed g.header.title.items s ms are
@@ -169,17 +169,17 @@ titled_after g ms new Slide are after =
 titled_after g ms new (Initialise s) are after = ap (slots_titled g.header.title.items) after
 
 -- no instantiation comes later
-pub none_first : (g : Given) (ms : List Module) (actions : List Action) → list_any instantiates actions ≡ false → CanNameFirst g ms actions
+pub none_first : (g : Given) (ms : List Module) (actions : List PlanAction) → list_any instantiates actions ≡ false → CanNameFirst g ms actions
 none_first g ms [] none = tt
 none_first g ms (a ∷ others) none =
     let parts = or_parts (instantiates a) (list_any instantiates others) none in
     (parts.1, λ is. absurd (false≢true (sym parts.0 ∙ is)))
 
-rest_names : (g : Given) (ms new : List Module) (actions : List Action) → CanNameFirst g ms actions → CanNameFirst g new (all_but_first actions)
+rest_names : (g : Given) (ms new : List Module) (actions : List PlanAction) → CanNameFirst g ms actions → CanNameFirst g new (all_but_first actions)
 rest_names g ms new [] names = tt
 rest_names g ms new (a ∷ others) names = none_first g new others names.0
 
-owed_names : (instead : List Action) (a : Action) → list_any instantiates instead ≡ false → list_any instantiates (owed instead a) ≡ false
+owed_names : (instead : List PlanAction) (a : PlanAction) → list_any instantiates instead ≡ false → list_any instantiates (actions_owed instead a) ≡ false
 owed_names instead (Finalise s true) none = none
 owed_names instead (Finalise s false) none = list_any-append instantiates instead (Initialise s ∷ []) ∙ rw none refl
 owed_names instead (Remove s) none = none
@@ -190,18 +190,18 @@ owed_names instead GiveUp none = none
 owed_names instead Slide none = none
 owed_names instead (Initialise s) none = none
 
-same_from : (g : Given) (ms new : List Module) (instead actions : List Action) (a : Action) → first_of actions ≡ Some a → AreModules ms
+same_from : (g : Given) (ms new : List Module) (instead actions : List PlanAction) (a : PlanAction) → first_action actions ≡ Some a → AreModules ms
     → CanDo (slots_of ms) instead actions → SettlesOnce (slots_titled g.header.title.items ms) instead actions → CanNameFirst g ms actions
     → AreAfter g a ms new → SameUsed (used_after (slots_of ms) a) (slots_of new)
 same_from g ms new instead [] a first are can once names after = cc
 same_from g ms new instead (b ∷ others) a first are can once names after =
     let same : b ≡ a = some_head a b first in
-    subst (λ (x : Action). AreAfter g x ms new → SameUsed (used_after (slots_of ms) x) (slots_of new)) same
+    subst (λ (x : PlanAction). AreAfter g x ms new → SameUsed (used_after (slots_of ms) x) (slots_of new)) same
     (used_after_same g ms new instead b others are can once names) after
 
 pub stays_ready : StaysReady
 stays_ready ms new p a are first ready after = record {
-  doable = can_same (used_after (slots_of ms) a) (slots_of new) (owed p.instead a) (all_but_first p.actions)
+  doable = can_same (used_after (slots_of ms) a) (slots_of new) (actions_owed p.instead a) (all_but_first p.actions)
       (same_from p.given ms new p.instead p.actions a first are ready.doable ready.settles ready.names after)
       (stays_doable (slots_of ms) p a first ready.doable);
   settles = stays_settled (slots_titled p.given.header.title.items ms) (slots_titled p.given.header.title.items new) p a first
@@ -211,9 +211,9 @@ stays_ready ms new p a are first ready after = record {
 }
 
 -- a refusal
-refused_names : (g : Given) (ms : List Module) (instead : List Action) (runs : Bool) (error : Option ℕ) (actions : List Action) (a : Action) (r0 : ℕ)
+refused_names : (g : Given) (ms : List Module) (instead : List PlanAction) (runs : Bool) (error : Option ℕ) (actions : List PlanAction) (a : PlanAction) (r0 : ℕ)
     → CanNameFirst g ms actions → list_any instantiates instead ≡ false
-    → (let p = refused (record { given = g; actions = actions; instead = instead; runs = runs; first = error }) a r0 in
+    → (let p = plan_after_refusal (record { given = g; actions = actions; instead = instead; runs = runs; first = error }) a r0 in
     CanNameFirst g ms p.actions × (list_any instantiates p.instead ≡ false))
 refused_names g ms instead runs error actions (Finalise s f) r0 names none = (none_first g ms instead none, refl)
 refused_names g ms instead runs error [] (Initialise s) r0 names none = ((refl, λ is. absurd (false≢true is)), none)
@@ -225,7 +225,7 @@ refused_names g ms instead runs error actions (Instantiate s) r0 names none = (n
 refused_names g ms instead runs error actions GiveUp r0 names none = (names, none)
 refused_names g ms instead runs error actions Slide r0 names none = (names, none)
 
-pub given_stays : (p : Plan) (a : Action) (r0 : ℕ) → (refused p a r0).given ≡ p.given
+pub given_stays : (p : Plan) (a : PlanAction) (r0 : ℕ) → (plan_after_refusal p a r0).given ≡ p.given
 given_stays p (Finalise s f) r0 = refl
 given_stays p (Remove s) r0 = refl
 given_stays p (FreePrivate s) r0 = refl
@@ -237,7 +237,7 @@ given_stays p (Initialise s) r0 = refl
 
 pub stays_ready_refused : StaysReadyRefused
 stays_ready_refused ms p a r0 first ready =
-    let given : (refused p a r0).given ≡ p.given = given_stays p a r0 in
+    let given : (plan_after_refusal p a r0).given ≡ p.given = given_stays p a r0 in
     let names = refused_names p.given ms p.instead p.runs p.first p.actions a r0 ready.names ready.instead in
     record {
       doable = stays_doable_refused (slots_of ms) p a r0 first ready.doable;

@@ -2,14 +2,14 @@
 use Rattle.std.proofs.Common.{◌≡◌, ℕ, List, [], ◌∷◌, refl, sym, ap, ◌∙◌, Some, None, Ok, Err, inl, inr}
 use Rattle.std.specs.Prelude.{Option, Result}
 use Rattle.std.proofs.lemmas.Bool.{cases_Bool}
-use Rattle.instances_ground.specs.profile.specs.Outcome.{Gives}
-use Rattle.instances_ground.specs.profile.specs.declared.error.ErrorNumber.{ErrorNumber}
-use Rattle.instances_ground.specs.dynamic_areas.specs.Ground.{Estate}
+use Rattle.module_world.specs.profile.specs.Outcome.{Gives}
+use Rattle.module_world.specs.profile.specs.declared.error.ErrorNumber.{ErrorNumber}
+use Rattle.module_world.specs.dynamic_areas.specs.Ground.{Estate}
 use Rattle.instances_table.specs.declared.parts.Image.{Image}
 use Rattle.instances_table.specs.Modules.{Module, has_instance}
 use Rattle.instances_table.specs.Changes.{module_without, without_instance}
 use Rattle.instances_table.specs.Images.{image_unless, last_image}
-use Rattle.instances_ground.specs.World.{World, image_gone, image_gone_of, image_gone_with, or_same, private_freed, removed}
+use Rattle.module_world.specs.World.{World, image_gone, image_gone_of, image_gone_with, or_same, private_freed, world_after_remove}
 
 -- what a call gave, or refused
 pub freed_by : {A : Type 0} (e h : Estate) (r : Result (Estate × A) ErrorNumber) (answer : Result A ErrorNumber) → Gives e r answer h → h ≡ or_same e r
@@ -36,8 +36,8 @@ gone_with e slot (m ∷ ms) = elim (cases_Bool (has_instance slot m)) [
 
 pub removed_by : (e f g : Estate) (ms ns : List Module) (slot : ℕ) (image : Option Image) → f ≡ private_freed e slot → ns ≡ without_instance slot ms
     → image ≡ last_image slot ms → g ≡ gone_by f image
-    → (let w : World = record { estate = g; modules = ns } in w) ≡ removed (record { estate = e; modules = ms }) slot
-unfolding removed
+    → (let w : World = record { estate = g; modules = ns } in w) ≡ world_after_remove (record { estate = e; modules = ms }) slot
+unfolding world_after_remove
 removed_by e f g ms ns slot image freed rest last gone =
     let all : g ≡ image_gone_with (private_freed e slot) slot ms =
     gone ∙ ap (gone_by f) last ∙ ap (λ (h : Estate). gone_by h (last_image slot ms)) freed ∙ sym (gone_with (private_freed e slot) slot ms) in

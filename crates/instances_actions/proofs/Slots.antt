@@ -7,8 +7,8 @@ use Rattle.std.specs.Str.{str_eq_ignore_ascii_case}
 use Rattle.std.proofs.lemmas.Bool.{cases_Bool, or_parts}
 use Rattle.instances_plans.specs.module_header.specs.declared.header.Header.{Header}
 use Rattle.instances_plans.specs.Doable.{is_used, without}
-use Rattle.instances_table.specs.Modules.{Instance, Module, has_instance, has_slot, number_of, slot_count, slots_of}
-use Rattle.instances_table.specs.Changes.{is_held, still, without_first, without_instance}
+use Rattle.instances_table.specs.Modules.{Instance, Module, has_instance, has_slot, number_passing, slot_count, slots_of}
+use Rattle.instances_table.specs.Changes.{is_slot_held, still, without_first_passing, without_instance}
 use Rattle.instances_table.proofs.Counting.{count_some, none_counted}
 use Rattle.instances_actions.specs.Pending.{slots_titled}
 
@@ -46,14 +46,14 @@ used_append s (x ∷ xs) ys = elim (cases_Bool (x == s)) [
   | inr e ↦ rw e (used_append s xs ys)
 ]
 
-pub used_slots : (s : ℕ) (ms : List Module) → is_used s (slots_of ms) ≡ is_held s ms
+pub used_slots : (s : ℕ) (ms : List Module) → is_used s (slots_of ms) ≡ is_slot_held s ms
 used_slots s [] = refl
 used_slots s (m ∷ ms) = used_append s (slots_in m.instances) (slots_of ms) ∙ rw (used_among s m.instances, used_slots s ms) refl
 
-not_used : (test : Header → Bool) (s : ℕ) (ms : List Module) → is_held s ms ≡ false → is_used s (slots_by test ms) ≡ false
+not_used : (test : Header → Bool) (s : ℕ) (ms : List Module) → is_slot_held s ms ≡ false → is_used s (slots_by test ms) ≡ false
 not_used test s [] none = refl
 not_used test s (m ∷ ms) none =
-    let parts = or_parts (has_instance s m) (is_held s ms) none in
+    let parts = or_parts (has_instance s m) (is_slot_held s ms) none in
     elim (cases_Bool (test m.header)) [
       | inl e ↦ rw e (used_append s (slots_in m.instances) (slots_by test ms)
           ∙ rw (used_among s m.instances, parts.0) (not_used test s ms parts.1))
@@ -74,7 +74,7 @@ without_unused s (x ∷ xs) none =
     let parts = or_parts (x == s) (is_used s xs) none in
     rw parts.0 (ap (λ (zs : List ℕ). x ∷ zs) (without_unused s xs parts.1))
 
-without_instances : (s : ℕ) (is : List Instance) → number_of (has_slot s) is ≤ 1 → without s (slots_in is) ≡ slots_in (without_first (has_slot s) is)
+without_instances : (s : ℕ) (is : List Instance) → number_passing (has_slot s) is ≤ 1 → without s (slots_in is) ≡ slots_in (without_first_passing (has_slot s) is)
 without_instances s [] few = refl
 without_instances s (i ∷ is) few = elim (cases_Bool (i.slot == s)) [
   | inl e ↦
@@ -86,7 +86,7 @@ without_instances s (i ∷ is) few = elim (cases_Bool (i.slot == s)) [
       rw e (ap (λ (zs : List ℕ). i.slot ∷ zs) (without_instances s is (omega (arith, less))))
 ]
 
-held_counted : (s : ℕ) (ms : List Module) → slot_count s ms ≡ 0 → is_held s ms ≡ false
+held_counted : (s : ℕ) (ms : List Module) → slot_count s ms ≡ 0 → is_slot_held s ms ≡ false
 held_counted s [] none = refl
 held_counted s (m ∷ ms) none = rw (none_counted (has_slot s) m.instances (omega arith), held_counted s ms (omega arith)) refl
 
@@ -104,12 +104,12 @@ pub slots_less : (test : Header → Bool) (s : ℕ) (ms : List Module) → slot_
 slots_less test s [] few = refl
 slots_less test s (m ∷ ms) few = elim (cases_Bool (has_instance s m)) [
   | inl own ↦
-      let some : 1 ≤ number_of (has_slot s) m.instances = count_some (has_slot s) m.instances own in
+      let some : 1 ≤ number_passing (has_slot s) m.instances = count_some (has_slot s) m.instances own in
       let later : without s (slots_by test ms) ≡ slots_by test ms =
       without_unused s (slots_by test ms) (not_used test s ms (held_counted s ms (omega (arith, few, some)))) in
-      let here : without s (slots_in m.instances) ≡ slots_in (without_first (has_slot s) m.instances) =
+      let here : without s (slots_in m.instances) ≡ slots_in (without_first_passing (has_slot s) m.instances) =
       without_instances s m.instances (omega (arith, few)) in
-      rw own (left_slots test s m (without_first (has_slot s) m.instances) ms ∙ elim (cases_Bool (test m.header)) [
+      rw own (left_slots test s m (without_first_passing (has_slot s) m.instances) ms ∙ elim (cases_Bool (test m.header)) [
         | inl e ↦ rw e (sym (without_append s (slots_in m.instances) (slots_by test ms) ∙ rw (here, later) refl))
         | inr e ↦ rw e (sym later)
       ])

@@ -1,10 +1,10 @@
 -- What a plan asks depends on which slots are used, and not on their order.
 use Rattle.std.proofs.Common.{◌≡◌, ℕ, ◌==◌, ◌||◌, Bool, false, List, [], ◌∷◌, ◌++◌, refl, sym, ap, ◌∙◌, inl, inr}
 use Rattle.std.proofs.lemmas.Bool.{cases_Bool, eqb-true}
-use Rattle.instances_plans.specs.declared.action.Action.{Action}
-use Rattle.instances_plans.specs.declared.action.Action.TheVariants.{Finalise, Remove, FreePrivate, Insert, Instantiate, GiveUp, Slide, Initialise}
+use Rattle.instances_plans.specs.declared.action.PlanAction.{PlanAction}
+use Rattle.instances_plans.specs.declared.action.PlanAction.TheVariants.{Finalise, Remove, FreePrivate, Insert, Instantiate, GiveUp, Slide, Initialise}
 use Rattle.instances_plans.specs.Doable.{CanDo, StandsInstead, is_used, without}
-use Rattle.instances_plans.specs.Plans.{owed}
+use Rattle.instances_plans.specs.Plans.{actions_owed}
 use Rattle.instances_actions.proofs.Slots.{used_append}
 
 abbrev pub SameUsed : List ℕ → List ℕ → Type 0
@@ -36,7 +36,7 @@ same_more : (s : ℕ) (old new : List ℕ) → SameUsed old new → SameUsed (ol
 same_more s old new same t =
     used_append t new (s ∷ []) ∙ ap (λ (b : Bool). b || is_used t (s ∷ [])) (same t) ∙ sym (used_append t old (s ∷ []))
 
-stands_same : (old new : List ℕ) (actions : List Action) → SameUsed old new → StandsInstead old actions → StandsInstead new actions
+stands_same : (old new : List ℕ) (actions : List PlanAction) → SameUsed old new → StandsInstead old actions → StandsInstead new actions
 stands_same old new [] same stands = tt
 stands_same old new (GiveUp ∷ others) same stands = stands_same old new others same stands
 stands_same old new (Initialise s ∷ others) same stands = (
@@ -53,10 +53,10 @@ stands_same old new (Insert s ∷ others) same stands = absurd stands
 stands_same old new (Instantiate s ∷ others) same stands = absurd stands
 stands_same old new (Slide ∷ others) same stands = absurd stands
 
-pub can_same : (old new : List ℕ) (instead actions : List Action) → SameUsed old new → CanDo old instead actions → CanDo new instead actions
+pub can_same : (old new : List ℕ) (instead actions : List PlanAction) → SameUsed old new → CanDo old instead actions → CanDo new instead actions
 can_same old new instead [] same can = tt
 can_same old new instead (Finalise s f ∷ others) same can =
-    (same s ∙ can.0, (stands_same old new instead same can.1.0, can_same old new (owed instead (Finalise s f)) others same can.1.1))
+    (same s ∙ can.0, (stands_same old new instead same can.1.0, can_same old new (actions_owed instead (Finalise s f)) others same can.1.1))
 can_same old new instead (Remove s ∷ others) same can =
     (same s ∙ can.0, can_same (without s old) (without s new) instead others (same_without s old new same) can.1)
 can_same old new instead (FreePrivate s ∷ others) same can = (same s ∙ can.0, can_same old new instead others same can.1)

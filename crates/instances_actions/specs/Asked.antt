@@ -1,12 +1,12 @@
 -- What an action asks of the modules when its turn comes (this project's own).
 use Rattle.std.specs.Prelude.{◌≡◌, ◌<◌, ℕ, Bool, true, false, List}
-use Rattle.instances_plans.specs.declared.action.Action.{Action}
-use Rattle.instances_plans.specs.declared.action.Action.TheVariants.{Finalise, Remove, FreePrivate, Insert, Instantiate, GiveUp, Slide, Initialise}
+use Rattle.instances_plans.specs.declared.action.PlanAction.{PlanAction}
+use Rattle.instances_plans.specs.declared.action.PlanAction.TheVariants.{Finalise, Remove, FreePrivate, Insert, Instantiate, GiveUp, Slide, Initialise}
 use Rattle.instances_plans.specs.declared.given.Given.{Given}
 use Rattle.instances_table.specs.Additions.{is_named_at}
 use Rattle.instances_table.specs.Modules.{Module}
 use Rattle.instances_table.specs.Lookup.{number_of_title}
-use Rattle.instances_table.specs.Changes.{is_held, is_new}
+use Rattle.instances_table.specs.Changes.{is_slot_held, is_new}
 
 -- has the module of the title an instance of the new name?
 abbrev pub is_taken : Given → List Module → Bool
@@ -15,11 +15,11 @@ is_taken g modules = is_named_at g.name.items (number_of_title g.header.title.it
 -- a slot is free, and an instance of the new name may have it
 pub record CanInstantiate (g : Given) (modules : List Module) (slot : ℕ) : Type 0 where
   pub below : slot < 64
-  pub free : is_held slot modules ≡ false
+  pub free : is_slot_held slot modules ≡ false
   pub named : is_taken g modules ≡ false
 
 -- An action is done when its instance is there, or what it adds is new. A slide is done elsewhere.
-abbrev pub CanAct : Given → List Module → Action → Type 0
+abbrev pub CanAct : Given → List Module → PlanAction → Type 0
 CanAct g modules (Finalise slot fatal) = Unit {0}
 CanAct g modules (Remove slot) = slot < 64
 CanAct g modules (FreePrivate slot) = slot < 64

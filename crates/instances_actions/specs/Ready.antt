@@ -2,12 +2,12 @@
 -- (this project's own).
 use Rattle.std.specs.Prelude.{◌≡◌, ◌≢◌, ℕ, Bool, true, false, Some, List, [], ◌∷◌, map}
 use Rattle.std.specs.List.{list_any}
-use Rattle.instances_plans.specs.declared.action.Action.{Action}
-use Rattle.instances_plans.specs.declared.action.Action.TheVariants.{Remove, Insert, Instantiate, Slide}
+use Rattle.instances_plans.specs.declared.action.PlanAction.{PlanAction}
+use Rattle.instances_plans.specs.declared.action.PlanAction.TheVariants.{Remove, Insert, Instantiate, Slide}
 use Rattle.instances_plans.specs.declared.given.Given.{Given}
 use Rattle.instances_plans.specs.Calls.{clear_plan, instantiate_plan, load_plan, reinit_plan, tidy_plan}
 use Rattle.instances_plans.specs.Doable.{IsDoable, without_all}
-use Rattle.instances_plans.specs.Plans.{Plan, finished, first_of, refused}
+use Rattle.instances_plans.specs.Plans.{Plan, plan_after_action, first_action, plan_after_refusal}
 use Rattle.instances_table.specs.Modules.{AreModules, Module, has_title, slots_of}
 use Rattle.instances_table.specs.Changes.{without_instance}
 use Rattle.instances_actions.specs.Actions.{with_another, with_new}
@@ -16,7 +16,7 @@ use Rattle.instances_actions.specs.Pending.{IsSettledOnce, slots_titled}
 
 -- An instantiation stands first, if at all: its name was found free, in a module that was found,
 -- when the call was made.
-abbrev pub instantiates : Action → Bool
+abbrev pub instantiates : PlanAction → Bool
 instantiates (Instantiate slot) = true
 instantiates _ = false
 
@@ -24,9 +24,10 @@ pub record CanName (g : Given) (modules : List Module) : Type 0 where
   pub titled : list_any (has_title g.header.title.items) modules ≡ true
   pub named : is_taken g modules ≡ false
 
-abbrev pub CanNameFirst : Given → List Module → List Action → Type 0
+abbrev pub CanNameFirst : Given → List Module → List PlanAction → Type 0
 CanNameFirst g modules [] = Unit {0}
-CanNameFirst g modules (a ∷ others) = (list_any instantiates others ≡ false) × (instantiates a ≡ true → CanName g modules)
+CanNameFirst g modules (a ∷ others) = (list_any instantiates others ≡ false) ×
+    (instantiates a ≡ true → CanName g modules)
 
 pub record IsReady (modules : List Module) (p : Plan) : Type 0 where
   pub doable : IsDoable (slots_of modules) p
@@ -38,51 +39,60 @@ pub record IsReady (modules : List Module) (p : Plan) : Type 0 where
 abbrev pub outline : Module → Module
 outline m = record m { image = record { at = 0; len = 0 } }
 
-abbrev pub IsSlid : List Module → List Module → Type 0
-IsSlid old new = map outline new ≡ map outline old
+abbrev pub HaveSameOutlines : List Module → List Module → Type 0
+HaveSameOutlines old new = map outline new ≡ map outline old
 
 -- the modules after an action
-abbrev pub AreAfter : Given → Action → List Module → List Module → Type 0
+abbrev pub AreAfter : Given → PlanAction → List Module → List Module → Type 0
 AreAfter g (Remove slot) old new = new ≡ without_instance slot old
 AreAfter g (Insert slot) old new = new ≡ with_new g slot old
 AreAfter g (Instantiate slot) old new = new ≡ with_another g slot old
-AreAfter g Slide old new = IsSlid old new
+AreAfter g Slide old new = HaveSameOutlines old new
 AreAfter g _ old new = new ≡ old
 
 -- A plan that is ready finds what its next action asks for, and is ready still once that is done,
 -- or has refused.
 abbrev pub ReadyActs : Type 0
-ReadyActs = (modules : List Module) (p : Plan) (a : Action) → AreModules modules → first_of p.actions ≡ Some a → IsReady modules p → a ≢ Slide
+ReadyActs = (modules : List Module) (p : Plan) (a : PlanAction) → AreModules modules →
+    first_action p.actions ≡ Some a → IsReady modules p → a ≢ Slide
     → CanAct p.given modules a
 
 abbrev pub StaysReady : Type 0
-StaysReady = (old new : List Module) (p : Plan) (a : Action) → AreModules old → first_of p.actions ≡ Some a → IsReady old p → AreAfter p.given a old new
-    → IsReady new (finished p a)
+StaysReady = (old new : List Module) (p : Plan) (a : PlanAction) → AreModules old →
+    first_action p.actions ≡ Some a → IsReady old p → AreAfter p.given a old new
+    → IsReady new (plan_after_action p a)
 
 abbrev pub StaysReadyRefused : Type 0
-StaysReadyRefused = (modules : List Module) (p : Plan) (a : Action) (r0 : ℕ) → first_of p.actions ≡ Some a → IsReady modules p
-    → IsReady modules (refused p a r0)
+StaysReadyRefused = (modules : List Module) (p : Plan) (a : PlanAction) (r0 : ℕ) →
+    first_action p.actions ≡ Some a → IsReady modules p
+    → IsReady modules (plan_after_refusal p a r0)
 
 -- Each call's plan is ready when it is made, if it is doable: a load's where the older instances
 -- that go are all those of the title, an instantiation's where its name is free.
 abbrev pub LoadIsReady : Type 0
-LoadIsReady = (given : Given) (modules : List Module) (old : List ℕ) (slot : ℕ) → IsDoable (slots_of modules) (load_plan given old slot)
-    → without_all old (slots_titled given.header.title.items modules) ≡ [] → IsReady modules (load_plan given old slot)
+LoadIsReady = (given : Given) (modules : List Module) (old : List ℕ) (slot : ℕ) →
+    IsDoable (slots_of modules) (load_plan given old slot)
+    → without_all old (slots_titled given.header.title.items modules) ≡ [] →
+    IsReady modules (load_plan given old slot)
 
 abbrev pub ClearIsReady : Type 0
-ClearIsReady = (given : Given) (modules : List Module) (slots : List ℕ) → IsDoable (slots_of modules) (clear_plan given slots)
+ClearIsReady = (given : Given) (modules : List Module) (slots : List ℕ) →
+    IsDoable (slots_of modules) (clear_plan given slots)
     → IsReady modules (clear_plan given slots)
 
 abbrev pub ReinitIsReady : Type 0
-ReinitIsReady = (given : Given) (modules : List Module) (slot : ℕ) → IsDoable (slots_of modules) (reinit_plan given slot)
+ReinitIsReady = (given : Given) (modules : List Module) (slot : ℕ) →
+    IsDoable (slots_of modules) (reinit_plan given slot)
     → IsReady modules (reinit_plan given slot)
 
 abbrev pub InstantiateIsReady : Type 0
-InstantiateIsReady = (given : Given) (modules : List Module) (slot : ℕ) → IsDoable (slots_of modules) (instantiate_plan given slot)
+InstantiateIsReady = (given : Given) (modules : List Module) (slot : ℕ) →
+    IsDoable (slots_of modules) (instantiate_plan given slot)
     → CanName given modules → IsReady modules (instantiate_plan given slot)
 
 abbrev pub TidyIsReady : Type 0
-TidyIsReady = (given : Given) (modules : List Module) (slots : List ℕ) → IsDoable (slots_of modules) (tidy_plan given slots)
+TidyIsReady = (given : Given) (modules : List Module) (slots : List ℕ) →
+    IsDoable (slots_of modules) (tidy_plan given slots)
     → IsReady modules (tidy_plan given slots)
 
 -- of slots none is left without all of them

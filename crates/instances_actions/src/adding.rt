@@ -1,26 +1,26 @@
 //! What adds a module or an instance, or gives a new module's image up.
 
 ghost use Rattle.std.specs.Prelude.{ℕ, List, ◌≡◌, [], ◌∷◌, true};
-ghost use Rattle.instances_ground.specs.address_map.specs.Memory.{layout, mapping, regions};
-ghost use Rattle.instances_ground.specs.os_heap.specs.Store.{AreClasses, store_of};
-ghost use Rattle.instances_ground.specs.dynamic_areas.specs.Areas.{Land};
-ghost use Rattle.instances_ground.specs.dynamic_areas.specs.Ground.{estate_of};
-ghost use Rattle.instances_ground.specs.flex_kept.specs.Keeping.{KeepsFlex};
+ghost use Rattle.module_world.specs.address_map.specs.Memory.{layout, mapping, regions};
+ghost use Rattle.module_world.specs.os_heap.specs.Store.{AreClasses, store_of};
+ghost use Rattle.module_world.specs.dynamic_areas.specs.Areas.{Land};
+ghost use Rattle.module_world.specs.dynamic_areas.specs.Ground.{estate_of};
+ghost use Rattle.module_world.specs.flex_frame.specs.Keeping.{KeepsFlex};
 ghost use Rattle.instances_table.specs.Changes.{is_new};
 ghost use Rattle.instances_table.specs.Modules.{Module};
-ghost use Rattle.instances_ground.specs.Records.{LosesRecords};
-ghost use Rattle.instances_ground.specs.Sound.{HasSystemPages, IsWorld};
-ghost use Rattle.instances_ground.specs.World.{image_gone, with_private, world_of};
+ghost use Rattle.module_world.specs.Records.{LosesRecords};
+ghost use Rattle.module_world.specs.Sound.{HasSystemPages, IsWorld};
+ghost use Rattle.module_world.specs.World.{image_gone, with_private, world_of};
 ghost use Rattle.instances_actions.specs.Actions.{image_given, with_another, with_new};
 ghost use Rattle.instances_actions.specs.Asked.{CanInstantiate};
 
 use crate::removal::drop_image;
 use arrayvec::ArrayVec;
-use instances_ground::address_map::AddressMap;
-use instances_ground::put_private;
 use instances_plans::Given;
 use instances_plans::module_header::Header;
 use instances_table::{Image, InstanceTable};
+use module_world::address_map::AddressMap;
+use module_world::put_private;
 
 /// Adds the new module, the youngest, with its first instance in a slot, whose private word is 0.
 ///
@@ -66,7 +66,8 @@ pub fn instantiate(map: &mut AddressMap, table: &mut InstanceTable, given: &Give
 pub fn give_up(map: &mut AddressMap, given: &Given)
     requires system { HasSystemPages map.old }
     requires classes { AreClasses map.old }
-    ensures estate { (l : Land) → estate_of map.new l ≡ image_gone (estate_of map.old l) (image_given given.now) }
+    ensures estate { (l : Land) → estate_of map.new l ≡ image_gone (estate_of map.old l)
+        (image_given given.now) }
     ensures sound { (l : Land) (modules : List Module)
         → IsWorld (world_of map.old l modules) (image_given given.now ∷ [])
         → IsWorld (world_of map.new l modules) [] }

@@ -1,31 +1,41 @@
 //! The code that an action runs.
 
 ghost use Rattle.std.specs.Prelude.{◌≡◌};
-ghost use Rattle.instances_actions.specs.Codes.{code_among, entered, entry_of};
+ghost use Rattle.instances_actions.specs.Codes.{code_among, code_to_enter, entry_offset};
 
-use instances_ground::profile::memory_map::ENVIRONMENT_TEXT;
 use instances_plans::module_header::Header;
-use instances_plans::{Action, Code, CodeKind, private_word};
+use instances_plans::{Code, CodeKind, PlanAction, private_word};
 use instances_table::InstanceTable;
+use module_world::profile::memory_map::ENVIRONMENT_TEXT;
 
 /// The code that an action runs, if the module of its instance has that entry.
 ///
 /// RISC OS 3 Programmer's Reference Manual, "Modules", "Initialisation entry point", "Finalisation
 /// entry point".
 #[tactic(auto, unfolding(crate::specs::Codes::code_among))]
-pub fn code_of(table: &InstanceTable, action: Action) -> Option<Code>
+pub fn code_of(table: &InstanceTable, action: PlanAction) -> Option<Code>
     ensures { result ≡ code_among table.now action }
 {
     match action {
-        Action::Finalise(slot, fatal) => entered(table, CodeKind::Finalise, slot, u32::from(fatal)),
-        Action::Initialise(slot) => entered(table, CodeKind::Initialise, slot, ENVIRONMENT_TEXT),
+        PlanAction::Finalise(slot, fatal) => entered(
+            table,
+            CodeKind::Finalise,
+            slot,
+            u32::from(fatal),
+        ),
+        PlanAction::Initialise(slot) => entered(
+            table,
+            CodeKind::Initialise,
+            slot,
+            ENVIRONMENT_TEXT,
+        ),
         _ => None,
     }
 }
 
 /// The code at an entry of the module that has the instance of a slot.
 fn entered(table: &InstanceTable, kind: CodeKind, slot: u32, r10: u32) -> Option<Code>
-    ensures { result ≡ entered kind slot r10 table.now }
+    ensures { result ≡ code_to_enter kind slot r10 table.now }
 {
     let place = table.place_of_slot(slot)?;
     let entry = entry_of(table.header(place.number)?, kind);
@@ -45,7 +55,7 @@ fn entered(table: &InstanceTable, kind: CodeKind, slot: u32, r10: u32) -> Option
 }
 
 fn entry_of(header: &Header, kind: CodeKind) -> u32
-    ensures { result ≡ entry_of kind header.now }
+    ensures { result ≡ entry_offset kind header.now }
 {
     match kind {
         CodeKind::Initialise => header.initialise,

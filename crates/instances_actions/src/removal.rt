@@ -1,22 +1,22 @@
 //! What takes instances away, and what they held.
 
 ghost use Rattle.std.specs.Prelude.{ℕ, List, ◌≡◌, ◌<◌};
-ghost use Rattle.instances_ground.specs.address_map.specs.Memory.{mapping, regions};
-ghost use Rattle.instances_ground.specs.os_heap.specs.Order.{LosesHeaps};
-ghost use Rattle.instances_ground.specs.os_heap.specs.Store.{AreClasses, store_of};
-ghost use Rattle.instances_ground.specs.dynamic_areas.specs.Areas.{Land};
-ghost use Rattle.instances_ground.specs.dynamic_areas.specs.Ground.{IsEstate, estate_of};
-ghost use Rattle.instances_ground.specs.flex_kept.specs.Keeping.{KeepsFlex};
+ghost use Rattle.module_world.specs.address_map.specs.Memory.{mapping, regions};
+ghost use Rattle.module_world.specs.os_heap.specs.Order.{LosesHeaps};
+ghost use Rattle.module_world.specs.os_heap.specs.Store.{AreClasses, store_of};
+ghost use Rattle.module_world.specs.dynamic_areas.specs.Areas.{Land};
+ghost use Rattle.module_world.specs.dynamic_areas.specs.Ground.{IsEstate, estate_of};
+ghost use Rattle.module_world.specs.flex_frame.specs.Keeping.{KeepsFlex};
 ghost use Rattle.instances_table.specs.declared.parts.Image.{Image};
 ghost use Rattle.instances_table.specs.Modules.{Module};
-ghost use Rattle.instances_ground.specs.Records.{LosesRecords};
-ghost use Rattle.instances_ground.specs.Sound.{HasSystemPages, IsWorld};
-ghost use Rattle.instances_ground.specs.World.{image_gone, private_freed, removed, world_of};
+ghost use Rattle.module_world.specs.Records.{LosesRecords};
+ghost use Rattle.module_world.specs.Sound.{HasSystemPages, IsWorld};
+ghost use Rattle.module_world.specs.World.{image_gone, private_freed, world_after_remove, world_of};
 
-use instances_ground::address_map::AddressMap;
-use instances_ground::rma::Rma;
-use instances_ground::{private_value, put_private};
 use instances_table::{Image, InstanceTable, is_in_module_area};
+use module_world::address_map::AddressMap;
+use module_world::rma::Rma;
+use module_world::{private_value, put_private};
 
 /// Removes the instance of a slot: the block that its private word names is given back, the word is
 /// 0 then, and the instance is gone; with the last one of a module its image goes.
@@ -26,7 +26,8 @@ pub fn remove(map: &mut AddressMap, table: &mut InstanceTable, slot: u32)
     requires below { slot < 64 }
     requires system { HasSystemPages map.old }
     requires classes { AreClasses map.old }
-    ensures world { (l : Land) → world_of map.new l table.new ≡ removed (world_of map.old l table.old) slot }
+    ensures world { (l : Land) → world_of map.new l table.new ≡ world_after_remove
+        (world_of map.old l table.old) slot }
     ensures sound { (l : Land) (pending : List Image) → IsWorld (world_of map.old l table.old) pending
         → IsWorld (world_of map.new l table.new) pending }
     ensures pages { HasSystemPages map.new }

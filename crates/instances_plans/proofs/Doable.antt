@@ -2,13 +2,13 @@
 use Rattle.std.proofs.Common.{inl, inr, ◌≡◌, ◌<◌, ℕ, Bool, true, false, nat_eq, cond, List, [], ◌∷◌, ◌++◌, Option, Some, None, refl, sym, ◌∙◌, ap, subst, arith, append_assoc, append-nil}
 use Rattle.std.proofs.lemmas.Bool.{true≢false}
 use Rattle.std.proofs.lemmas.Bool.Decides.{nat_tests}
-use Rattle.instances_plans.specs.declared.action.Action.{Action}
-use Rattle.instances_plans.specs.declared.action.Action.TheVariants.{Finalise, Remove, FreePrivate, Insert, Instantiate, GiveUp, Slide, Initialise}
+use Rattle.instances_plans.specs.declared.action.PlanAction.{PlanAction}
+use Rattle.instances_plans.specs.declared.action.PlanAction.TheVariants.{Finalise, Remove, FreePrivate, Insert, Instantiate, GiveUp, Slide, Initialise}
 use Rattle.instances_plans.specs.declared.given.Given.{Given}
 use Rattle.instances_plans.specs.Calls.{clear_actions, finalise_all, initialise_all}
 use Rattle.instances_plans.specs.Doable.{AreSlots, CanDo, IsDoable, StandsInstead, is_used, used_after, without, without_all}
 use Rattle.instances_plans.specs.Laws.{ClearIsDoable, InstantiateIsDoable, LoadIsDoable, ReinitIsDoable, StaysDoable, StaysDoableRefused, TidyIsDoable}
-use Rattle.instances_plans.specs.Plans.{Plan, all_but_first, finished, first_of, owed, refused}
+use Rattle.instances_plans.specs.Plans.{Plan, all_but_first, plan_after_action, first_action, actions_owed, plan_after_refusal}
 
 -- an instance stays when another goes
 still_this : (t : Bool) (slot other s : ℕ) (others : List ℕ) → nat_eq s slot ≡ t → nat_eq s other ≡ false → is_used slot (s ∷ others) ≡ true
@@ -47,7 +47,7 @@ new_used slot [] = let same : nat_eq slot slot ≡ true = grind (arith, nat_test
 new_used slot (s ∷ used) = new_by (nat_eq s slot) slot s (used ++ slot ∷ []) refl (new_used slot used)
 
 -- clearing
-clear_then : (used slots : List ℕ) (instead after : List Action) → ((u : List ℕ) → StandsInstead u instead) → AreSlots used slots
+clear_then : (used slots : List ℕ) (instead after : List PlanAction) → ((u : List ℕ) → StandsInstead u instead) → AreSlots used slots
     → CanDo (without_all slots used) instead after → CanDo used instead (clear_actions slots ++ after)
 clear_then used [] instead after stands are can = can
 clear_then used (slot ∷ others) instead after stands are can =
@@ -60,7 +60,7 @@ load_is_doable given used old slot are free below =
 
 pub clear_is_doable : ClearIsDoable
 clear_is_doable given used slots are =
-    subst (λ (actions : List Action). CanDo used [] actions) (append-nil (clear_actions slots)) (clear_then used slots [] [] (λ _. tt) are tt)
+    subst (λ (actions : List PlanAction). CanDo used [] actions) (append-nil (clear_actions slots)) (clear_then used slots [] [] (λ _. tt) are tt)
 
 pub reinit_is_doable : ReinitIsDoable
 reinit_is_doable given used slot there = (there, (tt, (there, (there, (tt, tt)))))
@@ -69,7 +69,7 @@ pub instantiate_is_doable : InstantiateIsDoable
 instantiate_is_doable given used slot free below = (free, (below, (new_used slot used, (tt, tt))))
 
 -- initialising all, in a plan and instead of one
-can_all : (used slots : List ℕ) (instead : List Action) → AreSlots used slots → CanDo used instead (initialise_all slots)
+can_all : (used slots : List ℕ) (instead : List PlanAction) → AreSlots used slots → CanDo used instead (initialise_all slots)
 can_all used [] instead are = tt
 can_all used (slot ∷ others) instead are =
     (are.0, (can_all used others instead are.1.1, can_all (without slot used) others instead (slots_left used slot others are.1.0 are.1.1)))
@@ -100,7 +100,7 @@ owing : (before : List ℕ) (slot : ℕ) → initialise_all (before ++ slot ∷ 
 owing [] slot = refl
 owing (s ∷ before) slot = ap (λ actions. Initialise s ∷ actions) (owing before slot)
 
-finalise_then : (used before slots : List ℕ) (after : List Action) → AreSlots used (before ++ slots) → ((instead : List Action) → CanDo used instead after)
+finalise_then : (used before slots : List ℕ) (after : List PlanAction) → AreSlots used (before ++ slots) → ((instead : List PlanAction) → CanDo used instead after)
     → CanDo used (initialise_all before) (finalise_all slots ++ after)
 finalise_then used before [] after are can = can (initialise_all before)
 finalise_then used before (slot ∷ others) after are can =
@@ -108,7 +108,7 @@ finalise_then used before (slot ∷ others) after are can =
       (back_slots used before (slot ∷ others) are).0,
       (
         stands_all used before (front_slots used before (slot ∷ others) are),
-        subst (λ (instead : List Action). CanDo used instead (finalise_all others ++ after)) (owing before slot) (finalise_then used (before ++ slot ∷ []) others after next can),
+        subst (λ (instead : List PlanAction). CanDo used instead (finalise_all others ++ after)) (owing before slot) (finalise_then used (before ++ slot ∷ []) others after next can),
       ),
     )
 
@@ -117,8 +117,8 @@ tidy_is_doable given used slots are =
     finalise_then used [] slots (Slide ∷ initialise_all slots) are (λ instead. can_all used slots instead are)
 
 -- after an action
-stays : (used : List ℕ) (instead : List Action) (a : Action) (others : List Action) → CanDo used instead (a ∷ others)
-    → CanDo (used_after used a) (owed instead a) others
+stays : (used : List ℕ) (instead : List PlanAction) (a : PlanAction) (others : List PlanAction) → CanDo used instead (a ∷ others)
+    → CanDo (used_after used a) (actions_owed instead a) others
 stays used instead (Finalise slot fatal) others can = can.1.1
 stays used instead (Remove slot) others can = can.1
 stays used instead (FreePrivate slot) others can = can.1
@@ -128,19 +128,19 @@ stays used instead GiveUp others can = can
 stays used instead Slide others can = can
 stays used instead (Initialise slot) others can = can.1.0
 
-pub some_head : (a b : Action) → Some b ≡ Some a → b ≡ a
+pub some_head : (a b : PlanAction) → Some b ≡ Some a → b ≡ a
 some_head a b same = cc
 
-stays_from : (used : List ℕ) (instead actions : List Action) (a : Action) → first_of actions ≡ Some a → CanDo used instead actions
-    → CanDo (used_after used a) (owed instead a) (all_but_first actions)
+stays_from : (used : List ℕ) (instead actions : List PlanAction) (a : PlanAction) → first_action actions ≡ Some a → CanDo used instead actions
+    → CanDo (used_after used a) (actions_owed instead a) (all_but_first actions)
 stays_from used instead [] a first can = cc
 stays_from used instead (b ∷ others) a first can =
-    stays used instead a others (subst (λ (x : Action). CanDo used instead (x ∷ others)) (some_head a b first) can)
+    stays used instead a others (subst (λ (x : PlanAction). CanDo used instead (x ∷ others)) (some_head a b first) can)
 
 pub stays_doable : StaysDoable
 stays_doable used p a first can = stays_from used p.instead p.actions a first can
 
-stands_do : (used : List ℕ) (actions : List Action) → StandsInstead used actions → CanDo used [] actions
+stands_do : (used : List ℕ) (actions : List PlanAction) → StandsInstead used actions → CanDo used [] actions
 stands_do used [] stands = tt
 stands_do used (GiveUp ∷ others) stands = stands_do used others stands
 stands_do used (Initialise slot ∷ others) stands = (stands.0, (stands_do used others stands.1.0, stands_do (without slot used) others stands.1.1))
@@ -151,9 +151,9 @@ stands_do used (Insert slot ∷ others) stands = absurd stands
 stands_do used (Instantiate slot ∷ others) stands = absurd stands
 stands_do used (Slide ∷ others) stands = absurd stands
 
-refuses : (used : List ℕ) (given : Given) (instead : List Action) (runs : Bool) (error : Option ℕ) (a : Action) (others : List Action) (r0 : ℕ)
+refuses : (used : List ℕ) (given : Given) (instead : List PlanAction) (runs : Bool) (error : Option ℕ) (a : PlanAction) (others : List PlanAction) (r0 : ℕ)
     → CanDo used instead (a ∷ others)
-    → IsDoable used (refused (record { given = given; actions = a ∷ others; instead = instead; runs = runs; first = error }) a r0)
+    → IsDoable used (plan_after_refusal (record { given = given; actions = a ∷ others; instead = instead; runs = runs; first = error }) a r0)
 refuses used given instead runs error (Finalise slot fatal) others r0 can = stands_do used instead can.1.0
 refuses used given instead runs error (Initialise slot) others r0 can = (can.0, can.1.1)
 refuses used given instead runs error (Remove slot) others r0 can = can
@@ -163,12 +163,12 @@ refuses used given instead runs error (Instantiate slot) others r0 can = can
 refuses used given instead runs error GiveUp others r0 can = can
 refuses used given instead runs error Slide others r0 can = can
 
-refuses_from : (used : List ℕ) (given : Given) (instead : List Action) (runs : Bool) (error : Option ℕ) (actions : List Action) (a : Action) (r0 : ℕ)
-    → first_of actions ≡ Some a → CanDo used instead actions
-    → IsDoable used (refused (record { given = given; actions = actions; instead = instead; runs = runs; first = error }) a r0)
+refuses_from : (used : List ℕ) (given : Given) (instead : List PlanAction) (runs : Bool) (error : Option ℕ) (actions : List PlanAction) (a : PlanAction) (r0 : ℕ)
+    → first_action actions ≡ Some a → CanDo used instead actions
+    → IsDoable used (plan_after_refusal (record { given = given; actions = actions; instead = instead; runs = runs; first = error }) a r0)
 refuses_from used given instead runs error [] a r0 first can = cc
 refuses_from used given instead runs error (b ∷ others) a r0 first can =
-    subst (λ (x : Action). IsDoable used (refused (record { given = given; actions = b ∷ others; instead = instead; runs = runs; first = error }) x r0))
+    subst (λ (x : PlanAction). IsDoable used (plan_after_refusal (record { given = given; actions = b ∷ others; instead = instead; runs = runs; first = error }) x r0))
     (some_head a b first) (refuses used given instead runs error b others r0 can)
 
 pub stays_doable_refused : StaysDoableRefused

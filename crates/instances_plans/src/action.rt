@@ -3,7 +3,7 @@
 /// One action of a module call. Instances are named by their slots, which stay while places in
 /// lists move.
 #[derive(Clone, Copy, Debug, PartialEq, Eq)]
-pub enum Action {
+pub enum PlanAction {
     /// The finalisation entry of an instance runs; the flag says whether it is fatal.
     Finalise(u32, bool),
     /// An instance is removed.
@@ -22,8 +22,8 @@ pub enum Action {
     Initialise(u32),
 }
 
-impl Default for Action {
-    fn default() -> Action {
-        Action::Slide
+impl Default for PlanAction {
+    fn default() -> PlanAction {
+        PlanAction::Slide
     }
 }

@@ -5,12 +5,12 @@ ghost use Rattle.std.specs.Prelude.{◌≡◌, ◌≤◌, ◌+◌, ◌*◌, [], 
 ghost use Rattle.instances_plans.specs.Calls.{clear_actions, clear_plan, delete_plan, finalise_all, initialise_all, instantiate_plan, load_plan, reinit_plan, tidy_plan};
 ghost use Rattle.instances_plans.specs.Plans.{plan_of};
 
-use crate::action::Action;
+use crate::action::PlanAction;
 use crate::given::Given;
 use crate::plan::{MOST_ACTIONS, Plan};
 use arrayvec::ArrayVec;
 
-type Actions = ArrayVec<Action, MOST_ACTIONS>;
+type Actions = ArrayVec<PlanAction, MOST_ACTIONS>;
 
 impl Plan {
     /// A load, an insertion or a copy: the instances of an older module of the title go, then the
@@ -22,9 +22,9 @@ impl Plan {
     {
         let mut plan = Plan::of(given);
         push_clear(&mut plan.actions, old);
-        plan.actions.push(Action::Insert(slot));
-        plan.actions.push(Action::Initialise(slot));
-        plan.instead.push(Action::GiveUp);
+        plan.actions.push(PlanAction::Insert(slot));
+        plan.actions.push(PlanAction::Initialise(slot));
+        plan.instead.push(PlanAction::GiveUp);
         plan
     }
 
@@ -51,9 +51,9 @@ impl Plan {
         ensures { result ≡ reinit_plan given slot }
     {
         let mut plan = Plan::of(given);
-        plan.actions.push(Action::Finalise(slot, true));
-        plan.actions.push(Action::FreePrivate(slot));
-        plan.actions.push(Action::Initialise(slot));
+        plan.actions.push(PlanAction::Finalise(slot, true));
+        plan.actions.push(PlanAction::FreePrivate(slot));
+        plan.actions.push(PlanAction::Initialise(slot));
         plan
     }
 
@@ -62,8 +62,8 @@ impl Plan {
         ensures { result ≡ instantiate_plan given slot }
     {
         let mut plan = Plan::of(given);
-        plan.actions.push(Action::Instantiate(slot));
-        plan.actions.push(Action::Initialise(slot));
+        plan.actions.push(PlanAction::Instantiate(slot));
+        plan.actions.push(PlanAction::Initialise(slot));
         plan
     }
 
@@ -75,7 +75,7 @@ impl Plan {
     {
         let mut plan = Plan::of(given);
         push_finalise_all(&mut plan.actions, slots);
-        plan.actions.push(Action::Slide);
+        plan.actions.push(PlanAction::Slide);
         push_initialise_all(&mut plan.actions, slots);
         plan
     }
@@ -100,8 +100,8 @@ fn push_clear(actions: &mut Actions, slots: &[u32])
     ensures len { length actions.new.items ≡ length actions.old.items + 2 * length slots.now }
 {
     for slot in slots {
-        actions.push(Action::Finalise(*slot, true));
-        actions.push(Action::Remove(*slot));
+        actions.push(PlanAction::Finalise(*slot, true));
+        actions.push(PlanAction::Remove(*slot));
     }
 }
 
@@ -111,7 +111,7 @@ fn push_finalise_all(actions: &mut Actions, slots: &[u32])
     ensures len { length actions.new.items ≡ length actions.old.items + length slots.now }
 {
     for slot in slots {
-        actions.push(Action::Finalise(*slot, false));
+        actions.push(PlanAction::Finalise(*slot, false));
     }
 }
 
@@ -121,6 +121,6 @@ fn push_initialise_all(actions: &mut Actions, slots: &[u32])
     ensures len { length actions.new.items ≡ length actions.old.items + length slots.now }
 {
     for slot in slots {
-        actions.push(Action::Initialise(*slot));
+        actions.push(PlanAction::Initialise(*slot));
     }
 }

@@ -9,7 +9,7 @@ pub mod given;
 pub mod laws;
 pub mod plan;
 
-pub use action::Action;
+pub use action::PlanAction;
 pub use code::{Advance, Code, CodeKind, Ended, Outcome, private_word};
 pub use given::Given;
 pub use module_header;

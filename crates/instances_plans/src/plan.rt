@@ -1,9 +1,9 @@
 //! The plan of a module call: which actions are left, and what has been met so far.
 
 ghost use Rattle.std.specs.Prelude.{◌≡◌, Some};
-ghost use Rattle.instances_plans.specs.Plans.{end_by, finished, first_of, refused, settled, started};
+ghost use Rattle.instances_plans.specs.Plans.{end_by, plan_after_action, first_action, plan_after_refusal, plan_after_code, plan_with_code_entered};
 
-use crate::action::Action;
+use crate::action::PlanAction;
 use crate::code::{Ended, Outcome};
 use crate::given::Given;
 use arrayvec::ArrayVec;
@@ -18,9 +18,9 @@ pub(crate) const MOST_ACTIONS: usize = 132;
 #[derive(Drop)]
 pub struct Plan {
     pub(crate) given: Given,
-    pub(crate) actions: ArrayVec<Action, MOST_ACTIONS>,
+    pub(crate) actions: ArrayVec<PlanAction, MOST_ACTIONS>,
     /// What is done in place of the rest where a finalisation refuses.
-    pub(crate) instead: ArrayVec<Action, MOST_ACTIONS>,
+    pub(crate) instead: ArrayVec<PlanAction, MOST_ACTIONS>,
     /// Whether the code of the first action is under way.
     pub(crate) runs: bool,
     /// The R0 of the first error met.
@@ -53,8 +53,8 @@ impl Plan {
     }
 
     /// The next action, if one is left.
-    pub fn next(&self) -> Option<Action>
-        ensures { result ≡ first_of self.now.actions }
+    pub fn next(&self) -> Option<PlanAction>
+        ensures { result ≡ first_action self.now.actions }
     {
         self.actions.as_slice().first().copied()
     }
@@ -71,36 +71,36 @@ impl Plan {
 
     /// The code of the next action is entered.
     pub fn start(&mut self)
-        ensures { self.new ≡ started self.old }
+        ensures { self.new ≡ plan_with_code_entered self.old }
     {
         self.runs = true;
     }
 
     /// The next action is done.
-    pub fn finish(&mut self, action: Action)
-        requires { first_of self.old.actions ≡ Some action }
-        ensures { self.new ≡ finished self.old action }
+    pub fn finish(&mut self, action: PlanAction)
+        requires { first_action self.old.actions ≡ Some action }
+        ensures { self.new ≡ plan_after_action self.old action }
     {
         self.actions.remove(0);
-        if let Action::Finalise(slot, false) = action {
-            self.instead.push(Action::Initialise(slot));
+        if let PlanAction::Finalise(slot, false) = action {
+            self.instead.push(PlanAction::Initialise(slot));
         }
         self.runs = false;
     }
 
     /// The code of the next action refused. The first error of a call stays.
-    pub fn refuse(&mut self, action: Action, r0: u32)
-        requires { first_of self.old.actions ≡ Some action }
-        ensures { self.new ≡ refused self.old action r0 }
+    pub fn refuse(&mut self, action: PlanAction, r0: u32)
+        requires { first_action self.old.actions ≡ Some action }
+        ensures { self.new ≡ plan_after_refusal self.old action r0 }
     {
         match action {
-            Action::Finalise(..) => {
+            PlanAction::Finalise(..) => {
                 self.actions.clear();
                 swap(&mut self.actions, &mut self.instead);
             }
-            Action::Initialise(slot) => {
+            PlanAction::Initialise(slot) => {
                 self.actions.remove(0);
-                self.actions.insert(0, Action::Remove(slot));
+                self.actions.insert(0, PlanAction::Remove(slot));
             }
             _ => return,
         }
@@ -109,9 +109,9 @@ impl Plan {
     }
 
     /// The code that was under way, if any was, has come back.
-    #[tactic(auto, unfolding(crate::specs::Plans::settled))]
+    #[tactic(auto, unfolding(crate::specs::Plans::plan_after_code))]
     pub fn settle(&mut self, outcome: Outcome)
-        ensures { self.new ≡ settled self.old outcome }
+        ensures { self.new ≡ plan_after_code self.old outcome }
     {
         if !self.runs {
             return;

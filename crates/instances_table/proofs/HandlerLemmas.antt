@@ -2,7 +2,7 @@
 use Rattle.std.proofs.Common.{◌≡◌, ℕ, ◌<◌, true, List, Some, None, refl, sym, ap, subst, ◌∙◌}
 use Rattle.std.specs.Prelude.{Option, slice_get, option_map, IfSome}
 use Rattle.instances_table.specs.declared.parts.Handler.{Handler}
-use Rattle.instances_table.specs.Changes.{holds}
+use Rattle.instances_table.specs.Changes.{module_has_slot}
 use Rattle.instances_table.specs.Lookup.{handled_at, handled_in, handler_of, number_of_call}
 use Rattle.instances_table.specs.Modules.{Module, AreModules}
 use Rattle.instances_table.proofs.ModuleLemmas.{each_at}
@@ -11,7 +11,7 @@ use Rattle.instances_table.proofs.RenameLemmas.{held_below}
 below_in : (ms : List Module) (k : ℕ) (o : Option Module) → AreModules ms → slice_get ms k ≡ o → IfSome (option_map handled_in o) (λ h. h.slot < 64)
 below_in ms k None are found = tt
 below_in ms k (Some m) are found =
-    let held : holds m.preferred (slice_get ms k) ≡ true = ap (holds m.preferred) found ∙ (each_at ms k m are.each found).preferred in
+    let held : module_has_slot m.preferred (slice_get ms k) ≡ true = ap (module_has_slot m.preferred) found ∙ (each_at ms k m are.each found).preferred in
     held_below ms k m.preferred are held
 
 below_at : (ms : List Module) (o : Option ℕ) → AreModules ms → IfSome (handled_at ms o) (λ h. h.slot < 64)

@@ -9,7 +9,7 @@ use Rattle.std.proofs.lemmas.Option.{slice_get-get_or}
 use Rattle.arrayvec.specs.ArrayVec.{ArrayVec}
 use Rattle.instances_table.specs.declared.loaded.Loaded.{Loaded}
 use Rattle.instances_table.specs.Modules.{Instance, Module, has_slot, has_instance}
-use Rattle.instances_table.specs.Changes.{without_first, still, module_without}
+use Rattle.instances_table.specs.Changes.{without_first_passing, still, module_without}
 use Rattle.instances_table.specs.Images.{image_unless, last_image}
 use Rattle.instances_table.specs.Table.{instance_of, module_of, modules_of}
 use Rattle.instances_table.proofs.PlaceLemmas.{nowhere}
@@ -32,14 +32,14 @@ last_at slot (m ∷ ms) (suc k) d within here before =
     rw (before 0 (omega arith)) (last_at slot ms k d (omega arith) here (λ j less. before (suc j) (omega arith)))
 
 -- what is left of its instances
-more_left : (slot : ℕ) (is : List Instance) → 1 < length is → 0 < length (without_first (has_slot slot) is)
+more_left : (slot : ℕ) (is : List Instance) → 1 < length is → 0 < length (without_first_passing (has_slot slot) is)
 more_left slot [] more = absurd (omega arith)
 more_left slot (i ∷ is) more = elim (cases_Bool (has_slot slot i)) [
   | inl e ↦ rw e (omega (arith, more))
   | inr e ↦ rw e (omega arith)
 ]
 
-none_left : (slot : ℕ) (is : List Instance) → length is ≤ 1 → list_any (has_slot slot) is ≡ true → without_first (has_slot slot) is ≡ []
+none_left : (slot : ℕ) (is : List Instance) → length is ≤ 1 → list_any (has_slot slot) is ≡ true → without_first_passing (has_slot slot) is ≡ []
 none_left slot [] few some = refl
 none_left slot (i ∷ []) few some = elim (cases_Bool (has_slot slot i)) [
   | inl e ↦ rw e refl
@@ -74,7 +74,7 @@ last_of_more names slot ms k l found there more =
     let same : get_or (modules_of names ms) k m ≡ m = some_same (sym (slice_get-get_or (modules_of names ms) k m first.0) ∙ module_view names ms k l there) in
     let long : 1 < length m.instances = omega (arith, length-map l.slots.items (instance_of names), more) in
     last_at slot (modules_of names ms) k m first.0 first.1 first.2
-    ∙ rw same (still_none slot m (without_first (has_slot slot) m.instances) (more_left slot m.instances long))
+    ∙ rw same (still_none slot m (without_first_passing (has_slot slot) m.instances) (more_left slot m.instances long))
   where
     some_same : {x y : Module} → Some x ≡ Some y → x ≡ y
     some_same e = cc

@@ -6,23 +6,23 @@ use Rattle.std.specs.Str.{str_eq_ignore_ascii_case}
 use Rattle.std.proofs.lemmas.Bool.{cases_Bool, eqb-true, eq-eqb, or_parts, lt-ltb, ltb-true}
 use Rattle.module_header.specs.declared.header.Header.{Header}
 use Rattle.instances_table.specs.declared.parts.Image.{Image}
-use Rattle.instances_table.specs.Modules.{Instance, Module, has_title, has_name, has_slot, has_instance, number_of, slot_count, IsModule, EachIsModule, AreModules, changed_at}
-use Rattle.instances_table.specs.Changes.{is_held, is_new, is_named, holds, new_module, with_instance, with_preferred, with_image_at}
+use Rattle.instances_table.specs.Modules.{Instance, Module, has_title, has_name, has_slot, has_instance, number_passing, slot_count, IsModule, EachIsModule, AreModules, changed_at}
+use Rattle.instances_table.specs.Changes.{is_slot_held, is_new, is_named, module_has_slot, new_module, with_instance, with_preferred, with_image_at}
 use Rattle.instances_table.proofs.Counting.{count_push, count_none, count_changed, count_named}
 
-pub not_held : (slot : ℕ) (ms : List Module) → is_held slot ms ≡ false → slot_count slot ms ≡ 0
+pub not_held : (slot : ℕ) (ms : List Module) → is_slot_held slot ms ≡ false → slot_count slot ms ≡ 0
 not_held slot [] none = refl
 not_held slot (m ∷ ms) none =
-    let parts = or_parts (has_instance slot m) (is_held slot ms) none in
+    let parts = or_parts (has_instance slot m) (is_slot_held slot ms) none in
     rw (count_none (has_slot slot) m.instances parts.0, not_held slot ms parts.1) refl
 
 -- a slot among many
-slot_at : (slot : ℕ) (ms : List Module) (k : ℕ) (m : Module) → slice_get ms k ≡ Some m → number_of (has_slot slot) m.instances ≤ slot_count slot ms
+slot_at : (slot : ℕ) (ms : List Module) (k : ℕ) (m : Module) → slice_get ms k ≡ Some m → number_passing (has_slot slot) m.instances ≤ slot_count slot ms
 slot_at slot [] k m found = absurd (let e : None ≡ Some m = found in cc)
 slot_at slot (n ∷ ms) zero m found = let same : n ≡ m = cc in rw same (omega arith)
 slot_at slot (n ∷ ms) (suc k) m found = omega (arith, slot_at slot ms k m found)
 
-slots_push : (s : ℕ) (ms : List Module) (m : Module) → slot_count s (ms ++ m ∷ []) ≡ slot_count s ms + number_of (has_slot s) m.instances
+slots_push : (s : ℕ) (ms : List Module) (m : Module) → slot_count s (ms ++ m ∷ []) ≡ slot_count s ms + number_passing (has_slot s) m.instances
 slots_push s [] m = omega arith
 slots_push s (n ∷ ms) m = omega (arith, slots_push s ms m)
 
@@ -57,7 +57,7 @@ taken_once s slot old extra below few fresh more =
           omega arith
     ]
 
-pub module_added : (ms : List Module) (header : Header) (image : Image) (slot : ℕ) → AreModules ms → slot < 64 → is_held slot ms ≡ false
+pub module_added : (ms : List Module) (header : Header) (image : Image) (slot : ℕ) → AreModules ms → slot < 64 → is_slot_held slot ms ≡ false
     → list_any (has_title header.title.items) ms ≡ false → AreModules (ms ++ new_module header image slot ∷ [])
 module_added ms header image slot are below fresh untitled = record {
   titles = count_named (λ (m : Module). m.header.title.items) ms (new_module header image slot) untitled are.titles;
@@ -75,18 +75,18 @@ each_changed (m ∷ ms) zero change each good = (good m refl each.0, each.1)
 each_changed (m ∷ ms) (suc k) change each good = (each.0, each_changed ms k change each.1 good)
 
 slots_changed : (s extra : ℕ) (ms : List Module) (k : ℕ) (change : Module → Module)
-    → ((m : Module) → number_of (has_slot s) (change m).instances ≤ number_of (has_slot s) m.instances + extra)
+    → ((m : Module) → number_passing (has_slot s) (change m).instances ≤ number_passing (has_slot s) m.instances + extra)
     → slot_count s (changed_at k change ms) ≤ slot_count s ms + extra
 slots_changed s extra [] k change most = omega arith
 slots_changed s extra (m ∷ ms) zero change most = omega (arith, most m)
 slots_changed s extra (m ∷ ms) (suc k) change most = omega (arith, slots_changed s extra ms k change most)
 
 slots_same : (s : ℕ) (ms : List Module) (k : ℕ) (change : Module → Module)
-    → ((m : Module) → number_of (has_slot s) (change m).instances ≡ number_of (has_slot s) m.instances)
+    → ((m : Module) → number_passing (has_slot s) (change m).instances ≡ number_passing (has_slot s) m.instances)
     → slot_count s (changed_at k change ms) ≡ slot_count s ms
 slots_same s [] k change same = refl
 slots_same s (m ∷ ms) zero change same = rw (same m) refl
-slots_same s (m ∷ ms) (suc k) change same = ap (λ n. number_of (has_slot s) m.instances + n) (slots_same s ms k change same)
+slots_same s (m ∷ ms) (suc k) change same = ap (λ n. number_passing (has_slot s) m.instances + n) (slots_same s ms k change same)
 
 any_push : {X : Type 0} (p : X → Bool) (xs : List X) (y : X) → list_any p xs ≡ true → list_any p (xs ++ y ∷ []) ≡ true
 any_push p [] y some = absurd (let e : false ≡ true = some in cc)
@@ -102,7 +102,7 @@ one_more m name slot free is = record {
   preferred = any_push (has_slot m.preferred) m.instances _ is.preferred;
 }
 
-pub instance_added : (ms : List Module) (k : ℕ) (name : List ℕ) (slot : ℕ) → AreModules ms → slot < 64 → is_held slot ms ≡ false
+pub instance_added : (ms : List Module) (k : ℕ) (name : List ℕ) (slot : ℕ) → AreModules ms → slot < 64 → is_slot_held slot ms ≡ false
     → is_named name (slice_get ms k) ≡ false → AreModules (changed_at k (with_instance name slot) ms)
 instance_added ms k name slot are below fresh free = record {
   titles = λ title. rw (count_changed (has_title title) (with_instance name slot) k ms (λ n. refl)) (are.titles title);
@@ -116,13 +116,13 @@ instance_added ms k name slot are below fresh free = record {
 }
 
 -- another preferred instance
-pub other_preferred : (ms : List Module) (k slot : ℕ) → AreModules ms → holds slot (slice_get ms k) ≡ true
+pub other_preferred : (ms : List Module) (k slot : ℕ) → AreModules ms → module_has_slot slot (slice_get ms k) ≡ true
     → AreModules (changed_at k (with_preferred slot) ms)
 other_preferred ms k slot are has = record {
   titles = λ title. rw (count_changed (has_title title) (with_preferred slot) k ms (λ n. refl)) (are.titles title);
   slots = λ s. rw (slots_same s ms k (with_preferred slot) (λ n. refl)) (are.slots s);
   each = each_changed ms k (with_preferred slot) are.each
-      (λ n there is. record { names = is.names; preferred = subst (λ (o : Option Module). holds slot o ≡ true) there has });
+      (λ n there is. record { names = is.names; preferred = subst (λ (o : Option Module). module_has_slot slot o ≡ true) there has });
 }
 
 -- another image
@@ -136,14 +136,14 @@ image_moved ms k at are = record {
 -- what it takes for a module to be new
 pub record IsNew (title : List ℕ) (slot : ℕ) (ms : List Module) : Type 0 where
   pub below : slot < 64
-  pub free : is_held slot ms ≡ false
+  pub free : is_slot_held slot ms ≡ false
   pub untitled : list_any (has_title title) ms ≡ false
 
 pub new_parts : (title : List ℕ) (slot : ℕ) (ms : List Module) → is_new title slot ms ≡ true → IsNew title slot ms
 new_parts title slot ms new =
     elim (cases_Bool (nat_lt slot 64)) [
       | inr a ↦ absurd (let e : false ≡ true = rw a at new in cc)
-      | inl a ↦ elim (cases_Bool (is_held slot ms)) [
+      | inl a ↦ elim (cases_Bool (is_slot_held slot ms)) [
         | inl b ↦ absurd (let e : false ≡ true = rw (a, b) at new in cc)
         | inr b ↦ elim (cases_Bool (list_any (has_title title) ms)) [
           | inl d ↦ absurd (let e : false ≡ true = rw (a, b, d) at new in cc)

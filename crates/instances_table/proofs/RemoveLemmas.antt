@@ -2,12 +2,12 @@
 use Rattle.std.proofs.Common.{◌≡◌, ℕ, ◌≤◌, ◌==◌, Bool, true, false, List, [], ◌∷◌, ◌++◌, refl, sym, ◌∙◌, inl, inr, cond, arith}
 use Rattle.std.specs.List.{list_any}
 use Rattle.std.proofs.lemmas.Bool.{cases_Bool, eqb-true, eq-eqb}
-use Rattle.instances_table.specs.Modules.{Instance, Module, has_title, has_name, has_slot, has_instance, number_of, slot_count, EachIsModule, AreModules}
-use Rattle.instances_table.specs.Changes.{without_first, still, without_instance}
+use Rattle.instances_table.specs.Modules.{Instance, Module, has_title, has_name, has_slot, has_instance, number_passing, slot_count, EachIsModule, AreModules}
+use Rattle.instances_table.specs.Changes.{without_first_passing, still, without_instance}
 use Rattle.instances_table.proofs.Counting.{count_without}
 
 any_without : (p test : Instance → Bool) (is : List Instance) → list_any p is ≡ true → ((i : Instance) → test i ≡ true → p i ≡ false)
-    → list_any p (without_first test is) ≡ true
+    → list_any p (without_first_passing test is) ≡ true
 any_without p test [] some apart = some
 any_without p test (i ∷ is) some apart =
     elim (cases_Bool (test i)) [
@@ -20,11 +20,11 @@ any_without p test (i ∷ is) some apart =
 
 -- what is left of a module
 left_titles : (slot : ℕ) (title : List ℕ) (m : Module) (left : List Instance) (ms : List Module)
-    → number_of (has_title title) (still slot m left ++ ms) ≤ number_of (has_title title) (m ∷ ms)
+    → number_passing (has_title title) (still slot m left ++ ms) ≤ number_passing (has_title title) (m ∷ ms)
 left_titles slot title m [] ms = omega arith
 left_titles slot title m (i ∷ is) ms = omega arith
 
-left_slots : (slot s : ℕ) (m : Module) (left : List Instance) (ms : List Module) → number_of (has_slot s) left ≤ number_of (has_slot s) m.instances
+left_slots : (slot s : ℕ) (m : Module) (left : List Instance) (ms : List Module) → number_passing (has_slot s) left ≤ number_passing (has_slot s) m.instances
     → slot_count s (still slot m left ++ ms) ≤ slot_count s (m ∷ ms)
 left_slots slot s m [] ms few = omega arith
 left_slots slot s m (i ∷ is) ms few = omega arith
@@ -35,17 +35,17 @@ heir_there preferred i is true some = rw (eq-eqb i.slot i.slot refl) refl
 heir_there preferred i is false some = some refl
 
 left_each : (slot : ℕ) (m : Module) (left : List Instance) (ms : List Module) → EachIsModule ms
-    → ((n : List ℕ) → number_of (has_name n) left ≤ 1)
+    → ((n : List ℕ) → number_passing (has_name n) left ≤ 1)
     → ((m.preferred == slot) ≡ false → list_any (has_slot m.preferred) left ≡ true) → EachIsModule (still slot m left ++ ms)
 left_each slot m [] ms each names some = each
 left_each slot m (i ∷ is) ms each names some =
     (record { names = names; preferred = heir_there m.preferred i is (m.preferred == slot) some }, each)
 
-still_titles : (slot : ℕ) (title : List ℕ) (ms : List Module) → number_of (has_title title) (without_instance slot ms) ≤ number_of (has_title title) ms
+still_titles : (slot : ℕ) (title : List ℕ) (ms : List Module) → number_passing (has_title title) (without_instance slot ms) ≤ number_passing (has_title title) ms
 still_titles slot title [] = omega arith
 still_titles slot title (m ∷ ms) =
     elim (cases_Bool (has_instance slot m)) [
-      | inl e ↦ rw e (left_titles slot title m (without_first (has_slot slot) m.instances) ms)
+      | inl e ↦ rw e (left_titles slot title m (without_first_passing (has_slot slot) m.instances) ms)
       | inr e ↦ rw e (omega (arith, still_titles slot title ms))
     ]
 
@@ -53,7 +53,7 @@ still_slots : (slot s : ℕ) (ms : List Module) → slot_count s (without_instan
 still_slots slot s [] = omega arith
 still_slots slot s (m ∷ ms) =
     elim (cases_Bool (has_instance slot m)) [
-      | inl e ↦ rw e (left_slots slot s m (without_first (has_slot slot) m.instances) ms (count_without (has_slot s) (has_slot slot) m.instances))
+      | inl e ↦ rw e (left_slots slot s m (without_first_passing (has_slot slot) m.instances) ms (count_without (has_slot s) (has_slot slot) m.instances))
       | inr e ↦ rw e (omega (arith, still_slots slot s ms))
     ]
 
@@ -72,7 +72,7 @@ still_each : (slot : ℕ) (ms : List Module) → EachIsModule ms → EachIsModul
 still_each slot [] each = tt
 still_each slot (m ∷ ms) each =
     elim (cases_Bool (has_instance slot m)) [
-      | inl e ↦ rw e (left_each slot m (without_first (has_slot slot) m.instances) ms each.1
+      | inl e ↦ rw e (left_each slot m (without_first_passing (has_slot slot) m.instances) ms each.1
           (λ n. omega (arith, count_without (has_name n) (has_slot slot) m.instances, each.0.names n))
           (λ differ. any_without (has_slot m.preferred) (has_slot slot) m.instances each.0.preferred (λ i here. apart slot m.preferred i differ here)))
       | inr e ↦ rw e (each.0, still_each slot ms each.1)

@@ -4,15 +4,15 @@ use Rattle.std.specs.Prelude.{slice_get}
 use Rattle.std.specs.List.{list_any}
 use Rattle.std.specs.Str.{str_eq_ignore_ascii_case}
 use Rattle.std.proofs.lemmas.Bool.{cases_Bool}
-use Rattle.instances_table.specs.Modules.{Instance, Module, has_title, has_name, has_slot, number_of, slot_count, IsModule, EachIsModule, AreModules}
-use Rattle.instances_table.specs.Changes.{holds, is_named, with_name, with_names, named}
+use Rattle.instances_table.specs.Modules.{Instance, Module, has_title, has_name, has_slot, number_passing, slot_count, IsModule, EachIsModule, AreModules}
+use Rattle.instances_table.specs.Changes.{module_has_slot, is_named, with_name, with_names, modules_with_names}
 use Rattle.instances_table.proofs.RoomLemmas.{at_most_one, below_64}
 use Rattle.instances_table.proofs.Counting.{count_none, count_some, count_same, count-map, same_test}
 
 -- how many instances have a name afterwards: one more at most where it is the new one, and no more
 -- where it is another
 named_same : (slot : ℕ) (name n : List ℕ) (is : List Instance) → str_eq_ignore_ascii_case name n ≡ true
-    → number_of (has_name n) (map (with_name slot name) is) ≤ number_of (has_name n) is + number_of (has_slot slot) is
+    → number_passing (has_name n) (map (with_name slot name) is) ≤ number_passing (has_name n) is + number_passing (has_slot slot) is
 named_same slot name n [] same = omega arith
 named_same slot name n (i ∷ is) same =
     let rest = named_same slot name n is same in
@@ -22,7 +22,7 @@ named_same slot name n (i ∷ is) same =
     ]
 
 named_other : (slot : ℕ) (name n : List ℕ) (is : List Instance) → str_eq_ignore_ascii_case name n ≡ false
-    → number_of (has_name n) (map (with_name slot name) is) ≤ number_of (has_name n) is
+    → number_passing (has_name n) (map (with_name slot name) is) ≤ number_passing (has_name n) is
 named_other slot name n [] other = omega arith
 named_other slot name n (i ∷ is) other =
     let rest = named_other slot name n is other in
@@ -31,7 +31,7 @@ named_other slot name n (i ∷ is) other =
       | inr e ↦ rw e (omega (arith, rest))
     ]
 
-slots_named : (s slot : ℕ) (name : List ℕ) (is : List Instance) → number_of (has_slot s) (map (with_name slot name) is) ≡ number_of (has_slot s) is
+slots_named : (s slot : ℕ) (name : List ℕ) (is : List Instance) → number_passing (has_slot s) (map (with_name slot name) is) ≡ number_passing (has_slot s) is
 slots_named s slot name [] = refl
 slots_named s slot name (i ∷ is) =
     let rest = slots_named s slot name is in
@@ -52,7 +52,7 @@ any_named s slot name (i ∷ is) some =
 
 -- a module without the slot keeps its names, and the one with it gets a name that none of its
 -- instances has
-unnamed_module : (slot : ℕ) (name : List ℕ) (m : Module) → number_of (has_slot slot) m.instances ≡ 0 → IsModule m → IsModule (with_names slot name m)
+unnamed_module : (slot : ℕ) (name : List ℕ) (m : Module) → number_passing (has_slot slot) m.instances ≡ 0 → IsModule m → IsModule (with_names slot name m)
 unnamed_module slot name m none is = record {
   names = λ n. elim (cases_Bool (str_eq_ignore_ascii_case name n)) [
     | inl e ↦ omega (arith, named_same slot name n m.instances e, is.names n)
@@ -61,12 +61,12 @@ unnamed_module slot name m none is = record {
   preferred = any_named m.preferred slot name m.instances is.preferred;
 }
 
-named_module : (slot : ℕ) (name : List ℕ) (m : Module) → number_of (has_slot slot) m.instances ≤ 1 → list_any (has_name name) m.instances ≡ false
+named_module : (slot : ℕ) (name : List ℕ) (m : Module) → number_passing (has_slot slot) m.instances ≤ 1 → list_any (has_name name) m.instances ≡ false
     → IsModule m → IsModule (with_names slot name m)
 named_module slot name m once free is = record {
   names = λ n. elim (cases_Bool (str_eq_ignore_ascii_case name n)) [
     | inl e ↦
-        let same : number_of (has_name name) m.instances ≡ number_of (has_name n) m.instances =
+        let same : number_passing (has_name name) m.instances ≡ number_passing (has_name n) m.instances =
         count_same (has_name name) (has_name n) m.instances (λ i. same_test name n i.name e) in
         omega (arith, named_same slot name n m.instances e, same, count_none (has_name name) m.instances free)
     | inr e ↦ omega (arith, named_other slot name n m.instances e, is.names n)
@@ -74,18 +74,18 @@ named_module slot name m once free is = record {
   preferred = any_named m.preferred slot name m.instances is.preferred;
 }
 
-each_unnamed : (slot : ℕ) (name : List ℕ) (ms : List Module) → slot_count slot ms ≡ 0 → EachIsModule ms → EachIsModule (named slot name ms)
+each_unnamed : (slot : ℕ) (name : List ℕ) (ms : List Module) → slot_count slot ms ≡ 0 → EachIsModule ms → EachIsModule (modules_with_names slot name ms)
 each_unnamed slot name [] none each = tt
 each_unnamed slot name (m ∷ ms) none each =
     (unnamed_module slot name m (omega arith) each.0, each_unnamed slot name ms (omega arith) each.1)
 
-held_at : (slot : ℕ) (ms : List Module) (k : ℕ) → holds slot (slice_get ms k) ≡ true → 1 ≤ slot_count slot ms
+held_at : (slot : ℕ) (ms : List Module) (k : ℕ) → module_has_slot slot (slice_get ms k) ≡ true → 1 ≤ slot_count slot ms
 held_at slot [] k has = absurd (let e : false ≡ true = has in cc)
 held_at slot (n ∷ ms) zero has = omega (arith, count_some (has_slot slot) n.instances has)
 held_at slot (n ∷ ms) (suc k) has = omega (arith, held_at slot ms k has)
 
-each_named : (slot : ℕ) (name : List ℕ) (ms : List Module) (k : ℕ) → slot_count slot ms ≤ 1 → holds slot (slice_get ms k) ≡ true
-    → is_named name (slice_get ms k) ≡ false → EachIsModule ms → EachIsModule (named slot name ms)
+each_named : (slot : ℕ) (name : List ℕ) (ms : List Module) (k : ℕ) → slot_count slot ms ≤ 1 → module_has_slot slot (slice_get ms k) ≡ true
+    → is_named name (slice_get ms k) ≡ false → EachIsModule ms → EachIsModule (modules_with_names slot name ms)
 each_named slot name [] k once has free each = tt
 each_named slot name (n ∷ ms) zero once has free each =
     let some = count_some (has_slot slot) n.instances has in
@@ -94,15 +94,15 @@ each_named slot name (n ∷ ms) (suc k) once has free each =
     let later = held_at slot ms k has in
     (unnamed_module slot name n (omega (arith, later)) each.0, each_named slot name ms k (omega arith) has free each.1)
 
-slots_kept : (s slot : ℕ) (name : List ℕ) (ms : List Module) → slot_count s (named slot name ms) ≡ slot_count s ms
+slots_kept : (s slot : ℕ) (name : List ℕ) (ms : List Module) → slot_count s (modules_with_names slot name ms) ≡ slot_count s ms
 slots_kept s slot name [] = refl
 slots_kept s slot name (m ∷ ms) = rw (slots_named s slot name m.instances, slots_kept s slot name ms) refl
 
-pub held_below : (ms : List Module) (k slot : ℕ) → AreModules ms → holds slot (slice_get ms k) ≡ true → slot < 64
+pub held_below : (ms : List Module) (k slot : ℕ) → AreModules ms → module_has_slot slot (slice_get ms k) ≡ true → slot < 64
 held_below ms k slot are has = below_64 slot (slot_count slot ms) (held_at slot ms k has) (are.slots slot)
 
-pub other_name : (ms : List Module) (k slot : ℕ) (name : List ℕ) → AreModules ms → holds slot (slice_get ms k) ≡ true
-    → is_named name (slice_get ms k) ≡ false → AreModules (named slot name ms)
+pub other_name : (ms : List Module) (k slot : ℕ) (name : List ℕ) → AreModules ms → module_has_slot slot (slice_get ms k) ≡ true
+    → is_named name (slice_get ms k) ≡ false → AreModules (modules_with_names slot name ms)
 other_name ms k slot name are has free = record {
   titles = λ title. rw (count-map (with_names slot name) (has_title title) ms) (are.titles title);
   slots = λ s. rw (slots_kept s slot name ms) (are.slots s);

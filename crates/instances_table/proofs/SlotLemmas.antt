@@ -4,14 +4,14 @@ use Rattle.std.proofs.lemmas.List.{drop_more}
 use Rattle.instances_table.specs.declared.loaded.Loaded.{Loaded}
 use Rattle.instances_table.specs.Table.{all_slots}
 use Rattle.instances_table.specs.Modules.{Module}
-use Rattle.instances_table.specs.Changes.{is_held, lowest_free}
+use Rattle.instances_table.specs.Changes.{is_slot_held, lowest_free}
 
-pub free_passed : (ms : List Module) (slot n k : ℕ) → is_held slot ms ≡ true → n ≡ k + 1 → lowest_free ms slot n ≡ lowest_free ms (slot + 1) k
+pub free_passed : (ms : List Module) (slot n k : ℕ) → is_slot_held slot ms ≡ true → n ≡ k + 1 → lowest_free ms slot n ≡ lowest_free ms (slot + 1) k
 unfolding lowest_free
 free_passed ms slot zero k held next = absurd (omega arith)
 free_passed ms slot (suc n) k held next = let same : n ≡ k = omega arith in rw held (ap (lowest_free ms (slot + 1)) same)
 
-pub free_here : (ms : List Module) (slot n : ℕ) → is_held slot ms ≡ false → 0 < n → lowest_free ms slot n ≡ Some slot
+pub free_here : (ms : List Module) (slot n : ℕ) → is_slot_held slot ms ≡ false → 0 < n → lowest_free ms slot n ≡ Some slot
 unfolding lowest_free
 free_here ms slot zero free some = absurd (omega arith)
 free_here ms slot (suc n) free some = rw free refl

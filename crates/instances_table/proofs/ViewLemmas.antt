@@ -13,8 +13,8 @@ use Rattle.std.proofs.lemmas.Option.{slice_get-map, slice_get-get_or}
 use Rattle.instances_table.specs.declared.loaded.Loaded.{Loaded}
 use Rattle.instances_table.specs.Modules.{slots_of, Instance, Module, AreModules, has_name, has_slot, has_instance, changed_at}
 use Rattle.instances_table.specs.Lookup.{slot_in, instance_in, slot_within, instance_meant, told_of_instance, told_of_place}
-use Rattle.instances_table.specs.Changes.{is_held, is_named, holds, with_name, with_names, with_instance, named, without_first, still, module_without, without_instance}
-use Rattle.instances_table.specs.Table.{all_slots, name_at, instance_of, module_of, modules_of, heir}
+use Rattle.instances_table.specs.Changes.{is_slot_held, is_named, module_has_slot, with_name, with_names, with_instance, modules_with_names, without_first_passing, still, module_without, without_instance}
+use Rattle.instances_table.specs.Table.{all_slots, name_of_slot, instance_of, module_of, modules_of, heir}
 use Rattle.instances_table.proofs.RenameLemmas.{held_below}
 use Rattle.instances_table.proofs.RoomLemmas.{room_for_instance}
 
@@ -31,7 +31,7 @@ list_any-map f p (x ∷ xs) = ap (λ b. p (f x) || b) (list_any-map f p xs)
 
 -- an instance has a slot exactly where a module has it among its own
 pub held_view : (names : List (ArrayVec ℕ)) (slot : ℕ) (ms : List Loaded)
-    → is_held slot (modules_of names ms) ≡ list_any (λ l. list_any (λ s. s == slot) l.slots.items) ms
+    → is_slot_held slot (modules_of names ms) ≡ list_any (λ l. list_any (λ s. s == slot) l.slots.items) ms
 held_view names slot [] = refl
 held_view names slot (l ∷ ls) = rw (list_any-map (instance_of names) (has_slot slot) l.slots.items, held_view names slot ls) refl
 
@@ -64,11 +64,11 @@ slot_among (x ∷ is) (suc i) s found =
       | inr e ↦ rw e (slot_among is i s found)
     ]
 
-pub slot_found : (i : ℕ) (o : Option Module) (s : ℕ) → slot_in i o ≡ Some s → holds s o ≡ true
+pub slot_found : (i : ℕ) (o : Option Module) (s : ℕ) → slot_in i o ≡ Some s → module_has_slot s o ≡ true
 slot_found i None s found = absurd (let e : None ≡ Some s = found in cc)
 slot_found i (Some m) s found = slot_among m.instances i s found
 
-pub held_if : (i : ℕ) (o : Option Module) (r : Option ℕ) → r ≡ slot_in i o → IfSome r (λ s. holds s o ≡ true)
+pub held_if : (i : ℕ) (o : Option Module) (r : Option ℕ) → r ≡ slot_in i o → IfSome r (λ s. module_has_slot s o ≡ true)
 held_if i o None same = tt
 held_if i o (Some s) same = slot_found i o s (sym same)
 
@@ -91,7 +91,7 @@ told_view names ms k i s l found there =
     rw (module_view names ms k l found) (ap (option_map (told_of_instance (module_of names l))) (instance_view names l i s there))
 
 pub named_view : (names : List (ArrayVec ℕ)) (ms : List Loaded) (k : ℕ) (l : Loaded) (name : List ℕ) → slice_get ms k ≡ Some l
-    → is_named name (slice_get (modules_of names ms) k) ≡ list_any (λ s. str_eq_ignore_ascii_case (name_at names s) name) l.slots.items
+    → is_named name (slice_get (modules_of names ms) k) ≡ list_any (λ s. str_eq_ignore_ascii_case (name_of_slot names s) name) l.slots.items
 named_view names ms k l name found =
     rw (module_view names ms k l found) (list_any-map (instance_of names) (has_name name) l.slots.items)
 
@@ -126,11 +126,11 @@ instances_kept names slot name (s ∷ ss) none =
     ap (λ (i : Instance). i ∷ map (instance_of (set names slot name)) ss) (kept_one names slot s name other)
     ∙ ap (λ (is : List Instance). instance_of names s ∷ is) (instances_kept names slot name ss parts.1)
 
-pub modules_kept : (names : List (ArrayVec ℕ)) (slot : ℕ) (name : ArrayVec ℕ) (ms : List Loaded) → is_held slot (modules_of names ms) ≡ false
+pub modules_kept : (names : List (ArrayVec ℕ)) (slot : ℕ) (name : ArrayVec ℕ) (ms : List Loaded) → is_slot_held slot (modules_of names ms) ≡ false
     → modules_of (set names slot name) ms ≡ modules_of names ms
 modules_kept names slot name [] none = refl
 modules_kept names slot name (l ∷ ls) none =
-    let parts = or_parts (has_instance slot (module_of names l)) (is_held slot (modules_of names ls)) none in
+    let parts = or_parts (has_instance slot (module_of names l)) (is_slot_held slot (modules_of names ls)) none in
     ap (λ (is : List Instance). record (module_of names l) { instances = is } ∷ modules_of (set names slot name) ls)
     (instances_kept names slot name l.slots.items parts.0)
     ∙ ap (λ (ms : List Module). module_of names l ∷ ms) (modules_kept names slot name ls parts.1)
@@ -157,7 +157,7 @@ instances_named names slot name (s ∷ ss) below =
     ∙ ap (λ (is : List Instance). with_name slot name.items (instance_of names s) ∷ is) (instances_named names slot name ss below)
 
 pub modules_named : (names : List (ArrayVec ℕ)) (slot : ℕ) (name : ArrayVec ℕ) (ms : List Loaded) → slot < length names
-    → modules_of (set names slot name) ms ≡ named slot name.items (modules_of names ms)
+    → modules_of (set names slot name) ms ≡ modules_with_names slot name.items (modules_of names ms)
 modules_named names slot name [] below = refl
 modules_named names slot name (l ∷ ls) below =
     ap (λ (is : List Instance). record (module_of names l) { instances = is } ∷ modules_of (set names slot name) ls)
@@ -165,19 +165,19 @@ modules_named names slot name (l ∷ ls) below =
     ∙ ap (λ (ms : List Module). with_names slot name.items (module_of names l) ∷ ms) (modules_named names slot name ls below)
 
 -- one instance more, whose name stands at its slot
-name_put : (names : List (ArrayVec ℕ)) (slot : ℕ) (name : ArrayVec ℕ) → slot < length names → name_at (set names slot name) slot ≡ name.items
+name_put : (names : List (ArrayVec ℕ)) (slot : ℕ) (name : ArrayVec ℕ) → slot < length names → name_of_slot (set names slot name) slot ≡ name.items
 name_put names slot name below = ap (λ (v : ArrayVec ℕ). v.items) (get_or-set_same names slot name (record { items = [] }) below)
 
 pub added_view : (names : List (ArrayVec ℕ)) (ms : List Loaded) (k slot : ℕ) (name : ArrayVec ℕ) → slot < length names
-    → is_held slot (modules_of names ms) ≡ false
-    → changed_at k (with_instance (name_at (set names slot name) slot) slot) (modules_of (set names slot name) ms)
+    → is_slot_held slot (modules_of names ms) ≡ false
+    → changed_at k (with_instance (name_of_slot (set names slot name) slot) slot) (modules_of (set names slot name) ms)
     ≡ changed_at k (with_instance name.items slot) (modules_of names ms)
 added_view names ms k slot name below free =
     ap (λ (n : List ℕ). changed_at k (with_instance n slot) (modules_of (set names slot name) ms)) (name_put names slot name below)
     ∙ ap (λ (xs : List Module). changed_at k (with_instance name.items slot) xs) (modules_kept names slot name ms free)
 
 pub put_view : (names : List (ArrayVec ℕ)) (ms : List Loaded) (l : Loaded) (slot : ℕ) (name : ArrayVec ℕ) (m : Module) → slot < length names
-    → is_held slot (modules_of names ms) ≡ false → (name_at (set names slot name) slot ≡ name.items → module_of (set names slot name) l ≡ m)
+    → is_slot_held slot (modules_of names ms) ≡ false → (name_of_slot (set names slot name) slot ≡ name.items → module_of (set names slot name) l ≡ m)
     → modules_of (set names slot name) (ms ++ l ∷ []) ≡ modules_of names ms ++ m ∷ []
 put_view names ms l slot name m below free new =
     map-append (module_of (set names slot name)) ms (l ∷ [])
@@ -204,7 +204,7 @@ changed_past change (x ∷ xs) zero past = absurd (omega arith)
 changed_past change (x ∷ xs) (suc k) past = ap (λ ys. x ∷ ys) (changed_past change xs k (omega arith))
 
 pub room_view : (names : List (ArrayVec ℕ)) (ms : List Loaded) (k slot : ℕ) (d : Loaded) → AreModules (modules_of names ms) → slot < 64
-    → is_held slot (modules_of names ms) ≡ false → k < length ms → length (get_or ms k d).slots.items < 64
+    → is_slot_held slot (modules_of names ms) ≡ false → k < length ms → length (get_or ms k d).slots.items < 64
 room_view names ms k slot d are below fresh within =
     let found : slice_get (modules_of names ms) k ≡ Some (module_of names (get_or ms k d)) =
     slice_get-map (module_of names) ms k ∙ ap (option_map (module_of names)) (slice_get-get_or ms k d within) in
@@ -213,7 +213,7 @@ room_view names ms k slot d are below fresh within =
 
 -- an instance taken out
 without-map : (names : List (ArrayVec ℕ)) (slot : ℕ) (ss : List ℕ)
-    → without_first (has_slot slot) (map (instance_of names) ss) ≡ map (instance_of names) (without_first (λ s. s == slot) ss)
+    → without_first_passing (has_slot slot) (map (instance_of names) ss) ≡ map (instance_of names) (without_first_passing (λ s. s == slot) ss)
 without-map names slot [] = refl
 without-map names slot (s ∷ ss) =
     elim (cases_Bool (s == slot)) [
@@ -223,7 +223,7 @@ without-map names slot (s ∷ ss) =
 
 -- what stays of a module, and what does not
 pub record IsLeft (slot : ℕ) (l left : Loaded) : Type 0 where
-  pub slots : left.slots.items ≡ without_first (λ s. s == slot) l.slots.items
+  pub slots : left.slots.items ≡ without_first_passing (λ s. s == slot) l.slots.items
   pub preferred : left.preferred ≡ heir slot l.preferred left.slots.items
   pub header : left.header ≡ l.header
   pub image : left.image ≡ l.image

@@ -10,23 +10,24 @@ use Rattle.module_header.specs.declared.header.Header.{Header}
 use Rattle.instances_table.specs.declared.parts.Image.{Image}
 use Rattle.instances_table.specs.declared.parts.NewInstance.{NewInstance}
 use Rattle.instances_table.specs.Modules.{Instance, Module, has_title, has_name, has_slot, has_instance, changed_at}
-use Rattle.instances_table.specs.Names.{parted, name_given, new_name}
+use Rattle.instances_table.specs.Names.{full_name_parts, name_given, new_name}
 use Rattle.instances_table.specs.Lookup.{number_of_title, place_meant, slot_at}
 
 -- the lowest of `n` slots from one on that no instance has
-abbrev pub is_held : ℕ → List Module → Bool
-is_held slot modules = list_any (has_instance slot) modules
+abbrev pub is_slot_held : ℕ → List Module → Bool
+is_slot_held slot modules = list_any (has_instance slot) modules
 
 unfoldable pub lowest_free : List Module → ℕ → ℕ → Option ℕ
 lowest_free modules slot zero = None
-lowest_free modules slot (suc n) = if is_held slot modules then lowest_free modules (slot + 1) n else Some slot
+lowest_free modules slot (suc n) = if is_slot_held slot modules then lowest_free modules (slot + 1) n
+    else Some slot
 
 unfoldable pub free_slot : List Module → Option ℕ
 free_slot modules = lowest_free modules 0 64
 
 -- the modules of a title, of which there is one at most, and those of all other titles
-abbrev pub titled : List ℕ → List Module → List Module
-titled title modules = filter (has_title title) modules
+abbrev pub modules_of_title : List ℕ → List Module → List Module
+modules_of_title title modules = filter (has_title title) modules
 
 abbrev pub titled_otherwise : List ℕ → List Module → List Module
 titled_otherwise title modules = filter (λ m. not (has_title title m)) modules
@@ -48,7 +49,8 @@ new_module header image slot = record {
 -- A new module is the youngest. It isn't put in where one of its title is there, or its slot isn't
 -- free.
 abbrev pub is_new : List ℕ → ℕ → List Module → Bool
-is_new title slot modules = nat_lt slot 64 && not (is_held slot modules) && not (list_any (has_title title) modules)
+is_new title slot modules = nat_lt slot 64 && not (is_slot_held slot modules)
+    && not (list_any (has_title title) modules)
 
 unfoldable pub with_module : List Module → Header → Image → ℕ → List Module
 with_module modules header image slot =
@@ -64,17 +66,17 @@ is_named name None = false
 is_named name (Some m) = list_any (has_name name) m.instances
 
 -- and the instance of a slot?
-abbrev pub holds : ℕ → Option Module → Bool
-holds slot None = false
-holds slot (Some m) = has_instance slot m
+abbrev pub module_has_slot : ℕ → Option Module → Bool
+module_has_slot slot None = false
+module_has_slot slot (Some m) = has_instance slot m
 
 -- OS_Module 14, as far as the table knows it: which module the new instance is of, its name, and
 -- its slot, which is the lowest free one.
 unfoldable pub instance_room : List Module → List ℕ → Result NewInstance ErrorNumber
 instance_room modules full =
-    bind (name_given (parted full).name) (λ given.
+    bind (name_given (full_name_parts full).name) (λ given.
     bind (new_name given) (λ name.
-    bind (ok_or (number_of_title (parted full).title modules) ModuleNotFound) (λ number.
+    bind (ok_or (number_of_title (full_name_parts full).title modules) ModuleNotFound) (λ number.
     if is_named name (slice_get modules number) then Err InstanceExists else
     bind (ok_or (free_slot modules) InstanceTableFull) (λ slot.
     Ok (record { number = number; name = record { items = name }; slot = slot })))))
@@ -83,7 +85,7 @@ instance_room modules full =
 pub record IsRoomFor (new : NewInstance) (modules : List Module) : Type 0 where
   pub number : new.number < length modules
   pub below : new.slot < 64
-  pub free : is_held new.slot modules ≡ false
+  pub free : is_slot_held new.slot modules ≡ false
   pub formed : length new.name.items ≤ 31
   pub unnamed : is_named new.name.items (slice_get modules new.number) ≡ false
 
@@ -91,8 +93,9 @@ pub record IsRoomFor (new : NewInstance) (modules : List Module) : Type 0 where
 abbrev pub with_new_instance : NewInstance → List Module → List Module
 with_new_instance new modules = changed_at new.number (with_instance new.name.items new.slot) modules
 
-unfoldable pub instantiated : List Module → List ℕ → Result (List Module × ℕ) ErrorNumber
-instantiated modules full = bind (instance_room modules full) (λ new. Ok (with_new_instance new modules, new.slot))
+unfoldable pub modules_after_instantiate : List Module → List ℕ → Result (List Module × ℕ) ErrorNumber
+modules_after_instantiate modules full = bind (instance_room modules full)
+    (λ new. Ok (with_new_instance new modules, new.slot))
 
 -- OS_Module 15: an instance gets another name, formed like a title, that no instance of the module
 -- has, itself included. It is found by its slot.
@@ -102,16 +105,17 @@ with_name slot name i = if has_slot slot i then record i { name = name } else i
 abbrev pub with_names : ℕ → List ℕ → Module → Module
 with_names slot name m = record m { instances = map (with_name slot name) m.instances }
 
-abbrev pub named : ℕ → List ℕ → List Module → List Module
-named slot name modules = map (with_names slot name) modules
+abbrev pub modules_with_names : ℕ → List ℕ → List Module → List Module
+modules_with_names slot name modules = map (with_names slot name) modules
 
-unfoldable pub renamed : List Module → List ℕ → List ℕ → Result (List Module) ErrorNumber
-renamed modules full new =
-    bind (name_given (parted full).name) (λ old.
+unfoldable pub modules_after_rename : List Module → List ℕ → List ℕ → Result (List Module) ErrorNumber
+modules_after_rename modules full new =
+    bind (name_given (full_name_parts full).name) (λ old.
     bind (new_name new) (λ name.
-    bind (place_meant (parted full) modules) (λ place.
+    bind (place_meant (full_name_parts full) modules) (λ place.
     bind (slot_at modules place) (λ slot.
-    if is_named name (slice_get modules place.number) then Err InstanceExists else Ok (named slot name modules)))))
+    if is_named name (slice_get modules place.number) then Err InstanceExists
+    else Ok (modules_with_names slot name modules)))))
 
 -- OS_Module 16: an instance becomes the preferred one.
 abbrev pub with_preferred : ℕ → Module → Module
@@ -119,16 +123,16 @@ with_preferred slot m = record m { preferred = slot }
 
 unfoldable pub preferring : List Module → List ℕ → Result (List Module) ErrorNumber
 preferring modules full =
-    bind (name_given (parted full).name) (λ name.
-    bind (place_meant (parted full) modules) (λ place.
+    bind (name_given (full_name_parts full).name) (λ name.
+    bind (place_meant (full_name_parts full) modules) (λ place.
     bind (slot_at modules place) (λ slot.
     Ok (changed_at place.number (with_preferred slot) modules))))
 
 -- A module without the instance of a slot: the oldest one left becomes preferred if the preferred
 -- one went. With its last instance the module goes.
-abbrev pub without_first : {X : Type 0} → (X → Bool) → List X → List X
-without_first test [] = []
-without_first test (x ∷ xs) = if test x then xs else x ∷ without_first test xs
+abbrev pub without_first_passing : {X : Type 0} → (X → Bool) → List X → List X
+without_first_passing test [] = []
+without_first_passing test (x ∷ xs) = if test x then xs else x ∷ without_first_passing test xs
 
 abbrev pub still : ℕ → Module → List Instance → List Module
 still slot m [] = []
@@ -138,11 +142,12 @@ still slot m (i ∷ others) = record m {
 } ∷ []
 
 abbrev pub module_without : ℕ → Module → List Module
-module_without slot m = still slot m (without_first (has_slot slot) m.instances)
+module_without slot m = still slot m (without_first_passing (has_slot slot) m.instances)
 
 abbrev pub without_instance : ℕ → List Module → List Module
 without_instance slot [] = []
-without_instance slot (m ∷ ms) = if has_instance slot m then module_without slot m ++ ms else m ∷ without_instance slot ms
+without_instance slot (m ∷ ms) = if has_instance slot m then module_without slot m ++ ms
+    else m ∷ without_instance slot ms
 
 -- a module whose image is at another address
 abbrev pub with_image_at : ℕ → Module → Module

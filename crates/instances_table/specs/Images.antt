@@ -13,4 +13,5 @@ image_unless m (left ∷ others) = None
 -- the image that goes with the instance of a slot: its module's, if it has no other instance
 abbrev pub last_image : ℕ → List Module → Option Image
 last_image slot [] = None
-last_image slot (m ∷ ms) = if has_instance slot m then image_unless m (module_without slot m) else last_image slot ms
+last_image slot (m ∷ ms) = if has_instance slot m then image_unless m (module_without slot m)
+    else last_image slot ms

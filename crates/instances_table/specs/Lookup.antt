@@ -13,7 +13,7 @@ use Rattle.instances_table.specs.declared.parts.ModuleInfo.{ModuleInfo}
 use Rattle.instances_table.specs.declared.parts.InstanceInfo.{InstanceInfo}
 use Rattle.instances_table.specs.ModuleArea.{is_in_module_area}
 use Rattle.instances_table.specs.Modules.{Instance, Module, has_title, has_name, has_slot, has_instance}
-use Rattle.instances_table.specs.Names.{FullName, parted}
+use Rattle.instances_table.specs.Names.{FullName, full_name_parts}
 
 abbrev pub module_at : List Module → ℕ → Result Module ErrorNumber
 module_at modules number = ok_or (slice_get modules number) ModuleNotFound
@@ -44,12 +44,13 @@ place_meant full modules =
 
 -- OS_Module 18, as far as the table knows it
 abbrev pub looked_up : List Module → List ℕ → Result Place ErrorNumber
-looked_up modules full = place_meant (parted full) modules
+looked_up modules full = place_meant (full_name_parts full) modules
 
 -- The next instance of the module, or instance 0 of the next number, there or not.
 abbrev pub place_behind : Module → ℕ → ℕ → Place
 place_behind m number i =
-    if nat_lt (i + 1) (length m.instances) then record { number = number; instance = i + 1 } else record { number = number + 1; instance = 0 }
+    if nat_lt (i + 1) (length m.instances) then record { number = number; instance = i + 1 }
+    else record { number = number + 1; instance = 0 }
 
 -- the slot of an instance of a module
 abbrev pub slot_in : ℕ → Option Module → Option ℕ
@@ -90,13 +91,14 @@ abbrev pub slot_within : ℕ → Option Module → Option ℕ
 slot_within slot None = None
 slot_within slot (Some m) = position (has_slot slot) m.instances
 
-abbrev pub place_in : ℕ → List Module → Option ℕ → Option Place
-place_in slot modules None = None
-place_in slot modules (Some number) =
-    option_map (λ (i : ℕ). let p : Place = record { number = number; instance = i } in p) (slot_within slot (slice_get modules number))
+abbrev pub instance_place_in : ℕ → List Module → Option ℕ → Option Place
+instance_place_in slot modules None = None
+instance_place_in slot modules (Some number) =
+    option_map (λ (i : ℕ). let p : Place = record { number = number; instance = i } in p)
+    (slot_within slot (slice_get modules number))
 
 abbrev pub place_of_slot : ℕ → List Module → Option Place
-place_of_slot slot modules = place_in slot modules (position (has_instance slot) modules)
+place_of_slot slot modules = instance_place_in slot modules (position (has_instance slot) modules)
 
 -- what the table answers about a module, and about an instance
 abbrev pub told_of_module : Module → ModuleInfo
@@ -110,7 +112,11 @@ told_of_module m = record {
 }
 
 abbrev pub told_of_instance : Module → Instance → InstanceInfo
-told_of_instance m i = record { name = record { items = i.name }; slot = i.slot; preferred = i.slot == m.preferred }
+told_of_instance m i = record {
+  name = record { items = i.name };
+  slot = i.slot;
+  preferred = i.slot == m.preferred;
+}
 
 abbrev pub told_of_place : ℕ → Option Module → Option InstanceInfo
 told_of_place i None = None

@@ -32,14 +32,14 @@ abbrev pub has_instance : ℕ → Module → Bool
 has_instance slot m = list_any (has_slot slot) m.instances
 
 -- how many items pass a test
-abbrev pub number_of : {X : Type 0} → (X → Bool) → List X → ℕ
-number_of test [] = 0
-number_of test (x ∷ xs) = cond (test x) 1 0 + number_of test xs
+abbrev pub number_passing : {X : Type 0} → (X → Bool) → List X → ℕ
+number_passing test [] = 0
+number_passing test (x ∷ xs) = cond (test x) 1 0 + number_passing test xs
 
 -- how many instances of all modules have a slot
 abbrev pub slot_count : ℕ → List Module → ℕ
 slot_count slot [] = 0
-slot_count slot (m ∷ ms) = number_of (has_slot slot) m.instances + slot_count slot ms
+slot_count slot (m ∷ ms) = number_passing (has_slot slot) m.instances + slot_count slot ms
 
 -- the slots of all instances, module by module
 abbrev pub slots_of : List Module → List ℕ
@@ -48,7 +48,7 @@ slots_of (m ∷ ms) = map (λ (i : Instance). i.slot) m.instances ++ slots_of ms
 
 -- the instances of a module have different names, and one of them is preferred, so there is one
 pub record IsModule (m : Module) : Type 0 where
-  pub names : (name : List ℕ) → number_of (has_name name) m.instances ≤ 1
+  pub names : (name : List ℕ) → number_passing (has_name name) m.instances ≤ 1
   pub preferred : has_instance m.preferred m ≡ true
 
 abbrev pub EachIsModule : List Module → Type 0
@@ -58,7 +58,7 @@ EachIsModule (m ∷ ms) = IsModule m × EachIsModule ms
 -- What holds of every list of modules: each module has a title of its own, each instance a slot of
 -- its own below 64.
 pub record AreModules (modules : List Module) : Type 0 where
-  pub titles : (title : List ℕ) → number_of (has_title title) modules ≤ 1
+  pub titles : (title : List ℕ) → number_passing (has_title title) modules ≤ 1
   pub slots : (slot : ℕ) → slot_count slot modules ≤ cond (nat_lt slot 64) 1 0
   pub each : EachIsModule modules
 

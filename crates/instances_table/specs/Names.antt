@@ -19,8 +19,8 @@ abbrev pub parted_at : List ℕ → Option ℕ → FullName
 parted_at full None = record { title = full; name = None }
 parted_at full (Some place) = record { title = take place full; name = Some (drop (place + 1) full) }
 
-abbrev pub parted : List ℕ → FullName
-parted full = parted_at full (position is_percent full)
+abbrev pub full_name_parts : List ℕ → FullName
+full_name_parts full = parted_at full (position is_percent full)
 
 -- 1 to 31 printing characters other than the space and `%`
 abbrev pub is_instance_name : List ℕ → Bool

@@ -9,11 +9,11 @@ use Rattle.instances_table.specs.Modules.{Instance, Module}
 abbrev pub Names : Type 0
 Names = List (ArrayVec ℕ)
 
-abbrev pub name_at : Names → ℕ → List ℕ
-name_at names slot = (slice_index_or names slot (record { items = [] })).items
+abbrev pub name_of_slot : Names → ℕ → List ℕ
+name_of_slot names slot = (slice_index_or names slot (record { items = [] })).items
 
 abbrev pub instance_of : Names → ℕ → Instance
-instance_of names slot = record { name = name_at names slot; slot = slot }
+instance_of names slot = record { name = name_of_slot names slot; slot = slot }
 
 abbrev pub module_of : Names → Loaded → Module
 module_of names l = record {
@@ -34,7 +34,8 @@ all_slots (l ∷ ls) = l.slots.items ++ all_slots ls
 -- the slots of the first module of a title, if there is one
 abbrev pub titled_slots : List ℕ → List Loaded → List ℕ
 titled_slots title [] = []
-titled_slots title (l ∷ ls) = if str_eq_ignore_ascii_case l.header.title.items title then l.slots.items else titled_slots title ls
+titled_slots title (l ∷ ls) = if str_eq_ignore_ascii_case l.header.title.items title then l.slots.items
+    else titled_slots title ls
 
 -- who is preferred among the slots that are left: the oldest, where it was the one that went
 abbrev pub heir : ℕ → ℕ → List ℕ → ℕ

@@ -2,7 +2,7 @@
 
 ghost use Rattle.std.specs.Prelude.{◌≡◌, ◌<◌, ◌≤◌, false, length};
 ghost use Rattle.instances_table.specs.Additions.{added_to, is_named_at};
-ghost use Rattle.instances_table.specs.Changes.{is_held};
+ghost use Rattle.instances_table.specs.Changes.{is_slot_held};
 ghost use Rattle.instances_table.specs.Lookup.{number_of_title};
 
 use crate::table::InstanceTable;
@@ -14,7 +14,7 @@ impl InstanceTable {
     /// RISC OS 3 Programmer's Reference Manual, "OS_Module", reason 14.
     pub fn add_to(&mut self, title: &[u8], name: &[u8], slot: u32)
         requires below { slot < 64 }
-        requires free { is_held slot self.old ≡ false }
+        requires free { is_slot_held slot self.old ≡ false }
         requires formed { length name.now ≤ 31 }
         requires unnamed { is_named_at name.now (number_of_title title.now self.old) self.old ≡ false }
         ensures { self.new ≡ added_to (number_of_title title.now self.old) name.now slot self.old }

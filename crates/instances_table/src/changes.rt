@@ -4,7 +4,7 @@ ghost use Rattle.std.specs.Prelude.{◌≡◌, ◌<◌, length, slice_index_or};
 ghost use Rattle.instances_table.specs.declared.loaded.Loaded.{Loaded};
 ghost use Rattle.instances_table.specs.Modules.{changed_at};
 ghost use Rattle.instances_table.specs.Changes.{without_instance, with_instance, with_preferred, with_image_at};
-ghost use Rattle.instances_table.specs.Table.{Names, modules_of, name_at};
+ghost use Rattle.instances_table.specs.Table.{Names, modules_of, name_of_slot};
 
 use crate::loaded::{Loaded, MOST_INSTANCES, number_of_slot};
 use arrayvec::ArrayVec;
@@ -15,7 +15,8 @@ pub(crate) fn push_slot(modules: &mut ArrayVec<Loaded, MOST_INSTANCES>, number: 
     requires room { (d : Loaded) → length (slice_index_or modules.old.items number d).slots.items < 64 }
     ensures { (names : Names)
         → modules_of names modules.new.items
-        ≡ changed_at number (with_instance (name_at names slot) slot) (modules_of names modules.old.items) }
+        ≡ changed_at number (with_instance (name_of_slot names slot) slot)
+        (modules_of names modules.old.items) }
 {
     modules[number].slots.push(slot);
 }

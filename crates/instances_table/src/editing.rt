@@ -3,7 +3,7 @@ ghost use Rattle.std.specs.Prelude.{◌≡◌, ◌<◌, ◌≤◌, [], ◌∷◌
 ghost use Rattle.std.specs.List.{list_any};
 ghost use Rattle.module_header.specs.profile.specs.Outcome.{Gives, Leaves};
 ghost use Rattle.instances_table.specs.Modules.{has_title, changed_at};
-ghost use Rattle.instances_table.specs.Changes.{is_held, free_slot, holds, is_named, is_new, with_module, new_module, with_instance, instantiated, named, renamed, with_preferred, preferring, without_instance, with_image_at};
+ghost use Rattle.instances_table.specs.Changes.{is_slot_held, free_slot, module_has_slot, is_named, is_new, with_module, new_module, with_instance, modules_after_instantiate, modules_with_names, modules_after_rename, with_preferred, preferring, without_instance, with_image_at};
 
 use crate::changes::{push_slot, remove_instance, set_image, set_preferred};
 use crate::loaded::{has_title, is_held, is_named, loaded_at, new_module};
@@ -16,7 +16,7 @@ use module_header::profile::ErrorNumber;
 impl InstanceTable {
     /// Whether an instance has a slot.
     pub(crate) fn is_held(&self, slot: u32) -> bool
-        ensures { result ≡ is_held slot self.now }
+        ensures { result ≡ is_slot_held slot self.now }
     {
         is_held(self.modules.as_slice(), slot)
     }
@@ -25,7 +25,7 @@ impl InstanceTable {
     pub fn free_slot(&self) -> Option<u32>
         ensures value { result ≡ free_slot self.now }
         ensures below { IfSome result (λ slot. slot < 64) }
-        ensures free { IfSome result (λ slot. is_held slot self.now ≡ false) }
+        ensures free { IfSome result (λ slot. is_slot_held slot self.now ≡ false) }
     {
         for slot in 0..64 {
             if !self.is_held(slot) {
@@ -81,7 +81,7 @@ impl InstanceTable {
     ///
     /// RISC OS 3 Programmer's Reference Manual, "OS_Module", reason 14.
     pub fn instantiate(&mut self, full: &[u8]) -> Result<u32, ErrorNumber>
-        ensures { Gives self.old (instantiated self.old full.now) result self.new }
+        ensures { Gives self.old (modules_after_instantiate self.old full.now) result self.new }
     {
         let new = self.room_for(full)?;
         self.add_instance(new.number as usize, new.name.as_slice(), new.slot);
@@ -101,7 +101,7 @@ impl InstanceTable {
     pub(crate) fn add_instance(&mut self, number: usize, name: &[u8], slot: u32)
         requires number { number < length self.old }
         requires below { slot < 64 }
-        requires free { is_held slot self.old ≡ false }
+        requires free { is_slot_held slot self.old ≡ false }
         requires formed { length name.now ≤ 31 }
         requires unnamed { is_named name.now (slice_get self.old number) ≡ false }
         ensures { self.new ≡ changed_at number (with_instance name.now slot) self.old }
@@ -120,7 +120,7 @@ impl InstanceTable {
     ///
     /// RISC OS 3 Programmer's Reference Manual, "OS_Module", reason 15.
     pub fn rename(&mut self, full: &[u8], new: &[u8]) -> Result<(), ErrorNumber>
-        ensures { Leaves self.old (renamed self.old full.now new.now) result self.new }
+        ensures { Leaves self.old (modules_after_rename self.old full.now new.now) result self.new }
     {
         let full = FullName::of(full);
         if full.name.is_none() || !is_instance_name(new) {
@@ -137,10 +137,10 @@ impl InstanceTable {
 
     fn put_name(&mut self, number: u32, slot: u32, name: &[u8])
         requires below { slot < 64 }
-        requires held { holds slot (slice_get self.old number) ≡ true }
+        requires held { module_has_slot slot (slice_get self.old number) ≡ true }
         requires formed { length name.now ≤ 31 }
         requires unnamed { is_named name.now (slice_get self.old number) ≡ false }
-        ensures { self.new ≡ named slot name.now self.old }
+        ensures { self.new ≡ modules_with_names slot name.now self.old }
     {
         self.names[slot as usize] = name_of(name);
     }
@@ -167,7 +167,7 @@ impl InstanceTable {
     }
 
     fn set_preferred(&mut self, number: u32, slot: u32)
-        requires held { holds slot (slice_get self.old number) ≡ true }
+        requires held { module_has_slot slot (slice_get self.old number) ≡ true }
         ensures { self.new ≡ changed_at number (with_preferred slot) self.old }
     {
         set_preferred(&mut self.modules, number as usize, slot);

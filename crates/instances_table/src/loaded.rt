@@ -3,8 +3,8 @@ ghost use Rattle.std.specs.Prelude.{◌≡◌, ◌<◌, ◌≤◌, length, IfSom
 ghost use Rattle.std.specs.List.{list_any, position};
 ghost use Rattle.std.specs.Option.{option_copied};
 ghost use Rattle.std.specs.Str.{str_eq_ignore_ascii_case};
-ghost use Rattle.instances_table.specs.Changes.{new_module, without_first};
-ghost use Rattle.instances_table.specs.Table.{Names, name_at, all_slots, titled_slots, module_of, heir};
+ghost use Rattle.instances_table.specs.Changes.{new_module, without_first_passing};
+ghost use Rattle.instances_table.specs.Table.{Names, name_of_slot, all_slots, titled_slots, module_of, heir};
 ghost use Rattle.instances_table.specs.Lookup.{handled_in, told_of_module, instance_meant};
 
 use crate::names::name_of;
@@ -56,7 +56,8 @@ impl Loaded {
 
     /// Where among the instances the one of a name is, or without a name the preferred one.
     pub(crate) fn place_meant(&self, names: &[Name], name: Option<&[u8]>) -> Option<usize>
-        ensures value { result ≡ instance_meant (option_map (λ n. n.now) name.entry) (module_of names.now self.now) }
+        ensures value { result ≡ instance_meant (option_map (λ n. n.now) name.entry)
+            (module_of names.now self.now) }
         ensures within { IfSome result (λ i. i < 64) }
     {
         match name {
@@ -67,7 +68,7 @@ impl Loaded {
 
     /// Takes the instance of a slot out. If it was preferred, the oldest one left becomes so.
     pub(crate) fn drop_slot(&mut self, slot: u32)
-        ensures slots { self.new.slots.items ≡ without_first (λ s. s == slot) self.old.slots.items }
+        ensures slots { self.new.slots.items ≡ without_first_passing (λ s. s == slot) self.old.slots.items }
         ensures preferred { self.new.preferred ≡ heir slot self.old.preferred self.new.slots.items }
         ensures header { self.new.header ≡ self.old.header }
         ensures image { self.new.image ≡ self.old.image }
@@ -89,7 +90,7 @@ impl Loaded {
 
 /// Takes a slot out of a list, if it is there.
 fn take_slot(slots: &mut ArrayVec<u32, MOST_INSTANCES>, slot: u32)
-    ensures { slots.new.items ≡ without_first (λ s. s == slot) slots.old.items }
+    ensures { slots.new.items ≡ without_first_passing (λ s. s == slot) slots.old.items }
 {
     if let Some(place) = place_of_slot(slots.as_slice(), slot) {
         slots.remove(place);
@@ -105,7 +106,7 @@ pub(crate) fn place_of_slot(slots: &[u32], slot: u32) -> Option<usize>
 
 /// A new module, with its first instance.
 pub(crate) fn new_module(header: Header, image: Image, slot: u32) -> Loaded
-    ensures { (names : Names) → name_at names slot ≡ codes "Base"
+    ensures { (names : Names) → name_of_slot names slot ≡ codes "Base"
         → module_of names result ≡ new_module header image slot }
 {
     let mut slots = ArrayVec::new();
@@ -140,7 +141,8 @@ pub(crate) fn has_title(modules: &[Loaded], title: &[u8]) -> bool
 
 /// Where in a list of modules the first with a SWI is.
 pub(crate) fn number_of_call(modules: &[Loaded], call: u32) -> Option<usize>
-    ensures { result ≡ position (λ l. l.header.chunk == call - call % 64 && not (l.header.handler == 0)) modules.now }
+    ensures { result ≡ position (λ l. l.header.chunk == call - call % 64
+        && not (l.header.handler == 0)) modules.now }
 {
     modules.iter().position(|loaded| loaded.header.chunk == call - call % 64
         && loaded.header.handler != 0)
@@ -208,7 +210,7 @@ pub(crate) fn number_of_slot(modules: &[Loaded], slot: u32) -> Option<usize>
 
 /// The name of the instance of a slot.
 pub(crate) fn name_at(names: &[Name], slot: u32) -> &[u8]
-    ensures value { result.now ≡ name_at names.now slot }
+    ensures value { result.now ≡ name_of_slot names.now slot }
     ensures fits { length result.now ≤ 31 }
 {
     match names.get(slot as usize) {
@@ -219,7 +221,8 @@ pub(crate) fn name_at(names: &[Name], slot: u32) -> &[u8]
 
 /// Where among slots the one of an instance of that name is.
 pub(crate) fn place_of_name(names: &[Name], slots: &[u32], name: &[u8]) -> Option<usize>
-    ensures value { result ≡ position (λ s. str_eq_ignore_ascii_case (name_at names.now s) name.now) slots.now }
+    ensures value { result ≡ position (λ s. str_eq_ignore_ascii_case
+        (name_of_slot names.now s) name.now) slots.now }
     ensures within { IfSome result (λ i. i < length slots.now) }
 {
     slots
@@ -229,7 +232,8 @@ pub(crate) fn place_of_name(names: &[Name], slots: &[u32], name: &[u8]) -> Optio
 
 /// Whether an instance of one of the slots has that name.
 pub(crate) fn is_named(names: &[Name], slots: &[u32], name: &[u8]) -> bool
-    ensures { result ≡ list_any (λ s. str_eq_ignore_ascii_case (name_at names.now s) name.now) slots.now }
+    ensures { result ≡ list_any (λ s. str_eq_ignore_ascii_case (name_of_slot names.now s) name.now)
+        slots.now }
 {
     slots
         .iter()

@@ -2,7 +2,7 @@
 ghost use Rattle.std.specs.Prelude.{◌≡◌, ◌≤◌, length, option_map};
 ghost use Rattle.std.specs.List.{list_all, position};
 ghost use Rattle.module_header.specs.Title.{is_title_byte};
-ghost use Rattle.instances_table.specs.Names.{FullName, parted, is_percent, is_instance_name};
+ghost use Rattle.instances_table.specs.Names.{FullName, full_name_parts, is_percent, is_instance_name};
 
 use crate::parts::{MOST_NAME_BYTES, Name};
 use module_header::is_title_byte;
@@ -16,7 +16,8 @@ pub(crate) struct FullName<'a> {
 
 impl<'a> FullName<'a> {
     pub(crate) fn of(full: &'a [u8]) -> FullName<'a>
-        ensures { record { title = result.title.now; name = option_map (λ n. n.now) result.name } ≡ parted full.now }
+        ensures { record { title = result.title.now; name = option_map (λ n. n.now) result.name }
+            ≡ full_name_parts full.now }
     {
         match place_of_percent(full) {
             Some(place) => FullName {

@@ -1,7 +1,7 @@
 //! Where new instances find room.
 ghost use Rattle.std.specs.Prelude.{◌≡◌, ◌≤◌, ◌<◌, false, IfOk, IfSome, length};
 ghost use Rattle.instances_table.specs.Modules.{AreModules, slots_of};
-ghost use Rattle.instances_table.specs.Changes.{free_slot_for, instance_room, is_held, titled, titled_otherwise, IsRoomFor};
+ghost use Rattle.instances_table.specs.Changes.{free_slot_for, instance_room, is_slot_held, modules_of_title, titled_otherwise, IsRoomFor};
 
 use crate::loaded::{MOST_INSTANCES, is_held_beside, slots_of_title};
 use crate::names::{FullName, is_instance_name, name_of};
@@ -47,7 +47,7 @@ impl InstanceTable {
     /// The slots of the instances of the module of a title, oldest first; none where there is no
     /// such module.
     pub fn slots_of_title(&self, title: &[u8]) -> ArrayVec<u32, MOST_INSTANCES>
-        ensures value { result.items ≡ slots_of (titled title.now self.now) }
+        ensures value { result.items ≡ slots_of (modules_of_title title.now self.now) }
         ensures table { AreModules self.now }
     {
         slots_of_title(self.modules.as_slice(), title)
@@ -58,7 +58,8 @@ impl InstanceTable {
     pub fn free_slot_for(&self, title: &[u8]) -> Option<u32>
         ensures value { result ≡ free_slot_for title.now self.now }
         ensures below { IfSome result (λ slot. slot < 64) }
-        ensures free { IfSome result (λ slot. is_held slot (titled_otherwise title.now self.now) ≡ false) }
+        ensures free { IfSome result (λ slot. is_slot_held slot (titled_otherwise title.now self.now)
+            ≡ false) }
         ensures few { length self.now ≤ 64 }
     {
         let _ = &self.modules;
@@ -72,7 +73,7 @@ impl InstanceTable {
 
     /// Whether an instance of a module of another title has a slot.
     fn is_held_beside(&self, title: &[u8], slot: u32) -> bool
-        ensures { result ≡ is_held slot (titled_otherwise title.now self.now) }
+        ensures { result ≡ is_slot_held slot (titled_otherwise title.now self.now) }
     {
         is_held_beside(self.modules.as_slice(), title, slot)
     }

@@ -4,7 +4,7 @@ ghost use Rattle.std.specs.Prelude.{◌≡◌, ◌≤◌, ◌<◌, [], length, m
 ghost use Rattle.std.specs.List.{position};
 ghost use Rattle.std.specs.Option.{option_copied};
 ghost use Rattle.instances_table.specs.Modules.{AreModules, Module, has_instance, slots_of};
-ghost use Rattle.instances_table.specs.Changes.{holds};
+ghost use Rattle.instances_table.specs.Changes.{module_has_slot};
 ghost use Rattle.instances_table.specs.Lookup.{handler_of, number_of_title, number_of_call, place_meant, looked_up, information, instance_in, slot_in, slot_within, place_of_slot, told_of_module, told_of_place};
 
 use crate::loaded::{
@@ -157,7 +157,8 @@ impl InstanceTable {
 
     /// Where in the module of a number the instance of a name is, or the preferred one.
     fn instance_meant(&self, number: usize, name: Option<&[u8]>) -> Option<usize>
-        ensures value { result ≡ instance_in (option_map (λ n. n.now) name.entry) (slice_get self.now number) }
+        ensures value { result ≡ instance_in (option_map (λ n. n.now) name.entry)
+            (slice_get self.now number) }
         ensures within { IfSome result (λ i. i < 64) }
     {
         let loaded = self.modules.as_slice().get(number)?;
@@ -266,7 +267,7 @@ impl InstanceTable {
     /// The slot of an instance, if there is one at the place.
     pub fn slot_of(&self, place: Place) -> Option<u32>
         ensures value { result ≡ slot_in place.instance (slice_get self.now place.number) }
-        ensures held { IfSome result (λ slot. holds slot (slice_get self.now place.number) ≡ true) }
+        ensures held { IfSome result (λ slot. module_has_slot slot (slice_get self.now place.number) ≡ true) }
         ensures below { IfSome result (λ slot. slot < 64) }
     {
         let _ = &self.names;

@@ -8,7 +8,7 @@ use Rattle.profile.specs.Outcome.{bind}
 use Rattle.module_header.specs.declared.fault.HeaderFault.{HeaderFault}
 use Rattle.module_header.specs.declared.fault.HeaderFault.TheVariants.{Short, Initialise, Finalise, Title}
 use Rattle.module_header.specs.declared.header.Header.{Header}
-use Rattle.module_header.specs.Words.{word_at, entry_at}
+use Rattle.module_header.specs.Words.{image_word_at, entry_at}
 use Rattle.module_header.specs.Title.{title_at}
 use Rattle.module_header.specs.Swis.{has_swis}
 
@@ -16,12 +16,12 @@ abbrev pub header_of : List ℕ → Result Header HeaderFault
 header_of image = if nat_lt (length image) 28 then Err Short else (
     bind (ok_or (entry_at image 0x04) Initialise) (λ initialise.
     bind (ok_or (entry_at image 0x08) Finalise) (λ finalise.
-    bind (ok_or (title_at image (word_at image 0x10)) Title) (λ title.
+    bind (ok_or (title_at image (image_word_at image 0x10)) Title) (λ title.
     Ok (record {
       title = record { items = title };
       start = unwrap_or (entry_at image 0x00) 0;
       initialise = initialise;
       finalise = finalise;
-      chunk = if has_swis image then word_at image 0x1C else 0;
-      handler = if has_swis image then word_at image 0x20 else 0;
+      chunk = if has_swis image then image_word_at image 0x1C else 0;
+      handler = if has_swis image then image_word_at image 0x20 else 0;
     })))))

@@ -16,6 +16,7 @@ is_zero_at image at = nat_lt at (length image) && (slice_index image at == 0)
 
 abbrev pub title_at : List ℕ → ℕ → Option (List ℕ)
 title_at image at =
-    if nat_le 1 (title_len image at) && nat_le (title_len image at) 31 && is_zero_at image (at + title_len image at)
+    if nat_le 1 (title_len image at) && nat_le (title_len image at) 31
+    && is_zero_at image (at + title_len image at)
     then Some (take (title_len image at) (drop at image))
     else None

@@ -1,6 +1,6 @@
 //! The words of an image, and the offsets among them.
 ghost use Rattle.std.specs.Prelude.{◌≡◌, ◌≤◌, ◌+◌, length};
-ghost use Rattle.module_header.specs.Words.{word_at, entry_at, is_entry};
+ghost use Rattle.module_header.specs.Words.{image_word_at, entry_at, is_entry};
 
 use byteorder::{ByteOrder, LittleEndian};
 use profile::ImageBytes;
@@ -9,7 +9,7 @@ use profile::ImageBytes;
 pub(crate) fn word_at<B: ImageBytes>(image: &B, at: usize) -> u32
     requires inside { at + 4 ≤ length (B.bytes image.now) }
     requires header { at ≤ 32 }
-    ensures { result ≡ word_at (B.bytes image.now) at }
+    ensures { result ≡ image_word_at (B.bytes image.now) at }
 {
     LittleEndian::read_u32(&[
         image.byte(at),

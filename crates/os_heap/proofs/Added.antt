@@ -1,10 +1,11 @@
 -- A heap more, behind all others: its descriptor is written, and its range recorded.
+use Rattle.profile.specs.MemoryMap.{heap_name}
 use Rattle.std.proofs.Common.{Bool, ap, cond, subst, arith, inl, ◌+◌, ◌≡◌, ℕ, true, inr, refl, false, [], List, ◌∷◌, ◌++◌, ◌≤◌, ◌&&◌, ◌-◌, leb, ◌^◌, ◌<◌, ◌⊎◌, ◌∙◌, sym, Err, Ok}
 use Rattle.std.proofs.lemmas.Bool.{cases_lt, and_parts, both_ways, false_from_ne_true, or_parts, le-leb, lt-ltb, cases_Bool, false≢true, or_from}
 use Rattle.std.proofs.lemmas.Bool.Decides.{nat_tests}
 use Rattle.std.specs.List.{list_any}
 use Rattle.profile.specs.declared.error.ErrorNumber.TheVariants.{HeapBadRegion, HeapOverlaps, HeapTableFull}
-use Rattle.address_map.specs.Bytes.{in_range, meets, word_start, Bytes, with_word_at, word_at}
+use Rattle.address_map.specs.Bytes.{in_range, shares_address, word_start, Bytes, with_word_at, word_at}
 use Rattle.address_map.specs.Items.{is_heap_word, items_in}
 use Rattle.address_map.specs.Classes.{is_flex_header, is_anchor}
 use Rattle.address_map.proofs.Anchors.{none_among}
@@ -23,11 +24,11 @@ use Rattle.os_heap.proofs.Anchored.{place_more}
 use Rattle.os_heap.proofs.FlexWords.{AreSameFlex, IsUnflexed}
 use Rattle.os_heap.proofs.Frame.{heaps_in-spelled, parts_kept}
 use Rattle.os_heap.specs.Probes.{init_probes, region_probes}
-use Rattle.os_heap.specs.Ranges.{HasRoom, is_heap_region, overlaps, MayBegin}
+use Rattle.os_heap.specs.Ranges.{IsWithinHeapLimit, is_heap_region, overlaps, MayBegin}
 use Rattle.os_heap.proofs.Nesting.{apart_turned, clear_turned, stand_more}
 use Rattle.os_heap.specs.Nesting.{StandApart, is_crossed}
-use Rattle.os_heap.specs.Store.{AreClasses, AreClear, AreHeapsIn, ArePlaced, Store, IsSound, heap_in, heaps_in, is_area, is_flex_store, is_in_flex_store, others_in, store_of, IsPlacedIn, guest_count}
-use Rattle.os_heap.specs.Calls.{begun_with, begun}
+use Rattle.os_heap.specs.Store.{AreClasses, AreClear, AreHeapsIn, ArePlaced, Store, IsSound, heap_in, heaps_in, is_module_area, is_flex_store, is_in_flex_store, others_in, store_of, IsPlacedIn, guest_count}
+use Rattle.os_heap.specs.Calls.{store_with_new_heap, store_after_init}
 use Rattle.address_map.specs.declared.region.Kind.TheVariants as kind
 use Rattle.os_heap.proofs.Limits.{empty, limits_more}
 use Rattle.os_heap.proofs.RangeTests.{clear_unless, CanHold, can_hold, range_low, range_high, unlapped, uncrossed}
@@ -43,11 +44,11 @@ placed_more : (hs : List HeapList) (h : HeapList) (r : Region) → IsPlacedIn hs
 placed_more [] h r placed clear = (inl clear, tt)
 placed_more (g ∷ hs) h r placed clear = (placed.0, placed_more hs h r placed.1 clear)
 
-others_more : (hs : List HeapList) (h : HeapList) (rs : List Region) → ArePlaced hs rs → list_any (λ r. meets h.start h.end r.at r.len) rs ≡ false
+others_more : (hs : List HeapList) (h : HeapList) (rs : List Region) → ArePlaced hs rs → list_any (λ r. shares_address h.start h.end r.at r.len) rs ≡ false
     → ArePlaced (hs ++ h ∷ []) rs
 others_more hs h [] placed none = tt
 others_more hs h (r ∷ rs) placed none =
-    let parts = or_parts (meets h.start h.end r.at r.len) (list_any (λ r. meets h.start h.end r.at r.len) rs) none in (
+    let parts = or_parts (shares_address h.start h.end r.at r.len) (list_any (λ r. shares_address h.start h.end r.at r.len) rs) none in (
       placed_more hs h r placed.0 (clear_turned h.start h.end r.at r.len (clear_unless h.start h.end r.at r.len parts.0)),
       others_more hs h rs placed.1 parts.1,
     )
@@ -69,7 +70,7 @@ word_other f at v a apart =
 
 module _ (f : ℕ → ℕ) (at size : ℕ) (fits : size < 2 ^ 32) where
   named : ℕ → ℕ
-  named = with_word_at f at 0x70616548
+  named = with_word_at f at heap_name
 
   linked : ℕ → ℕ
   linked = with_word_at named (at + 4) (0 - at)
@@ -77,10 +78,10 @@ module _ (f : ℕ → ℕ) (at size : ℕ) (fits : size < 2 ^ 32) where
   based : ℕ → ℕ
   based = with_word_at linked (at + 8) 16
 
-  written_name : word_at (with_heap f at size []) at ≡ 0x70616548
+  written_name : word_at (with_heap f at size []) at ≡ heap_name
   unfolding named linked based
   written_name = word_other based (at + 12) size at (inl (omega arith)) ∙ word_other linked (at + 8) 16 at (inl (omega arith))
-      ∙ word_other named (at + 4) (0 - at) at (inl (omega arith)) ∙ word_here f at 0x70616548 (omega arith)
+      ∙ word_other named (at + 4) (0 - at) at (inl (omega arith)) ∙ word_here f at heap_name (omega arith)
 
   written_link : word_at (with_heap f at size []) (at + 4) ≡ 0 - at
   unfolding named linked based
@@ -101,7 +102,7 @@ module _ (f : ℕ → ℕ) (at size : ℕ) (fits : size < 2 ^ 32) where
       byte_other based (at + 12) size a (elim apart [ inl low ↦ inl (omega arith) | inr high ↦ inr (omega arith) ])
       ∙ byte_other linked (at + 8) 16 a (elim apart [ inl low ↦ inl (omega arith) | inr high ↦ inr (omega arith) ])
       ∙ byte_other named (at + 4) (0 - at) a (elim apart [ inl low ↦ inl (omega arith) | inr high ↦ inr (omega arith) ])
-      ∙ byte_other f at 0x70616548 a (elim apart [ inl low ↦ inl (omega arith) | inr high ↦ inr (omega arith) ])
+      ∙ byte_other f at heap_name a (elim apart [ inl low ↦ inl (omega arith) | inr high ↦ inr (omega arith) ])
 
 pub empty_heap : (b : Bytes) (at size : ℕ) → CanHold b at size
     → IsHeapIn (record { mapped = b.mapped; at = with_heap b.at at size [] }) at size []
@@ -142,7 +143,7 @@ unowned_there b at len a (h ∷ hs) parts none inside =
     or_from (is_heap_word h.start h.items (word_start a)) (are_owned hs a) (unspelled_there b at len a h parts.0 each.0 inside)
     (unowned_there b at len a hs parts.1.1 each.1 inside)
 
-stand_begun : (b : Bytes) (k : Kind) (at size : ℕ) (hs : List HeapList) → is_area k ≡ false → AreHeapsIn b hs → list_any (is_crossed at size) hs ≡ false
+stand_begun : (b : Bytes) (k : Kind) (at size : ℕ) (hs : List HeapList) → is_module_area k ≡ false → AreHeapsIn b hs → list_any (is_crossed at size) hs ≡ false
     → StandApart (empty k at size) hs
 stand_begun b k at size [] guest parts none = tt
 stand_begun b k at size (h ∷ hs) guest parts none =
@@ -161,7 +162,7 @@ stand_begun b k at size (h ∷ hs) guest parts none =
       stand_begun b k at size hs guest parts.1.1 each.1,
     )
 
-begun_stands : (k : Kind) (s : Store) (at size : ℕ) → HasRoom k s at → AreHeapsIn s.bytes s.heaps → list_any (is_crossed at size) s.heaps ≡ false
+begun_stands : (k : Kind) (s : Store) (at size : ℕ) → IsWithinHeapLimit k s at → AreHeapsIn s.bytes s.heaps → list_any (is_crossed at size) s.heaps ≡ false
     → StandApart (empty k at size) s.heaps
 begun_stands kind.Heap s at size room parts none = stand_begun s.bytes kind.Heap at size s.heaps refl parts none
 begun_stands kind.Rma s at size room parts none = subst (λ (hs : List HeapList). StandApart (empty kind.Rma at size) hs) (sym room.0) tt
@@ -172,11 +173,11 @@ begun_stands kind.HeadWord s at size room parts none = absurd room
 begun_stands kind.Image s at size room parts none = absurd room
 begun_stands kind.SystemPage s at size room parts none = absurd room
 
-pub begun_old : (k : Kind) (s : Store) (at size : ℕ) → MayBegin k s at size → IsSound s → AreHeapsIn (begun_with k s at size).bytes s.heaps
+pub begun_old : (k : Kind) (s : Store) (at size : ℕ) → MayBegin k s at size → IsSound s → AreHeapsIn (store_with_new_heap k s at size).bytes s.heaps
 begun_old k s at size may sound =
     let can : CanHold s.bytes at size = can_hold s.bytes at size may.region in
     let none = (unlapped at size s may.clear).0 in
-    parts_kept s.bytes (begun_with k s at size).bytes s.heaps refl
+    parts_kept s.bytes (store_with_new_heap k s at size).bytes s.heaps refl
     (λ a is. written_other s.bytes.at at size (omega (arith, can.high)) a (elim (cases_lt a at) [
       | inl low ↦ inl (omega arith)
       | inr high ↦ inr (elim (cases_lt a (at + size)) [
@@ -187,12 +188,12 @@ begun_old k s at size may sound =
     ])) sound.heaps
 
 -- the store with a heap more is sound too
-pub begun_sound : (k : Kind) (s : Store) (at size : ℕ) → MayBegin k s at size → IsSound s → IsSound (begun_with k s at size)
+pub begun_sound : (k : Kind) (s : Store) (at size : ℕ) → MayBegin k s at size → IsSound s → IsSound (store_with_new_heap k s at size)
 begun_sound k s at size may sound =
     let can : CanHold s.bytes at size = can_hold s.bytes at size may.region in
     let none = (unlapped at size s may.clear).0 in
     record {
-      heaps = parts_more (begun_with k s at size).bytes s.heaps (empty k at size) (begun_old k s at size may sound)
+      heaps = parts_more (store_with_new_heap k s at size).bytes s.heaps (empty k at size) (begun_old k s at size may sound)
           (begun_stands k s at size may.room sound.heaps none.0) (empty_heap s.bytes at size can);
       limits = limits_more k s at size may.room sound.limits;
       placed = others_more s.heaps (empty k at size) s.others sound.placed none.1;
@@ -238,7 +239,7 @@ recorded rs kind.SystemPage at len heap = absurd (false≢true heap)
 pub store_begun : (m n : AddressMap) (k : Kind) (at size : ℕ) → is_heap_kind k ≡ true → MayBegin k (store_of m) at size → IsSound (store_of m)
     → regions n ≡ regions m ++ record { kind = k; at = at; len = size } ∷ []
     → bytes_of n ≡ record { mapped = is_mapped m; at = with_heap (byte_at m) at size [] }
-    → AreSameFlex (class_of m) (class_of n) → store_of n ≡ begun_with k (store_of m) at size
+    → AreSameFlex (class_of m) (class_of n) → store_of n ≡ store_with_new_heap k (store_of m) at size
 unfolding store_of
 store_begun m n k at size heap may sound records bytes flex =
     let c : Bytes = record { mapped = is_mapped m; at = with_heap (byte_at m) at size [] } in
@@ -259,8 +260,8 @@ store_begun m n k at size heap may sound records bytes flex =
     })
 
 -- the refusals in their order
-pub begun_bad : (s : Store) (at size : ℕ) → is_heap_region s.bytes at size ≡ false → begun s at size ≡ Err HeapBadRegion
-unfolding begun
+pub begun_bad : (s : Store) (at size : ℕ) → is_heap_region s.bytes at size ≡ false → store_after_init s at size ≡ Err HeapBadRegion
+unfolding store_after_init
 begun_bad s at size bad = rw bad refl
 
 -- what is looked at where a heap is to be made
@@ -272,17 +273,17 @@ pub init_looked : (s : Store) (at size : ℕ) → is_heap_region s.bytes at size
 unfolding init_probes
 init_looked s at size good = ap (λ (t : Bool). cond t (region_probes s at size at size) 0) good
 
-pub begun_over : (s : Store) (at size : ℕ) → is_heap_region s.bytes at size ≡ true → overlaps at size s ≡ true → begun s at size ≡ Err HeapOverlaps
-unfolding begun
+pub begun_over : (s : Store) (at size : ℕ) → is_heap_region s.bytes at size ≡ true → overlaps at size s ≡ true → store_after_init s at size ≡ Err HeapOverlaps
+unfolding store_after_init
 begun_over s at size good over = rw (good, over) refl
 
 pub begun_full : (s : Store) (at size : ℕ) → is_heap_region s.bytes at size ≡ true → overlaps at size s ≡ false
-    → leb 64 (guest_count s.heaps) ≡ true → begun s at size ≡ Err HeapTableFull
-unfolding begun
+    → leb 64 (guest_count s.heaps) ≡ true → store_after_init s at size ≡ Err HeapTableFull
+unfolding store_after_init
 begun_full s at size good clear full = rw (good, clear, full) refl
 
-pub begun_done : (s : Store) (at size : ℕ) → MayBegin kind.Heap s at size → begun s at size ≡ Ok (begun_with kind.Heap s at size, tt)
-unfolding begun
+pub begun_done : (s : Store) (at size : ℕ) → MayBegin kind.Heap s at size → store_after_init s at size ≡ Ok (store_with_new_heap kind.Heap s at size, tt)
+unfolding store_after_init
 begun_done s at size may = rw (may.region, may.clear, may.room) refl
 
 -- a store with no record is sound
@@ -298,18 +299,18 @@ sound_empty m none plain = rw none (record {
   headers = λ a is. absurd (false≢true (sym (ap is_flex_header (plain a)) ∙ is));
 })
 
-unmet_flex : (at size : ℕ) (rs : List Region) (a : ℕ) → list_any (λ r. meets at size r.at r.len) rs ≡ false → at ≤ a → a < at + size
+unmet_flex : (at size : ℕ) (rs : List Region) (a : ℕ) → list_any (λ r. shares_address at size r.at r.len) rs ≡ false → at ≤ a → a < at + size
     → is_in_flex_store rs a ≡ true → ⊥
 unmet_flex at size [] a none low high is = false≢true is
 unmet_flex at size (r ∷ rs) a none low high is =
-    let parts = or_parts (meets at size r.at r.len) (list_any (λ q. meets at size q.at q.len) rs) none in
+    let parts = or_parts (shares_address at size r.at r.len) (list_any (λ q. shares_address at size q.at q.len) rs) none in
     elim (cases_Bool (is_flex_store r.kind && in_range r.at r.len a)) [
       | inr other ↦ unmet_flex at size rs a parts.1 low high (rw other at is)
       | inl here ↦
           let inside : in_range r.at r.len a ≡ true = (and_parts (is_flex_store r.kind) (in_range r.at r.len a) here).1 in
           let from : r.at ≤ a = range_low r.at r.len a inside in
           let to : a < r.at + r.len = range_high r.at r.len a inside in
-          both_ways (meets at size r.at r.len) parts.0
+          both_ways (shares_address at size r.at r.len) parts.0
           (rw (lt-ltb 0 size (omega arith), lt-ltb 0 r.len (omega arith), lt-ltb at (r.at + r.len) (omega arith), lt-ltb r.at (at + size) (omega arith)) refl)
     ]
 
@@ -333,7 +334,7 @@ begun_unflexed m k at size may sound a inside =
     }
 
 -- the marks with a heap more
-pub classes_begun : (m n : AddressMap) (k : Kind) (at size : ℕ) → store_of n ≡ begun_with k (store_of m) at size
+pub classes_begun : (m n : AddressMap) (k : Kind) (at size : ℕ) → store_of n ≡ store_with_new_heap k (store_of m) at size
     → ((a : ℕ) → class_of n a ≡ cond (in_range at 16 (word_start a)) class.Heap (class_of m a)) → AreClasses m → AreClasses n
 classes_begun m n k at size store change same =
     subst (λ (s : Store). AreBy (class_of n) s.heaps) (sym store)

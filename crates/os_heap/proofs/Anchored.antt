@@ -13,12 +13,12 @@ use Rattle.address_map.specs.declared.region.Kind.{Kind}
 use Rattle.address_map.specs.declared.region.Kind.TheVariants as kind
 use Rattle.address_map.specs.declared.region.Region.{Region}
 use Rattle.os_heap_lists.proofs.HeadWords.{head_inside}
-use Rattle.os_heap_lists.proofs.LiveBlocks.{IsStillIn, LiveBytes, live_bytes, live_unspelled, release_still, refit_own, refit_still}
+use Rattle.os_heap_lists.proofs.LiveBlocks.{IsStillIn, LiveBytes, law_live_bytes, live_unspelled, release_still, refit_own, refit_still}
 use Rattle.os_heap_lists.specs.Heap.{HeapList, IsHeapIn}
-use Rattle.os_heap_lists.specs.Lists.{live_total, released, resized_in_place}
+use Rattle.os_heap_lists.specs.Lists.{live_total, items_after_release, resized_in_place}
 use Rattle.os_heap.proofs.FlexWords.{AreUnflexed}
 use Rattle.os_heap.proofs.Stores.{AreOthers, placed_by}
-use Rattle.os_heap.specs.Calls.{holds_anchor, with_items, with_end}
+use Rattle.os_heap.specs.Calls.{holds_anchor, heaps_with_items, with_end}
 use Rattle.os_heap.specs.Store.{ArePlaced, IsAnchorPlace, IsInBlock, IsSound, find_heap, is_flex_store, is_image, is_in_flex_store, store_of}
 
 abbrev pub IsPlacedBy : HeapList → ℕ → Type 0
@@ -39,10 +39,10 @@ abbrev pub KeepsAnchors : (ℕ → Bool) → ℕ → List Item → List Item →
 KeepsAnchors anchor at old new = (a : ℕ) → anchor a ≡ true → IsInBlock at old a → IsInBlock at new a
 
 pub place_held : (h : HeapList) (items : List Item) (hs : List HeapList) (a : ℕ) → AreOthers h hs
-    → (IsInBlock (h.start + 16) h.items a → IsInBlock (h.start + 16) items a) → IsAnchorPlace hs a → IsAnchorPlace (with_items h.start items hs) a
+    → (IsInBlock (h.start + 16) h.items a → IsInBlock (h.start + 16) items a) → IsAnchorPlace hs a → IsAnchorPlace (heaps_with_items h.start items hs) a
 place_held h items [] a others keeps place = tt
 place_held h items (g ∷ hs) a others keeps place =
-    let rest : IsAnchorPlace (with_items h.start items hs) a = place_held h items hs a others.1 keeps place.1 in
+    let rest : IsAnchorPlace (heaps_with_items h.start items hs) a = place_held h items hs a others.1 keeps place.1 in
     elim others.0 [
       | inl same ↦
           let start : g.start ≡ h.start = ap (λ (x : HeapList). x.start) same in
@@ -114,7 +114,7 @@ heads_unflexed m b h items sound found heap keeps a head =
         | inr held ↦
             let kept : IsInBlock (h.start + 16) items a = keeps a is held in
             let bytes : LiveBytes kept.block kept.total (h.start + 16) (h.start + 16 + size_of items) =
-            live_bytes kept.block kept.total (h.start + 16) items heap.totals kept.live in
+            law_live_bytes kept.block kept.total (h.start + 16) items heap.totals kept.live in
             let whole : kept.block % 4 ≡ 0 = bytes.whole (omega (arith, heap.aligned)) in
             both_ways (is_head (h.start + 16) items (word_start a))
             (live_unspelled kept.block kept.total (h.start + 16) items (word_start a) heap.totals kept.live (omega (arith, kept.low)) (omega (arith, kept.high)))
@@ -125,7 +125,7 @@ heads_unflexed m b h items sound found heap keeps a head =
     }
 
 -- a block that has no anchor is given back
-pub release_keeps : (anchor : ℕ → Bool) (block at : ℕ) (xs ys : List Item) → released block at xs ≡ Some ys
+pub release_keeps : (anchor : ℕ → Bool) (block at : ℕ) (xs ys : List Item) → items_after_release block at xs ≡ Some ys
     → holds_anchor anchor block (live_total block at xs) ≡ false → KeepsAnchors anchor at xs ys
 release_keeps anchor block at xs ys is none a anchored held = elim (cases_eq held.block block) [
   | inl same ↦

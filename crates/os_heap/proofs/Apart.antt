@@ -3,7 +3,7 @@ use Rattle.std.proofs.Common.{List, ℕ, [], ◌∷◌, ◌≡◌, ◌==◌, ◌
 use Rattle.std.proofs.lemmas.Bool.{cases_Bool, cases_eq, both_ways, and_parts, leb-true, ltb-true, le-leb, lt-ltb}
 use Rattle.address_map.specs.Bytes.{in_range, Bytes}
 use Rattle.address_map.specs.Items.{size_of}
-use Rattle.os_heap_lists.proofs.LiveBlocks.{LiveBytes, live_bytes, live_apart}
+use Rattle.os_heap_lists.proofs.LiveBlocks.{LiveBytes, law_live_bytes, live_apart}
 use Rattle.os_heap_lists.specs.Heap.{HeapList, IsHeapIn}
 use Rattle.os_heap_lists.specs.Lists.{live_total}
 use Rattle.os_heap.proofs.Found.{found_heap}
@@ -32,7 +32,7 @@ range_parts at len a inside =
 pub block_inside : (b : Bytes) (h : HeapList) (block total a : ℕ) → IsHeapIn b h.start h.end h.items → live_total block (h.start + 16) h.items ≡ Some total
     → in_range (block - 4) total a ≡ true → in_range h.start h.end a ≡ true
 block_inside b h block total a heap live inside =
-    let place : LiveBytes block total (h.start + 16) (h.start + 16 + size_of h.items) = live_bytes block total (h.start + 16) h.items heap.totals live in
+    let place : LiveBytes block total (h.start + 16) (h.start + 16 + size_of h.items) = law_live_bytes block total (h.start + 16) h.items heap.totals live in
     let parts : (block - 4 ≤ a) × (a < block - 4 + total) = range_parts (block - 4) total a inside in
     rw (le-leb h.start a (omega (arith, parts.0, place.low)), lt-ltb a (h.start + h.end) (omega (arith, parts.1, place.low, place.high, heap.inside))) refl
 
@@ -44,8 +44,8 @@ one_block b h block total other other_total a heap first second here there = eli
   | inr apart ↦
       let one : (block - 4 ≤ a) × (a < block - 4 + total) = range_parts (block - 4) total a here in
       let two : (other - 4 ≤ a) × (a < other - 4 + other_total) = range_parts (other - 4) other_total a there in
-      let low : LiveBytes block total (h.start + 16) (h.start + 16 + size_of h.items) = live_bytes block total (h.start + 16) h.items heap.totals first in
-      let low' : LiveBytes other other_total (h.start + 16) (h.start + 16 + size_of h.items) = live_bytes other other_total (h.start + 16) h.items heap.totals second in
+      let low : LiveBytes block total (h.start + 16) (h.start + 16 + size_of h.items) = law_live_bytes block total (h.start + 16) h.items heap.totals first in
+      let low' : LiveBytes other other_total (h.start + 16) (h.start + 16 + size_of h.items) = law_live_bytes other other_total (h.start + 16) h.items heap.totals second in
       absurd (elim (live_apart block total other other_total (h.start + 16) h.items heap.totals first second apart) [
         | inl before ↦ omega (arith, one.1, two.0, low.low, low'.low)
         | inr behind ↦ omega (arith, two.1, one.0, low.low, low'.low)
@@ -58,7 +58,7 @@ pub within_here : (b : Bytes) (h g : HeapList) (block total a : ℕ) → IsHeapI
     → (w.block ≡ block) × (w.total ≡ total)
 within_here b h g block total a heap w live here inside =
     let parts : (g.start ≤ a) × (a < g.start + g.end) = range_parts g.start g.end a inside in
-    let place : LiveBytes w.block w.total (h.start + 16) (h.start + 16 + size_of h.items) = live_bytes w.block w.total (h.start + 16) h.items heap.totals w.live in
+    let place : LiveBytes w.block w.total (h.start + 16) (h.start + 16 + size_of h.items) = law_live_bytes w.block w.total (h.start + 16) h.items heap.totals w.live in
     let there : in_range (w.block - 4) w.total a ≡ true =
     rw (le-leb (w.block - 4) a (omega (arith, w.low, parts.0)), lt-ltb a (w.block - 4 + w.total) (omega (arith, w.high, parts.1, place.low))) refl in
     let same : w.block ≡ block = one_block b h w.block w.total block total a heap w.live live there here in
@@ -71,7 +71,7 @@ inner_block : (b : Bytes) (h g : HeapList) (block total other other_total a : �
     → in_range (block - 4) total a ≡ true → in_range (other - 4) other_total a ≡ true → IsInPayload block total (other - 4) other_total
 inner_block b h g block total other other_total a heap inner w first second here there =
     let is : (w.block ≡ block) × (w.total ≡ total) = within_here b h g block total a heap w first here (block_inside b g other other_total a inner second there) in
-    let place : LiveBytes other other_total (g.start + 16) (g.start + 16 + size_of g.items) = live_bytes other other_total (g.start + 16) g.items inner.totals second in
+    let place : LiveBytes other other_total (g.start + 16) (g.start + 16 + size_of g.items) = law_live_bytes other other_total (g.start + 16) g.items inner.totals second in
     (omega (arith, is.0, w.low, place.low), omega (arith, is.0, is.1, w.high, place.low, place.high, inner.inside))
 
 pub blocks_apart : (s : Store) (h g : HeapList) (block total other other_total a : ℕ) → IsSound s

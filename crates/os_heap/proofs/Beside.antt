@@ -3,7 +3,7 @@ use Rattle.std.specs.List.{list_any}
 use Rattle.std.proofs.Common.{ap, ◌≡◌, arith, ℕ, List, ◌∙◌, inr, ◌-◌, inl, ◌+◌, ◌≢◌, sym, ◌<◌, ◌⊎◌, [], ◌∷◌, ◌&&◌, true, false, subst, ltb, refl}
 use Rattle.std.proofs.lemmas.Bool.{and_parts, and_right, both_ways, cases_Bool, or_from, le-ltb, cases_lt, eq-eqb, false≢true, le-leb, lt-ltb, ne_eqb, not-false, or_parts}
 use Rattle.address_map.proofs.Stores.{in_range-cases}
-use Rattle.address_map.specs.Bytes.{Bytes, in_range, meets}
+use Rattle.address_map.specs.Bytes.{Bytes, in_range, shares_address}
 use Rattle.os_heap_lists.specs.Heap.{HeapList, IsHeapIn}
 use Rattle.os_heap.proofs.RangeTests.{clear_unless}
 use Rattle.os_heap.proofs.Holding.{HoldsRange, range_held}
@@ -12,7 +12,7 @@ use Rattle.os_heap.proofs.Stores.{AreOthers}
 use Rattle.os_heap.specs.Calls.{with_end}
 use Rattle.os_heap.specs.Nesting.{IsWithin, StandApart, StandsApart, holds_range}
 use Rattle.os_heap.specs.Ranges.{has_before, is_in_heap, is_in_way}
-use Rattle.os_heap.specs.Store.{AreClear, AreHeapsIn, is_area}
+use Rattle.os_heap.specs.Store.{AreClear, AreHeapsIn, is_module_area}
 
 -- a range that meets neither the heap nor what it grows by does not meet the heap with its other end
 pub clear_grown : (start end other at len : ℕ) → AreClear start end at len → (end < other → AreClear (start + end) (other - end) at len)
@@ -155,14 +155,14 @@ stand_ended g h end (k ∷ hs) own beside stand =
 
 -- of a heap that lies in no other, only what it grows by tells
 pub grown_alone : (at len new more : ℕ) (hs : List HeapList) → is_in_heap at hs ≡ false
-    → list_any (is_in_way at len new more) hs ≡ list_any (λ h. meets new more h.start h.end) hs
+    → list_any (is_in_way at len new more) hs ≡ list_any (λ h. shares_address new more h.start h.end) hs
 grown_alone at len new more [] alone = refl
 grown_alone at len new more (h ∷ hs) alone =
     let each = or_parts (has_before at h) (is_in_heap at hs) alone in
     rw (each.0, grown_alone at len new more hs each.1) refl
 
 -- the module area lies in no other heap
-pub area_alone : (b : Bytes) (h : HeapList) (hs : List HeapList) → is_area h.kind ≡ true → IsHeapIn b h.start h.end h.items → AreHeapsIn b hs
+pub area_alone : (b : Bytes) (h : HeapList) (hs : List HeapList) → is_module_area h.kind ≡ true → IsHeapIn b h.start h.end h.items → AreHeapsIn b hs
     → AreOthers h hs → is_in_heap h.start hs ≡ false
 area_alone b h [] area heap parts others = refl
 area_alone b h (g ∷ hs) area heap parts others =
@@ -180,4 +180,4 @@ area_alone b h (g ∷ hs) area heap parts others =
       outside (inr (inl within)) =
           let low = within_low b h g heap within in
           rw (le-ltb g.start h.start (omega (arith, low.0))) refl
-      outside (inr (inr within)) = absurd (both_ways (is_area h.kind) within.guest area)
+      outside (inr (inr within)) = absurd (both_ways (is_module_area h.kind) within.guest area)

@@ -6,7 +6,7 @@ use Rattle.address_map.specs.declared.item.Item.{Item}
 use Rattle.os_heap_lists.proofs.Counts.{below_most, IsNoMore, looked_most, claim_no_more, begun_most}
 use Rattle.os_heap_lists.specs.Counts.{free_count, begun_below}
 use Rattle.os_heap_lists.specs.Heap.{HeapList}
-use Rattle.os_heap_lists.specs.Lists.{Claim, claimed, resized_in_place, round_up_8, changed_by, live_total}
+use Rattle.os_heap_lists.specs.Lists.{Claim, claim_in_items, resized_in_place, round_up_8, changed_by, live_total}
 use Rattle.os_heap.specs.Probes.{move_probes, refit_probes, sum_probes, probes_after_walk, AreInBounds, resize_probes, counted_of}
 use Rattle.os_heap.specs.Calls.{holds_anchor, unless_image}
 use Rattle.os_heap.specs.Forgetting.{holds_heap}
@@ -23,7 +23,7 @@ refit_most : (s : Store) (h : HeapList) (block old new : ℕ) (items : Option (L
 refit_most s h block old new (Some items) = omega arith
 refit_most s h block old new None = elim (cases_Bool (holds_anchor s.anchor block (Some old))) [
   | inl held ↦ rw held (omega arith)
-  | inr free ↦ rw free (move_most s h block old new (claimed new (h.end - 16) h.items) (claim_no_more new (h.end - 16) h.items))
+  | inr free ↦ rw free (move_most s h block old new (claim_in_items new (h.end - 16) h.items) (claim_no_more new (h.end - 16) h.items))
 ]
 
 sum_most : (s : Store) (h : HeapList) (block old sum : ℕ) → sum_probes s h block old sum ≤ 2 * free_count h.items

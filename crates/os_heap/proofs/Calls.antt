@@ -7,7 +7,7 @@ use Rattle.profile.specs.declared.error.ErrorNumber.TheVariants.{HeapNoRoom, Hea
 use Rattle.address_map.proofs.Stores.{layout-mapping}
 use Rattle.address_map.specs.Records.{is_heap_kind}
 use Rattle.address_map.specs.declared.region.Kind.TheVariants as kind
-use Rattle.os_heap_lists.proofs.LiveBlocks.{IsStill, claim_still, IsStillIn, LiveBytes, live_bytes, release_still}
+use Rattle.os_heap_lists.proofs.LiveBlocks.{IsStill, claim_still, IsStillIn, LiveBytes, law_live_bytes, release_still}
 use Rattle.address_map.specs.Bytes.{word_at}
 use Rattle.address_map.specs.Items.{items_in, size_of}
 use Rattle.address_map.specs.Memory.{anchor_of, bytes_of, byte_at, regions, layout, class_of}
@@ -18,7 +18,7 @@ use Rattle.address_map.specs.declared.region.Region.{Region}
 use Rattle.os_heap_lists.specs.Counts.{looked_at, begun_below}
 use Rattle.os_heap_lists.specs.Heap.{HeapList, IsHeapIn}
 use Rattle.os_heap_lists.specs.Marks.{AreMarked, Remarks}
-use Rattle.os_heap_lists.specs.Lists.{Claim, claimed, total_for, released, live_total}
+use Rattle.os_heap_lists.specs.Lists.{Claim, claim_in_items, total_for, items_after_release, live_total}
 use Rattle.os_heap.proofs.Anchored.{KeepsAnchors, heads_unflexed, place_held, release_keeps}
 use Rattle.os_heap.proofs.FlexWords.{AreSameFlex, flex_held}
 use Rattle.os_heap.proofs.Forgetting.{own_left}
@@ -28,12 +28,12 @@ use Rattle.os_heap.proofs.LostHeaps.{KeepsBlocks, forgot_keeps}
 use Rattle.os_heap.proofs.LostRecords.{loses_listed}
 use Rattle.os_heap.proofs.Nesting.{KeepsHeaps, keeps_by_blocks}
 use Rattle.os_heap.proofs.Stores.{AreOthers, KeepsImages, are_others, sound_held, store_held}
-use Rattle.os_heap.specs.Forgetting.{forgot}
+use Rattle.os_heap.specs.Forgetting.{store_after_forget}
 use Rattle.os_heap.specs.Sound.{Forgets, GivesBack, IsSoundMap, KeepsRest}
 use Rattle.os_heap_words.specs.Outcomes.{Becomes, items_at, HasHeapAt, Claims, end_at, Releases}
 use Rattle.os_heap.specs.GuestBlocks.{has_anchor_in}
 use Rattle.os_heap.specs.Store.{heap_in, find_heap, store_of, IsSound, AreClasses, heaps_in, others_in, has_image, is_image, Store}
-use Rattle.os_heap.specs.Calls.{got, gave_back, holding, holds_anchor, total_or_0, unless_image}
+use Rattle.os_heap.specs.Calls.{store_after_get, gave_back, store_holding, holds_anchor, total_or_0, unless_image}
 use Rattle.os_heap.specs.Probes.{get_probes, counted_of, walk_probes}
 
 abbrev pub part_at : Kind → AddressMap → ℕ → ℕ → HeapList
@@ -65,7 +65,7 @@ marks_changed m n h items found list b same =
 
 -- what is so after a heap got another list
 pub record IsHeld (m n : AddressMap) (h : HeapList) (items : List Item) : Type 0 where
-  pub store : store_of n ≡ holding (store_of m) h items
+  pub store : store_of n ≡ store_holding (store_of m) h items
   pub sound : IsSound (store_of n)
   pub classes : AreClasses n
 
@@ -79,7 +79,7 @@ is_held m n h items sound classes found list kept keeps within b =
     flex_held (class_of m) (class_of n) (h.start + 16) h.items items (heads_marked (class_of m) s.heaps h classes found) change
     (heads_unflexed m (bytes_of n) h items sound found b.heap keeps) in
     let others : AreOthers h s.heaps = are_others s.bytes h.start s.heaps h sound.heaps found in
-    let store : store_of n ≡ holding s h items = store_held m n h items sound found within b flex in
+    let store : store_of n ≡ store_holding s h items = store_held m n h items sound found within b flex in
     record {
       store = store;
       sound = sound_held m n h items sound found kept within b flex
@@ -106,7 +106,7 @@ gives_none A m n e answer sound classes refused same = record {
 
 -- the claim, by the list that it leaves
 abbrev pub claimed_in : Store → HeapList → Option Claim → Result (Store × ℕ) ErrorNumber
-claimed_in s h o = bind (ok_or o HeapNoRoom) (λ c. Ok (holding s h c.items, h.start + 16 + c.offset + 4))
+claimed_in s h o = bind (ok_or o HeapNoRoom) (λ c. Ok (store_holding s h c.items, h.start + 16 + c.offset + 4))
 
 pub gives_claim : (kind : Kind) (m n : AddressMap) (heap end : ℕ) (answer : Result ℕ ErrorNumber) (c : Option Claim) → IsSound (store_of m) → AreClasses m
     → find_heap heap (store_of m).heaps ≡ Some (part_at kind m heap end)
@@ -127,18 +127,18 @@ gives_claim kind m n heap end answer (Some c) sound classes found still claims =
 
 pub get_given : (kind : Kind) (m n : AddressMap) (heap size end : ℕ) (answer : Result ℕ ErrorNumber) → IsSound (store_of m) → AreClasses m
     → find_heap heap (store_of m).heaps ≡ Some (part_at kind m heap end)
-    → Claims m n heap (end_at m heap) answer (claimed (total_for size) (end_at m heap - 16) (items_at m heap))
-    → IsGiven ℕ m n (got (store_of m) heap size) answer
-unfolding got
+    → Claims m n heap (end_at m heap) answer (claim_in_items (total_for size) (end_at m heap - 16) (items_at m heap))
+    → IsGiven ℕ m n (store_after_get (store_of m) heap size) answer
+unfolding store_after_get
 get_given kind m n heap size end answer sound classes found claims =
     let there : IsHeapIn (bytes_of m) heap end (items_at m heap) = heap_of-part kind m heap end sound found in
-    let still : (b t : ℕ) → live_total b (heap + 16) (items_at m heap) ≡ Some t → IsStill b t (heap + 16) (claimed (total_for size) (end - 16) (items_at m heap)) =
+    let still : (b t : ℕ) → live_total b (heap + 16) (items_at m heap) ≡ Some t → IsStill b t (heap + 16) (claim_in_items (total_for size) (end - 16) (items_at m heap)) =
     λ b t live. claim_still (total_for size) (end - 16) b t (heap + 16) (items_at m heap) live there.totals in
-    rw found (gives_claim kind m n heap end answer (claimed (total_for size) (end - 16) (items_at m heap)) sound classes found still
-    (subst (λ (e : ℕ). Claims m n heap e answer (claimed (total_for size) (e - 16) (items_at m heap))) there.limit claims))
+    rw found (gives_claim kind m n heap end answer (claim_in_items (total_for size) (end - 16) (items_at m heap)) sound classes found still
+    (subst (λ (e : ℕ). Claims m n heap e answer (claim_in_items (total_for size) (e - 16) (items_at m heap))) there.limit claims))
 
-pub get_refused : (m : AddressMap) (heap size : ℕ) → find_heap heap (store_of m).heaps ≡ None → got (store_of m) heap size ≡ Err HeapBadDesc
-unfolding got
+pub get_refused : (m : AddressMap) (heap size : ℕ) → find_heap heap (store_of m).heaps ≡ None → store_after_get (store_of m) heap size ≡ Err HeapBadDesc
+unfolding store_after_get
 get_refused m heap size none = rw none refl
 
 pub get_counted : (kind : Kind) (m : AddressMap) (heap size end : ℕ) → find_heap heap (store_of m).heaps ≡ Some (part_at kind m heap end)
@@ -176,7 +176,7 @@ image_apart b block rs is none same = both_ways (has_image block rs) none (subst
 
 -- what is so after a heap got another list, and the heaps that go with bytes of its block were forgotten
 pub record IsLeft (m n : AddressMap) (h : HeapList) (block total from : ℕ) (items : List Item) : Type 0 where
-  pub store : store_of n ≡ holding (forgot (store_of m) block total from) h items
+  pub store : store_of n ≡ store_holding (store_after_forget (store_of m) block total from) h items
   pub kept : KeepsRest m n
 
 pub is_left : (m k n : AddressMap) (h : HeapList) (block total from : ℕ) (items : List Item) → IsSoundMap m → find_heap h.start (store_of m).heaps ≡ Some h
@@ -186,7 +186,7 @@ pub is_left : (m k n : AddressMap) (h : HeapList) (block total from : ℕ) (item
 is_left m k n h block total from items state found list live past own blocks keeps f b =
     let s : Store = store_of m in
     let heap : IsHeapIn s.bytes h.start h.end h.items = found_heap s.bytes h.start s.heaps h state.sound.heaps found in
-    let lies : LiveBytes block total (h.start + 16) (h.start + 16 + size_of h.items) = live_bytes block total (h.start + 16) h.items heap.totals live in
+    let lies : LiveBytes block total (h.start + 16) (h.start + 16 + size_of h.items) = law_live_bytes block total (h.start + 16) h.items heap.totals live in
     let there : find_heap h.start (store_of k).heaps ≡ Some h =
     ap (λ (t : Store). find_heap h.start t.heaps) f.store ∙ own_left s h block total from found (omega (arith, lies.low)) past in
     let list' : h.items ≡ items_at k h.start = list ∙ ap (λ (g : ℕ → ℕ). items_in (word_at g) h.start) (sym f.bytes) in
@@ -195,7 +195,7 @@ is_left m k n h block total from items state found list live past own blocks kee
     let held : IsHeld k n h items = is_held k n h items f.kept.sound f.kept.classes there list'
     (λ a t is. blocks.others a t (image_apart a block s.others (ap (has_image a) (sym f.kept.others) ∙ is) own))
     (λ a is. keeps a (ap (λ (t : Store). t.anchor a) (sym f.store) ∙ is)) within b in
-    let store : store_of n ≡ holding (forgot s block total from) h items = held.store ∙ ap (λ (t : Store). holding t h items) f.store in
+    let store : store_of n ≡ store_holding (store_after_forget s block total from) h items = held.store ∙ ap (λ (t : Store). store_holding t h items) f.store in
     record {
       store = store;
       kept = record {
@@ -211,7 +211,7 @@ is_left m k n h block total from items state found list live past own blocks kee
 abbrev pub released_in : Store → HeapList → ℕ → Option (List Item) → Result (Store × Unit {0}) ErrorNumber
 released_in s h block o = bind (ok_or o HeapNotABlock) (λ items.
     if holds_anchor s.anchor block (live_total block (h.start + 16) h.items) then Err HeapHoldsAnchor else
-    Ok (holding (forgot s block (total_or_0 (live_total block (h.start + 16) h.items)) block) h items, tt))
+    Ok (store_holding (store_after_forget s block (total_or_0 (live_total block (h.start + 16) h.items)) block) h items, tt))
 
 pub store_anchor : (m : AddressMap) → anchor_of m ≡ (store_of m).anchor
 unfolding store_of
@@ -220,7 +220,7 @@ store_anchor m = refl
 release_given : (kind : Kind) (m k n : AddressMap) (heap block end total : ℕ) (o : Option (List Item)) → IsSoundMap m
     → find_heap heap (store_of m).heaps ≡ Some (part_at kind m heap end) → has_image block (store_of m).others ≡ false
     → live_total block (heap + 16) (items_at m heap) ≡ Some total → holds_anchor (store_of m).anchor block (Some total) ≡ false
-    → Forgets m k block total block → released block (heap + 16) (items_at m heap) ≡ o → Releases k n heap end (Ok tt) o
+    → Forgets m k block total block → items_after_release block (heap + 16) (items_at m heap) ≡ o → Releases k n heap end (Ok tt) o
     → GivesBack m n heap block × KeepsRest m n
 unfolding gave_back
 release_given kind m k n heap block end total None state found own live free f is releases =
@@ -241,20 +241,20 @@ release_given kind m k n heap block end total (Some items) state found own live 
 pub free_given : (kind : Kind) (m k n : AddressMap) (heap block end total : ℕ) → IsSoundMap m
     → find_heap heap (store_of m).heaps ≡ Some (part_at kind m heap end) → has_image block (regions m) ≡ false
     → live_total block (heap + 16) (items_at m heap) ≡ Some total → has_anchor_in m heap block ≡ false
-    → Forgets m k block total block → Releases k n heap (end_at k heap) (Ok tt) (released block (heap + 16) (items_at k heap))
+    → Forgets m k block total block → Releases k n heap (end_at k heap) (Ok tt) (items_after_release block (heap + 16) (items_at k heap))
     → GivesBack m n heap block × KeepsRest m n
 free_given kind m k n heap block end total state found own live free f releases =
     let limit : end_at m heap ≡ end = (heap_of-part kind m heap end state.sound found).limit in
-    let here : Releases k n heap (end_at m heap) (Ok tt) (released block (heap + 16) (items_at m heap)) =
-    subst (λ (g : ℕ → ℕ). Releases k n heap (word_at g (heap + 12)) (Ok tt) (released block (heap + 16) (items_in (word_at g) heap))) f.bytes releases in
+    let here : Releases k n heap (end_at m heap) (Ok tt) (items_after_release block (heap + 16) (items_at m heap)) =
+    subst (λ (g : ℕ → ℕ). Releases k n heap (word_at g (heap + 12)) (Ok tt) (items_after_release block (heap + 16) (items_in (word_at g) heap))) f.bytes releases in
     let free' : holds_anchor (store_of m).anchor block (Some total) ≡ false =
     ap (λ (q : ℕ → Bool). holds_anchor q block (Some total)) (sym (store_anchor m)) ∙ ap (holds_anchor (anchor_of m) block) (sym live) ∙ free in
-    release_given kind m k n heap block end total (released block (heap + 16) (items_at m heap)) state found (image_recorded m block ∙ own) live free' f refl
-    (subst (λ (x : ℕ). Releases k n heap x (Ok tt) (released block (heap + 16) (items_at m heap))) limit here)
+    release_given kind m k n heap block end total (items_after_release block (heap + 16) (items_at m heap)) state found (image_recorded m block ∙ own) live free' f refl
+    (subst (λ (x : ℕ). Releases k n heap x (Ok tt) (items_after_release block (heap + 16) (items_at m heap))) limit here)
 
 -- no such block
 pub free_unfound : (kind : Kind) (m : AddressMap) (heap block end : ℕ) → find_heap heap (store_of m).heaps ≡ Some (part_at kind m heap end)
-    → unless_image (has_image block (regions m)) (released block (heap + 16) (items_at m heap)) ≡ None → gave_back (store_of m) heap block ≡ Err HeapNotABlock
+    → unless_image (has_image block (regions m)) (items_after_release block (heap + 16) (items_at m heap)) ≡ None → gave_back (store_of m) heap block ≡ Err HeapNotABlock
 unfolding gave_back
 free_unfound kind m heap block end found none = rw (found, image_recorded m block, none) refl
 

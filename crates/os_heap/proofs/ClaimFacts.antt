@@ -5,7 +5,7 @@ use Rattle.address_map.specs.Items.{is_total, size_of}
 use Rattle.os_heap_lists.proofs.ClaimedLists.{HasTotals, claim_totals, IsUnheld, claim_unheld, IsWithin, claim_within}
 use Rattle.os_heap_lists.proofs.LiveBlocks.{IsFresh, claim_fresh, IsStill, claim_still}
 use Rattle.os_heap_lists.specs.Heap.{AreTotals, HeapList, IsHeapIn}
-use Rattle.os_heap_lists.specs.Lists.{Claim, claimed, live_total}
+use Rattle.os_heap_lists.specs.Lists.{Claim, claim_in_items, live_total}
 
 pub record IsClaim (h : HeapList) (new : ℕ) (c : Claim) : Type 0 where
   pub totals : AreTotals c.items
@@ -15,7 +15,7 @@ pub record IsClaim (h : HeapList) (new : ℕ) (c : Claim) : Type 0 where
   pub still : (block total : ℕ) → live_total block (h.start + 16) h.items ≡ Some total → live_total block (h.start + 16) c.items ≡ Some total
 
 pub is_claim : (b : Bytes) (h : HeapList) (new : ℕ) (c : Claim) → IsHeapIn b h.start h.end h.items → is_total new ≡ true
-    → claimed new (h.end - 16) h.items ≡ Some c → IsClaim h new c
+    → claim_in_items new (h.end - 16) h.items ≡ Some c → IsClaim h new c
 is_claim b h new c heap total e =
     let within : size_of c.items ≤ h.end - 16 =
     subst (IsWithin (h.end - 16)) e (claim_within new (h.end - 16) h.items (omega (arith, heap.inside))) in

@@ -7,10 +7,10 @@ use Rattle.profile.specs.declared.error.ErrorNumber.{ErrorNumber}
 use Rattle.address_map.specs.Bytes.{Bytes, in_range}
 use Rattle.address_map.specs.Items.{is_total, size_of}
 use Rattle.address_map.specs.declared.region.Region.{Region}
-use Rattle.os_heap_lists.proofs.LiveBlocks.{LiveBytes, live_apart, live_bytes}
+use Rattle.os_heap_lists.proofs.LiveBlocks.{LiveBytes, live_apart, law_live_bytes}
 use Rattle.os_heap_lists.proofs.Spelling.{total_of-numbers}
 use Rattle.os_heap_lists.specs.Heap.{HeapList, IsHeapIn}
-use Rattle.os_heap_lists.specs.Lists.{Claim, claimed, live_total, total_for}
+use Rattle.os_heap_lists.specs.Lists.{Claim, claim_in_items, live_total, total_for}
 use Rattle.os_heap.proofs.Apart.{range_parts}
 use Rattle.os_heap.proofs.Calls.{claimed_in}
 use Rattle.os_heap.proofs.Found.{found_heap, found_start}
@@ -20,7 +20,7 @@ use Rattle.os_heap.proofs.Forgetting.{StartsIn, starts_so}
 use Rattle.os_heap.proofs.Nesting.{within_low}
 use Rattle.os_heap.proofs.Stores.{AreOthers, IsOther, are_others, placed_by}
 use Rattle.os_heap.specs.Forgetting.{holds_heap, starts_in}
-use Rattle.os_heap.specs.Calls.{OfHeap, got, holding, with_items}
+use Rattle.os_heap.specs.Calls.{OfHeap, store_after_get, store_holding, heaps_with_items}
 use Rattle.os_heap.specs.Store.{AreHeapsIn, ArePlaced, IsSound, Store, find_heap}
 
 -- an image was live before, and the new block wasn't
@@ -30,7 +30,7 @@ beside_image h total c r claim live is =
     let new : ℕ = h.start + 16 + c.offset + 4 in
     let parts : (r.at ≤ h.start + 16 + c.offset + 4) × (h.start + 16 + c.offset + 4 < r.at + r.len) =
     range_parts r.at r.len (h.start + 16 + c.offset + 4) is in
-    let place : LiveBytes new total (h.start + 16) (h.start + 16 + size_of c.items) = live_bytes new total (h.start + 16) c.items claim.totals claim.fresh in
+    let place : LiveBytes new total (h.start + 16) (h.start + 16 + size_of c.items) = law_live_bytes new total (h.start + 16) c.items claim.totals claim.fresh in
     let other : r.at ≢ h.start + 16 + c.offset + 4 = λ (same : r.at ≡ h.start + 16 + c.offset + 4).
     false≢true (sym claim.unheld ∙ ap is_some (subst (λ (p : ℕ). live_total p (h.start + 16) h.items ≡ Some (r.len + 4)) same live)) in
     elim (live_apart r.at (r.len + 4) new total (h.start + 16) c.items claim.totals (claim.still r.at (r.len + 4) live) claim.fresh other) [
@@ -56,7 +56,7 @@ heap_beside : (b : Bytes) (h g : HeapList) (total : ℕ) (c : Claim) → IsHeapI
     → IsOther h g → StartsIn (h.start + 16 + c.offset + 4) (total - 4) g → ⊥
 heap_beside b h g total c heap other claim place starts =
     let new : ℕ = h.start + 16 + c.offset + 4 in
-    let lies : LiveBytes new total (h.start + 16) (h.start + 16 + size_of c.items) = live_bytes new total (h.start + 16) c.items claim.totals claim.fresh in
+    let lies : LiveBytes new total (h.start + 16) (h.start + 16 + size_of c.items) = law_live_bytes new total (h.start + 16) c.items claim.totals claim.fresh in
     let low : new ≤ g.start = starts.low in
     let high : g.start < new + (total - 4) = starts.high in
     elim place [
@@ -82,16 +82,16 @@ heap_beside b h g total c heap other claim place starts =
     ]
 
 heaps_beside : (b : Bytes) (h : HeapList) (total : ℕ) (c : Claim) (hs : List HeapList) → IsHeapIn b h.start h.end h.items → IsClaim h total c → AreHeapsIn b hs
-    → AreOthers h hs → holds_heap (with_items h.start c.items hs) (h.start + 16 + c.offset + 4) (total - 4) ≡ false
+    → AreOthers h hs → holds_heap (heaps_with_items h.start c.items hs) (h.start + 16 + c.offset + 4) (total - 4) ≡ false
 heaps_beside b h total c [] heap claim parts others = refl
 heaps_beside b h total c (g ∷ hs) heap claim parts others =
     let new : ℕ = h.start + 16 + c.offset + 4 in
-    let rest : holds_heap (with_items h.start c.items hs) new (total - 4) ≡ false = heaps_beside b h total c hs heap claim parts.1.1 others.1 in
+    let rest : holds_heap (heaps_with_items h.start c.items hs) new (total - 4) ≡ false = heaps_beside b h total c hs heap claim parts.1.1 others.1 in
     let none : starts_in new (total - 4) g ≡ false =
     false_from_ne_true (starts_in new (total - 4) g) (λ is. heap_beside b h g total c heap parts.0 claim others.0 (starts_so new (total - 4) g is)) in
     elim (cases_Bool (g.start == h.start)) [
-      | inl here ↦ rw here (or_from (starts_in new (total - 4) g) (holds_heap (with_items h.start c.items hs) new (total - 4)) none rest)
-      | inr away ↦ rw away (or_from (starts_in new (total - 4) g) (holds_heap (with_items h.start c.items hs) new (total - 4)) none rest)
+      | inl here ↦ rw here (or_from (starts_in new (total - 4) g) (holds_heap (heaps_with_items h.start c.items hs) new (total - 4)) none rest)
+      | inr away ↦ rw away (or_from (starts_in new (total - 4) g) (holds_heap (heaps_with_items h.start c.items hs) new (total - 4)) none rest)
     ]
 
 -- what is so of the block that a call has claimed
@@ -105,12 +105,12 @@ NewBlockBy s heap total (Ok r) = IsNewBlock s r.0 heap r.1 total
 NewBlockBy s heap total (Err e) = Unit {0}
 
 new_block : (s : Store) (h : HeapList) (total : ℕ) (c : Claim) → IsSound s → find_heap h.start s.heaps ≡ Some h → is_total total ≡ true
-    → claimed total (h.end - 16) h.items ≡ Some c → IsNewBlock s (holding s h c.items) h.start (h.start + 16 + c.offset + 4) total
+    → claim_in_items total (h.end - 16) h.items ≡ Some c → IsNewBlock s (store_holding s h c.items) h.start (h.start + 16 + c.offset + 4) total
 new_block s h total c sound found whole made =
     let heap : IsHeapIn s.bytes h.start h.end h.items = found_heap s.bytes h.start s.heaps h sound.heaps found in
     let claim : IsClaim h total c = is_claim s.bytes h total c heap whole made in
     let place : LiveBytes (h.start + 16 + c.offset + 4) total (h.start + 16) (h.start + 16 + size_of c.items) =
-    live_bytes (h.start + 16 + c.offset + 4) total (h.start + 16) c.items claim.totals claim.fresh in
+    law_live_bytes (h.start + 16 + c.offset + 4) total (h.start + 16) c.items claim.totals claim.fresh in
     let inside : in_range h.start h.end (h.start + 16 + c.offset + 4) ≡ true =
     rw (
       le-leb h.start (h.start + 16 + c.offset + 4) (omega arith),
@@ -123,20 +123,20 @@ new_block s h total c sound found whole made =
     }
 
 new_in : (s : Store) (h : HeapList) (heap total : ℕ) (o : Option Claim) → IsSound s → find_heap heap s.heaps ≡ Some h → is_total total ≡ true
-    → claimed total (h.end - 16) h.items ≡ o → NewBlockBy s heap total (claimed_in s h o)
+    → claim_in_items total (h.end - 16) h.items ≡ o → NewBlockBy s heap total (claimed_in s h o)
 new_in s h heap total None sound found whole made = tt
 new_in s h heap total (Some c) sound found whole made =
     let start : h.start ≡ heap = found_start heap s.heaps h found in
     let own : find_heap h.start s.heaps ≡ Some h = subst (λ (p : ℕ). find_heap p s.heaps ≡ Some h) (sym start) found in
-    subst (λ (p : ℕ). IsNewBlock s (holding s h c.items) p (h.start + 16 + c.offset + 4) total) start (new_block s h total c sound own whole made)
+    subst (λ (p : ℕ). IsNewBlock s (store_holding s h c.items) p (h.start + 16 + c.offset + 4) total) start (new_block s h total c sound own whole made)
 
-new_got : (s : Store) (heap size : ℕ) → IsSound s → NewBlockBy s heap (total_for size) (got s heap size)
-unfolding got
+new_got : (s : Store) (heap size : ℕ) → IsSound s → NewBlockBy s heap (total_for size) (store_after_get s heap size)
+unfolding store_after_get
 new_got s heap size sound = go (find_heap heap s.heaps) refl where
-  go : (o : Option HeapList) → find_heap heap s.heaps ≡ o → NewBlockBy s heap (total_for size) (got s heap size)
+  go : (o : Option HeapList) → find_heap heap s.heaps ≡ o → NewBlockBy s heap (total_for size) (store_after_get s heap size)
   go None none = rw none tt
-  go (Some h) found = rw found (new_in s h heap (total_for size) (claimed (total_for size) (h.end - 16) h.items) sound found
+  go (Some h) found = rw found (new_in s h heap (total_for size) (claim_in_items (total_for size) (h.end - 16) h.items) sound found
       (total_of-numbers (total_for size) (omega arith) (omega arith)) refl)
 
-pub is_new_block : (s t : Store) (heap size block : ℕ) → IsSound s → got s heap size ≡ Ok (t, block) → IsNewBlock s t heap block (total_for size)
+pub is_new_block : (s t : Store) (heap size block : ℕ) → IsSound s → store_after_get s heap size ≡ Ok (t, block) → IsNewBlock s t heap block (total_for size)
 is_new_block s t heap size block sound is = subst (NewBlockBy s heap (total_for size)) is (new_got s heap size sound)

@@ -6,7 +6,7 @@ use Rattle.address_map.proofs.Bytes.{is_mapped-layout}
 use Rattle.address_map.proofs.Lengths.{record_parts}
 use Rattle.address_map.proofs.Anchors.{none_among}
 use Rattle.address_map.proofs.Stores.{in_range-cases}
-use Rattle.address_map.specs.Bytes.{word_at, word_start, Bytes, in_range, meets}
+use Rattle.address_map.specs.Bytes.{word_at, word_start, Bytes, in_range, shares_address}
 use Rattle.address_map.specs.Items.{size_of, items_in, is_head, is_heap_word}
 use Rattle.address_map.specs.Memory.{layout, byte_at, bytes_of, regions, is_mapped, class_of}
 use Rattle.address_map.specs.Records.{anchor_among, is_heap_kind, with_len, is_record, are_same}
@@ -15,13 +15,13 @@ use Rattle.address_map.specs.declared.item.Item.{Item}
 use Rattle.address_map.specs.declared.map.AddressMap.{AddressMap}
 use Rattle.address_map.specs.declared.region.Kind.{Kind}
 use Rattle.address_map.specs.declared.region.Region.{Region}
-use Rattle.os_heap_lists.proofs.HeadWords.{heaps_kept}
+use Rattle.os_heap_lists.proofs.HeadWords.{law_heap_frame}
 use Rattle.os_heap_lists.proofs.HeapWords.{cons_part}
 use Rattle.os_heap_lists.proofs.Marks.{unmarked}
 use Rattle.os_heap_lists.proofs.Reading.{items_in-heap}
 use Rattle.os_heap_lists.proofs.Spelling.{spells-kept}
 use Rattle.os_heap_lists.specs.Heap.{IsHeapIn, HeapList, with_heap}
-use Rattle.os_heap_lists.specs.Words.{IsWritten, AreApart}
+use Rattle.os_heap_lists.specs.Words.{IsWordWritten, AreApart}
 use Rattle.os_heap.proofs.RangeTests.{CanHold, clear_unless, can_hold}
 use Rattle.os_heap.proofs.Found.{found_heap}
 use Rattle.os_heap.proofs.Held.{AreBy, marks_ended}
@@ -39,7 +39,7 @@ use Rattle.os_heap.proofs.Nesting.{words_apart}
 
 -- the heap with the other end, spelled by the bytes after the word was written
 pub end_written : (b c : Bytes) (start end other : ℕ) (items : List Item) → IsHeapIn b start end items → CanHold b start other → 16 + size_of items ≤ other
-    → c.mapped ≡ b.mapped → IsWritten b.at c.at (start + 12) other → IsHeapIn c start other items
+    → c.mapped ≡ b.mapped → IsWordWritten b.at c.at (start + 12) other → IsHeapIn c start other items
 end_written b c start end other items heap can inside mapped written =
     let kept : (a : ℕ) → AreApart a 4 (start + 12) 4 → word_at c.at a ≡ word_at b.at a = λ a apart. written.apart a apart in
     record {
@@ -62,7 +62,7 @@ other_ended : (b c : Bytes) (h g : HeapList) → IsHeapIn b h.start h.end h.item
     → StandsApart h g → IsHeapIn b g.start g.end g.items → IsHeapIn c g.start g.end g.items
 other_ended b c h g own mapped kept apart heap =
     let aligned = own.aligned in
-    heaps_kept b c g.start g.end g.items mapped (λ a is. kept a (elim (cases_lt a (h.start + 12)) [
+    law_heap_frame b c g.start g.end g.items mapped (λ a is. kept a (elim (cases_lt a (h.start + 12)) [
       | inl low ↦ inl (omega (arith, low))
       | inr high ↦ elim (cases_lt a (h.start + 16)) [
         | inr past ↦ inr (omega (arith, past))
@@ -120,11 +120,11 @@ placed_ended r h end (g ∷ hs) others grown placed =
     ]
 
 others_ended : (h : HeapList) (end : ℕ) (hs : List HeapList) (rs : List Region) → AreOthers h hs
-    → (h.end < end → list_any (λ r. meets (h.start + h.end) (end - h.end) r.at r.len) rs ≡ false)
+    → (h.end < end → list_any (λ r. shares_address (h.start + h.end) (end - h.end) r.at r.len) rs ≡ false)
     → ArePlaced hs rs → ArePlaced (with_end h.start end hs) rs
 others_ended h end hs [] others grown placed = tt
 others_ended h end hs (r ∷ rs) others grown placed =
-    let parts = λ (more : h.end < end). or_parts (meets (h.start + h.end) (end - h.end) r.at r.len) (list_any (λ r. meets (h.start + h.end) (end - h.end) r.at r.len) rs) (grown more) in (
+    let parts = λ (more : h.end < end). or_parts (shares_address (h.start + h.end) (end - h.end) r.at r.len) (list_any (λ r. shares_address (h.start + h.end) (end - h.end) r.at r.len) rs) (grown more) in (
       placed_ended r h end hs others (λ more. clear_unless (h.start + h.end) (end - h.end) r.at r.len (parts more).0) placed.0,
       others_ended h end hs rs others (λ more. (parts more).1) placed.1,
     )
@@ -138,11 +138,11 @@ places-ended start end (h ∷ hs) = elim (cases_Bool (h.start == start)) [
 
 -- what MayEnd says of the ranges
 pub unobstructed : (at len new more : ℕ) (s : Store) → is_obstructed at len new more s ≡ false
-    → ((list_any (is_in_way at len new more) s.heaps ≡ false) × (list_any (λ r. meets new more r.at r.len) s.others ≡ false))
+    → ((list_any (is_in_way at len new more) s.heaps ≡ false) × (list_any (λ r. shares_address new more r.at r.len) s.others ≡ false))
     × (anchor_among s.anchor new more ≡ false)
 unobstructed at len new more s free =
     let heaps : Bool = list_any (is_in_way at len new more) s.heaps in
-    let others : Bool = list_any (λ r. meets new more r.at r.len) s.others in
+    let others : Bool = list_any (λ r. shares_address new more r.at r.len) s.others in
     let both = or_parts (heaps || others) (anchor_among s.anchor new more) free in
     (or_parts heaps others both.0, both.1)
 
@@ -156,7 +156,7 @@ heaps_clear s h end may = record {
 }
 
 ranges_clear : (s : Store) (h : HeapList) (end : ℕ) → MayEnd s h end → h.end < end
-    → list_any (λ r. meets (h.start + h.end) (end - h.end) r.at r.len) s.others ≡ false
+    → list_any (λ r. shares_address (h.start + h.end) (end - h.end) r.at r.len) s.others ≡ false
 ranges_clear s h end may more =
     let none = (unobstructed h.start end (h.start + h.end) (end - h.end) s (may_grow s h end may.clear more)).0 in
     none.1
@@ -305,7 +305,7 @@ pub record EndsAt (m n : AddressMap) (h : HeapList) (end : ℕ) : Type 0 where
   pub may : MayEnd (store_of m) h end
   pub same : layout n ≡ layout m
   pub marks : class_of n ≡ class_of m
-  pub word : IsWritten (byte_at m) (byte_at n) (h.start + 12) end
+  pub word : IsWordWritten (byte_at m) (byte_at n) (h.start + 12) end
 
 old_heap : (m n : AddressMap) (h : HeapList) (end : ℕ) → EndsAt m n h end → IsHeapIn (bytes_of m) h.start h.end h.items
 unfolding store_of

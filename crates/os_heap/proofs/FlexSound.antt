@@ -13,7 +13,7 @@ use Rattle.os_heap.proofs.Frame.{clear_unowned, heaps_in-spelled, layout-regions
 use Rattle.os_heap.proofs.Stores.{image_kind, placed_either}
 use Rattle.os_heap.specs.Store.{AreClasses, AreHeapsIn, ArePlaced, heaps_in, IsAnchorPlace, is_flex_store, is_in_flex_store, IsSound, store_of}
 use Rattle.os_heap_lists.proofs.HeadWords.{byte_inside}
-use Rattle.os_heap_lists.proofs.LiveBlocks.{LiveBytes, live_bytes, live_unspelled}
+use Rattle.os_heap_lists.proofs.LiveBlocks.{LiveBytes, law_live_bytes, live_unspelled}
 use Rattle.os_heap_lists.specs.Heap.{HeapList, IsHeapIn}
 use Rattle.os_heap_lists.specs.Marks.{spells_any}
 
@@ -66,7 +66,7 @@ placed_unspelled b h a heap (inl out) =
     false_from_ne_true _ (λ is. both_ways (in_range h.start h.end a) out (byte_inside b h.start h.end h.items a heap is))
 placed_unspelled b h a heap (inr held) =
     let bytes : LiveBytes held.block held.total (h.start + 16) (h.start + 16 + size_of h.items) =
-    live_bytes held.block held.total (h.start + 16) h.items heap.totals held.live in
+    law_live_bytes held.block held.total (h.start + 16) h.items heap.totals held.live in
     let whole : held.block % 4 ≡ 0 = bytes.whole (omega (arith, heap.aligned)) in
     or_from (in_range h.start 16 (word_start a)) (is_head (h.start + 16) h.items (word_start a))
     (descriptor_past h.start (word_start a) (omega (arith, bytes.low, held.low)))

@@ -7,7 +7,7 @@ use Rattle.address_map.specs.Items.{is_head}
 use Rattle.address_map.specs.declared.class.Class.{Class}
 use Rattle.address_map.specs.declared.class.Class.TheVariants as class
 use Rattle.address_map.specs.declared.item.Item.{Item}
-use Rattle.os_heap_lists.specs.Marks.{marked, Remarks, AreMarked}
+use Rattle.os_heap_lists.specs.Marks.{class_after_marking, Remarks, AreMarked}
 
 -- a word that is no one of the flex store's
 pub record IsUnflexed (own : Class) : Type 0 where
@@ -23,7 +23,7 @@ pub record AreSameFlex (old new : ℕ → Class) : Type 0 where
   pub headers : (a : ℕ) → is_flex_header (new a) ≡ is_flex_header (old a)
 
 -- they stay where neither a word that is made a head nor one given up is theirs
-flex_by : (made given : Bool) (old new : Class) → new ≡ marked made given old → (made ≡ true → IsUnflexed old) → (given ≡ true → old ≡ class.Heap)
+flex_by : (made given : Bool) (old new : Class) → new ≡ class_after_marking made given old → (made ≡ true → IsUnflexed old) → (given ≡ true → old ≡ class.Heap)
     → (is_anchor new ≡ is_anchor old) × (is_flex_header new ≡ is_flex_header old)
 flex_by true given old new change unflexed heap =
     (ap is_anchor change ∙ sym (unflexed refl).anchor, ap is_flex_header change ∙ sym (unflexed refl).header)
@@ -43,7 +43,7 @@ flex_begun c d start change unflexed = record {
   anchors = λ a. (flex_by (in_range start 16 (word_start a)) false (c a) (d a) (as_marked (in_range start 16 (word_start a)) (c a) (d a) (change a)) (unflexed a) (λ is. absurd (false≢true is))).0;
   headers = λ a. (flex_by (in_range start 16 (word_start a)) false (c a) (d a) (as_marked (in_range start 16 (word_start a)) (c a) (d a) (change a)) (unflexed a) (λ is. absurd (false≢true is))).1;
 } where
-  as_marked : (here : Bool) (old new : Class) → new ≡ cond here class.Heap old → new ≡ marked here false old
+  as_marked : (here : Bool) (old new : Class) → new ≡ cond here class.Heap old → new ≡ class_after_marking here false old
   as_marked true old new change = change
   as_marked false old new change = change
 

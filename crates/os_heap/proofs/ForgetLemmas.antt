@@ -14,7 +14,7 @@ use Rattle.address_map.specs.declared.item.Item.{Item}
 use Rattle.address_map.specs.declared.item.Item.TheVariants.{Free, Live}
 use Rattle.address_map.specs.declared.map.AddressMap.{AddressMap}
 use Rattle.address_map.specs.declared.region.Region.{Region}
-use Rattle.os_heap_lists.proofs.LiveBlocks.{LiveBytes, live_bytes}
+use Rattle.os_heap_lists.proofs.LiveBlocks.{LiveBytes, law_live_bytes}
 use Rattle.os_heap_lists.proofs.Reading.{total_facts}
 use Rattle.os_heap_lists.specs.Heap.{AreTotals, HeapList, IsHeapIn}
 use Rattle.os_heap_lists.specs.Lists.{live_total}
@@ -28,8 +28,8 @@ use Rattle.os_heap.proofs.GuestKinds.{guest_kind, plain_kind}
 use Rattle.os_heap.proofs.LostHeaps.{forgot_beyond, forgot_none, forgot_spelled, forgot_unspelled, none_without}
 use Rattle.os_heap.proofs.LostRecords.{loses_range, rest_kept}
 use Rattle.os_heap_words.proofs.Replace.{heap_below}
-use Rattle.os_heap.specs.Forgetting.{forgot, holds_heap, lowest_lost, starts_in, without_heaps}
-use Rattle.os_heap_words.specs.Marks.{SetsClasses, unheaded, with_no_heads}
+use Rattle.os_heap.specs.Forgetting.{store_after_forget, holds_heap, lowest_lost, starts_in, without_heaps_in}
+use Rattle.os_heap_words.specs.Marks.{SetsClasses, class_without_head, with_no_heads}
 use Rattle.os_heap_words.specs.Cursors.{IsAtBlock}
 use Rattle.os_heap_words.specs.Outcomes.{HasHeapAt}
 use Rattle.os_heap.specs.Sound.{Forgets, HasBlock, IsSoundMap}
@@ -62,7 +62,7 @@ unfolding store_of
 lies_at m block total state h =
     let start : ℕ = h.heap.start in
     let heap : IsHeapIn (bytes_of m) start h.heap.end h.heap.items = found_heap (bytes_of m) start (store_of m).heaps h.heap state.sound.heaps h.found in
-    let lies : LiveBytes block total (start + 16) (start + 16 + size_of h.heap.items) = live_bytes block total (start + 16) h.heap.items heap.totals h.live in
+    let lies : LiveBytes block total (start + 16) (start + 16 + size_of h.heap.items) = law_live_bytes block total (start + 16) h.heap.items heap.totals h.live in
     let top : start + h.heap.end ≤ 2 ^ 26 = heap_below m start h.heap.end h.heap.items heap in
     let aligned = heap.aligned in
     record {
@@ -105,7 +105,7 @@ swept m block total from state h past whole =
     }
 
 -- the heaps that are recorded, when records were taken away
-heaps_left : (b : Bytes) (at len : ℕ) (rs : List Region) → heaps_in b (record_of.without_heaps at len rs) ≡ without_heaps at len (heaps_in b rs)
+heaps_left : (b : Bytes) (at len : ℕ) (rs : List Region) → heaps_in b (record_of.without_heaps at len rs) ≡ without_heaps_in at len (heaps_in b rs)
 heaps_left b at len [] = refl
 heaps_left b at len (r ∷ rs) = elim (cases_Bool (is_heap_kind r.kind)) [
   | inr plain ↦ rw (plain_kind r.kind plain, plain) (heaps_left b at len rs)
@@ -126,19 +126,19 @@ others_left at len (r ∷ rs) = elim (cases_Bool (is_heap_kind r.kind)) [
 ]
 
 -- the marks of anchors and headers stay
-unheaded_anchor : (own : Class) → is_anchor (unheaded own) ≡ is_anchor own
+unheaded_anchor : (own : Class) → is_anchor (class_without_head own) ≡ is_anchor own
 unheaded_anchor class.Plain = refl
 unheaded_anchor class.Heap = refl
 unheaded_anchor class.FlexHeader = refl
 unheaded_anchor class.Anchor = refl
 
-unheaded_header : (own : Class) → is_flex_header (unheaded own) ≡ is_flex_header own
+unheaded_header : (own : Class) → is_flex_header (class_without_head own) ≡ is_flex_header own
 unheaded_header class.Plain = refl
 unheaded_header class.Heap = refl
 unheaded_header class.FlexHeader = refl
 unheaded_header class.Anchor = refl
 
-unheaded_heap : (own : Class) → is_heap_class (unheaded own) ≡ false
+unheaded_heap : (own : Class) → is_heap_class (class_without_head own) ≡ false
 unheaded_heap class.Plain = refl
 unheaded_heap class.Heap = refl
 unheaded_heap class.FlexHeader = refl
@@ -152,10 +152,10 @@ flex_unheaded c d at len change = record {
 
 -- a memory with fewer heaps recorded
 store_left : (m n : AddressMap) (at len : ℕ) → regions n ≡ record_of.without_heaps at len (regions m) → bytes_of n ≡ bytes_of m
-    → AreSameFlex (class_of m) (class_of n) → store_of n ≡ record (store_of m) { heaps = without_heaps at len (store_of m).heaps }
+    → AreSameFlex (class_of m) (class_of n) → store_of n ≡ record (store_of m) { heaps = without_heaps_in at len (store_of m).heaps }
 unfolding store_of
 store_left m n at len records bytes flex =
-    let heaps : heaps_in (bytes_of m) (record_of.without_heaps at len (regions m)) ≡ without_heaps at len (heaps_in (bytes_of m) (regions m)) =
+    let heaps : heaps_in (bytes_of m) (record_of.without_heaps at len (regions m)) ≡ without_heaps_in at len (heaps_in (bytes_of m) (regions m)) =
     heaps_left (bytes_of m) at len (regions m) in
     let others : others_in (record_of.without_heaps at len (regions m)) ≡ others_in (regions m) = others_left at len (regions m) in
     rw (bytes, records) (λ i. record {
@@ -168,7 +168,7 @@ store_left m n at len records bytes flex =
 
 classes_left : (m n : AddressMap) (block total from : ℕ) → IsSoundMap m → HasBlock m block total → block ≤ from
     → (let low : ℕ = lowest_lost block (total - 4) from (store_of m).heaps in
-    ((a : ℕ) → class_of n a ≡ with_no_heads low (block - 4 + total - low) (class_of m) a) → AreBy (class_of n) (forgot (store_of m) block total from).heaps)
+    ((a : ℕ) → class_of n a ≡ with_no_heads low (block - 4 + total - low) (class_of m) a) → AreBy (class_of n) (store_after_forget (store_of m) block total from).heaps)
 classes_left m n block total from state h past change a =
     let low : ℕ = lowest_lost block (total - 4) from (store_of m).heaps in
     let len : ℕ = block - 4 + total - low in
@@ -194,7 +194,7 @@ forgets m u n block total from state h past set records moved bytes marks =
     let moved' : mapping n ≡ mapping m = moved ∙ layout-mapping m u set.layout in
     let bytes' : byte_at n ≡ byte_at m = bytes ∙ set.bytes in
     let change : (a : ℕ) → class_of n a ≡ with_no_heads low len (class_of m) a = λ a. ap (λ (f : ℕ → Class). f a) marks ∙ set.marks a in
-    let store : store_of n ≡ forgot (store_of m) block total from =
+    let store : store_of n ≡ store_after_forget (store_of m) block total from =
     store_left m n low len records' (same_bytes_of m n moved' bytes') (flex_unheaded (class_of m) (class_of n) low len change) in
     record {
       store = store;
@@ -209,7 +209,7 @@ forgets m u n block total from state h past set records moved bytes marks =
     }
 
 -- nothing was to be forgotten
-unforgotten : (m : AddressMap) (block total from : ℕ) → IsSoundMap m → forgot (store_of m) block total from ≡ store_of m → Forgets m m block total from
+unforgotten : (m : AddressMap) (block total from : ℕ) → IsSoundMap m → store_after_forget (store_of m) block total from ≡ store_of m → Forgets m m block total from
 unforgotten m block total from state same = record {
   store = sym same;
   kept = rest_kept m state;
@@ -221,7 +221,7 @@ pub forgets_none : (m : AddressMap) (block total from : ℕ) → IsSoundMap m
     holds_heap (store_of m).heaps low (block - 4 + total - low) ≡ false → Forgets m m block total from)
 forgets_none m block total from state none =
     let low : ℕ = lowest_lost block (total - 4) from (store_of m).heaps in
-    let same : without_heaps low (block - 4 + total - low) (store_of m).heaps ≡ (store_of m).heaps =
+    let same : without_heaps_in low (block - 4 + total - low) (store_of m).heaps ≡ (store_of m).heaps =
     none_without low (block - 4 + total - low) (store_of m).heaps none in
     unforgotten m block total from state (λ i. record (store_of m) { heaps = same i })
 

@@ -4,75 +4,75 @@ use Rattle.std.proofs.lemmas.Bool.{and_parts, both_ways, cases_Bool, cases_lt, e
 use Rattle.address_map.specs.Bytes.{Bytes, in_range}
 use Rattle.address_map.specs.Items.{size_of}
 use Rattle.address_map.specs.declared.region.Region.{Region}
-use Rattle.os_heap_lists.proofs.LiveBlocks.{LiveBytes, live_bytes}
+use Rattle.os_heap_lists.proofs.LiveBlocks.{LiveBytes, law_live_bytes}
 use Rattle.os_heap_lists.specs.Heap.{HeapList, IsHeapIn}
 use Rattle.os_heap_lists.specs.Lists.{live_total}
 use Rattle.os_heap.proofs.Apart.{range_parts, within_here}
 use Rattle.os_heap.proofs.Nesting.{apart_starts, within_low}
 use Rattle.os_heap.proofs.Stores.{IsOther}
-use Rattle.os_heap.specs.Forgetting.{forgot, lowest_lost, starts_in, without_heaps}
+use Rattle.os_heap.specs.Forgetting.{store_after_forget, lowest_lost, starts_in, without_heaps_in}
 use Rattle.os_heap.specs.Nesting.{StandApart}
-use Rattle.os_heap.specs.Store.{AreHeapsIn, ArePlaced, IsAnchorPlace, IsPlacedIn, IsSound, StandAreas, Store, area_count, find_heap, guest_count, is_area}
+use Rattle.os_heap.specs.Store.{AreHeapsIn, ArePlaced, IsAnchorPlace, IsPlacedIn, IsSound, StandAreas, Store, area_count, find_heap, guest_count, is_module_area}
 
 -- what holds of all heaps, or of each two, holds of those that are left
-stand_left : (at len : ℕ) (h : HeapList) (hs : List HeapList) → StandApart h hs → StandApart h (without_heaps at len hs)
+stand_left : (at len : ℕ) (h : HeapList) (hs : List HeapList) → StandApart h hs → StandApart h (without_heaps_in at len hs)
 stand_left at len h [] stand = tt
 stand_left at len h (g ∷ hs) stand = elim (cases_Bool (starts_in at len g)) [
   | inl gone ↦ rw gone (stand_left at len h hs stand.1)
   | inr kept ↦ rw kept (stand.0, stand_left at len h hs stand.1)
 ]
 
-pub parts_left : (b : Bytes) (at len : ℕ) (hs : List HeapList) → AreHeapsIn b hs → AreHeapsIn b (without_heaps at len hs)
+pub parts_left : (b : Bytes) (at len : ℕ) (hs : List HeapList) → AreHeapsIn b hs → AreHeapsIn b (without_heaps_in at len hs)
 parts_left b at len [] parts = tt
 parts_left b at len (g ∷ hs) parts = elim (cases_Bool (starts_in at len g)) [
   | inl gone ↦ rw gone (parts_left b at len hs parts.1.1)
   | inr kept ↦ rw kept (parts.0, (stand_left at len g hs parts.1.0, parts_left b at len hs parts.1.1))
 ]
 
-guests_left : (at len : ℕ) (hs : List HeapList) → guest_count (without_heaps at len hs) ≤ guest_count hs
+guests_left : (at len : ℕ) (hs : List HeapList) → guest_count (without_heaps_in at len hs) ≤ guest_count hs
 guests_left at len [] = omega arith
 guests_left at len (g ∷ hs) =
-    let rest : guest_count (without_heaps at len hs) ≤ guest_count hs = guests_left at len hs in
+    let rest : guest_count (without_heaps_in at len hs) ≤ guest_count hs = guests_left at len hs in
     elim (cases_Bool (starts_in at len g)) [
-      | inl gone ↦ rw gone (elim (cases_Bool (is_area g.kind)) [ inl area ↦ rw area rest | inr guest ↦ rw guest (omega (arith, rest)) ])
-      | inr kept ↦ rw kept (elim (cases_Bool (is_area g.kind)) [ inl area ↦ rw area rest | inr guest ↦ rw guest (omega (arith, rest)) ])
+      | inl gone ↦ rw gone (elim (cases_Bool (is_module_area g.kind)) [ inl area ↦ rw area rest | inr guest ↦ rw guest (omega (arith, rest)) ])
+      | inr kept ↦ rw kept (elim (cases_Bool (is_module_area g.kind)) [ inl area ↦ rw area rest | inr guest ↦ rw guest (omega (arith, rest)) ])
     ]
 
-areas_left : (at len : ℕ) (hs : List HeapList) → area_count (without_heaps at len hs) ≤ area_count hs
+areas_left : (at len : ℕ) (hs : List HeapList) → area_count (without_heaps_in at len hs) ≤ area_count hs
 areas_left at len [] = omega arith
 areas_left at len (g ∷ hs) =
-    let rest : area_count (without_heaps at len hs) ≤ area_count hs = areas_left at len hs in
+    let rest : area_count (without_heaps_in at len hs) ≤ area_count hs = areas_left at len hs in
     elim (cases_Bool (starts_in at len g)) [
-      | inl gone ↦ rw gone (elim (cases_Bool (is_area g.kind)) [ inl area ↦ rw area (omega (arith, rest)) | inr guest ↦ rw guest rest ])
-      | inr kept ↦ rw kept (elim (cases_Bool (is_area g.kind)) [ inl area ↦ rw area (omega (arith, rest)) | inr guest ↦ rw guest rest ])
+      | inl gone ↦ rw gone (elim (cases_Bool (is_module_area g.kind)) [ inl area ↦ rw area (omega (arith, rest)) | inr guest ↦ rw guest rest ])
+      | inr kept ↦ rw kept (elim (cases_Bool (is_module_area g.kind)) [ inl area ↦ rw area (omega (arith, rest)) | inr guest ↦ rw guest rest ])
     ]
 
-pub areas_stand : (at len : ℕ) (hs : List HeapList) → StandAreas hs → StandAreas (without_heaps at len hs)
+pub areas_stand : (at len : ℕ) (hs : List HeapList) → StandAreas hs → StandAreas (without_heaps_in at len hs)
 areas_stand at len [] stand = tt
 areas_stand at len (g ∷ hs) stand = elim (cases_Bool (starts_in at len g)) [
   | inl gone ↦ rw gone (areas_stand at len hs stand.1)
   | inr kept ↦ rw kept (stand.0, areas_stand at len hs stand.1)
 ]
 
-placed_left : (at len : ℕ) (hs : List HeapList) (r : Region) → IsPlacedIn hs r → IsPlacedIn (without_heaps at len hs) r
+placed_left : (at len : ℕ) (hs : List HeapList) (r : Region) → IsPlacedIn hs r → IsPlacedIn (without_heaps_in at len hs) r
 placed_left at len [] r placed = tt
 placed_left at len (g ∷ hs) r placed = elim (cases_Bool (starts_in at len g)) [
   | inl gone ↦ rw gone (placed_left at len hs r placed.1)
   | inr kept ↦ rw kept (placed.0, placed_left at len hs r placed.1)
 ]
 
-all_placed_left : (at len : ℕ) (hs : List HeapList) (rs : List Region) → ArePlaced hs rs → ArePlaced (without_heaps at len hs) rs
+all_placed_left : (at len : ℕ) (hs : List HeapList) (rs : List Region) → ArePlaced hs rs → ArePlaced (without_heaps_in at len hs) rs
 all_placed_left at len hs [] placed = tt
 all_placed_left at len hs (r ∷ rs) placed = (placed_left at len hs r placed.0, all_placed_left at len hs rs placed.1)
 
-anchor_left : (at len : ℕ) (hs : List HeapList) (a : ℕ) → IsAnchorPlace hs a → IsAnchorPlace (without_heaps at len hs) a
+anchor_left : (at len : ℕ) (hs : List HeapList) (a : ℕ) → IsAnchorPlace hs a → IsAnchorPlace (without_heaps_in at len hs) a
 anchor_left at len [] a place = tt
 anchor_left at len (g ∷ hs) a place = elim (cases_Bool (starts_in at len g)) [
   | inl gone ↦ rw gone (anchor_left at len hs a place.1)
   | inr kept ↦ rw kept (place.0, anchor_left at len hs a place.1)
 ]
 
-left_sound : (s : Store) (at len : ℕ) → IsSound s → IsSound (record s { heaps = without_heaps at len s.heaps })
+left_sound : (s : Store) (at len : ℕ) → IsSound s → IsSound (record s { heaps = without_heaps_in at len s.heaps })
 left_sound s at len sound = record {
   heaps = parts_left s.bytes at len s.heaps sound.heaps;
   limits = record {
@@ -87,14 +87,14 @@ left_sound s at len sound = record {
   headers = sound.headers;
 }
 
-pub forgot_sound : (s : Store) (block total from : ℕ) → IsSound s → IsSound (forgot s block total from)
+pub forgot_sound : (s : Store) (block total from : ℕ) → IsSound s → IsSound (store_after_forget s block total from)
 forgot_sound s block total from sound =
     let low : ℕ = lowest_lost block (total - 4) from s.heaps in
     left_sound s low (block - 4 + total - low) sound
 
 -- which heaps are found then: those that do not start in the range
 pub find_left : (at len start : ℕ) (hs : List HeapList) (h : HeapList) → find_heap start hs ≡ Some h → starts_in at len h ≡ false
-    → find_heap start (without_heaps at len hs) ≡ Some h
+    → find_heap start (without_heaps_in at len hs) ≡ Some h
 find_left at len start [] h found kept = absurd (let none : None ≡ Some h = found in cc)
 find_left at len start (g ∷ hs) h found kept = elim (cases_Bool (g.start == start)) [
   | inl here ↦
@@ -103,16 +103,16 @@ find_left at len start (g ∷ hs) h found kept = elim (cases_Bool (g.start == st
       let kept' : starts_in at len g ≡ false = ap (λ (x : HeapList). starts_in at len x) same ∙ kept in
       rw (kept', here) (ap (λ (x : HeapList). Some x) same)
   | inr other ↦
-      let rest : find_heap start (without_heaps at len hs) ≡ Some h = find_left at len start hs h (rw other at found) kept in
+      let rest : find_heap start (without_heaps_in at len hs) ≡ Some h = find_left at len start hs h (rw other at found) kept in
       elim (cases_Bool (starts_in at len g)) [ inl gone ↦ rw gone rest | inr stays ↦ rw (stays, other) rest ]
 ]
 
-none_left : (at len start : ℕ) (hs : List HeapList) → find_heap start hs ≡ None → find_heap start (without_heaps at len hs) ≡ None
+none_left : (at len start : ℕ) (hs : List HeapList) → find_heap start hs ≡ None → find_heap start (without_heaps_in at len hs) ≡ None
 none_left at len start [] none = refl
 none_left at len start (g ∷ hs) none = elim (cases_Bool (g.start == start)) [
   | inl here ↦ let none' = rw here at none in absurd (let some : Some g ≡ None = none' in cc)
   | inr other ↦
-      let rest : find_heap start (without_heaps at len hs) ≡ None = none_left at len start hs (rw other at none) in
+      let rest : find_heap start (without_heaps_in at len hs) ≡ None = none_left at len start hs (rw other at none) in
       elim (cases_Bool (starts_in at len g)) [ inl gone ↦ rw gone rest | inr stays ↦ rw (stays, other) rest ]
 ]
 
@@ -124,7 +124,7 @@ none_more b g (k ∷ hs) heap stand parts =
     rw (ne_eqb k.start g.start (apart_starts b b g k heap parts.0 stand.0)) (none_more b g hs heap stand.1 parts.1.1)
 
 pub find_gone : (b : Bytes) (at len start : ℕ) (hs : List HeapList) (h : HeapList) → AreHeapsIn b hs → find_heap start hs ≡ Some h
-    → starts_in at len h ≡ true → find_heap start (without_heaps at len hs) ≡ None
+    → starts_in at len h ≡ true → find_heap start (without_heaps_in at len hs) ≡ None
 find_gone b at len start [] h parts found gone = refl
 find_gone b at len start (g ∷ hs) h parts found gone = elim (cases_Bool (g.start == start)) [
   | inl here ↦
@@ -135,13 +135,13 @@ find_gone b at len start (g ∷ hs) h parts found gone = elim (cases_Bool (g.sta
       subst (λ (x : ℕ). find_heap x hs ≡ None) (eqb-true g.start start here) (none_more b g hs parts.0 parts.1.0 parts.1.1) in
       rw gone' (none_left at len start hs none)
   | inr other ↦
-      let rest : find_heap start (without_heaps at len hs) ≡ None = find_gone b at len start hs h parts.1.1 (rw other at found) gone in
+      let rest : find_heap start (without_heaps_in at len hs) ≡ None = find_gone b at len start hs h parts.1.1 (rw other at found) gone in
       elim (cases_Bool (starts_in at len g)) [ inl went ↦ rw went rest | inr stays ↦ rw (stays, other) rest ]
 ]
 
 -- a range that a guest's heap starts in
 pub record StartsIn (at len : ℕ) (h : HeapList) : Type 0 where
-  pub guest : is_area h.kind ≡ false
+  pub guest : is_module_area h.kind ≡ false
   pub low : at ≤ h.start
   pub high : h.start < at + len
 
@@ -151,9 +151,9 @@ not_true false e = refl
 
 pub starts_so : (at len : ℕ) (h : HeapList) → starts_in at len h ≡ true → StartsIn at len h
 starts_so at len h is =
-    let both = and_parts (not (is_area h.kind)) (in_range at len h.start) is in
+    let both = and_parts (not (is_module_area h.kind)) (in_range at len h.start) is in
     let parts : (at ≤ h.start) × (h.start < at + len) = range_parts at len h.start both.1 in
-    record { guest = not_true (is_area h.kind) both.0; low = parts.0; high = parts.1 }
+    record { guest = not_true (is_module_area h.kind) both.0; low = parts.0; high = parts.1 }
 
 pub so_starts : (at len : ℕ) (h : HeapList) → StartsIn at len h → starts_in at len h ≡ true
 so_starts at len h is = rw (is.guest, le-leb at h.start is.low, lt-ltb h.start (at + len) is.high) refl
@@ -264,7 +264,7 @@ lowest_least block len from (g ∷ hs) above =
 
 -- a heap that starts before the block stays
 pub own_left : (s : Store) (h : HeapList) (block total from : ℕ) → find_heap h.start s.heaps ≡ Some h → h.start < block → block ≤ from
-    → find_heap h.start (forgot s block total from).heaps ≡ Some h
+    → find_heap h.start (store_after_forget s block total from).heaps ≡ Some h
 own_left s h block total from found before above =
     let low : ℕ = lowest_lost block (total - 4) from s.heaps in
     let len : ℕ = block - 4 + total - low in
@@ -281,7 +281,7 @@ pub record IsIn (block total : ℕ) (g : HeapList) : Type 0 where
 pub in_block : (b : Bytes) (h g : HeapList) (block total : ℕ) → IsHeapIn b h.start h.end h.items → IsHeapIn b g.start g.end g.items
     → live_total block (h.start + 16) h.items ≡ Some total → IsOther h g → StartsIn block (total - 4) g → IsIn block total g
 in_block b h g block total heap other live place starts =
-    let lies : LiveBytes block total (h.start + 16) (h.start + 16 + size_of h.items) = live_bytes block total (h.start + 16) h.items heap.totals live in
+    let lies : LiveBytes block total (h.start + 16) (h.start + 16 + size_of h.items) = law_live_bytes block total (h.start + 16) h.items heap.totals live in
     let there : in_range g.start g.end g.start ≡ true =
     rw (le-leb g.start g.start (omega arith), lt-ltb g.start (g.start + g.end) (omega (arith, other.inside))) refl in
     elim place [

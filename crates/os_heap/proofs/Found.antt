@@ -13,7 +13,7 @@ use Rattle.os_heap_lists.specs.Counts.{larger, largest_free, free_total, round_d
 use Rattle.os_heap_lists.specs.Heap.{HeapList, IsHeapIn}
 use Rattle.os_heap_words.specs.Outcomes.{IsHeapAt, items_at}
 use Rattle.os_heap.specs.Store.{heaps_in, find_heap, AreHeapsIn, IsSound, heap_in, store_of, Store}
-use Rattle.os_heap.specs.Calls.{described, items_of, with_end}
+use Rattle.os_heap.specs.Calls.{heap_description, items_of, with_end}
 use Rattle.os_heap.specs.Nesting.{is_crossed}
 use Rattle.os_heap.specs.Probes.{describe_probes}
 
@@ -49,8 +49,8 @@ found_at m heap r sound at e =
     rw at at is
 
 -- what the calls that read answer of it
-pub described_none : (s : Store) (heap : ℕ) → find_heap heap s.heaps ≡ None → described s heap ≡ Err HeapBadDesc
-unfolding described
+pub described_none : (s : Store) (heap : ℕ) → find_heap heap s.heaps ≡ None → heap_description s heap ≡ Err HeapBadDesc
+unfolding heap_description
 described_none s heap e = rw e refl
 
 pub probes_none : (s : Store) (heap : ℕ) → find_heap heap s.heaps ≡ None → describe_probes s heap ≡ 0
@@ -62,11 +62,11 @@ unfolding items_of
 items_none s heap e = rw e refl
 
 pub described_found : (m : AddressMap) (heap : ℕ) (r : Region) → r.at ≡ heap → find_heap heap (store_of m).heaps ≡ Some (heap_in (bytes_of m) r)
-    → described (store_of m) heap ≡ Ok (
+    → heap_description (store_of m) heap ≡ Ok (
       larger (largest_free (items_at m heap)) (round_down_8 (r.len - (16 + size_of (items_at m heap)))) - 4,
       free_total (items_at m heap) + (r.len - (16 + size_of (items_at m heap))),
     )
-unfolding described
+unfolding heap_description
 described_found m heap r at e = rw (e, ← at) refl
 
 pub probes_found : (m : AddressMap) (heap : ℕ) (r : Region) → r.at ≡ heap → find_heap heap (store_of m).heaps ≡ Some (heap_in (bytes_of m) r)

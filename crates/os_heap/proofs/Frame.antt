@@ -12,7 +12,7 @@ use Rattle.address_map.specs.declared.class.Class.TheVariants as class
 use Rattle.address_map.specs.declared.map.AddressMap.{AddressMap}
 use Rattle.address_map.specs.declared.region.Region.{Region}
 use Rattle.os_heap.proofs.FlexWords.{AreSameFlex, same_flex}
-use Rattle.os_heap_lists.proofs.HeadWords.{heaps_kept, are_owned, byte_inside}
+use Rattle.os_heap_lists.proofs.HeadWords.{law_heap_frame, are_owned, byte_inside}
 use Rattle.os_heap_lists.proofs.Reading.{items_in-heap}
 use Rattle.os_heap_lists.specs.Heap.{HeapList}
 use Rattle.os_heap_lists.specs.Marks.{spells_any}
@@ -23,7 +23,7 @@ pub parts_kept : (b c : Bytes) (hs : List HeapList) → c.mapped ≡ b.mapped �
     → AreHeapsIn b hs → AreHeapsIn c hs
 parts_kept b c [] mapping kept parts = tt
 parts_kept b c (h ∷ hs) mapping kept parts = (
-  heaps_kept b c h.start h.end h.items mapping (λ a is. kept a (or_left _ (are_owned hs a) is)) parts.0,
+  law_heap_frame b c h.start h.end h.items mapping (λ a is. kept a (or_left _ (are_owned hs a) is)) parts.0,
   (parts.1.0, parts_kept b c hs mapping (λ a is. kept a (or_right (is_heap_word h.start h.items (word_start a)) _ is)) parts.1.1),
 )
 

@@ -4,9 +4,9 @@ use Rattle.std.proofs.lemmas.Bool.{false≢true}
 use Rattle.address_map.specs.Records.{is_guest_heap, is_heap_kind}
 use Rattle.address_map.specs.declared.region.Kind.{Kind}
 use Rattle.address_map.specs.declared.region.Kind.TheVariants as kind
-use Rattle.os_heap.specs.Nesting.{is_area}
+use Rattle.os_heap.specs.Nesting.{is_module_area}
 
-pub guest_kind : (k : Kind) → is_heap_kind k ≡ true → is_guest_heap k ≡ not (is_area k)
+pub guest_kind : (k : Kind) → is_heap_kind k ≡ true → is_guest_heap k ≡ not (is_module_area k)
 guest_kind kind.Heap heap = refl
 guest_kind kind.Rma heap = refl
 guest_kind kind.FlexStore heap = absurd (false≢true heap)

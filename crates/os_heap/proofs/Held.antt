@@ -9,13 +9,13 @@ use Rattle.address_map.specs.declared.class.Class.TheVariants as class
 use Rattle.address_map.specs.declared.item.Item.{Item}
 use Rattle.os_heap_lists.proofs.HeadWords.{head_inside}
 use Rattle.os_heap_lists.specs.Heap.{HeapList, IsHeapIn}
-use Rattle.os_heap_lists.specs.Marks.{marked, Remarks, AreMarked, spells_any}
+use Rattle.os_heap_lists.specs.Marks.{class_after_marking, Remarks, AreMarked, spells_any}
 use Rattle.os_heap_words.proofs.Marking.{heap_class}
 use Rattle.os_heap.proofs.Found.{found_heap}
 use Rattle.os_heap.proofs.Nesting.{words_apart}
 use Rattle.os_heap.proofs.RangeTests.{or_none}
 use Rattle.os_heap.proofs.Stores.{AreOthers, are_others}
-use Rattle.os_heap.specs.Calls.{with_items, with_end}
+use Rattle.os_heap.specs.Calls.{heaps_with_items, with_end}
 use Rattle.os_heap.specs.Store.{AreHeapsIn, find_heap}
 
 -- the bytes that are classed as a heap's are those that the lists spell
@@ -42,49 +42,49 @@ heads_marked c hs h same found a is =
 
 -- one heap got another list: a word that it spells now, one that it gives up, and one of which nothing changed
 made_spelled : (h : HeapList) (items : List Item) (hs : List HeapList) (p : ℕ) → find_heap h.start hs ≡ Some h → is_heap_word h.start items p ≡ true
-    → spells_any (with_items h.start items hs) p ≡ true
+    → spells_any (heaps_with_items h.start items hs) p ≡ true
 made_spelled h items [] p found is = absurd (let none : None ≡ Some h = found in cc)
 made_spelled h items (g ∷ hs) p found is =
     elim (cases_Bool (g.start == h.start)) [
       | inl here ↦
           let start : g.start ≡ h.start = eqb-true g.start h.start here in
-          rw here (or_left (is_heap_word g.start items p) (spells_any (with_items h.start items hs) p) (rw start is))
+          rw here (or_left (is_heap_word g.start items p) (spells_any (heaps_with_items h.start items hs) p) (rw start is))
       | inr other ↦
-          rw other (or_right (is_heap_word g.start g.items p) (spells_any (with_items h.start items hs) p) (made_spelled h items hs p (rw other at found) is))
+          rw other (or_right (is_heap_word g.start g.items p) (spells_any (heaps_with_items h.start items hs) p) (made_spelled h items hs p (rw other at found) is))
     ]
 
 given_unspelled : (b : Bytes) (h : HeapList) (items : List Item) (hs : List HeapList) (a : ℕ) → IsHeapIn b h.start h.end h.items → AreHeapsIn b hs
     → AreOthers h hs → is_heap_word h.start items (word_start a) ≡ false → is_heap_word h.start h.items (word_start a) ≡ true
-    → spells_any (with_items h.start items hs) (word_start a) ≡ false
+    → spells_any (heaps_with_items h.start items hs) (word_start a) ≡ false
 given_unspelled b h items [] a heap heaps others none was = refl
 given_unspelled b h items (g ∷ hs) a heap heaps others none was =
     let p : ℕ = word_start a in
-    let rest : spells_any (with_items h.start items hs) p ≡ false = given_unspelled b h items hs a heap heaps.1.1 others.1 none was in
+    let rest : spells_any (heaps_with_items h.start items hs) p ≡ false = given_unspelled b h items hs a heap heaps.1.1 others.1 none was in
     elim others.0 [
       | inl own ↦
           let start : g.start ≡ h.start = ap (λ (x : HeapList). x.start) own in
-          rw (eq-eqb g.start h.start start) (or_from (is_heap_word g.start items p) (spells_any (with_items h.start items hs) p) (rw start none) rest)
+          rw (eq-eqb g.start h.start start) (or_from (is_heap_word g.start items p) (spells_any (heaps_with_items h.start items hs) p) (rw start none) rest)
       | inr apart ↦
           rw (ne_eqb g.start h.start apart.0)
-          (or_from (is_heap_word g.start g.items p) (spells_any (with_items h.start items hs) p) (words_apart b b h g a heap heaps.0 apart.1 was) rest)
+          (or_from (is_heap_word g.start g.items p) (spells_any (heaps_with_items h.start items hs) p) (words_apart b b h g a heap heaps.0 apart.1 was) rest)
     ]
 
 same_spelled : (h : HeapList) (items : List Item) (hs : List HeapList) (p : ℕ) → AreOthers h hs
-    → is_heap_word h.start items p ≡ is_heap_word h.start h.items p → spells_any (with_items h.start items hs) p ≡ spells_any hs p
+    → is_heap_word h.start items p ≡ is_heap_word h.start h.items p → spells_any (heaps_with_items h.start items hs) p ≡ spells_any hs p
 same_spelled h items [] p others same = refl
 same_spelled h items (g ∷ hs) p others same =
-    let rest : spells_any (with_items h.start items hs) p ≡ spells_any hs p = same_spelled h items hs p others.1 same in
+    let rest : spells_any (heaps_with_items h.start items hs) p ≡ spells_any hs p = same_spelled h items hs p others.1 same in
     elim others.0 [
       | inl own ↦
           let start : g.start ≡ h.start = ap (λ (x : HeapList). x.start) own in
           let here : is_heap_word g.start items p ≡ is_heap_word g.start g.items p =
           subst (λ (x : HeapList). is_heap_word x.start items p ≡ is_heap_word x.start x.items p) (sym own) same in
-          rw (eq-eqb g.start h.start start) (ap (λ (t : Bool). t || spells_any (with_items h.start items hs) p) here
+          rw (eq-eqb g.start h.start start) (ap (λ (t : Bool). t || spells_any (heaps_with_items h.start items hs) p) here
           ∙ ap (λ (t : Bool). is_heap_word g.start g.items p || t) rest)
       | inr apart ↦ rw (ne_eqb g.start h.start apart.0) (ap (λ (t : Bool). is_heap_word g.start g.items p || t) rest)
     ]
 
-held_class : (hs gs : List HeapList) (made given : Bool) (a : ℕ) (old new : Class) → is_heap_class old ≡ spells_any hs (word_start a) → new ≡ marked made given old
+held_class : (hs gs : List HeapList) (made given : Bool) (a : ℕ) (old new : Class) → is_heap_class old ≡ spells_any hs (word_start a) → new ≡ class_after_marking made given old
     → (made ≡ true → spells_any gs (word_start a) ≡ true)
     → (made ≡ false → given ≡ true → spells_any gs (word_start a) ≡ false)
     → (made ≡ false → given ≡ false → spells_any gs (word_start a) ≡ spells_any hs (word_start a)) → is_heap_class new ≡ spells_any gs (word_start a)
@@ -94,7 +94,7 @@ held_class hs gs false false a old new was change now gone kept = ap is_heap_cla
 
 -- just the words of its old list were given up, and those of its new one made
 pub marks_held : (b : Bytes) (c d : ℕ → Class) (h : HeapList) (items : List Item) (hs : List HeapList) → AreHeapsIn b hs → find_heap h.start hs ≡ Some h
-    → AreBy c hs → Remarks c d (h.start + 16) h.items items → AreBy d (with_items h.start items hs)
+    → AreBy c hs → Remarks c d (h.start + 16) h.items items → AreBy d (heaps_with_items h.start items hs)
 marks_held b c d h items hs heaps found same change a =
     let p : ℕ = word_start a in
     let heap : IsHeapIn b h.start h.end h.items = found_heap b h.start hs h heaps found in
@@ -102,7 +102,7 @@ marks_held b c d h items hs heaps found same change a =
     let now : Bool = is_head (h.start + 16) items p in
     let was : Bool = is_head (h.start + 16) h.items p in
     let descriptor : Bool = in_range h.start 16 p in
-    held_class hs (with_items h.start items hs) now was a (c a) (d a) (same a) (change a)
+    held_class hs (heaps_with_items h.start items hs) now was a (c a) (d a) (same a) (change a)
     (λ is. made_spelled h items hs p found (or_right descriptor now is))
     (λ not is.
     let inside : (h.start + 16 ≤ p) × (p + 4 ≤ h.start + 16 + size_of h.items) = head_inside (h.start + 16) h.items p heap.totals is in

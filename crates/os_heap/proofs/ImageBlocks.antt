@@ -4,14 +4,14 @@ use Rattle.std.proofs.lemmas.Bool.{both_ways, cases_eq, false_from_ne_true, le-l
 use Rattle.address_map.specs.Bytes.{Bytes, in_range}
 use Rattle.address_map.specs.Items.{size_of}
 use Rattle.address_map.specs.declared.region.Region.{Region}
-use Rattle.os_heap_lists.proofs.LiveBlocks.{LiveBytes, live_apart, live_bytes}
+use Rattle.os_heap_lists.proofs.LiveBlocks.{LiveBytes, live_apart, law_live_bytes}
 use Rattle.os_heap_lists.specs.Heap.{HeapList, IsHeapIn}
 use Rattle.os_heap_lists.specs.Lists.{live_total}
 use Rattle.os_heap.proofs.Apart.{block_inside, range_parts}
 use Rattle.os_heap.proofs.Forgetting.{StartsIn, so_starts, starts_so}
 use Rattle.os_heap.proofs.Stores.{AreOthers, IsOther}
 use Rattle.os_heap.specs.Forgetting.{holds_heap, starts_in}
-use Rattle.os_heap.specs.Nesting.{AreClear, IsWithin, StandsApart, is_area}
+use Rattle.os_heap.specs.Nesting.{AreClear, IsWithin, StandsApart, is_module_area}
 use Rattle.os_heap.specs.Store.{AreHeapsIn, IsImageBlock, IsPlacedIn}
 
 pub image_unheaped : (b : Bytes) (r : Region) (hs : List HeapList) → AreHeapsIn b hs → IsPlacedIn hs r → holds_heap hs r.at r.len ≡ false
@@ -24,7 +24,7 @@ image_unheaped b r (g ∷ hs) parts placed =
     rw (le-leb g.start g.start (omega arith), lt-ltb g.start (g.start + g.end) (omega (arith, parts.0.inside))) refl in
     elim placed.0 [
       | inl clear ↦ both_ways (in_range g.start g.end g.start) (clear g.start here) there
-      | inr image ↦ both_ways (is_area g.kind) starts.guest image.area
+      | inr image ↦ both_ways (is_module_area g.kind) starts.guest image.area
     ])) (image_unheaped b r hs parts.1.1 placed.1)
 
 -- what lies in another block of the same heap is clear of this one
@@ -58,7 +58,7 @@ image_placed b h r (g ∷ hs) heap image parts others none = (placed others.0, i
   empty = or_parts (starts_in r.at r.len g) (holds_heap hs r.at r.len) none
 
   lies : LiveBytes r.at (r.len + 4) (h.start + 16) (h.start + 16 + size_of h.items)
-  lies = live_bytes r.at (r.len + 4) (h.start + 16) h.items heap.totals image.live
+  lies = law_live_bytes r.at (r.len + 4) (h.start + 16) h.items heap.totals image.live
 
   in_heap : (a : ℕ) → in_range r.at r.len a ≡ true → in_range h.start h.end a ≡ true
   in_heap a inside =
@@ -69,7 +69,7 @@ image_placed b h r (g ∷ hs) heap image parts others none = (placed others.0, i
   beside : StandsApart h g → AreClear r.at r.len g.start g.end
   beside (inl clear) = λ a inside. clear a (in_heap a inside)
   beside (inr (inl within)) = block_clear b h g r heap parts.0 image empty.0 within
-  beside (inr (inr within)) = absurd (both_ways (is_area h.kind) within.guest image.area)
+  beside (inr (inr within)) = absurd (both_ways (is_module_area h.kind) within.guest image.area)
 
   placed : IsOther h g → AreClear r.at r.len g.start g.end ⊎ IsImageBlock g r
   placed (inl same) = inr (subst (λ (x : HeapList). IsImageBlock x r) (sym same) image)

@@ -2,7 +2,7 @@
 use Rattle.std.proofs.Common.{List, ℕ, [], ◌∷◌, ◌≡◌, ◌≢◌, ◌+◌, ◌-◌, ◌≤◌, ◌<◌, ◌⊎◌, ◌==◌, ◌&&◌, ◌||◌, ◌∙◌, Bool, Option, Some, None, option_map, not, true, false, leb, ltb, refl, sym, ap, subst, inl, inr, arith}
 use Rattle.std.proofs.lemmas.Bool.{false≢true, both_ways, cases_Bool, cases_lt, and_parts, or_parts, le-leb, lt-ltb, le-ltb, leb-true, ltb-true, eqb-true}
 use Rattle.std.specs.List.{list_any}
-use Rattle.address_map.specs.Bytes.{Bytes, in_range, meets}
+use Rattle.address_map.specs.Bytes.{Bytes, in_range, shares_address}
 use Rattle.address_map.specs.Records.{is_heap_kind}
 use Rattle.address_map.specs.declared.item.Item.{Item}
 use Rattle.address_map.specs.declared.item.Item.TheVariants.{Live, Free}
@@ -12,8 +12,8 @@ use Rattle.os_heap_lists.specs.Lists.{live_total}
 use Rattle.os_heap.proofs.RangeTests.{or_none}
 use Rattle.os_heap.proofs.Holding.{held_range}
 use Rattle.os_heap.proofs.Nesting.{apart_turned, apart_starts, within_low}
-use Rattle.os_heap.specs.Laws.{told_by}
-use Rattle.os_heap.specs.Nesting.{IsWithin, StandApart, StandsApart, holds_range, innermost, is_crossed, is_round, last_of, later}
+use Rattle.os_heap.specs.Laws.{passes_if_there}
+use Rattle.os_heap.specs.Nesting.{IsWithin, StandApart, StandsApart, holds_range, innermost_heap, is_crossed, is_round, last_of, later_heap}
 use Rattle.os_heap.specs.Payloads.{is_other, payload_from, payload_in, payload_of, payload_or}
 use Rattle.os_heap.specs.Store.{AreHeapsIn, IsSound, Store, heap_in, heaps_in}
 use Rattle.os_heap.specs.declared.payload.Payload.{Payload}
@@ -33,7 +33,7 @@ abbrev pub AreNested : (HeapList → Bool) → (HeapList → Bool) → List Heap
 AreNested test bad [] = Unit {0}
 AreNested test bad (g ∷ gs) = AreNestedIn test bad g gs × AreNested test bad gs
 
-later_cases : (h : HeapList) (o : Option HeapList) (k : HeapList) → later (Some h) o ≡ Some k → (h ≡ k) ⊎ (o ≡ Some k)
+later_cases : (h : HeapList) (o : Option HeapList) (k : HeapList) → later_heap (Some h) o ≡ Some k → (h ≡ k) ⊎ (o ≡ Some k)
 later_cases h None k e = let e' : Some h ≡ Some k = e in inl cc
 later_cases h (Some g) k e = elim (cases_Bool (ltb h.start g.start)) [
   | inl less ↦ inr (rw less at e)
@@ -52,16 +52,16 @@ last_among test bad g (h ∷ hs) k e nested = elim (cases_Bool (test h)) [
 ]
 
 pub last_tells : (test bad : HeapList → Bool) (hs : List HeapList) → AreNested test bad hs
-    → list_any (λ h. test h && bad h) hs ≡ told_by bad (last_of test hs)
+    → list_any (λ h. test h && bad h) hs ≡ passes_if_there bad (last_of test hs)
 last_tells test bad [] nested = refl
 last_tells test bad (h ∷ hs) nested =
-    let rest : list_any (λ g. test g && bad g) hs ≡ told_by bad (last_of test hs) = last_tells test bad hs nested.1 in
+    let rest : list_any (λ g. test g && bad g) hs ≡ passes_if_there bad (last_of test hs) = last_tells test bad hs nested.1 in
     elim (cases_Bool (test h)) [
       | inr fails ↦ rw fails rest
       | inl passes ↦ rw passes (step passes (last_of test hs) refl rest)
     ] where
-      step : test h ≡ true → (o : Option HeapList) → last_of test hs ≡ o → list_any (λ g. test g && bad g) hs ≡ told_by bad o
-          → (bad h || list_any (λ g. test g && bad g) hs) ≡ told_by bad (later (Some h) o)
+      step : test h ≡ true → (o : Option HeapList) → last_of test hs ≡ o → list_any (λ g. test g && bad g) hs ≡ passes_if_there bad o
+          → (bad h || list_any (λ g. test g && bad g) hs) ≡ passes_if_there bad (later_heap (Some h) o)
       step passes None e rest = ap (λ (t : Bool). bad h || t) rest ∙ or_none (bad h)
       step passes (Some k) e rest =
           let found = last_among test bad h hs k e nested.0 in
@@ -71,7 +71,7 @@ last_tells test bad (h ∷ hs) nested =
           ]
 
 -- a list without the heaps before comes to the same
-pub later_then : (p q r : Option HeapList) → later (later p q) r ≡ later p (later q r)
+pub later_then : (p q r : Option HeapList) → later_heap (later_heap p q) r ≡ later_heap p (later_heap q r)
 later_then None q r = refl
 later_then (Some h) None r = refl
 later_then (Some h) (Some g) None = elim (cases_Bool (ltb h.start g.start)) [ inl less ↦ rw less refl | inr more ↦ rw more refl ]
@@ -86,21 +86,21 @@ later_then (Some h) (Some g) (Some k) = elim (cases_lt h.start g.start) [
   ]
 ]
 
-pub later_none : (p : Option HeapList) → later p None ≡ p
+pub later_none : (p : Option HeapList) → later_heap p None ≡ p
 later_none None = refl
 later_none (Some h) = refl
 
 pub round_next : (at len : ℕ) (b : Bytes) (r new : Region) (rs : List Region) (last : Option Region) → (is_heap_kind r.kind && is_round at len (heap_in b r)) ≡ true
-    → later (option_map (heap_in b) last) (Some (heap_in b r)) ≡ Some (heap_in b new)
-    → later (option_map (heap_in b) (Some new)) (innermost at len (heaps_in b rs)) ≡ later (option_map (heap_in b) last) (innermost at len (heaps_in b (r ∷ rs)))
+    → later_heap (option_map (heap_in b) last) (Some (heap_in b r)) ≡ Some (heap_in b new)
+    → later_heap (option_map (heap_in b) (Some new)) (innermost_heap at len (heaps_in b rs)) ≡ later_heap (option_map (heap_in b) last) (innermost_heap at len (heaps_in b (r ∷ rs)))
 round_next at len b r new rs last round e =
     let parts = and_parts (is_heap_kind r.kind) (is_round at len (heap_in b r)) round in
-    let rest : Option HeapList = innermost at len (heaps_in b rs) in
+    let rest : Option HeapList = innermost_heap at len (heaps_in b rs) in
     rw (parts.0, parts.1)
-    (ap (λ (o : Option HeapList). later o rest) (sym e) ∙ later_then (option_map (heap_in b) last) (Some (heap_in b r)) rest)
+    (ap (λ (o : Option HeapList). later_heap o rest) (sym e) ∙ later_then (option_map (heap_in b) last) (Some (heap_in b r)) rest)
 
 pub round_passed : (at len : ℕ) (b : Bytes) (r : Region) (rs : List Region) → (is_heap_kind r.kind && is_round at len (heap_in b r)) ≡ false
-    → innermost at len (heaps_in b rs) ≡ innermost at len (heaps_in b (r ∷ rs))
+    → innermost_heap at len (heaps_in b rs) ≡ innermost_heap at len (heaps_in b (r ∷ rs))
 round_passed at len b r rs passed = elim (cases_Bool (is_heap_kind r.kind)) [
   | inl heap ↦ let out = rw heap at passed in rw (heap, out) refl
   | inr other ↦ rw other refl
@@ -232,34 +232,34 @@ others_any (h ∷ hs) a = elim (cases_Bool (in_range h.start h.end a)) [
 ]
 
 -- a range that meets no heap but those round it
-round_meets : (at len : ℕ) (h : HeapList) → 0 < len → is_round at len h ≡ true → meets at len h.start h.end ≡ true
+round_meets : (at len : ℕ) (h : HeapList) → 0 < len → is_round at len h ≡ true → shares_address at len h.start h.end ≡ true
 round_meets at len h some is =
     let round : IsRound at len h = round_so at len h is in
     let low : h.start < at = round.low in
     let high : at + len ≤ h.start + h.end = round.high in
     rw (lt-ltb 0 len some, lt-ltb 0 h.end (omega (arith, low, high)), lt-ltb at (h.start + h.end) (omega (arith, high, some)), lt-ltb h.start (at + len) (omega (arith, low))) refl
 
-crossed_round : (at len : ℕ) (h : HeapList) → 0 < len → (meets at len h.start h.end && not (is_round at len h)) ≡ false
+crossed_round : (at len : ℕ) (h : HeapList) → 0 < len → (shares_address at len h.start h.end && not (is_round at len h)) ≡ false
     → is_crossed at len h ≡ (is_round at len h && not (holds_range (h.start + 16) h.items at len))
 crossed_round at len h some none = elim (cases_Bool (is_round at len h)) [
   | inl round ↦ rw (round, round_meets at len h some round) refl
-  | inr out ↦ elim (cases_Bool (meets at len h.start h.end)) [
+  | inr out ↦ elim (cases_Bool (shares_address at len h.start h.end)) [
     | inr apart ↦ rw (out, apart) refl
     | inl met ↦ absurd (false≢true (sym (rw (met, out) at none)))
   ]
 ]
 
-all_crossed_round : (at len : ℕ) (hs : List HeapList) → 0 < len → list_any (λ h. meets at len h.start h.end && not (is_round at len h)) hs ≡ false
+all_crossed_round : (at len : ℕ) (hs : List HeapList) → 0 < len → list_any (λ h. shares_address at len h.start h.end && not (is_round at len h)) hs ≡ false
     → list_any (is_crossed at len) hs ≡ list_any (λ h. is_round at len h && not (holds_range (h.start + 16) h.items at len)) hs
 all_crossed_round at len [] some none = refl
 all_crossed_round at len (h ∷ hs) some none =
-    let parts = or_parts (meets at len h.start h.end && not (is_round at len h)) (list_any (λ g. meets at len g.start g.end && not (is_round at len g)) hs) none in
+    let parts = or_parts (shares_address at len h.start h.end && not (is_round at len h)) (list_any (λ g. shares_address at len g.start g.end && not (is_round at len g)) hs) none in
     rw (crossed_round at len h some parts.0, all_crossed_round at len hs some parts.1) refl
 
 pub innermost_tells : (s : Store) → IsSound s
-    → ((a : ℕ) → is_other (payload_of s.heaps a) ≡ told_by (λ h. is_other (payload_in h a)) (last_of (λ h. in_range h.start h.end a) s.heaps))
-    × ((at len : ℕ) → 0 < len → list_any (λ h. meets at len h.start h.end && not (is_round at len h)) s.heaps ≡ false
-    → list_any (is_crossed at len) s.heaps ≡ told_by (λ h. not (holds_range (h.start + 16) h.items at len)) (innermost at len s.heaps))
+    → ((a : ℕ) → is_other (payload_of s.heaps a) ≡ passes_if_there (λ h. is_other (payload_in h a)) (last_of (λ h. in_range h.start h.end a) s.heaps))
+    × ((at len : ℕ) → 0 < len → list_any (λ h. shares_address at len h.start h.end && not (is_round at len h)) s.heaps ≡ false
+    → list_any (is_crossed at len) s.heaps ≡ passes_if_there (λ h. not (holds_range (h.start + 16) h.items at len)) (innermost_heap at len s.heaps))
 innermost_tells s sound = (
   λ a. others_any s.heaps a ∙ last_tells (λ h. in_range h.start h.end a) (λ h. is_other (payload_in h a)) s.heaps (bytes_nested s.bytes a s.heaps sound.heaps),
   λ at len some none. all_crossed_round at len s.heaps some none

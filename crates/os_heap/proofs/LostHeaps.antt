@@ -6,7 +6,7 @@ use Rattle.address_map.specs.Bytes.{Bytes, in_range, word_start}
 use Rattle.address_map.specs.Items.{is_heap_word, size_of}
 use Rattle.address_map.specs.declared.item.Item.{Item}
 use Rattle.os_heap_lists.proofs.HeadWords.{byte_inside}
-use Rattle.os_heap_lists.proofs.LiveBlocks.{LiveBytes, live_bytes}
+use Rattle.os_heap_lists.proofs.LiveBlocks.{LiveBytes, law_live_bytes}
 use Rattle.os_heap_lists.proofs.Payloads.{payload_unspelled}
 use Rattle.os_heap_lists.specs.Heap.{HeapList, IsHeapIn}
 use Rattle.os_heap_lists.specs.Lists.{live_total}
@@ -16,7 +16,7 @@ use Rattle.os_heap.proofs.Forgetting.{AreAbove, AreFound, IsAbove, IsIn, StartsI
 use Rattle.os_heap.proofs.Found.{found_heap}
 use Rattle.os_heap.proofs.Nesting.{KeepsHeaps, within_low, within_unspelled}
 use Rattle.os_heap.proofs.Stores.{are_others}
-use Rattle.os_heap.specs.Forgetting.{forgot, holds_heap, lowest_lost, starts_in, without_heaps}
+use Rattle.os_heap.specs.Forgetting.{store_after_forget, holds_heap, lowest_lost, starts_in, without_heaps_in}
 use Rattle.os_heap.specs.Nesting.{IsWithin}
 use Rattle.os_heap.specs.Store.{AreHeapsIn, IsSound, Store, find_heap}
 
@@ -57,7 +57,7 @@ kept_within b h g block total from low items heap other live above kept keeps w 
     high = w.high;
   }
   | inl same ↦
-      let lies : LiveBytes block total (h.start + 16) (h.start + 16 + size_of h.items) = live_bytes block total (h.start + 16) h.items heap.totals live in
+      let lies : LiveBytes block total (h.start + 16) (h.start + 16 + size_of h.items) = law_live_bytes block total (h.start + 16) h.items heap.totals live in
       let both : Some w.total ≡ Some total = sym (subst (λ (x : ℕ). live_total x (h.start + 16) h.items ≡ Some w.total) same w.live) ∙ live in
       let size : w.total ≡ total = cc in
       let starts : StartsIn block (total - 4) g =
@@ -69,10 +69,10 @@ kept_within b h g block total from low items heap other live above kept keeps w 
 
 left_keeps : (b : Bytes) (h : HeapList) (block total from low : ℕ) (items : List Item) (hs : List HeapList) → IsHeapIn b h.start h.end h.items
     → AreHeapsIn b hs → live_total block (h.start + 16) h.items ≡ Some total → AreAbove low block (total - 4) from hs → KeepsBlocks h items block from
-    → KeepsHeaps h items (without_heaps low (block - 4 + total - low) hs)
+    → KeepsHeaps h items (without_heaps_in low (block - 4 + total - low) hs)
 left_keeps b h block total from low items [] heap parts live above keeps = tt
 left_keeps b h block total from low items (g ∷ hs) heap parts live above keeps =
-    let rest : KeepsHeaps h items (without_heaps low (block - 4 + total - low) hs) =
+    let rest : KeepsHeaps h items (without_heaps_in low (block - 4 + total - low) hs) =
     left_keeps b h block total from low items hs heap parts.1.1 live above.1 keeps in
     elim (cases_Bool (starts_in low (block - 4 + total - low) g)) [
       | inl gone ↦ rw gone rest
@@ -80,14 +80,14 @@ left_keeps b h block total from low items (g ∷ hs) heap parts live above keeps
     ]
 
 pub forgot_keeps : (s : Store) (h : HeapList) (block total from : ℕ) (items : List Item) → IsSound s → find_heap h.start s.heaps ≡ Some h
-    → live_total block (h.start + 16) h.items ≡ Some total → KeepsBlocks h items block from → KeepsHeaps h items (forgot s block total from).heaps
+    → live_total block (h.start + 16) h.items ≡ Some total → KeepsBlocks h items block from → KeepsHeaps h items (store_after_forget s block total from).heaps
 forgot_keeps s h block total from items sound found live keeps =
     let low : ℕ = lowest_lost block (total - 4) from s.heaps in
     left_keeps s.bytes h block total from low items s.heaps (found_heap s.bytes h.start s.heaps h sound.heaps found) sound.heaps live
     (are_above low block (total - 4) from s.heaps (omega arith)) keeps
 
 -- a range in which no heap starts
-pub none_without : (at len : ℕ) (hs : List HeapList) → holds_heap hs at len ≡ false → without_heaps at len hs ≡ hs
+pub none_without : (at len : ℕ) (hs : List HeapList) → holds_heap hs at len ≡ false → without_heaps_in at len hs ≡ hs
 none_without at len [] none = refl
 none_without at len (g ∷ hs) none =
     let parts = or_parts (starts_in at len g) (list_any (starts_in at len) hs) none in
@@ -102,7 +102,7 @@ none_lowest block len from (g ∷ hs) none =
 pub same_heaps : (s : Store) (hs : List HeapList) → hs ≡ s.heaps → (let t : Store = record s { heaps = hs } in t ≡ s)
 same_heaps s hs same = λ i. record s { heaps = same i }
 
-pub forgot_none : (s : Store) (block total : ℕ) → 4 ≤ block → holds_heap s.heaps block (total - 4) ≡ false → 4 ≤ total → forgot s block total block ≡ s
+pub forgot_none : (s : Store) (block total : ℕ) → 4 ≤ block → holds_heap s.heaps block (total - 4) ≡ false → 4 ≤ total → store_after_forget s block total block ≡ s
 forgot_none s block total above none some =
     let low : lowest_lost block (total - 4) block s.heaps ≡ block = none_lowest block (total - 4) block s.heaps none in
     let len : block - 4 + total - block ≡ total - 4 = omega (arith, above, some) in
@@ -121,7 +121,7 @@ held_some at len hs held = elim (cases_lt 0 len) [
       absurd (both_ways (holds_heap hs at 0) (empty_none at hs) (subst (λ (n : ℕ). holds_heap hs at n ≡ true) empty held))
 ]
 
-pub forgot_empty : (s : Store) (block : ℕ) → forgot s block 0 block ≡ s
+pub forgot_empty : (s : Store) (block : ℕ) → store_after_forget s block 0 block ≡ s
 forgot_empty s block =
     let low : lowest_lost block 0 block s.heaps ≡ block = none_lowest block 0 block s.heaps (empty_none block s.heaps) in
     let len : block - 4 + 0 - block ≡ 0 = omega arith in
@@ -137,10 +137,10 @@ found_in_block s h g block total sound found live found' starts =
 
 -- where nothing is given up nothing is forgotten
 pub forgot_beyond : (s : Store) (h : HeapList) (block total from : ℕ) → IsSound s → find_heap h.start s.heaps ≡ Some h
-    → live_total block (h.start + 16) h.items ≡ Some total → block - 4 + total ≤ from → forgot s block total from ≡ s
+    → live_total block (h.start + 16) h.items ≡ Some total → block - 4 + total ≤ from → store_after_forget s block total from ≡ s
 forgot_beyond s h block total from sound found live past =
     let heap : IsHeapIn s.bytes h.start h.end h.items = found_heap s.bytes h.start s.heaps h sound.heaps found in
-    let lies : LiveBytes block total (h.start + 16) (h.start + 16 + size_of h.items) = live_bytes block total (h.start + 16) h.items heap.totals live in
+    let lies : LiveBytes block total (h.start + 16) (h.start + 16 + size_of h.items) = law_live_bytes block total (h.start + 16) h.items heap.totals live in
     let low : lowest_lost block (total - 4) from s.heaps ≡ from = elim (lowest_found s.bytes block (total - 4) from s.heaps sound.heaps) [
       | inl same ↦ same
       | inr lowest ↦
@@ -160,7 +160,7 @@ kept_below s h g block total from sound found live found' starts kept =
     let low : ℕ = lowest_lost block (total - 4) from s.heaps in
     let heap : IsHeapIn b h.start h.end h.items = found_heap b h.start s.heaps h sound.heaps found in
     let other : IsHeapIn b g.start g.end g.items = found_heap b g.start s.heaps g sound.heaps found' in
-    let lies : LiveBytes block total (h.start + 16) (h.start + 16 + size_of h.items) = live_bytes block total (h.start + 16) h.items heap.totals live in
+    let lies : LiveBytes block total (h.start + 16) (h.start + 16 + size_of h.items) = law_live_bytes block total (h.start + 16) h.items heap.totals live in
     let above : IsAbove low block (total - 4) from g =
     above_found low block (total - 4) from g.start s.heaps g (are_above low block (total - 4) from s.heaps (omega arith)) found' in
     let ends : g.start + g.end ≤ from = kept_ends block total from low g (omega (arith, lies.low)) lies.size above starts kept in
@@ -208,7 +208,7 @@ kept_unspelled s h g block total from a sound found live past found' kept inside
     let low : ℕ = lowest_lost block (total - 4) from s.heaps in
     let heap : IsHeapIn b h.start h.end h.items = found_heap b h.start s.heaps h sound.heaps found in
     let other : IsHeapIn b g.start g.end g.items = found_heap b g.start s.heaps g sound.heaps found' in
-    let lies : LiveBytes block total (h.start + 16) (h.start + 16 + size_of h.items) = live_bytes block total (h.start + 16) h.items heap.totals live in
+    let lies : LiveBytes block total (h.start + 16) (h.start + 16 + size_of h.items) = law_live_bytes block total (h.start + 16) h.items heap.totals live in
     let least : block ≤ low = lowest_least block (total - 4) from s.heaps past in
     let parts : (low ≤ a) × (a < low + (block - 4 + total - low)) = range_parts low (block - 4 + total - low) a inside in
     let high : a < block + (total - 4) = omega (arith, parts.0, parts.1, lies.low, lies.size) in
@@ -249,7 +249,7 @@ lost_inside s h g block total from a sound found live past found' gone outside =
     let low : ℕ = lowest_lost block (total - 4) from s.heaps in
     let heap : IsHeapIn b h.start h.end h.items = found_heap b h.start s.heaps h sound.heaps found in
     let other : IsHeapIn b g.start g.end g.items = found_heap b g.start s.heaps g sound.heaps found' in
-    let lies : LiveBytes block total (h.start + 16) (h.start + 16 + size_of h.items) = live_bytes block total (h.start + 16) h.items heap.totals live in
+    let lies : LiveBytes block total (h.start + 16) (h.start + 16 + size_of h.items) = law_live_bytes block total (h.start + 16) h.items heap.totals live in
     let least : block ≤ low = lowest_least block (total - 4) from s.heaps past in
     let range : StartsIn low (block - 4 + total - low) g = starts_so low (block - 4 + total - low) g gone in
     let starts : StartsIn block (total - 4) g =
@@ -264,15 +264,15 @@ lost_inside s h g block total from a sound found live past found' gone outside =
 none_spelled : (s : Store) (h : HeapList) (block total from a : ℕ) (hs : List HeapList) → IsSound s → find_heap h.start s.heaps ≡ Some h
     → live_total block (h.start + 16) h.items ≡ Some total → block ≤ from → AreFound s.heaps hs
     → (let low : ℕ = lowest_lost block (total - 4) from s.heaps in
-    in_range low (block - 4 + total - low) a ≡ true → spells_any (without_heaps low (block - 4 + total - low) hs) (word_start a) ≡ false)
+    in_range low (block - 4 + total - low) a ≡ true → spells_any (without_heaps_in low (block - 4 + total - low) hs) (word_start a) ≡ false)
 none_spelled s h block total from a [] sound found live past all inside = refl
 none_spelled s h block total from a (g ∷ hs) sound found live past all inside =
     let low : ℕ = lowest_lost block (total - 4) from s.heaps in
     let len : ℕ = block - 4 + total - low in
-    let rest : spells_any (without_heaps low len hs) (word_start a) ≡ false = none_spelled s h block total from a hs sound found live past all.1 inside in
+    let rest : spells_any (without_heaps_in low len hs) (word_start a) ≡ false = none_spelled s h block total from a hs sound found live past all.1 inside in
     elim (cases_Bool (starts_in low len g)) [
       | inl gone ↦ rw gone rest
-      | inr kept ↦ rw kept (or_from (is_heap_word g.start g.items (word_start a)) (spells_any (without_heaps low len hs) (word_start a))
+      | inr kept ↦ rw kept (or_from (is_heap_word g.start g.items (word_start a)) (spells_any (without_heaps_in low len hs) (word_start a))
           (kept_unspelled s h g block total from a sound found live past all.0 kept inside) rest)
     ]
 
@@ -280,12 +280,12 @@ same_spelled : (s : Store) (h : HeapList) (block total from a : ℕ) (hs : List 
     → live_total block (h.start + 16) h.items ≡ Some total → block ≤ from → AreFound s.heaps hs
     → (let low : ℕ = lowest_lost block (total - 4) from s.heaps in
     in_range low (block - 4 + total - low) a ≡ false
-    → spells_any (without_heaps low (block - 4 + total - low) hs) (word_start a) ≡ spells_any hs (word_start a))
+    → spells_any (without_heaps_in low (block - 4 + total - low) hs) (word_start a) ≡ spells_any hs (word_start a))
 same_spelled s h block total from a [] sound found live past all outside = refl
 same_spelled s h block total from a (g ∷ hs) sound found live past all outside =
     let low : ℕ = lowest_lost block (total - 4) from s.heaps in
     let len : ℕ = block - 4 + total - low in
-    let rest : spells_any (without_heaps low len hs) (word_start a) ≡ spells_any hs (word_start a) =
+    let rest : spells_any (without_heaps_in low len hs) (word_start a) ≡ spells_any hs (word_start a) =
     same_spelled s h block total from a hs sound found live past all.1 outside in
     elim (cases_Bool (starts_in low len g)) [
       | inl gone ↦ rw (gone, lost_inside s h g block total from a sound found live past all.0 gone outside) rest
@@ -296,13 +296,13 @@ same_spelled s h block total from a (g ∷ hs) sound found live past all outside
 pub forgot_unspelled : (s : Store) (h : HeapList) (block total from a : ℕ) → IsSound s → find_heap h.start s.heaps ≡ Some h
     → live_total block (h.start + 16) h.items ≡ Some total → block ≤ from
     → (let low : ℕ = lowest_lost block (total - 4) from s.heaps in
-    in_range low (block - 4 + total - low) a ≡ true → spells_any (forgot s block total from).heaps (word_start a) ≡ false)
+    in_range low (block - 4 + total - low) a ≡ true → spells_any (store_after_forget s block total from).heaps (word_start a) ≡ false)
 forgot_unspelled s h block total from a sound found live past inside =
     none_spelled s h block total from a s.heaps sound found live past (are_found s.bytes s.heaps sound.heaps) inside
 
 pub forgot_spelled : (s : Store) (h : HeapList) (block total from a : ℕ) → IsSound s → find_heap h.start s.heaps ≡ Some h
     → live_total block (h.start + 16) h.items ≡ Some total → block ≤ from
     → (let low : ℕ = lowest_lost block (total - 4) from s.heaps in
-    in_range low (block - 4 + total - low) a ≡ false → spells_any (forgot s block total from).heaps (word_start a) ≡ spells_any s.heaps (word_start a))
+    in_range low (block - 4 + total - low) a ≡ false → spells_any (store_after_forget s block total from).heaps (word_start a) ≡ spells_any s.heaps (word_start a))
 forgot_spelled s h block total from a sound found live past outside =
     same_spelled s h block total from a s.heaps sound found live past (are_found s.bytes s.heaps sound.heaps) outside

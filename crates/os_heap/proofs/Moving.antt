@@ -16,12 +16,12 @@ use Rattle.address_map.specs.declared.region.Kind.{Kind}
 use Rattle.os_heap_lists.proofs.HeadWords.{byte_inside, are_owned}
 use Rattle.os_heap_lists.proofs.LinkWalk.{below_few}
 use Rattle.os_heap_lists.proofs.ClaimedLists.{IsUnheld, claim_unheld}
-use Rattle.os_heap_lists.proofs.LiveBlocks.{claim_fresh, claim_still, IsFresh, IsStill, LiveBytes, live_apart, live_bytes}
+use Rattle.os_heap_lists.proofs.LiveBlocks.{claim_fresh, claim_still, IsFresh, IsStill, LiveBytes, live_apart, law_live_bytes}
 use Rattle.os_heap_lists.proofs.Payloads.{payload_unspelled}
 use Rattle.os_heap_lists.proofs.Reading.{items_in-heap}
 use Rattle.os_heap_lists.specs.Counts.{looked_at, free_below}
 use Rattle.os_heap_lists.specs.Heap.{AreTotals, HeapList, IsHeapIn}
-use Rattle.os_heap_lists.specs.Lists.{Claim, claimed, live_total, released}
+use Rattle.os_heap_lists.specs.Lists.{Claim, claim_in_items, live_total, items_after_release}
 use Rattle.os_heap.proofs.Apart.{range_parts}
 use Rattle.os_heap.proofs.Calls.{part_at, heap_there, free_given, IsHeld, is_held, store_anchor}
 use Rattle.os_heap.proofs.ForgetLemmas.{forgets_unheld}
@@ -31,7 +31,7 @@ use Rattle.os_heap_words.proofs.Replace.{heap_below}
 use Rattle.os_heap_words.proofs.Searching.{looked-below}
 use Rattle.os_heap.proofs.Nesting.{keeps_by_blocks, within_unspelled}
 use Rattle.os_heap.proofs.Stores.{AreOthers, are_others}
-use Rattle.os_heap.specs.Calls.{holds_anchor, copied, moved, handed_over, holding, with_items, gave_back}
+use Rattle.os_heap.specs.Calls.{holds_anchor, store_after_copy, store_after_move, handed_over, store_holding, heaps_with_items, gave_back}
 use Rattle.os_heap.specs.Probes.{move_probes}
 use Rattle.os_heap.specs.Forgetting.{holds_heap, starts_in}
 use Rattle.os_heap.specs.Nesting.{IsWithin, StandsApart}
@@ -87,7 +87,7 @@ made m n start end new (Some c) claims =
 pub record IsClaimed (m n : AddressMap) (kind : Kind) (heap block total needed new : ℕ) : Type 0 where
   pub claim : Claim
   pub found : find_heap heap (store_of m).heaps ≡ Some (part_at kind m heap (end_at m heap))
-  pub claims : claimed needed (end_at m heap - 16) (items_at m heap) ≡ Some claim
+  pub claims : claim_in_items needed (end_at m heap - 16) (items_at m heap) ≡ Some claim
   pub place : new ≡ heap + 16 + claim.offset + 4
   pub heap_then : IsHeapIn (bytes_of n) heap (end_at m heap) claim.items
   pub below : heap + end_at m heap ≤ 2 ^ 26
@@ -97,13 +97,13 @@ pub record IsClaimed (m n : AddressMap) (kind : Kind) (heap block total needed n
   pub keeps : (a t : ℕ) → live_total a (heap + 16) (items_at m heap) ≡ Some t → live_total a (heap + 16) claim.items ≡ Some t
   pub unheld : is_some (live_total new (heap + 16) (items_at m heap)) ≡ false
   pub old : IsSound (store_of m)
-  pub store : store_of n ≡ holding (store_of m) (part_at kind m heap (end_at m heap)) claim.items
+  pub store : store_of n ≡ store_holding (store_of m) (part_at kind m heap (end_at m heap)) claim.items
   pub sound : IsSound (store_of n)
   pub classes : AreClasses n
 
 pub is_claimed : (m n : AddressMap) (heap block total needed new : ℕ) (answer : Result ℕ ErrorNumber) (p : HasPart heap (store_of m).heaps)
     → IsSound (store_of m) → AreClasses m → live_total block (heap + 16) (items_at m heap) ≡ Some total
-    → Claims m n heap (end_at m heap) answer (claimed needed (end_at m heap - 16) (items_at m heap)) → answer ≡ Ok new
+    → Claims m n heap (end_at m heap) answer (claim_in_items needed (end_at m heap - 16) (items_at m heap)) → answer ≡ Ok new
     → IsClaimed m n p.part.kind heap block total needed new
 is_claimed m n heap block total needed new answer p sound classes live claims ok =
     let end : ℕ = end_at m heap in
@@ -111,8 +111,8 @@ is_claimed m n heap block total needed new answer p sound classes live claims ok
     let kind : Kind = p.part.kind in
     let found : find_heap heap (store_of m).heaps ≡ Some (part_at kind m heap end) = p.found ∙ ap Some (part_known m heap p.part sound p.found) in
     let there : HasHeapAt m heap = heap_there kind m heap end sound found in
-    let b : Made m n heap end new (claimed needed (end - 16) items) = made m n heap end new (claimed needed (end - 16) items)
-    (subst (λ (a : Result ℕ ErrorNumber). Claims m n heap end a (claimed needed (end - 16) items)) ok claims) in
+    let b : Made m n heap end new (claim_in_items needed (end - 16) items) = made m n heap end new (claim_in_items needed (end - 16) items)
+    (subst (λ (a : Result ℕ ErrorNumber). Claims m n heap end a (claim_in_items needed (end - 16) items)) ok claims) in
     let fresh : IsFresh needed (heap + 16) (Some b.claim) = subst (IsFresh needed (heap + 16)) b.is (claim_fresh needed (end - 16) (heap + 16) items there.totals) in
     let still : IsStill block total (heap + 16) (Some b.claim) =
     subst (IsStill block total (heap + 16)) b.is (claim_still needed (end - 16) block total (heap + 16) items live there.totals) in
@@ -154,9 +154,9 @@ pub are_inside : (m n : AddressMap) (kind : Kind) (heap block total needed new :
     → AreInside m n heap block total needed new
 are_inside m n kind heap block total needed new larger c =
     let from : LiveBytes block total (heap + 16) (heap + 16 + size_of c.claim.items) =
-    live_bytes block total (heap + 16) c.claim.items c.heap_then.totals c.still in
+    law_live_bytes block total (heap + 16) c.claim.items c.heap_then.totals c.still in
     let to : LiveBytes new needed (heap + 16) (heap + 16 + size_of c.claim.items) =
-    live_bytes new needed (heap + 16) c.claim.items c.heap_then.totals c.fresh in
+    law_live_bytes new needed (heap + 16) c.claim.items c.heap_then.totals c.fresh in
     let inside : 16 + size_of c.claim.items ≤ end_at m heap = c.heap_then.inside in
     record {
       least = omega (arith, from.size);
@@ -172,18 +172,18 @@ new_unowned : (b : Bytes) (h : HeapList) (items : List Item) (new needed a : ℕ
     → ((other t : ℕ) → live_total other (h.start + 16) h.items ≡ Some t → live_total other (h.start + 16) items ≡ Some t)
     → live_total new (h.start + 16) items ≡ Some needed → is_some (live_total new (h.start + 16) h.items) ≡ false
     → new ≤ a → a < new + (needed - 4) → in_range h.start h.end a ≡ true → AreHeapsIn b hs → AreOthers h hs
-    → are_owned (with_items h.start items hs) a ≡ false
+    → are_owned (heaps_with_items h.start items hs) a ≡ false
 new_unowned b h items new needed a [] heap totals still fresh unheld low high inside parts others = refl
 new_unowned b h items new needed a (g ∷ hs) heap totals still fresh unheld low high inside parts others =
-    let rest : are_owned (with_items h.start items hs) a ≡ false =
+    let rest : are_owned (heaps_with_items h.start items hs) a ≡ false =
     new_unowned b h items new needed a hs heap totals still fresh unheld low high inside parts.1.1 others.1 in
     elim others.0 [
       | inl same ↦
           let start : g.start ≡ h.start = ap (λ (x : HeapList). x.start) same in
-          rw (eq-eqb g.start h.start start) (or_from (is_heap_word g.start items (word_start a)) (are_owned (with_items h.start items hs) a)
+          rw (eq-eqb g.start h.start start) (or_from (is_heap_word g.start items (word_start a)) (are_owned (heaps_with_items h.start items hs) a)
           (rw start (payload_unspelled h.start items new needed a heap.aligned totals fresh low high)) rest)
       | inr apart ↦
-          rw (ne_eqb g.start h.start apart.0) (or_from (is_heap_word g.start g.items (word_start a)) (are_owned (with_items h.start items hs) a)
+          rw (ne_eqb g.start h.start apart.0) (or_from (is_heap_word g.start g.items (word_start a)) (are_owned (heaps_with_items h.start items hs) a)
           (beside_new apart.1) rest)
     ] where
       in_new : IsWithin h g → in_range g.start g.end a ≡ true → ⊥
@@ -192,7 +192,7 @@ new_unowned b h items new needed a (g ∷ hs) heap totals still fresh unheld low
           let other : within.block ≢ new = λ (e : within.block ≡ new).
           false≢true (sym unheld ∙ ap is_some (subst (λ (x : ℕ). live_total x (h.start + 16) h.items ≡ Some within.total) e within.live)) in
           let place : LiveBytes within.block within.total (h.start + 16) (h.start + 16 + size_of items) =
-          live_bytes within.block within.total (h.start + 16) items totals (still within.block within.total within.live) in
+          law_live_bytes within.block within.total (h.start + 16) items totals (still within.block within.total within.live) in
           elim (live_apart within.block within.total new needed (h.start + 16) items totals (still within.block within.total within.live) fresh other) [
             | inl before ↦ omega (arith, before, byte.1, within.high, low)
             | inr behind ↦ omega (arith, behind, byte.0, within.low, high)
@@ -206,7 +206,7 @@ new_unowned b h items new needed a (g ∷ hs) heap totals still fresh unheld low
 
 -- the same heap is found after it got another list
 pub found_held : (start : ℕ) (items : List Item) (hs : List HeapList) (h : HeapList) → find_heap start hs ≡ Some h
-    → (let p : HeapList = record { kind = h.kind; start = h.start; end = h.end; items = items } in find_heap start (with_items start items hs) ≡ Some p)
+    → (let p : HeapList = record { kind = h.kind; start = h.start; end = h.end; items = items } in find_heap start (heaps_with_items start items hs) ≡ Some p)
 found_held start items [] h e = absurd (let none : None ≡ Some h = e in cc)
 found_held start items (g ∷ hs) h e = elim (cases_Bool (g.start == start)) [
   | inl here ↦
@@ -237,7 +237,7 @@ payload_free m n kind heap block total needed new a larger c low high =
 
 -- what is so when the bytes are copied
 pub record IsCopied (m n p : AddressMap) (kind : Kind) (heap block total needed new : ℕ) (claim : Claim) : Type 0 where
-  pub store : store_of p ≡ copied (holding (store_of m) (part_at kind m heap (end_at m heap)) claim.items) block new (total - 4)
+  pub store : store_of p ≡ store_after_copy (store_holding (store_of m) (part_at kind m heap (end_at m heap)) claim.items) block new (total - 4)
   pub sound : IsSound (store_of p)
   pub classes : AreClasses p
   pub there : HasHeapAt p heap
@@ -257,9 +257,9 @@ is_copied m n p kind heap block total needed new larger c same bytes marks =
       | inl r ↦ absurd (both_ways (are_owned (store_of n).heaps a) (payload_free m n kind heap block total needed new a larger c r.1 r.2) owned)
       | inr r ↦ rw r.0 refl
     ]) in
-    let moved_bytes : bytes_of p ≡ (copied (store_of n) block new (total - 4)).bytes =
+    let moved_bytes : bytes_of p ≡ (store_after_copy (store_of n) block new (total - 4)).bytes =
     stored_moved n p block new (total - 4) same bytes ∙ ap (λ (b : Bytes). let c : Bytes = record { mapped = b.mapped; at = with_moved_at b.at block new (total - 4) } in c) (sym (store_bytes n)) in
-    let store : store_of p ≡ copied (store_of n) block new (total - 4) = kept.store ∙ store_bytes-same _ _ (store_of n) moved_bytes in
+    let store : store_of p ≡ store_after_copy (store_of n) block new (total - 4) = kept.store ∙ store_bytes-same _ _ (store_of n) moved_bytes in
     let part : HeapList = record { kind = kind; start = heap; end = end_at m heap; items = c.claim.items } in
     let found : find_heap heap (store_of p).heaps ≡ Some part =
     ap (λ (s : Store). find_heap heap s.heaps) kept.store ∙ claim_part m n kind heap block total needed new c in
@@ -267,7 +267,7 @@ is_copied m n p kind heap block total needed new larger c same bytes marks =
     let items : items_at p heap ≡ c.claim.items = sym (ap (λ (x : HeapList). x.items) known) in
     let found' : find_heap heap (store_of p).heaps ≡ Some (part_at kind p heap (end_at p heap)) = found ∙ ap Some known in
     record {
-      store = store ∙ ap (λ (s : Store). copied s block new (total - 4)) c.store;
+      store = store ∙ ap (λ (s : Store). store_after_copy s block new (total - 4)) c.store;
       sound = kept.sound;
       classes = classes_same n p (ap (λ (s : Store). s.heaps) kept.store) (λ a i. marks i a) c.classes;
       there = heap_there kind p heap (end_at p heap) kept.sound found';
@@ -282,14 +282,14 @@ then_given s t (Ok x) n left u = (left.0, refl)
 then_given s t (Err e) n left u = absurd left
 
 pub record IsMoved (m q : AddressMap) (heap block total needed new : ℕ) : Type 0 where
-  pub store : (h : HeapList) → find_heap heap (store_of m).heaps ≡ Some h → Gives (store_of m) (moved (store_of m) h block total needed) (Ok new) (store_of q)
+  pub store : (h : HeapList) → find_heap heap (store_of m).heaps ≡ Some h → Gives (store_of m) (store_after_move (store_of m) h block total needed) (Ok new) (store_of q)
   pub kept : KeepsRest m q
 
 -- a claim leaves the starts of all heaps
-pub held_listed : (start at len : ℕ) (items : List Item) (hs : List HeapList) → holds_heap (with_items start items hs) at len ≡ holds_heap hs at len
+pub held_listed : (start at len : ℕ) (items : List Item) (hs : List HeapList) → holds_heap (heaps_with_items start items hs) at len ≡ holds_heap hs at len
 held_listed start at len items [] = refl
 held_listed start at len items (g ∷ hs) =
-    let rest : holds_heap (with_items start items hs) at len ≡ holds_heap hs at len = held_listed start at len items hs in
+    let rest : holds_heap (heaps_with_items start items hs) at len ≡ holds_heap hs at len = held_listed start at len items hs in
     elim (cases_Bool (g.start == start)) [
       | inl here ↦ rw here (ap (λ (t : Bool). starts_in at len g || t) rest)
       | inr other ↦ rw other (ap (λ (t : Bool). starts_in at len g || t) rest)
@@ -298,7 +298,7 @@ held_listed start at len items (g ∷ hs) =
 pub is_moved : (m n p q : AddressMap) (kind : Kind) (heap block total needed new : ℕ) (c : IsClaimed m n kind heap block total needed new)
     → IsCopied m n p kind heap block total needed new c.claim → layout p ≡ layout n
     → has_image block (regions p) ≡ false → holds_anchor (store_of m).anchor block (Some total) ≡ false
-    → holds_heap (store_of m).heaps block (total - 4) ≡ false → Releases p q heap (end_at p heap) (Ok tt) (released block (heap + 16) (items_at p heap))
+    → holds_heap (store_of m).heaps block (total - 4) ≡ false → Releases p q heap (end_at p heap) (Ok tt) (items_after_release block (heap + 16) (items_at p heap))
     → IsMoved m q heap block total needed new
 is_moved m n p q kind heap block total needed new c d same own free empty releases =
     let live : live_total block (heap + 16) (items_at p heap) ≡ Some total =
@@ -312,16 +312,16 @@ is_moved m n p q kind heap block total needed new c d same own free empty releas
     let empty' : holds_heap (store_of p).heaps block (total - 4) ≡ false =
     ap (λ (t : Store). holds_heap t.heaps block (total - 4)) d.store ∙ held_listed heap block (total - 4) c.claim.items s.heaps ∙ empty in
     let left = free_given kind p p q heap block (end_at p heap) total state d.found own live free' (forgets_unheld p block total state here empty') releases in
-    let back : Gives (store_of p) (gave_back (copied (holding s part c.claim.items) block new (total - 4)) heap block) (Ok tt) (store_of q) =
+    let back : Gives (store_of p) (gave_back (store_after_copy (store_holding s part c.claim.items) block new (total - 4)) heap block) (Ok tt) (store_of q) =
     subst (λ (t : Store). Gives (store_of p) (gave_back t heap block) (Ok tt) (store_of q)) d.store left.0 in
-    let over : Gives s (handed_over heap block (total - 4) (holding s part c.claim.items) new) (Ok new) (store_of q) =
+    let over : Gives s (handed_over heap block (total - 4) (store_holding s part c.claim.items) new) (Ok new) (store_of q) =
     then_given (store_of p) (store_of q) _ new back s in
-    let given : Gives s (moved s part block total needed) (Ok new) (store_of q) =
-    rw (c.claims, empty) (subst (λ (a : ℕ). Gives s (handed_over heap block (total - 4) (holding s part c.claim.items) a) (Ok new) (store_of q)) c.place over) in
+    let given : Gives s (store_after_move s part block total needed) (Ok new) (store_of q) =
+    rw (c.claims, empty) (subst (λ (a : ℕ). Gives s (handed_over heap block (total - 4) (store_holding s part c.claim.items) a) (Ok new) (store_of q)) c.place over) in
     let layout_same : layout p ≡ layout m = same ∙ c.same in
     record {
       store = λ h found. let e : Some part ≡ Some h = sym c.found ∙ found in let same : part ≡ h = cc in
-          subst (λ (x : HeapList). Gives s (moved s x block total needed) (Ok new) (store_of q)) same given;
+          subst (λ (x : HeapList). Gives s (store_after_move s x block total needed) (Ok new) (store_of q)) same given;
       kept = record {
         sound = left.1.sound;
         classes = left.1.classes;
@@ -335,16 +335,16 @@ pub moved_probes : (m n p : AddressMap) (kind : Kind) (heap block total needed n
     → IsCopied m n p kind heap block total needed new c.claim → holds_heap (store_of m).heaps block (total - 4) ≡ false
     → find_heap heap (store_of m).heaps ≡ Some h
     → looked_at needed (items_at m heap) + free_below block (heap + 16) (items_at p heap)
-    ≡ move_probes (store_of m) h block total needed (claimed needed (h.end - 16) h.items)
+    ≡ move_probes (store_of m) h block total needed (claim_in_items needed (h.end - 16) h.items)
 moved_probes m n p kind heap block total needed new h c d empty found =
     let part : HeapList = part_at kind m heap (end_at m heap) in
     let e : Some part ≡ Some h = sym c.found ∙ found in
     let same : part ≡ h = cc in
     let probes : looked_at needed (items_at m heap) + free_below block (heap + 16) (items_at p heap)
-    ≡ move_probes (store_of m) part block total needed (claimed needed (end_at m heap - 16) (items_at m heap)) =
+    ≡ move_probes (store_of m) part block total needed (claim_in_items needed (end_at m heap - 16) (items_at m heap)) =
     rw (c.claims, d.items, empty) refl in
     subst (λ (x : HeapList). looked_at needed (items_at m heap) + free_below block (heap + 16) (items_at p heap)
-    ≡ move_probes (store_of m) x block total needed (claimed needed (x.end - 16) x.items)) same probes
+    ≡ move_probes (store_of m) x block total needed (claim_in_items needed (x.end - 16) x.items)) same probes
 
 pub probes_fit : (m n p : AddressMap) (kind : Kind) (heap block total needed new : ℕ) (c : IsClaimed m n kind heap block total needed new)
     → IsCopied m n p kind heap block total needed new c.claim → HasHeapAt m heap

@@ -5,7 +5,7 @@ use Rattle.address_map.specs.Bytes.{Bytes, in_range, word_start}
 use Rattle.address_map.specs.Items.{is_heap_word, size_of}
 use Rattle.address_map.specs.declared.item.Item.{Item}
 use Rattle.os_heap_lists.proofs.HeadWords.{byte_inside}
-use Rattle.os_heap_lists.proofs.LiveBlocks.{LiveBytes, live_bytes}
+use Rattle.os_heap_lists.proofs.LiveBlocks.{LiveBytes, law_live_bytes}
 use Rattle.os_heap_lists.proofs.Payloads.{payload_unspelled}
 use Rattle.os_heap_lists.specs.Heap.{HeapList, IsHeapIn}
 use Rattle.os_heap_lists.specs.Lists.{live_total}
@@ -30,7 +30,7 @@ pub within_low : (b : Bytes) (h g : HeapList) → IsHeapIn b h.start h.end h.ite
     → (h.start + 20 ≤ g.start) × (g.start + g.end ≤ h.start + h.end)
 within_low b h g heap within =
     let place : LiveBytes within.block within.total (h.start + 16) (h.start + 16 + size_of h.items) =
-    live_bytes within.block within.total (h.start + 16) h.items heap.totals within.live in
+    law_live_bytes within.block within.total (h.start + 16) h.items heap.totals within.live in
     (omega (arith, place.low, within.low), omega (arith, place.high, within.high, heap.inside))
 
 -- no byte of its range is in a word that the heap round it spells

@@ -2,7 +2,7 @@
 use Rattle.std.proofs.Common.{List, ℕ, [], ◌∷◌, ◌≡◌, ◌+◌, ◌<◌, ◌&&◌, ◌||◌, ◌∙◌, Bool, Option, cond, not, true, false, leb, ltb, refl, sym, ap, inl, inr, arith}
 use Rattle.std.proofs.lemmas.Bool.{both_ways, cases_Bool, and_parts, or_left, or_right, or_parts, false_from_ne_true, le-leb, lt-ltb, ltb-true, ltb-false}
 use Rattle.std.specs.List.{list_any}
-use Rattle.address_map.specs.Bytes.{Bytes, in_range, meets}
+use Rattle.address_map.specs.Bytes.{Bytes, in_range, shares_address}
 use Rattle.address_map.specs.Memory.{anchor_of, bytes_of, regions}
 use Rattle.address_map.specs.Records.{anchor_among, is_heap_kind}
 use Rattle.address_map.specs.declared.map.AddressMap.{AddressMap}
@@ -12,8 +12,8 @@ use Rattle.os_heap.proofs.RangeTests.{or_middle, or_next, or_none}
 use Rattle.os_heap.proofs.Holding.{range_bounds}
 use Rattle.os_heap.proofs.Innermost.{IsRound, round_so, so_round, last_tells, ranges_nested}
 use Rattle.os_heap.specs.Bars.{bars, bars_record}
-use Rattle.os_heap.specs.Laws.{told_by}
-use Rattle.os_heap.specs.Nesting.{holds_range, innermost, is_crossed, is_round}
+use Rattle.os_heap.specs.Laws.{passes_if_there}
+use Rattle.os_heap.specs.Nesting.{holds_range, innermost_heap, is_crossed, is_round}
 use Rattle.os_heap.specs.Probes.{counted_of, is_barred, region_probes, walked_to}
 use Rattle.os_heap.specs.Ranges.{has_before, is_in_way, is_obstructed, overlaps}
 use Rattle.os_heap.specs.Store.{AreHeapsIn, IsSound, Store, heap_in, heaps_in, others_in, store_of}
@@ -52,7 +52,7 @@ in_way_round at len new more h some none = elim (cases_Bool (has_before at h)) [
 ]
 
 pub in_way_told : (b : Bytes) (at len new more : ℕ) (hs : List HeapList) → 0 < len → AreHeapsIn b hs → list_any (bars at len new more) hs ≡ false
-    → list_any (is_in_way at len new more) hs ≡ told_by (λ h. not (holds_range (h.start + 16) h.items at len)) (innermost at len hs)
+    → list_any (is_in_way at len new more) hs ≡ passes_if_there (λ h. not (holds_range (h.start + 16) h.items at len)) (innermost_heap at len hs)
 in_way_told b at len new more hs some parts none =
     all hs none ∙ last_tells (is_round at len) (λ h. not (holds_range (h.start + 16) h.items at len)) hs (ranges_nested b at len hs some parts) where
       all : (gs : List HeapList) → list_any (bars at len new more) gs ≡ false
@@ -83,14 +83,14 @@ barred_in_way b at len new more (h ∷ hs) parts is = elim (cases_Bool (bars at 
 ]
 
 pub bars_split : (at len new more : ℕ) (b : Bytes) (rs : List Region)
-    → list_any (bars_record at len new more) rs ≡ (list_any (bars at len new more) (heaps_in b rs) || list_any (λ r. meets new more r.at r.len) (others_in rs))
+    → list_any (bars_record at len new more) rs ≡ (list_any (bars at len new more) (heaps_in b rs) || list_any (λ r. shares_address new more r.at r.len) (others_in rs))
 bars_split at len new more b [] = refl
 bars_split at len new more b (r ∷ rs) =
     let parts : Bool = list_any (bars at len new more) (heaps_in b rs) in
-    let others : Bool = list_any (λ q. meets new more q.at q.len) (others_in rs) in
+    let others : Bool = list_any (λ q. shares_address new more q.at q.len) (others_in rs) in
     elim (cases_Bool (is_heap_kind r.kind)) [
       | inl heap ↦ rw (heap, bars_split at len new more b rs) (sym (or_next (bars at len new more (heap_in b r)) parts others))
-      | inr other ↦ rw (other, bars_split at len new more b rs) (or_middle (meets new more r.at r.len) parts others)
+      | inr other ↦ rw (other, bars_split at len new more b rs) (or_middle (shares_address new more r.at r.len) parts others)
     ]
 
 -- for a heap that is made, all of whose range is new, this is the rule of ranges that lie in blocks
@@ -104,14 +104,14 @@ way_crossed b at len h some heap = elim (cases_Bool (has_before at h)) [
       let is : IsBefore at h = before_so at h before in
       let low : h.start < at = is.low in
       let high : at < h.start + h.end = is.high in
-      let met : meets at len h.start h.end ≡ true =
+      let met : shares_address at len h.start h.end ≡ true =
       rw (lt-ltb 0 len some, lt-ltb 0 h.end (omega (arith, low, high)), lt-ltb at (h.start + h.end) high, lt-ltb h.start (at + len) (omega (arith, low))) refl in
       rw (before, met) refl
   | inr after ↦
       let none : holds_range (h.start + 16) h.items at len ≡ false = false_from_ne_true (holds_range (h.start + 16) h.items at len) (λ held.
       let bounds = range_bounds (h.start + 16) h.items at len held in
       both_ways (has_before at h) after (so_before at h (record { low = omega (arith, bounds.0); high = omega (arith, bounds.1, heap.inside, some) }))) in
-      rw (after, none) (sym (and_true (meets at len h.start h.end)))
+      rw (after, none) (sym (and_true (shares_address at len h.start h.end)))
 ]
 
 pub ways_crossed : (b : Bytes) (at len : ℕ) (hs : List HeapList) → 0 < len → AreHeapsIn b hs
@@ -127,7 +127,7 @@ obstructed_barred m at len new more sound is =
     let hs : List HeapList = heaps_in (bytes_of m) (regions m) in
     let ways : Bool = list_any (is_in_way at len new more) hs in
     let barred : Bool = list_any (bars at len new more) hs in
-    let others : Bool = list_any (λ r. meets new more r.at r.len) (others_in (regions m)) in
+    let others : Bool = list_any (λ r. shares_address new more r.at r.len) (others_in (regions m)) in
     let anchors : Bool = anchor_among (anchor_of m) new more in
     let is' : ((barred || others) || anchors) ≡ true = ap (λ (t : Bool). t || anchors) (sym (bars_split at len new more (bytes_of m) (regions m))) ∙ is in
     elim (cases_Bool barred) [
@@ -142,14 +142,14 @@ obstructed_barred m at len new more sound is =
 
 pub obstructed_told : (m : AddressMap) (at len new more : ℕ) → IsSound (store_of m) → 0 < len → list_any (bars_record at len new more) (regions m) ≡ false
     → anchor_among (anchor_of m) new more ≡ false
-    → is_obstructed at len new more (store_of m) ≡ told_by (λ h. not (holds_range (h.start + 16) h.items at len)) (innermost at len (heaps_in (bytes_of m) (regions m)))
+    → is_obstructed at len new more (store_of m) ≡ passes_if_there (λ h. not (holds_range (h.start + 16) h.items at len)) (innermost_heap at len (heaps_in (bytes_of m) (regions m)))
 unfolding store_of
 obstructed_told m at len new more sound some barred unanchored =
     let hs : List HeapList = heaps_in (bytes_of m) (regions m) in
-    let others : Bool = list_any (λ r. meets new more r.at r.len) (others_in (regions m)) in
+    let others : Bool = list_any (λ r. shares_address new more r.at r.len) (others_in (regions m)) in
     let anchors : Bool = anchor_among (anchor_of m) new more in
     let none = or_parts (list_any (bars at len new more) hs) others (sym (bars_split at len new more (bytes_of m) (regions m)) ∙ barred) in
-    let told : Bool = told_by (λ h. not (holds_range (h.start + 16) h.items at len)) (innermost at len hs) in
+    let told : Bool = passes_if_there (λ h. not (holds_range (h.start + 16) h.items at len)) (innermost_heap at len hs) in
     let clear : others ≡ false = none.1 in
     let free : anchors ≡ false = unanchored in
     ap (λ (t : Bool). (t || others) || anchors) (in_way_told (bytes_of m) at len new more hs some sound.heaps none.0)
@@ -158,7 +158,7 @@ obstructed_told m at len new more sound some barred unanchored =
 -- a heap that is made: nothing is in its way just where its range overlaps nothing
 pub obstructed_over : (s : Store) (at len : ℕ) → 0 < len → IsSound s → is_obstructed at len at len s ≡ overlaps at len s
 obstructed_over s at len some sound =
-    let others : Bool = list_any (λ r. meets at len r.at r.len) s.others in
+    let others : Bool = list_any (λ r. shares_address at len r.at r.len) s.others in
     ap (λ (t : Bool). (t || others) || anchor_among s.anchor at len) (ways_crossed s.bytes at len s.heaps some sound.heaps)
 
 -- what is looked at: nothing where something is in the way by itself, and else the items of the innermost heap
@@ -172,16 +172,16 @@ pub barred_probes : (m : AddressMap) (at len new more : ℕ)
     → (list_any (bars_record at len new more) (regions m) || anchor_among (anchor_of m) new more) ≡ true → region_probes (store_of m) at len new more ≡ 0
 unfolding region_probes
 barred_probes m at len new more is =
-    ap (λ (t : Bool). cond t 0 (counted_of (λ h. walked_to at (h.start + 16) h.items) (innermost at len (store_of m).heaps)))
+    ap (λ (t : Bool). cond t 0 (counted_of (λ h. walked_to at (h.start + 16) h.items) (innermost_heap at len (store_of m).heaps)))
     (barred_records m at len new more ∙ is)
 
 pub walk_probes_of : (m : AddressMap) (at len new more : ℕ) (round : Option HeapList) → list_any (bars_record at len new more) (regions m) ≡ false
-    → anchor_among (anchor_of m) new more ≡ false → innermost at len (heaps_in (bytes_of m) (regions m)) ≡ round
+    → anchor_among (anchor_of m) new more ≡ false → innermost_heap at len (heaps_in (bytes_of m) (regions m)) ≡ round
     → region_probes (store_of m) at len new more ≡ counted_of (λ h. walked_to at (h.start + 16) h.items) round
 unfolding region_probes store_of
 walk_probes_of m at len new more round free unanchored found =
     let anchors : Bool = anchor_among (anchor_of m) new more in
     let clear : (list_any (bars_record at len new more) (regions m) || anchors) ≡ false = ap (λ (t : Bool). t || anchors) free ∙ unanchored in
-    ap (λ (t : Bool). cond t 0 (counted_of (λ h. walked_to at (h.start + 16) h.items) (innermost at len (heaps_in (bytes_of m) (regions m)))))
+    ap (λ (t : Bool). cond t 0 (counted_of (λ h. walked_to at (h.start + 16) h.items) (innermost_heap at len (heaps_in (bytes_of m) (regions m)))))
     (barred_records m at len new more ∙ clear)
     ∙ ap (counted_of (λ h. walked_to at (h.start + 16) h.items)) found

@@ -11,57 +11,57 @@ use Rattle.address_map.specs.declared.region.Region.{Region}
 use Rattle.os_heap_lists.specs.Heap.{HeapList}
 use Rattle.os_heap.proofs.Frame.{layout-regions}
 use Rattle.os_heap.specs.Laws.{RecordsAreTold}
-use Rattle.os_heap.specs.Order.{start_of, stays, stays_at, AddsRecord, KeepsOrder, LosesHeaps, LosesInOrder}
+use Rattle.os_heap.specs.Order.{kind_and_start, stays, stays_at, AddsRecord, KeepsOrder, LosesHeaps, LosesInOrder}
 use Rattle.os_heap.specs.Store.{heap_in, heaps_in, others_in, store_of}
 
 pub order_kept : (m n : AddressMap) → regions n ≡ regions m → KeepsOrder m n
-order_kept m n same = ap (λ (rs : List Region). map start_of rs) same
+order_kept m n same = ap (λ (rs : List Region). map kind_and_start rs) same
 
 pub order_laid : (m n : AddressMap) → layout n ≡ layout m → KeepsOrder m n
 order_laid m n same = order_kept m n (layout-regions m n same)
 
-order_more : (rs : List Region) (r : Region) → map start_of (rs ++ r ∷ []) ≡ map start_of rs ++ start_of r ∷ []
+order_more : (rs : List Region) (r : Region) → map kind_and_start (rs ++ r ∷ []) ≡ map kind_and_start rs ++ kind_and_start r ∷ []
 order_more [] r = refl
-order_more (q ∷ rs) r = ap (λ (xs : List (Kind × ℕ)). start_of q ∷ xs) (order_more rs r)
+order_more (q ∷ rs) r = ap (λ (xs : List (Kind × ℕ)). kind_and_start q ∷ xs) (order_more rs r)
 
 pub order_added : (m n : AddressMap) (r : Region) → regions n ≡ regions m ++ r ∷ [] → AddsRecord m n r.kind r.at
-order_added m n r more = ap (λ (rs : List Region). map start_of rs) more ∙ order_more (regions m) r
+order_added m n r more = ap (λ (rs : List Region). map kind_and_start rs) more ∙ order_more (regions m) r
 
-order_ended : (rs : List Region) (k : Kind) (at len : ℕ) → map start_of (with_len rs k at len) ≡ map start_of rs
+order_ended : (rs : List Region) (k : Kind) (at len : ℕ) → map kind_and_start (with_len rs k at len) ≡ map kind_and_start rs
 order_ended [] k at len = refl
 order_ended (r ∷ rs) k at len = elim (cases_Bool (is_record k at r)) [
   | inl here ↦ rw here refl
-  | inr other ↦ rw other (ap (λ (xs : List (Kind × ℕ)). start_of r ∷ xs) (order_ended rs k at len))
+  | inr other ↦ rw other (ap (λ (xs : List (Kind × ℕ)). kind_and_start r ∷ xs) (order_ended rs k at len))
 ]
 
 pub end_order : (m n : AddressMap) (k : Kind) (at len : ℕ) → regions n ≡ with_len (regions m) k at len → KeepsOrder m n
-end_order m n k at len ended = ap (λ (rs : List Region). map start_of rs) ended ∙ order_ended (regions m) k at len
+end_order m n k at len ended = ap (λ (rs : List Region). map kind_and_start rs) ended ∙ order_ended (regions m) k at len
 
 -- where heaps are forgotten, also after one got another end
-order_left : (hs : List HeapList) (rs : List Region) → map start_of (filter (stays hs) rs) ≡ filter (stays_at hs) (map start_of rs)
+order_left : (hs : List HeapList) (rs : List Region) → map kind_and_start (filter (stays hs) rs) ≡ filter (stays_at hs) (map kind_and_start rs)
 order_left hs [] = refl
 order_left hs (r ∷ rs) = elim (cases_Bool (stays hs r)) [
-  | inl here ↦ rw here (ap (λ (xs : List (Kind × ℕ)). start_of r ∷ xs) (order_left hs rs))
+  | inl here ↦ rw here (ap (λ (xs : List (Kind × ℕ)). kind_and_start r ∷ xs) (order_left hs rs))
   | inr gone ↦ rw gone (order_left hs rs)
 ]
 
 pub order_lost : (m k n : AddressMap) → KeepsOrder m k → LosesHeaps k n → LosesInOrder m n
 order_lost m k n kept lost =
-    ap (λ (rs : List Region). map start_of rs) lost ∙ order_left (store_of n).heaps (regions k)
+    ap (λ (rs : List Region). map kind_and_start rs) lost ∙ order_left (store_of n).heaps (regions k)
     ∙ ap (λ (xs : List (Kind × ℕ)). filter (stays_at (store_of n).heaps) xs) kept
 
 -- the records are those of the two lists, in that order
 same_record : (q r : Region) → q.kind ≡ r.kind → q.at ≡ r.at → q.len ≡ r.len → q ≡ r
 same_record q r kind at len = λ i. record { kind = kind i; at = at i; len = len i }
 
-told : (b c : Bytes) (rs qs : List Region) → map start_of qs ≡ map start_of rs → heaps_in c qs ≡ heaps_in b rs → others_in qs ≡ others_in rs → qs ≡ rs
+told : (b c : Bytes) (rs qs : List Region) → map kind_and_start qs ≡ map kind_and_start rs → heaps_in c qs ≡ heaps_in b rs → others_in qs ≡ others_in rs → qs ≡ rs
 told b c [] [] order heaps others = refl
-told b c [] (q ∷ qs) order heaps others = absurd (let no : start_of q ∷ map start_of qs ≡ [] = order in cc)
-told b c (r ∷ rs) [] order heaps others = absurd (let no : [] ≡ start_of r ∷ map start_of rs = order in cc)
+told b c [] (q ∷ qs) order heaps others = absurd (let no : kind_and_start q ∷ map kind_and_start qs ≡ [] = order in cc)
+told b c (r ∷ rs) [] order heaps others = absurd (let no : [] ≡ kind_and_start r ∷ map kind_and_start rs = order in cc)
 told b c (r ∷ rs) (q ∷ qs) order heaps others =
-    let order' : start_of q ∷ map start_of qs ≡ start_of r ∷ map start_of rs = order in
-    let start : start_of q ≡ start_of r = cc in
-    let rest : map start_of qs ≡ map start_of rs = cc in
+    let order' : kind_and_start q ∷ map kind_and_start qs ≡ kind_and_start r ∷ map kind_and_start rs = order in
+    let start : kind_and_start q ≡ kind_and_start r = cc in
+    let rest : map kind_and_start qs ≡ map kind_and_start rs = cc in
     let kind : q.kind ≡ r.kind = ap (λ (x : Kind × ℕ). x.0) start in
     let at : q.at ≡ r.at = ap (λ (x : Kind × ℕ). x.1) start in
     elim (cases_Bool (is_heap_kind r.kind)) [

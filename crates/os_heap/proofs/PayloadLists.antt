@@ -12,7 +12,7 @@ use Rattle.os_heap_lists.specs.Lists.{live_total}
 use Rattle.os_heap.proofs.Apart.{range_parts}
 use Rattle.os_heap.proofs.Found.{found_heap, found_start}
 use Rattle.os_heap.proofs.Moving.{found_held}
-use Rattle.os_heap.specs.Calls.{holding}
+use Rattle.os_heap.specs.Calls.{store_holding}
 use Rattle.os_heap.specs.Laws.{KeepsPayloads}
 use Rattle.os_heap.specs.Store.{Store, IsSound, find_heap}
 
@@ -64,17 +64,17 @@ unspelled_then t k h g block total a aligned totals fits found found' live here 
     payload_unspelled k.start k.items block total a aligned totals
     (subst (λ (x : HeapList). live_total block (k.start + 16) x.items ≡ Some total) is live') parts.0 parts.1
 
-pub new_heap : (s : Store) (k : HeapList) (items : List Item) → IsSound (holding s k items) → find_heap k.start s.heaps ≡ Some k
-    → IsHeapIn (holding s k items).bytes k.start k.end items
+pub new_heap : (s : Store) (k : HeapList) (items : List Item) → IsSound (store_holding s k items) → find_heap k.start s.heaps ≡ Some k
+    → IsHeapIn (store_holding s k items).bytes k.start k.end items
 new_heap s k items sound found =
-    found_heap (holding s k items).bytes k.start (holding s k items).heaps (with_list k items) sound.heaps (found_held k.start items s.heaps k found)
+    found_heap (store_holding s k items).bytes k.start (store_holding s k items).heaps (with_list k items) sound.heaps (found_held k.start items s.heaps k found)
 
-keeps_held : (s v : Store) (k : HeapList) (items : List Item) → v.bytes ≡ s.bytes → IsSound (holding v k items) → find_heap k.start v.heaps ≡ Some k
-    → KeepsPayloads s (holding v k items) k.start
+keeps_held : (s v : Store) (k : HeapList) (items : List Item) → v.bytes ≡ s.bytes → IsSound (store_holding v k items) → find_heap k.start v.heaps ≡ Some k
+    → KeepsPayloads s (store_holding v k items) k.start
 keeps_held s v k items same sound found h g block total new_total a found' found'' live live' here there out =
-    let new : IsHeapIn (holding v k items).bytes k.start k.end items = new_heap v k items sound found in
+    let new : IsHeapIn (store_holding v k items).bytes k.start k.end items = new_heap v k items sound found in
     heap_beside v.bytes.at k.start k.end items a new.aligned new.totals
-    (unspelled_then (holding v k items) (with_list k items) h g block new_total a new.aligned new.totals new.inside (found_held k.start items v.heaps k found)
+    (unspelled_then (store_holding v k items) (with_list k items) h g block new_total a new.aligned new.totals new.inside (found_held k.start items v.heaps k found)
     found'' live' there out)
     ∙ ap (λ (b : Bytes). b.at a) same
 
@@ -87,6 +87,6 @@ keeps_at s u t heap same sound keeps = subst (λ (w : Store). KeepsPayloads s w 
 
 pub keeps_done : (s v t : Store) (heap : ℕ) (k : HeapList) (items : List Item) → v.bytes ≡ s.bytes → IsSound t → k.start ≡ heap
     → find_heap k.start v.heaps ≡ Some k
-    → holding v k items ≡ t → KeepsPayloads s t heap
+    → store_holding v k items ≡ t → KeepsPayloads s t heap
 keeps_done s v t heap k items same sound start found is =
-    subst (λ (p : ℕ). KeepsPayloads s t p) start (keeps_at s (holding v k items) t k.start is sound (λ good. keeps_held s v k items same good found))
+    subst (λ (p : ℕ). KeepsPayloads s t p) start (keeps_at s (store_holding v k items) t k.start is sound (λ good. keeps_held s v k items same good found))

@@ -6,7 +6,7 @@ use Rattle.address_map.specs.Items.{is_heap_word, size_of}
 use Rattle.address_map.specs.Memory.{byte_at, class_of, layout}
 use Rattle.address_map.specs.declared.map.AddressMap.{AddressMap}
 use Rattle.os_heap_lists.proofs.HeadWords.{are_owned, byte_inside}
-use Rattle.os_heap_lists.proofs.LiveBlocks.{LiveBytes, live_bytes}
+use Rattle.os_heap_lists.proofs.LiveBlocks.{LiveBytes, law_live_bytes}
 use Rattle.os_heap_lists.proofs.Payloads.{payload_unspelled}
 use Rattle.os_heap_lists.specs.Heap.{HeapList, IsHeapIn}
 use Rattle.os_heap_lists.specs.Lists.{live_total}
@@ -38,7 +38,7 @@ block_unowned b h block total a (g ∷ hs) heap live is inside parts others none
       empty = or_parts (starts_in block (total - 4) g) (holds_heap hs block (total - 4)) none
 
       place : LiveBytes block total (h.start + 16) (h.start + 16 + size_of h.items)
-      place = live_bytes block total (h.start + 16) h.items heap.totals live
+      place = law_live_bytes block total (h.start + 16) h.items heap.totals live
 
       in_it : IsWithin h g → in_range g.start g.end a ≡ true → ⊥
       in_it within there =
@@ -64,7 +64,7 @@ payload_unowned : (m : AddressMap) (h : HeapList) (block total a : ℕ) → IsSo
 payload_unowned m h block total a sound found live none is =
     let b : Bytes = (store_of m).bytes in
     let heap : IsHeapIn b h.start h.end h.items = found_heap b h.start (store_of m).heaps h sound.heaps found in
-    let place : LiveBytes block total (h.start + 16) (h.start + 16 + size_of h.items) = live_bytes block total (h.start + 16) h.items heap.totals live in
+    let place : LiveBytes block total (h.start + 16) (h.start + 16 + size_of h.items) = law_live_bytes block total (h.start + 16) h.items heap.totals live in
     let parts : (block ≤ a) × (a < block + (total - 4)) = range_parts block (total - 4) a is in
     let inside : in_range h.start h.end a ≡ true = block_inside b h block total a heap live
     (rw (le-leb (block - 4) a (omega (arith, parts.0)), lt-ltb a (block - 4 + total) (omega (arith, parts.1, place.low, place.size))) refl) in

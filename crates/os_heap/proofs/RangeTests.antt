@@ -5,28 +5,28 @@ use Rattle.std.proofs.Math.Dec.{ltb}
 use Rattle.std.proofs.lemmas.Bool.Decides.{nat_tests}
 use Rattle.std.specs.List.{list_any}
 use Rattle.address_map.proofs.Spans.{mapped_below}
-use Rattle.address_map.specs.Bytes.{AreMapped, in_range, meets, Bytes}
+use Rattle.address_map.specs.Bytes.{AreMapped, in_range, shares_address, Bytes}
 use Rattle.address_map.specs.Memory.{anchor_of, is_mapped, bytes_of, regions}
 use Rattle.address_map.specs.Records.{anchor_among, is_heap_kind}
 use Rattle.address_map.specs.declared.map.AddressMap.{AddressMap}
 use Rattle.address_map.specs.declared.region.Region.{Region}
 use Rattle.os_heap_lists.specs.Heap.{HeapList, IsHeapIn}
 use Rattle.os_heap.proofs.Holding.{HoldsRange, range_held}
-use Rattle.os_heap.specs.Ranges.{are_mapped, is_heap_region, meets_any, overlaps}
+use Rattle.os_heap.specs.Ranges.{are_bytes_mapped, is_heap_region, meets_any, overlaps}
 use Rattle.os_heap.specs.Nesting.{holds_range, is_crossed}
 use Rattle.os_heap.specs.Store.{AreClear, IsClearOfHeaps, Store, heaps_in, others_in, store_of}
 
 -- a range that is mapped whole
-pub are_mapped_all : (mapped : ℕ → Bool) (at n : ℕ) → are_mapped mapped at n ≡ true → AreMapped mapped at n
+pub are_mapped_all : (mapped : ℕ → Bool) (at n : ℕ) → are_bytes_mapped mapped at n ≡ true → AreMapped mapped at n
 are_mapped_all mapped at zero h a low high = absurd (omega arith)
 are_mapped_all mapped at (suc n) h a low high =
-    let parts = and_parts (mapped at) (are_mapped mapped (at + 1) n) h in
+    let parts = and_parts (mapped at) (are_bytes_mapped mapped (at + 1) n) h in
     elim (cases_lt at a) [
       | inl later ↦ are_mapped_all mapped (at + 1) n parts.1 a (omega arith) (omega arith)
       | inr here ↦ let e : a ≡ at = omega arith in rw e parts.0
     ]
 
-pub are_mapped_from : (mapped : ℕ → Bool) (at n : ℕ) → AreMapped mapped at n → are_mapped mapped at n ≡ true
+pub are_mapped_from : (mapped : ℕ → Bool) (at n : ℕ) → AreMapped mapped at n → are_bytes_mapped mapped at n ≡ true
 are_mapped_from mapped at zero h = refl
 are_mapped_from mapped at (suc n) h =
     rw (h at (omega arith) (omega arith)) (are_mapped_from mapped (at + 1) n (λ a low high. h a (omega arith) (omega arith)))
@@ -36,13 +36,13 @@ same_tests true u h g = sym (h refl)
 same_tests false u h g = sym (false_from_ne_true u (λ e. false≢true (g e)))
 
 -- ranges without a byte in common
-pub clear_unless : (at len other other_len : ℕ) → meets at len other other_len ≡ false → AreClear at len other other_len
+pub clear_unless : (at len other other_len : ℕ) → shares_address at len other other_len ≡ false → AreClear at len other other_len
 clear_unless at len other other_len h a inside = grind (arith, nat_tests)
 
-pub clear_of_heaps : (at len : ℕ) (hs : List HeapList) → list_any (λ h. meets at len h.start h.end) hs ≡ false → IsClearOfHeaps at len hs
+pub clear_of_heaps : (at len : ℕ) (hs : List HeapList) → list_any (λ h. shares_address at len h.start h.end) hs ≡ false → IsClearOfHeaps at len hs
 clear_of_heaps at len [] none = tt
 clear_of_heaps at len (h ∷ hs) none =
-    let parts = or_parts (meets at len h.start h.end) (list_any (λ h. meets at len h.start h.end) hs) none in
+    let parts = or_parts (shares_address at len h.start h.end) (list_any (λ h. shares_address at len h.start h.end) hs) none in
     (clear_unless at len h.start h.end parts.0, clear_of_heaps at len hs parts.1)
 
 pub range_low : (at len a : ℕ) → in_range at len a ≡ true → at ≤ a
@@ -53,27 +53,27 @@ range_high at len a inside = ltb-true a (at + len) (and_parts (leb at a) (ltb a 
 
 -- what meets neither a record nor an anchor
 pub unmet : (at len : ℕ) (s : Store) → meets_any at len s ≡ false
-    → ((list_any (λ h. meets at len h.start h.end) s.heaps ≡ false) × (list_any (λ r. meets at len r.at r.len) s.others ≡ false))
+    → ((list_any (λ h. shares_address at len h.start h.end) s.heaps ≡ false) × (list_any (λ r. shares_address at len r.at r.len) s.others ≡ false))
     × (anchor_among s.anchor at len ≡ false)
 unmet at len s clear =
-    let heaps : Bool = list_any (λ h. meets at len h.start h.end) s.heaps in
-    let others : Bool = list_any (λ r. meets at len r.at r.len) s.others in
+    let heaps : Bool = list_any (λ h. shares_address at len h.start h.end) s.heaps in
+    let others : Bool = list_any (λ r. shares_address at len r.at r.len) s.others in
     let both = or_parts (heaps || others) (anchor_among s.anchor at len) clear in
     (or_parts heaps others both.0, both.1)
 
 -- what meets neither another record nor an anchor, and heaps only by lying in their blocks
 pub unlapped : (at len : ℕ) (s : Store) → overlaps at len s ≡ false
-    → ((list_any (is_crossed at len) s.heaps ≡ false) × (list_any (λ r. meets at len r.at r.len) s.others ≡ false)) × (anchor_among s.anchor at len ≡ false)
+    → ((list_any (is_crossed at len) s.heaps ≡ false) × (list_any (λ r. shares_address at len r.at r.len) s.others ≡ false)) × (anchor_among s.anchor at len ≡ false)
 unlapped at len s clear =
     let heaps : Bool = list_any (is_crossed at len) s.heaps in
-    let others : Bool = list_any (λ r. meets at len r.at r.len) s.others in
+    let others : Bool = list_any (λ r. shares_address at len r.at r.len) s.others in
     let both = or_parts (heaps || others) (anchor_among s.anchor at len) clear in
     (or_parts heaps others both.0, both.1)
 
 -- a heap that the range does not cross is clear of it, or holds it in one block
 pub uncrossed : (b : Bytes) (at len : ℕ) (h : HeapList) → IsHeapIn b h.start h.end h.items → is_crossed at len h ≡ false
     → AreClear at len h.start h.end ⊎ HoldsRange (h.start + 16) h.items at len
-uncrossed b at len h heap none = elim (cases_Bool (meets at len h.start h.end)) [
+uncrossed b at len h heap none = elim (cases_Bool (shares_address at len h.start h.end)) [
   | inr apart ↦ inl (clear_unless at len h.start h.end apart)
   | inl met ↦ inr (range_held (h.start + 16) h.items at len heap.totals (not-false (holds_range (h.start + 16) h.items at len) (rw met at none)))
 ]
@@ -88,9 +88,9 @@ pub record CanHold (b : Bytes) (at size : ℕ) : Type 0 where
 
 pub can_hold : (b : Bytes) (at size : ℕ) → is_heap_region b at size ≡ true → CanHold b at size
 can_hold b at size h =
-    let outer = and_parts (at % 4 == 0 && size % 4 == 0) ((leb 16 size && leb size 16777216) && are_mapped b.mapped at size) h in
+    let outer = and_parts (at % 4 == 0 && size % 4 == 0) ((leb 16 size && leb size 16777216) && are_bytes_mapped b.mapped at size) h in
     let multiples = and_parts (at % 4 == 0) (size % 4 == 0) outer.0 in
-    let inner = and_parts (leb 16 size && leb size 16777216) (are_mapped b.mapped at size) outer.1 in
+    let inner = and_parts (leb 16 size && leb size 16777216) (are_bytes_mapped b.mapped at size) outer.1 in
     let limits = and_parts (leb 16 size) (leb size 16777216) inner.0 in
     record {
       aligned = eqb-true (at % 4) 0 multiples.0;
@@ -105,7 +105,7 @@ pub region_tested : (b : Bytes) (at size : ℕ) (mapped : Bool) → at % 4 ≡ 0
     → ((mapped ≡ true) ↔ AreMapped b.mapped at size) → mapped ≡ is_heap_region b at size
 region_tested b at size mapped aligned whole low high tested =
     rw (eq-eqb (at % 4) 0 aligned, eq-eqb (size % 4) 0 whole, le-leb 16 size low, le-leb size 16777216 high)
-    (same_tests mapped (are_mapped b.mapped at size) (λ e. are_mapped_from b.mapped at size (tested.0 e)) (λ e. tested.1 (are_mapped_all b.mapped at size e)))
+    (same_tests mapped (are_bytes_mapped b.mapped at size) (λ e. are_mapped_from b.mapped at size (tested.0 e)) (λ e. tested.1 (are_mapped_all b.mapped at size e)))
 
 -- tests of which one is enough
 pub or_middle : (a b c : Bool) → (a || (b || c)) ≡ (b || (a || c))
@@ -135,9 +135,9 @@ ranges_split test b (r ∷ rs) =
     ]
 
 pub meets_recorded : (m : AddressMap) (at len : ℕ)
-    → (list_any (λ r. meets at len r.at r.len) (regions m) || anchor_among (anchor_of m) at len) ≡ meets_any at len (store_of m)
+    → (list_any (λ r. shares_address at len r.at r.len) (regions m) || anchor_among (anchor_of m) at len) ≡ meets_any at len (store_of m)
 unfolding store_of
-meets_recorded m at len = ap (λ (t : Bool). t || anchor_among (anchor_of m) at len) (ranges_split (meets at len) (bytes_of m) (regions m))
+meets_recorded m at len = ap (λ (t : Bool). t || anchor_among (anchor_of m) at len) (ranges_split (shares_address at len) (bytes_of m) (regions m))
 
 -- what is mapped ends at 2^26 at the latest
 pub range_end : (m : AddressMap) (at len : ℕ) → AreMapped (is_mapped m) at len → 0 < len → at + len ≤ 2 ^ 26

@@ -7,23 +7,23 @@ use Rattle.address_map.specs.Items.{size_of}
 use Rattle.os_heap_lists.specs.Heap.{HeapList}
 use Rattle.os_heap_lists.specs.Lists.{changed_by}
 use Rattle.os_heap.proofs.RangeTests.{can_hold}
-use Rattle.os_heap.specs.Calls.{changed, has_own_size, end_changed, ending}
+use Rattle.os_heap.specs.Calls.{store_after_change, has_own_size, end_changed, ending}
 use Rattle.os_heap.specs.Probes.{change_probes, change_probes_of, counted_of, end_probes, growth_probes}
 use Rattle.os_heap.specs.Ranges.{MayEnd, is_heap_region, overgrows}
 use Rattle.os_heap.specs.Store.{Store, find_heap}
 
-pub changed_none : (s : Store) (heap change : ℕ) → find_heap heap s.heaps ≡ None → changed s heap change ≡ Err HeapBadDesc
-unfolding changed
+pub changed_none : (s : Store) (heap change : ℕ) → find_heap heap s.heaps ≡ None → store_after_change s heap change ≡ Err HeapBadDesc
+unfolding store_after_change
 changed_none s heap change none = rw none refl
 
 pub changed_area : (s : Store) (heap change : ℕ) (h : HeapList) → find_heap heap s.heaps ≡ Some h → has_own_size h.kind ≡ false
-    → changed s heap change ≡ Err HeapBadDesc
-unfolding changed
+    → store_after_change s heap change ≡ Err HeapBadDesc
+unfolding store_after_change
 changed_area s heap change h found area = rw (found, area) refl
 
 pub changed_own : (s : Store) (heap change : ℕ) (h : HeapList) → find_heap heap s.heaps ≡ Some h → has_own_size h.kind ≡ true
-    → changed s heap change ≡ end_changed s h change (changed_by h.end change)
-unfolding changed
+    → store_after_change s heap change ≡ end_changed s h change (changed_by h.end change)
+unfolding store_after_change
 changed_own s heap change h found own = rw (found, own) refl
 
 pub end_odd : (s : Store) (h : HeapList) (change end : ℕ) → change % 4 ≢ 0 → end_changed s h change end ≡ Err HeapBadRegion

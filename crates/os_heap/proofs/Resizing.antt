@@ -17,11 +17,11 @@ use Rattle.address_map.specs.declared.region.Kind.{Kind}
 use Rattle.address_map.specs.declared.region.Region.{Region}
 use Rattle.os_heap_lists.proofs.Counts.{claim_no_more}
 use Rattle.os_heap_lists.proofs.Reading.{total_facts}
-use Rattle.os_heap_lists.proofs.LiveBlocks.{IsStillIn, LiveBytes, live_bytes, refit_own, refit_still}
+use Rattle.os_heap_lists.proofs.LiveBlocks.{IsStillIn, LiveBytes, law_live_bytes, refit_own, refit_still}
 use Rattle.os_heap_lists.proofs.Resizes.{map_none, unreleased}
 use Rattle.os_heap_lists.specs.Counts.{begun_below, free_count}
 use Rattle.os_heap_lists.specs.Heap.{HeapList, IsHeapIn, AreTotals}
-use Rattle.os_heap_lists.specs.Lists.{live_total, released, changed_by, resized_in_place, round_up_8, refitted, claimed}
+use Rattle.os_heap_lists.specs.Lists.{live_total, items_after_release, changed_by, resized_in_place, round_up_8, items_after_refit, claim_in_items}
 use Rattle.os_heap_lists.specs.Walks.{IsBlock}
 use Rattle.os_heap.proofs.Anchored.{refit_keeps}
 use Rattle.os_heap.proofs.Bounds.{move_most}
@@ -31,7 +31,7 @@ use Rattle.os_heap.proofs.LostHeaps.{KeepsBlocks}
 use Rattle.os_heap.proofs.Moving.{part_there, HasPart}
 use Rattle.os_heap_words.proofs.Replace.{heap_mapped, heap_below}
 use Rattle.os_heap_words.proofs.Refitted.{block_total}
-use Rattle.os_heap.specs.Calls.{gave_back, holds_anchor, unless_image, resized, resized_or_moved, moved}
+use Rattle.os_heap.specs.Calls.{gave_back, holds_anchor, unless_image, store_after_resize, resized_or_moved, store_after_move}
 use Rattle.os_heap.specs.Probes.{resize_probes, probes_after_walk, refit_probes, move_probes}
 use Rattle.os_heap_words.specs.Outcomes.{items_at, end_at, Refits}
 use Rattle.os_heap.specs.GuestBlocks.{IsGuestBlock, has_anchor_in}
@@ -92,8 +92,8 @@ asked_live : (m : AddressMap) (heap block total : ℕ) → has_image block (regi
 asked_live m heap block total own live = rw own live
 
 by_total : (m : AddressMap) (heap block change : ℕ) (t : IsThere m heap) (total : Option ℕ) → asked m heap block ≡ total
-    → resized (store_of m) heap block change ≡ resized_block (store_of m) heap (part_at t.kind m heap t.end) block change total
-unfolding resized
+    → store_after_resize (store_of m) heap block change ≡ resized_block (store_of m) heap (part_at t.kind m heap t.end) block change total
+unfolding store_after_resize
 by_total m heap block change t total e =
     rw (t.found, image_recorded m block) (ap (resized_block (store_of m) heap (part_at t.kind m heap t.end) block change) e)
 
@@ -135,20 +135,20 @@ has_block m heap block total is live =
 -- no such block
 pub resize_refused : (m : AddressMap) (heap block change : ℕ) → is_some (find_heap heap (store_of m).heaps) ≡ true
     → asked m heap block ≡ None
-    → (resized (store_of m) heap block change ≡ Err HeapNotABlock) × (resize_probes (store_of m) heap block change ≡ begun_below block (heap + 16) (items_at m heap))
+    → (store_after_resize (store_of m) heap block change ≡ Err HeapNotABlock) × (resize_probes (store_of m) heap block change ≡ begun_below block (heap + 16) (items_at m heap))
 resize_refused m heap block change is none =
     let t : IsThere m heap = is_there m heap is in
     (by_total m heap block change t None none, omega (arith, probes_by_total m heap block change t None none))
 
 -- no heap
 pub resize_nowhere : (m : AddressMap) (heap block change : ℕ) → find_heap heap (store_of m).heaps ≡ None
-    → (resized (store_of m) heap block change ≡ Err HeapBadDesc) × (resize_probes (store_of m) heap block change ≡ 0)
-unfolding resized resize_probes
+    → (store_after_resize (store_of m) heap block change ≡ Err HeapBadDesc) × (resize_probes (store_of m) heap block change ≡ 0)
+unfolding store_after_resize resize_probes
 resize_nowhere m heap block change none = rw none (refl, refl)
 
 -- what the call leaves, and what it has looked at beyond the walk
 pub record IsResized (m n : AddressMap) (heap block change : ℕ) (answer : Result ℕ ErrorNumber) (more : ℕ) : Type 0 where
-  pub store : Gives (store_of m) (resized (store_of m) heap block change) answer (store_of n)
+  pub store : Gives (store_of m) (store_after_resize (store_of m) heap block change) answer (store_of n)
   pub kept : KeepsRest m n
   pub probes : begun_below block (heap + 16) (items_at m heap) + more ≡ resize_probes (store_of m) heap block change
 
@@ -183,7 +183,7 @@ in_place_given m k n kind heap end block old new (Some items) state found own li
     let h : HeapList = part_at kind m heap end in
     let heap_is : IsHeapIn (bytes_of m) heap end (items_at m heap) = heap_of-part kind m heap end state.sound found in
     let lies : LiveBytes block old (heap + 16) (heap + 16 + size_of (items_at m heap)) =
-    live_bytes block old (heap + 16) (items_at m heap) heap_is.totals live in
+    law_live_bytes block old (heap + 16) (items_at m heap) heap_is.totals live in
     let blocks : KeepsBlocks h items block (block - 4 + new) = record {
       others = λ other t apart there. subst (IsStillIn other t (heap + 16)) is (refit_still other block t (heap + end) new (heap + 16) (items_at m heap) apart there);
       own = λ a past before. record {
@@ -233,7 +233,7 @@ pub unrefitted : (m n : AddressMap) (heap end : ℕ) (o : Option (List Item)) �
 unrefitted m n heap end None refits = (refl, refits.1)
 unrefitted m n heap end (Some items) refits = absurd (false≢true refits.0)
 
-refitted_none : (room new old : ℕ) (xs : List Item) → refitted room new old xs ≡ None → old < new
+refitted_none : (room new old : ℕ) (xs : List Item) → items_after_refit room new old xs ≡ None → old < new
 refitted_none room new old xs none = elim (cases_Bool (nat_le new old)) [
   | inl less ↦ let none' = rw less at none in absurd (let some = none' in cc)
   | inr more ↦ leb-false new old more
@@ -268,10 +268,10 @@ pub resize_moved : (m n : AddressMap) (heap block change total more : ℕ) (answ
     → live_total block (heap + 16) (items_at m heap) ≡ Some total → 4 < changed_by total change
     → resized_in_place block (heap + end_at m heap) (round_up_8 (changed_by total change)) (heap + 16) (items_at m heap) ≡ None → holds_anchor (store_of m).anchor block (Some total) ≡ false
     → ((h : HeapList) → find_heap heap (store_of m).heaps ≡ Some h
-    → Gives (store_of m) (moved (store_of m) h block total (round_up_8 (changed_by total change))) answer (store_of n))
+    → Gives (store_of m) (store_after_move (store_of m) h block total (round_up_8 (changed_by total change))) answer (store_of n))
     → KeepsRest m n
     → ((h : HeapList) → find_heap heap (store_of m).heaps ≡ Some h
-    → more ≡ move_probes (store_of m) h block total (round_up_8 (changed_by total change)) (claimed (round_up_8 (changed_by total change)) (h.end - 16) h.items))
+    → more ≡ move_probes (store_of m) h block total (round_up_8 (changed_by total change)) (claim_in_items (round_up_8 (changed_by total change)) (h.end - 16) h.items))
     → IsResized m n heap block change answer more
 resize_moved m n heap block change total more answer sound is own live large none free store kept probes =
     let t : IsThere m heap = is_there m heap is in
@@ -303,19 +303,19 @@ pub below_all : (m : AddressMap) (heap block total : ℕ) → IsHeapIn (bytes_of
     → live_total block (heap + 16) (items_at m heap) ≡ Some total → block + total < 2 ^ 32
 below_all m heap block total heap_is live =
     let lies : LiveBytes block total (heap + 16) (heap + 16 + size_of (items_at m heap)) =
-    live_bytes block total (heap + 16) (items_at m heap) heap_is.totals live in
+    law_live_bytes block total (heap + 16) (items_at m heap) heap_is.totals live in
     omega (arith, lies.high, heap_is.inside, heap_below m heap (end_at m heap) (items_at m heap) heap_is)
 
 -- an anchor is in the way: of a release, of a cut, or of a move
 abbrev pub IsRefused : AddressMap → ℕ → ℕ → ℕ → Type 0
-IsRefused m heap block change = (resized (store_of m) heap block change ≡ Err HeapHoldsAnchor)
+IsRefused m heap block change = (store_after_resize (store_of m) heap block change ≡ Err HeapHoldsAnchor)
     × (resize_probes (store_of m) heap block change ≡ begun_below block (heap + 16) (items_at m heap))
 
 pub held_released : (s : Store) (heap block : ℕ) (h : HeapList) (total : ℕ) → find_heap heap s.heaps ≡ Some h → has_image block s.others ≡ false
     → live_total block (h.start + 16) h.items ≡ Some total → holds_anchor s.anchor block (Some total) ≡ true → gave_back s heap block ≡ Err HeapHoldsAnchor
 unfolding gave_back
-held_released s heap block h total found own live held = rw (found, own, live, held) (by_list (released block (h.start + 16) h.items) refl) where
-  by_list : (o : Option (List Item)) → released block (h.start + 16) h.items ≡ o
+held_released s heap block h total found own live held = rw (found, own, live, held) (by_list (items_after_release block (h.start + 16) h.items) refl) where
+  by_list : (o : Option (List Item)) → items_after_release block (h.start + 16) h.items ≡ o
       → (let left : List Item → Result (Store × Unit {0}) ErrorNumber = λ items. Err HeapHoldsAnchor in bind (ok_or o HeapNotABlock) left ≡ Err HeapHoldsAnchor)
   by_list (Some items) is = refl
   by_list None is =
@@ -388,11 +388,11 @@ free_small (Live t ∷ xs) totals = omega (arith, free_small xs totals.1)
 free_small (Free t ∷ xs) totals = omega (arith, free_small xs totals.1, total_facts t totals.0)
 
 pub move_few : (m : AddressMap) (heap block old new more : ℕ) → IsSound (store_of m) → is_some (find_heap heap (store_of m).heaps) ≡ true
-    → ((h : HeapList) → find_heap heap (store_of m).heaps ≡ Some h → more ≡ move_probes (store_of m) h block old new (claimed new (h.end - 16) h.items))
+    → ((h : HeapList) → find_heap heap (store_of m).heaps ≡ Some h → more ≡ move_probes (store_of m) h block old new (claim_in_items new (h.end - 16) h.items))
     → more ≤ 2 * 2 ^ 26
 move_few m heap block old new more sound is probes =
     let t : IsThere m heap = is_there m heap is in
     let h : HeapList = part_at t.kind m heap t.end in
     let i : IsHeapIn (bytes_of m) heap t.end (items_at m heap) = heap_of-part t.kind m heap t.end sound t.found in
     let top : heap + t.end ≤ 2 ^ 26 = heap_below m heap t.end (items_at m heap) i in
-    omega (arith, probes h t.found, move_most (store_of m) h block old new (claimed new (h.end - 16) h.items) (claim_no_more new (h.end - 16) h.items), free_small (items_at m heap) i.totals, i.inside)
+    omega (arith, probes h t.found, move_most (store_of m) h block old new (claim_in_items new (h.end - 16) h.items) (claim_no_more new (h.end - 16) h.items), free_small (items_at m heap) i.totals, i.inside)

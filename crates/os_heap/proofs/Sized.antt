@@ -9,7 +9,7 @@ use Rattle.address_map.specs.Memory.{regions}
 use Rattle.address_map.specs.declared.map.AddressMap.{AddressMap}
 use Rattle.address_map.specs.declared.region.Kind.{Kind}
 use Rattle.os_heap_lists.proofs.Resizes.{unreleased}
-use Rattle.os_heap_lists.specs.Lists.{live_total, released}
+use Rattle.os_heap_lists.specs.Lists.{live_total, items_after_release}
 use Rattle.os_heap.proofs.Calls.{part_at, image_recorded}
 use Rattle.os_heap.specs.Calls.{block_sized, bytes_held, unless_image, guests_total}
 use Rattle.os_heap_words.specs.Outcomes.{items_at}
@@ -31,14 +31,14 @@ pub sized_of : (rs : List Region) (start block word total : ℕ) (items : List I
 sized_of rs start block word total items own live same = rw (own, live, same) refl
 
 -- where no block of the guest's is given back, none has a size
-pub unheld : (rs : List Region) (block at : ℕ) (xs : List Item) → unless_image (has_image block rs) (released block at xs) ≡ None
+pub unheld : (rs : List Region) (block at : ℕ) (xs : List Item) → unless_image (has_image block rs) (items_after_release block at xs) ≡ None
     → unless_image (has_image block rs) (live_total block at xs) ≡ None
 unheld rs block at xs none = elim (cases_Bool (has_image block rs)) [
   | inl image ↦ rw image refl
   | inr own ↦ rw own (unreleased block at xs (rw own at none))
 ]
 
-pub unsized : (rs : List Region) (start block : ℕ) (items : List Item) → unless_image (has_image block rs) (released block (start + 16) items) ≡ None
+pub unsized : (rs : List Region) (start block : ℕ) (items : List Item) → unless_image (has_image block rs) (items_after_release block (start + 16) items) ≡ None
     → bytes_held (guests_total rs start items block) ≡ Err HeapNotABlock
 unsized rs start block items none = rw (unheld rs block (start + 16) items none) refl
 

@@ -13,7 +13,7 @@ use Rattle.address_map.specs.declared.item.Item.{Item}
 use Rattle.address_map.specs.declared.map.AddressMap.{AddressMap}
 use Rattle.address_map.specs.declared.region.Region.{Region}
 use Rattle.os_heap_lists.proofs.HeapWords.{part_back, cons_part}
-use Rattle.os_heap_lists.proofs.HeadWords.{heaps_kept}
+use Rattle.os_heap_lists.proofs.HeadWords.{law_heap_frame}
 use Rattle.os_heap_lists.proofs.Payloads.{heap_beside}
 use Rattle.os_heap_lists.proofs.Reading.{items_in-heap}
 use Rattle.os_heap_lists.specs.Heap.{with_heap, HeapList, IsHeapIn}
@@ -23,8 +23,8 @@ use Rattle.os_heap.proofs.Found.{found_heap}
 use Rattle.os_heap.proofs.Nesting.{KeepsHeaps, KeepsWithin, apart_starts, apart_turned, listed, not_itself, stands_own, words_apart}
 use Rattle.os_heap.specs.Nesting.{StandApart, StandsApart}
 use Rattle.os_heap_words.specs.Outcomes.{Becomes}
-use Rattle.os_heap.specs.Store.{AreClear, IsClearOfHeaps, find_heap, AreHeapsIn, ArePlaced, Store, heap_in, heaps_in, others_in, IsSound, store_of, has_image, is_image, is_area, IsImageBlock, IsImageIn, IsPlacedIn, IsAnchorPlace, guest_count, area_count, StandAreas, AreInLimits}
-use Rattle.os_heap.specs.Calls.{with_items, holding}
+use Rattle.os_heap.specs.Store.{AreClear, IsClearOfHeaps, find_heap, AreHeapsIn, ArePlaced, Store, heap_in, heaps_in, others_in, IsSound, store_of, has_image, is_image, is_module_area, IsImageBlock, IsImageIn, IsPlacedIn, IsAnchorPlace, guest_count, area_count, StandAreas, AreInLimits}
+use Rattle.os_heap.specs.Calls.{heaps_with_items, store_holding}
 
 pub bytes_held : (m n : AddressMap) (start end : ℕ) (items : List Item) → Becomes m n start end items
     → bytes_of n ≡ record { mapped = is_mapped m; at = with_heap (byte_at m) start end items }
@@ -85,7 +85,7 @@ are_others b start (g ∷ hs) h parts e =
           (inr (apart_starts b b h g there parts.0 apart, apart), are_others b start hs h parts.1.1 e')
     ]
 
-pub clear-held : (at len start : ℕ) (items : List Item) (hs : List HeapList) → IsClearOfHeaps at len hs → IsClearOfHeaps at len (with_items start items hs)
+pub clear-held : (at len start : ℕ) (items : List Item) (hs : List HeapList) → IsClearOfHeaps at len hs → IsClearOfHeaps at len (heaps_with_items start items hs)
 clear-held at len start items [] clear = tt
 clear-held at len start items (g ∷ hs) clear =
     elim (cases_Bool (g.start == start)) [
@@ -95,7 +95,7 @@ clear-held at len start items (g ∷ hs) clear =
 
 -- the heap with its new list stands apart from the others, and they from it
 pub own_held : (b : Bytes) (h : HeapList) (items : List Item) (hs : List HeapList) → IsHeapIn b h.start h.end h.items → AreOthers h hs → KeepsHeaps h items hs
-    → StandApart h hs → StandApart (listed h items) (with_items h.start items hs)
+    → StandApart h hs → StandApart (listed h items) (heaps_with_items h.start items hs)
 own_held b h items [] heap others keeps stand = tt
 own_held b h items (k ∷ hs) heap others keeps stand = elim others.0 [
   | inl same ↦ absurd (not_itself b h heap (subst (λ (x : HeapList). StandsApart h x) same stand.0))
@@ -103,10 +103,10 @@ own_held b h items (k ∷ hs) heap others keeps stand = elim others.0 [
 ]
 
 pub stand_held : (g h : HeapList) (items : List Item) (hs : List HeapList) → KeepsWithin h items g → AreOthers h hs → StandApart g hs
-    → StandApart g (with_items h.start items hs)
+    → StandApart g (heaps_with_items h.start items hs)
 stand_held g h items [] keeps others stand = tt
 stand_held g h items (k ∷ hs) keeps others stand =
-    let rest : StandApart g (with_items h.start items hs) = stand_held g h items hs keeps others.1 stand.1 in
+    let rest : StandApart g (heaps_with_items h.start items hs) = stand_held g h items hs keeps others.1 stand.1 in
     elim others.0 [
       | inl same ↦
           let start : k.start ≡ h.start = ap (λ (x : HeapList). x.start) same in
@@ -164,17 +164,17 @@ image_held r h g items (inl same) here kept own =
 
 placed_held : (r : Region) (h : HeapList) (items : List Item) (hs : List HeapList) → AreOthers h hs
     → (is_image r.kind ≡ true → (t : ℕ) → live_total r.at (h.start + 16) h.items ≡ Some t → live_total r.at (h.start + 16) items ≡ Some t)
-    → IsPlacedIn hs r → IsPlacedIn (with_items h.start items hs) r
+    → IsPlacedIn hs r → IsPlacedIn (heaps_with_items h.start items hs) r
 placed_held r h items [] others kept placed = tt
 placed_held r h items (g ∷ hs) others kept placed =
-    let rest : IsPlacedIn (with_items h.start items hs) r = placed_held r h items hs others.1 kept placed.1 in
+    let rest : IsPlacedIn (heaps_with_items h.start items hs) r = placed_held r h items hs others.1 kept placed.1 in
     elim (cases_Bool (g.start == h.start)) [
       | inl here ↦ rw here (elim placed.0 [ inl clear ↦ inl clear | inr own ↦ inr (image_held r h g items others.0 here kept own) ], rest)
       | inr other ↦ rw other (placed.0, rest)
     ]
 
 all_placed-held : (h : HeapList) (items : List Item) (hs : List HeapList) (rs : List Region) → AreOthers h hs → KeepsImages rs h.start h.items items
-    → ArePlaced hs rs → ArePlaced (with_items h.start items hs) rs
+    → ArePlaced hs rs → ArePlaced (heaps_with_items h.start items hs) rs
 all_placed-held h items hs [] others kept placed = tt
 all_placed-held h items hs (r ∷ rs) others kept placed = (
   placed_held r h items hs others (λ image t live.
@@ -206,7 +206,7 @@ same_stand [] [] same stand = tt
 same_stand [] (g ∷ gs) same stand = absurd same
 same_stand (h ∷ hs) [] same stand = absurd same
 same_stand (h ∷ hs) (g ∷ gs) same stand = (
-  λ (is : is_area g.kind ≡ true). same.0.1 ∙ stand.0 (ap is_area (sym same.0.0) ∙ is),
+  λ (is : is_module_area g.kind ≡ true). same.0.1 ∙ stand.0 (ap is_module_area (sym same.0.0) ∙ is),
   same_stand hs gs same.1 stand.1,
 )
 
@@ -217,7 +217,7 @@ same_limits hs gs same limits = record {
   place = same_stand hs gs same limits.place;
 }
 
-pub places-held : (start : ℕ) (items : List Item) (hs : List HeapList) → SamePlaces hs (with_items start items hs)
+pub places-held : (start : ℕ) (items : List Item) (hs : List HeapList) → SamePlaces hs (heaps_with_items start items hs)
 places-held start items [] = tt
 places-held start items (h ∷ hs) = elim (cases_Bool (h.start == start)) [
   | inl here ↦ rw here ((refl, refl), places-held start items hs)
@@ -241,15 +241,15 @@ held m n start end items b = record {
 other_kept : (m n : AddressMap) (h g : HeapList) (items : List Item) → IsHeld m n h.start h.end items → StandsApart (listed h items) g
     → IsHeapIn (bytes_of m) g.start g.end g.items → IsHeapIn (bytes_of n) g.start g.end g.items
 other_kept m n h g items b apart heap =
-    heaps_kept (bytes_of m) (bytes_of n) g.start g.end g.items b.mapped
+    law_heap_frame (bytes_of m) (bytes_of n) g.start g.end g.items b.mapped
     (λ a is. b.others a (words_apart (bytes_of m) (bytes_of n) g (listed h items) a heap b.heap (apart_turned (listed h items) g apart) is)) heap
 
 -- all heaps after the call are spelled, each apart from the others
 pub parts_held : (m n : AddressMap) (h : HeapList) (items : List Item) (hs : List HeapList) → IsHeld m n h.start h.end items → AreOthers h hs
-    → KeepsHeaps h items hs → AreHeapsIn (bytes_of m) hs → AreHeapsIn (bytes_of n) (with_items h.start items hs)
+    → KeepsHeaps h items hs → AreHeapsIn (bytes_of m) hs → AreHeapsIn (bytes_of n) (heaps_with_items h.start items hs)
 parts_held m n h items [] b others keeps parts = tt
 parts_held m n h items (g ∷ hs) b others keeps parts =
-    let rest : AreHeapsIn (bytes_of n) (with_items h.start items hs) = parts_held m n h items hs b others.1 keeps.1 parts.1.1 in
+    let rest : AreHeapsIn (bytes_of n) (heaps_with_items h.start items hs) = parts_held m n h items hs b others.1 keeps.1 parts.1.1 in
     elim others.0 [
       | inl same ↦
           let start : g.start ≡ h.start = ap (λ (x : HeapList). x.start) same in
@@ -257,10 +257,10 @@ parts_held m n h items (g ∷ hs) b others keeps parts =
           let test : (g.start == h.start) ≡ true = eq-eqb g.start h.start start in
           let heap : IsHeapIn (bytes_of m) h.start h.end h.items =
           subst (λ (x : HeapList). IsHeapIn (bytes_of m) x.start x.end x.items) same parts.0 in
-          let own : StandApart (listed h items) (with_items h.start items hs) =
+          let own : StandApart (listed h items) (heaps_with_items h.start items hs) =
           own_held (bytes_of m) h items hs heap others.1 keeps.1 (subst (λ (x : HeapList). StandApart x hs) same parts.1.0) in
-          let stand : StandApart (listed g items) (with_items h.start items hs) =
-          subst (λ (x : HeapList). StandApart (listed x items) (with_items h.start items hs)) (sym same) own in
+          let stand : StandApart (listed g items) (heaps_with_items h.start items hs) =
+          subst (λ (x : HeapList). StandApart (listed x items) (heaps_with_items h.start items hs)) (sym same) own in
           rw test (rw (start, end) b.heap, (stand, rest))
       | inr apart ↦
           let test : (g.start == h.start) ≡ false = ne_eqb g.start h.start apart.0 in
@@ -272,7 +272,7 @@ parts_held m n h items (g ∷ hs) b others keeps parts =
 
 pub read_parts : (m n : AddressMap) (h : HeapList) (items : List Item) (rs : List Region) → IsHeld m n h.start h.end items
     → AreOthers h (heaps_in (bytes_of m) rs) → KeepsHeaps h items (heaps_in (bytes_of m) rs) → AreHeapsIn (bytes_of m) (heaps_in (bytes_of m) rs)
-    → heaps_in (bytes_of n) rs ≡ with_items h.start items (heaps_in (bytes_of m) rs)
+    → heaps_in (bytes_of n) rs ≡ heaps_with_items h.start items (heaps_in (bytes_of m) rs)
 read_parts m n h items [] b others keeps parts = refl
 read_parts m n h items (r ∷ rs) b others keeps parts =
     elim (cases_Bool (is_heap_kind r.kind)) [
@@ -284,8 +284,8 @@ read_parts m n h items (r ∷ rs) b others keeps parts =
       | inr other ↦ rw other (read_parts m n h items rs b (rw other at others) (rw other at keeps) (rw other at parts))
     ] where
       read_part : IsOther h (heap_in (bytes_of m) r) → KeepsWithin h items (heap_in (bytes_of m) r) → IsHeapIn (bytes_of m) r.at r.len (items_in (word_at (byte_at m)) r.at)
-          → heaps_in (bytes_of n) rs ≡ with_items h.start items (heaps_in (bytes_of m) rs)
-          → heap_in (bytes_of n) r ∷ heaps_in (bytes_of n) rs ≡ with_items h.start items (heap_in (bytes_of m) r ∷ heaps_in (bytes_of m) rs)
+          → heaps_in (bytes_of n) rs ≡ heaps_with_items h.start items (heaps_in (bytes_of m) rs)
+          → heap_in (bytes_of n) r ∷ heaps_in (bytes_of n) rs ≡ heaps_with_items h.start items (heap_in (bytes_of m) r ∷ heaps_in (bytes_of m) rs)
       read_part (inl same) keeps heap rest =
           let start : r.at ≡ h.start = ap (λ (x : HeapList). x.start) same in
           let test : (r.at == h.start) ≡ true = eq-eqb r.at h.start start in
@@ -307,7 +307,7 @@ pub layout-regions : (m n : AddressMap) → layout n ≡ layout m → regions n 
 layout-regions m n same = ap (λ l. l.regions) same
 
 pub store_held : (m n : AddressMap) (h : HeapList) (items : List Item) → IsSound (store_of m) → find_heap h.start (store_of m).heaps ≡ Some h
-    → KeepsHeaps h items (store_of m).heaps → Becomes m n h.start h.end items → AreSameFlex (class_of m) (class_of n) → store_of n ≡ holding (store_of m) h items
+    → KeepsHeaps h items (store_of m).heaps → Becomes m n h.start h.end items → AreSameFlex (class_of m) (class_of n) → store_of n ≡ store_holding (store_of m) h items
 unfolding store_of
 store_held m n h items sound found keeps b flex =
     let others : AreOthers h (heaps_in (bytes_of m) (regions m)) = are_others (bytes_of m) h.start (heaps_in (bytes_of m) (regions m)) h sound.heaps found in
@@ -316,12 +316,12 @@ store_held m n h items sound found keeps b flex =
 
 pub sound_held : (m n : AddressMap) (h : HeapList) (items : List Item) → IsSound (store_of m) → find_heap h.start (store_of m).heaps ≡ Some h
     → KeepsImages (store_of m).others h.start h.items items → KeepsHeaps h items (store_of m).heaps → Becomes m n h.start h.end items → AreSameFlex (class_of m) (class_of n)
-    → ((a : ℕ) → (store_of m).anchor a ≡ true → IsAnchorPlace (with_items h.start items (store_of m).heaps) a) → IsSound (store_of n)
+    → ((a : ℕ) → (store_of m).anchor a ≡ true → IsAnchorPlace (heaps_with_items h.start items (store_of m).heaps) a) → IsSound (store_of n)
 unfolding store_of
 sound_held m n h items sound found kept keeps b flex places =
     let others : AreOthers h (heaps_in (bytes_of m) (regions m)) = are_others (bytes_of m) h.start (heaps_in (bytes_of m) (regions m)) h sound.heaps found in
     let now : IsHeld m n h.start h.end items = held m n h.start h.end items b in
-    let list : heaps_in (bytes_of n) (regions m) ≡ with_items h.start items (heaps_in (bytes_of m) (regions m)) = read_parts m n h items (regions m) now others keeps sound.heaps in
+    let list : heaps_in (bytes_of n) (regions m) ≡ heaps_with_items h.start items (heaps_in (bytes_of m) (regions m)) = read_parts m n h items (regions m) now others keeps sound.heaps in
     rw (layout-regions m n b.same, list) (record {
       heaps = parts_held m n h items (heaps_in (bytes_of m) (regions m)) now others keeps sound.heaps;
       limits = same_limits _ _ (places-held h.start items (heaps_in (bytes_of m) (regions m))) sound.limits;

@@ -5,12 +5,12 @@ use Rattle.std.specs.Prelude.{ℕ, Bool, not, min, ◌&&◌, ◌+◌, ◌-◌, n
 use Rattle.std.specs.List.{filter, list_any}
 use Rattle.address_map.specs.Bytes.{in_range}
 use Rattle.os_heap_lists.specs.Heap.{HeapList}
-use Rattle.os_heap.specs.Nesting.{is_area}
+use Rattle.os_heap.specs.Nesting.{is_module_area}
 use Rattle.os_heap.specs.Store.{Store}
 
 -- does a guest's heap start among the `len` bytes from `at` on?
 abbrev pub starts_in : ℕ → ℕ → HeapList → Bool
-starts_in at len h = not (is_area h.kind) && in_range at len h.start
+starts_in at len h = not (is_module_area h.kind) && in_range at len h.start
 
 abbrev pub holds_heap : List HeapList → ℕ → ℕ → Bool
 holds_heap hs at len = list_any (starts_in at len) hs
@@ -23,11 +23,11 @@ lowest_lost block len from (h ∷ hs) =
     let rest : ℕ = lowest_lost block len from hs in
     if starts_in block len h && nat_lt from (h.start + h.end) then min h.start rest else rest
 
-abbrev pub without_heaps : ℕ → ℕ → List HeapList → List HeapList
-without_heaps at len hs = filter (λ h. not (starts_in at len h)) hs
+abbrev pub without_heaps_in : ℕ → ℕ → List HeapList → List HeapList
+without_heaps_in at len hs = filter (λ h. not (starts_in at len h)) hs
 
 -- the store after the bytes from `from` on, of those that the block at `block` with its `total` bytes holds, were given up
-abbrev pub forgot : Store → ℕ → ℕ → ℕ → Store
-forgot s block total from =
+abbrev pub store_after_forget : Store → ℕ → ℕ → ℕ → Store
+store_after_forget s block total from =
     let low : ℕ = lowest_lost block (total - 4) from s.heaps in
-    record s { heaps = without_heaps low (block - 4 + total - low) s.heaps }
+    record s { heaps = without_heaps_in low (block - 4 + total - low) s.heaps }

@@ -5,7 +5,7 @@ use Rattle.address_map.specs.Memory.{anchor_of, regions}
 use Rattle.address_map.specs.declared.item.Item.{Item}
 use Rattle.address_map.specs.declared.map.AddressMap.{AddressMap}
 use Rattle.address_map.specs.declared.region.Region.{Region}
-use Rattle.os_heap_lists.specs.Lists.{live_total, released, resized_in_place}
+use Rattle.os_heap_lists.specs.Lists.{live_total, items_after_release, resized_in_place}
 use Rattle.os_heap_lists.specs.Walks.{IsBlock}
 use Rattle.os_heap_words.specs.Cursors.{RefitsBlock}
 use Rattle.os_heap_words.specs.Outcomes.{HasHeapAt, end_at, items_at}
@@ -16,17 +16,20 @@ use Rattle.os_heap.specs.Store.{find_heap, has_image, store_of}
 
 -- the block at `block` holds an anchor
 abbrev pub has_anchor_in : AddressMap → ℕ → ℕ → Bool
-has_anchor_in m start block = holds_anchor (anchor_of m) block (live_total block (start + 16) (items_at m start))
+has_anchor_in m start block = holds_anchor (anchor_of m) block
+    (live_total block (start + 16) (items_at m start))
 
 -- the block that a walk has come to is no module image
-pub record IsGuestBlock (rs : List Region) (start : ℕ) (items : List Item) (block from at free gap : ℕ) : Type 0 where
+pub record IsGuestBlock (rs : List Region) (start : ℕ) (items : List Item)
+    (block from at free gap : ℕ) : Type 0 where
   pub here : IsBlock start items block from at free gap
   pub own : has_image block rs ≡ false
 
 -- what a walk to a guest's block finds: a cursor at it, or that there is none
 abbrev pub FindsGuestBlock : AddressMap → ℕ → ℕ → Option Cursor → Type 0
 FindsGuestBlock m start block hit = MatchOption hit
-    (unless_image (has_image block (regions m)) (released block (start + 16) (items_at m start)) ≡ None)
+    (unless_image (has_image block (regions m)) (items_after_release block (start + 16) (items_at m start))
+    ≡ None)
     (λ c. IsGuestBlock (regions m) start (items_at m start) block c.from c.at c.free c.gap)
 
 -- The block got another total where it stands, after the heaps that go with what is cut off were
@@ -42,7 +45,8 @@ pub record IsResizedInPlace (old new : AddressMap) (start block total : ℕ) : T
 abbrev pub ResizesInPlace : AddressMap → AddressMap → ℕ → ℕ → ℕ → Bool → Type 0
 ResizesInPlace old new start block total true = IsResizedInPlace old new start block total
 ResizesInPlace old new start block total false =
-    (resized_in_place block (start + end_at old start) total (start + 16) (items_at old start) ≡ None) × (new ≡ old)
+    (resized_in_place block (start + end_at old start) total (start + 16) (items_at old start) ≡ None) ×
+    (new ≡ old)
 
 -- a guest's block that has a total, and holds no anchor
 pub record MayMove (m : AddressMap) (start block total : ℕ) : Type 0 where

@@ -10,12 +10,12 @@ use Rattle.os_heap_lists.specs.Heap.{HeapList}
 use Rattle.os_heap.specs.Store.{find_heap, store_of}
 
 -- what a record says beside its length: what the range is for, and where it starts
-abbrev pub start_of : Region → Kind × ℕ
-start_of r = (r.kind, r.at)
+abbrev pub kind_and_start : Region → Kind × ℕ
+kind_and_start r = (r.kind, r.at)
 
 -- the same of all records, the first recorded first
 abbrev pub order_of : AddressMap → List (Kind × ℕ)
-order_of m = map start_of (regions m)
+order_of m = map kind_and_start (regions m)
 
 -- no record comes or goes, and each stands where it stood
 abbrev pub KeepsOrder : AddressMap → AddressMap → Type 0

@@ -1,5 +1,6 @@
 -- Where a byte lies among the heaps: in none, in what a live block holds, or in a heap's own words and free room (RISC OS 3 Programmer's Reference
 -- Manual, "OS_Heap", the internal format).
+use Rattle.profile.specs.MemoryMap.{module_area_start}
 use Rattle.std.specs.Prelude.{ℕ, ◌+◌, ◌-◌, Bool, true, false, Option, Some, None, List, [], ◌∷◌, if◌then◌else◌}
 use Rattle.address_map.specs.Bytes.{in_range}
 use Rattle.address_map.specs.Items.{total_of}
@@ -19,7 +20,8 @@ holds_byte at (Free t) a = false
 abbrev pub payload_from : ℕ → List Item → ℕ → Payload
 payload_from at [] a = Other
 payload_from at (item ∷ items) a =
-    if holds_byte at item a then Inside (at + 4) (total_of item - 4) else payload_from (at + total_of item) items a
+    if holds_byte at item a then Inside (at + 4) (total_of item - 4)
+    else payload_from (at + total_of item) items a
 
 abbrev pub payload_in : HeapList → ℕ → Payload
 payload_in h a = payload_from (h.start + 16) h.items a
@@ -30,7 +32,7 @@ payload_by None a = Outside
 payload_by (Some h) a = if in_range h.start h.end a then payload_in h a else Outside
 
 abbrev pub area_payload : Store → ℕ → Payload
-area_payload s a = payload_by (find_heap 0x01800000 s.heaps) a
+area_payload s a = payload_by (find_heap module_area_start s.heaps) a
 
 -- Where heaps lie round each other, all of them must hold the byte in a live block; the last of these is told.
 abbrev pub payload_or : Payload → Payload → Payload
@@ -42,7 +44,8 @@ payload_or (Inside at len) Other = Other
 
 abbrev pub payload_of : List HeapList → ℕ → Payload
 payload_of [] a = Outside
-payload_of (h ∷ hs) a = if in_range h.start h.end a then payload_or (payload_in h a) (payload_of hs a) else payload_of hs a
+payload_of (h ∷ hs) a = if in_range h.start h.end a then payload_or (payload_in h a) (payload_of hs a)
+    else payload_of hs a
 
 -- in a heap, but in nothing that a live block holds
 abbrev pub is_other : Payload → Bool

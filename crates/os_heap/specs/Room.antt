@@ -5,9 +5,9 @@ use Rattle.os_heap_lists.specs.Heap.{HeapList}
 use Rattle.os_heap.specs.Store.{Store, find_heap}
 
 -- the byte behind the last item, counted from the heap's start; 0 where there is no heap
-abbrev pub base_of : Option HeapList → ℕ
-base_of None = 0
-base_of (Some h) = 16 + size_of h.items
+abbrev pub heap_base_of : Option HeapList → ℕ
+heap_base_of None = 0
+heap_base_of (Some h) = 16 + size_of h.items
 
 unfoldable pub base_offset : Store → ℕ → ℕ
-base_offset s heap = base_of (find_heap heap s.heaps)
+base_offset s heap = heap_base_of (find_heap heap s.heaps)

@@ -7,7 +7,7 @@ use Rattle.address_map.specs.declared.map.AddressMap.{AddressMap}
 use Rattle.os_heap_lists.specs.Heap.{HeapList}
 use Rattle.os_heap_lists.specs.Lists.{live_total}
 use Rattle.os_heap.specs.Calls.{gave_back}
-use Rattle.os_heap.specs.Forgetting.{forgot}
+use Rattle.os_heap.specs.Forgetting.{store_after_forget}
 use Rattle.os_heap.specs.Order.{LosesHeaps}
 use Rattle.os_heap.specs.Store.{AreClasses, IsSound, find_heap, store_of}
 
@@ -23,7 +23,7 @@ pub record KeepsLayout (old new : AddressMap) : Type 0 where
   pub layout : layout new ≡ layout old
 
 -- It is so still, where a step records a heap: no other range is another one.
-pub record KeepsOthers (old new : AddressMap) : Type 0 where
+pub record KeepsOtherRanges (old new : AddressMap) : Type 0 where
   pub sound : IsSound (store_of new)
   pub classes : AreClasses new
   pub others : (store_of new).others ≡ (store_of old).others
@@ -45,7 +45,7 @@ pub record HasBlock (m : AddressMap) (block total : ℕ) : Type 0 where
 
 -- The heaps that go with the bytes from `from` on of a block are forgotten, and no byte is changed.
 pub record Forgets (old new : AddressMap) (block total from : ℕ) : Type 0 where
-  pub store : store_of new ≡ forgot (store_of old) block total from
+  pub store : store_of new ≡ store_after_forget (store_of old) block total from
   pub kept : KeepsRest old new
   pub bytes : byte_at new ≡ byte_at old
 

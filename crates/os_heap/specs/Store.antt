@@ -1,5 +1,6 @@
 -- All heaps together with memory: the heaps that the words of memory spell at the recorded places, and what holds of them whatever is called (RISC
 -- OS 3 Programmer's Reference Manual, "OS_Heap", "The relocatable module area"; the limits are this project's own).
+use Rattle.profile.specs.MemoryMap.{module_area_start}
 use Rattle.std.specs.Prelude.{ℕ, ◌≡◌, ◌≤◌, ◌<◌, ◌⊎◌, Bool, true, false, suc, ◌+◌, ◌==◌, ◌&&◌, ◌||◌, Option, Some, None, List, [], ◌∷◌, length, if◌then◌else◌}
 use Rattle.std.specs.List.{list_any}
 use Rattle.address_map.specs.declared.region.Kind.{Kind}
@@ -12,7 +13,7 @@ use Rattle.address_map.specs.Items.{items_in, is_heap_word}
 use Rattle.address_map.specs.declared.item.Item.{Item}
 use Rattle.address_map.specs.Records.{is_heap_kind}
 use Rattle.address_map.specs.Memory.{bytes_of, class_of, regions}
-pub use Rattle.os_heap.specs.Nesting.{AreClear, IsClearOfHeaps, StandApart, is_area}
+pub use Rattle.os_heap.specs.Nesting.{AreClear, IsClearOfHeaps, StandApart, is_module_area}
 use Rattle.os_heap_lists.specs.Heap.{HeapList, IsHeapIn}
 use Rattle.os_heap_lists.specs.Lists.{live_total}
 use Rattle.os_heap_lists.specs.Marks.{spells_any}
@@ -54,16 +55,16 @@ AreHeapsIn b (h ∷ hs) = IsHeapIn b h.start h.end h.items × (StandApart h hs �
 
 abbrev pub guest_count : List HeapList → ℕ
 guest_count [] = 0
-guest_count (h ∷ hs) = if is_area h.kind then guest_count hs else suc (guest_count hs)
+guest_count (h ∷ hs) = if is_module_area h.kind then guest_count hs else suc (guest_count hs)
 
 abbrev pub area_count : List HeapList → ℕ
 area_count [] = 0
-area_count (h ∷ hs) = if is_area h.kind then suc (area_count hs) else area_count hs
+area_count (h ∷ hs) = if is_module_area h.kind then suc (area_count hs) else area_count hs
 
 -- there is at most one module area, and it starts at its fixed place
 abbrev pub StandAreas : List HeapList → Type 0
 StandAreas [] = Unit {0}
-StandAreas (h ∷ hs) = (is_area h.kind ≡ true → h.start ≡ 0x01800000) × StandAreas hs
+StandAreas (h ∷ hs) = (is_module_area h.kind ≡ true → h.start ≡ module_area_start) × StandAreas hs
 
 pub record AreInLimits (hs : List HeapList) : Type 0 where
   pub guests : guest_count hs ≤ 64
@@ -81,7 +82,7 @@ has_image at rs = list_any (λ r. is_image r.kind && r.at == at) rs
 -- A module image in the module area is a block there: its record covers all bytes that the block holds.
 pub record IsImageBlock (h : HeapList) (r : Region) : Type 0 where
   pub image : is_image r.kind ≡ true
-  pub area : is_area h.kind ≡ true
+  pub area : is_module_area h.kind ≡ true
   pub live : live_total r.at (h.start + 16) h.items ≡ Some (r.len + 4)
 
 abbrev pub IsImageIn : List HeapList → Region → Type 0
@@ -116,7 +117,8 @@ pub record IsInBlock (at : ℕ) (items : List Item) (a : ℕ) : Type 0 where
 
 abbrev pub IsAnchorPlace : List HeapList → ℕ → Type 0
 IsAnchorPlace [] a = Unit {0}
-IsAnchorPlace (h ∷ hs) a = ((in_range h.start h.end a ≡ false) ⊎ IsInBlock (h.start + 16) h.items a) × IsAnchorPlace hs a
+IsAnchorPlace (h ∷ hs) a = ((in_range h.start h.end a ≡ false) ⊎ IsInBlock (h.start + 16) h.items a) ×
+    IsAnchorPlace hs a
 
 -- is a byte in the recorded range of the flex store?
 abbrev pub is_flex_store : Kind → Bool
@@ -142,7 +144,8 @@ abbrev pub is_flex_word : Store → ℕ → Bool
 is_flex_word s a = s.header a || s.anchor a
 
 unfoldable pub owned_in : Store → ℕ → Bool
-owned_in s a = list_any (λ h. is_heap_word h.start h.items (word_start a)) s.heaps || is_flex_word s (word_start a)
+owned_in s a = list_any (λ h. is_heap_word h.start h.items (word_start a)) s.heaps
+    || is_flex_word s (word_start a)
 
 -- The words that are marked as those of heaps are just those that the lists spell.
 abbrev pub AreClasses : AddressMap → Type 0

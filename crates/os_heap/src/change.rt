@@ -5,12 +5,12 @@ ghost use Rattle.profile.specs.Outcome.{Gives};
 ghost use Rattle.address_map.specs.Memory.{byte_at, mapping, bytes_of};
 ghost use Rattle.address_map.specs.Records.{is_heap_kind};
 ghost use Rattle.os_heap_lists.specs.Words.{AreApart};
-ghost use Rattle.os_heap.specs.Calls.{changed, end_changed, ending, has_own_size, MayEndArea, IsAreaEnded};
+ghost use Rattle.os_heap.specs.Calls.{store_after_change, end_changed, ending, has_own_size, MayEndArea, IsAreaEnded};
 ghost use Rattle.os_heap.specs.Order.{KeepsOrder};
 ghost use Rattle.os_heap.specs.Probes.{change_probes, end_probes, growth_probes};
 ghost use Rattle.os_heap.specs.Ranges.{MayEnd, overgrows};
 ghost use Rattle.os_heap_words.specs.Outcomes.{IsHeapAt};
-ghost use Rattle.os_heap.specs.Sound.{IsSoundMap, KeepsOthers};
+ghost use Rattle.os_heap.specs.Sound.{IsSoundMap, KeepsOtherRanges};
 ghost use Rattle.os_heap.specs.Store.{store_of, heap_in, find_heap, AreClasses, IsSound};
 
 use crate::heaps::{Heaps, find};
@@ -37,7 +37,8 @@ impl Heaps {
     pub fn change_size(&self, map: &mut AddressMap, heap: u32, change: u32) -> Counted<()>
         requires sound { IsSound (store_of map.old) }
         requires classes { AreClasses map.old }
-        ensures store { Gives (store_of map.old) (changed (store_of map.old) heap change) result.answer
+        ensures store { Gives (store_of map.old) (store_after_change (store_of map.old) heap change)
+            result.answer
             (store_of map.new) }
         ensures sound { IsSound (store_of map.new) }
         ensures classes { AreClasses map.new }
@@ -80,8 +81,9 @@ fn has_own_size(kind: Kind) -> bool
 /// Changes the end of a heap, where nothing speaks against it.
 fn change_end(map: &mut AddressMap, heap: u32, change: u32) -> Counted<()>
     requires { IsSoundMap map.old }
-    ensures store { Gives (store_of map.old) (changed (store_of map.old) heap change) result.answer (store_of map.new) }
-    ensures kept { KeepsOthers map.old map.new }
+    ensures store { Gives (store_of map.old) (store_after_change (store_of map.old) heap change) result.answer
+        (store_of map.new) }
+    ensures kept { KeepsOtherRanges map.old map.new }
     ensures order { KeepsOrder map.old map.new }
     ensures probes { result.probes ≡ change_probes (store_of map.old) heap change }
 {
@@ -107,10 +109,12 @@ fn change_end(map: &mut AddressMap, heap: u32, change: u32) -> Counted<()>
 fn may_end(map: &AddressMap, region: &Region, end: u32) -> Counted<()>
     requires heap { IsHeapAt map.now region.now.at region.now.len }
     requires sound { IsSoundMap map.now }
-    ensures answer { MatchResult result.answer (λ _. MayEnd (store_of map.now) (heap_in (bytes_of map.now) region.now) end)
+    ensures answer { MatchResult result.answer (λ _. MayEnd (store_of map.now)
+        (heap_in (bytes_of map.now) region.now) end)
         (λ e. (change : ℕ) → change % 4 ≡ 0
         → end_changed (store_of map.now) (heap_in (bytes_of map.now) region.now) change end ≡ Err e) }
-    ensures probes { result.probes ≡ end_probes (store_of map.now) (heap_in (bytes_of map.now) region.now) end }
+    ensures probes { result.probes ≡ end_probes (store_of map.now)
+        (heap_in (bytes_of map.now) region.now) end }
 {
     if !is_heap_region(map, region.at, end) {
         return refused(ErrorNumber::HeapBadRegion, 0);
@@ -133,7 +137,8 @@ fn overgrows(map: &AddressMap, region: &Region, end: u32) -> Tested
     requires heap { IsHeapAt map.now region.now.at region.now.len }
     requires sound { IsSoundMap map.now }
     ensures yes { result.yes ≡ overgrows (store_of map.now) (heap_in (bytes_of map.now) region.now) end }
-    ensures probes { result.probes ≡ growth_probes (store_of map.now) (heap_in (bytes_of map.now) region.now) end }
+    ensures probes { result.probes ≡ growth_probes (store_of map.now)
+        (heap_in (bytes_of map.now) region.now) end }
 {
     if region.len >= end {
         return Tested {
@@ -153,11 +158,12 @@ fn overgrows(map: &AddressMap, region: &Region, end: u32) -> Tested
 /// Writes the end of a heap, and records its range anew.
 fn set_end(map: &mut AddressMap, region: &Region, end: u32)
     requires kind { is_heap_kind region.now.kind ≡ true }
-    requires found { find_heap region.now.at (store_of map.old).heaps ≡ Some (heap_in (bytes_of map.old) region.now) }
+    requires found { find_heap region.now.at (store_of map.old).heaps
+        ≡ Some (heap_in (bytes_of map.old) region.now) }
     requires may { MayEnd (store_of map.old) (heap_in (bytes_of map.old) region.now) end }
     requires state { IsSoundMap map.old }
     ensures store { store_of map.new ≡ ending (store_of map.old) (heap_in (bytes_of map.old) region.now) end }
-    ensures kept { KeepsOthers map.old map.new }
+    ensures kept { KeepsOtherRanges map.old map.new }
     ensures order { KeepsOrder map.old map.new }
     ensures bytes { (a : ℕ) → AreApart a 1 (region.now.at + 12) 4 → byte_at map.new a ≡ byte_at map.old a }
 {

@@ -2,7 +2,7 @@
 
 ghost use Rattle.std.specs.Prelude.{◌≡◌, ◌<◌, ◌+◌};
 ghost use Rattle.os_heap.specs.Store.{store_of, IsSound};
-ghost use Rattle.os_heap.specs.Calls.{described};
+ghost use Rattle.os_heap.specs.Calls.{heap_description};
 ghost use Rattle.os_heap.specs.Probes.{describe_probes};
 
 use crate::heaps::{Heaps, find};
@@ -22,7 +22,7 @@ impl Heaps {
     /// `HeapBadDesc` where no heap starts at that address.
     pub fn describe(&self, map: &AddressMap, heap: u32) -> Counted<(u32, u32)>
         requires { IsSound (store_of map.now) }
-        ensures answer { result.answer ≡ described (store_of map.now) heap }
+        ensures answer { result.answer ≡ heap_description (store_of map.now) heap }
         ensures probes { result.probes ≡ describe_probes (store_of map.now) heap }
     {
         let Some(region) = find(map, heap) else {

@@ -4,7 +4,7 @@ ghost use Rattle.std.specs.Prelude.{◌≡◌};
 ghost use Rattle.profile.specs.Outcome.{Gives};
 ghost use Rattle.address_map.specs.Memory.{layout};
 ghost use Rattle.os_heap.specs.Store.{store_of, AreClasses, IsSound};
-ghost use Rattle.os_heap.specs.Calls.{got};
+ghost use Rattle.os_heap.specs.Calls.{store_after_get};
 ghost use Rattle.os_heap.specs.Probes.{get_probes};
 
 use crate::heaps::{Heaps, find};
@@ -26,7 +26,8 @@ impl Heaps {
     pub fn get(&self, map: &mut AddressMap, heap: u32, size: u32) -> Counted<u32>
         requires sound { IsSound (store_of map.old) }
         requires classes { AreClasses map.old }
-        ensures store { Gives (store_of map.old) (got (store_of map.old) heap size) result.answer (store_of map.new) }
+        ensures store { Gives (store_of map.old) (store_after_get (store_of map.old) heap size) result.answer
+            (store_of map.new) }
         ensures sound { IsSound (store_of map.new) }
         ensures classes { AreClasses map.new }
         ensures layout { layout map.new ≡ layout map.old }

@@ -21,7 +21,8 @@ impl Heaps {
 #[tactic(auto, unfolding(crate::specs::Store::store_of))]
 pub(crate) fn find(map: &AddressMap, heap: u32) -> Option<Region>
     ensures { MatchOption result (find_heap heap (store_of map.now).heaps ≡ None) (λ region.
-        (region.at ≡ heap) × (find_heap heap (store_of map.now).heaps ≡ Some (heap_in (bytes_of map.now) region))) }
+        (region.at ≡ heap) × (find_heap heap (store_of map.now).heaps
+        ≡ Some (heap_in (bytes_of map.now) region))) }
 {
     let regions = map.regions();
     for region in regions {

@@ -10,9 +10,9 @@ ghost use Rattle.os_heap.specs.Order.{AddsRecord, KeepsOrder};
 ghost use Rattle.os_heap.specs.Probes.{init_probes};
 ghost use Rattle.os_heap.specs.Ranges.{MayBegin, is_heap_region};
 ghost use Rattle.os_heap_lists.specs.Heap.{with_heap};
-ghost use Rattle.os_heap.specs.Sound.{IsSoundMap, KeepsOthers};
+ghost use Rattle.os_heap.specs.Sound.{IsSoundMap, KeepsOtherRanges};
 ghost use Rattle.os_heap.specs.Store.{store_of, heaps_in, guest_count, AreClasses, IsSound};
-ghost use Rattle.os_heap.specs.Calls.{begun, begun_with};
+ghost use Rattle.os_heap.specs.Calls.{store_after_init, store_with_new_heap};
 
 use crate::heaps::Heaps;
 use crate::obstacles::is_obstructed;
@@ -41,7 +41,8 @@ impl Heaps {
     pub fn init(&self, map: &mut AddressMap, heap: u32, size: u32) -> Counted<()>
         requires sound { IsSound (store_of map.old) }
         requires classes { AreClasses map.old }
-        ensures store { Gives (store_of map.old) (begun (store_of map.old) heap size) result.answer (store_of map.new) }
+        ensures store { Gives (store_of map.old) (store_after_init (store_of map.old) heap size) result.answer
+            (store_of map.new) }
         ensures sound { IsSound (store_of map.new) }
         ensures classes { AreClasses map.new }
         ensures others { (store_of map.new).others ≡ (store_of map.old).others }
@@ -58,7 +59,7 @@ impl Heaps {
         requires may { MayBegin Rma (store_of map.old) area size }
         requires sound { IsSound (store_of map.old) }
         requires classes { AreClasses map.old }
-        ensures store { store_of map.new ≡ begun_with Rma (store_of map.old) area size }
+        ensures store { store_of map.new ≡ store_with_new_heap Rma (store_of map.old) area size }
         ensures sound { IsSound (store_of map.new) }
         ensures classes { AreClasses map.new }
         ensures others { (store_of map.new).others ≡ (store_of map.old).others }
@@ -72,8 +73,9 @@ impl Heaps {
 /// Makes a heap, where nothing speaks against it.
 fn begin(map: &mut AddressMap, heap: u32, size: u32) -> Counted<()>
     requires { IsSoundMap map.old }
-    ensures store { Gives (store_of map.old) (begun (store_of map.old) heap size) result.answer (store_of map.new) }
-    ensures kept { KeepsOthers map.old map.new }
+    ensures store { Gives (store_of map.old) (store_after_init (store_of map.old) heap size) result.answer
+        (store_of map.new) }
+    ensures kept { KeepsOtherRanges map.old map.new }
     ensures order { MatchResult result.answer
         (λ _. AddsRecord map.old map.new Heap heap) (λ _. KeepsOrder map.old map.new) }
     ensures probes { result.probes ≡ init_probes (store_of map.old) heap size }
@@ -90,8 +92,8 @@ fn make(map: &mut AddressMap, kind: Kind, heap: u32, size: u32)
     requires kind { is_heap_kind kind ≡ true }
     requires may { MayBegin kind (store_of map.old) heap size }
     requires state { IsSoundMap map.old }
-    ensures store { store_of map.new ≡ begun_with kind (store_of map.old) heap size }
-    ensures kept { KeepsOthers map.old map.new }
+    ensures store { store_of map.new ≡ store_with_new_heap kind (store_of map.old) heap size }
+    ensures kept { KeepsOtherRanges map.old map.new }
     ensures order { AddsRecord map.old map.new kind heap }
 {
     write_descriptor(map, heap, size);
@@ -118,7 +120,7 @@ fn write_descriptor(map: &mut AddressMap, heap: u32, size: u32)
 fn may_begin(map: &AddressMap, heap: u32, size: u32) -> Counted<()>
     requires { IsSoundMap map.now }
     ensures answer { MatchResult result.answer (λ _. MayBegin Heap (store_of map.now) heap size)
-        (λ e. begun (store_of map.now) heap size ≡ Err e) }
+        (λ e. store_after_init (store_of map.now) heap size ≡ Err e) }
     ensures probes { result.probes ≡ init_probes (store_of map.now) heap size }
 {
     if !is_heap_region(map, heap, size) {

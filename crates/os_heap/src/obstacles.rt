@@ -9,7 +9,7 @@ ghost use Rattle.address_map.specs.Items.{size_of};
 ghost use Rattle.address_map.specs.Records.{is_heap_kind};
 ghost use Rattle.os_heap_lists.specs.Heap.{AreTotals};
 ghost use Rattle.os_heap.specs.Bars.{IsInnermost, bars_record};
-ghost use Rattle.os_heap.specs.Nesting.{holds_range, is_round, later};
+ghost use Rattle.os_heap.specs.Nesting.{holds_range, is_round, later_heap};
 ghost use Rattle.os_heap_words.specs.Outcomes.{IsHeapAt, items_at};
 ghost use Rattle.os_heap.specs.Probes.{region_probes, walked_to};
 ghost use Rattle.os_heap.specs.Ranges.{is_obstructed};
@@ -63,7 +63,8 @@ pub(crate) fn is_obstructed(map: &AddressMap, at: u32, len: u32, new: u32, more:
 
 /// Whether a recorded range is that of a heap which starts before an address, and has its byte.
 fn has_before(region: &Region, at: u32) -> bool
-    ensures { result ≡ (is_heap_kind region.now.kind && (nat_lt region.now.at at && in_range region.now.at region.now.len at)) }
+    ensures { result ≡ (is_heap_kind region.now.kind && (nat_lt region.now.at at
+        && in_range region.now.at region.now.len at)) }
 {
     region.kind.is_heap() && region.at < at && at - region.at < region.len
 }
@@ -80,7 +81,8 @@ fn bars(region: &Region, at: u32, len: u32, new: u32, more: u32) -> bool
 
 /// Whether a recorded range is that of a heap round a range.
 fn is_round(region: &Region, at: u32, len: u32) -> bool
-    ensures { (b : Bytes) → (is_heap_kind region.now.kind && is_round at len (heap_in b region.now)) ≡ result }
+    ensures { (b : Bytes) → (is_heap_kind region.now.kind && is_round at len (heap_in b region.now))
+        ≡ result }
 {
     region.kind.is_heap()
         && region.at < at
@@ -113,7 +115,8 @@ fn innermost(
 
 /// Of two records the one that starts last.
 fn later(last: Option<Region>, region: &Region) -> Region
-    ensures { (b : Bytes) → later (option_map (heap_in b) last) (Some (heap_in b region.now)) ≡ Some (heap_in b result) }
+    ensures { (b : Bytes) → later_heap (option_map (heap_in b) last) (Some (heap_in b region.now))
+        ≡ Some (heap_in b result) }
 {
     match last {
         Some(other) if other.at >= region.at => other,

@@ -2,12 +2,12 @@
 
 ghost use Rattle.std.specs.Prelude.{◌≡◌, ◌<◌, ◌+◌, ◌-◌, Some};
 ghost use Rattle.profile.specs.Outcome.{Gives};
-ghost use Rattle.os_heap.specs.Calls.{moved};
+ghost use Rattle.os_heap.specs.Calls.{store_after_move};
 ghost use Rattle.os_heap_words.specs.Cursors.{IsNewTotal};
 ghost use Rattle.os_heap.specs.GuestBlocks.{MayMove};
 ghost use Rattle.os_heap.specs.Probes.{move_probes};
 ghost use Rattle.os_heap_lists.specs.Heap.{HeapList};
-ghost use Rattle.os_heap_lists.specs.Lists.{claimed};
+ghost use Rattle.os_heap_lists.specs.Lists.{claim_in_items};
 ghost use Rattle.os_heap.specs.Sound.{IsSoundMap, KeepsRest};
 ghost use Rattle.os_heap.specs.Store.{store_of, find_heap};
 
@@ -33,10 +33,11 @@ pub(crate) fn relocate(
     requires needed { IsNewTotal needed }
     requires larger { total < needed }
     ensures store { (h : HeapList) → find_heap heap (store_of map.old).heaps ≡ Some h
-        → Gives (store_of map.old) (moved (store_of map.old) h block total needed) result.answer (store_of map.new) }
+        → Gives (store_of map.old) (store_after_move (store_of map.old) h block total needed) result.answer
+        (store_of map.new) }
     ensures kept { KeepsRest map.old map.new }
     ensures probes { (h : HeapList) → find_heap heap (store_of map.old).heaps ≡ Some h → result.probes
-        ≡ move_probes (store_of map.old) h block total needed (claimed needed (h.end - 16) h.items) }
+        ≡ move_probes (store_of map.old) h block total needed (claim_in_items needed (h.end - 16) h.items) }
 {
     if holds_heap(map.regions(), block, total - 4) {
         let room = find_room(map, heap, needed);

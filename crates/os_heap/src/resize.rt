@@ -4,7 +4,7 @@ ghost use Rattle.std.specs.Prelude.{◌≡◌, ◌≤◌, ◌<◌, ◌+◌, ◌-
 ghost use Rattle.profile.specs.Outcome.{Gives};
 ghost use Rattle.address_map.specs.Memory.{anchor_of, mapping, regions};
 ghost use Rattle.address_map.specs.Records.{anchor_among};
-ghost use Rattle.os_heap.specs.Calls.{resized};
+ghost use Rattle.os_heap.specs.Calls.{store_after_resize};
 ghost use Rattle.os_heap_words.specs.Cursors.{IsNewTotal};
 ghost use Rattle.os_heap.specs.GuestBlocks.{ResizesInPlace};
 ghost use Rattle.os_heap_words.specs.Outcomes.{items_at};
@@ -50,7 +50,8 @@ impl Heaps {
     pub fn resize(&self, map: &mut AddressMap, heap: u32, block: u32, change: u32) -> Counted<u32>
         requires sound { IsSound (store_of map.old) }
         requires classes { AreClasses map.old }
-        ensures store { Gives (store_of map.old) (resized (store_of map.old) heap block change) result.answer
+        ensures store { Gives (store_of map.old) (store_after_resize (store_of map.old) heap block change)
+            result.answer
             (store_of map.new) }
         ensures sound { IsSound (store_of map.new) }
         ensures classes { AreClasses map.new }
@@ -71,7 +72,8 @@ impl Heaps {
 fn resize_block(map: &mut AddressMap, heap: u32, block: u32, change: u32) -> Counted<u32>
     requires state { IsSoundMap map.old }
     requires found { is_some (find_heap heap (store_of map.old).heaps) ≡ true }
-    ensures store { Gives (store_of map.old) (resized (store_of map.old) heap block change) result.answer
+    ensures store { Gives (store_of map.old) (store_after_resize (store_of map.old) heap block change)
+        result.answer
         (store_of map.new) }
     ensures kept { KeepsRest map.old map.new }
     ensures probes { result.probes ≡ resize_probes (store_of map.old) heap block change }

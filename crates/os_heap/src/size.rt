@@ -40,7 +40,8 @@ impl Heaps {
 /// The bytes that a block of one heap holds.
 fn measure(map: &AddressMap, heap: u32, block: u32) -> Counted<u32>
     requires { HasHeapAt map.now heap }
-    ensures answer { result.answer ≡ bytes_held (guests_total (regions map.now) heap (items_at map.now heap) block) }
+    ensures answer { result.answer ≡ bytes_held (guests_total (regions map.now) heap
+        (items_at map.now heap) block) }
     ensures probes { result.probes ≡ begun_below block (heap + 16) (items_at map.now heap) }
 {
     let walk = find_guest_block(map, heap, block);

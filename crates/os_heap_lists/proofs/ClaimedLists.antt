@@ -6,11 +6,11 @@ use Rattle.address_map.specs.Items.{is_total, size_of}
 use Rattle.address_map.specs.declared.item.Item.{Item}
 use Rattle.address_map.specs.declared.item.Item.TheVariants.{Live, Free}
 use Rattle.os_heap_lists.proofs.LinkWalk.{live_next, live_low}
-use Rattle.os_heap_lists.proofs.LiveBlocks.{LiveBytes, live_bytes}
+use Rattle.os_heap_lists.proofs.LiveBlocks.{LiveBytes, law_live_bytes}
 use Rattle.os_heap_lists.proofs.Reading.{total_facts}
 use Rattle.os_heap_lists.proofs.Spelling.{size_of-append, total_of-numbers, totals-join}
 use Rattle.os_heap_lists.specs.Heap.{AreTotals}
-use Rattle.os_heap_lists.specs.Lists.{live_total, Claim, behind, left_free, first_fit, or_at_base, claimed}
+use Rattle.os_heap_lists.specs.Lists.{live_total, Claim, claim_behind, left_free, first_fit, or_at_base, claim_in_items}
 
 -- The list after a claim has the lengths of items.
 abbrev pub HasTotals : Option Claim → Type 0
@@ -28,11 +28,11 @@ left_totals n t xs less total fits totals = elim (cases_Bool (t - n == 0)) [
       rw some (left, totals)
 ]
 
-behind_totals_live : (t : ℕ) (o : Option Claim) → is_total t ≡ true → HasTotals o → HasTotals (behind (Live t) o)
+behind_totals_live : (t : ℕ) (o : Option Claim) → is_total t ≡ true → HasTotals o → HasTotals (claim_behind (Live t) o)
 behind_totals_live t None total has = tt
 behind_totals_live t (Some c) total has = (total, has)
 
-behind_totals_free : (t : ℕ) (o : Option Claim) → is_total t ≡ true → HasTotals o → HasTotals (behind (Free t) o)
+behind_totals_free : (t : ℕ) (o : Option Claim) → is_total t ≡ true → HasTotals o → HasTotals (claim_behind (Free t) o)
 behind_totals_free t None total has = tt
 behind_totals_free t (Some c) total has = (total, has)
 
@@ -51,8 +51,8 @@ base_totals n room xs None total totals has = elim (cases_Bool (nat_le (size_of 
   | inr short ↦ rw short tt
 ]
 
-pub claim_totals : (n room : ℕ) (xs : List Item) → is_total n ≡ true → AreTotals xs → HasTotals (claimed n room xs)
-unfolding claimed
+pub claim_totals : (n room : ℕ) (xs : List Item) → is_total n ≡ true → AreTotals xs → HasTotals (claim_in_items n room xs)
+unfolding claim_in_items
 claim_totals n room xs total totals = base_totals n room xs (first_fit n xs) total totals (fit_totals n xs total totals)
 
 -- The block that a claim makes was none before.
@@ -63,14 +63,14 @@ IsUnheld at xs (Some c) = is_some (live_total (at + c.offset + 4) at xs) ≡ fal
 past_unheld : (block at : ℕ) (xs : List Item) → block < at + 4 → is_some (live_total block at xs) ≡ false
 past_unheld block at xs low = false_from_ne_true _ (λ live. let far : at + 4 ≤ block = live_low block at xs live in omega (arith, far, low))
 
-unheld_live : (at t : ℕ) (xs : List Item) (o : Option Claim) → 8 ≤ t → IsUnheld (at + t) xs o → IsUnheld at (Live t ∷ xs) (behind (Live t) o)
+unheld_live : (at t : ℕ) (xs : List Item) (o : Option Claim) → 8 ≤ t → IsUnheld (at + t) xs o → IsUnheld at (Live t ∷ xs) (claim_behind (Live t) o)
 unheld_live at t xs None size un = tt
 unheld_live at t xs (Some c) size un =
     let e : at + (t + 0 + c.offset) + 4 ≡ at + t + c.offset + 4 = omega arith in
     let other : at + 4 ≢ at + t + c.offset + 4 = λ (same : at + 4 ≡ at + t + c.offset + 4). omega arith in
     subst (λ (b : ℕ). is_some (live_total b at (Live t ∷ xs)) ≡ false) (sym e) (ap is_some (live_next (at + t + c.offset + 4) at t xs other) ∙ un)
 
-unheld_free : (at t : ℕ) (xs : List Item) (o : Option Claim) → IsUnheld (at + t) xs o → IsUnheld at (Free t ∷ xs) (behind (Free t) o)
+unheld_free : (at t : ℕ) (xs : List Item) (o : Option Claim) → IsUnheld (at + t) xs o → IsUnheld at (Free t ∷ xs) (claim_behind (Free t) o)
 unheld_free at t xs None un = tt
 unheld_free at t xs (Some c) un =
     let e : at + (t + 0 + c.offset) + 4 ≡ at + t + c.offset + 4 = omega arith in
@@ -87,7 +87,7 @@ fit_unheld n at (Free t ∷ xs) totals = elim (cases_Bool (nat_le n t)) [
 end_unheld : (at : ℕ) (xs : List Item) (o : Option ℕ) → AreTotals xs → live_total (at + size_of xs + 4) at xs ≡ o → is_some o ≡ false
 end_unheld at xs None totals e = refl
 end_unheld at xs (Some t) totals e =
-    let place : LiveBytes (at + size_of xs + 4) t at (at + size_of xs) = live_bytes (at + size_of xs + 4) t at xs totals e in
+    let place : LiveBytes (at + size_of xs + 4) t at (at + size_of xs) = law_live_bytes (at + size_of xs + 4) t at xs totals e in
     absurd (omega (arith, place.high, place.size))
 
 base_unheld : (n room at : ℕ) (xs : List Item) (o : Option Claim) → AreTotals xs → IsUnheld at xs o → IsUnheld at xs (or_at_base n room xs o)
@@ -97,8 +97,8 @@ base_unheld n room at xs None totals un = elim (cases_Bool (nat_le (size_of xs +
   | inr short ↦ rw short tt
 ]
 
-pub claim_unheld : (n room at : ℕ) (xs : List Item) → AreTotals xs → IsUnheld at xs (claimed n room xs)
-unfolding claimed
+pub claim_unheld : (n room at : ℕ) (xs : List Item) → AreTotals xs → IsUnheld at xs (claim_in_items n room xs)
+unfolding claim_in_items
 claim_unheld n room at xs totals = base_unheld n room at xs (first_fit n xs) totals (fit_unheld n at xs totals)
 
 -- The list after a claim has no more bytes than there is room.
@@ -112,11 +112,11 @@ left_size n t xs fits = elim (cases_Bool (t - n == 0)) [
   | inr some ↦ rw some (omega (arith, fits))
 ]
 
-behind_size_live : (t size : ℕ) (o : Option Claim) → HasSize size o → HasSize (t + size) (behind (Live t) o)
+behind_size_live : (t size : ℕ) (o : Option Claim) → HasSize size o → HasSize (t + size) (claim_behind (Live t) o)
 behind_size_live t size None has = tt
 behind_size_live t size (Some c) has = ap (λ (n : ℕ). t + n) has
 
-behind_size_free : (t size : ℕ) (o : Option Claim) → HasSize size o → HasSize (t + size) (behind (Free t) o)
+behind_size_free : (t size : ℕ) (o : Option Claim) → HasSize size o → HasSize (t + size) (claim_behind (Free t) o)
 behind_size_free t size None has = tt
 behind_size_free t size (Some c) has = ap (λ (n : ℕ). t + n) has
 
@@ -139,6 +139,6 @@ base_within n room xs None fits has = elim (cases_Bool (nat_le (size_of xs + n) 
   | inr short ↦ rw short tt
 ]
 
-pub claim_within : (n room : ℕ) (xs : List Item) → size_of xs ≤ room → IsWithin room (claimed n room xs)
-unfolding claimed
+pub claim_within : (n room : ℕ) (xs : List Item) → size_of xs ≤ room → IsWithin room (claim_in_items n room xs)
+unfolding claim_in_items
 claim_within n room xs fits = base_within n room xs (first_fit n xs) fits (fit_size n xs)

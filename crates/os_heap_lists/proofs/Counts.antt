@@ -6,7 +6,7 @@ use Rattle.address_map.specs.Items.{size_of}
 use Rattle.address_map.specs.declared.item.Item.{Item}
 use Rattle.address_map.specs.declared.item.Item.TheVariants.{Free, Live}
 use Rattle.os_heap_lists.specs.Counts.{begun_below, looked_at, free_count, free_below}
-use Rattle.os_heap_lists.specs.Lists.{left_free, Claim, behind, first_fit, or_at_base, claimed}
+use Rattle.os_heap_lists.specs.Lists.{left_free, Claim, claim_behind, first_fit, or_at_base, claim_in_items}
 
 pub begun_most : (block at : ℕ) (xs : List Item) → begun_below block at xs ≤ length xs
 begun_most block at [] = omega arith
@@ -48,11 +48,11 @@ abbrev pub IsNoMore : List Item → Option Claim → Type 0
 IsNoMore xs None = Unit {0}
 IsNoMore xs (Some c) = free_count c.items ≤ free_count xs
 
-behind_live : (t : ℕ) (xs : List Item) (c : Option Claim) → IsNoMore xs c → IsNoMore (Live t ∷ xs) (behind (Live t) c)
+behind_live : (t : ℕ) (xs : List Item) (c : Option Claim) → IsNoMore xs c → IsNoMore (Live t ∷ xs) (claim_behind (Live t) c)
 behind_live t xs None h = tt
 behind_live t xs (Some c) h = h
 
-behind_free : (t : ℕ) (xs : List Item) (c : Option Claim) → IsNoMore xs c → IsNoMore (Free t ∷ xs) (behind (Free t) c)
+behind_free : (t : ℕ) (xs : List Item) (c : Option Claim) → IsNoMore xs c → IsNoMore (Free t ∷ xs) (claim_behind (Free t) c)
 behind_free t xs None h = tt
 behind_free t xs (Some c) h = omega (arith, h)
 
@@ -71,6 +71,6 @@ base_no_more n room xs None h = elim (cases_Bool (nat_le (size_of xs + n) room))
   | inr full ↦ rw full tt
 ]
 
-pub claim_no_more : (n room : ℕ) (xs : List Item) → IsNoMore xs (claimed n room xs)
-unfolding claimed
+pub claim_no_more : (n room : ℕ) (xs : List Item) → IsNoMore xs (claim_in_items n room xs)
+unfolding claim_in_items
 claim_no_more n room xs = base_no_more n room xs (first_fit n xs) (fit_no_more n xs)

@@ -52,10 +52,10 @@ descriptor_word : (start : ℕ) (items : List Item) (p : ℕ) → start ≤ p �
 descriptor_word start items p low high = or_left (in_range start 16 p) (is_head (start + 16) items p) (rw (le-leb start p low, lt-ltb p (start + 16) high) refl)
 
 -- a heap is kept where its own words are
-pub heaps_kept : (b c : Bytes) (start end : ℕ) (items : List Item) → c.mapped ≡ b.mapped
+pub law_heap_frame : (b c : Bytes) (start end : ℕ) (items : List Item) → c.mapped ≡ b.mapped
     → ((a : ℕ) → is_heap_word start items (word_start a) ≡ true → c.at a ≡ b.at a)
     → IsHeapIn b start end items → IsHeapIn c start end items
-heaps_kept b c start end items mapping kept heap =
+law_heap_frame b c start end items mapping kept heap =
     let aligned = heap.aligned in
     let word : (p : ℕ) → p % 4 ≡ 0 → is_heap_word start items p ≡ true → word_at c.at p ≡ word_at b.at p =
     word_kept b.at c.at (is_heap_word start items) kept in

@@ -1,4 +1,5 @@
 -- The words of a heap written over other bytes.
+use Rattle.profile.specs.MemoryMap.{heap_name}
 use Rattle.std.proofs.Common.{arith, ◌/◌, ◌+◌, ◌≡◌, ℕ, ◌%◌, ◌<◌, ◌-◌, inl, ◌∙◌, sym, inr, ◌∷◌, [], List, ◌≤◌, refl, Bool, ap}
 use Rattle.std.proofs.lemmas.Bool.{cases_lt}
 use Rattle.std.proofs.lemmas.Bool.Decides.{nat_tests}
@@ -65,13 +66,13 @@ pub part_back : (f : ℕ → ℕ) (c : Bytes) (start end : ℕ) (items : List It
     → c.at a ≡ with_heap f start end items a
 part_back f c start end items heap small a same =
     let h0 : ℕ → ℕ = with_heads f (start + 16) items 0 in
-    let h1 : ℕ → ℕ = with_word_at h0 start 0x70616548 in
+    let h1 : ℕ → ℕ = with_word_at h0 start heap_name in
     let h2 : ℕ → ℕ = with_word_at h1 (start + 4) (next_free (start + 16) items 0 - start) in
     let h3 : ℕ → ℕ = with_word_at h2 (start + 8) (16 + size_of items) in
     read_back h3 c.at (start + 12) end small heap.limit a
     (λ a3. read_back h2 c.at (start + 8) (16 + size_of items) small heap.base a
     (λ a2. read_back h1 c.at (start + 4) (next_free (start + 16) items 0 - start) small heap.first a
-    (λ a1. read_back h0 c.at start 0x70616548 small heap.name a
+    (λ a1. read_back h0 c.at start heap_name small heap.name a
     (λ a0. heads_back f c.at (start + 16) items 0 small heap.spelled a
     (λ out. same (beside_head a start a0 a1 a2 a3) out)))))
 

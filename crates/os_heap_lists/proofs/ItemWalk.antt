@@ -8,7 +8,7 @@ use Rattle.os_heap_lists.proofs.Reading.{total_facts}
 use Rattle.os_heap_lists.proofs.Spelling.{size_of-append, next_free-bounds, spaced-back, spaced-join, last_free-append}
 use Rattle.os_heap_lists.specs.Counts.{begun_below}
 use Rattle.os_heap_lists.specs.Heap.{AreTotals, next_free, AreSpaced, last_free, begins_live}
-use Rattle.os_heap_lists.specs.Lists.{left_free, glued, freed, released}
+use Rattle.os_heap_lists.specs.Lists.{left_free, items_with_gap, items_after_free, items_after_release}
 use Rattle.os_heap_lists.specs.Walks.{IsWalked, IsWalkedTo, last_link}
 
 -- no gap, or a gap: what that makes of lists
@@ -18,10 +18,10 @@ gap_none gap before none = rw (eq-eqb gap 0 none) (append-nil before)
 pub gap_some : (gap : ℕ) → gap ≢ 0 → left_free gap ≡ Free gap ∷ []
 gap_some gap some = rw (ne_eqb gap 0 some) refl
 
-pub glued_none : (gap : ℕ) (ys : List Item) → gap ≡ 0 → glued gap ys ≡ ys
+pub glued_none : (gap : ℕ) (ys : List Item) → gap ≡ 0 → items_with_gap gap ys ≡ ys
 glued_none gap ys none = rw (eq-eqb gap 0 none) refl
 
-pub glued_some : (gap : ℕ) (ys : List Item) → gap ≢ 0 → glued gap ys ≡ freed gap ys
+pub glued_some : (gap : ℕ) (ys : List Item) → gap ≢ 0 → items_with_gap gap ys ≡ items_after_free gap ys
 glued_some gap ys some = rw (ne_eqb gap 0 some) refl
 
 pub size_of-gap : (before : List Item) (gap : ℕ) → size_of (before ++ left_free gap) ≡ size_of before + gap
@@ -75,34 +75,34 @@ gap_shut before gap t xs spaced = elim (cases_Bool (gap == 0)) [
       absurd (false≢true (spaced-back before (Free gap ∷ (Free t ∷ xs)) s).0)
 ]
 
-released_free : (block at t : ℕ) (xs ys : List Item) → released block (at + t) xs ≡ Some ys → released block at (Free t ∷ xs) ≡ Some (freed t ys)
-released_free block at t xs ys h = ap (option_map (λ zs. freed t zs)) h
+released_free : (block at t : ℕ) (xs ys : List Item) → items_after_release block (at + t) xs ≡ Some ys → items_after_release block at (Free t ∷ xs) ≡ Some (items_after_free t ys)
+released_free block at t xs ys h = ap (option_map (λ zs. items_after_free t zs)) h
 
-pub released_free-none : (block at t : ℕ) (xs : List Item) → released block (at + t) xs ≡ None → released block at (Free t ∷ xs) ≡ None
-released_free-none block at t xs h = ap (option_map (λ zs. freed t zs)) h
+pub released_free-none : (block at t : ℕ) (xs : List Item) → items_after_release block (at + t) xs ≡ None → items_after_release block at (Free t ∷ xs) ≡ None
+released_free-none block at t xs h = ap (option_map (λ zs. items_after_free t zs)) h
 
-released_live : (block at t : ℕ) (xs ys : List Item) → at + 4 ≢ block → released block (at + t) xs ≡ Some ys
-    → released block at (Live t ∷ xs) ≡ Some (Live t ∷ ys)
+released_live : (block at t : ℕ) (xs ys : List Item) → at + 4 ≢ block → items_after_release block (at + t) xs ≡ Some ys
+    → items_after_release block at (Live t ∷ xs) ≡ Some (Live t ∷ ys)
 released_live block at t xs ys other h = rw (ne_eqb (at + 4) block other) (ap (option_map (λ zs. Live t ∷ zs)) h)
 
-pub released_live-none : (block at t : ℕ) (xs : List Item) → at + 4 ≢ block → released block (at + t) xs ≡ None → released block at (Live t ∷ xs) ≡ None
+pub released_live-none : (block at t : ℕ) (xs : List Item) → at + 4 ≢ block → items_after_release block (at + t) xs ≡ None → items_after_release block at (Live t ∷ xs) ≡ None
 released_live-none block at t xs other h = rw (ne_eqb (at + 4) block other) (ap (option_map (λ zs. Live t ∷ zs)) h)
 
-pub released_here : (block at t : ℕ) (xs : List Item) → at + 4 ≡ block → released block at (Live t ∷ xs) ≡ Some (freed t xs)
+pub released_here : (block at t : ℕ) (xs : List Item) → at + 4 ≡ block → items_after_release block at (Live t ∷ xs) ≡ Some (items_after_free t xs)
 released_here block at t xs here = rw (eq-eqb (at + 4) block here) refl
 
 pub begun_more : (block at t : ℕ) (xs : List Item) → at + 4 ≤ block → (begun_below block at (Live t ∷ xs) ≡ 1 + begun_below block (at + t) xs)
     × (begun_below block at (Free t ∷ xs) ≡ 1 + begun_below block (at + t) xs)
 begun_more block at t xs low = rw (le-leb (at + 4) block low) (refl, refl)
 
-pub released_past : (block at : ℕ) (xs : List Item) → block ≤ at → released block at xs ≡ None
+pub released_past : (block at : ℕ) (xs : List Item) → block ≤ at → items_after_release block at xs ≡ None
 released_past block at [] past = refl
 released_past block at (Live t ∷ xs) past =
     released_live-none block at t xs (λ (e : at + 4 ≡ block). omega arith) (released_past block (at + t) xs (omega arith))
 released_past block at (Free t ∷ xs) past = released_free-none block at t xs (released_past block (at + t) xs (omega arith))
 
 -- a block's bytes begin after its length word
-pub released_before : (block at : ℕ) (xs : List Item) → block < at + 4 → released block at xs ≡ None
+pub released_before : (block at : ℕ) (xs : List Item) → block < at + 4 → items_after_release block at xs ≡ None
 released_before block at [] past = refl
 released_before block at (Live t ∷ xs) past =
     released_live-none block at t xs (λ (e : at + 4 ≡ block). omega arith) (released_before block (at + t) xs (omega arith))
@@ -131,8 +131,8 @@ free_walked start items block from at free gap probes before rest t spaced size 
       next = refl;
       closed = w.closed;
       absent = λ h. w.absent (released_free-none block at t rest h);
-      found = λ ys h. w.found (freed t ys) (released_free block at t rest ys h)
-          ∙ ap (λ (zs : List Item). Some (before ++ zs)) (glued_none gap (freed t ys) none ∙ sym (glued_some t ys some));
+      found = λ ys h. w.found (items_after_free t ys) (released_free block at t rest ys h)
+          ∙ ap (λ (zs : List Item). Some (before ++ zs)) (glued_none gap (items_after_free t ys) none ∙ sym (glued_some t ys some));
       count = omega (arith, w.count, (begun_more block at t rest low).1);
     }
 
@@ -154,7 +154,7 @@ gap_last start before from at gap t last place = elim (cases_Bool (gap == 0)) [
       rw (some, append_assoc before (Free gap ∷ []) (Live t ∷ []), e) (sym (last_free-append start (start + 16) before (Free gap ∷ (Live t ∷ []))))
 ]
 
-gap_glued : (before : List Item) (gap t : ℕ) (ys : List Item) → before ++ glued gap (Live t ∷ ys) ≡ ((before ++ left_free gap) ++ Live t ∷ []) ++ ys
+gap_glued : (before : List Item) (gap t : ℕ) (ys : List Item) → before ++ items_with_gap gap (Live t ∷ ys) ≡ ((before ++ left_free gap) ++ Live t ∷ []) ++ ys
 gap_glued before gap t ys = elim (cases_Bool (gap == 0)) [
   | inl none ↦ rw (none, append-nil before) (sym (append_assoc before (Live t ∷ []) ys))
   | inr some ↦ rw (some, append_assoc before (Free gap ∷ []) (Live t ∷ [])) (sym (append_assoc before (Free gap ∷ (Live t ∷ [])) ys))
@@ -181,14 +181,14 @@ live_walked start items block from at free gap probes before rest t w low =
     }
 
 pub walk_past : (start : ℕ) (items : List Item) (block from at free gap probes : ℕ) → IsWalked start items block from at free gap probes → block < at + 4
-    → (released block (start + 16) items ≡ None) × (probes ≡ begun_below block (start + 16) items)
+    → (items_after_release block (start + 16) items ≡ None) × (probes ≡ begun_below block (start + 16) items)
 walk_past start items block from at free gap probes w past =
     (w.walk.absent (released_before block at w.rest past), omega (arith, w.walk.count, begun_past block at w.rest past))
 
 pub near : (block at base : ℕ) → (at + 4 < block → base ≤ at) → at < base → block ≤ at + 4
 near block at base far below = elim (cases_lt (at + 4) block) [ inl less ↦ absurd (let past = far less in omega arith) | inr more ↦ more ]
 
-pub glued_free : (gap t : ℕ) (xs : List Item) → glued gap (Free t ∷ xs) ≡ Free (gap + t) ∷ xs
+pub glued_free : (gap t : ℕ) (xs : List Item) → items_with_gap gap (Free t ∷ xs) ≡ Free (gap + t) ∷ xs
 glued_free gap t xs = elim (cases_Bool (gap == 0)) [
   | inl none ↦
       let e : gap ≡ 0 = eqb-true gap 0 none in
@@ -197,7 +197,7 @@ glued_free gap t xs = elim (cases_Bool (gap == 0)) [
   | inr some ↦ rw some refl
 ]
 
-pub glued_nothing : (gap : ℕ) → glued gap [] ≡ []
+pub glued_nothing : (gap : ℕ) → items_with_gap gap [] ≡ []
 glued_nothing gap = elim (cases_Bool (gap == 0)) [ inl none ↦ rw none refl | inr some ↦ rw some refl ]
 
 pub size_of-old : (gap total : ℕ) (rest : List Item) → size_of (left_free gap ++ Live total ∷ rest) ≡ gap + (total + size_of rest)
@@ -214,7 +214,7 @@ rest_none start at total base (Free t ∷ xs) totals end here = absurd (omega (a
 
 -- a later block stays
 pub rest_live : (at total base free : ℕ) (rest : List Item) → free ≡ next_free (at + total) rest 0 → at + total ≢ free → at + total ≢ base
-    → base ≡ at + total + size_of rest → (begins_live rest ≡ true) × ((n : ℕ) → freed n rest ≡ Free n ∷ rest)
+    → base ≡ at + total + size_of rest → (begins_live rest ≡ true) × ((n : ℕ) → items_after_free n rest ≡ Free n ∷ rest)
 rest_live at total base free [] next other inside end = absurd (inside (omega arith))
 rest_live at total base free (Live t ∷ xs) next other inside end = (refl, λ n. refl)
 rest_live at total base free (Free t ∷ xs) next other inside end = absurd (other (sym next))

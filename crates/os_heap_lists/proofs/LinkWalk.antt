@@ -9,7 +9,7 @@ use Rattle.os_heap_lists.proofs.Reading.{total_facts}
 use Rattle.os_heap_lists.proofs.Spelling.{next_free-bounds, totals-back}
 use Rattle.os_heap_lists.specs.Counts.{free_below, begun_below}
 use Rattle.os_heap_lists.specs.Heap.{AreTotals, next_free, AreSpaced}
-use Rattle.os_heap_lists.specs.Lists.{live_total, freed, left_free}
+use Rattle.os_heap_lists.specs.Lists.{live_total, items_after_free, left_free}
 use Rattle.os_heap_lists.specs.Walks.{IsWalkedTo, last_link, IsLinked, IsBlock}
 
 -- a block lies after where it is looked for
@@ -148,7 +148,7 @@ block_here start items block from at free gap passed before (Live t ∷ xs) tota
   last = w.last;
   next = w.next;
   closed = w.closed;
-  given = w.found (freed t xs) (released_here block at t xs here);
+  given = w.found (items_after_free t xs) (released_here block at t xs here);
 }
 block_here start items block from at free gap passed before (Free t ∷ xs) totals w live here =
     absurd (omega (arith, live_low block (at + t) xs live, total_facts t totals.0))

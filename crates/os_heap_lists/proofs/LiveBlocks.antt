@@ -9,7 +9,7 @@ use Rattle.os_heap_lists.proofs.HeadWords.{head_inside}
 use Rattle.os_heap_lists.proofs.LinkWalk.{live_next, live_low}
 use Rattle.os_heap_lists.proofs.Reading.{total_facts}
 use Rattle.os_heap_lists.specs.Heap.{AreTotals}
-use Rattle.os_heap_lists.specs.Lists.{live_total, Claim, behind, left_free, first_fit, or_at_base, claimed, freed, glued, released, grown, refitted, resized_in_place}
+use Rattle.os_heap_lists.specs.Lists.{live_total, Claim, claim_behind, left_free, first_fit, or_at_base, claim_in_items, items_after_free, items_with_gap, items_after_release, items_after_growth, items_after_refit, resized_in_place}
 
 live_here : (block at t : ℕ) (xs : List Item) → at + 4 ≡ block → live_total block at (Live t ∷ xs) ≡ Some t
 live_here block at t xs here = rw (eq-eqb (at + 4) block here) refl
@@ -19,14 +19,14 @@ abbrev pub IsFresh : ℕ → ℕ → Option Claim → Type 0
 IsFresh n at None = Unit {0}
 IsFresh n at (Some c) = live_total (at + c.offset + 4) at c.items ≡ Some n
 
-fresh_behind_live : (n at t : ℕ) (o : Option Claim) → 8 ≤ t → IsFresh n (at + t) o → IsFresh n at (behind (Live t) o)
+fresh_behind_live : (n at t : ℕ) (o : Option Claim) → 8 ≤ t → IsFresh n (at + t) o → IsFresh n at (claim_behind (Live t) o)
 fresh_behind_live n at t None size fresh = tt
 fresh_behind_live n at t (Some c) size fresh =
     let e : at + (t + 0 + c.offset) + 4 ≡ at + t + c.offset + 4 = omega arith in
     let other : at + 4 ≢ at + t + c.offset + 4 = λ (same : at + 4 ≡ at + t + c.offset + 4). omega arith in
     subst (λ (b : ℕ). live_total b at (Live t ∷ c.items) ≡ Some n) (sym e) (live_next (at + t + c.offset + 4) at t c.items other ∙ fresh)
 
-fresh_behind_free : (n at t : ℕ) (o : Option Claim) → IsFresh n (at + t) o → IsFresh n at (behind (Free t) o)
+fresh_behind_free : (n at t : ℕ) (o : Option Claim) → IsFresh n (at + t) o → IsFresh n at (claim_behind (Free t) o)
 fresh_behind_free n at t None fresh = tt
 fresh_behind_free n at t (Some c) fresh =
     let e : at + (t + 0 + c.offset) + 4 ≡ at + t + c.offset + 4 = omega arith in
@@ -59,8 +59,8 @@ base_fresh n room at xs None totals fresh = elim (cases_Bool (nat_le (size_of xs
   | inr short ↦ rw short tt
 ]
 
-pub claim_fresh : (n room at : ℕ) (xs : List Item) → AreTotals xs → IsFresh n at (claimed n room xs)
-unfolding claimed
+pub claim_fresh : (n room at : ℕ) (xs : List Item) → AreTotals xs → IsFresh n at (claim_in_items n room xs)
+unfolding claim_in_items
 claim_fresh n room at xs totals = base_fresh n room at xs (first_fit n xs) totals (fit_fresh n at xs totals)
 
 -- a block that was live is live
@@ -68,16 +68,16 @@ abbrev pub IsStill : ℕ → ℕ → ℕ → Option Claim → Type 0
 IsStill block total at None = Unit {0}
 IsStill block total at (Some c) = live_total block at c.items ≡ Some total
 
-still_here : (block total at t : ℕ) (o : Option Claim) → (at + 4 == block) ≡ true → Some t ≡ Some total → IsStill block total at (behind (Live t) o)
+still_here : (block total at t : ℕ) (o : Option Claim) → (at + 4 == block) ≡ true → Some t ≡ Some total → IsStill block total at (claim_behind (Live t) o)
 still_here block total at t None here same = tt
 still_here block total at t (Some c) here same = rw here same
 
 still_behind_live : (block total at t : ℕ) (o : Option Claim) → (at + 4 == block) ≡ false → IsStill block total (at + t) o
-    → IsStill block total at (behind (Live t) o)
+    → IsStill block total at (claim_behind (Live t) o)
 still_behind_live block total at t None other still = tt
 still_behind_live block total at t (Some c) other still = rw other still
 
-still_behind_free : (block total at t : ℕ) (o : Option Claim) → IsStill block total (at + t) o → IsStill block total at (behind (Free t) o)
+still_behind_free : (block total at t : ℕ) (o : Option Claim) → IsStill block total (at + t) o → IsStill block total at (claim_behind (Free t) o)
 still_behind_free block total at t None still = tt
 still_behind_free block total at t (Some c) still = still
 
@@ -127,8 +127,8 @@ base_still n room block total at xs None live still = elim (cases_Bool (nat_le (
   | inr short ↦ rw short tt
 ]
 
-pub claim_still : (n room block total at : ℕ) (xs : List Item) → live_total block at xs ≡ Some total → AreTotals xs → IsStill block total at (claimed n room xs)
-unfolding claimed
+pub claim_still : (n room block total at : ℕ) (xs : List Item) → live_total block at xs ≡ Some total → AreTotals xs → IsStill block total at (claim_in_items n room xs)
+unfolding claim_in_items
 claim_still n room block total at xs live totals = base_still n room block total at xs (first_fit n xs) live (fit_still n block total at xs live totals)
 
 -- The same of a release of another block, and of a change of its total.
@@ -136,12 +136,12 @@ abbrev pub IsStillIn : ℕ → ℕ → ℕ → Option (List Item) → Type 0
 IsStillIn block total at None = Unit {0}
 IsStillIn block total at (Some xs) = live_total block at xs ≡ Some total
 
-freed_still : (block total at t : ℕ) (xs : List Item) → live_total block (at + t) xs ≡ Some total → live_total block at (freed t xs) ≡ Some total
+freed_still : (block total at t : ℕ) (xs : List Item) → live_total block (at + t) xs ≡ Some total → live_total block at (items_after_free t xs) ≡ Some total
 freed_still block total at t [] live = absurd (let none : None ≡ Some total = live in cc)
 freed_still block total at t (Live u ∷ xs) live = live
 freed_still block total at t (Free u ∷ xs) live = subst (λ (p : ℕ). live_total block p xs ≡ Some total) (add_assoc at t u) live
 
-glued_still : (block total at t : ℕ) (xs : List Item) → live_total block (at + t) xs ≡ Some total → live_total block at (glued t xs) ≡ Some total
+glued_still : (block total at t : ℕ) (xs : List Item) → live_total block (at + t) xs ≡ Some total → live_total block at (items_with_gap t xs) ≡ Some total
 glued_still block total at t xs live = elim (cases_Bool (t == 0)) [
   | inl none ↦
       let e : at + t ≡ at = omega (arith, eqb-true t 0 none) in
@@ -159,7 +159,7 @@ found_still : (block total at t : ℕ) (o : Option (List Item)) → (at + 4 == b
 found_still block total at t None here same = tt
 found_still block total at t (Some ys) here same = rw here same
 
-join_still : (block total at t : ℕ) (o : Option (List Item)) → IsStillIn block total (at + t) o → IsStillIn block total at (option_map (λ ys. freed t ys) o)
+join_still : (block total at t : ℕ) (o : Option (List Item)) → IsStillIn block total (at + t) o → IsStillIn block total at (option_map (λ ys. items_after_free t ys) o)
 join_still block total at t None still = tt
 join_still block total at t (Some ys) still = freed_still block total at t ys still
 
@@ -171,22 +171,22 @@ not_both : (at b c : ℕ) → b ≢ c → at + 4 ≡ c → (at + 4 == b) ≡ fal
 not_both at b c other here = ne_eqb (at + 4) b (λ (e : at + 4 ≡ b). other (sym e ∙ here))
 
 pub release_still : (other block total at : ℕ) (xs : List Item) → other ≢ block → live_total other at xs ≡ Some total
-    → IsStillIn other total at (released block at xs)
+    → IsStillIn other total at (items_after_release block at xs)
 release_still other block total at [] apart live = tt
 release_still other block total at (Live t ∷ xs) apart live = elim (cases_Bool (at + 4 == block)) [
   | inl here ↦
       let past : (at + 4 == other) ≡ false = not_both at other block apart (eqb-true (at + 4) block here) in
       rw here (freed_still other total at t xs (rw past at live))
   | inr away ↦ rw away (elim (cases_Bool (at + 4 == other)) [
-    | inl found ↦ found_still other total at t (released block (at + t) xs) found (rw found at live)
-    | inr past ↦ live_still other total at t (released block (at + t) xs) past (release_still other block total (at + t) xs apart (rw past at live))
+    | inl found ↦ found_still other total at t (items_after_release block (at + t) xs) found (rw found at live)
+    | inr past ↦ live_still other total at t (items_after_release block (at + t) xs) past (release_still other block total (at + t) xs apart (rw past at live))
   ])
 ]
 release_still other block total at (Free t ∷ xs) apart live =
-    join_still other total at t (released block (at + t) xs) (release_still other block total (at + t) xs apart live)
+    join_still other total at t (items_after_release block (at + t) xs) (release_still other block total (at + t) xs apart live)
 
 grown_still : (other total at room new t : ℕ) (xs : List Item) → (at + 4 == other) ≡ false → t ≤ new → live_total other (at + t) xs ≡ Some total
-    → IsStillIn other total at (grown room new t xs)
+    → IsStillIn other total at (items_after_growth room new t xs)
 grown_still other total at room new t [] past more live = absurd (let none : None ≡ Some total = live in cc)
 grown_still other total at room new t (Live u ∷ xs) past more live = tt
 grown_still other total at room new t (Free u ∷ xs) past more live = elim (cases_Bool (nat_le new (t + u))) [
@@ -199,11 +199,11 @@ grown_still other total at room new t (Free u ∷ xs) past more live = elim (cas
 ]
 
 refitted_still : (other total at room new t : ℕ) (xs : List Item) → (at + 4 == other) ≡ false → live_total other (at + t) xs ≡ Some total
-    → IsStillIn other total at (refitted room new t xs)
+    → IsStillIn other total at (items_after_refit room new t xs)
 refitted_still other total at room new t xs past live = elim (cases_Bool (nat_le new t)) [
   | inl fits ↦
       let e : at + t ≡ at + new + (t - new) = omega (arith, leb-true new t fits) in
-      let cut : live_total other (at + new) (glued (t - new) xs) ≡ Some total =
+      let cut : live_total other (at + new) (items_with_gap (t - new) xs) ≡ Some total =
       glued_still other total (at + new) (t - new) xs (subst (λ (p : ℕ). live_total other p xs ≡ Some total) e live) in
       rw (fits, past) cut
   | inr more ↦ rw more (grown_still other total at room new t xs past (omega (arith, leb-false new t more)) live)
@@ -226,7 +226,7 @@ refit_still other block total end new at (Free t ∷ xs) apart live =
     pass_still other total at t (resized_in_place block end new (at + t) xs) (refit_still other block total end new (at + t) xs apart live)
 
 -- the block itself has its new total then
-grown_own : (block at room new t : ℕ) (xs : List Item) → (at + 4 == block) ≡ true → IsStillIn block new at (grown room new t xs)
+grown_own : (block at room new t : ℕ) (xs : List Item) → (at + 4 == block) ≡ true → IsStillIn block new at (items_after_growth room new t xs)
 grown_own block at room new t [] here = elim (cases_Bool (nat_le new room)) [
   | inl fits ↦ rw (fits, here) refl
   | inr short ↦ rw short tt
@@ -237,7 +237,7 @@ grown_own block at room new t (Free u ∷ xs) here = elim (cases_Bool (nat_le ne
   | inr short ↦ rw short tt
 ]
 
-refitted_own : (block at room new t : ℕ) (xs : List Item) → (at + 4 == block) ≡ true → IsStillIn block new at (refitted room new t xs)
+refitted_own : (block at room new t : ℕ) (xs : List Item) → (at + 4 == block) ≡ true → IsStillIn block new at (items_after_refit room new t xs)
 refitted_own block at room new t xs here = elim (cases_Bool (nat_le new t)) [
   | inl fits ↦ rw (fits, here) refl
   | inr more ↦ rw more (grown_own block at room new t xs here)
@@ -259,9 +259,9 @@ pub record LiveBytes (block total at end : ℕ) : Type 0 where
   pub size : 8 ≤ total
   pub whole : at % 4 ≡ 0 → block % 4 ≡ 0
 
-pub live_bytes : (block total at : ℕ) (xs : List Item) → AreTotals xs → live_total block at xs ≡ Some total → LiveBytes block total at (at + size_of xs)
-live_bytes block total at [] totals live = absurd (let none : None ≡ Some total = live in cc)
-live_bytes block total at (Live t ∷ xs) totals live = elim (cases_Bool (at + 4 == block)) [
+pub law_live_bytes : (block total at : ℕ) (xs : List Item) → AreTotals xs → live_total block at xs ≡ Some total → LiveBytes block total at (at + size_of xs)
+law_live_bytes block total at [] totals live = absurd (let none : None ≡ Some total = live in cc)
+law_live_bytes block total at (Live t ∷ xs) totals live = elim (cases_Bool (at + 4 == block)) [
   | inl here ↦
       let e : at + 4 ≡ block = eqb-true (at + 4) block here in
       let found = rw here at live in
@@ -269,11 +269,11 @@ live_bytes block total at (Live t ∷ xs) totals live = elim (cases_Bool (at + 4
       let facts = total_facts t totals.0 in
       record { low = omega arith; high = omega arith; size = omega arith; whole = λ (aligned : at % 4 ≡ 0). omega arith }
   | inr other ↦
-      let rest : LiveBytes block total (at + t) (at + t + size_of xs) = live_bytes block total (at + t) xs totals.1 (rw other at live) in
+      let rest : LiveBytes block total (at + t) (at + t + size_of xs) = law_live_bytes block total (at + t) xs totals.1 (rw other at live) in
       record { low = omega (arith, rest.low); high = omega (arith, rest.high); size = rest.size; whole = λ (aligned : at % 4 ≡ 0). rest.whole (omega (arith, total_facts t totals.0)) }
 ]
-live_bytes block total at (Free t ∷ xs) totals live =
-    let rest : LiveBytes block total (at + t) (at + t + size_of xs) = live_bytes block total (at + t) xs totals.1 live in
+law_live_bytes block total at (Free t ∷ xs) totals live =
+    let rest : LiveBytes block total (at + t) (at + t + size_of xs) = law_live_bytes block total (at + t) xs totals.1 live in
     record { low = omega (arith, rest.low); high = omega (arith, rest.high); size = rest.size; whole = λ (aligned : at % 4 ≡ 0). rest.whole (omega (arith, total_facts t totals.0)) }
 
 -- two live blocks share no byte, nor do their length words

@@ -13,7 +13,7 @@ use Rattle.os_heap_lists.proofs.ItemWalk.{size_of-gap}
 use Rattle.os_heap_lists.proofs.Spelling.{totals-front, totals-back}
 use Rattle.os_heap_lists.specs.Heap.{AreTotals}
 use Rattle.os_heap_lists.specs.Lists.{left_free}
-use Rattle.os_heap_lists.specs.Marks.{marked, Remarks, AreMarked, AreStill, with_item_marked, with_items_marked}
+use Rattle.os_heap_lists.specs.Marks.{class_after_marking, Remarks, AreMarked, HeadsAreStill, with_item_marked, with_items_marked}
 
 or_next : (a b c : Bool) → ((a || b) || c) ≡ (a || (b || c))
 or_next true b c = refl
@@ -55,13 +55,13 @@ one_more c d e at place items item class e1 one two a =
     rw (is_head-append at items (item ∷ []) p, last) (both_marked (is_head at items p) (is_head_of place item p) class (c a) (d a) (e a) (one a) (two a))
 
 -- lists of the same size leave what is after them where it is
-pub still-same : (at : ℕ) (olds news rest : List Item) → size_of news ≡ size_of olds → AreStill at olds news rest
+pub still-same : (at : ℕ) (olds news rest : List Item) → size_of news ≡ size_of olds → HeadsAreStill at olds news rest
 still-same at olds news rest same p = ap (λ (s : ℕ). is_head (at + s) rest p) same
 
 -- a word of what stays is no word of what is given up, and is marked
-replaced_word : (made given before rest : Bool) (old new : Class) → new ≡ marked made given old
+replaced_word : (made given before rest : Bool) (old new : Class) → new ≡ class_after_marking made given old
     → (before ≡ true → (given ≡ false) × (old ≡ class.Heap)) → (rest ≡ true → (given ≡ false) × (old ≡ class.Heap))
-    → new ≡ marked (before || (made || rest)) (before || (given || rest)) old
+    → new ≡ class_after_marking (before || (made || rest)) (before || (given || rest)) old
 replaced_word true given true rest old new change first last = change
 replaced_word true given false rest old new change first last = change
 replaced_word false true true rest old new change first last = absurd (true≢false (first refl).0)
@@ -73,7 +73,7 @@ replaced_word false false false false old new change first last = change
 
 -- a part of a list replaced, where just its words were given up and made
 pub remarked : (c d : ℕ → Class) (at : ℕ) (before olds news rest : List Item) → AreTotals (before ++ (olds ++ rest))
-    → AreStill (at + size_of before) olds news rest → Remarks c d (at + size_of before) olds news → AreMarked c at (before ++ (olds ++ rest))
+    → HeadsAreStill (at + size_of before) olds news rest → Remarks c d (at + size_of before) olds news → AreMarked c at (before ++ (olds ++ rest))
     → Remarks c d at (before ++ (olds ++ rest)) (before ++ (news ++ rest))
 remarked c d at before olds news rest totals still change marks a =
     let p : ℕ = word_start a in
@@ -101,14 +101,14 @@ remarked c d at before olds news rest totals still change marks a =
 
 -- the same of a list that is told to be two
 pub remarked_as : (c d : ℕ → Class) (at : ℕ) (before old olds news rest : List Item) → old ≡ olds ++ rest → AreTotals (before ++ old)
-    → AreStill (at + size_of before) olds news rest → Remarks c d (at + size_of before) olds news → AreMarked c at (before ++ old)
+    → HeadsAreStill (at + size_of before) olds news rest → Remarks c d (at + size_of before) olds news → AreMarked c at (before ++ old)
     → Remarks c d at (before ++ old) (before ++ (news ++ rest))
 remarked_as c d at before old olds news rest split totals still change =
     subst (λ (ys : List Item). AreMarked c at (before ++ ys) → Remarks c d at (before ++ ys) (before ++ (news ++ rest))) (sym split)
     (remarked c d at before olds news rest (subst (λ (ys : List Item). AreTotals (before ++ ys)) split totals) still change)
 
 -- a list that spells the same words
-same_word : (given : Bool) (old new : Class) → new ≡ old → (given ≡ true → old ≡ class.Heap) → new ≡ marked given given old
+same_word : (given : Bool) (old new : Class) → new ≡ old → (given ≡ true → old ≡ class.Heap) → new ≡ class_after_marking given given old
 same_word true old new same mark = same ∙ mark refl
 same_word false old new same mark = same
 

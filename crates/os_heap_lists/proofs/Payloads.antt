@@ -1,5 +1,6 @@
 -- The bytes of a live block are none of the words that its heap spells: they stay as they are where
 -- these are written.
+use Rattle.profile.specs.MemoryMap.{heap_name}
 use Rattle.std.proofs.Common.{List, ℕ, [], ◌∷◌, ◌≡◌, ◌==◌, ◌||◌, ◌+◌, ◌-◌, ◌%◌, ◌≤◌, ◌<◌, Some, true, false, refl, sym, ◌∙◌, inl, inr, arith}
 use Rattle.std.proofs.lemmas.Bool.{eqb-false, ne_eqb, or_parts, or_from, or_cases, and_parts, and_right, leb-true, ltb-true, le-leb, lt-ltb, le-ltb}
 use Rattle.address_map.proofs.Stores.{in_range-cases}
@@ -8,7 +9,7 @@ use Rattle.address_map.specs.Items.{is_head, is_heap_word, size_of}
 use Rattle.address_map.specs.declared.item.Item.{Item}
 use Rattle.address_map.specs.declared.item.Item.TheVariants.{Free, Live}
 use Rattle.os_heap_lists.proofs.HeadWords.{head_inside}
-use Rattle.os_heap_lists.proofs.LiveBlocks.{LiveBytes, live_bytes, live_unspelled}
+use Rattle.os_heap_lists.proofs.LiveBlocks.{LiveBytes, law_live_bytes, live_unspelled}
 use Rattle.os_heap_lists.proofs.Reading.{total_facts}
 use Rattle.os_heap_lists.specs.Heap.{AreTotals, next_free, with_heads, with_heap}
 use Rattle.os_heap_lists.specs.Lists.{live_total}
@@ -45,7 +46,7 @@ pub heap_beside : (f : ℕ → ℕ) (start end : ℕ) (items : List Item) (a : �
 heap_beside f start end items a aligned totals none =
     let parts = or_parts (in_range start 16 (word_start a)) (is_head (start + 16) items (word_start a)) none in
     let h0 : ℕ → ℕ = with_heads f (start + 16) items 0 in
-    let h1 : ℕ → ℕ = with_word_at h0 start 0x70616548 in
+    let h1 : ℕ → ℕ = with_word_at h0 start heap_name in
     let h2 : ℕ → ℕ = with_word_at h1 (start + 4) (next_free (start + 16) items 0 - start) in
     let h3 : ℕ → ℕ = with_word_at h2 (start + 8) (16 + size_of items) in
     let out : (k : ℕ) → k < 16 → word_start a ≡ start + k → ⊥ = λ k below e.
@@ -56,14 +57,14 @@ heap_beside f start end items a aligned totals none =
     word_beside h3 (start + 12) end a (omega arith) (out 12 (omega arith))
     ∙ word_beside h2 (start + 8) (16 + size_of items) a (omega arith) (out 8 (omega arith))
     ∙ word_beside h1 (start + 4) (next_free (start + 16) items 0 - start) a (omega arith) (out 4 (omega arith))
-    ∙ word_beside h0 start 0x70616548 a aligned (λ (e : word_start a ≡ start). out 0 (omega arith) (omega arith))
+    ∙ word_beside h0 start heap_name a aligned (λ (e : word_start a ≡ start). out 0 (omega arith) (omega arith))
     ∙ heads_beside f (start + 16) items 0 a (omega arith) totals parts.1
 
 -- the bytes of a live block
 pub payload_unspelled : (start : ℕ) (items : List Item) (block total a : ℕ) → start % 4 ≡ 0 → AreTotals items
     → live_total block (start + 16) items ≡ Some total → block ≤ a → a < block + (total - 4) → is_heap_word start items (word_start a) ≡ false
 payload_unspelled start items block total a aligned totals live low high =
-    let place : LiveBytes block total (start + 16) (start + 16 + size_of items) = live_bytes block total (start + 16) items totals live in
+    let place : LiveBytes block total (start + 16) (start + 16 + size_of items) = law_live_bytes block total (start + 16) items totals live in
     let whole : block % 4 ≡ 0 = place.whole (omega arith) in
     or_from (in_range start 16 (word_start a)) (is_head (start + 16) items (word_start a))
     (and_right _ _ (le-ltb (word_start a) (start + 16) (omega (arith, place.low))))

@@ -2,7 +2,7 @@
 use Rattle.std.proofs.Common.{◌-◌, ◌≡◌, ◌≤◌, ℕ, true, ◌%◌, arith, inl, ◌+◌, [], ◌⊎◌, refl, List, inr, ◌∷◌, ◌<◌, suc, zero}
 use Rattle.std.proofs.lemmas.Bool.{and_parts, leb-true, eqb-true, ne_eqb, lt-leb, eq-eqb, le-leb}
 use Rattle.address_map.specs.Bytes.{Bytes, word_at}
-use Rattle.address_map.specs.Items.{is_total, linked, items_from, size_of, items_in}
+use Rattle.address_map.specs.Items.{is_total, link_target, items_from, size_of, items_in}
 use Rattle.address_map.specs.declared.item.Item.{Item}
 use Rattle.address_map.specs.declared.item.Item.TheVariants.{Free, Live}
 use Rattle.os_heap_lists.specs.Heap.{next_free, AreTotals, Spells, IsHeapIn}
@@ -21,9 +21,9 @@ next_free-cases at (Live t ∷ xs) other = elim (next_free-cases (at + t) xs oth
 next_free-cases at (Free t ∷ xs) other = inr (omega arith)
 
 -- a distance of 0 is no link, so where it leads is the next free item, or 0
-pub linked_to : (from at : ℕ) (xs : List Item) → from < at → linked from (next_free at xs 0 - from) ≡ next_free at xs 0
+pub linked_to : (from at : ℕ) (xs : List Item) → from < at → link_target from (next_free at xs 0 - from) ≡ next_free at xs 0
 linked_to from at xs below = found (next_free at xs 0) (next_free-cases at xs 0) where
-  found : (next : ℕ) → (next ≡ 0) ⊎ (at ≤ next) → linked from (next - from) ≡ next
+  found : (next : ℕ) → (next ≡ 0) ⊎ (at ≤ next) → link_target from (next - from) ≡ next
   found next (inl none) = let e : next - from ≡ 0 = omega arith in rw (e, none) refl
   found next (inr some) = let ne : next - from ≡ 0 → ⊥ = λ (z : next - from ≡ 0). omega arith in rw (ne_eqb (next - from) 0 ne) (omega arith)
 
@@ -32,7 +32,7 @@ read_live : (w : ℕ → ℕ) (most at free base t : ℕ) → w at ≡ t → is_
 read_live w most at free base t word total below apart = rw (lt-leb base at below, ne_eqb at free apart, word, total) refl
 
 read_free : (w : ℕ → ℕ) (most at base t : ℕ) → w (at + 4) ≡ t → is_total t ≡ true → at < base
-    → items_from (suc most) w at at base ≡ Free t ∷ items_from most w (at + t) (linked at (w at)) base
+    → items_from (suc most) w at at base ≡ Free t ∷ items_from most w (at + t) (link_target at (w at)) base
 read_free w most at base t word total below = rw (lt-leb base at below, eq-eqb at at refl, word, total) refl
 
 read_none : (w : ℕ → ℕ) (most at free : ℕ) → items_from most w at free at ≡ []
@@ -63,7 +63,7 @@ items_from-spelled w (suc most) at base (Free t ∷ xs) positive end enough tota
 pub items_in-heap : (b : Bytes) (start end : ℕ) (items : List Item) → IsHeapIn b start end items → items_in (word_at b.at) start ≡ items
 unfolding items_in
 items_in-heap b start end items heap =
-    let here : linked start (word_at b.at (start + 4)) ≡ next_free (start + 16) items 0 =
+    let here : link_target start (word_at b.at (start + 4)) ≡ next_free (start + 16) items 0 =
     rw heap.first (linked_to start (start + 16) items (omega arith)) in
     rw (here, heap.base) (items_from-spelled (word_at b.at) (16 + size_of items) (start + 16) (start + (16 + size_of items)) items
     (omega arith) (omega arith) (omega arith) heap.totals heap.spelled)

@@ -8,9 +8,9 @@ use Rattle.os_heap_lists.proofs.ItemWalk.{size_of-gap, glued_nothing}
 use Rattle.os_heap_lists.proofs.Reading.{total_facts}
 use Rattle.os_heap_lists.proofs.Spelling.{last_free-append}
 use Rattle.os_heap_lists.specs.Heap.{AreTotals, begins_live, AreSpaced, last_free, next_free}
-use Rattle.os_heap_lists.specs.Lists.{released, freed, live_total, resized_in_place, refitted, left_free, glued, grown}
+use Rattle.os_heap_lists.specs.Lists.{items_after_release, items_after_free, live_total, resized_in_place, items_after_refit, left_free, items_with_gap, items_after_growth}
 use Rattle.os_heap_lists.specs.Walks.{last_link}
-use Rattle.os_heap_lists.specs.Words.{IsWritten, IsFreed, link_at, IsDivided, AreApart}
+use Rattle.os_heap_lists.specs.Words.{IsWordWritten, IsFreed, link_at, IsDivided, AreApart}
 
 -- nothing comes of nothing alone
 pub map_none : (f : List Item → List Item) (x : Option (List Item)) → option_map f x ≡ None → x ≡ None
@@ -26,13 +26,13 @@ map_twice f g None = refl
 map_twice f g (Some xs) = refl
 
 -- a place where no block is given back has no block
-pub unreleased : (block at : ℕ) (xs : List Item) → released block at xs ≡ None → live_total block at xs ≡ None
+pub unreleased : (block at : ℕ) (xs : List Item) → items_after_release block at xs ≡ None → live_total block at xs ≡ None
 unreleased block at [] none = refl
 unreleased block at (Live t ∷ xs) none = elim (cases_Bool (at + 4 == block)) [
-  | inl here ↦ absurd (let some : Some (freed t xs) ≡ None = rw here at none in cc)
-  | inr other ↦ rw other (unreleased block (at + t) xs (map_none (λ ys. Live t ∷ ys) (released block (at + t) xs) (rw other at none)))
+  | inl here ↦ absurd (let some : Some (items_after_free t xs) ≡ None = rw here at none in cc)
+  | inr other ↦ rw other (unreleased block (at + t) xs (map_none (λ ys. Live t ∷ ys) (items_after_release block (at + t) xs) (rw other at none)))
 ]
-unreleased block at (Free t ∷ xs) none = unreleased block (at + t) xs (map_none (λ ys. freed t ys) (released block (at + t) xs) none)
+unreleased block at (Free t ∷ xs) none = unreleased block (at + t) xs (map_none (λ ys. items_after_free t ys) (items_after_release block (at + t) xs) none)
 
 -- the total of a block after some items
 pub live_total-at : (block at place t : ℕ) (front rest : List Item) → AreTotals front → place ≡ at + size_of front → place + 4 ≡ block
@@ -46,19 +46,19 @@ live_total-at block at place t (Free u ∷ front) rest totals there here =
 
 -- what a change of it makes of the list
 pub in_place-at : (block end new at place t : ℕ) (front rest : List Item) → AreTotals front → place ≡ at + size_of front → place + 4 ≡ block
-    → resized_in_place block end new at (front ++ Live t ∷ rest) ≡ option_map (λ ys. front ++ ys) (refitted (end - place) new t rest)
+    → resized_in_place block end new at (front ++ Live t ∷ rest) ≡ option_map (λ ys. front ++ ys) (items_after_refit (end - place) new t rest)
 in_place-at block end new at place t [] rest totals there here =
     let same : at ≡ place = omega arith in
     rw (eq-eqb (at + 4) block (omega arith))
-    (ap (λ (p : ℕ). refitted (end - p) new t rest) same ∙ sym (map_same (refitted (end - place) new t rest)))
+    (ap (λ (p : ℕ). items_after_refit (end - p) new t rest) same ∙ sym (map_same (items_after_refit (end - place) new t rest)))
 in_place-at block end new at place t (Live u ∷ front) rest totals there here =
     let other : at + 4 ≢ block = λ (e : at + 4 ≡ block). omega (arith, total_facts u totals.0) in
     rw (ne_eqb (at + 4) block other)
     (ap (option_map (λ ys. Live u ∷ ys)) (in_place-at block end new (at + u) place t front rest totals.1 (omega arith) here)
-    ∙ map_twice (λ ys. Live u ∷ ys) (λ ys. front ++ ys) (refitted (end - place) new t rest))
+    ∙ map_twice (λ ys. Live u ∷ ys) (λ ys. front ++ ys) (items_after_refit (end - place) new t rest))
 in_place-at block end new at place t (Free u ∷ front) rest totals there here =
     ap (option_map (λ ys. Free u ∷ ys)) (in_place-at block end new (at + u) place t front rest totals.1 (omega arith) here)
-    ∙ map_twice (λ ys. Free u ∷ ys) (λ ys. front ++ ys) (refitted (end - place) new t rest)
+    ∙ map_twice (λ ys. Free u ∷ ys) (λ ys. front ++ ys) (items_after_refit (end - place) new t rest)
 
 -- a block in the place of another keeps free items apart
 begins-block : (front xs ys : List Item) (t u : ℕ) → begins_live (front ++ Live t ∷ xs) ≡ true → begins_live (front ++ Live u ∷ ys) ≡ true
@@ -73,7 +73,7 @@ spaced-block (Free v ∷ front) xs ys t u h g = (begins-block front xs ys t u h.
 
 -- three words, one after another
 pub divided_words : (f g h : ℕ → ℕ) (start from at total left next : ℕ) → AreApart (link_at start from) 4 at 4
-    → IsFreed f g start from (at + total) left next → IsWritten g h at total → 4 ≤ total → IsDivided f h start from at total left next
+    → IsFreed f g start from (at + total) left next → IsWordWritten g h at total → 4 ≤ total → IsDivided f h start from at total left next
 divided_words f g h start from at total left next apart one two least = record {
   block = two.here;
   to_item = two.apart (link_at start from) apart ∙ one.to_item;
@@ -95,26 +95,26 @@ gap_link start before from at gap last place = elim (cases_Bool (gap == 0)) [
 ]
 
 -- what the list becomes
-pub fewer : (room new old : ℕ) (xs : List Item) → new ≤ old → refitted room new old xs ≡ Some (Live new ∷ glued (old - new) xs)
+pub fewer : (room new old : ℕ) (xs : List Item) → new ≤ old → items_after_refit room new old xs ≡ Some (Live new ∷ items_with_gap (old - new) xs)
 fewer room new old xs less = rw (le-leb new old less) refl
 
-more : (room new old : ℕ) (xs : List Item) → old < new → refitted room new old xs ≡ grown room new old xs
+more : (room new old : ℕ) (xs : List Item) → old < new → items_after_refit room new old xs ≡ items_after_growth room new old xs
 more room new old xs larger = rw (lt-leb new old larger) refl
 
-pub last_some : (room new old : ℕ) → new ≤ room → refitted room new old [] ≡ Some (Live new ∷ [])
+pub last_some : (room new old : ℕ) → new ≤ room → items_after_refit room new old [] ≡ Some (Live new ∷ [])
 last_some room new old fits = elim (cases_lt old new) [
   | inl larger ↦ more room new old [] larger ∙ (rw (le-leb new room fits) refl)
   | inr less ↦ fewer room new old [] less ∙ ap (λ (ys : List Item). Some (Live new ∷ ys)) (glued_nothing (old - new))
 ]
 
-pub last_none : (room new old : ℕ) → room < new → old < new → refitted room new old [] ≡ None
+pub last_none : (room new old : ℕ) → room < new → old < new → items_after_refit room new old [] ≡ None
 last_none room new old full larger = more room new old [] larger ∙ (rw (lt-leb new room full) refl)
 
 pub grown_some : (room new old t : ℕ) (xs : List Item) → old < new → new ≤ old + t
-    → refitted room new old (Free t ∷ xs) ≡ Some (Live new ∷ (left_free (old + t - new) ++ xs))
+    → items_after_refit room new old (Free t ∷ xs) ≡ Some (Live new ∷ (left_free (old + t - new) ++ xs))
 grown_some room new old t xs larger fits = more room new old (Free t ∷ xs) larger ∙ (rw (le-leb new (old + t) fits) refl)
 
-pub grown_none : (room new old t : ℕ) (xs : List Item) → old + t < new → refitted room new old (Free t ∷ xs) ≡ None
+pub grown_none : (room new old t : ℕ) (xs : List Item) → old + t < new → items_after_refit room new old (Free t ∷ xs) ≡ None
 grown_none room new old t xs full = more room new old (Free t ∷ xs) (omega arith) ∙ (rw (lt-leb new (old + t) full) refl)
 
 pub left_none : (n : ℕ) (xs : List Item) → n ≡ 0 → left_free n ++ xs ≡ xs
@@ -125,7 +125,7 @@ left_some n xs some = rw (ne_eqb n 0 some) refl
 
 -- after a block that is not the last, and that no free item touches, stands a block
 pub grown_blocked : (room new at total base free : ℕ) (rest : List Item) → free ≡ next_free (at + total) rest 0 → at + total ≢ free → at + total ≢ base
-    → base ≡ at + total + size_of rest → total < new → refitted room new total rest ≡ None
+    → base ≡ at + total + size_of rest → total < new → items_after_refit room new total rest ≡ None
 grown_blocked room new at total base free [] next other inside end larger = absurd (inside (omega arith))
 grown_blocked room new at total base free (Live t ∷ xs) next other inside end larger = more room new total (Live t ∷ xs) larger
 grown_blocked room new at total base free (Free t ∷ xs) next other inside end larger = absurd (other (sym next))

@@ -1,15 +1,15 @@
 -- A walk over a heap's items by address.
 use Rattle.std.proofs.Common.{◌-◌, arith, ◌+◌, ◌≡◌, ◌∙◌, ℕ, ap, ◌≤◌, [], refl, List, ◌∷◌, sym, ◌%◌, ◌<◌, inr, inl}
 use Rattle.address_map.specs.Bytes.{Bytes, word_at, AreMapped}
-use Rattle.address_map.specs.Items.{size_of, items_from, linked}
+use Rattle.address_map.specs.Items.{size_of, items_from, link_target}
 use Rattle.address_map.specs.declared.item.Item.{Item}
 use Rattle.address_map.specs.declared.item.Item.TheVariants.{Free, Live}
 use Rattle.os_heap_lists.proofs.Reading.{items_from-spelled, total_facts, next_free-cases, linked_to}
 use Rattle.os_heap_lists.proofs.Tally.{link_below}
 use Rattle.os_heap_lists.specs.Heap.{AreTotals, next_free}
-use Rattle.os_heap_lists.specs.Walks.{rest_from, IsRest}
+use Rattle.os_heap_lists.specs.Walks.{rest_from, IsRestOfHeap}
 
-pub rest_items : (b : Bytes) (at free base : ℕ) (r : IsRest b at free base) → rest_from b at free base ≡ r.items
+pub rest_items : (b : Bytes) (at free base : ℕ) (r : IsRestOfHeap b at free base) → rest_from b at free base ≡ r.items
 rest_items b at free base r =
     let end : at + size_of r.items ≡ base = r.end in
     ap (λ f. items_from (base - at) (word_at b.at) at f base) r.next
@@ -21,17 +21,17 @@ nothing at base [] totals end past = refl
 nothing at base (Live t ∷ xs) totals end past = absurd (omega (arith, total_facts t totals.0))
 nothing at base (Free t ∷ xs) totals end past = absurd (omega (arith, total_facts t totals.0))
 
-pub rest_none : (b : Bytes) (at free base : ℕ) → IsRest b at free base → base ≤ at → rest_from b at free base ≡ []
+pub rest_none : (b : Bytes) (at free base : ℕ) → IsRestOfHeap b at free base → base ≤ at → rest_from b at free base ≡ []
 rest_none b at free base r past = rest_items b at free base r ∙ nothing at base r.items r.totals r.end past
 
 -- one item is passed
 pub record IsPassed (b : Bytes) (at free base : ℕ) (item : Item) (after new_free : ℕ) : Type 0 where
   pub some : at + 8 ≤ after
   pub within : after ≤ base
-  pub next : IsRest b after new_free base
+  pub next : IsRestOfHeap b after new_free base
   pub list : rest_from b at free base ≡ item ∷ rest_from b after new_free base
 
-passed : (b : Bytes) (at free base total : ℕ) (item : Item) (after new_free : ℕ) (r : IsRest b at free base) (next : IsRest b after new_free base)
+passed : (b : Bytes) (at free base total : ℕ) (item : Item) (after new_free : ℕ) (r : IsRestOfHeap b at free base) (next : IsRestOfHeap b after new_free base)
     → at + 8 ≤ after → r.items ≡ item ∷ next.items → IsPassed b at free base item after new_free
 passed b at free base total item after new_free r next some list =
     let end : after + size_of next.items ≡ base = next.end in
@@ -47,13 +47,13 @@ pub record IsLiveFirst (b : Bytes) (at free base : ℕ) : Type 0 where
   pub passed : IsPassed b at free base (Live (word_at b.at at)) (at + word_at b.at at) free
 
 pub record IsFreeFirst (b : Bytes) (at free base : ℕ) : Type 0 where
-  pub passed : IsPassed b at free base (Free (word_at b.at (at + 4))) (at + word_at b.at (at + 4)) (linked at (word_at b.at at))
-  pub link : linked at (word_at b.at at) ≤ base
+  pub passed : IsPassed b at free base (Free (word_at b.at (at + 4))) (at + word_at b.at (at + 4)) (link_target at (word_at b.at at))
+  pub link : link_target at (word_at b.at at) ≤ base
 
 after_mapped : (b : Bytes) (at after base : ℕ) → at ≤ after → AreMapped b.mapped at (base - at) → AreMapped b.mapped after (base - after)
 after_mapped b at after base more mapped a low high = mapped a (omega arith) (omega arith)
 
-pub live_first : (b : Bytes) (at free base : ℕ) → IsRest b at free base → at < base → (at ≡ free → ⊥) → IsLiveFirst b at free base
+pub live_first : (b : Bytes) (at free base : ℕ) → IsRestOfHeap b at free base → at < base → (at ≡ free → ⊥) → IsLiveFirst b at free base
 live_first b at free base r below apart = first r.items refl where
   first : (xs : List Item) → r.items ≡ xs → IsLiveFirst b at free base
   first [] is = absurd (let end : at + size_of r.items ≡ base = r.end in let end' = rw is at end in omega (arith, end'))
@@ -65,7 +65,7 @@ live_first b at free base r below apart = first r.items refl where
       let total : (8 ≤ t) × (t % 8 ≡ 0) = total_facts t totals.0 in
       let word : word_at b.at at ≡ t = spelled.0 in
       let aligned : at % 4 ≡ 0 = r.aligned in
-      let next : IsRest b (at + t) free base = record {
+      let next : IsRestOfHeap b (at + t) free base = record {
         items = xs;
         next = r.next ∙ ap (λ ys. next_free at ys 0) is;
         spelled = spelled.1;
@@ -77,7 +77,7 @@ live_first b at free base r below apart = first r.items refl where
       } in
       record { passed = rw word (passed b at free base t (Live t) (at + t) free r next (omega arith) is) }
 
-pub free_first : (b : Bytes) (at free base : ℕ) → IsRest b at free base → at < base → at ≡ free → IsFreeFirst b at free base
+pub free_first : (b : Bytes) (at free base : ℕ) → IsRestOfHeap b at free base → at < base → at ≡ free → IsFreeFirst b at free base
 free_first b at free base r below here = first r.items refl where
   first : (xs : List Item) → r.items ≡ xs → IsFreeFirst b at free base
   first [] is = absurd (let end : at + size_of r.items ≡ base = r.end in let end' = rw is at end in omega (arith, end'))
@@ -94,8 +94,8 @@ free_first b at free base r below here = first r.items refl where
       let total : (8 ≤ t) × (t % 8 ≡ 0) = total_facts t totals.0 in
       let word : word_at b.at (at + 4) ≡ t = spelled.1.0 in
       let aligned : at % 4 ≡ 0 = r.aligned in
-      let link : linked at (word_at b.at at) ≡ next_free (at + t) xs 0 = ap (linked at) spelled.0 ∙ linked_to at (at + t) xs (omega arith) in
-      let next : IsRest b (at + t) (linked at (word_at b.at at)) base = record {
+      let link : link_target at (word_at b.at at) ≡ next_free (at + t) xs 0 = ap (link_target at) spelled.0 ∙ linked_to at (at + t) xs (omega arith) in
+      let next : IsRestOfHeap b (at + t) (link_target at (word_at b.at at)) base = record {
         items = xs;
         next = link;
         spelled = spelled.1.1;
@@ -106,6 +106,6 @@ free_first b at free base r below here = first r.items refl where
         mapped = after_mapped b at (at + t) base (omega arith) r.mapped;
       } in
       record {
-        passed = rw word (passed b at free base t (Free t) (at + t) (linked at (word_at b.at at)) r next (omega arith) is);
+        passed = rw word (passed b at free base t (Free t) (at + t) (link_target at (word_at b.at at)) r next (omega arith) is);
         link = omega (arith, link, link_below (at + t) xs base totals.1 (omega (arith, end)));
       }

@@ -8,7 +8,7 @@ use Rattle.os_heap_lists.proofs.Reading.{total_facts}
 use Rattle.os_heap_lists.proofs.Spelling.{size_of-append, last_free-append}
 use Rattle.os_heap_lists.specs.Counts.{looked_at}
 use Rattle.os_heap_lists.specs.Heap.{next_free, last_free, AreTotals}
-use Rattle.os_heap_lists.specs.Lists.{Claim, first_fit, behind, left_free}
+use Rattle.os_heap_lists.specs.Lists.{Claim, first_fit, claim_behind, left_free}
 use Rattle.os_heap_lists.specs.Walks.{BeginsFree, IsSearched, IsFit}
 
 -- the blocks that a list begins with are passed without a look
@@ -47,8 +47,8 @@ advance n other at (Live t ∷ xs) =
       split = ap (λ (ys : List Item). Live t ∷ ys) a.split;
       begins = rw (← add_assoc at t (size_of a.lives)) a.begins;
       last = a.last;
-      absent = λ h. ap (behind (Live t)) (a.absent h);
-      found = λ c h. ap (behind (Live t)) (a.found c h) ∙ moved _ _ (Live t ∷ (a.lives ++ c.items)) (omega arith);
+      absent = λ h. ap (claim_behind (Live t)) (a.absent h);
+      found = λ c h. ap (claim_behind (Live t)) (a.found c h) ∙ moved _ _ (Live t ∷ (a.lives ++ c.items)) (omega arith);
       count = a.count;
     }
 advance n other at (Free t ∷ xs) = record {

@@ -2,7 +2,7 @@
 use Rattle.std.proofs.Common.{◌-◌, ◌+◌, ◌≡◌, ◌≤◌, List, ℕ, true, ◌%◌, arith, [], refl, ◌∷◌, ◌*◌, inl, inr, ◌<◌, ◌∙◌, sym, ap, max}
 use Rattle.std.proofs.lemmas.Bool.{le-leb, lt-leb, cases_lt}
 use Rattle.std.proofs.lemmas.Bool.Decides.{nat_tests}
-use Rattle.address_map.specs.Items.{is_total, size_of, linked}
+use Rattle.address_map.specs.Items.{is_total, size_of, link_target}
 use Rattle.address_map.specs.declared.item.Item.{Item}
 use Rattle.address_map.specs.declared.item.Item.TheVariants.{Live, Free}
 use Rattle.os_heap_lists.proofs.Reading.{total_facts, linked_to}
@@ -87,10 +87,10 @@ pub record IsAtItem (w : ℕ → ℕ) (start end : ℕ) (items : List Item) (at 
   pub low : start + 16 ≤ at
   pub high : at + w (at + 4) ≤ end
   pub some : 8 ≤ w (at + 4)
-  pub link : linked at (w at) ≤ end
+  pub link : link_target at (w at) ≤ end
   pub counted : count < free_count items
   pub summed : total + w (at + 4) ≤ free_total items
-  pub next : IsTallied w start end items (linked at (w at)) (count + 1) (total + w (at + 4)) (larger largest (w (at + 4)))
+  pub next : IsTallied w start end items (link_target at (w at)) (count + 1) (total + w (at + 4)) (larger largest (w (at + 4)))
 
 pub tally_next : (w : ℕ → ℕ) (start end : ℕ) (items : List Item) (at count total largest : ℕ)
     → IsTallied w start end items at count total largest → (at ≡ 0 → ⊥) → IsAtItem w start end items at count total largest
@@ -107,7 +107,7 @@ tally_next w start end items at count total largest tally some =
     let summed : free_total tally.rest ≡ n.total + free_total n.after = n.summed in
     let before : count + free_count tally.rest ≡ free_count items = tally.counted in
     let passed : total + free_total tally.rest ≡ free_total items = tally.summed in
-    let link : linked at (w at) ≡ next_free (at + n.total) n.after 0 = ap (linked at) n.link ∙ linked_to at (at + n.total) n.after (omega arith) in
+    let link : link_target at (w at) ≡ next_free (at + n.total) n.after 0 = ap (link_target at) n.link ∙ linked_to at (at + n.total) n.after (omega arith) in
     record {
       aligned = aligned;
       low = omega arith;

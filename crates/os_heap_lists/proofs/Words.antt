@@ -2,7 +2,7 @@
 use Rattle.std.proofs.Common.{arith, ◌≡◌, ℕ, ◌^◌, ◌<◌, ◌+◌, inl, refl, ◌∙◌, inr, ◌-◌}
 use Rattle.std.proofs.lemmas.Bool.Decides.{nat_tests}
 use Rattle.address_map.specs.Bytes.{with_word_at, word_at}
-use Rattle.os_heap_lists.specs.Words.{AreApart, IsWritten, IsFreed, link_at}
+use Rattle.os_heap_lists.specs.Words.{AreApart, IsWordWritten, IsFreed, link_at}
 
 written_here : (f : ℕ → ℕ) (at v : ℕ) → v < 2 ^ 32 → word_at (with_word_at f at v) at ≡ v
 written_here f at v fits = grind (arith, nat_tests)
@@ -10,7 +10,7 @@ written_here f at v fits = grind (arith, nat_tests)
 written_other : (f : ℕ → ℕ) (at v a : ℕ) → AreApart a 1 at 4 → with_word_at f at v a ≡ f a
 written_other f at v a apart = grind (arith, nat_tests)
 
-pub written : (f g : ℕ → ℕ) (at v : ℕ) → v < 2 ^ 32 → ((a : ℕ) → g a ≡ with_word_at f at v a) → IsWritten f g at v
+pub written : (f g : ℕ → ℕ) (at v : ℕ) → v < 2 ^ 32 → ((a : ℕ) → g a ≡ with_word_at f at v a) → IsWordWritten f g at v
 written f g at v fits h =
     let other : (a : ℕ) → AreApart a 1 at 4 → g a ≡ f a = λ a apart. h a ∙ written_other f at v a apart in
     record {
@@ -28,7 +28,7 @@ written f g at v fits h =
 
 -- three words, one after another
 pub freed_words : (f g h k : ℕ → ℕ) (start from at total next : ℕ) → AreApart (link_at start from) 4 at 8
-    → IsWritten f g (link_at start from) (at - from) → IsWritten g h at (next - at) → IsWritten h k (at + 4) total
+    → IsWordWritten f g (link_at start from) (at - from) → IsWordWritten g h at (next - at) → IsWordWritten h k (at + 4) total
     → IsFreed f k start from at total next
 freed_words f g h k start from at total next apart one two three = record {
   to_item = three.apart (link_at start from) (elim apart [ inl low ↦ inl (omega arith) | inr high ↦ inr (omega arith) ])

@@ -1,5 +1,6 @@
 -- A heap: where it starts, its end, and its list of items; and what it is for memory to spell it
 -- (RISC OS 3 Programmer's Reference Manual, "OS_Heap", the internal format).
+use Rattle.profile.specs.MemoryMap.{heap_name}
 use Rattle.std.specs.Prelude.{ℕ, List, ◌+◌, [], ◌∷◌, ◌-◌, ◌≡◌, true, Bool, false, ◌≤◌, ◌%◌}
 use Rattle.address_map.specs.Bytes.{AreMapped, Bytes, word_at, with_word_at}
 use Rattle.address_map.specs.Items.{is_total, size_of}
@@ -26,7 +27,8 @@ next_free at (Free t ∷ xs) other = at
 abbrev pub Spells : (ℕ → ℕ) → ℕ → List Item → ℕ → Type 0
 Spells w at [] other = Unit {0}
 Spells w at (Live t ∷ xs) other = (w at ≡ t) × Spells w (at + t) xs other
-Spells w at (Free t ∷ xs) other = (w at ≡ next_free (at + t) xs other - at) × ((w (at + 4) ≡ t) × Spells w (at + t) xs other)
+Spells w at (Free t ∷ xs) other = (w at ≡ next_free (at + t) xs other - at) ×
+    ((w (at + 4) ≡ t) × Spells w (at + t) xs other)
 
 -- totals are multiples of 8, and at least 8
 abbrev pub AreTotals : List Item → Type 0
@@ -50,7 +52,7 @@ pub record IsHeapIn (b : Bytes) (start end : ℕ) (items : List Item) : Type 0 w
   pub aligned : start % 4 ≡ 0
   pub whole : end % 4 ≡ 0
   pub mapped : AreMapped b.mapped start end
-  pub name : word_at b.at start ≡ 0x70616548
+  pub name : word_at b.at start ≡ heap_name
   pub first : word_at b.at (start + 4) ≡ next_free (start + 16) items 0 - start
   pub base : word_at b.at (start + 8) ≡ 16 + size_of items
   pub limit : word_at b.at (start + 12) ≡ end
@@ -63,13 +65,14 @@ pub record IsHeapIn (b : Bytes) (start end : ℕ) (items : List Item) : Type 0 w
 abbrev pub with_heads : (ℕ → ℕ) → ℕ → List Item → ℕ → ℕ → ℕ
 with_heads bytes at [] other = bytes
 with_heads bytes at (Live t ∷ xs) other = with_word_at (with_heads bytes (at + t) xs other) at t
-with_heads bytes at (Free t ∷ xs) other = with_word_at (with_word_at (with_heads bytes (at + t) xs other) (at + 4) t) at (next_free (at + t) xs other - at)
+with_heads bytes at (Free t ∷ xs) other = with_word_at (with_word_at (with_heads bytes (at + t) xs other)
+    (at + 4) t) at (next_free (at + t) xs other - at)
 
 -- the bytes after all words of a heap were written over them
 abbrev pub with_heap : (ℕ → ℕ) → ℕ → ℕ → List Item → ℕ → ℕ
 with_heap bytes start end items =
     with_word_at (with_word_at (with_word_at (with_word_at (with_heads bytes (start + 16) items 0)
-    start 0x70616548)
+    start heap_name)
     (start + 4) (next_free (start + 16) items 0 - start))
     (start + 8) (16 + size_of items))
     (start + 12) end

@@ -26,16 +26,16 @@ pub record Claim : Type 0 where
   pub offset : ℕ
   pub items : List Item
 
-abbrev pub behind : Item → Option Claim → Option Claim
-behind x None = None
-behind x (Some c) = Some (record { offset = size_of (x ∷ []) + c.offset; items = x ∷ c.items })
+abbrev pub claim_behind : Item → Option Claim → Option Claim
+claim_behind x None = None
+claim_behind x (Some c) = Some (record { offset = size_of (x ∷ []) + c.offset; items = x ∷ c.items })
 
 abbrev pub first_fit : ℕ → List Item → Option Claim
 first_fit n [] = None
-first_fit n (Live t ∷ xs) = behind (Live t) (first_fit n xs)
+first_fit n (Live t ∷ xs) = claim_behind (Live t) (first_fit n xs)
 first_fit n (Free t ∷ xs) = if nat_le n t
     then Some (record { offset = 0; items = Live n ∷ (left_free (t - n) ++ xs) })
-    else behind (Free t) (first_fit n xs)
+    else claim_behind (Free t) (first_fit n xs)
 
 -- A claim: the first free item that fits, else a block at the base, where `room` bytes from the
 -- first item to the heap's end suffice.
@@ -45,29 +45,30 @@ or_at_base n room xs None = if nat_le (size_of xs + n) room
     then Some (record { offset = size_of xs; items = xs ++ Live n ∷ [] })
     else None
 
-unfoldable pub claimed : ℕ → ℕ → List Item → Option Claim
-claimed n room xs = or_at_base n room xs (first_fit n xs)
+unfoldable pub claim_in_items : ℕ → ℕ → List Item → Option Claim
+claim_in_items n room xs = or_at_base n room xs (first_fit n xs)
 
 -- An item is freed: it joins the free item after it, and the one before it, if there are such. A
 -- free item at the end is dropped.
-abbrev pub freed : ℕ → List Item → List Item
-freed n [] = []
-freed n (Live t ∷ xs) = Free n ∷ (Live t ∷ xs)
-freed n (Free t ∷ xs) = Free (n + t) ∷ xs
+abbrev pub items_after_free : ℕ → List Item → List Item
+items_after_free n [] = []
+items_after_free n (Live t ∷ xs) = Free n ∷ (Live t ∷ xs)
+items_after_free n (Free t ∷ xs) = Free (n + t) ∷ xs
 
 -- a free item of `gap` bytes before a list, which it joins where that begins with a free one; none
 -- where `gap` is 0
-abbrev pub glued : ℕ → List Item → List Item
-glued gap xs = if gap == 0 then xs else freed gap xs
+abbrev pub items_with_gap : ℕ → List Item → List Item
+items_with_gap gap xs = if gap == 0 then xs else items_after_free gap xs
 
 -- The block whose bytes begin at the address `block` is given back, where the first item is at
 -- `at`; none, if there is no such block.
-abbrev pub released : ℕ → ℕ → List Item → Option (List Item)
-released block at [] = None
-released block at (Live t ∷ xs) = if at + 4 == block
-    then Some (freed t xs)
-    else option_map (λ ys. Live t ∷ ys) (released block (at + t) xs)
-released block at (Free t ∷ xs) = option_map (λ ys. freed t ys) (released block (at + t) xs)
+abbrev pub items_after_release : ℕ → ℕ → List Item → Option (List Item)
+items_after_release block at [] = None
+items_after_release block at (Live t ∷ xs) = if at + 4 == block
+    then Some (items_after_free t xs)
+    else option_map (λ ys. Live t ∷ ys) (items_after_release block (at + t) xs)
+items_after_release block at (Free t ∷ xs) = option_map (λ ys. items_after_free t ys)
+    (items_after_release block (at + t) xs)
 
 -- a number and a change of it, a signed word in two's complement; a sum below 0 counts as 0
 abbrev pub changed_by : ℕ → ℕ → ℕ
@@ -82,21 +83,24 @@ live_total block at (Free t ∷ xs) = live_total block (at + t) xs
 -- A block of `old` bytes, with the items after it, gets more bytes where it stands: the front of
 -- the free item after it, or, as the last item, some of the `room` bytes from its start to the
 -- heap's end.
-abbrev pub grown : ℕ → ℕ → ℕ → List Item → Option (List Item)
-grown room new old [] = if nat_le new room then Some (Live new ∷ []) else None
-grown room new old (Live t ∷ xs) = None
-grown room new old (Free t ∷ xs) = if nat_le new (old + t) then Some (Live new ∷ (left_free (old + t - new) ++ xs)) else None
+abbrev pub items_after_growth : ℕ → ℕ → ℕ → List Item → Option (List Item)
+items_after_growth room new old [] = if nat_le new room then Some (Live new ∷ []) else None
+items_after_growth room new old (Live t ∷ xs) = None
+items_after_growth room new old (Free t ∷ xs) = if nat_le new (old + t) then
+    Some (Live new ∷ (left_free (old + t - new) ++ xs)) else None
 
 -- The same for any new total. What is cut off is free, and joins what is free after it; at the base
 -- it is dropped.
-abbrev pub refitted : ℕ → ℕ → ℕ → List Item → Option (List Item)
-refitted room new old xs = if nat_le new old then Some (Live new ∷ glued (old - new) xs) else grown room new old xs
+abbrev pub items_after_refit : ℕ → ℕ → ℕ → List Item → Option (List Item)
+items_after_refit room new old xs = if nat_le new old then Some (Live new ∷ items_with_gap (old - new) xs)
+    else items_after_growth room new old xs
 
 -- The list after the block whose bytes begin at `block` got the total `new` where it stands, if it
 -- can. The first item is at `at`, and the heap ends at `end`.
 abbrev pub resized_in_place : ℕ → ℕ → ℕ → ℕ → List Item → Option (List Item)
 resized_in_place block end new at [] = None
 resized_in_place block end new at (Live t ∷ xs) = if at + 4 == block
-    then refitted (end - at) new t xs
+    then items_after_refit (end - at) new t xs
     else option_map (λ ys. Live t ∷ ys) (resized_in_place block end new (at + t) xs)
-resized_in_place block end new at (Free t ∷ xs) = option_map (λ ys. Free t ∷ ys) (resized_in_place block end new (at + t) xs)
+resized_in_place block end new at (Free t ∷ xs) = option_map (λ ys. Free t ∷ ys)
+    (resized_in_place block end new (at + t) xs)

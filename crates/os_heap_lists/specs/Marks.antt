@@ -11,13 +11,14 @@ use Rattle.address_map.specs.declared.item.Item.{Item}
 use Rattle.os_heap_lists.specs.Heap.{HeapList}
 
 -- the class of a word that may have been made a head, or given up as one
-abbrev pub marked : Bool → Bool → Class → Class
-marked made given_up old = if made then class.Heap else (if given_up then class.Plain else old)
+abbrev pub class_after_marking : Bool → Bool → Class → Class
+class_after_marking made given_up old = if made then class.Heap else (if given_up then class.Plain else old)
 
 -- The words of `olds` were given up, and those of `news` made heads, where the first item of both
 -- is at `at`. All other words keep their class.
 abbrev pub Remarks : (ℕ → Class) → (ℕ → Class) → ℕ → List Item → List Item → Type 0
-Remarks old new at olds news = (a : ℕ) → new a ≡ marked (is_head at news (word_start a)) (is_head at olds (word_start a)) (old a)
+Remarks old new at olds news = (a : ℕ) → new a ≡ class_after_marking (is_head at news (word_start a))
+    (is_head at olds (word_start a)) (old a)
 
 -- the class of a word that is a head from now on, or no more
 abbrev pub head_class : Bool → Class
@@ -36,8 +37,9 @@ abbrev pub AreMarked : (ℕ → Class) → ℕ → List Item → Type 0
 AreMarked classes at items = (a : ℕ) → is_head at items (word_start a) ≡ true → classes a ≡ class.Heap
 
 -- later items spell the same words, wherever the ones before them end
-abbrev pub AreStill : ℕ → List Item → List Item → List Item → Type 0
-AreStill at olds news rest = (p : ℕ) → is_head (at + size_of news) rest p ≡ is_head (at + size_of olds) rest p
+abbrev pub HeadsAreStill : ℕ → List Item → List Item → List Item → Type 0
+HeadsAreStill at olds news rest = (p : ℕ) → is_head (at + size_of news) rest p
+    ≡ is_head (at + size_of olds) rest p
 
 -- is the word at `p` one that some heap spells?
 abbrev pub spells_any : List HeapList → ℕ → Bool

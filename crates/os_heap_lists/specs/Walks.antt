@@ -6,12 +6,13 @@ use Rattle.address_map.specs.declared.item.Item.{Item}
 use Rattle.address_map.specs.declared.item.Item.TheVariants.{Free, Live}
 use Rattle.os_heap_lists.specs.Counts.{larger, largest_free, free_total, free_count, looked_at, begun_below, free_below}
 use Rattle.os_heap_lists.specs.Heap.{next_free, Spells, AreTotals, last_free, AreSpaced}
-use Rattle.os_heap_lists.specs.Lists.{Claim, first_fit, left_free, released, glued, live_total, freed}
+use Rattle.os_heap_lists.specs.Lists.{Claim, first_fit, left_free, items_after_release, items_with_gap, live_total, items_after_free}
 
 -- The walk stands at the free item at `at`, or at the end, where that is 0. It has passed `count`
 -- free items of `total` bytes, the largest of them of `largest`; the others are in the items from
 -- `place` on. The heap has `items` and ends at `end`; `w` tells the word at each address.
-pub record IsTallied (w : ℕ → ℕ) (start end : ℕ) (items : List Item) (at count total largest : ℕ) : Type 0 where
+pub record IsTallied (w : ℕ → ℕ) (start end : ℕ) (items : List Item)
+    (at count total largest : ℕ) : Type 0 where
   pub place : ℕ
   pub rest : List Item
   pub next : at ≡ next_free place rest 0
@@ -52,7 +53,10 @@ pub record IsFit (start : ℕ) (items : List Item) (n from at total : ℕ) : Typ
   pub place : at ≡ start + 16 + size_of before
   pub last : from ≡ last_free start (start + 16) before
   pub fits : n ≤ total
-  pub first : first_fit n items ≡ Some (record { offset = size_of before; items = before ++ Live n ∷ (left_free (total - n) ++ rest) })
+  pub first : first_fit n items ≡ Some (record {
+    offset = size_of before;
+    items = before ++ Live n ∷ (left_free (total - n) ++ rest);
+  })
 
 -- the last free item, where one of `gap` bytes ends at `at`
 abbrev pub last_link : ℕ → ℕ → ℕ → ℕ
@@ -61,14 +65,16 @@ last_link from at gap = if gap == 0 then from else at - gap
 -- A walk to the block at `block` has passed some items and comes to `at`. Just before that is a
 -- free item of `gap` bytes, if `gap` isn't 0; the last free one before is at `from`, and the next
 -- at `free`.
-pub record IsWalkedTo (start : ℕ) (items : List Item) (block : ℕ) (before rest : List Item) (from at free gap probes : ℕ) : Type 0 where
+pub record IsWalkedTo (start : ℕ) (items : List Item) (block : ℕ) (before rest : List Item)
+    (from at free gap probes : ℕ) : Type 0 where
   pub split : items ≡ (before ++ left_free gap) ++ rest
   pub place : at ≡ start + 16 + size_of (before ++ left_free gap)
   pub last : from ≡ last_free start (start + 16) before
   pub next : free ≡ next_free at rest 0
   pub closed : AreSpaced before
-  pub absent : released block at rest ≡ None → released block (start + 16) items ≡ None
-  pub found : (ys : List Item) → released block at rest ≡ Some ys → released block (start + 16) items ≡ Some (before ++ glued gap ys)
+  pub absent : items_after_release block at rest ≡ None → items_after_release block (start + 16) items ≡ None
+  pub found : (ys : List Item) → items_after_release block at rest ≡ Some ys →
+      items_after_release block (start + 16) items ≡ Some (before ++ items_with_gap gap ys)
   pub count : probes + begun_below block at rest ≡ begun_below block (start + 16) items
 
 pub record IsWalked (start : ℕ) (items : List Item) (block from at free gap probes : ℕ) : Type 0 where
@@ -97,14 +103,15 @@ pub record IsBlock (start : ℕ) (items : List Item) (block from at free gap : �
   pub last : from ≡ last_free start (start + 16) before
   pub next : free ≡ next_free (at + total) rest 0
   pub closed : AreSpaced before
-  pub given : released block (start + 16) items ≡ Some (before ++ glued gap (freed total rest))
+  pub given : items_after_release block (start + 16) items
+      ≡ Some (before ++ items_with_gap gap (items_after_free total rest))
 
 -- the items that the words from `at` on spell, up to the base, where the next free one is at `free`
 abbrev pub rest_from : Bytes → ℕ → ℕ → ℕ → List Item
 rest_from b at free base = items_from (base - at) (word_at b.at) at free base
 
 -- memory spells them
-pub record IsRest (b : Bytes) (at free base : ℕ) : Type 0 where
+pub record IsRestOfHeap (b : Bytes) (at free base : ℕ) : Type 0 where
   pub items : List Item
   pub next : free ≡ next_free at items 0
   pub spelled : Spells (word_at b.at) at items 0

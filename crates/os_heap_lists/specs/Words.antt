@@ -14,7 +14,7 @@ abbrev pub AreApart : ℕ → ℕ → ℕ → ℕ → Type 0
 AreApart a len b other_len = (a + len ≤ b) ⊎ (b + other_len ≤ a)
 
 -- one word was written, and no other byte changed
-pub record IsWritten (old new : ℕ → ℕ) (at word : ℕ) : Type 0 where
+pub record IsWordWritten (old new : ℕ → ℕ) (at word : ℕ) : Type 0 where
   pub here : word_at new at ≡ word
   pub apart : (a : ℕ) → AreApart a 4 at 4 → word_at new a ≡ word_at old a
   pub other : (a : ℕ) → AreApart a 1 at 4 → new a ≡ old a
@@ -24,7 +24,8 @@ pub record IsFreed (old new : ℕ → ℕ) (start from at total next : ℕ) : Ty
   pub to_item : word_at new (link_at start from) ≡ at - from
   pub to_next : word_at new at ≡ next - at
   pub length : word_at new (at + 4) ≡ total
-  pub apart : (a : ℕ) → AreApart a 4 (link_at start from) 4 → AreApart a 4 at 8 → word_at new a ≡ word_at old a
+  pub apart : (a : ℕ) → AreApart a 4 (link_at start from) 4 → AreApart a 4 at 8 →
+      word_at new a ≡ word_at old a
   pub other : (a : ℕ) → AreApart a 1 (link_at start from) 4 → AreApart a 1 at 8 → new a ≡ old a
 
 -- the byte at `a` belongs to no word that the items spell
@@ -40,5 +41,7 @@ pub record IsDivided (old new : ℕ → ℕ) (start from at total left next : �
   pub to_item : word_at new (link_at start from) ≡ at + total - from
   pub to_next : word_at new (at + total) ≡ next - (at + total)
   pub length : word_at new (at + total + 4) ≡ left
-  pub apart : (a : ℕ) → AreApart a 4 (link_at start from) 4 → AreApart a 4 at 4 → AreApart a 4 (at + total) 8 → word_at new a ≡ word_at old a
-  pub other : (a : ℕ) → AreApart a 1 (link_at start from) 4 → AreApart a 1 at 4 → AreApart a 1 (at + total) 8 → new a ≡ old a
+  pub apart : (a : ℕ) → AreApart a 4 (link_at start from) 4 → AreApart a 4 at 4 →
+      AreApart a 4 (at + total) 8 → word_at new a ≡ word_at old a
+  pub other : (a : ℕ) → AreApart a 1 (link_at start from) 4 → AreApart a 1 at 4 →
+      AreApart a 1 (at + total) 8 → new a ≡ old a

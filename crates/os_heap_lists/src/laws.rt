@@ -1,7 +1,7 @@
 //! Laws of heaps as lists: a heap is read back from memory, and a release undoes a claim. Each is
 //! the contract of a function that does nothing.
 
-ghost use Rattle.os_heap_lists.specs.Laws.{ReadsHeap, GivesBack};
+ghost use Rattle.os_heap_lists.specs.Laws.{ReadsHeap, ClaimIsUndone};
 
 /// Where memory spells a heap, just its list is read there.
 pub fn heaps_are_read()
@@ -10,5 +10,5 @@ pub fn heaps_are_read()
 
 /// A claim and the release of the claimed block bring the list back.
 pub fn release_undoes_claim()
-    ensures { GivesBack }
+    ensures { ClaimIsUndone }
 {}

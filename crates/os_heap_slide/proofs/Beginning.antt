@@ -6,14 +6,14 @@ use Rattle.address_map.specs.declared.class.Class.{Class}
 use Rattle.address_map.specs.declared.map.AddressMap.{AddressMap}
 use Rattle.os_heap_lists.proofs.LastLink.{link_of-heap, replaced}
 use Rattle.os_heap_lists.specs.Heap.{IsHeapIn, next_free}
-use Rattle.os_heap_lists.specs.Words.{IsWritten, link_at}
+use Rattle.os_heap_lists.specs.Words.{IsWordWritten, link_at}
 use Rattle.os_heap_words.specs.Outcomes.{end_at, HasHeapAt, items_at}
 use Rattle.os_heap_slide.proofs.Laying.{IsRead, read}
 use Rattle.os_heap_slide.specs.Slide.{AreBlocks}
 use Rattle.os_heap_slide.specs.Steps.{IsSliding}
 
 pub emptied : (m k n : AddressMap) (start : ℕ) → HasHeapAt m start → layout n ≡ layout m
-    → IsWritten (byte_at m) (byte_at k) (link_at start start) (0 - start) → IsWritten (byte_at k) (byte_at n) (start + 8) 16
+    → IsWordWritten (byte_at m) (byte_at k) (link_at start start) (0 - start) → IsWordWritten (byte_at k) (byte_at n) (start + 8) 16
     → IsHeapIn (bytes_of n) start (end_at m start) []
 emptied m k n start heap same one two =
     let link : link_at start start ≡ start + 4 = link_of-heap start in
@@ -30,7 +30,7 @@ emptied m k n start heap same one two =
 
 pub begun : (m k n : AddressMap) (start free : ℕ) (movable : List ℕ) → HasHeapAt m start → layout n ≡ layout m → class_of n ≡ class_of m
     → free ≡ next_free (start + 16) (items_at m start) 0
-    → IsWritten (byte_at m) (byte_at k) (link_at start start) (0 - start) → IsWritten (byte_at k) (byte_at n) (start + 8) 16
+    → IsWordWritten (byte_at m) (byte_at k) (link_at start start) (0 - start) → IsWordWritten (byte_at k) (byte_at n) (start + 8) 16
     → AreBlocks (start + 16) (items_at m start) movable → length movable ≤ 128
     → IsSliding m n start movable movable [] start (start + 16) (start + 16) free
 begun m k n start free movable heap same marks next one two blocks few =

@@ -8,7 +8,7 @@ use Rattle.address_map.specs.Moves.{moved_to}
 use Rattle.address_map.specs.Records.{is_heap_kind}
 use Rattle.address_map.specs.declared.item.Item.{Item}
 use Rattle.address_map.specs.declared.region.Region.{Region}
-use Rattle.os_heap_lists.proofs.HeadWords.{heaps_kept}
+use Rattle.os_heap_lists.proofs.HeadWords.{law_heap_frame}
 use Rattle.os_heap_lists.proofs.HeapWords.{cons_part, heap_kept}
 use Rattle.os_heap_lists.proofs.Reading.{items_in-heap}
 use Rattle.os_heap_lists.specs.Heap.{AreTotals, HeapList, IsHeapIn}
@@ -16,7 +16,7 @@ use Rattle.os_heap_lists.specs.Lists.{live_total}
 use Rattle.os_heap.proofs.Forgetting.{StartsIn, so_starts}
 use Rattle.os_heap.proofs.Nesting.{KeepsHeaps, listed, within_unspelled}
 use Rattle.os_heap.proofs.Stores.{AreOthers, clear_both_ways, own_held, stand_held}
-use Rattle.os_heap.specs.Calls.{total_or_0, with_items}
+use Rattle.os_heap.specs.Calls.{total_or_0, heaps_with_items}
 use Rattle.os_heap.specs.Forgetting.{holds_heap, starts_in}
 use Rattle.os_heap.specs.Nesting.{IsWithin, StandApart, StandsApart}
 use Rattle.os_heap.specs.Store.{AreHeapsIn, heap_in, heaps_in}
@@ -96,7 +96,7 @@ beside_kept b c h g movable kept fixed (inr (inl within)) heap =
     heap_kept b c g.start g.end g.items heap kept.mapped (λ a low high.
     kept.fixed within.block within.total a (fixed within) within.live (omega (arith, within.low, low)) (omega (arith, within.high, high)))
 beside_kept b c h g movable kept fixed (inr (inr within)) heap =
-    heaps_kept b c g.start g.end g.items kept.mapped (λ a is. kept.beyond a (false_from_ne_true (in_range h.start h.end a) (λ inside.
+    law_heap_frame b c g.start g.end g.items kept.mapped (λ a is. kept.beyond a (false_from_ne_true (in_range h.start h.end a) (λ inside.
     both_ways (is_heap_word g.start g.items (word_start a)) (within_unspelled b g h a heap within inside) is))) heap
 
 pub heaps_beside : (b c : Bytes) (h : HeapList) (movable : List ℕ) (hs : List HeapList) → KeepsBytes b c h movable → HoldNoHeap hs h movable
@@ -112,26 +112,26 @@ heaps_beside b c h movable (g ∷ hs) kept none others parts = (
 
 -- all heaps after the slide are spelled, each apart from the others
 pub parts_beside : (b c : Bytes) (h : HeapList) (items : List Item) (hs : List HeapList) → IsHeapIn c h.start h.end items → AreBeside c h hs
-    → AreOthers h hs → KeepsHeaps h items hs → AreHeapsIn b hs → AreHeapsIn c (with_items h.start items hs)
+    → AreOthers h hs → KeepsHeaps h items hs → AreHeapsIn b hs → AreHeapsIn c (heaps_with_items h.start items hs)
 parts_beside b c h items [] heap beside others keeps parts = tt
 parts_beside b c h items (g ∷ hs) heap beside others keeps parts =
-    let rest : AreHeapsIn c (with_items h.start items hs) = parts_beside b c h items hs heap beside.1 others.1 keeps.1 parts.1.1 in
+    let rest : AreHeapsIn c (heaps_with_items h.start items hs) = parts_beside b c h items hs heap beside.1 others.1 keeps.1 parts.1.1 in
     elim beside.0 [
       | inl same ↦
           let start : g.start ≡ h.start = ap (λ (x : HeapList). x.start) same in
           let end : g.end ≡ h.end = ap (λ (x : HeapList). x.end) same in
           let old : IsHeapIn b h.start h.end h.items = subst (λ (x : HeapList). IsHeapIn b x.start x.end x.items) same parts.0 in
-          let own : StandApart (listed h items) (with_items h.start items hs) =
+          let own : StandApart (listed h items) (heaps_with_items h.start items hs) =
           own_held b h items hs old others.1 keeps.1 (subst (λ (x : HeapList). StandApart x hs) same parts.1.0) in
-          let stand : StandApart (listed g items) (with_items h.start items hs) =
-          subst (λ (x : HeapList). StandApart (listed x items) (with_items h.start items hs)) (sym same) own in
+          let stand : StandApart (listed g items) (heaps_with_items h.start items hs) =
+          subst (λ (x : HeapList). StandApart (listed x items) (heaps_with_items h.start items hs)) (sym same) own in
           rw (eq-eqb g.start h.start start) (rw (start, end) heap, (stand, rest))
       | inr apart ↦ rw (ne_eqb g.start h.start apart.0) (apart.1, (stand_held g h items hs keeps.0 others.1 parts.1.0, rest))
     ]
 
 -- what memory spells at each record
 pub read_beside : (b c : Bytes) (h : HeapList) (items : List Item) (rs : List Region) → IsHeapIn c h.start h.end items → AreBeside c h (heaps_in b rs)
-    → heaps_in c rs ≡ with_items h.start items (heaps_in b rs)
+    → heaps_in c rs ≡ heaps_with_items h.start items (heaps_in b rs)
 read_beside b c h items [] heap beside = refl
 read_beside b c h items (r ∷ rs) heap beside = elim (cases_Bool (is_heap_kind r.kind)) [
   | inl is_heap ↦
@@ -139,8 +139,8 @@ read_beside b c h items (r ∷ rs) heap beside = elim (cases_Bool (is_heap_kind 
       rw is_heap (one beside'.0 (read_beside b c h items rs heap beside'.1))
   | inr other ↦ rw other (read_beside b c h items rs heap (rw other at beside))
 ] where
-  one : IsBeside c h (heap_in b r) → heaps_in c rs ≡ with_items h.start items (heaps_in b rs)
-      → heap_in c r ∷ heaps_in c rs ≡ with_items h.start items (heap_in b r ∷ heaps_in b rs)
+  one : IsBeside c h (heap_in b r) → heaps_in c rs ≡ heaps_with_items h.start items (heaps_in b rs)
+      → heap_in c r ∷ heaps_in c rs ≡ heaps_with_items h.start items (heap_in b r ∷ heaps_in b rs)
   one (inl same) rest =
       let start : r.at ≡ h.start = ap (λ (x : HeapList). x.start) same in
       let list : items_in (word_at c.at) r.at ≡ items = rw start (items_in-heap c h.start h.end items heap) in

@@ -27,7 +27,7 @@ use Rattle.os_heap.proofs.Anchored.{KeepsAnchors, heads_unflexed, place_held}
 use Rattle.os_heap.proofs.FlexWords.{AreSameFlex, flex_held, flex_on, same_flex}
 use Rattle.os_heap.proofs.Held.{heads_marked, marks_held}
 use Rattle.os_heap.proofs.Stores.{are_others, AreOthers, layout-regions, places-held, same_limits}
-use Rattle.os_heap.specs.Calls.{OfHeap, holds_anchor, with_items}
+use Rattle.os_heap.specs.Calls.{OfHeap, holds_anchor, heaps_with_items}
 use Rattle.os_heap_words.specs.Outcomes.{end_at, HasHeapAt, items_at}
 use Rattle.os_heap.specs.Store.{AreClasses, AreHeapsIn, find_heap, heaps_in, IsSound, is_flex_store, is_in_flex_store, others_in, store_of}
 use Rattle.os_heap_slide.proofs.Beside.{AreBeside, heaps_beside, heaps_stay, KeepsBytes, parts_beside, read_beside}
@@ -35,7 +35,7 @@ use Rattle.os_heap_slide.proofs.KeptBlocks.{bytes_fixed}
 use Rattle.os_heap_slide.proofs.Laying.{IsRead, read}
 use Rattle.os_heap_slide.proofs.Places.{bytes_low, bytes_past, moved_live, moved_stays, moves_down}
 use Rattle.os_heap_slide.proofs.Records.{all_placed, heaps_moved, IsSlide, moves_in, others_moved, ranges_apart, slid_in}
-use Rattle.os_heap_slide.specs.Slide.{AreBlocks, HoldNoAnchor, HoldNoHeap, is_listed, IsSlid, MaySlide, moves_of, slid, slid_bytes, with_slid}
+use Rattle.os_heap_slide.specs.Slide.{AreBlocks, HoldNoAnchor, HoldNoHeap, is_listed, IsHeapSlid, MaySlide, moves_of, slid, slid_bytes, with_slid}
 use Rattle.os_heap_slide.specs.Steps.{IsAllSlid}
 
 -- the heap that slides
@@ -212,7 +212,7 @@ slid_store m n q h movable moves sound classes found old is free empty a d =
           ap (λ (b : Bytes). b.at x) bytes ∙ bytes_fixed (store_of m) h movable old.aligned old.totals block total x stays live low high;
     } in
     let beside : AreBeside (bytes_of q) h hs = heaps_beside (bytes_of m) (bytes_of q) h movable hs kept empty others sound.heaps in
-    let heaps : heaps_in (bytes_of q) (regions q) ≡ with_items h.start (slid_in h movable) hs =
+    let heaps : heaps_in (bytes_of q) (regions q) ≡ heaps_with_items h.start (slid_in h movable) hs =
     ap (λ (ys : List Region). heaps_in (bytes_of q) ys) l.records ∙ heaps_moved (bytes_of q) (moves_in h movable) (regions m)
     ∙ read_beside (bytes_of m) (bytes_of q) h (slid_in h movable) (regions m) l.heap beside in
     let records : others_in (regions q) ≡ moved_regions (moves_in h movable) rs = ap others_in l.records ∙ others_moved (moves_in h movable) (regions m) in
@@ -228,10 +228,10 @@ slid_store m n q h movable moves sound classes found old is free empty a d =
       anchor = λ a. same.anchors a i;
       header = λ a. same.headers a i;
     } in
-    let parts : AreHeapsIn (bytes_of q) (with_items h.start (slid_in h movable) hs) =
+    let parts : AreHeapsIn (bytes_of q) (heaps_with_items h.start (slid_in h movable) hs) =
     parts_beside (bytes_of m) (bytes_of q) h (slid_in h movable) hs l.heap beside others (heaps_stay (bytes_of m) h movable hs old.totals sound.heaps empty) sound.heaps in
     let now : IsSound (with_slid (store_of m) h movable) = record {
-      heaps = subst (λ (b : Bytes). AreHeapsIn b (with_items h.start (slid_in h movable) hs)) bytes parts;
+      heaps = subst (λ (b : Bytes). AreHeapsIn b (heaps_with_items h.start (slid_in h movable) hs)) bytes parts;
       limits = same_limits hs _ (places-held h.start (slid_in h movable) hs) sound.limits;
       placed = all_placed (bytes_of m) (bytes_of q) h hs movable rs s sound.heaps others empty found sound.placed;
       apart = ranges_apart (bytes_of m) (bytes_of q) h hs movable rs s found sound.placed sound.apart;
@@ -255,7 +255,7 @@ done_here m n q heap movable moves sound classes k a d =
     (subst (λ (x : ℕ). IsAllSlid m n x movable moves) (sym k.start) a) d
 
 pub slid_here : (m n q : AddressMap) (heap : ℕ) (movable : List ℕ) (moves : List Move) → IsSound (store_of m) → AreClasses m → Here m heap movable
-    → IsAllSlid m n heap movable moves → IsDone m n q moves → IsSlid (store_of m) heap movable (store_of q) moves
+    → IsAllSlid m n heap movable moves → IsDone m n q moves → IsHeapSlid (store_of m) heap movable (store_of q) moves
 slid_here m n q heap movable moves sound classes k a d =
     let mv : ℕ → Bool = is_listed movable in
     let moved : moves ≡ moves_of mv (heap + 16) (heap + 16) (items_at m heap) = a.moved in

@@ -13,7 +13,7 @@ use Rattle.os_heap.specs.Store.{Store}
 use Rattle.os_heap_slide.proofs.LawLemmas.{slid_totals, slide_keeps}
 use Rattle.os_heap_slide.proofs.Places.{between, first_moved, low_still, moved_live, moved_stays, one_moved, some_low}
 use Rattle.os_heap_slide.specs.Laws.{KeepsContents, SlideKeepsBlocks}
-use Rattle.os_heap_slide.specs.Slide.{is_listed, move_of, moves_of, place_of, slid, slid_bytes, with_slid}
+use Rattle.os_heap_slide.specs.Slide.{is_listed, move_of, moves_of, item_place_after, slid, slid_bytes, with_slid}
 
 -- the contents of all items, read of one block
 kept_block : (mv : ℕ → Bool) (top at : ℕ) (xs : List Item) (old new : ℕ → ℕ) (b t k : ℕ) → top ≤ at → AreTotals xs
@@ -22,7 +22,7 @@ kept_block mv top at [] old new b t k low totals kept live less = absurd (let no
 kept_block mv top at (Free u ∷ xs) old new b t k low totals kept live less =
     kept_block mv top (at + u) xs old new b t k (omega arith) totals.1 kept live less
 kept_block mv top at (Live u ∷ xs) old new b t k low totals kept live less =
-    let place : ℕ = place_of (mv (at + 4)) top at in
+    let place : ℕ = item_place_after (mv (at + 4)) top at in
     let bounds : (top ≤ place) × (place ≤ at) = between (mv (at + 4)) top at low in
     let least = total_facts u totals.0 in
     let ms : List Move = moves_of mv (place + u) (at + u) xs in

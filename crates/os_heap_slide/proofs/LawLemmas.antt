@@ -14,11 +14,11 @@ use Rattle.os_heap_lists.specs.Counts.{all_free, free_count, free_total, largest
 use Rattle.os_heap_lists.specs.Heap.{AreSpaced, AreTotals}
 use Rattle.os_heap_lists.specs.Lists.{left_free}
 use Rattle.os_heap.proofs.Moving.{found_held}
-use Rattle.os_heap.specs.Calls.{described}
+use Rattle.os_heap.specs.Calls.{heap_description}
 use Rattle.os_heap_slide.proofs.Laying.{moved_past}
 use Rattle.os_heap_slide.proofs.Places.{between, bytes_low}
 use Rattle.os_heap_slide.specs.Laws.{KeepsContents, SlideClears, SlideDescribes, SlideFits, SlideKeeps}
-use Rattle.os_heap_slide.specs.Slide.{is_listed, place_of, slid, slid_bytes}
+use Rattle.os_heap_slide.specs.Slide.{is_listed, item_place_after, slid, slid_bytes}
 
 -- contents that were kept of other bytes, where these are the same from the first item on
 kept_of : (mv : ℕ → Bool) (top at : ℕ) (xs : List Item) (f g new : ℕ → ℕ) → ((a : ℕ) → at ≤ a → g a ≡ f a) → KeepsContents mv top at xs g new
@@ -27,14 +27,14 @@ kept_of mv top at [] f g new same kept = tt
 kept_of mv top at (Free t ∷ xs) f g new same kept = kept_of mv top (at + t) xs f g new (λ a low. same a (omega arith)) kept
 kept_of mv top at (Live t ∷ xs) f g new same kept = (
   λ k low. kept.0 k low ∙ same (at + k) (omega arith),
-  kept_of mv (place_of (mv (at + 4)) top at + t) (at + t) xs f g new (λ a low. same a (omega arith)) kept.1,
+  kept_of mv (item_place_after (mv (at + 4)) top at + t) (at + t) xs f g new (λ a low. same a (omega arith)) kept.1,
 )
 
 pub slide_keeps : SlideKeeps
 slide_keeps mv top at [] bytes low = tt
 slide_keeps mv top at (Free t ∷ xs) bytes low = slide_keeps mv top (at + t) xs bytes (omega arith)
 slide_keeps mv top at (Live t ∷ xs) bytes low =
-    let place : ℕ = place_of (mv (at + 4)) top at in
+    let place : ℕ = item_place_after (mv (at + 4)) top at in
     let bounds : (top ≤ place) × (place ≤ at) = between (mv (at + 4)) top at low in
     let next : ℕ → ℕ = with_moved_at bytes at place t in (
       λ k less. bytes_low mv (place + t) (at + t) xs next (place + k) (omega (arith, bounds.1)) (omega arith) ∙ moved_in bytes at place t k less,
@@ -55,7 +55,7 @@ slide_fits mv top at (Free t ∷ xs) low =
     let rest = slide_fits mv top (at + t) xs (omega arith) in
     (rest.0, omega (arith, rest.1))
 slide_fits mv top at (Live t ∷ xs) low =
-    let place : ℕ = place_of (mv (at + 4)) top at in
+    let place : ℕ = item_place_after (mv (at + 4)) top at in
     let bounds : (top ≤ place) × (place ≤ at) = between (mv (at + 4)) top at low in
     let rest = slide_fits mv (place + t) (at + t) xs (omega (arith, bounds.1)) in (
       laid_spaced (place - top) t (slid mv (place + t) (at + t) xs) rest.0,
@@ -81,7 +81,7 @@ laid_totals gap t ys whole total totals = elim (cases_Bool (gap == 0)) [
       rw some (total_of-numbers gap least whole, (total, totals))
 ]
 
-place_whole : (moves : Bool) (top at : ℕ) → (at - top) % 8 ≡ 0 → ((place_of moves top at - top) % 8 ≡ 0) × ((at - place_of moves top at) % 8 ≡ 0)
+place_whole : (moves : Bool) (top at : ℕ) → (at - top) % 8 ≡ 0 → ((item_place_after moves top at - top) % 8 ≡ 0) × ((at - item_place_after moves top at) % 8 ≡ 0)
 place_whole true top at whole = (let none : top - top ≡ 0 = omega arith in rw none refl, whole)
 place_whole false top at whole = (whole, let none : at - at ≡ 0 = omega arith in rw none refl)
 
@@ -90,7 +90,7 @@ slid_totals mv top at [] low whole totals = tt
 slid_totals mv top at (Free t ∷ xs) low whole totals =
     slid_totals mv top (at + t) xs (omega arith) (omega (arith, whole, total_facts t totals.0)) totals.1
 slid_totals mv top at (Live t ∷ xs) low whole totals =
-    let place : ℕ = place_of (mv (at + 4)) top at in
+    let place : ℕ = item_place_after (mv (at + 4)) top at in
     let bounds : (top ≤ place) × (place ≤ at) = between (mv (at + 4)) top at low in
     let both : ((place - top) % 8 ≡ 0) × ((at - place) % 8 ≡ 0) = place_whole (mv (at + 4)) top at whole in
     laid_totals (place - top) t (slid mv (place + t) (at + t) xs) both.0 totals.0
@@ -109,7 +109,7 @@ room_only room xs none whole =
     rw (free.0, free.1, e) (rw (le-leb 0 room (omega arith)) refl, zero-add room)
 
 pub slide_describes : SlideDescribes
-unfolding described
+unfolding heap_description
 slide_describes s h movable found totals eighths all room e =
     let first : ℕ = h.start + 16 in
     let items : List Item = slid (is_listed movable) first first h.items in

@@ -10,12 +10,12 @@ use Rattle.address_map.specs.declared.class.Class.TheVariants as class
 use Rattle.address_map.specs.declared.item.Item.{Item}
 use Rattle.address_map.specs.declared.item.Item.TheVariants.{Live}
 use Rattle.address_map.specs.declared.map.AddressMap.{AddressMap}
-use Rattle.os_heap_lists.proofs.HeadWords.{head_inside, heaps_kept}
+use Rattle.os_heap_lists.proofs.HeadWords.{head_inside, law_heap_frame}
 use Rattle.os_heap_lists.proofs.Reading.{items_in-heap}
 use Rattle.os_heap_lists.specs.Heap.{IsHeapIn}
-use Rattle.os_heap_lists.specs.Marks.{head_class, marked, with_item_marked}
+use Rattle.os_heap_lists.specs.Marks.{head_class, class_after_marking, with_item_marked}
 use Rattle.os_heap_words.specs.Outcomes.{end_at, HasHeapAt, items_at}
-use Rattle.os_heap_slide.specs.Steps.{IsLaid, IsRoom, IsSetDown, laid}
+use Rattle.os_heap_slide.specs.Steps.{IsLaid, IsRoomForBlock, IsSetDown, items_laid_last}
 
 -- bytes that a copy leaves alone
 pub moved_below : (f : ℕ → ℕ) (from to len a : ℕ) → a < to → with_moved_at f from to len a ≡ f a
@@ -29,7 +29,7 @@ pub low_kept : (b c : Bytes) (start end : ℕ) (items : List Item) → IsHeapIn 
     → ((a : ℕ) → start ≤ a → a < start + 16 + size_of items → c.at a ≡ b.at a) → IsHeapIn c start end items
 low_kept b c start end items heap mapped same =
     let aligned : start % 4 ≡ 0 = heap.aligned in
-    heaps_kept b c start end items mapped (λ a is.
+    law_heap_frame b c start end items mapped (λ a is.
     let p : ℕ = word_start a in
     elim (or_cases (in_range start 16 p) (is_head (start + 16) items p) is) [
       | inl here ↦
@@ -54,14 +54,14 @@ read n start end items heap =
     record { list = list; limit = heap.limit; heap = rw (list, heap.limit) heap }
 
 -- a heap after the bytes of a block above its base were copied
-moved_heap : (m k : AddressMap) (start from top at to total : ℕ) → IsRoom m start from top to total (at + total) → layout k ≡ layout m
+moved_heap : (m k : AddressMap) (start from top at to total : ℕ) → IsRoomForBlock m start from top to total (at + total) → layout k ≡ layout m
     → ((a : ℕ) → byte_at k a ≡ with_moved_at (byte_at m) at to total a) → IsHeapIn (bytes_of k) start (end_at m start) (items_at m start)
 moved_heap m k start from top at to total r same bytes =
     low_kept (bytes_of m) (bytes_of k) start (end_at m start) (items_at m start) r.heap (is_mapped-layout m k same)
     (λ a low high. bytes a ∙ moved_below (byte_at m) at to total a (omega (arith, high, r.place, r.low)))
 
-pub room_moved : (m k : AddressMap) (start from top at to total : ℕ) → IsRoom m start from top to total (at + total) → to ≤ at → layout k ≡ layout m
-    → ((a : ℕ) → byte_at k a ≡ with_moved_at (byte_at m) at to total a) → IsRoom k start from top to total (to + total)
+pub room_moved : (m k : AddressMap) (start from top at to total : ℕ) → IsRoomForBlock m start from top to total (at + total) → to ≤ at → layout k ≡ layout m
+    → ((a : ℕ) → byte_at k a ≡ with_moved_at (byte_at m) at to total a) → IsRoomForBlock k start from top to total (to + total)
 room_moved m k start from top at to total r high same bytes =
     let is : IsRead k start (end_at m start) (items_at m start) = read k start (end_at m start) (items_at m start) (moved_heap m k start from top at to total r same bytes) in
     record {
@@ -76,12 +76,12 @@ room_moved m k start from top at to total r high same bytes =
     }
 
 -- the marks: the block's old one is gone, and then those of its new words are made
-relaid : (made given : Bool) (old mid new : Class) → mid ≡ cond given class.Plain old → new ≡ marked made false mid → new ≡ marked made given old
+relaid : (made given : Bool) (old mid new : Class) → mid ≡ cond given class.Plain old → new ≡ class_after_marking made false mid → new ≡ class_after_marking made given old
 relaid true given old mid new one two = two
 relaid false true old mid new one two = two ∙ one
 relaid false false old mid new one two = two ∙ one
 
-pub laid_as : (m k n : AddressMap) (start from top at to total : ℕ) → IsRoom m start from top to total (at + total) → to ≤ at → layout k ≡ layout m
+pub laid_as : (m k n : AddressMap) (start from top at to total : ℕ) → IsRoomForBlock m start from top to total (at + total) → to ≤ at → layout k ≡ layout m
     → ((a : ℕ) → byte_at k a ≡ with_moved_at (byte_at m) at to total a)
     → ((a : ℕ) → class_of k a ≡ with_item_marked at (Live total) (head_class false) (class_of m) a)
     → IsSetDown k n start top to total → IsLaid m n start top at to total
@@ -91,6 +91,6 @@ laid_as m k n start from top at to total r high same bytes marks down =
       heap = rw (← is.list, ← is.limit) down.heap;
       same = down.same ∙ same;
       others = λ a head out. down.others a head (rw is.list out) ∙ bytes a;
-      marks = λ a. relaid (is_head top (laid (to - top) total) (word_start a)) (is_head_of at (Live total) (word_start a)) (class_of m a) (class_of k a) (class_of n a)
+      marks = λ a. relaid (is_head top (items_laid_last (to - top) total) (word_start a)) (is_head_of at (Live total) (word_start a)) (class_of m a) (class_of k a) (class_of n a)
           (marks a) (down.marks a);
     }

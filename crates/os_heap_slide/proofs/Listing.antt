@@ -7,10 +7,10 @@ use Rattle.address_map.specs.declared.item.Item.{Item}
 use Rattle.address_map.specs.declared.item.Item.TheVariants.{Free, Live}
 use Rattle.os_heap_lists.proofs.Reading.{total_facts}
 use Rattle.os_heap_lists.specs.Heap.{AreTotals}
-use Rattle.os_heap_slide.specs.Slide.{AreBlocks, begins, is_listed, move_of, place_of, without_first}
+use Rattle.os_heap_slide.specs.Slide.{AreBlocks, begins, is_listed, move_of, item_place_after, without_first_block}
 
 -- an address that is not the first is listed after it
-pub listed_rest : (c b : ℕ) (ms : List ℕ) → b ≢ c → is_listed ms b ≡ is_listed (without_first c ms) b
+pub listed_rest : (c b : ℕ) (ms : List ℕ) → b ≢ c → is_listed ms b ≡ is_listed (without_first_block c ms) b
 listed_rest c b [] other = refl
 listed_rest c b (m ∷ ms) other = elim (cases_Bool (m == c)) [
   | inl here ↦
@@ -24,7 +24,7 @@ pub listed_above : (at : ℕ) (xs : List Item) (ms : List ℕ) (b : ℕ) → Are
 listed_above at [] ms b totals blocks low = rw blocks refl
 listed_above at (Free t ∷ xs) ms b totals blocks low = listed_above (at + t) xs ms b totals.1 blocks (omega arith)
 listed_above at (Live t ∷ xs) ms b totals blocks low =
-    listed_rest (at + 4) b ms (λ (e : b ≡ at + 4). omega arith) ∙ listed_above (at + t) xs (without_first (at + 4) ms) b totals.1 blocks (omega arith)
+    listed_rest (at + 4) b ms (λ (e : b ≡ at + 4). omega arith) ∙ listed_above (at + t) xs (without_first_block (at + 4) ms) b totals.1 blocks (omega arith)
 
 -- the next block is listed just where it is the first
 pub listed_first : (at t : ℕ) (xs : List Item) (ms : List ℕ) → AreTotals (Live t ∷ xs) → AreBlocks at (Live t ∷ xs) ms
@@ -49,8 +49,8 @@ one_move at to = elim (cases_Bool (to == at)) [
 no_move : (at to : ℕ) → to ≡ at → length (move_of at to) ≡ 0
 no_move at to e = rw (eq-eqb to at e) refl
 
-pub more_moves : (at top block : ℕ) (left : List ℕ) (moves : List Move) (to : ℕ) → to ≡ place_of (begins block left) top at
-    → length moves + length left ≤ 128 → length (moves ++ move_of at to) + length (without_first block left) ≤ 128
+pub more_moves : (at top block : ℕ) (left : List ℕ) (moves : List Move) (to : ℕ) → to ≡ item_place_after (begins block left) top at
+    → length moves + length left ≤ 128 → length (moves ++ move_of at to) + length (without_first_block block left) ≤ 128
 more_moves at top block [] moves to e few = omega (arith, length-append moves (move_of at to), no_move at to e)
 more_moves at top block (m ∷ left) moves to e few = elim (cases_Bool (m == block)) [
   | inl here ↦ rw here (omega (arith, length-append moves (move_of at to), one_move at to))
@@ -60,7 +60,7 @@ more_moves at top block (m ∷ left) moves to e few = elim (cases_Bool (m == blo
 ]
 
 -- and before it, where the block moves
-pub room_for_move : (at top block : ℕ) (left : List ℕ) (moves : List Move) (to : ℕ) → to ≡ place_of (begins block left) top at
+pub room_for_move : (at top block : ℕ) (left : List ℕ) (moves : List Move) (to : ℕ) → to ≡ item_place_after (begins block left) top at
     → length moves + length left ≤ 128 → to ≢ at → length moves < 128
 room_for_move at top block [] moves to e few other = absurd (other e)
 room_for_move at top block (m ∷ left) moves to e few other = omega (arith, few)

@@ -13,14 +13,14 @@ use Rattle.os_heap_lists.proofs.Reading.{total_facts}
 use Rattle.os_heap_lists.specs.Heap.{AreTotals}
 use Rattle.os_heap_lists.specs.Lists.{left_free, live_total}
 use Rattle.os_heap_slide.proofs.Laying.{moved_below, moved_past}
-use Rattle.os_heap_slide.specs.Slide.{move_of, moves_of, place_of, slid, slid_bytes}
+use Rattle.os_heap_slide.specs.Slide.{move_of, moves_of, item_place_after, slid, slid_bytes}
 
 -- a place lies between the end of the items before it and the old one
-pub between : (moves : Bool) (top at : ℕ) → top ≤ at → (top ≤ place_of moves top at) × (place_of moves top at ≤ at)
+pub between : (moves : Bool) (top at : ℕ) → top ≤ at → (top ≤ item_place_after moves top at) × (item_place_after moves top at ≤ at)
 between true top at low = (omega arith, omega arith)
 between false top at low = (omega arith, omega arith)
 
-eighths : (moves : Bool) (top at : ℕ) → top % 4 ≡ 0 → at % 4 ≡ 0 → place_of moves top at % 4 ≡ 0
+eighths : (moves : Bool) (top at : ℕ) → top % 4 ≡ 0 → at % 4 ≡ 0 → item_place_after moves top at % 4 ≡ 0
 eighths true top at one two = one
 eighths false top at one two = two
 
@@ -42,14 +42,14 @@ pub low_still : (mv : ℕ → Bool) (top at : ℕ) (xs : List Item) (b : ℕ) �
 low_still mv top at [] b low = refl
 low_still mv top at (Free t ∷ xs) b low = low_still mv top (at + t) xs b (omega arith)
 low_still mv top at (Live t ∷ xs) b low =
-    let place : ℕ = place_of (mv (at + 4)) top at in
+    let place : ℕ = item_place_after (mv (at + 4)) top at in
     one_moved at place (moves_of mv (place + t) (at + t) xs) b (λ (e : at + 4 ≡ b). omega arith) ∙ low_still mv (place + t) (at + t) xs b (omega arith)
 
 pub past_still : (mv : ℕ → Bool) (top at : ℕ) (xs : List Item) (b : ℕ) → AreTotals xs → at + size_of xs ≤ b → moved_to (moves_of mv top at xs) b ≡ b
 past_still mv top at [] b totals past = refl
 past_still mv top at (Free t ∷ xs) b totals past = past_still mv top (at + t) xs b totals.1 (omega arith)
 past_still mv top at (Live t ∷ xs) b totals past =
-    let place : ℕ = place_of (mv (at + 4)) top at in
+    let place : ℕ = item_place_after (mv (at + 4)) top at in
     let least = total_facts t totals.0 in
     one_moved at place (moves_of mv (place + t) (at + t) xs) b (λ (e : at + 4 ≡ b). omega (arith, least.0)) ∙ past_still mv (place + t) (at + t) xs b totals.1 (omega arith)
 
@@ -88,7 +88,7 @@ pub moved_live : (mv : ℕ → Bool) (top at : ℕ) (xs : List Item) (b t : ℕ)
 moved_live mv top at [] b t low totals live = absurd (let none : None ≡ Some t = live in cc)
 moved_live mv top at (Free u ∷ xs) b t low totals live = moved_live mv top (at + u) xs b t (omega arith) totals.1 live
 moved_live mv top at (Live u ∷ xs) b t low totals live =
-    let place : ℕ = place_of (mv (at + 4)) top at in
+    let place : ℕ = item_place_after (mv (at + 4)) top at in
     let bounds : (top ≤ place) × (place ≤ at) = between (mv (at + 4)) top at low in
     let least = total_facts u totals.0 in
     elim (cases_Bool (at + 4 == b)) [
@@ -116,7 +116,7 @@ pub moved_stays : (mv : ℕ → Bool) (top at : ℕ) (xs : List Item) (b : ℕ) 
 moved_stays mv top at [] b fixed = refl
 moved_stays mv top at (Free u ∷ xs) b fixed = moved_stays mv top (at + u) xs b fixed
 moved_stays mv top at (Live u ∷ xs) b fixed =
-    let place : ℕ = place_of (mv (at + 4)) top at in
+    let place : ℕ = item_place_after (mv (at + 4)) top at in
     let rest : moved_to (moves_of mv (place + u) (at + u) xs) b ≡ b = moved_stays mv (place + u) (at + u) xs b fixed in
     elim (cases_eq (at + 4) b) [
       | inr other ↦ one_moved at place (moves_of mv (place + u) (at + u) xs) b other ∙ rest
@@ -133,7 +133,7 @@ pub in_order : (mv : ℕ → Bool) (top at : ℕ) (xs : List Item) (b t c u : �
 in_order mv top at [] b t c u low totals first second less = absurd (let none : None ≡ Some t = first in cc)
 in_order mv top at (Free v ∷ xs) b t c u low totals first second less = in_order mv top (at + v) xs b t c u (omega arith) totals.1 first second less
 in_order mv top at (Live v ∷ xs) b t c u low totals first second less =
-    let place : ℕ = place_of (mv (at + 4)) top at in
+    let place : ℕ = item_place_after (mv (at + 4)) top at in
     let bounds : (top ≤ place) × (place ≤ at) = between (mv (at + 4)) top at low in
     let least = total_facts v totals.0 in
     let ms : List Move = moves_of mv (place + v) (at + v) xs in
@@ -175,7 +175,7 @@ pub moves_down : (mv : ℕ → Bool) (top at : ℕ) (xs : List Item) → top ≤
 moves_down mv top at [] low one two totals = tt
 moves_down mv top at (Free t ∷ xs) low one two totals = moves_down mv top (at + t) xs (omega arith) one (omega (arith, total_facts t totals.0)) totals.1
 moves_down mv top at (Live t ∷ xs) low one two totals =
-    let place : ℕ = place_of (mv (at + 4)) top at in
+    let place : ℕ = item_place_after (mv (at + 4)) top at in
     let bounds : (top ≤ place) × (place ≤ at) = between (mv (at + 4)) top at low in
     let whole : place % 4 ≡ 0 = eighths (mv (at + 4)) top at one two in
     let least = total_facts t totals.0 in
@@ -187,7 +187,7 @@ pub bytes_low : (mv : ℕ → Bool) (top at : ℕ) (xs : List Item) (f : ℕ →
 bytes_low mv top at [] f a low below = refl
 bytes_low mv top at (Free t ∷ xs) f a low below = bytes_low mv top (at + t) xs f a (omega arith) below
 bytes_low mv top at (Live t ∷ xs) f a low below =
-    let place : ℕ = place_of (mv (at + 4)) top at in
+    let place : ℕ = item_place_after (mv (at + 4)) top at in
     let bounds : (top ≤ place) × (place ≤ at) = between (mv (at + 4)) top at low in
     bytes_low mv (place + t) (at + t) xs (with_moved_at f at place t) a (omega (arith, bounds.1)) (omega (arith, bounds.0))
     ∙ moved_below f at place t a (omega (arith, bounds.0))
@@ -196,7 +196,7 @@ pub bytes_past : (mv : ℕ → Bool) (top at : ℕ) (xs : List Item) (f : ℕ �
 bytes_past mv top at [] f a low past = refl
 bytes_past mv top at (Free t ∷ xs) f a low past = bytes_past mv top (at + t) xs f a (omega arith) (omega arith)
 bytes_past mv top at (Live t ∷ xs) f a low past =
-    let place : ℕ = place_of (mv (at + 4)) top at in
+    let place : ℕ = item_place_after (mv (at + 4)) top at in
     let bounds : (top ≤ place) × (place ≤ at) = between (mv (at + 4)) top at low in
     bytes_past mv (place + t) (at + t) xs (with_moved_at f at place t) a (omega (arith, bounds.1)) (omega arith)
     ∙ moved_past f at place t a (omega (arith, bounds.1))

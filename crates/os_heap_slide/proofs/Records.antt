@@ -12,15 +12,15 @@ use Rattle.address_map.specs.declared.item.Item.{Item}
 use Rattle.address_map.specs.declared.region.Kind.{Kind}
 use Rattle.address_map.specs.declared.region.Kind.TheVariants as kind
 use Rattle.address_map.specs.declared.region.Region.{Region}
-use Rattle.os_heap_lists.proofs.LiveBlocks.{LiveBytes, live_apart, live_bytes}
+use Rattle.os_heap_lists.proofs.LiveBlocks.{LiveBytes, live_apart, law_live_bytes}
 use Rattle.os_heap_lists.specs.Heap.{HeapList, IsHeapIn}
 use Rattle.os_heap_lists.specs.Lists.{live_total}
 use Rattle.os_heap.proofs.Apart.{range_parts}
 use Rattle.os_heap.proofs.Nesting.{clear_turned, listed}
 use Rattle.os_heap.proofs.Stores.{AreOthers, placed_by}
-use Rattle.os_heap.specs.Calls.{with_items}
+use Rattle.os_heap.specs.Calls.{heaps_with_items}
 use Rattle.os_heap.specs.Nesting.{IsWithin, StandsApart}
-use Rattle.os_heap.specs.Store.{AreClear, AreHeapsIn, ArePlaced, AreRangesApart, find_heap, heaps_in, is_area, is_image, IsClearOfRanges, IsImageBlock, IsPlacedIn, others_in}
+use Rattle.os_heap.specs.Store.{AreClear, AreHeapsIn, ArePlaced, AreRangesApart, find_heap, heaps_in, is_module_area, is_image, IsClearOfRanges, IsImageBlock, IsPlacedIn, others_in}
 use Rattle.os_heap_slide.proofs.Beside.{fixed_round, holds_rest, stays_live}
 use Rattle.os_heap_slide.proofs.Places.{low_still, moved_live, moved_stays, past_still, stay_distinct}
 use Rattle.os_heap_slide.specs.Slide.{HoldNoHeap, is_listed, moves_of, slid}
@@ -142,7 +142,7 @@ clear_still b c h movable r s clear = elim (cases_eq r.len 0) [
 image_range : (b : Bytes) (g : HeapList) (r : Region) → IsHeapIn b g.start g.end g.items → IsImageBlock g r
     → (g.start ≤ r.at) × ((r.at + r.len ≤ g.start + g.end) × (4 ≤ r.len))
 image_range b g r heap image =
-    let place : LiveBytes r.at (r.len + 4) (g.start + 16) (g.start + 16 + size_of g.items) = live_bytes r.at (r.len + 4) (g.start + 16) g.items heap.totals image.live in
+    let place : LiveBytes r.at (r.len + 4) (g.start + 16) (g.start + 16 + size_of g.items) = law_live_bytes r.at (r.len + 4) (g.start + 16) g.items heap.totals image.live in
     (omega (arith, place.low), (omega (arith, place.high, heap.inside), omega (arith, place.size)))
 
 known : (b c : Bytes) (h : HeapList) (hs : List HeapList) (movable : List ℕ) (r : Region) → IsSlide b c h movable → find_heap h.start hs ≡ Some h
@@ -164,7 +164,7 @@ moved_range : (b c : Bytes) (h : HeapList) (movable : List ℕ) (r : Region) →
 moved_range b c h movable r s image =
     let new : ℕ = moved_place (moves_in h movable) r.kind r.at in
     let place : LiveBytes new (r.len + 4) (h.start + 16) (h.start + 16 + size_of (slid_in h movable)) =
-    live_bytes new (r.len + 4) (h.start + 16) (slid_in h movable) s.new.totals (image_moved b c h movable r s image) in
+    law_live_bytes new (r.len + 4) (h.start + 16) (slid_in h movable) s.new.totals (image_moved b c h movable r s image) in
     (omega (arith, place.low), omega (arith, place.high, s.new.inside))
 
 -- two records are apart afterwards
@@ -185,9 +185,9 @@ both_images b c h movable r q s one two clear =
     let new' : ℕ = moved_place moves q.kind q.at in
     let ne : new ≢ new' = λ (e : new ≡ new'). distinct (sym (image_place moves r.kind r.at one.image) ∙ e ∙ image_place moves q.kind q.at two.image) in
     let low : LiveBytes new (r.len + 4) (h.start + 16) (h.start + 16 + size_of (slid_in h movable)) =
-    live_bytes new (r.len + 4) (h.start + 16) (slid_in h movable) s.new.totals (image_moved b c h movable r s one) in
+    law_live_bytes new (r.len + 4) (h.start + 16) (slid_in h movable) s.new.totals (image_moved b c h movable r s one) in
     let low' : LiveBytes new' (q.len + 4) (h.start + 16) (h.start + 16 + size_of (slid_in h movable)) =
-    live_bytes new' (q.len + 4) (h.start + 16) (slid_in h movable) s.new.totals (image_moved b c h movable q s two) in
+    law_live_bytes new' (q.len + 4) (h.start + 16) (slid_in h movable) s.new.totals (image_moved b c h movable q s two) in
     apart_clear new r.len new' q.len
     (elim (live_apart new (r.len + 4) new' (q.len + 4) (h.start + 16) (slid_in h movable) s.new.totals
     (image_moved b c h movable r s one) (image_moved b c h movable q s two) ne) [
@@ -242,7 +242,7 @@ ranges_apart b c h hs movable rs s found placed apart = all_apart b c h movable 
 -- lies in a block that stays, and not in that of the image.
 not_round : (b : Bytes) (h g : HeapList) (r : Region) → IsHeapIn b g.start g.end g.items → IsImageBlock h r → (within : IsWithin h g)
     → AreClear r.at r.len g.start g.end ⊎ IsImageBlock g r → r.at ≢ within.block
-not_round b h g r heap image within (inr own) same = both_ways (is_area g.kind) within.guest own.area
+not_round b h g r heap image within (inr own) same = both_ways (is_module_area g.kind) within.guest own.area
 not_round b h g r heap image within (inl clear) same =
     let both : Some (r.len + 4) ≡ Some within.total =
     sym (subst (λ (x : ℕ). live_total x (h.start + 16) h.items ≡ Some (r.len + 4)) same image.live) ∙ within.live in
@@ -257,7 +257,7 @@ image_aside b c h g movable r s heap image fixed (inl clear) placed =
     let range : (h.start ≤ moved_place (moves_in h movable) r.kind r.at) × (moved_place (moves_in h movable) r.kind r.at + r.len ≤ h.start + h.end) =
     moved_range b c h movable r s image in
     within_clear _ r.len h.start h.end g.start g.end range.0 range.1 clear
-image_aside b c h g movable r s heap image fixed (inr (inr within)) placed = absurd (both_ways (is_area h.kind) within.guest image.area)
+image_aside b c h g movable r s heap image fixed (inr (inr within)) placed = absurd (both_ways (is_module_area h.kind) within.guest image.area)
 image_aside b c h g movable r s heap image fixed (inr (inl within)) placed =
     let mv : ℕ → Bool = is_listed movable in
     let first : ℕ = h.start + 16 in
@@ -286,7 +286,7 @@ own_placed b c h g movable r s same (inr (inr image)) =
     let start : g.start ≡ h.start = ap (λ (x : HeapList). x.start) same in
     inr (record {
       image = image.image;
-      area = ap (λ (x : HeapList). is_area x.kind) same ∙ image.area;
+      area = ap (λ (x : HeapList). is_module_area x.kind) same ∙ image.area;
       live = rw start (image_moved b c h movable r s image);
     })
 
@@ -302,10 +302,10 @@ other_placed b c h g movable r s heap fixed apart (inr (inl still)) (inr own) =
 
 one_placed : (b c : Bytes) (h : HeapList) (hs : List HeapList) (movable : List ℕ) (r : Region) → IsSlide b c h movable → AreHeapsIn b hs → AreOthers h hs
     → HoldNoHeap hs h movable → IsKnown h (moves_in h movable) r → IsPlacedIn hs r
-    → IsPlacedIn (with_items h.start (slid_in h movable) hs) (moved_region (moves_in h movable) r)
+    → IsPlacedIn (heaps_with_items h.start (slid_in h movable) hs) (moved_region (moves_in h movable) r)
 one_placed b c h [] movable r s heaps others none is placed = tt
 one_placed b c h (g ∷ hs) movable r s heaps others none is placed =
-    let rest : IsPlacedIn (with_items h.start (slid_in h movable) hs) (moved_region (moves_in h movable) r) =
+    let rest : IsPlacedIn (heaps_with_items h.start (slid_in h movable) hs) (moved_region (moves_in h movable) r) =
     one_placed b c h hs movable r s heaps.1.1 others.1 (holds_rest h g movable hs none) is placed.1 in
     elim others.0 [
       | inl same ↦ rw (eq-eqb g.start h.start (ap (λ (x : HeapList). x.start) same)) (own_placed b c h g movable r s same is, rest)
@@ -315,7 +315,7 @@ one_placed b c h (g ∷ hs) movable r s heaps others none is placed =
 
 pub all_placed : (b c : Bytes) (h : HeapList) (hs : List HeapList) (movable : List ℕ) (rs : List Region) → IsSlide b c h movable → AreHeapsIn b hs
     → AreOthers h hs → HoldNoHeap hs h movable → find_heap h.start hs ≡ Some h → ArePlaced hs rs
-    → ArePlaced (with_items h.start (slid_in h movable) hs) (moved_regions (moves_in h movable) rs)
+    → ArePlaced (heaps_with_items h.start (slid_in h movable) hs) (moved_regions (moves_in h movable) rs)
 all_placed b c h hs movable [] s heaps others none found placed = tt
 all_placed b c h hs movable (r ∷ rs) s heaps others none found placed = (
   one_placed b c h hs movable r s heaps others none (known b c h hs movable r s found placed.0) placed.0,

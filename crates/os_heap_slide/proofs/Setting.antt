@@ -13,11 +13,11 @@ use Rattle.os_heap_lists.proofs.Reading.{total_facts}
 use Rattle.os_heap_lists.proofs.Spelling.{size_of-append, size_of-multiple, spaced-join, total_of-numbers, totals-front}
 use Rattle.os_heap_lists.specs.Heap.{AreSpaced, AreTotals, IsHeapIn, last_free}
 use Rattle.os_heap_lists.specs.Marks.{Remarks}
-use Rattle.os_heap_lists.specs.Words.{IsFreed, IsWritten, link_at}
+use Rattle.os_heap_lists.specs.Words.{IsFreed, IsWordWritten, link_at}
 use Rattle.os_heap_words.proofs.Claiming.{appended}
 use Rattle.os_heap_words.proofs.Replace.{becomes, heap_below}
 use Rattle.os_heap_words.specs.Outcomes.{Becomes, end_at, items_at}
-use Rattle.os_heap_slide.specs.Steps.{IsRoom, IsSetDown, laid}
+use Rattle.os_heap_slide.specs.Steps.{IsRoomForBlock, IsSetDown, items_laid_last}
 
 -- what the room for a block says
 pub record RoomFacts (m : AddressMap) (start from top to total end : ℕ) : Type 0 where
@@ -32,7 +32,7 @@ pub record RoomFacts (m : AddressMap) (start from top to total end : ℕ) : Type
   pub link : LinkFacts start from top
   pub mapped : (a : ℕ) → start ≤ a → a < start + end_at m start → is_mapped m a ≡ true
 
-pub room_facts : (m : AddressMap) (start from top to total end : ℕ) → IsRoom m start from top to total end → RoomFacts m start from top to total end
+pub room_facts : (m : AddressMap) (start from top to total end : ℕ) → IsRoomForBlock m start from top to total end → RoomFacts m start from top to total end
 room_facts m start from top to total end r =
     let sizes = size_of-multiple (items_at m start) r.heap.totals in
     let least = total_facts total r.whole in
@@ -50,18 +50,18 @@ room_facts m start from top to total end r =
     }
 
 -- no gap, or one
-pub laid_alone : (gap total : ℕ) → gap ≡ 0 → laid gap total ≡ Live total ∷ []
+pub laid_alone : (gap total : ℕ) → gap ≡ 0 → items_laid_last gap total ≡ Live total ∷ []
 laid_alone gap total none = rw (eq-eqb gap 0 none) refl
 
-pub laid_behind : (gap total : ℕ) → gap ≢ 0 → laid gap total ≡ Free gap ∷ (Live total ∷ [])
+pub laid_behind : (gap total : ℕ) → gap ≢ 0 → items_laid_last gap total ≡ Free gap ∷ (Live total ∷ [])
 laid_behind gap total some = rw (ne_eqb gap 0 some) refl
 
 -- the words of a free item and of a block after it, over the base
 gapped : (m n : AddressMap) (start end gap k : ℕ) (items : List Item) (g h : ℕ → ℕ)
     → IsHeapIn (bytes_of m) start end (items ++ []) → layout n ≡ layout m → is_total gap ≡ true → is_total k ≡ true → 16 + size_of items + gap + k ≤ end
     → IsFreed (byte_at m) g start (last_free start (start + 16) items) (start + 16 + size_of items) gap 0
-    → IsWritten g h (start + 16 + size_of items + gap) k
-    → IsWritten h (byte_at n) (start + 8) (16 + size_of items + gap + k)
+    → IsWordWritten g h (start + 16 + size_of items + gap) k
+    → IsWordWritten h (byte_at n) (start + 8) (16 + size_of items + gap + k)
     → Remarks (class_of m) (class_of n) (start + 16 + size_of items) [] (Free gap ∷ (Live k ∷ []))
     → Becomes m n start end (items ++ Free gap ∷ (Live k ∷ []))
 gapped m n start end gap k items g h heap same total_gap total room one two three change =
@@ -91,7 +91,7 @@ gapped m n start end gap k items g h heap same total_gap total room one two thre
     (λ a head apart out. three.other a (elim head [ inl low ↦ inl (omega arith) | inr high ↦ inr (omega arith) ]) ∙ two.other a out.1.0 ∙ one.other a apart out.0)
     (remarked (class_of m) (class_of n) (start + 16) items [] (Free gap ∷ (Live k ∷ [])) [] heap.totals (λ p. refl) change)
 
-set_as : (m n : AddressMap) (start top to total : ℕ) (news : List Item) → laid (to - top) total ≡ news
+set_as : (m n : AddressMap) (start top to total : ℕ) (news : List Item) → items_laid_last (to - top) total ≡ news
     → Becomes m n start (end_at m start) (items_at m start ++ news) → Remarks (class_of m) (class_of n) top [] news → IsSetDown m n start top to total
 set_as m n start top to total news e b change = record {
   heap = rw e b.heap;
@@ -100,8 +100,8 @@ set_as m n start top to total news e b change = record {
   marks = rw e change;
 }
 
-pub set_alone : (m n : AddressMap) (start from top to total end : ℕ) (g : ℕ → ℕ) → IsRoom m start from top to total end → end ≡ to + total → to ≡ top
-    → layout n ≡ layout m → IsWritten (byte_at m) g to total → IsWritten g (byte_at n) (start + 8) (to + total - start)
+pub set_alone : (m n : AddressMap) (start from top to total end : ℕ) (g : ℕ → ℕ) → IsRoomForBlock m start from top to total end → end ≡ to + total → to ≡ top
+    → layout n ≡ layout m → IsWordWritten (byte_at m) g to total → IsWordWritten g (byte_at n) (start + 8) (to + total - start)
     → Remarks (class_of m) (class_of n) to [] (Live total ∷ []) → IsSetDown m n start top to total
 set_alone m n start from top to total end g r last here same one two change =
     let items : List Item = items_at m start in
@@ -117,9 +117,9 @@ set_alone m n start from top to total end g r last here same one two change =
 freed_at : (f g : ℕ → ℕ) (start from from' top top' gap : ℕ) → from ≡ from' → top ≡ top' → IsFreed f g start from top gap 0 → IsFreed f g start from' top' gap 0
 freed_at f g start from from' top top' gap e k one = let one' = rw (e, k) at one in one'
 
-pub set_behind : (m n : AddressMap) (start from top to total end : ℕ) (g h : ℕ → ℕ) → IsRoom m start from top to total end → end ≡ to + total → to ≢ top
-    → layout n ≡ layout m → IsFreed (byte_at m) g start from top (to - top) 0 → IsWritten g h to total
-    → IsWritten h (byte_at n) (start + 8) (to + total - start)
+pub set_behind : (m n : AddressMap) (start from top to total end : ℕ) (g h : ℕ → ℕ) → IsRoomForBlock m start from top to total end → end ≡ to + total → to ≢ top
+    → layout n ≡ layout m → IsFreed (byte_at m) g start from top (to - top) 0 → IsWordWritten g h to total
+    → IsWordWritten h (byte_at n) (start + 8) (to + total - start)
     → Remarks (class_of m) (class_of n) top [] (Free (to - top) ∷ (Live total ∷ [])) → IsSetDown m n start top to total
 set_behind m n start from top to total end g h r last other same one two three change =
     let items : List Item = items_at m start in

@@ -4,7 +4,7 @@ use Rattle.std.proofs.lemmas.Bool.{cases_Bool, eqb-true, eq-eqb}
 use Rattle.address_map.proofs.Equations.{same_bytes}
 use Rattle.address_map.proofs.Stores.{in_range-cases}
 use Rattle.address_map.specs.Bytes.{Bytes, with_moved_at, word_at, word_start}
-use Rattle.address_map.specs.Items.{is_head, is_head_of, is_total, items_in, linked, size_of}
+use Rattle.address_map.specs.Items.{is_head, is_head_of, is_total, items_in, link_target, size_of}
 use Rattle.address_map.specs.Memory.{byte_at, bytes_of, class_of, layout}
 use Rattle.address_map.specs.declared.class.Class.{Class}
 use Rattle.address_map.specs.declared.follow.Move.{Move}
@@ -19,7 +19,7 @@ use Rattle.os_heap_lists.proofs.Reading.{total_facts}
 use Rattle.os_heap_lists.proofs.Spelling.{last_free-append, size_of-append, size_of-multiple, total_of-numbers, totals-back, totals-front}
 use Rattle.os_heap_lists.specs.Heap.{AreTotals, IsHeapIn, last_free, next_free}
 use Rattle.os_heap_lists.specs.Lists.{left_free}
-use Rattle.os_heap_lists.specs.Marks.{head_class, marked, Remarks, with_item_marked}
+use Rattle.os_heap_lists.specs.Marks.{head_class, class_after_marking, Remarks, with_item_marked}
 use Rattle.os_heap_lists.specs.Words.{IsOutside}
 use Rattle.os_heap_words.proofs.Marking.{can_stand}
 use Rattle.os_heap_words.proofs.Searching.{FreeFacts, free_facts}
@@ -28,8 +28,8 @@ use Rattle.os_heap_words.specs.Outcomes.{end_at, HasHeapAt, items_at}
 use Rattle.os_heap_slide.proofs.Laying.{IsRead, moved_past, read}
 use Rattle.os_heap_slide.proofs.Listing.{listed_first, listed_rest, more_moves, room_for_move}
 use Rattle.os_heap_slide.proofs.Setting.{laid_alone, laid_behind}
-use Rattle.os_heap_slide.specs.Slide.{AreBlocks, begins, is_listed, move_of, moves_of, place_of, slid, slid_bytes, without_first}
-use Rattle.os_heap_slide.specs.Steps.{IsAllSlid, IsFreeHere, IsLaid, IsRoom, IsSliding, laid}
+use Rattle.os_heap_slide.specs.Slide.{AreBlocks, begins, is_listed, move_of, moves_of, item_place_after, slid, slid_bytes, without_first_block}
+use Rattle.os_heap_slide.specs.Steps.{IsAllSlid, IsFreeHere, IsLaid, IsRoomForBlock, IsSliding, items_laid_last}
 
 -- words from which on no byte changed
 word_behind : (f g : ℕ → ℕ) (at p : ℕ) → ((a : ℕ) → at ≤ a → g a ≡ f a) → at ≤ p → word_at g p ≡ word_at f p
@@ -67,7 +67,7 @@ pub record AtFree (m n : AddressMap) (start at : ℕ) (rest : List Item) : Type 
   pub split : rest ≡ Free total ∷ after
   pub facts : FreeFacts m start (end_at m start) at total after
   pub word : word_at (byte_at n) (at + 4) ≡ total
-  pub onward : linked at (word_at (byte_at n) at) ≡ next_free (at + total) after 0
+  pub onward : link_target at (word_at (byte_at n) at) ≡ next_free (at + total) after 0
   pub here : IsFreeHere n start at
 
 pub free_at : (m n : AddressMap) (start at free : ℕ) → (s : IsPlaced m n start at free) → HasHeapAt m start
@@ -84,7 +84,7 @@ free_at m n start at free s heap below here = by_rest s.rest refl where
       let facts : FreeFacts m start (end_at m start) at t xs = free_facts m start (end_at m start) at (items_at m start) s.passed t xs heap split s.place in
       let word : word_at (byte_at n) (at + 4) ≡ t = word_behind (byte_at m) (byte_at n) at (at + 4) s.behind (omega arith) ∙ facts.total_word in
       let link : word_at (byte_at n) at ≡ word_at (byte_at m) at = word_behind (byte_at m) (byte_at n) at at s.behind (omega arith) in
-      let onward : linked at (word_at (byte_at n) at) ≡ next_free (at + t) xs 0 = ap (linked at) link ∙ facts.onward in
+      let onward : link_target at (word_at (byte_at n) at) ≡ next_free (at + t) xs 0 = ap (link_target at) link ∙ facts.onward in
       record {
         total = t;
         after = xs;
@@ -142,8 +142,8 @@ at_live m n start movable left moves from top at free s heap below other =
 
 -- An item was passed, whose words are no heads any more, and items were laid in its place or below
 -- it.
-step_word : (before made passed given : Bool) (old mid new : Class) → mid ≡ marked before passed old → new ≡ marked made given mid
-    → (given ≡ true → before ≡ true → ⊥) → new ≡ marked (before || made) (passed || given) old
+step_word : (before made passed given : Bool) (old mid new : Class) → mid ≡ class_after_marking before passed old → new ≡ class_after_marking made given mid
+    → (given ≡ true → before ≡ true → ⊥) → new ≡ class_after_marking (before || made) (passed || given) old
 step_word true true passed given old mid new was change apart = change
 step_word true false passed true old mid new was change apart = absurd (apart refl refl)
 step_word true false passed false old mid new was change apart = change ∙ was
@@ -155,7 +155,7 @@ step_word false false false false old mid new was change apart = change ∙ was
 
 remarks_step : (c d e : ℕ → Class) (first top at : ℕ) (passed before news : List Item) (item : Item) → at ≡ first + size_of passed → top ≡ first + size_of before
     → top ≤ at → AreTotals before → AreTotals (item ∷ []) → Remarks c d first passed before
-    → ((a : ℕ) → e a ≡ marked (is_head top news (word_start a)) (is_head_of at item (word_start a)) (d a))
+    → ((a : ℕ) → e a ≡ class_after_marking (is_head top news (word_start a)) (is_head_of at item (word_start a)) (d a))
     → Remarks c e first (passed ++ item ∷ []) (before ++ news)
 remarks_step c d e first top at passed before news item place end low totals own was change a =
     let p : ℕ = word_start a in
@@ -220,7 +220,7 @@ moved_alike f g from to len a low past moved = elim (in_range-cases to len a) [
 ]
 
 laid_last : (from place top to total : ℕ) → (if_to : ℕ) → if_to ≡ cond (to == top) from top → top ≤ to → place ≡ top
-    → if_to ≡ last_free from place (laid (to - top) total)
+    → if_to ≡ last_free from place (items_laid_last (to - top) total)
 laid_last from place top to total if_to e low end = elim (cases_Bool (to == top)) [
   | inl here ↦
       let k : to ≡ top = eqb-true to top here in
@@ -238,27 +238,27 @@ append_laid : (xs ys zs : List Item) (t : ℕ) → xs ++ (ys ++ Live t ∷ zs) �
 append_laid xs ys zs t =
     ap (λ (q : List Item). xs ++ q) (sym (append_assoc ys (Live t ∷ []) zs)) ∙ sym (append_assoc xs (ys ++ Live t ∷ []) zs)
 
-place_between : (moves : Bool) (top at to : ℕ) → to ≡ place_of moves top at → top ≤ at → (top ≤ to) × (to ≤ at)
+place_between : (moves : Bool) (top at to : ℕ) → to ≡ item_place_after moves top at → top ≤ at → (top ≤ to) × (to ≤ at)
 place_between true top at to e low = (omega arith, omega arith)
 place_between false top at to e low = (omega arith, omega arith)
 
-place_eighths : (moves : Bool) (top at to : ℕ) → to ≡ place_of moves top at → (at - top) % 8 ≡ 0 → (to - top) % 8 ≡ 0
+place_eighths : (moves : Bool) (top at to : ℕ) → to ≡ item_place_after moves top at → (at - top) % 8 ≡ 0 → (to - top) % 8 ≡ 0
 place_eighths true top at to e whole = let none : to - top ≡ 0 = omega arith in rw none refl
 place_eighths false top at to e whole = rw e whole
 
 pub live_passed : (m n p : AddressMap) (start : ℕ) (movable left : List ℕ) (moves : List Move) (from top at free to new_from : ℕ)
     → (s : IsSliding m n start movable left moves from top at free) → (w : AtLive m n start at s.rest)
-    → to ≡ place_of (begins (at + 4) left) top at → new_from ≡ cond (to == top) from top → IsLaid n p start top at to w.total
-    → IsSliding m p start movable (without_first (at + 4) left) (moves ++ move_of at to) new_from (to + w.total) (at + w.total) free
+    → to ≡ item_place_after (begins (at + 4) left) top at → new_from ≡ cond (to == top) from top → IsLaid n p start top at to w.total
+    → IsSliding m p start movable (without_first_block (at + 4) left) (moves ++ move_of at to) new_from (to + w.total) (at + w.total) free
 live_passed m n p start movable left moves from top at free to new_from s w goes last laid_now =
     let t : ℕ = w.total in
     let old : List Item = items_at n start in
-    let news : List Item = laid (to - top) t in
+    let news : List Item = items_laid_last (to - top) t in
     let mv : ℕ → Bool = is_listed movable in
     let whole : is_total t ≡ true = total_of-numbers t w.facts.size w.facts.eighths in
     let blocks : AreBlocks at (Live t ∷ w.after) left = subst (λ (ys : List Item). AreBlocks at ys left) w.split s.blocks in
     let listed : mv (at + 4) ≡ begins (at + 4) left = s.listed (at + 4) (omega arith) ∙ listed_first at t w.after left (whole, w.facts.totals) blocks in
-    let place : place_of (mv (at + 4)) top at ≡ to = ap (λ (b : Bool). place_of b top at) listed ∙ sym goes in
+    let place : item_place_after (mv (at + 4)) top at ≡ to = ap (λ (b : Bool). item_place_after b top at) listed ∙ sym goes in
     let bounds : (top ≤ to) × (to ≤ at) = place_between (begins (at + 4) left) top at to goes s.low in
     let end : end_at n start ≡ end_at m start = s.heap.limit in
     let heap : IsHeapIn (bytes_of p) start (end_at m start) (old ++ news) = rw (← end) laid_now.heap in
@@ -336,7 +336,7 @@ all_slid m n start movable left moves from top at free s heap past =
 -- The same, as the steps of the code say it.
 pub free_went : (m n p : AddressMap) (start : ℕ) (movable left : List ℕ) (moves : List Move) (from top at free new_from new_top new_at new_free : ℕ)
     → (s : IsSliding m n start movable left moves from top at free) → (w : AtFree m n start at s.rest)
-    → new_from ≡ from → new_top ≡ top → new_at ≡ at + word_at (byte_at n) (at + 4) → new_free ≡ linked at (word_at (byte_at n) at)
+    → new_from ≡ from → new_top ≡ top → new_at ≡ at + word_at (byte_at n) (at + 4) → new_free ≡ link_target at (word_at (byte_at n) at)
     → byte_at p ≡ byte_at n → layout p ≡ layout n
     → ((a : ℕ) → class_of p a ≡ with_item_marked at (Free (word_at (byte_at n) (at + 4))) (head_class false) (class_of n) a)
     → IsSliding m p start movable left moves new_from new_top new_at new_free
@@ -349,7 +349,7 @@ free_went m n p start movable left moves from top at free new_from new_top new_a
 pub live_went : (m n p : AddressMap) (start : ℕ) (movable left new_left : List ℕ) (moves new_moves : List Move)
     (from top at free to total new_from new_top new_at new_free : ℕ)
     → (s : IsSliding m n start movable left moves from top at free) → (w : AtLive m n start at s.rest) → total ≡ w.total
-    → to ≡ place_of (begins (at + 4) left) top at → new_left ≡ without_first (at + 4) left → new_moves ≡ moves ++ move_of at to
+    → to ≡ item_place_after (begins (at + 4) left) top at → new_left ≡ without_first_block (at + 4) left → new_moves ≡ moves ++ move_of at to
     → new_from ≡ cond (to == top) from top → new_top ≡ to + total → new_at ≡ at + total → new_free ≡ free → IsLaid n p start top at to total
     → IsSliding m p start movable new_left new_moves new_from new_top new_at new_free
 live_went m n p start movable left new_left moves new_moves from top at free to total new_from new_top new_at new_free s w size goes e1 e2 e3 e4 e5 e6 now =
@@ -358,13 +358,13 @@ live_went m n p start movable left new_left moves new_moves from top at free to 
 
 -- the room for a live item, and for the move
 pub record LiveRoom (n : AddressMap) (start from top at to total : ℕ) (begun : List Move) : Type 0 where
-  pub room : IsRoom n start from top to total (at + total)
+  pub room : IsRoomForBlock n start from top to total (at + total)
   pub high : to ≤ at
   pub moves : to ≢ at → length begun < 128
 
 pub live_room : (m n : AddressMap) (start : ℕ) (movable left : List ℕ) (moves : List Move) (from top at free to total : ℕ)
     → (s : IsSliding m n start movable left moves from top at free) → (w : AtLive m n start at s.rest) → HasHeapAt m start → total ≡ w.total
-    → to ≡ place_of (begins (at + 4) left) top at → LiveRoom n start from top at to total moves
+    → to ≡ item_place_after (begins (at + 4) left) top at → LiveRoom n start from top at to total moves
 live_room m n start movable left moves from top at free to total s w heap size goes =
     let bounds : (top ≤ to) × (to ≤ at) = place_between (begins (at + 4) left) top at to goes s.low in
     let is : IsRead n start (end_at m start) (items_at n start) = read n start (end_at m start) (items_at n start) s.heap in

@@ -7,15 +7,15 @@ use Rattle.address_map.specs.declared.item.Item.TheVariants.{Free, Live}
 use Rattle.os_heap_lists.specs.Counts.{free_count}
 use Rattle.os_heap_lists.specs.Heap.{AreSpaced, AreTotals, HeapList}
 use Rattle.os_heap_lists.specs.Lists.{live_total}
-use Rattle.os_heap.specs.Calls.{described}
+use Rattle.os_heap.specs.Calls.{heap_description}
 use Rattle.os_heap.specs.Store.{find_heap, Store}
-use Rattle.os_heap_slide.specs.Slide.{is_listed, moves_of, place_of, slid, slid_bytes, with_slid}
+use Rattle.os_heap_slide.specs.Slide.{is_listed, moves_of, item_place_after, slid, slid_bytes, with_slid}
 
 -- the bytes of each live item stand at its new place
 abbrev pub KeepsContents : (ℕ → Bool) → ℕ → ℕ → List Item → (ℕ → ℕ) → (ℕ → ℕ) → Type 0
 KeepsContents movable top at [] old new = Unit {0}
 KeepsContents movable top at (Live t ∷ xs) old new =
-    let place : ℕ = place_of (movable (at + 4)) top at in
+    let place : ℕ = item_place_after (movable (at + 4)) top at in
     ((k : ℕ) → k < t → new (place + k) ≡ old (at + k)) × KeepsContents movable (place + t) (at + t) xs old new
 KeepsContents movable top at (Free t ∷ xs) old new = KeepsContents movable top (at + t) xs old new
 
@@ -29,7 +29,8 @@ abbrev pub SlideKeepsBlocks : Type 0
 SlideKeepsBlocks = (s : Store) (h : HeapList) (movable : List ℕ) → h.start % 4 ≡ 0 → AreTotals h.items
     → (block total : ℕ) → live_total block (h.start + 16) h.items ≡ Some total
     → (let to : ℕ = moved_to (moves_of (is_listed movable) (h.start + 16) (h.start + 16) h.items) block in
-    (live_total to (h.start + 16) (slid (is_listed movable) (h.start + 16) (h.start + 16) h.items) ≡ Some total)
+    (live_total to (h.start + 16) (slid (is_listed movable) (h.start + 16) (h.start + 16) h.items)
+    ≡ Some total)
     × ((k : ℕ) → k + 4 < total → (with_slid s h movable).bytes.at (to + k) ≡ s.bytes.at (block + k)))
 
 -- no two free items are side by side, the last item is live, and the heap doesn't grow
@@ -44,12 +45,15 @@ AreMovable movable at (Live t ∷ xs) = (movable (at + 4) ≡ true) × AreMovabl
 AreMovable movable at (Free t ∷ xs) = AreMovable movable (at + t) xs
 
 abbrev pub SlideClears : Type 0
-SlideClears = (movable : ℕ → Bool) (top at : ℕ) (xs : List Item) → top ≤ at → AreMovable movable at xs → free_count (slid movable top at xs) ≡ 0
+SlideClears = (movable : ℕ → Bool) (top at : ℕ) (xs : List Item) → top ≤ at → AreMovable movable at xs →
+    free_count (slid movable top at xs) ≡ 0
 
 -- The heap has no free item then, and all that is free lies between its base and its end, where
 -- that is a multiple of 8: what can be claimed of it is all of that without a length word.
 abbrev pub SlideDescribes : Type 0
-SlideDescribes = (s : Store) (h : HeapList) (movable : List ℕ) → find_heap h.start s.heaps ≡ Some h → AreTotals h.items → h.end % 8 ≡ 0
+SlideDescribes = (s : Store) (h : HeapList) (movable : List ℕ) → find_heap h.start s.heaps ≡ Some h →
+    AreTotals h.items → h.end % 8 ≡ 0
     → AreMovable (is_listed movable) (h.start + 16) h.items
-    → (room : ℕ) → room ≡ h.end - (16 + size_of (slid (is_listed movable) (h.start + 16) (h.start + 16) h.items))
-    → described (with_slid s h movable) h.start ≡ Ok (room - 4, room)
+    → (room : ℕ) → room ≡ h.end - (16 + size_of (slid (is_listed movable) (h.start + 16)
+    (h.start + 16) h.items))
+    → heap_description (with_slid s h movable) h.start ≡ Ok (room - 4, room)

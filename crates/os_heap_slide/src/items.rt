@@ -1,13 +1,13 @@
 //! One step of a slide: a free item is passed, or a block is laid at its new place.
 
 ghost use Rattle.std.specs.Prelude.{ℕ, ◌≡◌, ◌≤◌, ◌<◌, ◌+◌, ◌-◌, ◌%◌, ◌^◌, ◌==◌, false, if◌then◌else◌};
-ghost use Rattle.address_map.specs.Items.{linked};
+ghost use Rattle.address_map.specs.Items.{link_target};
 ghost use Rattle.address_map.specs.Memory.{byte_at, class_of, layout};
 ghost use Rattle.address_map.specs.Bytes.{word_at};
 ghost use Rattle.address_map.specs.declared.item.Item.TheVariants.{Free};
 ghost use Rattle.os_heap_lists.specs.Marks.{head_class, with_item_marked};
 ghost use Rattle.os_heap_words.specs.Outcomes.{CanStand, end_at};
-ghost use Rattle.os_heap_slide.specs.Steps.{IsFreeHere, IsLaid, IsRoom, IsSetDown};
+ghost use Rattle.os_heap_slide.specs.Steps.{IsFreeHere, IsLaid, IsRoomForBlock, IsSetDown};
 
 use address_map::{AddressMap, Item};
 use os_heap_words::marks::{make, mark_item};
@@ -35,9 +35,10 @@ pub(crate) fn pass_free(map: &mut AddressMap, heap: u32, cursor: &Cursor) -> Cur
     ensures from { result.from ≡ cursor.now.from }
     ensures top { result.top ≡ cursor.now.top }
     ensures at { result.at ≡ cursor.now.at + word_at (byte_at map.old) (cursor.now.at + 4) }
-    ensures free { result.free ≡ linked cursor.now.at (word_at (byte_at map.old) cursor.now.at) }
+    ensures free { result.free ≡ link_target cursor.now.at (word_at (byte_at map.old) cursor.now.at) }
     ensures marks { (a : ℕ) → class_of map.new a
-        ≡ with_item_marked cursor.now.at (Free (word_at (byte_at map.old) (cursor.now.at + 4))) (head_class false)
+        ≡ with_item_marked cursor.now.at (Free (word_at (byte_at map.old) (cursor.now.at + 4)))
+        (head_class false)
         (class_of map.old) a }
     ensures bytes { byte_at map.new ≡ byte_at map.old }
     ensures layout { layout map.new ≡ layout map.old }
@@ -55,7 +56,8 @@ pub(crate) fn pass_free(map: &mut AddressMap, heap: u32, cursor: &Cursor) -> Cur
 /// Gives a live item its new place: copies it there, and makes it the last item of those that have
 /// theirs, with a free one before it where there is a gap.
 pub(crate) fn lay(map: &mut AddressMap, heap: u32, cursor: &Cursor, to: u32, total: u32) -> Cursor
-    requires room { IsRoom map.old heap cursor.now.from cursor.now.top to total (cursor.now.at + total) }
+    requires room { IsRoomForBlock map.old heap cursor.now.from cursor.now.top to total
+        (cursor.now.at + total) }
     requires high { to ≤ cursor.now.at }
     requires aligned { cursor.now.at % 4 ≡ 0 }
     ensures laid { IsLaid map.old map.new heap cursor.now.top cursor.now.at to total }
@@ -82,7 +84,7 @@ pub(crate) fn lay(map: &mut AddressMap, heap: u32, cursor: &Cursor, to: u32, tot
 /// Writes the words of a block at `to`, and those of a free item before it where there is a gap, as
 /// the last items of the heap.
 fn set_down(map: &mut AddressMap, heap: u32, cursor: &Cursor, to: u32, total: u32)
-    requires { IsRoom map.old heap cursor.now.from cursor.now.top to total (to + total) }
+    requires { IsRoomForBlock map.old heap cursor.now.from cursor.now.top to total (to + total) }
     ensures { IsSetDown map.old map.new heap cursor.now.top to total }
 {
     let base = to + total - heap;

@@ -4,7 +4,7 @@ ghost use Rattle.std.specs.Prelude.{◌≡◌, ◌≤◌, length};
 ghost use Rattle.address_map.specs.Memory.{mapping, regions};
 ghost use Rattle.address_map.specs.Moves.{moved_regions};
 ghost use Rattle.os_heap.specs.Store.{store_of, AreClasses, IsSound};
-ghost use Rattle.os_heap_slide.specs.Slide.{MaySlide, IsSlid};
+ghost use Rattle.os_heap_slide.specs.Slide.{MaySlide, IsHeapSlid};
 
 use crate::steps::slide_items;
 use address_map::{AddressMap, Move};
@@ -31,7 +31,7 @@ pub fn slide(map: &mut AddressMap, heap: u32, movable: &[u32]) -> Moves
     requires sound { IsSound (store_of map.old) }
     requires classes { AreClasses map.old }
     requires movable { MaySlide (store_of map.old) heap movable.now }
-    ensures slid { IsSlid (store_of map.old) heap movable.now (store_of map.new) result.items }
+    ensures slid { IsHeapSlid (store_of map.old) heap movable.now (store_of map.new) result.items }
     ensures sound { IsSound (store_of map.new) }
     ensures classes { AreClasses map.new }
     ensures mapping { mapping map.new ≡ mapping map.old }

@@ -4,7 +4,7 @@ ghost use Rattle.std.specs.Prelude.{ℕ, List, [], ◌≡◌, ◌≢◌, ◌≤�
 ghost use Rattle.address_map.specs.Bytes.{word_at};
 ghost use Rattle.address_map.specs.Memory.{byte_at};
 ghost use Rattle.os_heap_words.specs.Outcomes.{HasHeapAt, items_at};
-ghost use Rattle.os_heap_slide.specs.Slide.{AreBlocks, begins, move_of, place_of, without_first};
+ghost use Rattle.os_heap_slide.specs.Slide.{AreBlocks, begins, move_of, item_place_after, without_first_block};
 ghost use Rattle.os_heap_slide.specs.Steps.{IsAllSlid, IsSliding};
 
 use crate::items::{Cursor, lay, pass_free};
@@ -41,7 +41,8 @@ pub(crate) fn slide_items(map: &mut AddressMap, heap: u32, movable: &[u32]) -> M
 /// Makes a heap one without items, and leaves the bytes of these as they are.
 fn begin(map: &mut AddressMap, heap: u32) -> Cursor
     requires { HasHeapAt map.old heap }
-    ensures { (movable : List ℕ) → AreBlocks (heap + 16) (items_at map.old heap) movable → length movable ≤ 128
+    ensures { (movable : List ℕ) → AreBlocks (heap + 16) (items_at map.old heap) movable →
+        length movable ≤ 128
         → IsSliding map.old map.new heap movable movable [] result.from result.top result.at result.free }
 {
     let free = follow(map, heap, heap);
@@ -59,8 +60,9 @@ fn begin(map: &mut AddressMap, heap: u32) -> Cursor
 /// Where the next live item goes, and the addresses of those that can be moved after it.
 pub(crate) fn place<'a>(cursor: &Cursor, left: &'a [u32]) -> (u32, &'a [u32])
     requires { cursor.now.at + 4 < 2 ^ 32 }
-    ensures to { result.0 ≡ place_of (begins (cursor.now.at + 4) left.now) cursor.now.top cursor.now.at }
-    ensures rest { result.1.now ≡ without_first (cursor.now.at + 4) left.now }
+    ensures to { result.0 ≡ item_place_after (begins (cursor.now.at + 4) left.now) cursor.now.top
+        cursor.now.at }
+    ensures rest { result.1.now ≡ without_first_block (cursor.now.at + 4) left.now }
 {
     match left.split_first() {
         Some((first, rest)) if *first == cursor.at + 4 => (cursor.top, rest),

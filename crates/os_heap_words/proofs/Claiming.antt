@@ -16,16 +16,16 @@ use Rattle.os_heap_lists.specs.Heap.{AreTotals, next_free, last_free, IsHeapIn, 
 use Rattle.os_heap_lists.specs.Lists.{first_fit, or_at_base}
 use Rattle.os_heap_lists.specs.Marks.{Remarks}
 use Rattle.os_heap_lists.specs.Walks.{IsFit}
-use Rattle.os_heap_lists.specs.Words.{IsWritten, link_at, IsFreed}
+use Rattle.os_heap_lists.specs.Words.{IsWordWritten, link_at, IsFreed}
 use Rattle.os_heap_words.proofs.Replace.{becomes}
 use Rattle.os_heap_words.specs.Outcomes.{Becomes, Claims}
 
 -- all of a free item is taken
 taken_whole : (m n : AddressMap) (start end : ℕ) (before rest : List Item) (t : ℕ) (g : ℕ → ℕ)
     → IsHeapIn (bytes_of m) start end (before ++ Free t ∷ rest) → layout n ≡ layout m
-    → IsWritten (byte_at m) g (link_at start (last_free start (start + 16) before))
+    → IsWordWritten (byte_at m) g (link_at start (last_free start (start + 16) before))
     (next_free (start + 16 + size_of before + t) rest 0 - last_free start (start + 16) before)
-    → IsWritten g (byte_at n) (start + 16 + size_of before) t
+    → IsWordWritten g (byte_at n) (start + 16 + size_of before) t
     → Remarks (class_of m) (class_of n) (start + 16 + size_of before) (Free t ∷ []) (Live t ∷ [])
     → Becomes m n start end (before ++ Live t ∷ rest)
 taken_whole m n start end before rest t g heap same one two change =
@@ -59,7 +59,7 @@ taken_part : (m n : AddressMap) (start end : ℕ) (before rest : List Item) (t k
     → IsHeapIn (bytes_of m) start end (before ++ Free t ∷ rest) → layout n ≡ layout m → is_total k ≡ true → k < t
     → IsFreed (byte_at m) g start (last_free start (start + 16) before) (start + 16 + size_of before + k) (t - k)
     (next_free (start + 16 + size_of before + t) rest 0)
-    → IsWritten g (byte_at n) (start + 16 + size_of before) k
+    → IsWordWritten g (byte_at n) (start + 16 + size_of before) k
     → Remarks (class_of m) (class_of n) (start + 16 + size_of before) (Free t ∷ []) (Live k ∷ (Free (t - k) ∷ []))
     → Becomes m n start end (before ++ Live k ∷ (Free (t - k) ∷ rest))
 taken_part m n start end before rest t k g heap same total less one two change =
@@ -103,7 +103,7 @@ taken_part m n start end before rest t k g heap same total less one two change =
 -- the words of a claim in a free item, and its answer
 pub claims_whole : (m n : AddressMap) (start end k from at t next : ℕ) (items : List Item) (g : ℕ → ℕ) (fit : IsFit start items k from at t)
     → IsHeapIn (bytes_of m) start end items → layout n ≡ layout m → t - k ≡ 0 → next ≡ next_free (at + t) fit.rest 0
-    → IsWritten (byte_at m) g (link_at start from) (next - from) → IsWritten g (byte_at n) at k
+    → IsWordWritten (byte_at m) g (link_at start from) (next - from) → IsWordWritten g (byte_at n) at k
     → Remarks (class_of m) (class_of n) at (Free t ∷ []) (Live k ∷ [])
     → Claims m n start end (Ok (at + 4)) (first_fit k items)
 claims_whole m n start end k from at t next items g fit heap same none onward one two change =
@@ -117,7 +117,7 @@ claims_whole m n start end k from at t next items g fit heap same none onward on
 
 pub claims_part : (m n : AddressMap) (start end k from at t next : ℕ) (items : List Item) (g : ℕ → ℕ) (fit : IsFit start items k from at t)
     → IsHeapIn (bytes_of m) start end items → layout n ≡ layout m → is_total k ≡ true → t - k ≢ 0 → next ≡ next_free (at + t) fit.rest 0
-    → IsFreed (byte_at m) g start from (at + k) (t - k) next → IsWritten g (byte_at n) at k
+    → IsFreed (byte_at m) g start from (at + k) (t - k) next → IsWordWritten g (byte_at n) at k
     → Remarks (class_of m) (class_of n) at (Free t ∷ []) (Live k ∷ (Free (t - k) ∷ []))
     → Claims m n start end (Ok (at + 4)) (first_fit k items)
 claims_part m n start end k from at t next items g fit heap same total some onward one two change =
@@ -132,8 +132,8 @@ claims_part m n start end k from at t next items g fit heap same total some onwa
 -- a block more behind all items
 pub appended : (m n : AddressMap) (start end k : ℕ) (items : List Item) (g : ℕ → ℕ)
     → IsHeapIn (bytes_of m) start end (items ++ []) → layout n ≡ layout m → is_total k ≡ true → 16 + size_of items + k ≤ end
-    → IsWritten (byte_at m) g (start + 16 + size_of items) k
-    → IsWritten g (byte_at n) (start + 8) (16 + size_of items + k)
+    → IsWordWritten (byte_at m) g (start + 16 + size_of items) k
+    → IsWordWritten g (byte_at n) (start + 8) (16 + size_of items + k)
     → Remarks (class_of m) (class_of n) (start + 16 + size_of items) [] (Live k ∷ [])
     → Becomes m n start end (items ++ Live k ∷ [])
 appended m n start end k items g heap same total room one two change =
@@ -157,7 +157,7 @@ appended m n start end k items g heap same total room one two change =
 
 pub claims_base : (m n : AddressMap) (start end k base : ℕ) (items : List Item) (g : ℕ → ℕ)
     → IsHeapIn (bytes_of m) start end items → layout n ≡ layout m → is_total k ≡ true → base ≡ 16 + size_of items → base + k ≤ end
-    → IsWritten (byte_at m) g (start + base) k → IsWritten g (byte_at n) (start + 8) (base + k)
+    → IsWordWritten (byte_at m) g (start + base) k → IsWordWritten g (byte_at n) (start + 8) (base + k)
     → Remarks (class_of m) (class_of n) (start + base) [] (Live k ∷ [])
     → Claims m n start end (Ok (start + base + 4)) (or_at_base k (end - 16) items None)
 claims_base m n start end k base items g heap same total place room one two change =

@@ -2,7 +2,7 @@
 use Rattle.std.proofs.Common.{append-nil, ◌≡◌, None, subst, ◌++◌, arith, [], ◌≤◌, refl, ℕ, ◌∷◌, List, ◌∙◌, ◌-◌, ◌+◌, add-zero, sym, ◌%◌, append_assoc, inr, inl, true, Option, Ok, Some, ap, ◌≢◌}
 use Rattle.address_map.proofs.Bytes.{is_mapped-layout}
 use Rattle.address_map.specs.Bytes.{word_at}
-use Rattle.address_map.specs.Items.{size_of, linked, is_total}
+use Rattle.address_map.specs.Items.{size_of, link_target, is_total}
 use Rattle.address_map.specs.Memory.{byte_at, bytes_of, layout, class_of}
 use Rattle.address_map.specs.declared.item.Item.{Item}
 use Rattle.address_map.specs.declared.item.Item.TheVariants.{Live, Free}
@@ -14,10 +14,10 @@ use Rattle.os_heap_lists.proofs.Reading.{total_facts}
 use Rattle.os_heap_lists.proofs.Spelling.{totals-back, size_of-multiple, totals-front, size_of-append, spaced-join, spells-kept, total_of-numbers}
 use Rattle.os_heap_lists.specs.Counts.{begun_below}
 use Rattle.os_heap_lists.specs.Heap.{AreTotals, IsHeapIn, next_free, last_free, AreSpaced, begins_live, Spells}
-use Rattle.os_heap_lists.specs.Lists.{released, left_free, freed, glued}
+use Rattle.os_heap_lists.specs.Lists.{items_after_release, left_free, items_after_free, items_with_gap}
 use Rattle.os_heap_lists.specs.Marks.{AreMarked, Remarks}
 use Rattle.os_heap_lists.specs.Walks.{IsWalkedTo, IsWalked, IsBlock}
-use Rattle.os_heap_lists.specs.Words.{link_at, IsWritten, IsFreed}
+use Rattle.os_heap_lists.specs.Words.{link_at, IsWordWritten, IsFreed}
 use Rattle.os_heap_words.proofs.Marking.{can_stand}
 use Rattle.os_heap_words.proofs.Replace.{becomes}
 use Rattle.os_heap_words.proofs.Searching.{FreeFacts, free_facts}
@@ -27,7 +27,7 @@ use Rattle.os_heap_words.specs.Outcomes.{CanStand, IsHeapAt, items_at, Becomes, 
 -- the walk ends, and there is no such block
 over : (m : AddressMap) (start end block from at free gap probes : ℕ) (before rest : List Item) → IsHeapAt m start end
     → IsWalkedTo start (items_at m start) block before rest from at free gap probes → start + word_at (byte_at m) (start + 8) ≤ at
-    → (released block (start + 16) (items_at m start) ≡ None) × (probes ≡ begun_below block (start + 16) (items_at m start))
+    → (items_after_release block (start + 16) (items_at m start) ≡ None) × (probes ≡ begun_below block (start + 16) (items_at m start))
 over m start end block from at free gap probes before [] heap w past = (w.absent refl, sym (add-zero probes) ∙ w.count)
 over m start end block from at free gap probes before (Live t ∷ xs) heap w past =
     let totals : AreTotals ((before ++ left_free gap) ++ Live t ∷ xs) = subst AreTotals w.split heap.totals in
@@ -46,12 +46,12 @@ over m start end block from at free gap probes before (Free t ∷ xs) heap w pas
 
 pub walk_over : (m : AddressMap) (start end block from at free gap probes : ℕ) → IsHeapAt m start end
     → IsWalked start (items_at m start) block from at free gap probes → start + word_at (byte_at m) (start + 8) ≤ at
-    → (released block (start + 16) (items_at m start) ≡ None) × (probes ≡ begun_below block (start + 16) (items_at m start))
+    → (items_after_release block (start + 16) (items_at m start) ≡ None) × (probes ≡ begun_below block (start + 16) (items_at m start))
 walk_over m start end block from at free gap probes heap w past = over m start end block from at free gap probes w.before w.rest heap w.walk past
 
 pub free_ends : (m : AddressMap) (start end block from at free gap probes : ℕ) → (w : AtFree m start end block from at free gap probes)
     → at + 4 ≤ block → block ≤ at + 4
-    → (released block (start + 16) (items_at m start) ≡ None) × (probes + 1 ≡ begun_below block (start + 16) (items_at m start))
+    → (items_after_release block (start + 16) (items_at m start) ≡ None) × (probes + 1 ≡ begun_below block (start + 16) (items_at m start))
 free_ends m start end block from at free gap probes w low near =
     let past : block ≤ at + w.total = omega (arith, w.facts.size) in (
       w.walk.absent (released_free-none block at w.total w.rest (released_past block (at + w.total) w.rest past)),
@@ -73,7 +73,7 @@ block_found m start end block from at free gap probes w here =
         last = w.walk.last;
         next = w.walk.next;
         closed = w.walk.closed;
-        given = w.walk.found (freed w.total w.rest) (released_here block at w.total w.rest here);
+        given = w.walk.found (items_after_free w.total w.rest) (released_here block at w.total w.rest here);
       },
       omega (arith, w.walk.count, (begun_more block at w.total w.rest (omega arith)).0, begun_past block (at + w.total) w.rest (omega (arith, w.facts.size))),
     )
@@ -126,7 +126,7 @@ pub record NextFree (m : AddressMap) (start end at : ℕ) (rest : List Item) : T
   pub split : rest ≡ Free total ∷ after
   pub facts : FreeFacts m start end at total after
   pub link : link_at start at ≡ at
-  pub onward : linked at (word_at (byte_at m) (link_at start at)) ≡ next_free (at + total) after 0
+  pub onward : link_target at (word_at (byte_at m) (link_at start at)) ≡ next_free (at + total) after 0
 
 free_behind : (m : AddressMap) (start end at total free : ℕ) (front rest : List Item) → IsHeapAt m start end → items_at m start ≡ front ++ Live total ∷ rest
     → at ≡ start + 16 + size_of front → LiveFacts m start end at total rest → free ≡ next_free (at + total) rest 0 → at + total ≡ free
@@ -151,8 +151,8 @@ next_free_facts m start end block from at free gap heap b here =
 -- the base sinks
 sunk : (m n : AddressMap) (start end : ℕ) (before old : List Item) (g : ℕ → ℕ)
     → IsHeapIn (bytes_of m) start end (before ++ old) → layout n ≡ layout m → AreSpaced before
-    → IsWritten (byte_at m) g (link_at start (last_free start (start + 16) before)) (0 - last_free start (start + 16) before)
-    → IsWritten g (byte_at n) (start + 8) (16 + size_of before)
+    → IsWordWritten (byte_at m) g (link_at start (last_free start (start + 16) before)) (0 - last_free start (start + 16) before)
+    → IsWordWritten g (byte_at n) (start + 8) (16 + size_of before)
     → (AreMarked (class_of m) (start + 16) (before ++ old) → Remarks (class_of m) (class_of n) (start + 16) (before ++ old) (before ++ []))
     → Becomes m n start end (before ++ [])
 sunk m n start end before old g heap same closed one two marks =
@@ -214,9 +214,9 @@ given m n start end items ys zs some e b = rw (some, e) (refl, b)
 pub releases_sunk : (m n : AddressMap) (start end block from at free gap : ℕ) (g : ℕ → ℕ) → IsHeapAt m start end
     → (b : IsBlock start (items_at m start) block from at free gap)
     → at + b.total ≡ start + word_at (byte_at m) (start + 8) → layout n ≡ layout m
-    → IsWritten (byte_at m) g (link_at start from) (0 - from) → IsWritten g (byte_at n) (start + 8) (at - gap - start)
+    → IsWordWritten (byte_at m) g (link_at start from) (0 - from) → IsWordWritten g (byte_at n) (start + 8) (at - gap - start)
     → Remarks (class_of m) (class_of n) (at - gap) (left_free gap ++ Live b.total ∷ []) []
-    → Releases m n start end (Ok tt) (released block (start + 16) (items_at m start))
+    → Releases m n start end (Ok tt) (items_after_release block (start + 16) (items_at m start))
 releases_sunk m n start end block from at free gap g heap b ends same one two change =
     let f : BlockFacts m start end from at free gap b.total b.before b.rest = block_facts m start end block from at free gap heap b in
     let none : b.rest ≡ [] = rest_none start at b.total (start + word_at (byte_at m) (start + 8)) b.rest f.facts.totals f.facts.base ends in
@@ -227,7 +227,7 @@ releases_sunk m n start end block from at free gap g heap b ends same one two ch
     let gone : List Item = left_free gap ++ Live b.total ∷ [] in
     let split : old ≡ gone ++ [] = ap (λ (ys : List Item). left_free gap ++ Live b.total ∷ ys) none ∙ sym (append-nil gone) in
     given m n start end _ _ (b.before ++ []) b.given
-    (ap (λ (ys : List Item). b.before ++ glued gap (freed b.total ys)) none ∙ ap (λ (ys : List Item). b.before ++ ys) (glued_nothing gap))
+    (ap (λ (ys : List Item). b.before ++ items_with_gap gap (items_after_free b.total ys)) none ∙ ap (λ (ys : List Item). b.before ++ ys) (glued_nothing gap))
     (sunk m n start end b.before old g f.heap same b.closed one' two'
     (remarked_as (class_of m) (class_of n) (start + 16) b.before old gone [] [] split f.heap.totals (λ p. refl) (rw f.place at change)))
 
@@ -237,7 +237,7 @@ pub releases_joined : (m n : AddressMap) (start end block from at free gap next 
     → next ≡ next_free (at + b.total + k.total) k.after 0
     → IsFreed (byte_at m) (byte_at n) start from (at - gap) (gap + b.total + k.total) next
     → Remarks (class_of m) (class_of n) (at - gap) (left_free gap ++ Live b.total ∷ (Free k.total ∷ [])) (Free (gap + b.total + k.total) ∷ [])
-    → Releases m n start end (Ok tt) (released block (start + 16) (items_at m start))
+    → Releases m n start end (Ok tt) (items_after_release block (start + 16) (items_at m start))
 releases_joined m n start end block from at free gap next heap b k same onward one change =
     let f : BlockFacts m start end from at free gap b.total b.before b.rest = block_facts m start end block from at free gap heap b in
     let s : ℕ = gap + b.total + k.total in
@@ -256,7 +256,7 @@ releases_joined m n start end block from at free gap next heap b k same onward o
     ap (λ (ys : List Item). left_free gap ++ Live b.total ∷ ys) k.split ∙ sym (append_assoc (left_free gap) (Live b.total ∷ (Free k.total ∷ [])) k.after) in
     let alike : s + 0 ≡ size_of gone = omega (arith, size_of-old gap b.total (Free k.total ∷ [])) in
     given m n start end _ _ (b.before ++ Free s ∷ k.after) b.given
-    (ap (λ (ys : List Item). b.before ++ glued gap (freed b.total ys)) k.split
+    (ap (λ (ys : List Item). b.before ++ items_with_gap gap (items_after_free b.total ys)) k.split
     ∙ ap (λ (ys : List Item). b.before ++ ys) (glued_free gap (b.total + k.total) k.after)
     ∙ ap (λ (t : ℕ). b.before ++ Free t ∷ k.after) sum)
     (loosed m n start end b.before (left_free gap ++ Live b.total ∷ b.rest) k.after s f.heap same b.closed
@@ -270,7 +270,7 @@ pub releases_alone : (m n : AddressMap) (start end block from at free gap : ℕ)
     → at + b.total ≢ start + word_at (byte_at m) (start + 8) → at + b.total ≢ free → layout n ≡ layout m
     → IsFreed (byte_at m) (byte_at n) start from (at - gap) (gap + b.total) free
     → Remarks (class_of m) (class_of n) (at - gap) (left_free gap ++ Live b.total ∷ []) (Free (gap + b.total) ∷ [])
-    → Releases m n start end (Ok tt) (released block (start + 16) (items_at m start))
+    → Releases m n start end (Ok tt) (items_after_release block (start + 16) (items_at m start))
 releases_alone m n start end block from at free gap heap b inside other same one change =
     let f : BlockFacts m start end from at free gap b.total b.before b.rest = block_facts m start end block from at free gap heap b in
     let s : ℕ = gap + b.total in
@@ -283,7 +283,7 @@ releases_alone m n start end block from at free gap heap b inside other same one
     let split : old ≡ gone ++ b.rest = sym (append_assoc (left_free gap) (Live b.total ∷ []) b.rest) in
     let alike : s + 0 ≡ size_of gone = omega (arith, size_of-old gap b.total []) in
     given m n start end _ _ (b.before ++ Free s ∷ b.rest) b.given
-    (ap (λ (ys : List Item). b.before ++ glued gap ys) (live.1 b.total) ∙ ap (λ (ys : List Item). b.before ++ ys) (glued_free gap b.total b.rest))
+    (ap (λ (ys : List Item). b.before ++ items_with_gap gap ys) (live.1 b.total) ∙ ap (λ (ys : List Item). b.before ++ ys) (glued_free gap b.total b.rest))
     (loosed m n start end b.before (left_free gap ++ Live b.total ∷ b.rest) b.rest s f.heap same b.closed
     (total_of-numbers s (omega (arith, f.facts.size)) (omega (arith, f.eighths, f.facts.eighths)))
     size f.facts.totals f.facts.spaced live.0 (rw place f.facts.spelled) one'

@@ -1,7 +1,7 @@
 -- A walk along the links of free items to a block that is there.
 use Rattle.std.proofs.Common.{◌+◌, ◌≡◌, ◌≤◌, List, ℕ, ◌^◌, subst, ◌≢◌, ◌++◌, arith, ◌∙◌, ◌<◌, sym, ap}
 use Rattle.address_map.specs.Bytes.{word_at}
-use Rattle.address_map.specs.Items.{linked}
+use Rattle.address_map.specs.Items.{link_target}
 use Rattle.address_map.specs.Memory.{byte_at}
 use Rattle.address_map.specs.declared.item.Item.{Item}
 use Rattle.address_map.specs.declared.map.AddressMap.{AddressMap}
@@ -23,7 +23,7 @@ pub record AtNext (m : AddressMap) (start end block from at free gap probes : �
   pub after : List Item
   pub facts : FreeFacts m start end free total after
   pub link : link_at start free ≡ free
-  pub onward : linked free (word_at (byte_at m) (link_at start free)) ≡ next_free (free + total) after 0
+  pub onward : link_target free (word_at (byte_at m) (link_at start free)) ≡ next_free (free + total) after 0
   pub few : probes + 1 ≤ 2 ^ 26
   pub grows : at ≤ free
   pub room : gap ≤ at
@@ -40,7 +40,7 @@ link_next m start end block from at free gap probes heap l some low =
     link_reached start items block from at free gap l.passed l.before l.rest heap.spaced back l.walk l.live some low in
     let facts : FreeFacts m start end free r.total r.after = free_facts m start end free items (r.front ++ left_free 0) r.total r.after heap r.walk.split r.walk.place in
     let link : link_at start free ≡ free = link_of-item start free (omega (arith, facts.low)) in
-    let onward : linked free (word_at (byte_at m) (link_at start free)) ≡ next_free (free + r.total) r.after 0 = rw link facts.onward in
+    let onward : link_target free (word_at (byte_at m) (link_at start free)) ≡ next_free (free + r.total) r.after 0 = rw link facts.onward in
     let below : free + r.total + 4 ≤ block = live_low block (free + r.total) r.after r.live in
     let count : probes + (1 + free_below block (free + r.total) r.after) ≡ free_below block (start + 16) items =
     ap (λ (n : ℕ). probes + n) (sym (r.count ∙ below_more block free r.total r.after low)) ∙ l.count in

@@ -22,9 +22,9 @@ use Rattle.os_heap_lists.proofs.Reading.{total_facts}
 use Rattle.os_heap_lists.proofs.Spelling.{size_of-append, size_of-multiple, totals-back, totals-front}
 use Rattle.os_heap_lists.specs.Heap.{AreTotals, IsHeapIn}
 use Rattle.os_heap_lists.specs.Marks.{Remarks}
-use Rattle.os_heap_lists.specs.Words.{IsDivided, IsFreed, IsWritten}
+use Rattle.os_heap_lists.specs.Words.{IsDivided, IsFreed, IsWordWritten}
 use Rattle.os_heap_words.proofs.Writing.{still_mapped}
-use Rattle.os_heap_words.specs.Marks.{unheaded, with_no_heads}
+use Rattle.os_heap_words.specs.Marks.{class_without_head, with_no_heads}
 use Rattle.os_heap_words.specs.Outcomes.{CanStand}
 
 -- a mark is no record, and moves nothing
@@ -127,8 +127,8 @@ next_item m n at place i items s same below here =
     rw here (still_stand m n (at + size_of (take i items)) (item ∷ []) same found.stands, found.below)
 
 -- what was written and marked before the marks of other items
-pub still_written : (f g h : ℕ → ℕ) (at word : ℕ) → h ≡ g → IsWritten f g at word → IsWritten f h at word
-still_written f g h at word same written = subst (λ (k : ℕ → ℕ). IsWritten f k at word) (sym same) written
+pub still_written : (f g h : ℕ → ℕ) (at word : ℕ) → h ≡ g → IsWordWritten f g at word → IsWordWritten f h at word
+still_written f g h at word same written = subst (λ (k : ℕ → ℕ). IsWordWritten f k at word) (sym same) written
 
 pub still_freed : (f g h : ℕ → ℕ) (start from at total next : ℕ) → h ≡ g → IsFreed f g start from at total next → IsFreed f h start from at total next
 still_freed f g h start from at total next same freed = subst (λ (k : ℕ → ℕ). IsFreed f k start from at total next) (sym same) freed
@@ -153,7 +153,7 @@ heap_unheaded m at a aligned is = elim (in_range-cases at 4 a) [
       rw (here, r.0, same) refl
 ]
 
-unheaded_other : (own : Class) → own ≢ class.Heap → unheaded own ≡ own
+unheaded_other : (own : Class) → own ≢ class.Heap → class_without_head own ≡ own
 unheaded_other class.Plain other = refl
 unheaded_other class.FlexHeader other = refl
 unheaded_other class.Anchor other = refl

@@ -12,10 +12,10 @@ use Rattle.os_heap_lists.proofs.Reading.{total_facts}
 use Rattle.os_heap_lists.proofs.Resizes.{live_total-at, in_place-at, fewer, last_some, last_none, left_some, grown_some, left_none, grown_none, grown_blocked}
 use Rattle.os_heap_lists.proofs.Spelling.{total_of-numbers, totals-front}
 use Rattle.os_heap_lists.specs.Heap.{IsHeapIn, begins_live, AreTotals, Spells, next_free, AreSpaced}
-use Rattle.os_heap_lists.specs.Lists.{live_total, resized_in_place, refitted, left_free, glued}
+use Rattle.os_heap_lists.specs.Lists.{live_total, resized_in_place, items_after_refit, left_free, items_with_gap}
 use Rattle.os_heap_lists.specs.Marks.{Remarks}
 use Rattle.os_heap_lists.specs.Walks.{IsBlock, last_link}
-use Rattle.os_heap_lists.specs.Words.{IsWritten, IsDivided, link_at}
+use Rattle.os_heap_lists.specs.Words.{IsWordWritten, IsDivided, link_at}
 use Rattle.os_heap_words.proofs.Freeing.{NextFree}
 use Rattle.os_heap_words.proofs.Refitting.{rebased, place_facts, PlaceFacts, divided, swallowed}
 use Rattle.os_heap_words.specs.Outcomes.{IsHeapAt, items_at, Refits, Becomes}
@@ -31,7 +31,7 @@ block_total m start end block from at free gap heap b =
 pub block_in_place : (m : AddressMap) (start end limit new block from at free gap : ℕ) → IsHeapAt m start end
     → (b : IsBlock start (items_at m start) block from at free gap)
     → resized_in_place block limit new (start + 16) (items_at m start)
-    ≡ option_map (λ ys. (b.before ++ left_free gap) ++ ys) (refitted (limit - at) new b.total b.rest)
+    ≡ option_map (λ ys. (b.before ++ left_free gap) ++ ys) (items_after_refit (limit - at) new b.total b.rest)
 block_in_place m start end limit new block from at free gap heap b =
     let totals : AreTotals ((b.before ++ left_free gap) ++ Live b.total ∷ b.rest) = subst AreTotals b.split heap.totals in
     ap (resized_in_place block limit new (start + 16)) b.split
@@ -40,13 +40,13 @@ block_in_place m start end limit new block from at free gap heap b =
 
 -- whether it could be done
 done : (m n : AddressMap) (start end limit new block from at free gap : ℕ) → IsHeapAt m start end → (b : IsBlock start (items_at m start) block from at free gap)
-    → (ys : List Item) → refitted (limit - at) new b.total b.rest ≡ Some ys → Becomes m n start end ((b.before ++ left_free gap) ++ ys)
+    → (ys : List Item) → items_after_refit (limit - at) new b.total b.rest ≡ Some ys → Becomes m n start end ((b.before ++ left_free gap) ++ ys)
     → Refits m n start end true (resized_in_place block limit new (start + 16) (items_at m start))
 done m n start end limit new block from at free gap heap b ys some becomes =
     rw (block_in_place m start end limit new block from at free gap heap b, some) (refl, becomes)
 
 not_done : (m : AddressMap) (start end limit new block from at free gap : ℕ) → IsHeapAt m start end → (b : IsBlock start (items_at m start) block from at free gap)
-    → refitted (limit - at) new b.total b.rest ≡ None → Refits m m start end false (resized_in_place block limit new (start + 16) (items_at m start))
+    → items_after_refit (limit - at) new b.total b.rest ≡ None → Refits m m start end false (resized_in_place block limit new (start + 16) (items_at m start))
 not_done m start end limit new block from at free gap heap b none =
     rw (block_in_place m start end limit new block from at free gap heap b, none) (refl, refl)
 
@@ -55,7 +55,7 @@ pub refits_same : (m : AddressMap) (start end limit new block from at free gap :
     → (b : IsBlock start (items_at m start) block from at free gap) → new ≡ b.total
     → Refits m m start end true (resized_in_place block limit new (start + 16) (items_at m start))
 refits_same m start end limit new block from at free gap heap b same =
-    let kept : Live new ∷ glued (b.total - new) b.rest ≡ Live b.total ∷ b.rest =
+    let kept : Live new ∷ items_with_gap (b.total - new) b.rest ≡ Live b.total ∷ b.rest =
     ap (λ (ys : List Item). Live new ∷ ys) (glued_none (b.total - new) b.rest (omega arith)) ∙ ap (λ (n : ℕ). Live n ∷ b.rest) same in
     done m m start end limit new block from at free gap heap b (Live b.total ∷ b.rest)
     (fewer (limit - at) new b.total b.rest (omega arith) ∙ ap (λ (ys : List Item). Some ys) kept)
@@ -71,7 +71,7 @@ refits_same m start end limit new block from at free gap heap b same =
 pub refits_last : (m n : AddressMap) (start end new block from at free gap : ℕ) (g : ℕ → ℕ) → IsHeapAt m start end
     → (b : IsBlock start (items_at m start) block from at free gap) → at + b.total ≡ start + word_at (byte_at m) (start + 8)
     → layout n ≡ layout m → is_total new ≡ true → at + new ≤ start + end
-    → IsWritten (byte_at m) g at new → IsWritten g (byte_at n) (start + 8) (at + new - start) → class_of n ≡ class_of m
+    → IsWordWritten (byte_at m) g at new → IsWordWritten g (byte_at n) (start + 8) (at + new - start) → class_of n ≡ class_of m
     → Refits m n start end true (resized_in_place block (start + end) new (start + 16) (items_at m start))
 refits_last m n start end new block from at free gap g heap b ends same total room one two kept =
     let front : List Item = b.before ++ left_free gap in
@@ -83,7 +83,7 @@ refits_last m n start end new block from at free gap g heap b ends same total ro
     let heap' : IsHeapIn (bytes_of m) start end (front ++ Live b.total ∷ []) =
     subst (λ (ys : List Item). IsHeapIn (bytes_of m) start end (front ++ Live b.total ∷ ys)) none f.heap in
     done m n start end (start + end) new block from at free gap heap b (Live new ∷ [])
-    (ap (refitted (start + end - at) new b.total) none ∙ last_some (start + end - at) new b.total (omega arith))
+    (ap (items_after_refit (start + end - at) new b.total) none ∙ last_some (start + end - at) new b.total (omega arith))
     (rebased m n start end front b.total new g heap' same total (omega (arith, b.place)) one' two' kept)
 
 pub refits_last-full : (m : AddressMap) (start end new block from at free gap : ℕ) → IsHeapAt m start end
@@ -95,7 +95,7 @@ refits_last-full m start end new block from at free gap heap b ends full =
     let f : PlaceFacts m start end from at gap b.total front b.rest = place_facts m start end block from at free gap heap b in
     let none : b.rest ≡ [] = rest_none start at b.total (start + word_at (byte_at m) (start + 8)) b.rest f.facts.totals f.facts.base ends in
     not_done m start end (start + end) new block from at free gap heap b
-    (ap (refitted (start + end - at) new b.total) none ∙ last_none (start + end - at) new b.total (omega (arith, f.facts.low, f.facts.high)) (omega (arith, f.facts.high)))
+    (ap (items_after_refit (start + end - at) new b.total) none ∙ last_none (start + end - at) new b.total (omega (arith, f.facts.low, f.facts.high)) (omega (arith, f.facts.high)))
 
 -- a free item is written behind the block
 parted : (m n : AddressMap) (start end new left next block from at free gap : ℕ) (xs gone : List Item) → IsHeapAt m start end
@@ -129,7 +129,7 @@ refits_joined m n start end limit new next block from at free gap heap b k same 
     subst (λ (ys : List Item). Spells (word_at (byte_at m)) (at + b.total) ys 0) k.split f.facts.spelled in
     let size : size_of b.rest ≡ k.total + size_of k.after = ap size_of k.split in
     done m n start end limit new block from at free gap heap b (Live new ∷ (Free left ∷ k.after))
-    (ap (refitted (limit - at) new b.total) k.split ∙ fewer (limit - at) new b.total (Free k.total ∷ k.after) (omega arith)
+    (ap (items_after_refit (limit - at) new b.total) k.split ∙ fewer (limit - at) new b.total (Free k.total ∷ k.after) (omega arith)
     ∙ ap (λ (ys : List Item). Some (Live new ∷ ys)) (glued_free (b.total - new) k.total k.after))
     (parted m n start end new left next block from at free gap k.after (Live b.total ∷ (Free k.total ∷ [])) heap b same total
     (total_of-numbers left (omega (arith, k.facts.size)) (omega (arith, (total_facts new total).1, f.facts.eighths, k.facts.eighths)))
@@ -175,7 +175,7 @@ refits_part m n start end limit new next block from at free gap heap b k same to
     subst (λ (ys : List Item). Spells (word_at (byte_at m)) (at + b.total) ys 0) k.split f.facts.spelled in
     let size : size_of b.rest ≡ k.total + size_of k.after = ap size_of k.split in
     done m n start end limit new block from at free gap heap b (Live new ∷ (Free left ∷ k.after))
-    (ap (refitted (limit - at) new b.total) k.split ∙ grown_some (limit - at) new b.total k.total k.after larger fits
+    (ap (items_after_refit (limit - at) new b.total) k.split ∙ grown_some (limit - at) new b.total k.total k.after larger fits
     ∙ ap (λ (ys : List Item). Some (Live new ∷ ys)) (left_some left k.after some))
     (parted m n start end new left next block from at free gap k.after (Live b.total ∷ (Free k.total ∷ [])) heap b same total
     (total_of-numbers left (omega (arith, (total_facts new total).1, f.facts.eighths, k.facts.eighths)) (omega (arith, (total_facts new total).1, f.facts.eighths, k.facts.eighths)))
@@ -186,7 +186,7 @@ refits_part m n start end limit new next block from at free gap heap b k same to
 pub refits_whole : (m n : AddressMap) (start end limit new next block from at free gap : ℕ) (g : ℕ → ℕ) → IsHeapAt m start end
     → (b : IsBlock start (items_at m start) block from at free gap) → (k : NextFree m start end (at + b.total) b.rest) → layout n ≡ layout m
     → is_total new ≡ true → b.total < new → new ≤ b.total + k.total → b.total + k.total - new ≡ 0 → next ≡ next_free (at + b.total + k.total) k.after 0
-    → IsWritten (byte_at m) g (link_at start (last_link from at gap)) (next - last_link from at gap) → IsWritten g (byte_at n) at new
+    → IsWordWritten (byte_at m) g (link_at start (last_link from at gap)) (next - last_link from at gap) → IsWordWritten g (byte_at n) at new
     → Remarks (class_of m) (class_of n) at (Live b.total ∷ (Free k.total ∷ [])) (Live new ∷ [])
     → Refits m n start end true (resized_in_place block limit new (start + 16) (items_at m start))
 refits_whole m n start end limit new next block from at free gap g heap b k same total larger fits none onward one two change =
@@ -201,7 +201,7 @@ refits_whole m n start end limit new next block from at free gap g heap b k same
     let one' = rw (f.link, onward ∙ ap (λ (p : ℕ). next_free p k.after 0) place) at one in
     let two' = rw b.place at two in
     done m n start end limit new block from at free gap heap b (Live new ∷ k.after)
-    (ap (refitted (limit - at) new b.total) k.split ∙ grown_some (limit - at) new b.total k.total k.after larger fits
+    (ap (items_after_refit (limit - at) new b.total) k.split ∙ grown_some (limit - at) new b.total k.total k.after larger fits
     ∙ ap (λ (ys : List Item). Some (Live new ∷ ys)) (left_none (b.total + k.total - new) k.after none))
     (swallowed m n start end front b.rest k.after (Live b.total ∷ (Free k.total ∷ [])) b.total new g f.heap same total (omega arith) totals.1 spaced.1
     (subst (λ (p : ℕ). Spells (word_at (byte_at m)) p k.after 0) place spelled.1.1) one' two' (ap (λ (ys : List Item). Live b.total ∷ ys) k.split)
@@ -213,7 +213,7 @@ pub refits_full : (m : AddressMap) (start end limit new block from at free gap :
     → Refits m m start end false (resized_in_place block limit new (start + 16) (items_at m start))
 refits_full m start end limit new block from at free gap heap b k full =
     not_done m start end limit new block from at free gap heap b
-    (ap (refitted (limit - at) new b.total) k.split ∙ grown_none (limit - at) new b.total k.total k.after full)
+    (ap (items_after_refit (limit - at) new b.total) k.split ∙ grown_none (limit - at) new b.total k.total k.after full)
 
 pub refits_blocked : (m : AddressMap) (start end limit new block from at free gap : ℕ) → IsHeapAt m start end
     → (b : IsBlock start (items_at m start) block from at free gap)

@@ -17,7 +17,7 @@ use Rattle.os_heap_lists.specs.Heap.{begins_live, AreTotals, Spells, next_free, 
 use Rattle.os_heap_lists.specs.Lists.{left_free}
 use Rattle.os_heap_lists.specs.Marks.{Remarks}
 use Rattle.os_heap_lists.specs.Walks.{last_link, IsBlock}
-use Rattle.os_heap_lists.specs.Words.{IsDivided, IsWritten, link_at}
+use Rattle.os_heap_lists.specs.Words.{IsDivided, IsWordWritten, link_at}
 use Rattle.os_heap_words.proofs.Replace.{becomes}
 use Rattle.os_heap_words.proofs.Walking.{LiveFacts, live_facts}
 use Rattle.os_heap_words.specs.Outcomes.{Becomes, IsHeapAt, items_at}
@@ -69,9 +69,9 @@ pub swallowed : (m n : AddressMap) (start end : ℕ) (front old xs gone : List I
     → IsHeapIn (bytes_of m) start end (front ++ Live t ∷ old) → layout n ≡ layout m → is_total k ≡ true
     → t + size_of old ≡ k + size_of xs → AreTotals xs → AreSpaced xs
     → Spells (word_at (byte_at m)) (start + 16 + size_of front + k) xs 0
-    → IsWritten (byte_at m) g (link_at start (last_free start (start + 16) front))
+    → IsWordWritten (byte_at m) g (link_at start (last_free start (start + 16) front))
     (next_free (start + 16 + size_of front + k) xs 0 - last_free start (start + 16) front)
-    → IsWritten g (byte_at n) (start + 16 + size_of front) k
+    → IsWordWritten g (byte_at n) (start + 16 + size_of front) k
     → Live t ∷ old ≡ gone ++ xs → Remarks (class_of m) (class_of n) (start + 16 + size_of front) gone (Live k ∷ [])
     → Becomes m n start end (front ++ Live k ∷ xs)
 swallowed m n start end front old xs gone t k g heap same block size totals spaced spelled one two split change =
@@ -105,8 +105,8 @@ swallowed m n start end front old xs gone t k g heap same block size totals spac
 pub rebased : (m n : AddressMap) (start end : ℕ) (front : List Item) (t k : ℕ) (g : ℕ → ℕ)
     → IsHeapIn (bytes_of m) start end (front ++ Live t ∷ []) → layout n ≡ layout m → is_total k ≡ true
     → 16 + size_of front + k ≤ end
-    → IsWritten (byte_at m) g (start + 16 + size_of front) k
-    → IsWritten g (byte_at n) (start + 8) (16 + size_of front + k)
+    → IsWordWritten (byte_at m) g (start + 16 + size_of front) k
+    → IsWordWritten g (byte_at n) (start + 8) (16 + size_of front + k)
     → class_of n ≡ class_of m
     → Becomes m n start end (front ++ Live k ∷ [])
 rebased m n start end front t k g heap same block room one two kept =

@@ -1,7 +1,7 @@
 -- A search for a free item that fits: what it has passed, and the item that it comes to.
 use Rattle.std.proofs.Common.{◌+◌, ◌≡◌, ◌≤◌, ◌⊎◌, List, ℕ, ◌%◌, ◌^◌, ◌++◌, arith, ◌∷◌, ◌∙◌, inr, inl, ap, ◌≢◌}
 use Rattle.address_map.specs.Bytes.{word_at}
-use Rattle.address_map.specs.Items.{linked, size_of}
+use Rattle.address_map.specs.Items.{link_target, size_of}
 use Rattle.address_map.specs.Memory.{byte_at, bytes_of}
 use Rattle.address_map.specs.declared.item.Item.{Item}
 use Rattle.address_map.specs.declared.item.Item.TheVariants.{Free}
@@ -26,7 +26,7 @@ pub record FreeFacts (m : AddressMap) (start end at total : ℕ) (rest : List It
   pub size : 8 ≤ total
   pub eighths : total % 8 ≡ 0
   pub total_word : word_at (byte_at m) (at + 4) ≡ total
-  pub onward : linked at (word_at (byte_at m) at) ≡ next_free (at + total) rest 0
+  pub onward : link_target at (word_at (byte_at m) at) ≡ next_free (at + total) rest 0
   pub next_low : next_free (at + total) rest 0 ≡ 0 ⊎ at + total ≤ next_free (at + total) rest 0
   pub next_high : next_free (at + total) rest 0 ≤ 2 ^ 26
 
@@ -59,7 +59,7 @@ free_facts m start end at items before total rest heap split place =
 
 -- what the descriptor's link says
 pub first_link : (m : AddressMap) (start end : ℕ) (items : List Item) → IsHeapIn (bytes_of m) start end items
-    → linked start (word_at (byte_at m) (link_at start start)) ≡ next_free (start + 16) items 0
+    → link_target start (word_at (byte_at m) (link_at start start)) ≡ next_free (start + 16) items 0
 first_link m start end items heap = rw (link_of-heap start, heap.first) (linked_to start (start + 16) items (omega arith))
 
 pub first_below : (m : AddressMap) (start end : ℕ) (items : List Item) → IsHeapIn (bytes_of m) start end items
@@ -78,7 +78,7 @@ pub record FitFacts (m : AddressMap) (start end from at total : ℕ) (rest : Lis
   pub facts : FreeFacts m start end at total rest
   pub last : LinkFacts start from at
   pub link : link_at start at ≡ at
-  pub onward : linked at (word_at (byte_at m) (link_at start at)) ≡ next_free (at + total) rest 0
+  pub onward : link_target at (word_at (byte_at m) (link_at start at)) ≡ next_free (at + total) rest 0
 
 pub fit_facts : (m : AddressMap) (start end n from at total : ℕ) → IsHeapAt m start end → (fit : IsFit start (items_at m start) n from at total)
     → FitFacts m start end from at total fit.rest
@@ -99,7 +99,7 @@ pub record MetFacts (m : AddressMap) (start end n from at probes : ℕ) : Type 0
   pub met : IsMet start (items_at m start) n from at probes
   pub facts : FreeFacts m start end at met.total met.rest
   pub link : link_at start at ≡ at
-  pub onward : linked at (word_at (byte_at m) (link_at start at)) ≡ next_free (at + met.total) met.rest 0
+  pub onward : link_target at (word_at (byte_at m) (link_at start at)) ≡ next_free (at + met.total) met.rest 0
   pub few : looked_at n (items_at m start) ≤ 2 ^ 26
   pub some : 1 ≤ looked_at n (Free met.total ∷ met.rest)
 

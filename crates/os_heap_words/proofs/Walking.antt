@@ -1,7 +1,7 @@
 -- A walk from item to item, with the free item that ends where it stands.
 use Rattle.std.proofs.Common.{◌+◌, ◌≡◌, ◌≤◌, ◌⊎◌, List, ℕ, ◌%◌, ◌^◌, subst, ◌++◌, arith, ◌∷◌, ◌∙◌, inr, inl, ap, [], ◌<◌, ◌≢◌, sym}
 use Rattle.address_map.specs.Bytes.{word_at}
-use Rattle.address_map.specs.Items.{size_of, linked}
+use Rattle.address_map.specs.Items.{size_of, link_target}
 use Rattle.address_map.specs.Memory.{byte_at, bytes_of}
 use Rattle.address_map.specs.declared.item.Item.{Item}
 use Rattle.address_map.specs.declared.item.Item.TheVariants.{Live, Free}
@@ -71,7 +71,7 @@ pub record AtFree (m : AddressMap) (start end block from at free gap probes : �
   pub walk : IsWalkedTo start (items_at m start) block before (Free total ∷ rest) from at free gap probes
   pub facts : FreeFacts m start end at total rest
   pub link : link_at start at ≡ at
-  pub onward : linked at (word_at (byte_at m) (link_at start at)) ≡ next_free (at + total) rest 0
+  pub onward : link_target at (word_at (byte_at m) (link_at start at)) ≡ next_free (at + total) rest 0
   pub few : begun_below block (start + 16) (items_at m start) ≤ 2 ^ 26
 
 -- or to a block

@@ -2,7 +2,7 @@
 use Rattle.std.specs.Prelude.{ℕ, ◌≡◌, ◌+◌, ◌<◌, ◌^◌, Bool, true, None, Option, MatchOption}
 use Rattle.address_map.specs.Items.{is_total}
 use Rattle.address_map.specs.declared.map.AddressMap.{AddressMap}
-use Rattle.os_heap_lists.specs.Lists.{released, resized_in_place}
+use Rattle.os_heap_lists.specs.Lists.{items_after_release, resized_in_place}
 use Rattle.os_heap_lists.specs.Walks.{IsBlock, IsLinked, IsWalked}
 use Rattle.os_heap_words.specs.Outcomes.{HasHeapAt, Refits, end_at, items_at}
 use Rattle.os_heap_words.specs.declared.walk.Cursor.{Cursor}
@@ -21,7 +21,8 @@ pub record IsAtBlock (m : AddressMap) (start here : ℕ) (c : Cursor) : Type 0 w
 
 -- what a walk to a block finds: a cursor at it, or that there is none
 abbrev pub FindsBlock : AddressMap → ℕ → ℕ → Option Cursor → Type 0
-FindsBlock m start block hit = MatchOption hit (released block (start + 16) (items_at m start) ≡ None)
+FindsBlock m start block hit = MatchOption hit (items_after_release block (start + 16) (items_at m start)
+    ≡ None)
     (λ c. IsBlock start (items_at m start) block c.from c.at c.free c.gap)
 
 -- a total that is asked for a block: a sum of two words at most, rounded up

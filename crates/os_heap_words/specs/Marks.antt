@@ -15,12 +15,12 @@ pub record SetsClasses (old new : AddressMap) (classes : ℕ → Class) : Type 0
   pub layout : layout new ≡ layout old
 
 -- the classes after the words of heaps among the `len` bytes from `at` on lost their marks
-abbrev pub unheaded : Class → Class
-unheaded class.Heap = class.Plain
-unheaded other = other
+abbrev pub class_without_head : Class → Class
+class_without_head class.Heap = class.Plain
+class_without_head other = other
 
 abbrev pub with_no_heads : ℕ → ℕ → (ℕ → Class) → ℕ → Class
-with_no_heads at len classes a = if in_range at len a then unheaded (classes a) else classes a
+with_no_heads at len classes a = if in_range at len a then class_without_head (classes a) else classes a
 
 -- the words of items lost their marks, and those of other items in their place got them
 pub record RemarksItems (old new : AddressMap) (at : ℕ) (olds news : List Item) : Type 0 where

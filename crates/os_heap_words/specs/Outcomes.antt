@@ -37,19 +37,23 @@ pub record CanStand (m : AddressMap) (at : ℕ) (items : List Item) : Type 0 whe
 pub record Becomes (old new : AddressMap) (start end : ℕ) (items : List Item) : Type 0 where
   pub heap : IsHeapIn (bytes_of new) start end items
   pub same : layout new ≡ layout old
-  pub others : (a : ℕ) → AreApart a 1 start 16 → IsOutside (start + 16) items a → byte_at new a ≡ byte_at old a
-  pub marks : AreMarked (class_of old) (start + 16) (items_at old start) → Remarks (class_of old) (class_of new) (start + 16) (items_at old start) items
+  pub others : (a : ℕ) → AreApart a 1 start 16 → IsOutside (start + 16) items a →
+      byte_at new a ≡ byte_at old a
+  pub marks : AreMarked (class_of old) (start + 16) (items_at old start) →
+      Remarks (class_of old) (class_of new) (start + 16) (items_at old start) items
 
 abbrev pub Claims : AddressMap → AddressMap → ℕ → ℕ → Result ℕ ErrorNumber → Option Claim → Type 0
 Claims old new start end answer None = (answer ≡ Err HeapNoRoom) × (new ≡ old)
-Claims old new start end answer (Some c) = (answer ≡ Ok (start + 16 + c.offset + 4)) × Becomes old new start end c.items
+Claims old new start end answer (Some c) = (answer ≡ Ok (start + 16 + c.offset + 4)) ×
+    Becomes old new start end c.items
 
 -- whether a claim finds room
 abbrev pub room_of : Option Claim → Result (Unit {0}) ErrorNumber
 room_of None = Err HeapNoRoom
 room_of (Some c) = Ok tt
 
-abbrev pub Releases : AddressMap → AddressMap → ℕ → ℕ → Result (Unit {0}) ErrorNumber → Option (List Item) → Type 0
+abbrev pub Releases : AddressMap → AddressMap → ℕ → ℕ → Result (Unit {0}) ErrorNumber → Option (List Item) →
+    Type 0
 Releases old new start end answer None = (answer ≡ Err HeapNotABlock) × (new ≡ old)
 Releases old new start end answer (Some items) = (answer ≡ Ok tt) × Becomes old new start end items
 

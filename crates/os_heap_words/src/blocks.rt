@@ -4,7 +4,7 @@ ghost use Rattle.std.specs.Prelude.{◌≡◌, ◌+◌, ◌≤◌, List};
 ghost use Rattle.std.specs.Iterator.{YieldsFirst, item_count};
 ghost use Rattle.address_map.specs.declared.item.Item.{Item};
 ghost use Rattle.address_map.specs.Memory.{bytes_of};
-ghost use Rattle.os_heap_lists.specs.Walks.{rest_from, IsRest};
+ghost use Rattle.os_heap_lists.specs.Walks.{rest_from, IsRestOfHeap};
 ghost use Rattle.os_heap_words.specs.Outcomes.{IsHeapAt, items_at};
 
 use crate::links::linked;
@@ -27,7 +27,7 @@ impl<'a> Model for Blocks<'a> {
 
     ghost view = { λ b. rest_from (bytes_of b.map.now) b.at b.free b.base };
 
-    ghost invariant = { λ b. IsRest (bytes_of b.map.now) b.at b.free b.base };
+    ghost invariant = { λ b. IsRestOfHeap (bytes_of b.map.now) b.at b.free b.base };
 }
 
 impl<'a> Iterator for Blocks<'a> {

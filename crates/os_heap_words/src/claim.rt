@@ -2,7 +2,7 @@
 
 ghost use Rattle.std.specs.Prelude.{◌≡◌, ◌≤◌, ◌-◌, ◌+◌, Ok, Some, None, MatchOption, nat_le, true};
 ghost use Rattle.address_map.specs.Items.{is_total, size_of};
-ghost use Rattle.os_heap_lists.specs.Lists.{total_for, first_fit, claimed, or_at_base};
+ghost use Rattle.os_heap_lists.specs.Lists.{total_for, first_fit, claim_in_items, or_at_base};
 ghost use Rattle.os_heap_lists.specs.Counts.{looked_at};
 ghost use Rattle.os_heap_words.specs.Cursors.{IsNewTotal};
 ghost use Rattle.os_heap_words.specs.Outcomes.{HasHeapAt, end_at, items_at, Claims, room_of};
@@ -65,7 +65,8 @@ fn take(map: &mut AddressMap, heap: u32, fit: &Fit, needed: u32) -> u32
     requires heap { HasHeapAt map.old heap }
     requires total { is_total needed ≡ true }
     requires fit { IsFit heap (items_at map.old heap) needed fit.now.from fit.now.at fit.now.total }
-    ensures { Claims map.old map.new heap (end_at map.old heap) (Ok result) (first_fit needed (items_at map.old heap)) }
+    ensures { Claims map.old map.new heap (end_at map.old heap) (Ok result)
+        (first_fit needed (items_at map.old heap)) }
 {
     let next = follow(map, heap, fit.at);
     let left = fit.total - needed;
@@ -112,11 +113,12 @@ fn fits_at_base(map: &AddressMap, heap: u32, needed: u64) -> bool
 
 /// Whether a claim of `needed` bytes would find room, and how many free items the search for it looks at. Nothing is
 /// changed.
-#[tactic(auto, unfolding(os_heap_lists::specs::Lists::claimed))]
+#[tactic(auto, unfolding(os_heap_lists::specs::Lists::claim_in_items))]
 pub fn find_room(map: &AddressMap, heap: u32, needed: u64) -> Counted<()>
     requires heap { HasHeapAt map.now heap }
     requires needed { IsNewTotal needed }
-    ensures answer { result.answer ≡ room_of (claimed needed (end_at map.now heap - 16) (items_at map.now heap)) }
+    ensures answer { result.answer ≡ room_of (claim_in_items needed (end_at map.now heap - 16)
+        (items_at map.now heap)) }
     ensures probes { result.probes ≡ looked_at needed (items_at map.now heap) }
 {
     let search = find_fit(map, heap, needed);
@@ -130,12 +132,12 @@ pub fn find_room(map: &AddressMap, heap: u32, needed: u64) -> Counted<()>
 }
 
 /// Claims a block of `needed` bytes in one heap, its length word among them.
-#[tactic(auto, unfolding(os_heap_lists::specs::Lists::claimed))]
+#[tactic(auto, unfolding(os_heap_lists::specs::Lists::claim_in_items))]
 pub fn claim_total(map: &mut AddressMap, heap: u32, needed: u64) -> Counted<u32>
     requires heap { HasHeapAt map.old heap }
     requires needed { IsNewTotal needed }
     ensures claim { Claims map.old map.new heap (end_at map.old heap) result.answer
-        (claimed needed (end_at map.old heap - 16) (items_at map.old heap)) }
+        (claim_in_items needed (end_at map.old heap - 16) (items_at map.old heap)) }
     ensures probes { result.probes ≡ looked_at needed (items_at map.old heap) }
 {
     let search = find_fit(map, heap, needed);

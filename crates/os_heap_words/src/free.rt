@@ -1,7 +1,7 @@
 //! A block of one heap that becomes free room.
 
 ghost use Rattle.std.specs.Prelude.{◌+◌, Ok};
-ghost use Rattle.os_heap_lists.specs.Lists.{released};
+ghost use Rattle.os_heap_lists.specs.Lists.{items_after_release};
 ghost use Rattle.os_heap_words.specs.Cursors.{IsAtBlock};
 ghost use Rattle.os_heap_words.specs.Outcomes.{end_at, items_at, Releases};
 
@@ -15,7 +15,7 @@ use address_map::{AddressMap, Item};
 pub fn give_back(map: &mut AddressMap, heap: u32, block: u32, cursor: &Cursor)
     requires { IsAtBlock map.old heap block cursor.now }
     ensures { Releases map.old map.new heap (end_at map.old heap) (Ok tt)
-        (released block (heap + 16) (items_at map.old heap)) }
+        (items_after_release block (heap + 16) (items_at map.old heap)) }
 {
     let base = heap + word(map, heap + BASE);
     let own = own_total(map, heap, block, cursor);

@@ -34,7 +34,8 @@ fn mark(map: &mut AddressMap, at: u32, is_head: bool)
 /// Marks the words of an item, or takes their marks away.
 pub fn mark_item(map: &mut AddressMap, at: u32, item: Item, is_head: bool)
     requires { CanStand map.old at (item ∷ []) }
-    ensures marks { (a : ℕ) → class_of map.new a ≡ with_item_marked at item (head_class is_head) (class_of map.old) a }
+    ensures marks { (a : ℕ) → class_of map.new a ≡ with_item_marked at item (head_class is_head)
+        (class_of map.old) a }
     ensures bytes { byte_at map.new ≡ byte_at map.old }
     ensures layout { layout map.new ≡ layout map.old }
 {
@@ -47,7 +48,8 @@ pub fn mark_item(map: &mut AddressMap, at: u32, item: Item, is_head: bool)
 /// Marks the words of items that lie one behind the other, or takes their marks away.
 fn mark_items(map: &mut AddressMap, at: u32, items: &[Item], is_head: bool)
     requires { CanStand map.old at items.now }
-    ensures { SetsClasses map.old map.new (with_items_marked at items.now (head_class is_head) (class_of map.old)) }
+    ensures { SetsClasses map.old map.new (with_items_marked at items.now (head_class is_head)
+        (class_of map.old)) }
 {
     let mut place = at;
     for item in items {
@@ -140,7 +142,8 @@ fn is_heap_class(class: Class) -> bool
 pub fn mark_descriptor(map: &mut AddressMap, heap: u32)
     requires aligned { heap % 4 ≡ 0 }
     requires mapped { AreMapped (is_mapped map.old) heap 16 }
-    ensures { SetsClasses map.old map.new (λ a. if in_range heap 16 (word_start a) then Heap else class_of map.old a) }
+    ensures { SetsClasses map.old map.new (λ a. if in_range heap 16 (word_start a) then Heap
+        else class_of map.old a) }
 {
     mark(map, heap, true);
     mark(map, heap + LINK, true);

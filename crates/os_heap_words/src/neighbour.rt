@@ -2,7 +2,7 @@
 
 ghost use Rattle.std.specs.Prelude.{◌≡◌, ◌≤◌, ◌+◌};
 ghost use Rattle.address_map.specs.Bytes.{word_at};
-ghost use Rattle.address_map.specs.Items.{linked};
+ghost use Rattle.address_map.specs.Items.{link_target};
 ghost use Rattle.address_map.specs.Memory.{byte_at};
 ghost use Rattle.os_heap_words.specs.Cursors.{IsAtBlock};
 ghost use Rattle.os_heap_words.specs.Outcomes.{end_at};
@@ -36,7 +36,8 @@ pub(crate) fn free_behind(map: &AddressMap, heap: u32, block: u32, cursor: &Curs
     requires place { IsAtBlock map.now heap block cursor.now }
     requires here { cursor.now.at + word_at (byte_at map.now) cursor.now.at ≡ cursor.now.free }
     ensures total { result.total ≡ word_at (byte_at map.now) (cursor.now.free + 4) }
-    ensures next { result.next ≡ linked cursor.now.free (word_at (byte_at map.now) (link_at heap cursor.now.free)) }
+    ensures next { result.next ≡ link_target cursor.now.free
+        (word_at (byte_at map.now) (link_at heap cursor.now.free)) }
     ensures inside { cursor.now.free + result.total ≤ heap + end_at map.now heap }
     ensures below { cursor.now.free + result.total ≤ 67108864 }
 {

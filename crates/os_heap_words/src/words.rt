@@ -2,9 +2,9 @@
 
 ghost use Rattle.std.specs.Prelude.{◌≡◌, ◌<◌, ◌+◌, ◌-◌, ◌%◌, ◌^◌, true};
 ghost use Rattle.address_map.specs.Bytes.{word_at};
-ghost use Rattle.address_map.specs.Items.{linked};
+ghost use Rattle.address_map.specs.Items.{link_target};
 ghost use Rattle.address_map.specs.Memory.{byte_at, is_mapped, layout, class_of};
-ghost use Rattle.os_heap_lists.specs.Words.{link_at, AreApart, IsWritten, IsFreed};
+ghost use Rattle.os_heap_lists.specs.Words.{link_at, AreApart, IsWordWritten, IsFreed};
 
 use crate::links::linked;
 use address_map::AddressMap;
@@ -29,7 +29,7 @@ pub fn word(map: &AddressMap, at: u32) -> u32
 pub fn put(map: &mut AddressMap, at: u32, word: u32)
     requires aligned { at % 4 ≡ 0 }
     requires mapped { is_mapped map.old at ≡ true }
-    ensures word { IsWritten (byte_at map.old) (byte_at map.new) at word }
+    ensures word { IsWordWritten (byte_at map.old) (byte_at map.new) at word }
     ensures layout { layout map.new ≡ layout map.old }
     ensures marks { class_of map.new ≡ class_of map.old }
 {
@@ -49,8 +49,8 @@ pub fn follow(map: &AddressMap, heap: u32, from: u32) -> u32
     requires below { from + 4 < 2 ^ 32 }
     requires aligned { link_at heap from % 4 ≡ 0 }
     requires mapped { is_mapped map.now (link_at heap from) ≡ true }
-    requires fits { linked from (word_at (byte_at map.now) (link_at heap from)) < 2 ^ 32 }
-    ensures { result ≡ linked from (word_at (byte_at map.now) (link_at heap from)) }
+    requires fits { link_target from (word_at (byte_at map.now) (link_at heap from)) < 2 ^ 32 }
+    ensures { result ≡ link_target from (word_at (byte_at map.now) (link_at heap from)) }
 {
     linked(from, word(map, link_at(heap, from)))
 }
@@ -60,7 +60,7 @@ pub fn put_link(map: &mut AddressMap, heap: u32, from: u32, next: u32)
     requires below { from + 4 < 2 ^ 32 }
     requires aligned { link_at heap from % 4 ≡ 0 }
     requires mapped { is_mapped map.old (link_at heap from) ≡ true }
-    ensures word { IsWritten (byte_at map.old) (byte_at map.new) (link_at heap from) (next - from) }
+    ensures word { IsWordWritten (byte_at map.old) (byte_at map.new) (link_at heap from) (next - from) }
     ensures layout { layout map.new ≡ layout map.old }
     ensures marks { class_of map.new ≡ class_of map.old }
 {

@@ -7,8 +7,8 @@ use Rattle.std.proofs.lemmas.Bool.{agree_below_at, eqb-true, ltb-true}
 use Rattle.std.proofs.lemmas.List.Folds.{list_all-append}
 use Rattle.profile.specs.Digits.{hex_digit}
 use Rattle.profile.proofs.OutputLemmas.{AddsAllBut-start, AddsAllBut-more, AddsAllBut-same, Appends-from_all_but}
-use Rattle.page_markup.specs.Escape.{are_bytes, escaped, escaped_byte, has_no_tag, hex_value, is_markup, mark}
-use Rattle.page_markup.specs.Escape.{reference, shown, shown_in}
+use Rattle.page_markup.specs.Escape.{are_bytes, escaped_bytes, escaped_byte, has_no_tag, hex_value, is_markup, mark}
+use Rattle.page_markup.specs.Escape.{reference, unescaped_bytes, shown_in}
 use Rattle.view_pictures.specs.Spelt.{is_shown}
 
 -- two digits have the byte's value
@@ -47,13 +47,13 @@ others_of_all : (p q : Bool) → (p && q) ≡ true → q ≡ true
 others_of_all true q e = e
 others_of_all false q e = absurd (cc)
 
-all_back : (bytes : List ℕ) (most : ℕ) → length bytes ≤ most → are_bytes bytes ≡ true → shown_in most (escaped bytes) ≡ bytes
+all_back : (bytes : List ℕ) (most : ℕ) → length bytes ≤ most → are_bytes bytes ≡ true → shown_in most (escaped_bytes bytes) ≡ bytes
 unfolding shown_in
 all_back [] zero within are = refl
 all_back [] (suc most) within are = refl
 all_back (b ∷ rest) zero within are = absurd (omega arith)
 all_back (b ∷ rest) (suc most) within are =
-    byte_back most b (escaped rest) (ltb-true b 256 (first_of_all (nat_lt b 256) (are_bytes rest) are))
+    byte_back most b (escaped_bytes rest) (ltb-true b 256 (first_of_all (nat_lt b 256) (are_bytes rest) are))
     ∙ ap (λ (xs : List ℕ). b ∷ xs) (all_back rest most (omega arith) (others_of_all (nat_lt b 256) (are_bytes rest) are))
 
 some_each : (b : ℕ) (m s : Bool) → 1 ≤ length (if m then reference b else (if s then b ∷ [] else mark b))
@@ -61,15 +61,15 @@ some_each b true s = omega arith
 some_each b false true = omega arith
 some_each b false false = omega arith
 
-not_shorter : (bytes : List ℕ) → length bytes ≤ length (escaped bytes)
+not_shorter : (bytes : List ℕ) → length bytes ≤ length (escaped_bytes bytes)
 not_shorter [] = omega arith
 not_shorter (b ∷ rest) =
-    omega (arith, length-append (escaped_byte b) (escaped rest), some_each b (is_markup b) (is_shown b), not_shorter rest)
+    omega (arith, length-append (escaped_byte b) (escaped_bytes rest), some_each b (is_markup b) (is_shown b), not_shorter rest)
 
 -- what stands in HTML is read back
-pub escaped_back : (bytes : List ℕ) → are_bytes bytes ≡ true → shown (escaped bytes) ≡ bytes
-unfolding shown
-escaped_back bytes are = all_back bytes (length (escaped bytes)) (not_shorter bytes) are
+pub escaped_back : (bytes : List ℕ) → are_bytes bytes ≡ true → unescaped_bytes (escaped_bytes bytes) ≡ bytes
+unfolding unescaped_bytes
+escaped_back bytes are = all_back bytes (length (escaped_bytes bytes)) (not_shorter bytes) are
 
 byte_has_no_tag : (b : ℕ) → b < 256 → has_no_tag (escaped_byte b) ≡ true
 byte_has_no_tag b below = agree_below_at (λ c. has_no_tag (escaped_byte c)) (λ _. true) 256 b refl below
@@ -78,11 +78,11 @@ both_true : (p q : Bool) → p ≡ true → q ≡ true → (p && q) ≡ true
 both_true p q is and = rw (is, and) refl
 
 -- no tag of a script's own stands there
-pub escaped_has_no_tag : (bytes : List ℕ) → are_bytes bytes ≡ true → has_no_tag (escaped bytes) ≡ true
+pub escaped_has_no_tag : (bytes : List ℕ) → are_bytes bytes ≡ true → has_no_tag (escaped_bytes bytes) ≡ true
 escaped_has_no_tag [] are = refl
 escaped_has_no_tag (b ∷ rest) are =
-    list_all-append (λ (c : ℕ). not (c == 60)) (escaped_byte b) (escaped rest)
-    ∙ both_true (has_no_tag (escaped_byte b)) (has_no_tag (escaped rest))
+    list_all-append (λ (c : ℕ). not (c == 60)) (escaped_byte b) (escaped_bytes rest)
+    ∙ both_true (has_no_tag (escaped_byte b)) (has_no_tag (escaped_bytes rest))
     (byte_has_no_tag b (ltb-true b 256 (first_of_all (nat_lt b 256) (are_bytes rest) are)))
     (escaped_has_no_tag rest (others_of_all (nat_lt b 256) (are_bytes rest) are))
 

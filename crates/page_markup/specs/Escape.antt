@@ -19,10 +19,11 @@ mark byte = 38 ∷ 108 ∷ 97 ∷ 110 ∷ 103 ∷ 59 ∷ hex_digit (byte / 16) �
     ∷ 38 ∷ 114 ∷ 97 ∷ 110 ∷ 103 ∷ 59 ∷ []
 
 abbrev pub escaped_byte : ℕ → List ℕ
-escaped_byte byte = if is_markup byte then reference byte else (if is_shown byte then byte ∷ [] else mark byte)
+escaped_byte byte = if is_markup byte then reference byte
+    else (if is_shown byte then byte ∷ [] else mark byte)
 
-abbrev pub escaped : List ℕ → List ℕ
-escaped bytes = flat_map escaped_byte bytes
+abbrev pub escaped_bytes : List ℕ → List ℕ
+escaped_bytes bytes = flat_map escaped_byte bytes
 
 -- no `<` stands there
 abbrev pub has_no_tag : List ℕ → Bool
@@ -32,13 +33,14 @@ has_no_tag text = list_all (λ c. not (c == 60)) text
 abbrev pub hex_value : ℕ → ℕ
 hex_value digit = if nat_lt digit 58 then digit - 48 else digit - 55
 
-abbrev pub first_of : List ℕ → ℕ
-first_of [] = 0
-first_of (c ∷ rest) = c
+abbrev pub first_byte : List ℕ → ℕ
+first_byte [] = 0
+first_byte (c ∷ rest) = c
 
 -- the byte whose two digits stand that far on
-abbrev pub byte_at : ℕ → List ℕ → ℕ
-byte_at place text = 16 * hex_value (first_of (drop place text)) + hex_value (first_of (drop (place + 1) text))
+abbrev pub byte_of_digits_at : ℕ → List ℕ → ℕ
+byte_of_digits_at place text = 16 * hex_value (first_byte (drop place text)) + hex_value
+    (first_byte (drop (place + 1) text))
 
 -- The bytes that a text of so many characters at most shows, where every `&` begins a reference by
 -- a number or a mark.
@@ -47,12 +49,12 @@ shown_in zero text = []
 shown_in (suc most) [] = []
 shown_in (suc most) (c ∷ rest) =
     if c == 38 then (
-    if first_of rest == 35 then byte_at 2 rest ∷ shown_in most (drop 5 rest) else
-    byte_at 5 rest ∷ shown_in most (drop 13 rest))
+    if first_byte rest == 35 then byte_of_digits_at 2 rest ∷ shown_in most (drop 5 rest) else
+    byte_of_digits_at 5 rest ∷ shown_in most (drop 13 rest))
     else c ∷ shown_in most rest
 
-unfoldable pub shown : List ℕ → List ℕ
-shown text = shown_in (length text) text
+unfoldable pub unescaped_bytes : List ℕ → List ℕ
+unescaped_bytes text = shown_in (length text) text
 
 -- numbers that bytes can be
 abbrev pub are_bytes : List ℕ → Bool

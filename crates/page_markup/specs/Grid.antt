@@ -16,7 +16,8 @@ change_of_cell false left top = []
 
 abbrev pub shown_svg : GridRow → ℕ → List ℕ → List ℕ
 shown_svg r number byte =
-    rectangle (cell_class byte) (74 + 19 * number) r.top 19 24 ++ (svg_text (codes "byte") (74 + 19 * number + 9) (r.top + 16) byte
+    rectangle (cell_class byte) (74 + 19 * number) r.top 19 24
+    ++ (svg_text (codes "byte") (74 + 19 * number + 9) (r.top + 16) byte
     ++ change_of_cell (is_changed number r) (74 + 19 * number) r.top)
 
 abbrev pub cell_by : GridRow → ℕ → Option (List ℕ) → List ℕ

@@ -5,8 +5,8 @@ use Rattle.std.specs.Fmt.{decimal}
 use Rattle.profile.specs.Digits.{hex_word}
 use Rattle.view_pictures.specs.Layout.{has_second_line, kind_word}
 use Rattle.page_markup.specs.Markup.{rectangle, svg_text, text_opening}
-use Rattle.view_pictures.specs.declared.boxes.Kind.{Kind}
-use Rattle.view_pictures.specs.declared.boxes.Kind.TheVariants as kind
+use Rattle.view_pictures.specs.declared.boxes.BoxKind.{BoxKind}
+use Rattle.view_pictures.specs.declared.boxes.BoxKind.TheVariants as kind
 use Rattle.view_pictures.specs.declared.boxes.PictureBox.{PictureBox}
 use Rattle.view_pictures.specs.declared.layout.Drawn.{Drawn}
 use Rattle.view_pictures.specs.declared.layout.Layout.{Layout}
@@ -20,7 +20,7 @@ abbrev pub address_svg : ℕ → ℕ → List ℕ
 address_svg address base = svg_text (codes "address") 68 base (hex_word address)
 
 -- the page pool is at no address
-abbrev pub box_address_by : Kind → ℕ → ℕ → List ℕ
+abbrev pub box_address_by : BoxKind → ℕ → ℕ → List ℕ
 box_address_by kind.Pool address base = []
 box_address_by other address base = address_svg address base
 
@@ -28,8 +28,8 @@ abbrev pub box_address : PictureBox → ℕ → List ℕ
 box_address b base = box_address_by b.kind b.address base
 
 -- the base line of its first words
-abbrev pub base_of : Drawn → ℕ
-base_of d = d.top + (if has_second_line d.own.kind then (d.height - 8) / 2 else (d.height + 8) / 2)
+abbrev pub base_line_of : Drawn → ℕ
+base_line_of d = d.top + (if has_second_line d.own.kind then (d.height - 8) / 2 else (d.height + 8) / 2)
 
 abbrev pub size_svg : ℕ → ℕ → List ℕ
 size_svg size base = text_opening (codes "size") 168 base ++ (decimal size ++ codes " bytes</text>")
@@ -51,23 +51,26 @@ name_line left name base = svg_text (codes "size") left base name
 
 -- the anchor of a flex block, the name of an area or a module, or what a private word has and whose
 -- it is
-abbrev pub second_line : Kind → PictureBox → ℕ → List ℕ
+abbrev pub second_line : BoxKind → PictureBox → ℕ → List ℕ
 second_line kind.Block b base = block_line b.detail b.holder base
 second_line kind.Area b base = name_line 82 (take 28 b.name.now) base
 second_line kind.Module b base = name_line 82 (take 28 b.name.now) base
-second_line kind.Word b base = name_line 82 (hex_word b.detail) base ++ name_line 168 (take 16 b.name.now) base
+second_line kind.Word b base = name_line 82 (hex_word b.detail) base
+    ++ name_line 168 (take 16 b.name.now) base
 second_line other b base = []
 
 abbrev pub words_svg : Drawn → List ℕ
 words_svg d =
-    svg_text (codes "word") 82 (base_of d) (kind_word d.own.kind) ++ (size_svg d.own.size (base_of d)
-    ++ second_line d.own.kind d.own (base_of d + 16))
+    svg_text (codes "word") 82 (base_line_of d) (kind_word d.own.kind)
+    ++ (size_svg d.own.size (base_line_of d)
+    ++ second_line d.own.kind d.own (base_line_of d + 16))
 
 -- a second edge, and a word beside it
 abbrev pub change_svg : Drawn → List ℕ
 change_svg d =
     if length d.change.now == 0 then [] else
-    rectangle (codes "change") 76 (d.top + 2) 224 (d.height - 4) ++ svg_text (codes "change") 308 (base_of d) d.change.now
+    rectangle (codes "change") 76 (d.top + 2) 224 (d.height - 4)
+    ++ svg_text (codes "change") 308 (base_line_of d) d.change.now
 
 -- the arrow of the free chain that leads to it
 abbrev pub link_svg : Option ℕ → ℕ → List ℕ
@@ -78,7 +81,8 @@ link_svg (Some from) middle =
 
 -- a box, its address and its words
 abbrev pub box_itself : Drawn → List ℕ
-box_itself d = rectangle (kind_word d.own.kind) 74 d.top 228 d.height ++ (box_address d.own (d.top + 12) ++ words_svg d)
+box_itself d = rectangle (kind_word d.own.kind) 74 d.top 228 d.height
+    ++ (box_address d.own (d.top + 12) ++ words_svg d)
 
 abbrev pub box_svg : Drawn → List ℕ
 box_svg d = box_itself d ++ (change_svg d ++ (link_svg d.link (d.top + d.height / 2) ++ codes "\n"))
@@ -89,5 +93,6 @@ end_svg (Some end) base = address_svg end base
 
 abbrev pub stack_svg : Layout → List ℕ
 stack_svg layout =
-    svg_head (layout.bottom + 32) ++ (flat_map box_svg layout.boxes.items ++ (end_svg layout.end (layout.bottom + 12)
+    svg_head (layout.bottom + 32) ++ (flat_map box_svg layout.boxes.items
+    ++ (end_svg layout.end (layout.bottom + 12)
     ++ codes "</svg>"))

@@ -2,7 +2,7 @@
 
 ghost use Rattle.std.specs.Prelude.{◌≡◌, true};
 ghost use Rattle.profile.specs.Output.{Writes};
-ghost use Rattle.page_markup.specs.Escape.{are_bytes, escaped, escaped_byte, has_no_tag, shown};
+ghost use Rattle.page_markup.specs.Escape.{are_bytes, escaped_bytes, escaped_byte, has_no_tag, unescaped_bytes};
 
 use profile::{Sink, WriteFault, push_all};
 use view_pictures::digit;
@@ -12,9 +12,9 @@ use view_pictures::digit;
 /// hexadecimal between `⟨` and `⟩`. Line feeds stay.
 #[tactic(auto, using(crate::proofs::EscapeLemmas::escape_steps))]
 pub fn push_escaped<W: Sink>(sink: &mut W, bytes: &[u8]) -> Result<(), WriteFault>
-    ensures writes { Writes W.contents W.has_failed sink.old sink.new result (escaped bytes.now) }
-    ensures no_tag { are_bytes bytes.now ≡ true → has_no_tag (escaped bytes.now) ≡ true }
-    ensures back { are_bytes bytes.now ≡ true → shown (escaped bytes.now) ≡ bytes.now }
+    ensures writes { Writes W.contents W.has_failed sink.old sink.new result (escaped_bytes bytes.now) }
+    ensures no_tag { are_bytes bytes.now ≡ true → has_no_tag (escaped_bytes bytes.now) ≡ true }
+    ensures back { are_bytes bytes.now ≡ true → unescaped_bytes (escaped_bytes bytes.now) ≡ bytes.now }
 {
     for byte in bytes {
         push_byte(sink, *byte)?;

@@ -85,7 +85,8 @@ pub fn push_text<W: Sink>(
     base: u64,
     text: &[u8],
 ) -> Result<(), WriteFault>
-    ensures { Writes W.contents W.has_failed sink.old sink.new result (svg_text class.now left base text.now) }
+    ensures { Writes W.contents W.has_failed sink.old sink.new result
+        (svg_text class.now left base text.now) }
 {
     open_text(sink, class, left, base)?;
     push_escaped(sink, text)?;

@@ -5,14 +5,14 @@ ghost use Rattle.std.specs.Prelude.{◌≡◌, ◌<◌, ◌^◌, take};
 ghost use Rattle.profile.specs.Digits.{hex_word};
 ghost use Rattle.profile.specs.Output.{Writes};
 ghost use Rattle.std.specs.List.{flat_map};
-ghost use Rattle.page_markup.specs.Svg.{address_svg, anchor_words, base_of, block_line, box_address, box_itself, box_svg, change_svg};
+ghost use Rattle.page_markup.specs.Svg.{address_svg, anchor_words, base_line_of, block_line, box_address, box_itself, box_svg, change_svg};
 ghost use Rattle.page_markup.specs.Svg.{end_svg, holder_words, link_svg, name_line, second_line, size_svg, stack_svg};
 ghost use Rattle.page_markup.specs.Svg.{svg_head, words_svg};
 
 use crate::markup::{open_text, push_decimal, push_rectangle, push_text};
 use itoa::Buffer;
 use profile::{HexText, Sink, WriteFault, push_all, push_parts};
-use view_pictures::{Drawn, Kind, Layout, PictureBox};
+use view_pictures::{BoxKind, Drawn, Layout, PictureBox};
 
 // The right edge of the addresses, and the left one of the boxes and of what stands in and beside
 // them.
@@ -120,14 +120,14 @@ fn push_box_address<W: Sink>(
     ensures { Writes W.contents W.has_failed sink.old sink.new result (box_address own.now base) }
 {
     match own.kind {
-        Kind::Pool => Ok(()),
+        BoxKind::Pool => Ok(()),
         _ => push_address(sink, own.address, base),
     }
 }
 
 // The base line of the first words.
 fn base_of(drawn: &Drawn<'_>) -> u64
-    ensures value { result ≡ base_of drawn.now }
+    ensures value { result ≡ base_line_of drawn.now }
     ensures small { result < 2 ^ 34 }
 {
     let height = u64::from(drawn.height);
@@ -163,15 +163,16 @@ fn push_second_line<W: Sink>(
     own: &PictureBox<'_>,
     base: u64,
 ) -> Result<(), WriteFault>
-    ensures { Writes W.contents W.has_failed sink.old sink.new result (second_line own.now.kind own.now base) }
+    ensures { Writes W.contents W.has_failed sink.old sink.new result
+        (second_line own.now.kind own.now base) }
 {
     match own.kind {
-        Kind::Block => push_block_line(sink, own.detail, own.holder, base),
-        Kind::Word => {
+        BoxKind::Block => push_block_line(sink, own.detail, own.holder, base),
+        BoxKind::Word => {
             push_name(sink, WORD_LEFT, HexText::word(own.detail).as_slice(), base)?;
             push_name(sink, SIZE_LEFT, front_of(own.name, SHORT_NAME), base)
         }
-        Kind::Area | Kind::Module => {
+        BoxKind::Area | BoxKind::Module => {
             push_name(sink, WORD_LEFT, front_of(own.name, LONG_NAME), base)
         }
         _ => Ok(()),

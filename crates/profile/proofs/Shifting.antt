@@ -7,7 +7,7 @@ use Rattle.std.proofs.lemmas.Int.{to_z_pos}
 use Rattle.std.proofs.lemmas.Bool.{le-ltb}
 use Rattle.std.proofs.Math.Nat.{mul-mod_left, div-eq_of_lt, pow-le-pow_right}
 use Rattle.profile.specs.Shift.{rotated_right}
-use Rattle.profile.specs.Sums.{signed}
+use Rattle.profile.specs.Sums.{signed_value_of}
 
 -- what a shift to the left by n pushes out at the top
 pub lost_left : (x n : ℕ) → n ≤ 32 → x * 2 ^ n / 2 ^ 32 ≡ x / 2 ^ (32 - n)
@@ -47,10 +47,10 @@ gone_word x n h g = gone_right x n 32 h g
 pub clear_right : (x n : ℕ) → x < 2 ^ 32 → 33 ≤ n → x / 2 ^ (n - 1) % 2 ≡ 0
 clear_right x n h g = let k : 32 ≤ n - 1 = omega arith in ap (λ y. y % 2) (gone_right x (n - 1) 32 h k)
 
-pub gone_positive : (x n : ℕ) → x < 2 ^ 31 → 32 ≤ n → cast_unsigned w32 (int_shr (signed x) n) ≡ 0
+pub gone_positive : (x n : ℕ) → x < 2 ^ 31 → 32 ≤ n → cast_unsigned w32 (int_shr (signed_value_of x) n) ≡ 0
 gone_positive x n h g = let k : 31 ≤ n = omega arith in rw (to_z_pos w32 x h) (gone_right x n 31 h k)
 
-pub gone_negative : (x n : ℕ) → 2 ^ 31 ≤ x → x < 2 ^ 32 → 32 ≤ n → cast_unsigned w32 (int_shr (signed x) n) ≡ 2 ^ 32 - 1
+pub gone_negative : (x n : ℕ) → 2 ^ 31 ≤ x → x < 2 ^ 32 → 32 ≤ n → cast_unsigned w32 (int_shr (signed_value_of x) n) ≡ 2 ^ 32 - 1
 gone_negative x n g h k =
     let small : 2 ^ 32 - suc x < 2 ^ 31 = omega arith in
     let most : 31 ≤ n = omega arith in

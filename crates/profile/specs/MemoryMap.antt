@@ -36,15 +36,15 @@ abbrev pub supervisor_stack_end : ℕ
 supervisor_stack_end = 0x1C02000
 
 -- a private word for each of the 64 slots of module instances
-abbrev pub private_words : ℕ
-private_words = 0x1C02000
+abbrev pub private_words_start : ℕ
+private_words_start = 0x1C02000
 
 -- an error's number and its text
-abbrev pub error_block : ℕ
-error_block = 0x1C02100
+abbrev pub error_block_start : ℕ
+error_block_start = 0x1C02100
 
-abbrev pub environment_text : ℕ
-environment_text = 0x1C02200
+abbrev pub environment_text_start : ℕ
+environment_text_start = 0x1C02200
 
 -- the window of the created areas
 abbrev pub area_window_start : ℕ

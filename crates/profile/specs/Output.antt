@@ -26,7 +26,8 @@ pub record AddsPart (old new : Option (List ℕ)) (all : List ℕ) : Type 0 wher
 
 -- What a call that writes a text does to its sink: all of the text is appended and the flag is as
 -- it was, or the call fails and the flag is up.
-pub record Writes {S A E : Type 0} (contents : S → Option (List ℕ)) (has_failed : S → Bool) (old new : S) (result : Result A E) (all : List ℕ) : Type 0 where
+pub record Writes {S A E : Type 0} (contents : S → Option (List ℕ)) (has_failed : S → Bool) (old new : S)
+    (result : Result A E) (all : List ℕ) : Type 0 where
   pub text : OnOk result (Appends (contents old) (contents new) all)
   pub flag : OnErr result (has_failed new ≡ true)
   pub same_flag : OnOk result (has_failed new ≡ has_failed old)

@@ -5,7 +5,7 @@
 use Rattle.std.specs.Prelude.{ℕ, Bool, ◌+◌, ◌-◌, ◌*◌, ◌/◌, ◌%◌, ◌^◌, min}
 use Rattle.std.specs.Int.{cast_unsigned, int_shr, from_bool, w32}
 use Rattle.profile.specs.Word.{bit_of}
-use Rattle.profile.specs.Sums.{signed}
+use Rattle.profile.specs.Sums.{signed_value_of}
 use Rattle.profile.specs.declared.shift.Shifted.{Shifted}
 
 abbrev pub shifted_left : ℕ → ℕ → Shifted
@@ -16,13 +16,16 @@ shifted_right x n = record { value = x / 2 ^ n; carry = bit_of x (n - 1) }
 
 -- the sign fills the top; past 32 every bit that falls out is the sign
 abbrev pub shifted_signed : ℕ → ℕ → Shifted
-shifted_signed x n = record { value = cast_unsigned w32 (int_shr (signed x) n); carry = bit_of x (min n 32 - 1) }
+shifted_signed x n = record {
+  value = cast_unsigned w32 (int_shr (signed_value_of x) n);
+  carry = bit_of x (min n 32 - 1);
+}
 
 abbrev pub rotated_right : ℕ → ℕ → ℕ
 rotated_right x n = x / 2 ^ (n % 32) + x % 2 ^ (n % 32) * 2 ^ (32 - n % 32)
 
-abbrev pub rotated : ℕ → ℕ → Shifted
-rotated x n = record { value = rotated_right x n; carry = bit_of (rotated_right x n) 31 }
+abbrev pub rotation_of : ℕ → ℕ → Shifted
+rotation_of x n = record { value = rotated_right x n; carry = bit_of (rotated_right x n) 31 }
 
 -- one place to the right with the carry going in at the top (RRX)
 abbrev pub rotated_through : ℕ → Bool → Shifted

@@ -19,4 +19,5 @@ are_good pages app rma = nat_le 1 app && nat_le 1 rma && nat_le pages 1024 && na
 
 -- `Config::new`: the three numbers where a machine can have them.
 abbrev pub config_of : ℕ → ℕ → ℕ → Option Sizes
-config_of pages app rma = if are_good pages app rma then Some (record { pages = pages; app = app; rma = rma }) else None
+config_of pages app rma = if are_good pages app rma then Some (record { pages = pages; app = app; rma = rma })
+    else None

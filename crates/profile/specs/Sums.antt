@@ -6,8 +6,8 @@ use Rattle.std.specs.Int.{cast_signed, from_bool, w32}
 use Rattle.profile.specs.declared.word.Sum.{Sum}
 
 -- the number that a word stands for in two's complement
-abbrev pub signed : ℕ → ℤ
-signed word = cast_signed w32 word
+abbrev pub signed_value_of : ℕ → ℤ
+signed_value_of word = cast_signed w32 word
 
 abbrev pub is_signed_word : ℤ → Bool
 is_signed_word z = int_le (negsuc (2 ^ 31 - 1)) z && int_le z (pos (2 ^ 31 - 1))
@@ -17,7 +17,7 @@ abbrev pub sum_of : ℕ → ℕ → Bool → Sum
 sum_of x y c = record {
   value = (x + y + from_bool c) % 2 ^ 32;
   carry = nat_le (2 ^ 32) (x + y + from_bool c);
-  overflow = not (is_signed_word (signed x +ℤ signed y +ℤ pos (from_bool c)));
+  overflow = not (is_signed_word (signed_value_of x +ℤ signed_value_of y +ℤ pos (from_bool c)));
 }
 
 -- left - right - 1 + carry; the carry of a difference means that nothing was borrowed
@@ -25,5 +25,5 @@ abbrev pub difference_of : ℕ → ℕ → Bool → Sum
 difference_of x y c = record {
   value = (2 ^ 32 + x + from_bool c - (y + 1)) % 2 ^ 32;
   carry = nat_le (y + 1) (x + from_bool c);
-  overflow = not (is_signed_word (signed x -ℤ signed y -ℤ pos 1 +ℤ pos (from_bool c)));
+  overflow = not (is_signed_word (signed_value_of x -ℤ signed_value_of y -ℤ pos 1 +ℤ pos (from_bool c)));
 }

@@ -67,7 +67,8 @@ impl<T: Write + Drop> Device<BufWriter<T>> {
     ///
     /// `WriteFault` where this fails, or a call before it did.
     pub fn unbuffered(self) -> Result<Device<T>, WriteFault>
-        ensures bytes { IfOk result (λ below. Keeps (writer_contents T.contents (device_inner self)) (T.contents (device_inner below))) }
+        ensures bytes { IfOk result (λ below. Keeps (writer_contents T.contents (device_inner self))
+            (T.contents (device_inner below))) }
         ensures flag { IfOk result (λ below. device_failed below ≡ false) }
         ensures failed { device_failed self ≡ true → is_err result ≡ true }
     {

@@ -1,7 +1,7 @@
 //! Shifts of words by every amount, with the bit that is shifted out.
 
 ghost use Rattle.std.specs.Prelude.{◌≡◌, ◌≤◌, ◌<◌, ◌^◌};
-ghost use Rattle.profile.specs.Shift.{shifted_left, shifted_right, shifted_signed, rotated_right, rotated, rotated_through};
+ghost use Rattle.profile.specs.Shift.{shifted_left, shifted_right, shifted_signed, rotated_right, rotation_of, rotated_through};
 
 use crate::word::is_bit_set;
 
@@ -93,7 +93,7 @@ pub fn rotate_right(word: u32, amount: u32) -> u32
 /// A rotation to the right (ROR) by any amount. The carry is the top bit of what comes out, which
 /// for an amount of at least 1 was the last to be rotated out.
 pub fn rotate(word: u32, amount: u32) -> Shifted
-    ensures { result ≡ rotated word amount }
+    ensures { result ≡ rotation_of word amount }
 {
     let value = rotate_right(word, amount);
     Shifted {

@@ -4,7 +4,7 @@ ghost use Rattle.std.specs.Prelude.{◌≡◌, ◌≤◌, ◌<◌, ◌-◌, ℕ,
 ghost use Rattle.std.specs.List.{flat_map};
 ghost use Rattle.std.specs.Io.KnownBytes.{Appends, WriteAppends};
 ghost use Rattle.profile.specs.Output.{AddsPart};
-ghost use Rattle.profile.specs.MemoryDevices.{SinkState, can_push, pushed, push_count};
+ghost use Rattle.profile.specs.MemoryDevices.{SinkState, can_push, sink_after_push, push_count};
 
 use crate::device::{Device, is_passing};
 use std::error::Error;
@@ -143,7 +143,7 @@ impl<'a> Sink for MemorySink<'a> {
         ensures stays { self.old.has_failed ≡ true → self.new.has_failed ≡ true }
         ensures fails { is_err result ≡ not (can_push self.old) }
         ensures taken { IfOk result (λ n. n ≡ push_count self.old (length bytes.now)) }
-        ensures after { self.new ≡ pushed self.old bytes.now }
+        ensures after { self.new ≡ sink_after_push self.old bytes.now }
     {
         if self.has_failed || self.calls == 0 || self.used == self.room.len() {
             self.has_failed = true;
@@ -177,7 +177,8 @@ pub fn push_all<W: Sink>(sink: &mut W, bytes: &[u8]) -> Result<(), WriteFault>
 /// Writes the parts one after another, as `push_all` writes their text.
 #[tactic(auto, using(crate::proofs::OutputLemmas::output_steps))]
 pub fn push_parts<W: Sink>(sink: &mut W, parts: &[&[u8]]) -> Result<(), WriteFault>
-    ensures text { OnOk result (Appends (W.contents sink.old) (W.contents sink.new) (flat_map (λ p. p.now) parts.now)) }
+    ensures text { OnOk result (Appends (W.contents sink.old) (W.contents sink.new)
+        (flat_map (λ p. p.now) parts.now)) }
     ensures part { OnErr result
         (AddsPart (W.contents sink.old) (W.contents sink.new) (flat_map (λ p. p.now) parts.now)) }
     ensures flag { OnErr result (W.has_failed sink.new ≡ true) }

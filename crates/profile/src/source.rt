@@ -3,7 +3,7 @@
 ghost use Rattle.std.specs.Prelude.{◌≡◌, ◌≤◌, ◌<◌, ◌-◌, ℕ, Bool, true, false, not, List, length, codes, Option, Some, None, IfOk, is_err};
 ghost use Rattle.std.specs.Io.KnownBytes.{ReadConsumes};
 ghost use Rattle.profile.specs.Pulls.{PullsOnce};
-ghost use Rattle.profile.specs.MemoryDevices.{SourceState, can_pull, pulled, pull_count, filled};
+ghost use Rattle.profile.specs.MemoryDevices.{SourceState, can_pull, source_after_pull, pull_count, buffer_after_pull};
 
 use crate::device::{Device, is_passing};
 use std::error::Error;
@@ -97,7 +97,12 @@ impl<'a> MemorySource<'a> {
     pub fn new(bytes: &'a [u8], most: usize, fails_from: u64) -> MemorySource<'a>
         requires some { 0 < most }
         requires first { 0 < fails_from }
-        ensures { result ≡ record { bytes = bytes.now; most = most; calls = fails_from - 1; has_failed = false } }
+        ensures { result ≡ record {
+          bytes = bytes.now;
+          most = most;
+          calls = fails_from - 1;
+          has_failed = false;
+        } }
     {
         MemorySource {
             bytes,
@@ -121,8 +126,8 @@ impl<'a> Source for MemorySource<'a> {
         ensures stays { self.old.has_failed ≡ true → self.new.has_failed ≡ true }
         ensures fails { is_err result ≡ not (can_pull self.old) }
         ensures taken { IfOk result (λ n. n ≡ pull_count self.old (length buffer.old)) }
-        ensures after { self.new ≡ pulled self.old (length buffer.old) }
-        ensures filled { buffer.new ≡ filled self.old buffer.old }
+        ensures after { self.new ≡ source_after_pull self.old (length buffer.old) }
+        ensures filled { buffer.new ≡ buffer_after_pull self.old buffer.old }
     {
         if self.has_failed || self.calls == 0 {
             self.has_failed = true;

@@ -19,11 +19,11 @@ use denote.Memory.{part_at, mem, shared_of}
 use denote.Plain.{uint_out}
 use denote.Slice.{elements_shared}
 use denote.Steps.{nothing}
-use Rattle.raw_store.specs.Ownership.{bytes_type, bytes_at}
+use Rattle.raw_store.specs.Ownership.{bytes_type, owns_bytes_at}
 
 module _ {M : Type 1} {𝓤 : Ura M} (𝓛 : Logic 𝓤) (b : ℕ) where
   abbrev Row : ℕ → List ℕ → Fml
-  Row = bytes_at b
+  Row = owns_bytes_at b
 
   pub cut : (xs ys : List ℕ) (o at : ℕ) → at ≡ length xs + o → ent 𝓤 (sem 𝓛 (Row o (xs ++ ys))) (sep 𝓤 (sem 𝓛 (Row o xs)) (sem 𝓛 (Row at ys)))
   cut [] ys o at e = qed 𝓛 (‵ (Row o ys) ∷ []) ∵ rewrite ! 0 (λ (k : ℕ). ‵ (Row k ys)) {x = at} (omega arith) refl $ nothing ! $ done !

@@ -15,9 +15,9 @@ abbrev pub bytes_type : ℕ → Ty
 bytes_type n = ty_array (ty_int w8) n
 
 -- the bytes `items`, side by side
-abbrev pub bytes_at : ℕ → ℕ → List ℕ → Fml
-bytes_at b o [] = ftrue
-bytes_at b o (x ∷ xs) = fsep (part_at u8 full_share x b o) (bytes_at b (o + 1) xs)
+abbrev pub owns_bytes_at : ℕ → ℕ → List ℕ → Fml
+owns_bytes_at b o [] = ftrue
+owns_bytes_at b o (x ∷ xs) = fsep (part_at u8 full_share x b o) (owns_bytes_at b (o + 1) xs)
 
 -- they take fewer than 2 ^ 63 bytes, with the `spare` bytes after them
 abbrev pub fit : List ℕ → ℕ → Fml
@@ -26,7 +26,8 @@ fit items spare = flt (length items + spare) (2 ^ 63)
 -- the bytes `items` from the pointer on, and after them room for `spare` more, which nothing was
 -- written to
 abbrev pub block_owns : Ptr → List ℕ → ℕ → Fml
-block_owns (block_ptr b o) items spare = fsep (fit items spare) (fsep (bytes_at b o items) (froom (bytes_type spare) b (length items + o)))
+block_owns (block_ptr b o) items spare = fsep (fit items spare)
+    (fsep (owns_bytes_at b o items) (froom (bytes_type spare) b (length items + o)))
 block_owns null_ptr items spare = ffalse
 
 -- what the holder of a `&` to the owner may read

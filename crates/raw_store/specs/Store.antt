@@ -8,4 +8,5 @@ use Rattle.raw_store.specs.declared.block.Deed.{Deed}
 -- were written
 abbrev pub IsStore : Base → ℕ → Bytes → Deed → ℕ → Type 0
 IsStore base len bytes deed room =
-    (base.ptr ≡ bytes.at) × (length bytes.items ≡ len) × (length bytes.items + bytes.spare ≡ room) × (deed.right.at ≡ base.ptr) × (deed.right.len ≡ room)
+    (base.ptr ≡ bytes.at) × (length bytes.items ≡ len) × (length bytes.items + bytes.spare ≡ room) ×
+    (deed.right.at ≡ base.ptr) × (deed.right.len ≡ room)

@@ -68,7 +68,8 @@ pub struct Deed {
 /// A block of `len` bytes, to none of which anything was written.
 pub(crate) fn allocate(alloc: Global, len: usize) -> Result<(Base, Bytes, Deed), AllocError>
     requires { len < 2 ^ 63 }
-    ensures { IfOk result (λ r. (r.1.at ≡ r.0.ptr) × (r.1.items ≡ []) × (r.1.spare ≡ len) × (r.2.right.at ≡ r.0.ptr)
+    ensures { IfOk result (λ r. (r.1.at ≡ r.0.ptr) × (r.1.items ≡ []) × (r.1.spare ≡ len) ×
+        (r.2.right.at ≡ r.0.ptr)
         × (r.2.right.len ≡ len)) }
 {
     let (base, bytes, right) = allocate_block(&alloc, len)?;
@@ -78,7 +79,8 @@ pub(crate) fn allocate(alloc: Global, len: usize) -> Result<(Base, Bytes, Deed),
 impl Deed {
     /// Gives the block back, with what lies in it and the room after that.
     pub(crate) fn give_back(self, base: Base, len: usize, bytes: Bytes)
-        requires { (bytes.at ≡ base.ptr) × (length bytes.items + bytes.spare ≡ len) × (self.right.at ≡ base.ptr)
+        requires { (bytes.at ≡ base.ptr) × (length bytes.items + bytes.spare ≡ len) ×
+            (self.right.at ≡ base.ptr)
             × (self.right.len ≡ len) }
     {
         let Deed { right, alloc } = self;

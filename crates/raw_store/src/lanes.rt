@@ -1,7 +1,7 @@
 //! Copies and fills within a slice, by lanes of 32 bytes and then byte by byte for the rest.
 
 ghost use Rattle.std.specs.Prelude.{◌≡◌, ◌≤◌, ◌<◌, ◌+◌, ◌-◌, ◌*◌, length, replicate};
-ghost use Rattle.raw_store.specs.Region.{copied, zeroed};
+ghost use Rattle.raw_store.specs.Region.{bytes_after_copy, bytes_after_zero};
 
 use std::simd::prelude::*;
 
@@ -16,7 +16,7 @@ const LANE: usize = 32;
 pub(crate) fn copy(bytes: &mut [u8], from: usize, to: usize, len: usize)
     requires source { from + len ≤ length bytes.old }
     requires target { to + len ≤ length bytes.old }
-    ensures { bytes.new ≡ copied bytes.old from to len }
+    ensures { bytes.new ≡ bytes_after_copy bytes.old from to len }
 {
     let lanes = len / LANE;
     let rest = len % LANE;
@@ -43,7 +43,7 @@ pub(crate) fn zero(bytes: &mut [u8])
 fn copy_lanes_down(bytes: &mut [u8], from: usize, to: usize, lanes: usize)
     requires source { from + 32 * lanes ≤ length bytes.old }
     requires below { to ≤ from }
-    ensures { bytes.new ≡ copied bytes.old from to (32 * lanes) }
+    ensures { bytes.new ≡ bytes_after_copy bytes.old from to (32 * lanes) }
 {
     for lane in 0..lanes {
         copy_lane(bytes, from + lane * LANE, to + lane * LANE);
@@ -53,7 +53,7 @@ fn copy_lanes_down(bytes: &mut [u8], from: usize, to: usize, lanes: usize)
 fn copy_bytes_down(bytes: &mut [u8], from: usize, to: usize, len: usize)
     requires source { from + len ≤ length bytes.old }
     requires below { to ≤ from }
-    ensures { bytes.new ≡ copied bytes.old from to len }
+    ensures { bytes.new ≡ bytes_after_copy bytes.old from to len }
 {
     for place in 0..len {
         copy_byte(bytes, from + place, to + place);
@@ -64,7 +64,7 @@ fn copy_bytes_down(bytes: &mut [u8], from: usize, to: usize, len: usize)
 fn copy_lanes_up(bytes: &mut [u8], from: usize, to: usize, lanes: usize)
     requires target { to + 32 * lanes ≤ length bytes.old }
     requires above { from ≤ to }
-    ensures { bytes.new ≡ copied bytes.old from to (32 * lanes) }
+    ensures { bytes.new ≡ bytes_after_copy bytes.old from to (32 * lanes) }
 {
     for lane in (0..lanes).rev() {
         copy_lane(bytes, from + lane * LANE, to + lane * LANE);
@@ -74,7 +74,7 @@ fn copy_lanes_up(bytes: &mut [u8], from: usize, to: usize, lanes: usize)
 fn copy_bytes_up(bytes: &mut [u8], from: usize, to: usize, len: usize)
     requires target { to + len ≤ length bytes.old }
     requires above { from ≤ to }
-    ensures { bytes.new ≡ copied bytes.old from to len }
+    ensures { bytes.new ≡ bytes_after_copy bytes.old from to len }
 {
     for place in (0..len).rev() {
         copy_byte(bytes, from + place, to + place);
@@ -84,7 +84,7 @@ fn copy_bytes_up(bytes: &mut [u8], from: usize, to: usize, len: usize)
 fn copy_lane(bytes: &mut [u8], from: usize, to: usize)
     requires source { from + 32 ≤ length bytes.old }
     requires target { to + 32 ≤ length bytes.old }
-    ensures { bytes.new ≡ copied bytes.old from to 32 }
+    ensures { bytes.new ≡ bytes_after_copy bytes.old from to 32 }
 {
     let lane = u8x32::from_slice(&bytes[from..]);
     lane.copy_to_slice(&mut bytes[to..]);
@@ -93,14 +93,14 @@ fn copy_lane(bytes: &mut [u8], from: usize, to: usize)
 fn copy_byte(bytes: &mut [u8], from: usize, to: usize)
     requires source { from + 1 ≤ length bytes.old }
     requires target { to + 1 ≤ length bytes.old }
-    ensures { bytes.new ≡ copied bytes.old from to 1 }
+    ensures { bytes.new ≡ bytes_after_copy bytes.old from to 1 }
 {
     bytes[to] = bytes[from];
 }
 
 fn zero_lanes(bytes: &mut [u8], lanes: usize)
     requires { 32 * lanes ≤ length bytes.old }
-    ensures { bytes.new ≡ zeroed bytes.old 0 (32 * lanes) }
+    ensures { bytes.new ≡ bytes_after_zero bytes.old 0 (32 * lanes) }
 {
     for lane in 0..lanes {
         zero_lane(bytes, lane * LANE);
@@ -110,7 +110,7 @@ fn zero_lanes(bytes: &mut [u8], lanes: usize)
 // All bytes from a place on.
 fn zero_bytes(bytes: &mut [u8], first: usize)
     requires { first ≤ length bytes.old }
-    ensures { bytes.new ≡ zeroed bytes.old first (length bytes.old - first) }
+    ensures { bytes.new ≡ bytes_after_zero bytes.old first (length bytes.old - first) }
 {
     for place in first..bytes.len() {
         zero_byte(bytes, place);
@@ -119,14 +119,14 @@ fn zero_bytes(bytes: &mut [u8], first: usize)
 
 fn zero_lane(bytes: &mut [u8], at: usize)
     requires { at + 32 ≤ length bytes.old }
-    ensures { bytes.new ≡ zeroed bytes.old at 32 }
+    ensures { bytes.new ≡ bytes_after_zero bytes.old at 32 }
 {
     u8x32::splat(0).copy_to_slice(&mut bytes[at..]);
 }
 
 fn zero_byte(bytes: &mut [u8], at: usize)
     requires { at < length bytes.old }
-    ensures { bytes.new ≡ zeroed bytes.old at 1 }
+    ensures { bytes.new ≡ bytes_after_zero bytes.old at 1 }
 {
     bytes[at] = 0;
 }

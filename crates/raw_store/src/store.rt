@@ -3,7 +3,7 @@
 
 ghost use Rattle.std.specs.Prelude.{List, [], ℕ, ◌≡◌, ◌≤◌, ◌<◌, ◌+◌, ◌*◌, ◌↔◌, IsTrue, IfOk, length, replicate, slice_index, slice_set, slice_range};
 ghost use Rattle.std.specs.Borrow.{sem};
-ghost use Rattle.raw_store.specs.Region.{AreApart, word_in, word_bytes, written, copied, zeroed, grown};
+ghost use Rattle.raw_store.specs.Region.{AreApartOrEmpty, word_in, word_bytes, bytes_after_write, bytes_after_copy, bytes_after_zero, bytes_after_growth};
 
 use crate::block::{Base, Bytes, Deed, allocate};
 use crate::lanes;
@@ -94,7 +94,7 @@ impl RawStore {
     /// already, nothing is done.
     pub fn grow(&mut self, len: usize)
         requires { len ≤ length self.old.items + self.old.spare }
-        ensures bytes { self.new.items ≡ grown self.old.items len }
+        ensures bytes { self.new.items ≡ bytes_after_growth self.old.items len }
         ensures room { length self.new.items + self.new.spare ≡ length self.old.items + self.old.spare }
     {
         if len > self.len {
@@ -107,7 +107,8 @@ impl RawStore {
     /// were not written are then zero as well.
     pub fn write_zeros(&mut self, at: usize, len: usize)
         requires { at + len ≤ length self.old.items + self.old.spare }
-        ensures bytes { self.new.items ≡ zeroed (grown self.old.items (at + len)) at len }
+        ensures bytes { self.new.items ≡ bytes_after_zero (bytes_after_growth self.old.items (at + len)) at
+            len }
         ensures room { length self.new.items + self.new.spare ≡ length self.old.items + self.old.spare }
     {
         let written = self.len;
@@ -160,7 +161,7 @@ impl RawStore {
     /// Writes the four bytes of a word, the lowest first, at a place that needs no alignment.
     pub fn write_word(&mut self, at: usize, word: u32)
         requires { at + 4 ≤ length self.old.items }
-        ensures bytes { self.new.items ≡ written self.old.items at (word_bytes word) }
+        ensures bytes { self.new.items ≡ bytes_after_write self.old.items at (word_bytes word) }
         ensures room { self.new.spare ≡ self.old.spare }
     {
         LittleEndian::write_u32(self.lend_mut(at, 4), word);
@@ -170,7 +171,7 @@ impl RawStore {
     pub fn copy(&mut self, from: usize, to: usize, len: usize)
         requires source { from + len ≤ length self.old.items }
         requires target { to + len ≤ length self.old.items }
-        ensures bytes { self.new.items ≡ copied self.old.items from to len }
+        ensures bytes { self.new.items ≡ bytes_after_copy self.old.items from to len }
         ensures room { self.new.spare ≡ self.old.spare }
     {
         lanes::copy(self.lend_mut(0, self.len), from, to, len);
@@ -179,7 +180,7 @@ impl RawStore {
     /// Makes `len` bytes zero.
     pub fn zero(&mut self, at: usize, len: usize)
         requires { at + len ≤ length self.old.items }
-        ensures bytes { self.new.items ≡ zeroed self.old.items at len }
+        ensures bytes { self.new.items ≡ bytes_after_zero self.old.items at len }
         ensures room { self.new.spare ≡ self.old.spare }
     {
         lanes::zero(self.lend_mut(at, len));
@@ -209,7 +210,7 @@ impl RawStore {
     pub fn lend_two(&mut self, a: usize, n: usize, b: usize, m: usize) -> (&mut [u8], &mut [u8])
         requires first { a + n ≤ length self.old.items }
         requires second { b + m ≤ length self.old.items }
-        requires apart { AreApart a n b m }
+        requires apart { AreApartOrEmpty a n b m }
         ensures* writes_back { sem 𝓛 (lends_ranges self.entry a n b m result) }
         ensures first { result.0.now ≡ slice_range self.old.items a (a + n) }
         ensures second { result.1.now ≡ slice_range self.old.items b (b + m) }
@@ -225,7 +226,7 @@ impl RawStore {
     /// Writes bytes, the first of them at a place.
     pub fn write(&mut self, at: usize, bytes: &[u8])
         requires { at + length bytes.now ≤ length self.old.items }
-        ensures bytes { self.new.items ≡ written self.old.items at bytes.now }
+        ensures bytes { self.new.items ≡ bytes_after_write self.old.items at bytes.now }
         ensures room { self.new.spare ≡ self.old.spare }
     {
         self.lend_mut(at, bytes.len()).copy_from_slice(bytes);
@@ -236,7 +237,7 @@ impl RawStore {
 fn append_zeros(bytes: &mut Bytes, base: Base, first: usize, len: usize)
     requires { (base.ptr ≡ bytes.old.at) × (first ≡ length bytes.old.items) × (first ≤ len)
         × (len ≤ first + bytes.old.spare) }
-    ensures { (bytes.new.at ≡ bytes.old.at) × (bytes.new.items ≡ grown bytes.old.items len)
+    ensures { (bytes.new.at ≡ bytes.old.at) × (bytes.new.items ≡ bytes_after_growth bytes.old.items len)
         × (bytes.new.spare + len ≡ bytes.old.spare + first) }
 {
     let mut at = first;

@@ -1,4 +1,5 @@
 -- The bytes of the module area that a copy may be made of are those that one live block holds.
+use Rattle.profile.specs.MemoryMap.{module_area_start}
 use Rattle.std.proofs.Common.{◌≡◌, ◌≢◌, ℕ, ◌+◌, ◌-◌, ◌*◌, ◌<◌, ◌≤◌, ◌⊎◌, Bool, true, false, Some, List, [], ◌∷◌, max, min, zero, suc, refl, sym, ap, subst, ◌∙◌, inl, inr, arith}
 use Rattle.std.specs.Prelude.{Option, nat_lt}
 use Rattle.std.specs.List.{list_any, range_with_len}
@@ -13,9 +14,9 @@ use Rattle.os_heap.specs.Payloads.{area_payload, is_other, payload_from, payload
 use Rattle.os_heap.specs.Store.{find_heap}
 use Rattle.os_heap.specs.declared.payload.Payload.TheVariants.{Inside, Other}
 use Rattle.os_heap.proofs.Apart.{range_parts}
-use Rattle.flex_kept.specs.dynamic_areas.specs.Changing.{pages_had}
-use Rattle.flex_kept.specs.dynamic_areas.specs.Ground.{Estate, IsEstate}
-use Rattle.flex_kept.specs.dynamic_areas.specs.declared.area.Area.{Area}
+use Rattle.flex_frame.specs.dynamic_areas.specs.Changing.{pages_had}
+use Rattle.flex_frame.specs.dynamic_areas.specs.Ground.{Estate, IsEstate}
+use Rattle.flex_frame.specs.dynamic_areas.specs.declared.area.Area.{Area}
 use Rattle.rma.specs.Calls.{area_pages}
 use Rattle.rma.specs.Copies.{has_bare, is_bare}
 use Rattle.rma.proofs.GrowthLemmas.{HasArea, area_there}
@@ -97,9 +98,9 @@ none_in test at (suc n) none =
 
 -- the module area's heap
 record IsArea (e : Estate) (h : HeapList) : Type 0 where
-  pub found : find_heap 0x01800000 e.store.heaps ≡ Some h
+  pub found : find_heap module_area_start e.store.heaps ≡ Some h
   pub totals : AreTotals h.items
-  pub start : h.start ≡ 0x01800000
+  pub start : h.start ≡ module_area_start
   pub end : h.end ≡ 4096 * area_pages e
 
 is_area : (e : Estate) (good : IsEstate e) → IsArea e (area_there e good).known.heap
@@ -112,7 +113,7 @@ is_area e good =
       end = area.known.end ∙ sym (ap (λ (x : Option Area). 4096 * pages_had x) area.found);
     }
 
-bare_in : (e : Estate) (h : HeapList) (a : ℕ) → IsArea e h → in_range 0x01800000 (4096 * area_pages e) a ≡ true
+bare_in : (e : Estate) (h : HeapList) (a : ℕ) → IsArea e h → in_range module_area_start (4096 * area_pages e) a ≡ true
     → is_bare e a ≡ is_other (payload_in h a)
 bare_in e h a area inside =
     let inside' : in_range h.start h.end a ≡ true = rw (area.start, area.end) inside in
@@ -120,14 +121,14 @@ bare_in e h a area inside =
 
 -- the part of a range that lies in the area: from its first byte there up to its end there
 pub record IsPart (e : Estate) (at len from to : ℕ) : Type 0 where
-  pub first : from ≡ max at 0x01800000
-  pub end : to ≡ min (at + len) (0x01800000 + 4096 * area_pages e)
+  pub first : from ≡ max at module_area_start
+  pub end : to ≡ min (at + len) (module_area_start + 4096 * area_pages e)
 
 outside_part : (e : Estate) (at len from to a : ℕ) → IsPart e at len from to → at ≤ a → a < at + len → (a < from) ⊎ (to ≤ a) → is_bare e a ≡ false
 outside_part e at len from to a part low high (inl before) =
-    rw (range_before 0x01800000 (4096 * area_pages e) a (omega (arith, part.first, before, low))) refl
+    rw (range_before module_area_start (4096 * area_pages e) a (omega (arith, part.first, before, low))) refl
 outside_part e at len from to a part low high (inr behind) =
-    rw (range_past 0x01800000 (4096 * area_pages e) a (omega (arith, part.end, behind, high))) refl
+    rw (range_past module_area_start (4096 * area_pages e) a (omega (arith, part.end, behind, high))) refl
 
 pub none_met : (e : Estate) (at len from to : ℕ) → IsPart e at len from to → to ≤ from → has_bare e at len ≡ false
 none_met e at len from to part empty = none_in (is_bare e) at len (λ a low high. outside_part e at len from to a part low high (elim (cases_lt a from) [
@@ -135,9 +136,9 @@ none_met e at len from to part empty = none_in (is_bare e) at len (λ a low high
   | inr later ↦ inr (omega arith)
 ]))
 
-in_area : (e : Estate) (at len from to a : ℕ) → IsPart e at len from to → from ≤ a → a < to → in_range 0x01800000 (4096 * area_pages e) a ≡ true
+in_area : (e : Estate) (at len from to a : ℕ) → IsPart e at len from to → from ≤ a → a < to → in_range module_area_start (4096 * area_pages e) a ≡ true
 in_area e at len from to a part low high =
-    range_inside 0x01800000 (4096 * area_pages e) a (omega (arith, part.first, low)) (omega (arith, part.end, high))
+    range_inside module_area_start (4096 * area_pages e) a (omega (arith, part.first, low)) (omega (arith, part.end, high))
 
 first_told : (e : Estate) (h : HeapList) (at len from to : ℕ) → IsArea e h → IsPart e at len from to → from < to
     → area_payload e.store from ≡ payload_in h from

@@ -1,4 +1,5 @@
 -- The module area where it grows: how far its heap reaches then.
+use Rattle.profile.specs.MemoryMap.{module_area_start}
 use Rattle.std.proofs.Common.{◌≡◌, ◌==◌, ℕ, Bool, ◌||◌, ◌+◌, ◌-◌, ◌*◌, ◌/◌, ◌<◌, ◌≤◌, List, [], ◌∷◌, true, false, refl, sym, ap, ◌∙◌, subst, Some, None, Ok, Err, inl, inr, arith}
 use Rattle.std.specs.Prelude.{Option, Result, is_ok, is_some, nat_le, nat_lt, min}
 use Rattle.std.proofs.lemmas.Bool.{cases_Bool, cases_lt, lt-ltb, le-ltb, le-leb, lt-leb, leb-false, leb-true, ltb-true, ltb-false}
@@ -10,17 +11,17 @@ use Rattle.os_heap.specs.os_heap_lists.specs.Heap.{HeapList, AreTotals}
 use Rattle.os_heap.specs.Calls.{with_end}
 use Rattle.os_heap.specs.Forgetting.{holds_heap, starts_in}
 use Rattle.os_heap.specs.Store.{Store, find_heap}
-use Rattle.flex_kept.specs.dynamic_areas.specs.declared.area.Area.{Area}
-use Rattle.flex_kept.specs.dynamic_areas.specs.declared.area.Changed.{Changed}
-use Rattle.flex_kept.specs.dynamic_areas.specs.Areas.{Land, find_area}
-use Rattle.flex_kept.specs.dynamic_areas.specs.Changing.{change_answer, growth_room, is_growth, land_changed, land_more, moving, pages_had, store_changed, store_extended}
-use Rattle.flex_kept.specs.dynamic_areas.specs.Creating.{pages_for}
-use Rattle.flex_kept.specs.dynamic_areas.specs.Ground.{AreAreas, Estate, IsEstate}
-use Rattle.flex_kept.specs.dynamic_areas.specs.Rooms.{IsRoom}
-use Rattle.flex_kept.specs.dynamic_areas.proofs.GroundLemmas.{or_true}
-use Rattle.flex_kept.specs.dynamic_areas.proofs.LandLemmas.{pages_counted}
-use Rattle.flex_kept.specs.dynamic_areas.proofs.ModuleArea.{IsModuleArea, module_area_known, find_ended}
-use Rattle.flex_kept.specs.dynamic_areas.proofs.RoomLemmas.{found_room}
+use Rattle.flex_frame.specs.dynamic_areas.specs.declared.area.Area.{Area}
+use Rattle.flex_frame.specs.dynamic_areas.specs.declared.area.Changed.{Changed}
+use Rattle.flex_frame.specs.dynamic_areas.specs.Areas.{Land, find_area}
+use Rattle.flex_frame.specs.dynamic_areas.specs.Changing.{change_answer, growth_room, is_growth, land_changed, land_more, moving, pages_had, store_changed, store_extended}
+use Rattle.flex_frame.specs.dynamic_areas.specs.Creating.{pages_for}
+use Rattle.flex_frame.specs.dynamic_areas.specs.Ground.{AreAreas, Estate, IsEstate}
+use Rattle.flex_frame.specs.dynamic_areas.specs.Rooms.{IsAreaRoom}
+use Rattle.flex_frame.specs.dynamic_areas.proofs.GroundLemmas.{or_true}
+use Rattle.flex_frame.specs.dynamic_areas.proofs.LandLemmas.{pages_counted}
+use Rattle.flex_frame.specs.dynamic_areas.proofs.ModuleArea.{IsModuleArea, module_area_known, find_ended}
+use Rattle.flex_frame.specs.dynamic_areas.proofs.RoomLemmas.{found_room}
 use Rattle.rma.specs.Calls.{area_pages, area_room, grown_to, pages_short, room_in, with_pages_more}
 
 -- the area, with its heap
@@ -28,7 +29,7 @@ pub record HasArea (e : Estate) : Type 0 where
   pub area : Area
   pub found : find_area 1 e.land.areas ≡ Some area
   pub known : IsModuleArea e.store area
-  pub room : IsRoom area
+  pub room : IsAreaRoom area
 
 pub area_there : (e : Estate) → IsEstate e → HasArea e
 area_there e good = go (find_area 1 e.land.areas) refl good.ground.table.first where
@@ -44,11 +45,11 @@ area_there e good = go (find_area 1 e.land.areas) refl good.ground.table.first w
 -- what growth leaves: the same heap, which reaches far enough
 pub record IsGrown (e g : Estate) (end : ℕ) : Type 0 where
   pub heap : HeapList
-  pub found : find_heap 0x01800000 e.store.heaps ≡ Some heap
+  pub found : find_heap module_area_start e.store.heaps ≡ Some heap
   pub totals : AreTotals heap.items
-  pub start : heap.start ≡ 0x01800000
+  pub start : heap.start ≡ module_area_start
   pub limit : ℕ
-  pub there : find_heap 0x01800000 g.store.heaps ≡ Some (record { kind = heap.kind; start = heap.start; end = limit; items = heap.items })
+  pub there : find_heap module_area_start g.store.heaps ≡ Some (record { kind = heap.kind; start = heap.start; end = limit; items = heap.items })
   pub reaches : end ≤ limit
   pub others : g.store.others ≡ e.store.others
   pub anchors : g.store.anchor ≡ e.store.anchor
@@ -72,7 +73,7 @@ more_grown e end count h enough =
       totals = m.spelled.totals;
       start = m.start;
       limit = 4096 * (a.pages + count);
-      there = rw (h.found, m.found) (find_ended e.store.heaps m.heap 0x01800000 (4096 * (a.pages + count)) m.found);
+      there = rw (h.found, m.found) (find_ended e.store.heaps m.heap module_area_start (4096 * (a.pages + count)) m.found);
       reaches = enough;
       others = rw (h.found, m.found) refl;
       anchors = rw (h.found, m.found) refl;

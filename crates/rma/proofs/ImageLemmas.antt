@@ -1,4 +1,5 @@
 -- Records of images in the module area: one more, and one less.
+use Rattle.profile.specs.MemoryMap.{module_area_start}
 use Rattle.std.proofs.Common.{◌≡◌, ◌≢◌, ℕ, ◌+◌, ◌-◌, ◌==◌, ◌%◌, ◌&&◌, ◌<◌, ◌≤◌, ◌⊎◌, Bool, true, false, List, [], ◌∷◌, ◌++◌, length, refl, sym, ap, subst, ◌∙◌, Some, None, Ok, inl, inr, arith}
 use Rattle.std.specs.Prelude.{Option}
 use Rattle.std.proofs.Common.{length-append}
@@ -14,32 +15,32 @@ use Rattle.address_map.specs.declared.region.Kind.TheVariants as kind
 use Rattle.address_map.specs.declared.region.Region.{Region}
 use Rattle.os_heap.specs.os_heap_lists.specs.Heap.{HeapList, IsHeapIn}
 use Rattle.os_heap.specs.os_heap_lists.specs.Lists.{live_total}
-use Rattle.os_heap.specs.os_heap_lists.proofs.LiveBlocks.{LiveBytes, live_bytes}
+use Rattle.os_heap.specs.os_heap_lists.proofs.LiveBlocks.{LiveBytes, law_live_bytes}
 use Rattle.os_heap.specs.Calls.{OfHeap, block_sized}
-use Rattle.os_heap.specs.Store.{AreClear, ArePlaced, AreRangesApart, IsClearOfRanges, IsImageBlock, IsPlacedIn, IsSound, Store, find_heap, has_image, heaps_in, is_area, is_flex_store, is_image, is_in_flex_store, others_in, store_of}
+use Rattle.os_heap.specs.Store.{AreClear, ArePlaced, AreRangesApart, IsClearOfRanges, IsImageBlock, IsPlacedIn, IsSound, Store, find_heap, has_image, heaps_in, is_module_area, is_flex_store, is_image, is_in_flex_store, others_in, store_of}
 use Rattle.os_heap.proofs.Apart.{block_inside, one_block, range_parts}
 use Rattle.os_heap.proofs.Found.{found_heap, found_start}
 use Rattle.os_heap.proofs.Recorded.{IsClearOfAll, apart_other, in_more}
 use Rattle.os_heap.proofs.ImageBlocks.{image_placed}
 use Rattle.os_heap.proofs.Stores.{are_others, placed_by}
 use Rattle.os_heap.specs.Forgetting.{holds_heap}
-use Rattle.flex_kept.specs.dynamic_areas.specs.Areas.{Land}
-use Rattle.flex_kept.specs.dynamic_areas.specs.Ground.{AreAreas, AreRangesMapped, Estate, IsEstate}
+use Rattle.flex_frame.specs.dynamic_areas.specs.Areas.{Land}
+use Rattle.flex_frame.specs.dynamic_areas.specs.Ground.{AreAreas, AreRangesMapped, Estate, IsEstate}
 use Rattle.rma.specs.Images.{CanRecord}
 use Rattle.rma.proofs.ExtendLemmas.{IsSized, sized_by}
 use Rattle.rma.proofs.GrowthLemmas.{HasArea, area_there}
 
 -- the module area's heap of an estate is that area's
-pub area_kind : (e : Estate) → IsEstate e → OfHeap (λ h. is_area h.kind ≡ true) (find_heap 0x01800000 e.store.heaps)
+pub area_kind : (e : Estate) → IsEstate e → OfHeap (λ h. is_module_area h.kind ≡ true) (find_heap module_area_start e.store.heaps)
 area_kind e good =
     let h : HasArea e = area_there e good in
-    rw h.known.found (ap is_area h.known.kind)
+    rw h.known.found (ap is_module_area h.known.kind)
 
 -- the bytes of a block lie in its heap
 payload_in : (b : Bytes) (h : HeapList) (at len a : ℕ) → IsHeapIn b h.start h.end h.items → live_total at (h.start + 16) h.items ≡ Some (len + 4)
     → in_range at len a ≡ true → (in_range (at - 4) (len + 4) a ≡ true) × (in_range h.start h.end a ≡ true)
 payload_in b h at len a heap live inside =
-    let place : LiveBytes at (len + 4) (h.start + 16) (h.start + 16 + size_of h.items) = live_bytes at (len + 4) (h.start + 16) h.items heap.totals live in
+    let place : LiveBytes at (len + 4) (h.start + 16) (h.start + 16 + size_of h.items) = law_live_bytes at (len + 4) (h.start + 16) h.items heap.totals live in
     let parts : (at ≤ a) × (a < at + len) = range_parts at len a inside in
     let whole : in_range (at - 4) (len + 4) a ≡ true =
     rw (le-leb (at - 4) a (omega (arith, parts.0)), lt-ltb a (at - 4 + (len + 4)) (omega (arith, parts.1, place.low))) refl in
@@ -80,22 +81,22 @@ pub record IsRecorded (s : Store) (r : Region) : Type 0 where
   pub mapped : AreMapped s.bytes.mapped r.at r.len
   pub aligned : r.at % 4 ≡ 0
 
-recorded_in : (s : Store) (h : HeapList) (at len : ℕ) → IsSound s → CanRecord s at → find_heap 0x01800000 s.heaps ≡ Some h
-    → block_sized s 0x01800000 at ≡ Ok len → IsRecorded s (record { kind = kind.Image; at = at; len = len })
+recorded_in : (s : Store) (h : HeapList) (at len : ℕ) → IsSound s → CanRecord s at → find_heap module_area_start s.heaps ≡ Some h
+    → block_sized s module_area_start at ≡ Ok len → IsRecorded s (record { kind = kind.Image; at = at; len = len })
 recorded_in s h at len sound can found sized =
     let r : Region = record { kind = kind.Image; at = at; len = len } in
-    let start : h.start ≡ 0x01800000 = found_start 0x01800000 s.heaps h found in
+    let start : h.start ≡ module_area_start = found_start module_area_start s.heaps h found in
     let own : find_heap h.start s.heaps ≡ Some h = subst (λ (p : ℕ). find_heap p s.heaps ≡ Some h) (sym start) found in
-    let heap : IsHeapIn s.bytes h.start h.end h.items = found_heap s.bytes 0x01800000 s.heaps h sound.heaps found in
-    let is : IsSized s h at len = sized_by s 0x01800000 h at len found sized in
-    let place : LiveBytes at is.total (h.start + 16) (h.start + 16 + size_of h.items) = live_bytes at is.total (h.start + 16) h.items heap.totals is.guests.live in
+    let heap : IsHeapIn s.bytes h.start h.end h.items = found_heap s.bytes module_area_start s.heaps h sound.heaps found in
+    let is : IsSized s h at len = sized_by s module_area_start h at len found sized in
+    let place : LiveBytes at is.total (h.start + 16) (h.start + 16 + size_of h.items) = law_live_bytes at is.total (h.start + 16) h.items heap.totals is.guests.live in
     let total : is.total ≡ len + 4 = omega (arith, is.same, place.size) in
     let live : live_total at (h.start + 16) h.items ≡ Some (len + 4) = is.guests.live ∙ ap Some total in
-    let area : is_area h.kind ≡ true = (let t = rw found at can.area in t) in
+    let area : is_module_area h.kind ≡ true = (let t = rw found at can.area in t) in
     let empty : holds_heap s.heaps at len ≡ false = (let t = rw sized at can.empty in t) in
     let image : IsPlacedIn s.heaps r =
     image_placed s.bytes h r s.heaps heap (record { image = refl; area = area; live = live }) sound.heaps
-    (are_others s.bytes 0x01800000 s.heaps h sound.heaps found) empty in
+    (are_others s.bytes module_area_start s.heaps h sound.heaps found) empty in
     let apart : IsClearOfAll r s.others = others_apart s.bytes h at len s.heaps s.others heap own live is.guests.own sound.placed in
     record {
       sound = record {
@@ -111,13 +112,13 @@ recorded_in s h at len sound can found sized =
       aligned = place.whole (omega (arith, heap.aligned));
     }
 
-area_none : (s : Store) → OfHeap (λ h. is_area h.kind ≡ true) (find_heap 0x01800000 s.heaps) → find_heap 0x01800000 s.heaps ≡ None → ⊥
+area_none : (s : Store) → OfHeap (λ h. is_module_area h.kind ≡ true) (find_heap module_area_start s.heaps) → find_heap module_area_start s.heaps ≡ None → ⊥
 area_none s area none = let t = rw none at area in t
 
-pub is_recorded : (s : Store) (at len : ℕ) → IsSound s → CanRecord s at → block_sized s 0x01800000 at ≡ Ok len
+pub is_recorded : (s : Store) (at len : ℕ) → IsSound s → CanRecord s at → block_sized s module_area_start at ≡ Ok len
     → IsRecorded s (record { kind = kind.Image; at = at; len = len })
-is_recorded s at len sound can sized = go (find_heap 0x01800000 s.heaps) refl where
-  go : (o : Option HeapList) → find_heap 0x01800000 s.heaps ≡ o → IsRecorded s (record { kind = kind.Image; at = at; len = len })
+is_recorded s at len sound can sized = go (find_heap module_area_start s.heaps) refl where
+  go : (o : Option HeapList) → find_heap module_area_start s.heaps ≡ o → IsRecorded s (record { kind = kind.Image; at = at; len = len })
   go None none = absurd (area_none s can.area none)
   go (Some h) found = recorded_in s h at len sound can found sized
 

@@ -2,7 +2,7 @@
 use Rattle.std.proofs.Common.{◌≡◌, ℕ, ◌+◌, ◌%◌, ◌==◌, ◌&&◌, ◌||◌, ◌<◌, ◌≤◌, Bool, true, false, List, [], ◌∷◌, length, refl, not, arith}
 use Rattle.std.specs.List.{list_any}
 use Rattle.std.proofs.lemmas.Bool.{and_parts, both_ways, eqb-true, false_from_ne_true, lt-ltb, not-true, or_parts}
-use Rattle.address_map.specs.Bytes.{AreMapped, in_range, meets}
+use Rattle.address_map.specs.Bytes.{AreMapped, in_range, shares_address}
 use Rattle.address_map.specs.Records.{IsRegion, anchor_among}
 use Rattle.address_map.specs.declared.map.AddressMap.{AddressMap}
 use Rattle.address_map.specs.declared.region.Kind.TheVariants as kind
@@ -10,7 +10,7 @@ use Rattle.address_map.specs.declared.region.Region.{Region}
 use Rattle.os_heap.proofs.RangeTests.{are_mapped_all, clear_of_heaps, range_end}
 use Rattle.os_heap.proofs.Apart.{range_parts}
 use Rattle.os_heap.proofs.Recorded.{IsClearOfAll, recorded_sound}
-use Rattle.os_heap.specs.Ranges.{are_mapped, meets_any}
+use Rattle.os_heap.specs.Ranges.{are_bytes_mapped, meets_any}
 use Rattle.os_heap.specs.Store.{IsSound, Store, store_of}
 use Rattle.rma.specs.NewImages.{may_be_in_place}
 use Rattle.rma.proofs.ImageLemmas.{IsRecorded}
@@ -19,17 +19,17 @@ use Rattle.rma.proofs.ImageLemmas.{IsRecorded}
 pub record MayBe (s : Store) (at len : ℕ) : Type 0 where
   pub aligned : at % 4 ≡ 0
   pub mapped : AreMapped s.bytes.mapped at len
-  pub heaps : list_any (λ h. meets at len h.start h.end) s.heaps ≡ false
-  pub others : list_any (λ r. meets at len r.at r.len) s.others ≡ false
+  pub heaps : list_any (λ h. shares_address at len h.start h.end) s.heaps ≡ false
+  pub others : list_any (λ r. shares_address at len r.at r.len) s.others ≡ false
   pub anchors : anchor_among s.anchor at len ≡ false
 
 pub may_be : (s : Store) (at len : ℕ) → may_be_in_place s at len ≡ true → MayBe s at len
 may_be s at len may =
-    let both = and_parts (at % 4 == 0 && are_mapped s.bytes.mapped at len) (not (meets_any at len s)) may in
-    let front = and_parts (at % 4 == 0) (are_mapped s.bytes.mapped at len) both.0 in
+    let both = and_parts (at % 4 == 0 && are_bytes_mapped s.bytes.mapped at len) (not (meets_any at len s)) may in
+    let front = and_parts (at % 4 == 0) (are_bytes_mapped s.bytes.mapped at len) both.0 in
     let clear : meets_any at len s ≡ false = not-true (meets_any at len s) both.1 in
-    let heaps : Bool = list_any (λ h. meets at len h.start h.end) s.heaps in
-    let others : Bool = list_any (λ r. meets at len r.at r.len) s.others in
+    let heaps : Bool = list_any (λ h. shares_address at len h.start h.end) s.heaps in
+    let others : Bool = list_any (λ r. shares_address at len r.at r.len) s.others in
     let parts = or_parts (heaps || others) (anchor_among s.anchor at len) clear in
     let ranges = or_parts heaps others parts.0 in
     record {
@@ -41,15 +41,15 @@ may_be s at len may =
     }
 
 -- ranges that don't meet, the first of them not empty, share no byte
-clear_of_all : (at len : ℕ) (rs : List Region) → 0 < len → list_any (λ r. meets at len r.at r.len) rs ≡ false
+clear_of_all : (at len : ℕ) (rs : List Region) → 0 < len → list_any (λ r. shares_address at len r.at r.len) rs ≡ false
     → IsClearOfAll (record { kind = kind.Image; at = at; len = len }) rs
 clear_of_all at len [] some none = tt
 clear_of_all at len (r ∷ rs) some none =
-    let parts = or_parts (meets at len r.at r.len) (list_any (λ q. meets at len q.at q.len) rs) none in (
+    let parts = or_parts (shares_address at len r.at r.len) (list_any (λ q. shares_address at len q.at q.len) rs) none in (
       λ a there. false_from_ne_true (in_range at len a) (λ here.
           let mine : (at ≤ a) × (a < at + len) = range_parts at len a here in
           let its : (r.at ≤ a) × (a < r.at + r.len) = range_parts r.at r.len a there in
-          both_ways (meets at len r.at r.len) parts.0
+          both_ways (shares_address at len r.at r.len) parts.0
           (rw (
             lt-ltb 0 len some,
             lt-ltb 0 r.len (omega (arith, its.0, its.1)),

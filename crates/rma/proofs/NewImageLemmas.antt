@@ -15,10 +15,10 @@ use Rattle.address_map.specs.declared.map.AddressMap.{AddressMap}
 use Rattle.address_map.specs.declared.region.Kind.{Kind}
 use Rattle.address_map.specs.declared.region.Kind.TheVariants as kind
 use Rattle.address_map.specs.declared.region.Region.{Region}
-use Rattle.os_heap.specs.os_heap_lists.proofs.LiveBlocks.{LiveBytes, live_bytes}
+use Rattle.os_heap.specs.os_heap_lists.proofs.LiveBlocks.{LiveBytes, law_live_bytes}
 use Rattle.os_heap.specs.os_heap_lists.proofs.Spelling.{total_of-numbers}
 use Rattle.os_heap.specs.os_heap_lists.specs.Heap.{HeapList, IsHeapIn}
-use Rattle.os_heap.specs.os_heap_lists.specs.Lists.{Claim, claimed, live_total, total_for}
+use Rattle.os_heap.specs.os_heap_lists.specs.Lists.{Claim, claim_in_items, live_total, total_for}
 use Rattle.os_heap.proofs.Apart.{range_parts}
 use Rattle.os_heap.proofs.ClaimedBlocks.{IsNewBlock, is_new_block}
 use Rattle.os_heap.proofs.Found.{found_heap, found_start}
@@ -26,25 +26,25 @@ use Rattle.os_heap.proofs.Frame.{IsKept, store_bytes}
 use Rattle.os_heap.proofs.KeptPayloads.{IsClaim, is_claim}
 use Rattle.os_heap.proofs.Order.{order_laid}
 use Rattle.os_heap.proofs.PayloadWrites.{payload_kept}
-use Rattle.os_heap.specs.Calls.{OfHeap, block_sized, copied, got}
+use Rattle.os_heap.specs.Calls.{OfHeap, block_sized, store_after_copy, store_after_get}
 use Rattle.os_heap.specs.Forgetting.{holds_heap}
 use Rattle.os_heap.specs.Order.{AddsRecord, KeepsOrder}
 use Rattle.os_heap.specs.Store.{IsSound, Store, find_heap, has_image, store_of}
-use Rattle.flex_kept.specs.dynamic_areas.specs.Ground.{Estate, IsEstate}
+use Rattle.flex_frame.specs.dynamic_areas.specs.Ground.{Estate, IsEstate}
 use Rattle.rma.specs.Calls.{grown_to, rma_base, rma_claimed}
 use Rattle.rma.specs.Images.{image_recorded}
-use Rattle.rma.specs.NewImages.{IsLiveBlock, filled}
+use Rattle.rma.specs.NewImages.{IsLiveBlock, store_with_image_bytes}
 use Rattle.rma.proofs.GrowthLemmas.{HasArea, area_there, far_refused}
 
 -- the heap of a live block
 pub record IsLiveIn (s : Store) (block total : ℕ) : Type 0 where
   pub heap : HeapList
-  pub found : find_heap 0x01800000 s.heaps ≡ Some heap
+  pub found : find_heap module_area_start s.heaps ≡ Some heap
   pub live : live_total block (heap.start + 16) heap.items ≡ Some total
 
 pub live_in : (s : Store) (block total : ℕ) → IsLiveBlock s block total → IsLiveIn s block total
-live_in s block total is = go (find_heap 0x01800000 s.heaps) refl is where
-  go : (o : Option HeapList) → find_heap 0x01800000 s.heaps ≡ o → OfHeap (λ h. live_total block (h.start + 16) h.items ≡ Some total) o → IsLiveIn s block total
+live_in s block total is = go (find_heap module_area_start s.heaps) refl is where
+  go : (o : Option HeapList) → find_heap module_area_start s.heaps ≡ o → OfHeap (λ h. live_total block (h.start + 16) h.items ≡ Some total) o → IsLiveIn s block total
   go None none live = absurd live
   go (Some h) found live = record { heap = h; found = found; live = live }
 
@@ -52,8 +52,8 @@ live_in s block total is = go (find_heap 0x01800000 s.heaps) refl is where
 pub live_whole : (s : Store) (block total : ℕ) → IsSound s → IsLiveBlock s block total → block % 4 ≡ 0
 live_whole s block total sound is =
     let l : IsLiveIn s block total = live_in s block total is in
-    let heap : IsHeapIn s.bytes l.heap.start l.heap.end l.heap.items = found_heap s.bytes 0x01800000 s.heaps l.heap sound.heaps l.found in
-    (live_bytes block total (l.heap.start + 16) l.heap.items heap.totals l.live).whole (omega (arith, heap.aligned))
+    let heap : IsHeapIn s.bytes l.heap.start l.heap.end l.heap.items = found_heap s.bytes module_area_start s.heaps l.heap sound.heaps l.found in
+    (law_live_bytes block total (l.heap.start + 16) l.heap.items heap.totals l.live).whole (omega (arith, heap.aligned))
 
 -- and lies in the module area
 pub live_inside : (e : Estate) (block total : ℕ) → IsEstate e → IsLiveBlock e.store block total → in_range module_area_start module_area_maximum block ≡ true
@@ -61,17 +61,17 @@ live_inside e block total good is =
     let h : HasArea e = area_there e good in
     let g : HeapList = h.known.heap in
     let live : live_total block (g.start + 16) g.items ≡ Some total = (let l = rw h.known.found at is in l) in
-    let place : LiveBytes block total (g.start + 16) (g.start + 16 + size_of g.items) = live_bytes block total (g.start + 16) g.items h.known.spelled.totals live in
-    range_inside 0x01800000 4194304 block (omega (arith, place.low, h.known.start))
+    let place : LiveBytes block total (g.start + 16) (g.start + 16 + size_of g.items) = law_live_bytes block total (g.start + 16) g.items h.known.spelled.totals live in
+    range_inside module_area_start 4194304 block (omega (arith, place.low, h.known.start))
     (omega (arith, place.high, place.size, h.known.spelled.inside, h.known.start, h.known.end, h.room.within, h.known.maximum))
 
 -- the bytes that it holds are mapped
 pub payload_mapped : (s : Store) (block total len : ℕ) → IsSound s → IsLiveBlock s block total → len + 4 ≤ total → AreMapped s.bytes.mapped block len
 payload_mapped s block total len sound is fits a low high =
     let l : IsLiveIn s block total = live_in s block total is in
-    let heap : IsHeapIn s.bytes l.heap.start l.heap.end l.heap.items = found_heap s.bytes 0x01800000 s.heaps l.heap sound.heaps l.found in
+    let heap : IsHeapIn s.bytes l.heap.start l.heap.end l.heap.items = found_heap s.bytes module_area_start s.heaps l.heap sound.heaps l.found in
     let place : LiveBytes block total (l.heap.start + 16) (l.heap.start + 16 + size_of l.heap.items) =
-    live_bytes block total (l.heap.start + 16) l.heap.items heap.totals l.live in
+    law_live_bytes block total (l.heap.start + 16) l.heap.items heap.totals l.live in
     heap.mapped a (omega (arith, low, place.low)) (omega (arith, high, fits, place.high, heap.inside))
 
 -- what a write to them leaves
@@ -86,7 +86,7 @@ block_kept : (m n : AddressMap) (block total len : ℕ) → layout n ≡ layout 
 block_kept m n block total len same marks sound is empty fits kept =
     let l : IsLiveIn (store_of m) block total = live_in (store_of m) block total is in
     let own : find_heap l.heap.start (store_of m).heaps ≡ Some l.heap =
-    subst (λ (p : ℕ). find_heap p (store_of m).heaps ≡ Some l.heap) (sym (found_start 0x01800000 (store_of m).heaps l.heap l.found)) l.found in
+    subst (λ (p : ℕ). find_heap p (store_of m).heaps ≡ Some l.heap) (sym (found_start module_area_start (store_of m).heaps l.heap l.found)) l.found in
     payload_kept m n l.heap block total same marks sound own l.live empty (λ a out. kept a (shorter block len (total - 4) a (omega (arith, fits)) out))
 
 pub outside : (f : ℕ → ℕ) (block a : ℕ) (bytes : List ℕ) → in_range block (length bytes) a ≡ false → with_bytes_at f block bytes a ≡ f a
@@ -105,7 +105,7 @@ pub record IsFilled (m n : AddressMap) (s : Store) : Type 0 where
 
 pub is_filled : (m n : AddressMap) (block total : ℕ) (bytes : List ℕ) → layout n ≡ layout m → class_of n ≡ class_of m → IsSound (store_of m)
     → IsLiveBlock (store_of m) block total → holds_heap (store_of m).heaps block (total - 4) ≡ false → length bytes + 4 ≤ total
-    → ((a : ℕ) → byte_at n a ≡ with_bytes_at (byte_at m) block bytes a) → IsFilled m n (filled (store_of m) block bytes)
+    → ((a : ℕ) → byte_at n a ≡ with_bytes_at (byte_at m) block bytes a) → IsFilled m n (store_with_image_bytes (store_of m) block bytes)
 is_filled m n block total bytes same marks sound is empty fits written =
     let kept : IsKept m n = block_kept m n block total (length bytes) same marks sound is empty fits
     (λ a out. written a ∙ outside (byte_at m) block a bytes out) in
@@ -115,7 +115,7 @@ is_filled m n block total bytes same marks sound is empty fits written =
 
 pub is_copied : (m n : AddressMap) (block total from len : ℕ) → layout n ≡ layout m → class_of n ≡ class_of m → IsSound (store_of m)
     → IsLiveBlock (store_of m) block total → holds_heap (store_of m).heaps block (total - 4) ≡ false → len + 4 ≤ total
-    → ((a : ℕ) → byte_at n a ≡ with_moved_at (byte_at m) from block len a) → IsFilled m n (copied (store_of m) from block len)
+    → ((a : ℕ) → byte_at n a ≡ with_moved_at (byte_at m) from block len a) → IsFilled m n (store_after_copy (store_of m) from block len)
 is_copied m n block total from len same marks sound is empty fits written =
     let kept : IsKept m n = block_kept m n block total len same marks sound is empty fits (λ a out. written a ∙ unmoved (byte_at m) from block len a out) in
     let b : bytes_of n ≡ with_moved (store_of m).bytes from block len =
@@ -130,7 +130,7 @@ recorded_others s block total is own =
     let l : IsLiveIn s block total = live_in s block total is in
     rw (l.found, own, l.live) refl
 
-sized_block : (s : Store) (block total : ℕ) → IsLiveBlock s block total → has_image block s.others ≡ false → block_sized s 0x01800000 block ≡ Ok (total - 4)
+sized_block : (s : Store) (block total : ℕ) → IsLiveBlock s block total → has_image block s.others ≡ false → block_sized s module_area_start block ≡ Ok (total - 4)
 unfolding block_sized
 sized_block s block total is own =
     let l : IsLiveIn s block total = live_in s block total is in
@@ -149,7 +149,7 @@ pub made_others : (s t u v : Store) (block total : ℕ) → IsLiveBlock t block 
 made_others s t u v block total is claimed heaps filled recorded none =
     let same : u.others ≡ s.others = filled ∙ claimed in
     let there : IsLiveBlock u block total =
-    subst (λ (hs : List HeapList). OfHeap (λ h. live_total block (h.start + 16) h.items ≡ Some total) (find_heap 0x01800000 hs)) (sym heaps) is in
+    subst (λ (hs : List HeapList). OfHeap (λ h. live_total block (h.start + 16) h.items ≡ Some total) (find_heap module_area_start hs)) (sym heaps) is in
     let own : has_image block u.others ≡ false = ap (has_image block) same ∙ none in
     ap (λ (x : Store). x.others) recorded ∙ recorded_others u block total there own
     ∙ ap (λ (rs : List Region). rs ++ record { kind = kind.Image; at = block; len = total - 4 } ∷ []) same
@@ -158,38 +158,38 @@ made_others s t u v block total is claimed heaps filled recorded none =
 -- with the record
 pub made_order : (m n o p : AddressMap) (block total : ℕ) → IsLiveBlock (store_of n) block total → (store_of n).others ≡ (store_of m).others
     → (store_of o).heaps ≡ (store_of n).heaps → (store_of o).others ≡ (store_of n).others → KeepsOrder m n → layout o ≡ layout n
-    → MatchResult (block_sized (store_of o) 0x01800000 block) (λ _. AddsRecord o p kind.Image block) (λ _. KeepsOrder o p)
+    → MatchResult (block_sized (store_of o) module_area_start block) (λ _. AddsRecord o p kind.Image block) (λ _. KeepsOrder o p)
     → has_image block (store_of m).others ≡ false → AddsRecord m p kind.Image block
 made_order m n o p block total is claimed heaps filled kept same recorded none =
     let there : IsLiveBlock (store_of o) block total =
-    subst (λ (hs : List HeapList). OfHeap (λ h. live_total block (h.start + 16) h.items ≡ Some total) (find_heap 0x01800000 hs)) (sym heaps) is in
+    subst (λ (hs : List HeapList). OfHeap (λ h. live_total block (h.start + 16) h.items ≡ Some total) (find_heap module_area_start hs)) (sym heaps) is in
     let own : has_image block (store_of o).others ≡ false = ap (has_image block) (filled ∙ claimed) ∙ none in
     let added = rw (sized_block (store_of o) block total there own) at recorded in
     added ∙ ap (λ (xs : List (Kind × ℕ)). xs ++ (kind.Image, block) ∷ []) (order_laid n o same ∙ kept)
 
 -- the block that is claimed
-pub block_made : (s t : Store) (size block : ℕ) (answer : Result ℕ ErrorNumber) → IsSound s → answer ≡ Ok block → Gives s (got s 0x01800000 size) answer t
-    → IsNewBlock s t 0x01800000 block (total_for size)
+pub block_made : (s t : Store) (size block : ℕ) (answer : Result ℕ ErrorNumber) → IsSound s → answer ≡ Ok block → Gives s (store_after_get s module_area_start size) answer t
+    → IsNewBlock s t module_area_start block (total_for size)
 block_made s t size block answer sound is given =
-    is_new_block s t 0x01800000 size block sound
-    (given_done s t (got s 0x01800000 size) block (subst (λ (r : Result ℕ ErrorNumber). Gives s (got s 0x01800000 size) r t) is given))
+    is_new_block s t module_area_start size block sound
+    (given_done s t (store_after_get s module_area_start size) block (subst (λ (r : Result ℕ ErrorNumber). Gives s (store_after_get s module_area_start size) r t) is given))
 
 -- no block is as large as the module area can be
 unclaimed : (e : Estate) (h : HasArea e) (size : ℕ) → IsEstate e → 4194304 < size
-    → claimed (total_for size) (h.known.heap.end - 16) h.known.heap.items ≡ None
-unclaimed e h size good far = go (claimed (total_for size) (h.known.heap.end - 16) h.known.heap.items) refl where
-  go : (o : Option Claim) → claimed (total_for size) (h.known.heap.end - 16) h.known.heap.items ≡ o → o ≡ None
+    → claim_in_items (total_for size) (h.known.heap.end - 16) h.known.heap.items ≡ None
+unclaimed e h size good far = go (claim_in_items (total_for size) (h.known.heap.end - 16) h.known.heap.items) refl where
+  go : (o : Option Claim) → claim_in_items (total_for size) (h.known.heap.end - 16) h.known.heap.items ≡ o → o ≡ None
   go None none = refl
   go (Some c) made =
       let g : HeapList = h.known.heap in
       let whole : is_total (total_for size) ≡ true = total_of-numbers (total_for size) (omega arith) (omega arith) in
       let claim : IsClaim g (total_for size) c = is_claim e.store.bytes g (total_for size) c h.known.spelled whole made in
       let place : LiveBytes (g.start + 16 + c.offset + 4) (total_for size) (g.start + 16) (g.start + 16 + size_of c.items) =
-      live_bytes (g.start + 16 + c.offset + 4) (total_for size) (g.start + 16) c.items claim.totals claim.fresh in
+      law_live_bytes (g.start + 16 + c.offset + 4) (total_for size) (g.start + 16) c.items claim.totals claim.fresh in
       absurd (omega (arith, far, place.high, claim.inside, h.known.end, h.room.within, h.known.maximum))
 
 pub claim_refused : (e : Estate) (size : ℕ) → IsEstate e → 4194304 < size → rma_claimed e size ≡ Err RmaNoRoom
-unfolding rma_claimed got
+unfolding rma_claimed store_after_get
 claim_refused e size good far =
     let h : HasArea e = area_there e good in
     let none : grown_to e (rma_base e.store + total_for size) ≡ Err RmaNoRoom = far_refused e h (rma_base e.store + total_for size) (omega (arith, far)) in

@@ -11,12 +11,12 @@ use Rattle.address_map.specs.Records.{anchor_among}
 use Rattle.address_map.specs.declared.item.Item.{Item}
 use Rattle.address_map.specs.declared.item.Item.TheVariants.{Live, Free}
 use Rattle.os_heap.specs.os_heap_lists.specs.Heap.{HeapList, AreTotals}
-use Rattle.os_heap.specs.os_heap_lists.specs.Lists.{Claim, changed_by, claimed, first_fit, live_total, or_at_base, refitted, released, resized_in_place, round_up_8, total_for}
-use Rattle.os_heap.specs.os_heap_lists.proofs.LiveBlocks.{IsStill, LiveBytes, claim_still, live_bytes}
+use Rattle.os_heap.specs.os_heap_lists.specs.Lists.{Claim, changed_by, claim_in_items, first_fit, live_total, or_at_base, items_after_refit, items_after_release, resized_in_place, round_up_8, total_for}
+use Rattle.os_heap.specs.os_heap_lists.proofs.LiveBlocks.{IsStill, LiveBytes, claim_still, law_live_bytes}
 use Rattle.os_heap.specs.os_heap_lists.proofs.Reading.{total_facts}
 use Rattle.os_heap.specs.os_heap_lists.proofs.Resizes.{last_some, unreleased}
-use Rattle.os_heap.specs.Calls.{copied, gave_back, got, handed_over, holding, holds_anchor, moved, resized, resized_or_moved}
-use Rattle.os_heap.specs.Forgetting.{forgot, holds_heap}
+use Rattle.os_heap.specs.Calls.{store_after_copy, gave_back, store_after_get, handed_over, store_holding, holds_anchor, store_after_move, store_after_resize, resized_or_moved}
+use Rattle.os_heap.specs.Forgetting.{store_after_forget, holds_heap}
 use Rattle.os_heap.specs.Store.{Store, find_heap, has_image}
 use Rattle.os_heap.proofs.Moving.{found_held}
 use Rattle.rma.specs.Calls.{is_full}
@@ -36,15 +36,15 @@ base_claimed : (n room : ℕ) (xs : List Item) (o : Option Claim) → size_of xs
 base_claimed n room xs (Some c) fits = refl
 base_claimed n room xs None fits = rw (le-leb (size_of xs + n) room fits) refl
 
-claim_fits : (n room : ℕ) (xs : List Item) → size_of xs + n ≤ room → is_some (claimed n room xs) ≡ true
-unfolding claimed
+claim_fits : (n room : ℕ) (xs : List Item) → size_of xs + n ≤ room → is_some (claim_in_items n room xs) ≡ true
+unfolding claim_in_items
 claim_fits n room xs fits = base_claimed n room xs (first_fit n xs) fits
 
 pub got_fits : (s : Store) (heap size : ℕ) (h : HeapList) → find_heap heap s.heaps ≡ Some h → 16 + size_of h.items + total_for size ≤ h.end
-    → is_ok (got s heap size) ≡ true
-unfolding got
+    → is_ok (store_after_get s heap size) ≡ true
+unfolding store_after_get
 got_fits s heap size h found fits =
-    rw found (some_ok (claimed (total_for size) (h.end - 16) h.items) HeapNoRoom (λ c. (holding s h c.items, h.start + 16 + c.offset + 4))
+    rw found (some_ok (claim_in_items (total_for size) (h.end - 16) h.items) HeapNoRoom (λ c. (store_holding s h c.items, h.start + 16 + c.offset + 4))
     (claim_fits (total_for size) (h.end - 16) h.items (omega arith)))
 
 -- a block of the guest's
@@ -52,9 +52,9 @@ pub record IsGuests (s : Store) (h : HeapList) (block total : ℕ) : Type 0 wher
   pub own : has_image block s.others ≡ false
   pub live : live_total block (h.start + 16) h.items ≡ Some total
 
-can_release : (block at total : ℕ) (xs : List Item) → live_total block at xs ≡ Some total → is_some (released block at xs) ≡ true
-can_release block at total xs live = go (released block at xs) refl where
-  go : (o : Option (List Item)) → released block at xs ≡ o → is_some o ≡ true
+can_release : (block at total : ℕ) (xs : List Item) → live_total block at xs ≡ Some total → is_some (items_after_release block at xs) ≡ true
+can_release block at total xs live = go (items_after_release block at xs) refl where
+  go : (o : Option (List Item)) → items_after_release block at xs ≡ o → is_some o ≡ true
   go None none = absurd (let no : None ≡ Some total = sym (unreleased block at xs none) ∙ live in cc)
   go (Some ys) is = refl
 
@@ -63,39 +63,39 @@ given_back : (s : Store) (h : HeapList) (block total : ℕ) → find_heap h.star
 unfolding gave_back
 given_back s h block total found own none =
     rw (found, own.own, own.live, none)
-    (some_ok (released block (h.start + 16) h.items) HeapNotABlock (λ items. (holding (forgot s block total block) h items, tt))
+    (some_ok (items_after_release block (h.start + 16) h.items) HeapNotABlock (λ items. (store_holding (store_after_forget s block total block) h items, tt))
     (can_release block (h.start + 16) total h.items own.live))
 
 -- a move, where there is room at the base
 moved_by : (s : Store) (h : HeapList) (block total : ℕ) (c : Claim) → find_heap h.start s.heaps ≡ Some h → IsGuests s h block total
     → live_total block (h.start + 16) c.items ≡ Some total → holds_anchor s.anchor block (Some total) ≡ false
-    → is_ok (handed_over h.start block (total - 4) (holding s h c.items) (h.start + 16 + c.offset + 4)) ≡ true
+    → is_ok (handed_over h.start block (total - 4) (store_holding s h c.items) (h.start + 16 + c.offset + 4)) ≡ true
 moved_by s h block total c found own still none =
     let new : ℕ = h.start + 16 + c.offset + 4 in
-    let t : Store = copied (holding s h c.items) block new (total - 4) in
+    let t : Store = store_after_copy (store_holding s h c.items) block new (total - 4) in
     let k : HeapList = record { kind = h.kind; start = h.start; end = h.end; items = c.items } in
     then_ok (gave_back t h.start block) (λ r. (r.0, new))
     (given_back t k block total (found_held h.start c.items s.heaps h found) (record { own = own.own; live = still }) none)
 
 moved_fits : (s : Store) (h : HeapList) (block total new : ℕ) → find_heap h.start s.heaps ≡ Some h → AreTotals h.items → IsGuests s h block total
     → holds_anchor s.anchor block (Some total) ≡ false → holds_heap s.heaps block (total - 4) ≡ false → 16 + size_of h.items + new ≤ h.end
-    → is_ok (moved s h block total new) ≡ true
+    → is_ok (store_after_move s h block total new) ≡ true
 moved_fits s h block total new found totals own free empty fits =
-    go (claimed new (h.end - 16) h.items) (claim_fits new (h.end - 16) h.items (omega arith))
+    go (claim_in_items new (h.end - 16) h.items) (claim_fits new (h.end - 16) h.items (omega arith))
     (claim_still new (h.end - 16) block total (h.start + 16) h.items own.live totals) where
       go : (o : Option Claim) → is_some o ≡ true → IsStill block total (h.start + 16) o
           → is_ok (bind (ok_or o HeapNoRoom) (λ c. if holds_heap s.heaps block (total - 4) then Err BlockHoldsHeap else
-          handed_over h.start block (total - 4) (holding s h c.items) (h.start + 16 + c.offset + 4))) ≡ true
+          handed_over h.start block (total - 4) (store_holding s h c.items) (h.start + 16 + c.offset + 4))) ≡ true
       go None some still = absurd (let no : false ≡ true = some in cc)
       go (Some c) some still = rw empty (moved_by s h block total c found own still free)
 
 -- and of one in which a heap lies, which is not done
 moved_holds : (s : Store) (h : HeapList) (block total new : ℕ) → holds_heap s.heaps block (total - 4) ≡ true → 16 + size_of h.items + new ≤ h.end
-    → moved s h block total new ≡ Err BlockHoldsHeap
-moved_holds s h block total new holds fits = go (claimed new (h.end - 16) h.items) (claim_fits new (h.end - 16) h.items (omega arith)) where
+    → store_after_move s h block total new ≡ Err BlockHoldsHeap
+moved_holds s h block total new holds fits = go (claim_in_items new (h.end - 16) h.items) (claim_fits new (h.end - 16) h.items (omega arith)) where
   go : (o : Option Claim) → is_some o ≡ true
       → bind (ok_or o HeapNoRoom) (λ c. if holds_heap s.heaps block (total - 4) then Err BlockHoldsHeap else
-      handed_over h.start block (total - 4) (holding s h c.items) (h.start + 16 + c.offset + 4)) ≡ Err BlockHoldsHeap
+      handed_over h.start block (total - 4) (store_holding s h c.items) (h.start + 16 + c.offset + 4)) ≡ Err BlockHoldsHeap
   go None some = absurd (let no : false ≡ true = some in cc)
   go (Some c) some = rw holds refl
 
@@ -128,10 +128,10 @@ pub resized_fits : (s : Store) (h : HeapList) (block total change : ℕ) → fin
     × (total < round_up_8 (changed_by total change)))
     ⊎ ((holds_anchor s.anchor block (Some total) ≡ false)
     × ((holds_heap s.heaps block (total - 4) ≡ false) × (16 + size_of h.items + round_up_8 (changed_by total change) ≤ h.end)))
-    → is_ok (resized s h.start block change) ≡ true
-unfolding resized
+    → is_ok (store_after_resize s h.start block change) ≡ true
+unfolding store_after_resize
 resized_fits s h block total change found totals own room =
-    let place : LiveBytes block total (h.start + 16) (h.start + 16 + size_of h.items) = live_bytes block total (h.start + 16) h.items totals own.live in
+    let place : LiveBytes block total (h.start + 16) (h.start + 16 + size_of h.items) = law_live_bytes block total (h.start + 16) h.items totals own.live in
     elim (cases_Bool (nat_le (changed_by total change) 4)) [
       | inl few ↦ elim room [
         | inl grows ↦ absurd (omega (arith, leb-true (changed_by total change) 4 few, grows.1, place.size))
@@ -143,15 +143,15 @@ resized_fits s h block total change found totals own room =
 
 -- a block that finds no room holds no anchor
 pub full_free : (s : Store) (heap : ℕ) (h : HeapList) (block total change : ℕ) → find_heap heap s.heaps ≡ Some h → IsGuests s h block total
-    → is_full (resized s heap block change) ≡ true → holds_anchor s.anchor block (Some total) ≡ false
-unfolding resized gave_back
+    → is_full (store_after_resize s heap block change) ≡ true → holds_anchor s.anchor block (Some total) ≡ false
+unfolding store_after_resize gave_back
 full_free s heap h block total change found own full =
     false_from_ne_true (holds_anchor s.anchor block (Some total)) (λ held. elim (cases_Bool (nat_le (changed_by total change) 4)) [
-      | inl few ↦ not_freed held few (released block (h.start + 16) h.items) refl
+      | inl few ↦ not_freed held few (items_after_release block (h.start + 16) h.items) refl
       | inr more ↦ not_moved held more (resized_in_place block (h.start + h.end) (round_up_8 (changed_by total change)) (h.start + 16) h.items) refl
     ]) where
       not_freed : holds_anchor s.anchor block (Some total) ≡ true → nat_le (changed_by total change) 4 ≡ true → (o : Option (List Item))
-          → released block (h.start + 16) h.items ≡ o → ⊥
+          → items_after_release block (h.start + 16) h.items ≡ o → ⊥
       not_freed held few None is = let t = rw (found, own.own, own.live, few, is) at full in let no : false ≡ true = t in cc
       not_freed held few (Some items) is = let t = rw (found, own.own, own.live, few, is, held) at full in let no : false ≡ true = t in cc
 
@@ -170,16 +170,16 @@ pub record IsMoving (h : HeapList) (block total change : ℕ) : Type 0 where
   pub none : resized_in_place block (h.start + h.end) (round_up_8 (changed_by total change)) (h.start + 16) h.items ≡ None
 
 pub full_moves : (s : Store) (heap : ℕ) (h : HeapList) (block total change : ℕ) → find_heap heap s.heaps ≡ Some h → IsGuests s h block total
-    → is_full (resized s heap block change) ≡ true → IsMoving h block total change
-unfolding resized gave_back
+    → is_full (store_after_resize s heap block change) ≡ true → IsMoving h block total change
+unfolding store_after_resize gave_back
 full_moves s heap h block total change found own full = elim (cases_Bool (nat_le (changed_by total change) 4)) [
-  | inl few ↦ absurd (not_freed few (released block (h.start + 16) h.items) refl)
+  | inl few ↦ absurd (not_freed few (items_after_release block (h.start + 16) h.items) refl)
   | inr more ↦ record {
     more = more;
     none = stuck more (resized_in_place block (h.start + h.end) (round_up_8 (changed_by total change)) (h.start + 16) h.items) refl;
   }
 ] where
-  not_freed : nat_le (changed_by total change) 4 ≡ true → (o : Option (List Item)) → released block (h.start + 16) h.items ≡ o → ⊥
+  not_freed : nat_le (changed_by total change) 4 ≡ true → (o : Option (List Item)) → items_after_release block (h.start + 16) h.items ≡ o → ⊥
   not_freed few None is = let t = rw (found, own.own, own.live, few, is) at full in let no : false ≡ true = t in cc
   not_freed few (Some items) is = elim (cases_Bool (holds_anchor s.anchor block (Some total))) [
     | inl held ↦ let t = rw (found, own.own, own.live, few, is, held) at full in let no : false ≡ true = t in cc
@@ -198,13 +198,13 @@ full_moves s heap h block total change found own full = elim (cases_Bool (nat_le
 
 pub resized_holds : (s : Store) (h : HeapList) (block total change : ℕ) → find_heap h.start s.heaps ≡ Some h → IsGuests s h block total
     → IsMoving h block total change → holds_anchor s.anchor block (Some total) ≡ false → holds_heap s.heaps block (total - 4) ≡ true
-    → 16 + size_of h.items + round_up_8 (changed_by total change) ≤ h.end → resized s h.start block change ≡ Err BlockHoldsHeap
-unfolding resized
+    → 16 + size_of h.items + round_up_8 (changed_by total change) ≤ h.end → store_after_resize s h.start block change ≡ Err BlockHoldsHeap
+unfolding store_after_resize
 resized_holds s h block total change found own moving free holds fits =
     rw (found, own.own, own.live, moving.more, moving.none, free) (moved_holds s h block total (round_up_8 (changed_by total change)) holds fits)
 
 -- a block that is not the last gets no room by a later end of its heap
-refit_stays : (room more new t : ℕ) (xs : List Item) → 0 < size_of xs → refitted room new t xs ≡ refitted more new t xs
+refit_stays : (room more new t : ℕ) (xs : List Item) → 0 < size_of xs → items_after_refit room new t xs ≡ items_after_refit more new t xs
 refit_stays room more new t [] some = absurd (omega arith)
 refit_stays room more new t (Live u ∷ xs) some = refl
 refit_stays room more new t (Free u ∷ xs) some = refl
@@ -235,7 +235,7 @@ some_mapped : (f : List Item → List Item) (o : Option (List Item)) → is_some
 some_mapped f None some = some
 some_mapped f (Some ys) some = refl
 
-last_refitted : (room new t : ℕ) (xs : List Item) → AreTotals xs → size_of xs ≡ 0 → new ≤ room → is_some (refitted room new t xs) ≡ true
+last_refitted : (room new t : ℕ) (xs : List Item) → AreTotals xs → size_of xs ≡ 0 → new ≤ room → is_some (items_after_refit room new t xs) ≡ true
 last_refitted room new t [] totals none fits = ap is_some (last_some room new t fits)
 last_refitted room new t (Live u ∷ xs) totals none fits = absurd (omega (arith, (total_facts u totals.0).0, none))
 last_refitted room new t (Free u ∷ xs) totals none fits = absurd (omega (arith, (total_facts u totals.0).0, none))

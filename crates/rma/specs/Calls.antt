@@ -2,20 +2,21 @@
 -- pages (RISC OS 3 Programmer's Reference Manual, "OS_Module", reasons 5, 6, 7 and 13; the numbers
 -- and the order of the refusals, and that the area grows by the fewest pages that suffice, are this
 -- project's own). All sums are exact.
+use Rattle.profile.specs.MemoryMap.{module_area_start}
 use Rattle.std.specs.Prelude.{ℕ, Bool, true, false, ◌+◌, ◌-◌, ◌*◌, ◌==◌, nat_le, nat_lt, Option, Some, None, Result, Ok, Err, if◌then◌else◌}
 use Rattle.profile.specs.Outcome.{bind}
 use Rattle.profile.specs.declared.error.ErrorNumber.{ErrorNumber}
 use Rattle.profile.specs.declared.error.ErrorNumber.TheVariants.{HeapNotABlock, HeapHoldsAnchor, HeapNoRoom, BlockHoldsHeap, RmaNotABlock, RmaHoldsAnchor, RmaNoRoom, RmaBlockHoldsHeap}
 use Rattle.os_heap.specs.os_heap_lists.specs.Lists.{round_up_8, total_for, changed_by}
-use Rattle.os_heap.specs.Calls.{described, got, gave_back, resized, block_sized}
+use Rattle.os_heap.specs.Calls.{heap_description, store_after_get, gave_back, store_after_resize, block_sized}
 use Rattle.os_heap.specs.Forgetting.{holds_heap}
 use Rattle.os_heap.specs.Room.{base_offset}
 use Rattle.os_heap.specs.Store.{Store}
-use Rattle.flex_kept.specs.dynamic_areas.specs.declared.area.Area.{Area}
-use Rattle.flex_kept.specs.dynamic_areas.specs.Areas.{find_area}
-use Rattle.flex_kept.specs.dynamic_areas.specs.Changing.{growth_room, land_more, pages_had, store_extended}
-use Rattle.flex_kept.specs.dynamic_areas.specs.Creating.{pages_for}
-use Rattle.flex_kept.specs.dynamic_areas.specs.Ground.{Estate}
+use Rattle.flex_frame.specs.dynamic_areas.specs.declared.area.Area.{Area}
+use Rattle.flex_frame.specs.dynamic_areas.specs.Areas.{find_area}
+use Rattle.flex_frame.specs.dynamic_areas.specs.Changing.{growth_room, land_more, pages_had, store_extended}
+use Rattle.flex_frame.specs.dynamic_areas.specs.Creating.{pages_for}
+use Rattle.flex_frame.specs.dynamic_areas.specs.Ground.{Estate}
 
 -- what a heap refuses has a name of its own in the module area
 abbrev pub rma_error : ErrorNumber → ErrorNumber
@@ -40,7 +41,7 @@ or_nothing (Ok r) = r
 or_nothing (Err e) = (0, 0)
 
 unfoldable pub rma_described : Store → ℕ × ℕ
-rma_described s = or_nothing (described s 0x01800000)
+rma_described s = or_nothing (heap_description s module_area_start)
 
 -- the pages that the module area has, and how many more it can get
 abbrev pub area_pages : Estate → ℕ
@@ -73,7 +74,8 @@ unfoldable pub grown_to : Estate → ℕ → Result Estate ErrorNumber
 grown_to e end = if nat_le end (4096 * area_pages e) then Ok e else grown_by e (pages_short e end)
 
 -- A call on the heap, which is done once more in the grown area where it found no room.
-abbrev pub in_grown_area : {A : Type 0} → Estate → ℕ → (Store → Result (Store × A) ErrorNumber) → Result (Estate × A) ErrorNumber
+abbrev pub in_grown_area : {A : Type 0} → Estate → ℕ → (Store → Result (Store × A) ErrorNumber) →
+    Result (Estate × A) ErrorNumber
 in_grown_area e end call = bind (grown_to e end) (λ g. in_area g (call g.store))
 
 abbrev pub is_no_room : ErrorNumber → Bool
@@ -84,22 +86,24 @@ abbrev pub is_full : {A : Type 0} → Result A ErrorNumber → Bool
 is_full (Ok r) = false
 is_full (Err f) = is_no_room f
 
-abbrev pub or_grown : {A : Type 0} → Estate → ℕ → (Store → Result (Store × A) ErrorNumber) → Result (Store × A) ErrorNumber
+abbrev pub or_grown : {A : Type 0} → Estate → ℕ → (Store → Result (Store × A) ErrorNumber) →
+    Result (Store × A) ErrorNumber
     → Result (Estate × A) ErrorNumber
 or_grown e end call answer = if is_full answer then in_grown_area e end call else in_area e answer
 
 -- Reason 6, claim: a block of `size` bytes, in free room of the heap, or at its base, for which the
 -- area grows. The answer is the address of its first byte.
 abbrev pub rma_base : Store → ℕ
-rma_base s = base_offset s 0x01800000
+rma_base s = base_offset s module_area_start
 
 unfoldable pub rma_claimed : Estate → ℕ → Result (Estate × ℕ) ErrorNumber
 rma_claimed e size =
-    or_grown e (rma_base e.store + total_for size) (λ s. got s 0x01800000 size) (got e.store 0x01800000 size)
+    or_grown e (rma_base e.store + total_for size) (λ s. store_after_get s module_area_start size)
+    (store_after_get e.store module_area_start size)
 
 -- Reason 7, free: a block of the guest's, which no module image is.
 unfoldable pub rma_freed : Estate → ℕ → Result (Estate × Unit {0}) ErrorNumber
-rma_freed e block = in_area e (gave_back e.store 0x01800000 block)
+rma_freed e block = in_area e (gave_back e.store module_area_start block)
 
 -- Reason 13, extend: a block's size changes as in a heap. But first the area grows for the last
 -- block, where that needs it and can have it, so that it gets its bytes where it stands; and where
@@ -113,7 +117,7 @@ total_changed size change = round_up_8 (changed_by (size + 4) change)
 abbrev pub end_in_place : ℕ → ℕ → ℕ → Result ℕ ErrorNumber → ℕ
 end_in_place base block change (Err f) = 0
 end_in_place base block change (Ok size) =
-    if block + size == 0x01800000 + base then (base + total_changed size change) - (size + 4) else 0
+    if block + size == module_area_start + base then (base + total_changed size change) - (size + 4) else 0
 
 abbrev pub end_if_moved : ℕ → ℕ → Result ℕ ErrorNumber → ℕ
 end_if_moved base change (Err f) = 0
@@ -125,12 +129,14 @@ or_as_before e (Err f) = e
 
 abbrev pub grown_in_place : Estate → ℕ → ℕ → Estate
 grown_in_place e block change =
-    or_as_before e (grown_to e (end_in_place (rma_base e.store) block change (block_sized e.store 0x01800000 block)))
+    or_as_before e (grown_to e (end_in_place (rma_base e.store) block change
+    (block_sized e.store module_area_start block)))
 
 abbrev pub resized_or_grown : Estate → ℕ → ℕ → Result (Estate × ℕ) ErrorNumber
 resized_or_grown e block change =
-    or_grown e (end_if_moved (rma_base e.store) change (block_sized e.store 0x01800000 block)) (λ s. resized s 0x01800000 block change)
-    (resized e.store 0x01800000 block change)
+    or_grown e (end_if_moved (rma_base e.store) change (block_sized e.store module_area_start block))
+    (λ s. store_after_resize s module_area_start block change)
+    (store_after_resize e.store module_area_start block change)
 
 unfoldable pub rma_extended : Estate → ℕ → ℕ → Result (Estate × ℕ) ErrorNumber
 rma_extended e block change = resized_or_grown (grown_in_place e block change) block change

@@ -1,19 +1,22 @@
 -- Laws of the module area, said in other words than its calls (RISC OS 3 Programmer's
 -- Reference Manual, "OS_Module", reasons 6 and 7).
+use Rattle.profile.specs.MemoryMap.{module_area_start}
 use Rattle.std.specs.Prelude.{ℕ, ◌≡◌, false, Result, Ok, Err}
 use Rattle.profile.specs.declared.error.ErrorNumber.{ErrorNumber}
-use Rattle.os_heap.specs.Calls.{got, items_of}
+use Rattle.os_heap.specs.Calls.{store_after_get, items_of}
 use Rattle.os_heap.specs.Store.{has_image}
-use Rattle.flex_kept.specs.dynamic_areas.specs.Ground.{Estate, IsEstate}
+use Rattle.flex_frame.specs.dynamic_areas.specs.Ground.{Estate, IsEstate}
 use Rattle.rma.specs.Calls.{is_full, rma_claimed, rma_freed}
 
 -- the blocks and the free room are those of an estate, and the area has its size
 abbrev pub IsUndone : Estate → Result (Estate × Unit {0}) ErrorNumber → Type 0
 IsUndone e (Err f) = ⊥
-IsUndone e (Ok r) = (items_of r.0.store 0x01800000 ≡ items_of e.store 0x01800000) × ((r.0.pool ≡ e.pool) × (r.0.land ≡ e.land))
+IsUndone e (Ok r) = (items_of r.0.store module_area_start ≡ items_of e.store module_area_start) ×
+    ((r.0.pool ≡ e.pool) × (r.0.land ≡ e.land))
 
 -- A block that is claimed without growth, and given back at once, leaves blocks, free room and area
 -- as they were.
 abbrev pub FreeUndoesClaim : Type 0
-FreeUndoesClaim = (e g : Estate) (size block : ℕ) → IsEstate e → is_full (got e.store 0x01800000 size) ≡ false → rma_claimed e size ≡ Ok (g, block)
+FreeUndoesClaim = (e g : Estate) (size block : ℕ) → IsEstate e →
+    is_full (store_after_get e.store module_area_start size) ≡ false → rma_claimed e size ≡ Ok (g, block)
     → has_image block e.store.others ≡ false → IsUndone e (rma_freed g block)

@@ -6,12 +6,12 @@ ghost use Rattle.profile.specs.Outcome.{Gives};
 ghost use Rattle.address_map.specs.Bytes.{in_range};
 ghost use Rattle.address_map.specs.Memory.{StaysInPlace};
 ghost use Rattle.os_heap.specs.os_heap_lists.specs.Lists.{total_for};
-ghost use Rattle.os_heap.specs.Calls.{got};
+ghost use Rattle.os_heap.specs.Calls.{store_after_get};
 ghost use Rattle.os_heap.specs.Forgetting.{holds_heap};
 ghost use Rattle.os_heap.specs.Order.{KeepsOrder};
 ghost use Rattle.os_heap.specs.Store.{store_of, AreClasses};
-ghost use Rattle.flex_kept.specs.dynamic_areas.specs.Ground.{estate_of, IsEstate};
-ghost use Rattle.flex_kept.specs.Keeping.{is_in_record, IsUnanchored, KeepsFlex};
+ghost use Rattle.flex_frame.specs.dynamic_areas.specs.Ground.{estate_of, IsEstate};
+ghost use Rattle.flex_frame.specs.Keeping.{is_in_record, RangeHasNoAnchor, KeepsFlex};
 ghost use Rattle.rma.specs.Calls.{in_grown_area, rma_base, rma_claimed};
 ghost use Rattle.rma.specs.NewImages.{IsLiveBlock};
 ghost use Rattle.rma.specs.Places.{KeepsPlaces};
@@ -20,7 +20,7 @@ use crate::area::Rma;
 use crate::errors::{is_no_room, rma_error};
 use crate::growth::grow_to;
 use address_map::AddressMap;
-use flex_kept::dynamic_areas::Areas;
+use flex_frame::dynamic_areas::Areas;
 use os_heap::{Heaps, total_for};
 use profile::ErrorNumber;
 use profile::memory_map::RMA_START;
@@ -44,7 +44,8 @@ impl Rma {
     ) -> Result<u32, ErrorNumber>
         requires estate { IsEstate (estate_of map.old areas.old) }
         requires classes { AreClasses map.old }
-        ensures claimed { Gives (estate_of map.old areas.old) (rma_claimed (estate_of map.old areas.old) size) result
+        ensures claimed { Gives (estate_of map.old areas.old)
+            (rma_claimed (estate_of map.old areas.old) size) result
             (estate_of map.new areas.new) }
         ensures estate { IsEstate (estate_of map.new areas.new) }
         ensures classes { AreClasses map.new }
@@ -53,11 +54,13 @@ impl Rma {
         ensures stays { StaysInPlace map.old map.new }
         ensures places { KeepsPlaces map.old map.new }
         ensures live { IfOk result (λ block. IsLiveBlock (store_of map.new) block (total_for size)) }
-        ensures unheaped { IfOk result (λ block. holds_heap (store_of map.new).heaps block (total_for size - 4) ≡ false) }
+        ensures unheaped { IfOk result (λ block. holds_heap (store_of map.new).heaps block
+            (total_for size - 4) ≡ false) }
         ensures inside { IfOk result (λ block. in_range module_area_start module_area_maximum block ≡ true) }
         ensures alone { IfOk result (λ block. is_in_record (store_of map.old).others block ≡ false) }
         ensures flex { KeepsFlex (store_of map.old) (store_of map.new) }
-        ensures unanchored { IfOk result (λ block. IsUnanchored (store_of map.new) block (total_for size - 4)) }
+        ensures unanchored { IfOk result (λ block. RangeHasNoAnchor (store_of map.new) block
+            (total_for size - 4)) }
         ensures sizes { areas.new.sizes ≡ areas.old.sizes }
     {
         match Heaps::new().get(map, RMA_START, size).answer {
@@ -74,18 +77,20 @@ fn claim_grown(map: &mut AddressMap, areas: &mut Areas, size: u32) -> Result<u32
     requires classes { AreClasses map.old }
     ensures claimed { Gives (estate_of map.old areas.old)
         (in_grown_area (estate_of map.old areas.old) (rma_base (store_of map.old) + total_for size)
-        (λ s. got s 0x01800000 size)) result (estate_of map.new areas.new) }
+        (λ s. store_after_get s module_area_start size)) result (estate_of map.new areas.new) }
     ensures estate { IsEstate (estate_of map.new areas.new) }
     ensures classes { AreClasses map.new }
     ensures others { (store_of map.new).others ≡ (store_of map.old).others }
     ensures order { KeepsOrder map.old map.new }
     ensures places { KeepsPlaces map.old map.new }
     ensures live { IfOk result (λ block. IsLiveBlock (store_of map.new) block (total_for size)) }
-    ensures unheaped { IfOk result (λ block. holds_heap (store_of map.new).heaps block (total_for size - 4) ≡ false) }
+    ensures unheaped { IfOk result (λ block. holds_heap (store_of map.new).heaps block (total_for size - 4)
+        ≡ false) }
     ensures inside { IfOk result (λ block. in_range module_area_start module_area_maximum block ≡ true) }
     ensures alone { IfOk result (λ block. is_in_record (store_of map.old).others block ≡ false) }
     ensures flex { KeepsFlex (store_of map.old) (store_of map.new) }
-    ensures unanchored { IfOk result (λ block. IsUnanchored (store_of map.new) block (total_for size - 4)) }
+    ensures unanchored { IfOk result (λ block. RangeHasNoAnchor (store_of map.new) block
+        (total_for size - 4)) }
     ensures sizes { areas.new.sizes ≡ areas.old.sizes }
 {
     let heaps = Heaps::new();

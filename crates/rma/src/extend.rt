@@ -1,14 +1,15 @@
 //! OS_Module 13: a block gets another size, and the area grows where that is needed.
 
+ghost use Rattle.profile.specs.MemoryMap.{module_area_start};
 ghost use Rattle.std.specs.Prelude.{◌≡◌, ◌<◌, ◌+◌, ◌^◌, true, is_ok, if◌then◌else◌};
 ghost use Rattle.profile.specs.Outcome.{Gives};
 ghost use Rattle.profile.specs.declared.error.ErrorNumber.TheVariants.{RmaBlockHoldsHeap, RmaNoRoom};
 ghost use Rattle.address_map.specs.Memory.{StaysInPlace};
-ghost use Rattle.os_heap.specs.Calls.{block_sized, resized};
+ghost use Rattle.os_heap.specs.Calls.{block_sized, store_after_resize};
 ghost use Rattle.os_heap.specs.Order.{KeepsOrder, LosesInOrder};
 ghost use Rattle.os_heap.specs.Store.{store_of, AreClasses, IsSound};
-ghost use Rattle.flex_kept.specs.dynamic_areas.specs.Ground.{estate_of, IsEstate};
-ghost use Rattle.flex_kept.specs.Keeping.{KeepsFlex};
+ghost use Rattle.flex_frame.specs.dynamic_areas.specs.Ground.{estate_of, IsEstate};
+ghost use Rattle.flex_frame.specs.Keeping.{KeepsFlex};
 ghost use Rattle.rma.specs.Calls.{block_holds, end_if_moved, end_in_place, grown_in_place, grown_to, in_grown_area, is_full, rma_base, rma_extended, total_changed};
 ghost use Rattle.rma.specs.Places.{KeepsPlaces};
 
@@ -16,7 +17,7 @@ use crate::area::Rma;
 use crate::errors::{is_no_room, rma_error};
 use crate::growth::{can_grow_to, grow_to};
 use address_map::AddressMap;
-use flex_kept::dynamic_areas::Areas;
+use flex_frame::dynamic_areas::Areas;
 use os_heap::{Heaps, changed_by, round_up_8};
 use profile::ErrorNumber;
 use profile::memory_map::RMA_START;
@@ -93,12 +94,13 @@ fn move_grown(
 ) -> Result<u32, ErrorNumber>
     requires estate { IsEstate (estate_of map.old areas.old) }
     requires classes { AreClasses map.old }
-    requires full { is_full (resized (store_of map.old) 0x01800000 block change) ≡ true }
+    requires full { is_full (store_after_resize (store_of map.old) module_area_start block change) ≡ true }
     requires tried { grown_in_place (estate_of map.old areas.old) block change ≡ estate_of map.old areas.old }
     ensures moved { Gives (estate_of map.old areas.old)
         (in_grown_area (estate_of map.old areas.old)
-        (end_if_moved (rma_base (store_of map.old)) change (block_sized (store_of map.old) 0x01800000 block))
-        (λ s. resized s 0x01800000 block change)) result (estate_of map.new areas.new) }
+        (end_if_moved (rma_base (store_of map.old)) change
+        (block_sized (store_of map.old) module_area_start block))
+        (λ s. store_after_resize s module_area_start block change)) result (estate_of map.new areas.new) }
     ensures estate { IsEstate (estate_of map.new areas.new) }
     ensures classes { AreClasses map.new }
     ensures others { (store_of map.new).others ≡ (store_of map.old).others }
@@ -121,7 +123,8 @@ fn move_grown(
 /// Whether a heap lies in a block of the module area.
 fn holds_heap(map: &AddressMap, block: u32) -> bool
     requires { IsSound (store_of map.now) }
-    ensures { result ≡ block_holds (store_of map.now) block (block_sized (store_of map.now) 0x01800000 block) }
+    ensures { result ≡ block_holds (store_of map.now) block
+        (block_sized (store_of map.now) module_area_start block) }
 {
     let heaps = Heaps::new();
     match heaps.block_size(map, RMA_START, block).answer {
@@ -149,7 +152,7 @@ fn why_unmoved(map: &AddressMap, areas: &Areas, end: u64) -> ErrorNumber
 fn end_in_place(map: &AddressMap, block: u32, change: u32) -> u64
     requires { IsSound (store_of map.now) }
     ensures { result ≡ end_in_place (rma_base (store_of map.now)) block change
-        (block_sized (store_of map.now) 0x01800000 block) }
+        (block_sized (store_of map.now) module_area_start block) }
 {
     let base = Heaps::new().base(map, RMA_START);
     match Heaps::new().block_size(map, RMA_START, block).answer {
@@ -164,7 +167,7 @@ fn end_in_place(map: &AddressMap, block: u32, change: u32) -> u64
 fn end_if_moved(map: &AddressMap, block: u32, change: u32) -> u64
     requires { IsSound (store_of map.now) }
     ensures { result ≡ end_if_moved (rma_base (store_of map.now)) change
-        (block_sized (store_of map.now) 0x01800000 block) }
+        (block_sized (store_of map.now) module_area_start block) }
 {
     let base = Heaps::new().base(map, RMA_START);
     match Heaps::new().block_size(map, RMA_START, block).answer {

@@ -4,11 +4,11 @@ ghost use Rattle.std.specs.Prelude.{◌≡◌};
 ghost use Rattle.profile.specs.Outcome.{Gives};
 ghost use Rattle.address_map.specs.Memory.{mapping};
 ghost use Rattle.os_heap.specs.Store.{AreClasses};
-ghost use Rattle.flex_kept.specs.dynamic_areas.specs.Areas.{Land};
-ghost use Rattle.flex_kept.specs.dynamic_areas.specs.Ground.{estate_of, IsEstate};
+ghost use Rattle.flex_frame.specs.dynamic_areas.specs.Areas.{Land};
+ghost use Rattle.flex_frame.specs.dynamic_areas.specs.Ground.{estate_of, IsEstate};
 ghost use Rattle.os_heap.specs.Order.{LosesHeaps};
 ghost use Rattle.os_heap.specs.Store.{store_of, IsSound};
-ghost use Rattle.flex_kept.specs.Keeping.{KeepsFlex};
+ghost use Rattle.flex_frame.specs.Keeping.{KeepsFlex};
 ghost use Rattle.rma.specs.Calls.{rma_freed};
 
 use crate::area::Rma;
@@ -33,7 +33,8 @@ impl Rma {
         requires sound { IsSound (store_of map.old) }
         requires classes { AreClasses map.old }
         ensures freed { (l : Land)
-            → Gives (estate_of map.old l) (rma_freed (estate_of map.old l) block) result (estate_of map.new l) }
+            → Gives (estate_of map.old l) (rma_freed (estate_of map.old l) block) result
+            (estate_of map.new l) }
         ensures sound { IsSound (store_of map.new) }
         ensures estate { (l : Land) → IsEstate (estate_of map.old l) → IsEstate (estate_of map.new l) }
         ensures classes { AreClasses map.new }

@@ -1,5 +1,6 @@
 //! Blocks of the module area recorded as module images, and given back as such.
 
+ghost use Rattle.profile.specs.MemoryMap.{module_area_start};
 ghost use Rattle.std.specs.Prelude.{◌≡◌, IfOk, MatchResult};
 ghost use Rattle.std.specs.List.{filter};
 ghost use Rattle.address_map.specs.Memory.{mapping, regions};
@@ -8,9 +9,9 @@ ghost use Rattle.address_map.specs.declared.region.Kind.TheVariants.{Image};
 ghost use Rattle.os_heap.specs.Calls.{block_sized};
 ghost use Rattle.os_heap.specs.Order.{stays, AddsRecord, KeepsOrder};
 ghost use Rattle.os_heap.specs.Store.{store_of, AreClasses, IsSound};
-ghost use Rattle.flex_kept.specs.dynamic_areas.specs.Areas.{Land};
-ghost use Rattle.flex_kept.specs.dynamic_areas.specs.Ground.{estate_of, IsEstate};
-ghost use Rattle.flex_kept.specs.Keeping.{IsUnanchored, KeepsFlex};
+ghost use Rattle.flex_frame.specs.dynamic_areas.specs.Areas.{Land};
+ghost use Rattle.flex_frame.specs.dynamic_areas.specs.Ground.{estate_of, IsEstate};
+ghost use Rattle.flex_frame.specs.Keeping.{RangeHasNoAnchor, KeepsFlex};
 ghost use Rattle.rma.specs.Images.{image_dropped, image_freed, image_recorded, CanRecord};
 
 use crate::area::Rma;
@@ -30,10 +31,10 @@ impl Rma {
         ensures estate { (l : Land) → IsEstate (estate_of map.old l) → IsEstate (estate_of map.new l) }
         ensures classes { AreClasses map.old → AreClasses map.new }
         ensures mapping { mapping map.new ≡ mapping map.old }
-        ensures order { MatchResult (block_sized (store_of map.old) 0x01800000 at)
+        ensures order { MatchResult (block_sized (store_of map.old) module_area_start at)
             (λ _. AddsRecord map.old map.new Image at) (λ _. KeepsOrder map.old map.new) }
-        ensures flex { IfOk (block_sized (store_of map.old) 0x01800000 at)
-            (λ len. IsUnanchored (store_of map.old) at len)
+        ensures flex { IfOk (block_sized (store_of map.old) module_area_start at)
+            (λ len. RangeHasNoAnchor (store_of map.old) at len)
             → KeepsFlex (store_of map.old) (store_of map.new) }
     {
         match Heaps::new().block_size(map, RMA_START, at).answer {
@@ -68,7 +69,8 @@ impl Rma {
         ensures estate { (l : Land) → IsEstate (estate_of map.old l) → IsEstate (estate_of map.new l) }
         ensures classes { AreClasses map.new }
         ensures mapping { mapping map.new ≡ mapping map.old }
-        ensures records { regions map.new ≡ filter (stays (store_of map.new).heaps) (without_region (regions map.old) Image at) }
+        ensures records { regions map.new ≡ filter (stays (store_of map.new).heaps)
+            (without_region (regions map.old) Image at) }
         ensures flex { KeepsFlex (store_of map.old) (store_of map.new) }
     {
         self.drop_image(map, at);

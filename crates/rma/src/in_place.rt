@@ -4,11 +4,11 @@ ghost use Rattle.std.specs.Prelude.{◌≡◌, ◌<◌, true, length};
 ghost use Rattle.address_map.specs.Memory.{mapping};
 ghost use Rattle.address_map.specs.declared.region.Kind.TheVariants.{Image};
 ghost use Rattle.os_heap.specs.Order.{AddsRecord};
-ghost use Rattle.os_heap.specs.Ranges.{are_mapped, meets_any};
+ghost use Rattle.os_heap.specs.Ranges.{are_bytes_mapped, meets_any};
 ghost use Rattle.os_heap.specs.Store.{store_of, AreClasses, IsSound};
-ghost use Rattle.flex_kept.specs.dynamic_areas.specs.Areas.{Land};
-ghost use Rattle.flex_kept.specs.dynamic_areas.specs.Ground.{estate_of, IsEstate};
-ghost use Rattle.flex_kept.specs.Keeping.{KeepsFlex};
+ghost use Rattle.flex_frame.specs.dynamic_areas.specs.Areas.{Land};
+ghost use Rattle.flex_frame.specs.dynamic_areas.specs.Ground.{estate_of, IsEstate};
+ghost use Rattle.flex_frame.specs.Keeping.{KeepsFlex};
 ghost use Rattle.rma.specs.Calls.{with_store};
 ghost use Rattle.rma.specs.NewImages.{may_be_in_place, with_image_in_place};
 
@@ -34,7 +34,8 @@ impl Rma {
         requires some { 0 < len }
         requires room { length (store_of map.old).others < 68 }
         ensures placed { (l : Land)
-            → estate_of map.new l ≡ with_store (estate_of map.old l) (with_image_in_place (store_of map.old) at len) }
+            → estate_of map.new l ≡ with_store (estate_of map.old l)
+            (with_image_in_place (store_of map.old) at len) }
         ensures sound { IsSound (store_of map.new) }
         ensures estate { (l : Land) → IsEstate (estate_of map.old l) → IsEstate (estate_of map.new l) }
         ensures classes { AreClasses map.old → AreClasses map.new }
@@ -48,7 +49,7 @@ impl Rma {
 
 /// Whether each of the `len` bytes from an address on is mapped.
 pub(crate) fn are_mapped(map: &AddressMap, at: u32, len: u32) -> bool
-    ensures { result ≡ are_mapped (store_of map.now).bytes.mapped at len }
+    ensures { result ≡ are_bytes_mapped (store_of map.now).bytes.mapped at len }
 {
     map.maps(at, len)
 }

@@ -16,7 +16,7 @@ pub mod slide;
 
 pub use address_map;
 pub use area::Rma;
-pub use flex_kept::os_heap_slide::{Move, Moves};
-pub use flex_kept::{dynamic_areas, os_heap_slide};
+pub use flex_frame::os_heap_slide::{Move, Moves};
+pub use flex_frame::{dynamic_areas, os_heap_slide};
 pub use os_heap;
 pub use profile;

@@ -6,20 +6,20 @@ ghost use Rattle.profile.specs.Outcome.{Gives};
 ghost use Rattle.address_map.specs.Bytes.{in_range, AreMapped};
 ghost use Rattle.address_map.specs.Memory.{is_mapped, layout};
 ghost use Rattle.os_heap.specs.os_heap_lists.specs.Lists.{total_for};
-ghost use Rattle.os_heap.specs.Calls.{copied};
+ghost use Rattle.os_heap.specs.Calls.{store_after_copy};
 ghost use Rattle.os_heap.specs.Forgetting.{holds_heap};
 ghost use Rattle.address_map.specs.declared.region.Kind.TheVariants.{Image};
 ghost use Rattle.os_heap.specs.Order.{AddsRecord, KeepsOrder};
 ghost use Rattle.os_heap.specs.Store.{store_of, AreClasses, IsSound, has_image};
-ghost use Rattle.flex_kept.specs.dynamic_areas.specs.Areas.{Land};
-ghost use Rattle.flex_kept.specs.dynamic_areas.specs.Ground.{estate_of, IsEstate};
-ghost use Rattle.flex_kept.specs.Keeping.{is_in_record, IsUnanchored, KeepsFlex};
-ghost use Rattle.rma.specs.NewImages.{filled, image_copied, image_made, image_record, IsLiveBlock};
+ghost use Rattle.flex_frame.specs.dynamic_areas.specs.Areas.{Land};
+ghost use Rattle.flex_frame.specs.dynamic_areas.specs.Ground.{estate_of, IsEstate};
+ghost use Rattle.flex_frame.specs.Keeping.{is_in_record, RangeHasNoAnchor, KeepsFlex};
+ghost use Rattle.rma.specs.NewImages.{store_with_image_bytes, image_copied, image_made, image_record, IsLiveBlock};
 ghost use Rattle.rma.specs.Places.{KeepsPlaces};
 
 use crate::area::Rma;
 use address_map::AddressMap;
-use flex_kept::dynamic_areas::Areas;
+use flex_frame::dynamic_areas::Areas;
 use profile::ErrorNumber;
 use profile::memory_map::RMA_MAXIMUM;
 
@@ -42,7 +42,8 @@ impl Rma {
         requires estate { IsEstate (estate_of map.old areas.old) }
         requires classes { AreClasses map.old }
         requires room { length (store_of map.old).others < 68 }
-        ensures made { Gives (estate_of map.old areas.old) (image_made (estate_of map.old areas.old) image.now) result
+        ensures made { Gives (estate_of map.old areas.old)
+            (image_made (estate_of map.old areas.old) image.now) result
             (estate_of map.new areas.new) }
         ensures estate { IsEstate (estate_of map.new areas.new) }
         ensures classes { AreClasses map.new }
@@ -51,9 +52,11 @@ impl Rma {
         ensures inside { IfOk result (λ block. in_range module_area_start module_area_maximum block ≡ true) }
         ensures alone { IfOk result (λ block. is_in_record (store_of map.old).others block ≡ false) }
         ensures others { IfOk result (λ block. has_image block (store_of map.old).others ≡ false
-            → (store_of map.new).others ≡ (store_of map.old).others ++ image_record block (length image.now) ∷ []) }
+            → (store_of map.new).others ≡ (store_of map.old).others ++ image_record block (length image.now)
+            ∷ []) }
         ensures order { MatchResult result
-            (λ block. has_image block (store_of map.old).others ≡ false → AddsRecord map.old map.new Image block)
+            (λ block. has_image block (store_of map.old).others ≡ false →
+            AddsRecord map.old map.new Image block)
             (λ _. KeepsOrder map.old map.new) }
         ensures places { KeepsPlaces map.old map.new }
         ensures fits { IfOk result (λ block. length image.now ≤ 4194304) }
@@ -88,7 +91,8 @@ impl Rma {
         requires classes { AreClasses map.old }
         requires room { length (store_of map.old).others < 68 }
         requires source { AreMapped (is_mapped map.old) from len }
-        ensures made { Gives (estate_of map.old areas.old) (image_copied (estate_of map.old areas.old) from len) result
+        ensures made { Gives (estate_of map.old areas.old)
+            (image_copied (estate_of map.old areas.old) from len) result
             (estate_of map.new areas.new) }
         ensures estate { IsEstate (estate_of map.new areas.new) }
         ensures classes { AreClasses map.new }
@@ -99,7 +103,8 @@ impl Rma {
         ensures others { IfOk result (λ block. has_image block (store_of map.old).others ≡ false
             → (store_of map.new).others ≡ (store_of map.old).others ++ image_record block len ∷ []) }
         ensures order { MatchResult result
-            (λ block. has_image block (store_of map.old).others ≡ false → AddsRecord map.old map.new Image block)
+            (λ block. has_image block (store_of map.old).others ≡ false →
+            AddsRecord map.old map.new Image block)
             (λ _. KeepsOrder map.old map.new) }
         ensures places { KeepsPlaces map.old map.new }
         ensures sizes { areas.new.sizes ≡ areas.old.sizes }
@@ -116,14 +121,14 @@ fn fill(map: &mut AddressMap, block: u32, bytes: &[u8])
     requires sound { IsSound (store_of map.old) }
     requires live { IsLiveBlock (store_of map.old) block (total_for (length bytes.now)) }
     requires unheaped { holds_heap (store_of map.old).heaps block (total_for (length bytes.now) - 4) ≡ false }
-    requires unanchored { IsUnanchored (store_of map.old) block (total_for (length bytes.now) - 4) }
-    ensures store { store_of map.new ≡ filled (store_of map.old) block bytes.now }
+    requires unanchored { RangeHasNoAnchor (store_of map.old) block (total_for (length bytes.now) - 4) }
+    ensures store { store_of map.new ≡ store_with_image_bytes (store_of map.old) block bytes.now }
     ensures sound { IsSound (store_of map.new) }
     ensures estate { (l : Land) → IsEstate (estate_of map.old l) → IsEstate (estate_of map.new l) }
     ensures classes { AreClasses map.old → AreClasses map.new }
     ensures layout { layout map.new ≡ layout map.old }
     ensures flex { KeepsFlex (store_of map.old) (store_of map.new) }
-    ensures unanchored { IsUnanchored (store_of map.new) block (total_for (length bytes.now) - 4) }
+    ensures unanchored { RangeHasNoAnchor (store_of map.new) block (total_for (length bytes.now) - 4) }
 {
     map.put_bytes(block, bytes);
 }
@@ -133,15 +138,15 @@ fn fill_from(map: &mut AddressMap, block: u32, from: u32, len: u32)
     requires sound { IsSound (store_of map.old) }
     requires live { IsLiveBlock (store_of map.old) block (total_for len) }
     requires unheaped { holds_heap (store_of map.old).heaps block (total_for len - 4) ≡ false }
-    requires unanchored { IsUnanchored (store_of map.old) block (total_for len - 4) }
+    requires unanchored { RangeHasNoAnchor (store_of map.old) block (total_for len - 4) }
     requires source { AreMapped (is_mapped map.old) from len }
-    ensures store { store_of map.new ≡ copied (store_of map.old) from block len }
+    ensures store { store_of map.new ≡ store_after_copy (store_of map.old) from block len }
     ensures sound { IsSound (store_of map.new) }
     ensures estate { (l : Land) → IsEstate (estate_of map.old l) → IsEstate (estate_of map.new l) }
     ensures classes { AreClasses map.old → AreClasses map.new }
     ensures layout { layout map.new ≡ layout map.old }
     ensures flex { KeepsFlex (store_of map.old) (store_of map.new) }
-    ensures unanchored { IsUnanchored (store_of map.new) block (total_for len - 4) }
+    ensures unanchored { RangeHasNoAnchor (store_of map.new) block (total_for len - 4) }
 {
     map.move_bytes(from, block, len);
 }

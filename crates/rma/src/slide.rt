@@ -1,15 +1,16 @@
 //! OS_Module 8: the movable blocks of the module area slide together.
 
+ghost use Rattle.profile.specs.MemoryMap.{module_area_start};
 ghost use Rattle.std.specs.Prelude.{◌≡◌};
 ghost use Rattle.address_map.specs.Memory.{mapping, regions};
 ghost use Rattle.address_map.specs.Moves.{moved_regions};
 ghost use Rattle.os_heap.specs.Store.{store_of, AreClasses, IsSound};
-ghost use Rattle.flex_kept.specs.os_heap_slide.specs.Slide.{MaySlide, IsSlid};
-ghost use Rattle.flex_kept.specs.Keeping.{KeepsFlex};
+ghost use Rattle.flex_frame.specs.os_heap_slide.specs.Slide.{MaySlide, IsHeapSlid};
+ghost use Rattle.flex_frame.specs.Keeping.{KeepsFlex};
 
 use crate::area::Rma;
 use address_map::AddressMap;
-use flex_kept::os_heap_slide::{Moves, slide};
+use flex_frame::os_heap_slide::{Moves, slide};
 use profile::memory_map::RMA_START;
 
 impl Rma {
@@ -23,12 +24,13 @@ impl Rma {
     ///
     /// RISC OS 3 Programmer's Reference Manual, "OS_Module", reason 8; which blocks can be moved is
     /// this project's own.
-    #[tactic(auto, using(flex_kept::proofs::Slides::slides_keep))]
+    #[tactic(auto, using(flex_frame::proofs::Slides::slides_keep))]
     pub fn slide(&self, map: &mut AddressMap, movable: &[u32]) -> Moves
         requires sound { IsSound (store_of map.old) }
         requires classes { AreClasses map.old }
-        requires movable { MaySlide (store_of map.old) 0x01800000 movable.now }
-        ensures slid { IsSlid (store_of map.old) 0x01800000 movable.now (store_of map.new) result.items }
+        requires movable { MaySlide (store_of map.old) module_area_start movable.now }
+        ensures slid { IsHeapSlid (store_of map.old) module_area_start movable.now
+            (store_of map.new) result.items }
         ensures sound { IsSound (store_of map.new) }
         ensures classes { AreClasses map.new }
         ensures mapping { mapping map.new ≡ mapping map.old }

@@ -9,7 +9,7 @@ use Rattle.image_loader.specs.Entries.{Entry, refusal_for, with_entry}
 use Rattle.image_loader.specs.declared.error.ImageError.{ImageError}
 use Rattle.image_loader.specs.declared.error.ImageError.TheVariants as image
 use Rattle.std.specs.Path.{path_file_name}
-use Rattle.rosm_settings.specs.ImageFiles.{AddsFile, AddsFiles, AddsImage, RefusesImage, front_of, is_host_error}
+use Rattle.rosm_settings.specs.ImageFiles.{AddsFile, AddsFiles, AddsImageFile, RefusesImage, front_of, is_host_error}
 use Rattle.rosm_settings.specs.ImageFiles.{names_for, names_of}
 use Rattle.rosm_settings.specs.declared.image_files.FileError.TheVariants as file
 
@@ -39,7 +39,7 @@ pub adds_image : {U : Type 0} (u : U) (P : Type 0) (old new : List Entry) (path 
     (known : Option (List ℕ)) (most : ℕ)
     → 1048576 < most → Some name ≡ path_file_name path → IfSome known (λ all. bytes ≡ front_of most all)
     → MatchOption (refusal_for old name (length bytes)) P (λ e. ◌≡◌ {A = Result U ImageError} (Ok u) (Err e))
-    → new ≡ with_entry old name bytes → AddsImage old path known new
+    → new ≡ with_entry old name bytes → AddsImageFile old path known new
 adds_image u P old new path name bytes known most enough part front refused added =
     let free : refusal_for old name (length bytes) ≡ None = let_in u _ P refused in
     record {

@@ -6,11 +6,11 @@ use Rattle.command_line.specs.declared.options.Settings.{Settings}
 use Rattle.rosm_settings.specs.Answering.{AnswersScript, RefusesFiles, StopsWithScript, TellsOfFile}
 use Rattle.rosm_settings.specs.Answering.{answers_to, is_of_run}
 use Rattle.rosm_settings.specs.Endings.{refusal_status}
-use Rattle.rosm_settings.specs.declared.refusal.Refusal.{Refusal}
-use Rattle.rosm_settings.specs.declared.refusal.Refusal.TheVariants as refusal
+use Rattle.rosm_settings.specs.declared.refusal.SettingsRefusal.{SettingsRefusal}
+use Rattle.rosm_settings.specs.declared.refusal.SettingsRefusal.TheVariants as refusal
 
 -- the last stop of a script that a reader tells
-pub stops_with : {F R : Type 0} (r : Result (Option Stop) Refusal) (of_file : F → Option (List ℕ))
+pub stops_with : {F R : Type 0} (r : Result (Option Stop) SettingsRefusal) (of_file : F → Option (List ℕ))
     (of_reader : R → Option (List ℕ)) (settings : Settings) (reader : R) (script before after : Option (List ℕ))
     → script ≡ of_reader reader → IfOk r (AnswersScript of_file settings script before after)
     → IfOk r (StopsWithScript of_file of_reader settings)
@@ -24,7 +24,7 @@ stops_with (Ok last) of_file of_reader settings reader script before after e ans
 }
 
 -- a file that gives no image
-pub tells_of_file : {F R W A : Type 0} (r : Result A Refusal) (of_file : F → Option (List ℕ)) (paths : List (List ℕ))
+pub tells_of_file : {F R W A : Type 0} (r : Result A SettingsRefusal) (of_file : F → Option (List ℕ)) (paths : List (List ℕ))
     (reader reader' : R) (writer writer' : W)
     → IfErr r (RefusesFiles of_file paths reader reader' writer writer') → IfErr r (TellsOfFile of_file paths)
 tells_of_file (Ok last) of_file paths reader reader' writer writer' told = tt
@@ -37,7 +37,7 @@ tells_of_file (Err (refusal.Sizes reason)) of_file paths reader reader' writer w
 tells_of_file (Err (refusal.Script error)) of_file paths reader reader' writer writer' told = tt
 
 -- and the exit status of a refusal that comes of files and scripts
-pub status_of_run : {A : Type 0} (r : Result A Refusal) → IfErr r (λ e. is_of_run e ≡ true)
+pub status_of_run : {A : Type 0} (r : Result A SettingsRefusal) → IfErr r (λ e. is_of_run e ≡ true)
     → IfErr r (λ e. refusal_status e ≡ 4)
 status_of_run (Ok last) of_run = tt
 status_of_run (Err refusal.Memory) of_run = refl

@@ -8,8 +8,8 @@ use Rattle.command_shell.specs.Script.{script_told}
 use Rattle.command_shell.specs.State.{Answered}
 use Rattle.command_line.specs.declared.options.Settings.{Settings}
 use Rattle.rosm_settings.specs.ImageFiles.{AddsFiles, StopsAtFile}
-use Rattle.rosm_settings.specs.declared.refusal.Refusal.{Refusal}
-use Rattle.rosm_settings.specs.declared.refusal.Refusal.TheVariants as refusal
+use Rattle.rosm_settings.specs.declared.refusal.SettingsRefusal.{SettingsRefusal}
+use Rattle.rosm_settings.specs.declared.refusal.SettingsRefusal.TheVariants as refusal
 
 -- what a script is answered with on a machine of the settings' sizes, within their budget
 abbrev pub answers_to : Settings → List Entry → List ℕ → Answered
@@ -32,21 +32,23 @@ pub record EndsWithin {F : Type 0} (of_file : F → Option (List ℕ)) (settings
   pub text : IfSome script (λ bytes. AddsFront before after (answers_to settings images bytes).text)
 
 -- refusals that come of files and scripts, and not of words
-abbrev pub is_of_run : Refusal → Bool
+abbrev pub is_of_run : SettingsRefusal → Bool
 is_of_run (refusal.File path error) = true
 is_of_run (refusal.Script error) = true
 is_of_run _ = false
 
 -- The first file that gives no image is reported; nothing of the script has been read by then, and
 -- nothing written.
-pub record StopsBeforeScript {F R W : Type 0} (of_file : F → Option (List ℕ)) (paths : List (List ℕ)) (r r' : R)
-    (w w' : W) (told : Refusal) : Type 0 where
+pub record StopsBeforeScript {F R W : Type 0} (of_file : F → Option (List ℕ)) (paths : List (List ℕ))
+    (r r' : R)
+    (w w' : W) (told : SettingsRefusal) : Type 0 where
   pub images : List Entry
   pub stops : StopsAtFile of_file [] images paths told
   pub unread : r' ≡ r
   pub unwritten : w' ≡ w
 
-abbrev pub RefusesFiles : {F R W : Type 0} → (F → Option (List ℕ)) → List (List ℕ) → R → R → W → W → Refusal → Type 0
+abbrev pub RefusesFiles : {F R W : Type 0} → (F → Option (List ℕ)) → List (List ℕ) → R → R → W → W →
+    SettingsRefusal → Type 0
 RefusesFiles of_file paths r r' w w' (refusal.File path error) =
     StopsBeforeScript of_file paths r r' w w' (refusal.File path error)
 RefusesFiles of_file paths r r' w w' _ = Unit {0}
@@ -61,7 +63,7 @@ pub record StopsWithScript {F R : Type 0} (of_file : F → Option (List ℕ)) (o
   pub stop : IfSome (of_reader reader) (λ bytes. last ≡ (answers_to settings images bytes).state.last)
 
 -- The refusal of a file is that of the first that gives no image.
-abbrev pub TellsOfFile : {F : Type 0} → (F → Option (List ℕ)) → List (List ℕ) → Refusal → Type 0
+abbrev pub TellsOfFile : {F : Type 0} → (F → Option (List ℕ)) → List (List ℕ) → SettingsRefusal → Type 0
 TellsOfFile of_file paths (refusal.File path error) =
     (images : List Entry) × StopsAtFile of_file [] images paths (refusal.File path error)
 TellsOfFile of_file paths _ = Unit {0}

@@ -9,22 +9,22 @@ use Rattle.command_line.specs.Status.{status_after}
 use Rattle.command_line.specs.declared.options.Settings.{Settings}
 use Rattle.command_line.specs.declared.options.SettingsError.{SettingsError}
 use Rattle.command_line.specs.declared.options.SettingsError.TheVariants as refused
-use Rattle.rosm_settings.specs.declared.refusal.Refusal.{Refusal}
-use Rattle.rosm_settings.specs.declared.refusal.Refusal.TheVariants as refusal
+use Rattle.rosm_settings.specs.declared.refusal.SettingsRefusal.{SettingsRefusal}
+use Rattle.rosm_settings.specs.declared.refusal.SettingsRefusal.TheVariants as refusal
 
 -- The refusal is that of the words; memory may run out at any point.
-abbrev pub IsRefusalOf : Result Settings SettingsError → Refusal → Type 0
-IsRefusalOf answer refusal.Memory = Unit {0}
-IsRefusalOf answer (refusal.Line reason) = answer ≡ Err refused.Line
-IsRefusalOf answer (refusal.Sizes reason) = answer ≡ Err refused.Sizes
-IsRefusalOf answer _ = ⊥
+abbrev pub IsSettingsRefusalOf : Result Settings SettingsError → SettingsRefusal → Type 0
+IsSettingsRefusalOf answer refusal.Memory = Unit {0}
+IsSettingsRefusalOf answer (refusal.Line reason) = answer ≡ Err refused.Line
+IsSettingsRefusalOf answer (refusal.Sizes reason) = answer ≡ Err refused.Sizes
+IsSettingsRefusalOf answer _ = ⊥
 
 -- what the program is refused with where the host doesn't hand over its words
-abbrev pub words_refused : ErrorKind → Refusal
+abbrev pub words_refused : ErrorKind → SettingsRefusal
 words_refused OutOfMemory = refusal.Memory
 words_refused _ = refusal.NotText
 
-abbrev pub refusal_status : Refusal → ℕ
+abbrev pub refusal_status : SettingsRefusal → ℕ
 refusal_status refusal.Memory = 4
 refusal_status refusal.NotText = 2
 refusal_status (refusal.Line reason) = 2
@@ -32,7 +32,7 @@ refusal_status (refusal.Sizes reason) = 2
 refusal_status (refusal.File path error) = 4
 refusal_status (refusal.Script error) = 4
 
-abbrev pub status_of : Result (Option Stop) Refusal → ℕ
+abbrev pub status_of : Result (Option Stop) SettingsRefusal → ℕ
 status_of (Ok last) = status_after last
 status_of (Err refused) = refusal_status refused
 
@@ -43,7 +43,8 @@ pub record TellsLine (before after : Option (List ℕ)) : Type 0 where
 
 -- What stands on standard error at the end: nothing after a script that ran whole, and else one
 -- line, if it could be written.
-abbrev pub TellsEnding : {W : Type 0} → (W → Option (List ℕ)) → (W → Bool) → W → W → Result (Option Stop) Refusal → Type 0
+abbrev pub TellsEnding : {W : Type 0} → (W → Option (List ℕ)) → (W → Bool) → W → W →
+    Result (Option Stop) SettingsRefusal → Type 0
 TellsEnding contents has_failed before after (Ok last) = after ≡ before
 TellsEnding contents has_failed before after (Err refused) =
     has_failed after ≡ false → TellsLine (contents before) (contents after)

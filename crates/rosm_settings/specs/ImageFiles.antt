@@ -9,8 +9,8 @@ use Rattle.image_loader.specs.Entries.{Entry, refusal_for, with_entry}
 use Rattle.image_loader.specs.declared.error.ImageError.TheVariants as image
 use Rattle.rosm_settings.specs.declared.image_files.FileError.{FileError}
 use Rattle.rosm_settings.specs.declared.image_files.FileError.TheVariants as file
-use Rattle.rosm_settings.specs.declared.refusal.Refusal.{Refusal}
-use Rattle.rosm_settings.specs.declared.refusal.Refusal.TheVariants as refusal
+use Rattle.rosm_settings.specs.declared.refusal.SettingsRefusal.{SettingsRefusal}
+use Rattle.rosm_settings.specs.declared.refusal.SettingsRefusal.TheVariants as refusal
 
 -- What an error of the host is to the person who named the file.
 abbrev pub file_error : ErrorKind → FileError
@@ -47,7 +47,8 @@ file_refusal entries path bytes = named_refusal entries (path_file_name path) by
 
 -- the file of that path is taken into the table, with all the bytes that its reader tells, as far
 -- as they are known
-pub record AddsImage (old : List Entry) (path : List ℕ) (known : Option (List ℕ)) (new : List Entry) : Type 0 where
+pub record AddsImageFile (old : List Entry) (path : List ℕ) (known : Option (List ℕ))
+    (new : List Entry) : Type 0 where
   pub name : List ℕ
   pub bytes : List ℕ
   pub last_part : path_file_name path ≡ Some name
@@ -56,16 +57,18 @@ pub record AddsImage (old : List Entry) (path : List ℕ) (known : Option (List 
   pub added : new ≡ with_entry old name bytes
 
 -- with bytes that the file can hold, as far as they are known, its image is refused so
-pub record RefusesImage (old : List Entry) (path : List ℕ) (known : Option (List ℕ)) (error : FileError) : Type 0 where
+pub record RefusesImage (old : List Entry) (path : List ℕ) (known : Option (List ℕ))
+    (error : FileError) : Type 0 where
   pub bytes : List ℕ
   pub held : IfSome known (λ all. bytes ≡ all)
   pub refused : file_refusal old path bytes ≡ Some error
 
 -- A file was opened, and it is taken into the table with the bytes that it tells.
-pub record AddsFile {F : Type 0} (remaining : F → Option (List ℕ)) (old : List Entry) (path : List ℕ) (new : List Entry)
+pub record AddsFile {F : Type 0} (remaining : F → Option (List ℕ)) (old : List Entry) (path : List ℕ)
+    (new : List Entry)
     : Type 0 where
   pub file : F
-  pub adds : AddsImage old path (remaining file) new
+  pub adds : AddsImageFile old path (remaining file) new
 
 -- A file was opened, and its image is refused so.
 pub record RefusesFile {F : Type 0} (remaining : F → Option (List ℕ)) (old : List Entry) (path : List ℕ)
@@ -88,14 +91,15 @@ abbrev pub names_for : List (List ℕ) → List (Option (List ℕ))
 names_for paths = map path_file_name paths
 
 -- the error of that file
-abbrev pub IsOfFile : Refusal → List ℕ → FileError → Type 0
+abbrev pub IsOfFile : SettingsRefusal → List ℕ → FileError → Type 0
 IsOfFile (refusal.File at error) path told = (at.now ≡ path) × (error ≡ told)
 IsOfFile _ path told = ⊥
 
 -- The files before the first one that gives no image are taken in; it is the one that is reported,
 -- and its error is the host's or the table's at that time.
-pub record StopsAtFile {F : Type 0} (remaining : F → Option (List ℕ)) (old new : List Entry) (paths : List (List ℕ))
-    (told : Refusal) : Type 0 where
+pub record StopsAtFile {F : Type 0} (remaining : F → Option (List ℕ)) (old new : List Entry)
+    (paths : List (List ℕ))
+    (told : SettingsRefusal) : Type 0 where
   pub place : ℕ
   pub path : List ℕ
   pub error : FileError

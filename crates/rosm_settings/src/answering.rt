@@ -9,7 +9,7 @@ ghost use Rattle.command_shell.specs.Fronts.{HasSome};
 ghost use Rattle.rosm_settings.specs.Answering.{AnswersScript, EndsWithin, RefusesFiles, answers_to, is_of_run};
 
 use crate::image_files::add_files;
-use crate::refusal::Refusal;
+use crate::refusal::SettingsRefusal;
 use command_line::Settings;
 use command_shell::{RunError, run_script};
 use image_loader::Images;
@@ -30,37 +30,40 @@ pub fn run<'a, F, R, W>(
     settings: &'a Settings,
     reader: &mut R,
     writer: &mut Device<W>,
-) -> Result<Option<Stop>, Refusal<'a>>
+) -> Result<Option<Stop>, SettingsRefusal<'a>>
 where
     F: AllocGlobal + fs::Files,
     R: Source,
     W: Write,
-    ensures answers { IfOk result (AnswersScript F.File.Read.remaining settings.entry.now (R.remaining reader.old)
+    ensures answers { IfOk result (AnswersScript F.File.Read.remaining settings.entry.now
+        (R.remaining reader.old)
         (W.contents (device_inner writer.old)) (W.contents (device_inner writer.new))) }
     ensures well { OnOk result (device_failed writer.new ≡ false) }
     ensures failed { device_failed writer.old ≡ true → IsErr result }
     ensures refused { IfErr result (λ e. is_of_run e ≡ true) }
-    ensures files { IfErr result (RefusesFiles F.File.Read.remaining settings.entry.now.files reader.old reader.new
+    ensures files { IfErr result
+        (RefusesFiles F.File.Read.remaining settings.entry.now.files reader.old reader.new
         writer.old writer.new) }
-    ensures memory { result ≡ Err (Refusal.Script RunError.Memory)
+    ensures memory { result ≡ Err (SettingsRefusal.Script RunError.Memory)
         → EndsWithin F.File.Read.remaining settings.entry.now (R.remaining reader.old)
         (W.contents (device_inner writer.old)) (W.contents (device_inner writer.new)) }
     ensures told { R.has_failed reader.old ≡ false → R.has_failed reader.new ≡ true
-        → result ≡ Err (Refusal.Script RunError.ReadFault) }
-    ensures read_fault { result ≡ Err (Refusal.Script RunError.ReadFault)
+        → result ≡ Err (SettingsRefusal.Script RunError.ReadFault) }
+    ensures read_fault { result ≡ Err (SettingsRefusal.Script RunError.ReadFault)
         → (R.has_failed reader.new ≡ true) × (writer.new ≡ writer.old) }
-    ensures too_long { result ≡ Err (Refusal.Script RunError.ScriptTooLong)
+    ensures too_long { result ≡ Err (SettingsRefusal.Script RunError.ScriptTooLong)
         → (writer.new ≡ writer.old) × IfSome (R.remaining reader.old) (λ script. 1048576 < length script) }
     ensures write_told { device_failed writer.old ≡ false → device_failed writer.new ≡ true
-        → result ≡ Err (Refusal.Script RunError.WriteFault) }
-    ensures write_fault { result ≡ Err (Refusal.Script RunError.WriteFault) → device_failed writer.new ≡ true }
+        → result ≡ Err (SettingsRefusal.Script RunError.WriteFault) }
+    ensures write_fault { result ≡ Err (SettingsRefusal.Script RunError.WriteFault) →
+        device_failed writer.new ≡ true }
 {
     let mut images = Images::new();
     add_files(files, &settings.files, &mut images)?;
     let last = answer_script(files.alloc(), settings, &mut images, reader, writer)?;
     match writer.flush() {
         Ok(()) => Ok(last),
-        Err(_) => Err(Refusal::Script(RunError::WriteFault)),
+        Err(_) => Err(SettingsRefusal::Script(RunError::WriteFault)),
     }
 }
 

@@ -3,10 +3,10 @@
 ghost use Rattle.std.specs.Prelude.{◌≡◌, [], ◌∷◌, ◌++◌, false, IfErr, IfOk, IfSome, OnErr, OnOk};
 ghost use Rattle.std.specs.Path.{path_file_name};
 ghost use Rattle.rosm_settings.specs.ImageFiles.{file_error as error_of};
-ghost use Rattle.rosm_settings.specs.ImageFiles.{AddsFile, AddsFiles, AddsImage, RefusesFile, RefusesImage, StopsAtFile};
+ghost use Rattle.rosm_settings.specs.ImageFiles.{AddsFile, AddsFiles, AddsImageFile, RefusesFile, RefusesImage, StopsAtFile};
 ghost use Rattle.rosm_settings.specs.ImageFiles.{front_of, is_host_error, names_for, names_of};
 
-use crate::refusal::Refusal;
+use crate::refusal::SettingsRefusal;
 use command_line::Files;
 use image_loader::{ImageError, Images};
 use profile::memory_map::MOST_BYTES;
@@ -89,7 +89,11 @@ fn file_error(kind: ErrorKind) -> FileError
 /// # Errors
 ///
 /// `Refusal::File` of the first file that gives no image; those before it are added.
-pub fn add_files<'a, R>(rt: &R, files: &'a Files, images: &mut Images) -> Result<(), Refusal<'a>>
+pub fn add_files<'a, R>(
+    rt: &R,
+    files: &'a Files,
+    images: &mut Images,
+) -> Result<(), SettingsRefusal<'a>>
 where
     R: AllocGlobal + fs::Files,
     ensures added { OnOk result (AddsFiles R.File.Read.remaining images.old files.entry.now images.new) }
@@ -99,7 +103,7 @@ where
     for n in 0..files.len() {
         let path = files.get(n);
         if let Err(error) = add_file(rt, path, images) {
-            return Err(Refusal::File(path, error));
+            return Err(SettingsRefusal::File(path, error));
         }
     }
     Ok(())
@@ -129,7 +133,7 @@ pub fn add_image<R: Read + Drop>(
     reader: R,
     images: &mut Images,
 ) -> Result<(), FileError>
-    ensures ok { OnOk result (AddsImage images.old path.now (R.remaining reader) images.new) }
+    ensures ok { OnOk result (AddsImageFile images.old path.now (R.remaining reader) images.new) }
     ensures refused { IfErr result (λ e. is_host_error e ≡ false
         → RefusesImage images.old path.now (R.remaining reader) e) }
     ensures named { OnOk result (names_of images.new ≡ names_of images.old ++ path_file_name path.now ∷ []) }

@@ -12,4 +12,4 @@ pub use command_line;
 pub use command_line::{Files, Settings, SettingsError, settings, stop_status};
 pub use command_shell::RunError;
 pub use process::{exit_code, read_settings, run_on_standard_streams};
-pub use refusal::Refusal;
+pub use refusal::SettingsRefusal;

@@ -5,10 +5,10 @@ ghost use Rattle.profile.specs.Output.{Writes};
 ghost use Rattle.command_line.specs.Settings.{settings_for};
 ghost use Rattle.command_shell.specs.declared.error.RunError.TheVariants.{ScriptTooLong};
 ghost use Rattle.rosm_settings.specs.Answering.{StopsWithScript, TellsOfFile, TellsTooMuch};
-ghost use Rattle.rosm_settings.specs.Endings.{IsRefusalOf, TellsEnding, TellsLine, refusal_status, status_of, words_refused};
+ghost use Rattle.rosm_settings.specs.Endings.{IsSettingsRefusalOf, TellsEnding, TellsLine, refusal_status, status_of, words_refused};
 
 use crate::answering::run;
-use crate::refusal::Refusal;
+use crate::refusal::SettingsRefusal;
 use command_line::{Settings, SettingsError, line_reason, settings, sizes_reason, stop_status};
 use profile::{Device, Sink, Stop, WriteFault, push_parts};
 use std::alloc::{AllocError, Global};
@@ -23,7 +23,7 @@ use std::{env, fs, io};
 ///
 /// `NotText` where a word is no text in UTF-8, `Line` where the words are no command line, `Sizes`
 /// where no machine can have the sizes that they name, and `Memory` where memory ran out.
-pub fn read_settings<R: Env + AllocGlobal>(rt: &R) -> Result<Settings, Refusal<'static>> {
+pub fn read_settings<R: Env + AllocGlobal>(rt: &R) -> Result<Settings, SettingsRefusal<'static>> {
     let alloc = rt.alloc();
     let args = match env::args(rt) {
         Ok(args) => args,
@@ -33,26 +33,32 @@ pub fn read_settings<R: Env + AllocGlobal>(rt: &R) -> Result<Settings, Refusal<'
     settings_of(alloc, words.as_slice())
 }
 
-fn words_refusal(kind: ErrorKind) -> Refusal<'static>
+fn words_refusal(kind: ErrorKind) -> SettingsRefusal<'static>
     ensures { result ≡ words_refused kind }
 {
     match kind {
-        ErrorKind::OutOfMemory => Refusal::Memory,
-        _ => Refusal::NotText,
+        ErrorKind::OutOfMemory => SettingsRefusal::Memory,
+        _ => SettingsRefusal::NotText,
     }
 }
 
 // What these words ask for, or what is wrong with them.
-fn settings_of(alloc: Global, words: &[String]) -> Result<Settings, Refusal<'static>>
+fn settings_of(alloc: Global, words: &[String]) -> Result<Settings, SettingsRefusal<'static>>
     ensures ok { IfOk result (λ s. settings_for (map string_bytes words.now) ≡ Ok s) }
-    ensures refused { IfErr result (IsRefusalOf (settings_for (map string_bytes words.now))) }
+    ensures refused { IfErr result (IsSettingsRefusalOf (settings_for (map string_bytes words.now))) }
 {
     let texts = texts_of(alloc, words)?;
     match settings(alloc, texts.as_slice()) {
         Ok(settings) => Ok(settings),
-        Err(SettingsError::Memory) => Err(Refusal::Memory),
-        Err(SettingsError::Line) => Err(Refusal::Line(line_reason(alloc, texts.as_slice())?)),
-        Err(SettingsError::Sizes) => Err(Refusal::Sizes(sizes_reason(alloc, texts.as_slice())?)),
+        Err(SettingsError::Memory) => Err(SettingsRefusal::Memory),
+        Err(SettingsError::Line) => Err(SettingsRefusal::Line(line_reason(
+            alloc,
+            texts.as_slice(),
+        )?)),
+        Err(SettingsError::Sizes) => Err(SettingsRefusal::Sizes(sizes_reason(
+            alloc,
+            texts.as_slice(),
+        )?)),
     }
 }
 
@@ -75,16 +81,18 @@ fn texts_of<'a>(alloc: Global, words: &'a [String]) -> Result<Vec<&'a str>, Allo
 pub fn run_on_standard_streams<'a, R>(
     rt: &R,
     settings: &'a Settings,
-) -> Result<Option<Stop>, Refusal<'a>>
+) -> Result<Option<Stop>, SettingsRefusal<'a>>
 where
     R: AllocGlobal + fs::Files + Input + Print,
-    ensures stop { IfOk result (StopsWithScript R.File.Read.remaining R.Reader.Read.remaining settings.entry.now) }
+    ensures stop { IfOk result
+        (StopsWithScript R.File.Read.remaining R.Reader.Read.remaining settings.entry.now) }
     ensures refused { IfErr result (λ e. refusal_status e ≡ 4) }
     ensures files { IfErr result (TellsOfFile R.File.Read.remaining settings.entry.now.files) }
-    ensures too_long { result ≡ Err (Refusal.Script ScriptTooLong) → TellsTooMuch R.Reader.Read.remaining }
+    ensures too_long { result ≡ Err (SettingsRefusal.Script ScriptTooLong) → TellsTooMuch
+        R.Reader.Read.remaining }
 {
     let Ok(buffered) = BufWriter::new(rt.alloc(), io::writer(rt)) else {
-        return Err(Refusal::Memory);
+        return Err(SettingsRefusal::Memory);
     };
     let mut writer = Device::new(buffered);
     run(rt, settings, &mut Device::new(rt.reader()), &mut writer)
@@ -94,7 +102,7 @@ where
 pub fn exit_code<W: Sink>(
     alloc: Global,
     errors: &mut W,
-    ending: Result<Option<Stop>, Refusal<'_>>,
+    ending: Result<Option<Stop>, SettingsRefusal<'_>>,
 ) -> ExitCode
     ensures status { exit_status result ≡ status_of ending.entry }
     ensures line { TellsEnding W.contents W.has_failed errors.old errors.new ending.entry }
@@ -113,7 +121,7 @@ pub fn exit_code<W: Sink>(
 fn tell_refusal<W: Sink>(
     alloc: Global,
     errors: &mut W,
-    refusal: &Refusal<'_>,
+    refusal: &SettingsRefusal<'_>,
 ) -> Result<(), WriteFault>
     ensures line { OnOk result (TellsLine (W.contents errors.old) (W.contents errors.new)) }
     ensures flag { OnErr result (W.has_failed errors.new ≡ true) }

@@ -10,7 +10,7 @@ use thiserror::Error;
 
 /// Why the program ends without having run its script whole. The text is one line.
 #[derive(Debug, PartialEq, Eq, Drop, Error)]
-pub enum Refusal<'a> {
+pub enum SettingsRefusal<'a> {
     /// Memory ran out while the command line was read.
     #[error("{}", SettingsError::Memory)]
     Memory,
@@ -31,7 +31,7 @@ pub enum Refusal<'a> {
     Script(RunError),
 }
 
-impl Refusal<'_> {
+impl SettingsRefusal<'_> {
     ghost use Rattle.rosm_settings.specs.Endings.{refusal_status};
 
     /// The exit status: 2 for a command line that can't be, else 4.
@@ -39,28 +39,28 @@ impl Refusal<'_> {
         ensures { result ≡ refusal_status self.now }
     {
         match self {
-            Refusal::NotText | Refusal::Line(_) | Refusal::Sizes(_) => 2,
-            Refusal::Memory | Refusal::File(_, _) | Refusal::Script(_) => 4,
+            SettingsRefusal::NotText | SettingsRefusal::Line(_) | SettingsRefusal::Sizes(_) => 2,
+            SettingsRefusal::Memory | SettingsRefusal::File(_, _) | SettingsRefusal::Script(_) => 4,
         }
     }
 }
 
-impl<'a> From<AllocError> for Refusal<'a> {
-    ghost use Rattle.rosm_settings.specs.declared.refusal.Refusal.TheVariants.{Memory};
+impl<'a> From<AllocError> for SettingsRefusal<'a> {
+    ghost use Rattle.rosm_settings.specs.declared.refusal.SettingsRefusal.TheVariants.{Memory};
 
     ghost from_gives = { λ _ refused. refused ≡ Memory };
 
-    fn from(_error: AllocError) -> Refusal<'a> {
-        Refusal::Memory
+    fn from(_error: AllocError) -> SettingsRefusal<'a> {
+        SettingsRefusal::Memory
     }
 }
 
-impl<'a> From<RunError> for Refusal<'a> {
-    ghost use Rattle.rosm_settings.specs.declared.refusal.Refusal.TheVariants.{Script};
+impl<'a> From<RunError> for SettingsRefusal<'a> {
+    ghost use Rattle.rosm_settings.specs.declared.refusal.SettingsRefusal.TheVariants.{Script};
 
     ghost from_gives = { λ error refused. refused ≡ Script error };
 
-    fn from(error: RunError) -> Refusal<'a> {
-        Refusal::Script(error)
+    fn from(error: RunError) -> SettingsRefusal<'a> {
+        SettingsRefusal::Script(error)
     }
 }

@@ -7,13 +7,13 @@ use Rattle.std.specs.Path.{path_file_name}
 use Rattle.profile.specs.declared.stop.Stop.{Stop}
 use Rattle.rosm_settings.specs.ImageFiles.{names_for}
 use Rattle.script_page.specs.Page.{AreShown, HasSteps, IsPage, left_behind}
-use Rattle.script_page.specs.Setting.{told_by}
-use Rattle.script_page.specs.Writing.{page_text, IsWritten}
-use Rattle.script_page.specs.declared.form.Form.{Form}
+use Rattle.script_page.specs.Setting.{script_answer_in}
+use Rattle.script_page.specs.Writing.{page_text, IsPageWritten}
+use Rattle.script_page.specs.declared.form.PageForm.{PageForm}
 use Rattle.script_page.specs.declared.entry.Entry.{Entry}
 use Rattle.script_page.specs.declared.setting.Setting.{Setting}
 use Rattle.rosm_show.specs.Showing.{names_in, ShowsPage}
-use Rattle.rosm_show.specs.declared.words.Wanted.{Wanted}
+use Rattle.rosm_show.specs.declared.words.WantedPage.{WantedPage}
 
 -- one more file
 pub named_more : (paths : List (List ℕ)) (n : ℕ) (path name : List ℕ) (before after : List (Option (List ℕ)))
@@ -36,10 +36,10 @@ known_page setting bytes entries (Some told) is page =
     subst P is page
 
 known_stop : (setting : Setting) (bytes : List ℕ) (last : Option Stop) (script : Option (List ℕ))
-    → IfSome script (λ told. bytes ≡ told) → last ≡ (told_by setting bytes).state.last
-    → IfSome script (λ told. last ≡ (told_by setting told).state.last)
+    → IfSome script (λ told. bytes ≡ told) → last ≡ (script_answer_in setting bytes).state.last
+    → IfSome script (λ told. last ≡ (script_answer_in setting told).state.last)
 known_stop setting bytes last None is stop = tt
-known_stop setting bytes last (Some told) is stop = stop ∙ ap (λ b. (told_by setting b).state.last) is
+known_stop setting bytes last (Some told) is stop = stop ∙ ap (λ b. (script_answer_in setting b).state.last) is
 
 -- a writer that hands on what it holds back
 appends_kept : (a b c : Option (List ℕ)) (xs : List ℕ) → Appends a b xs → Keeps b c → Appends a c xs
@@ -49,9 +49,9 @@ appends_kept (Some a) (Some b) None xs h k = absurd k
 appends_kept (Some a) (Some b) (Some c) xs h k = k ∙ h
 
 -- the page of the entries that were lent is that of the entries
-pub written_kept : (front back : List ℕ) (form : Form) (lent entries : List Entry) (before between after : Option (List ℕ))
-    → lent ≡ entries → IsWritten front back form lent before between → Keeps between after
-    → IsWritten front back form entries before after
+pub written_kept : (front back : List ℕ) (form : PageForm) (lent entries : List Entry) (before between after : Option (List ℕ))
+    → lent ≡ entries → IsPageWritten front back form lent before between → Keeps between after
+    → IsPageWritten front back form entries before after
 written_kept front back form lent entries before between after same written kept =
     let P : List Entry → Type 0 = λ es. AreShown form es written.shown in
     record {
@@ -61,12 +61,12 @@ written_kept front back form lent entries before between after same written kept
           (subst (λ (es : List Entry). Appends before between (page_text front back form es written.shown)) same written.text) kept;
     }
 
-pub shows_page : (front back : List ℕ) (wanted : Wanted) (script before after : Option (List ℕ)) (last : Option Stop)
+pub shows_page : (front back : List ℕ) (wanted : WantedPage) (script before after : Option (List ℕ)) (last : Option Stop)
     (setting : Setting) (bytes : List ℕ) (entries : List Entry)
     → setting.config ≡ wanted.settings.config → setting.budget ≡ wanted.settings.budget
     → names_in setting.images.now ≡ names_for wanted.settings.files → IfSome script (λ told. bytes ≡ told)
-    → IsPage setting bytes entries → HasSteps (left_behind setting) entries → IsWritten front back wanted.form entries before after
-    → last ≡ (told_by setting bytes).state.last → ShowsPage front back wanted script before after last
+    → IsPage setting bytes entries → HasSteps (left_behind setting) entries → IsPageWritten front back wanted.form entries before after
+    → last ≡ (script_answer_in setting bytes).state.last → ShowsPage front back wanted script before after last
 shows_page front back wanted script before after last setting bytes entries sizes budget named read page steps written stop =
     record {
       setting = setting;

@@ -3,13 +3,13 @@ use Rattle.std.proofs.Common.{◌≡◌, ◌≤◌, ◌<◌, ◌+◌, ℕ, Bool,
 use Rattle.std.specs.Prelude.{◌||◌}
 use Rattle.std.proofs.lemmas.List.{at_drop_more, at_drop_all}
 use denote.Ref.{Bor}
-use Rattle.script_page.specs.declared.form.Form.{Form}
+use Rattle.script_page.specs.declared.form.PageForm.{PageForm}
 use Rattle.command_line.specs.Settings.{settings_for}
 use Rattle.command_line.specs.declared.options.Settings.{Settings}
 use Rattle.command_line.specs.declared.options.SettingsError.{SettingsError}
-use Rattle.rosm_show.specs.Endings.{IsRefusalBy, IsRefusalOf}
-use Rattle.rosm_show.specs.Words.{and_form, and_other, ends_options, form_at, form_of, forms_from, others_from}
-use Rattle.rosm_show.specs.declared.refusal.Refusal.{Refusal}
+use Rattle.rosm_show.specs.Endings.{IsRefusalBy, IsShowRefusalOf}
+use Rattle.rosm_show.specs.Words.{and_form, and_other, ends_options, form_at, page_form_of, forms_from, others_from}
+use Rattle.rosm_show.specs.declared.refusal.ShowRefusal.{ShowRefusal}
 
 abbrev texts : List (Bor (List ℕ)) → List (List ℕ)
 texts words = map (λ (w : Bor (List ℕ)). w.now) words
@@ -37,9 +37,9 @@ others_end are words place all = at_drop_all (λ (ws : List (Bor (List ℕ))). o
 pub ruleset word_steps = (forms_more, forms_end, others_more, others_end)
 
 -- a second form is refused, whatever the other words are
-pub refused_by_forms : (words : List (List ℕ)) (forms lent : List Form) (told : Refusal) → form_of lent ≡ None → lent ≡ forms
+pub refused_by_forms : (words : List (List ℕ)) (forms lent : List PageForm) (told : ShowRefusal) → page_form_of lent ≡ None → lent ≡ forms
     → forms ≡ forms_from false words → ((answer : Result Settings SettingsError) → IsRefusalBy None answer told)
-    → IsRefusalOf words told
+    → IsShowRefusalOf words told
 refused_by_forms words forms lent told none same asked refused =
-    let P : Option Form → Type 0 = λ o. IsRefusalBy o (settings_for (others_from false words)) told in
-    subst P (sym none ∙ ap form_of (same ∙ asked)) (refused (settings_for (others_from false words)))
+    let P : Option PageForm → Type 0 = λ o. IsRefusalBy o (settings_for (others_from false words)) told in
+    subst P (sym none ∙ ap page_form_of (same ∙ asked)) (refused (settings_for (others_from false words)))

@@ -10,47 +10,48 @@ use Rattle.command_line.specs.Status.{status_after}
 use Rattle.command_line.specs.declared.options.Settings.{Settings}
 use Rattle.command_line.specs.declared.options.SettingsError.{SettingsError}
 use Rattle.command_line.specs.declared.options.SettingsError.TheVariants as refused
-use Rattle.script_page.specs.declared.form.Form.{Form}
-use Rattle.rosm_show.specs.Words.{form_of, forms_from, others_from}
-use Rattle.rosm_show.specs.declared.refusal.Refusal.{Refusal}
-use Rattle.rosm_show.specs.declared.refusal.Refusal.TheVariants as refusal
-use Rattle.rosm_show.specs.declared.words.Wanted.{Wanted}
+use Rattle.script_page.specs.declared.form.PageForm.{PageForm}
+use Rattle.rosm_show.specs.Words.{page_form_of, forms_from, others_from}
+use Rattle.rosm_show.specs.declared.refusal.ShowRefusal.{ShowRefusal}
+use Rattle.rosm_show.specs.declared.refusal.ShowRefusal.TheVariants as refusal
+use Rattle.rosm_show.specs.declared.words.WantedPage.{WantedPage}
 
 -- What the words ask for: one form at most, and the rest are words of `rosm`.
-pub record Asks (words : List (List ℕ)) (wanted : Wanted) : Type 0 where
-  pub form : form_of (forms_from false words) ≡ Some wanted.form
+pub record Asks (words : List (List ℕ)) (wanted : WantedPage) : Type 0 where
+  pub form : page_form_of (forms_from false words) ≡ Some wanted.form
   pub settings : settings_for (others_from false words) ≡ Ok wanted.settings
 
 -- The refusal is this one of the words of `rosm`; memory may run out at any point.
-abbrev pub IsRefusedBy : Result Settings SettingsError → Refusal → Type 0
+abbrev pub IsRefusedBy : Result Settings SettingsError → ShowRefusal → Type 0
 IsRefusedBy answer refusal.Memory = Unit {0}
 IsRefusedBy answer (refusal.Line reason) = answer ≡ Err refused.Line
 IsRefusedBy answer (refusal.Sizes reason) = answer ≡ Err refused.Sizes
 IsRefusedBy answer _ = ⊥
 
 -- More than one form is a line that can't be; else the refusal is that of the other words.
-abbrev pub IsRefusalBy : Option Form → Result Settings SettingsError → Refusal → Type 0
+abbrev pub IsRefusalBy : Option PageForm → Result Settings SettingsError → ShowRefusal → Type 0
 IsRefusalBy None answer refusal.Memory = Unit {0}
 IsRefusalBy None answer (refusal.Line reason) = Unit {0}
 IsRefusalBy None answer _ = ⊥
 IsRefusalBy (Some form) answer told = IsRefusedBy answer told
 
-abbrev pub IsRefusalOf : List (List ℕ) → Refusal → Type 0
-IsRefusalOf words told = IsRefusalBy (form_of (forms_from false words)) (settings_for (others_from false words)) told
+abbrev pub IsShowRefusalOf : List (List ℕ) → ShowRefusal → Type 0
+IsShowRefusalOf words told = IsRefusalBy (page_form_of (forms_from false words))
+    (settings_for (others_from false words)) told
 
 -- what the program is refused with where the host doesn't hand over its words
-abbrev pub words_refused : ErrorKind → Refusal
-words_refused OutOfMemory = refusal.Memory
-words_refused _ = refusal.NotText
+abbrev pub show_words_refused : ErrorKind → ShowRefusal
+show_words_refused OutOfMemory = refusal.Memory
+show_words_refused _ = refusal.NotText
 
-abbrev pub refusal_status : Refusal → ℕ
-refusal_status refusal.Memory = 4
-refusal_status refusal.NotText = 2
-refusal_status (refusal.Line reason) = 2
-refusal_status (refusal.Sizes reason) = 2
-refusal_status (refusal.File path error) = 4
-refusal_status (refusal.Script error) = 4
+abbrev pub show_refusal_status : ShowRefusal → ℕ
+show_refusal_status refusal.Memory = 4
+show_refusal_status refusal.NotText = 2
+show_refusal_status (refusal.Line reason) = 2
+show_refusal_status (refusal.Sizes reason) = 2
+show_refusal_status (refusal.File path error) = 4
+show_refusal_status (refusal.Script error) = 4
 
-abbrev pub status_of : Result (Option Stop) Refusal → ℕ
-status_of (Ok last) = status_after last
-status_of (Err refused) = refusal_status refused
+abbrev pub show_status_of : Result (Option Stop) ShowRefusal → ℕ
+show_status_of (Ok last) = status_after last
+show_status_of (Err refused) = show_refusal_status refused

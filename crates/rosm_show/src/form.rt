@@ -3,16 +3,16 @@
 ghost use Rattle.std.specs.Prelude.{◌≡◌, false, map, IfOk};
 ghost use Rattle.rosm_show.specs.Words.{ends_options, form_asked, forms_from, others_from};
 ghost use Rattle.rosm_show.specs.Words.{form_at as form_asked_at};
-ghost use Rattle.rosm_show.specs.Words.{form_of as form_told};
+ghost use Rattle.rosm_show.specs.Words.{page_form_of as form_told};
 
-use script_page::Form;
+use script_page::PageForm;
 use std::alloc::{AllocError, Global};
 
 /// The words of a command line in two lists, each in order.
 #[derive(Drop)]
 pub struct Parted<'a> {
     /// The forms that are asked for.
-    pub forms: Vec<Form>,
+    pub forms: Vec<PageForm>,
     /// All other words.
     pub others: Vec<&'a str>,
 }
@@ -42,11 +42,11 @@ pub fn part_words<'a>(alloc: Global, words: &[&'a str]) -> Result<Parted<'a>, Al
 }
 
 /// The form of the page; `None` where more than one is asked for.
-pub fn form_of(forms: &[Form]) -> Option<Form>
+pub fn form_of(forms: &[PageForm]) -> Option<PageForm>
     ensures { result ≡ form_told forms.now }
 {
     match forms {
-        [] => Some(Form::Text),
+        [] => Some(PageForm::Text),
         [form] => Some(*form),
         _ => None,
     }
@@ -58,23 +58,23 @@ fn ends_options(word: &str) -> bool
     word.as_bytes() == b"--".as_slice()
 }
 
-fn form_at(are_files: bool, word: &str) -> Option<Form>
+fn form_at(are_files: bool, word: &str) -> Option<PageForm>
     ensures { result ≡ form_asked_at are_files word.now }
 {
     if are_files { None } else { form_asked(word) }
 }
 
 // The form that a word asks for, if it is one that does.
-fn form_asked(word: &str) -> Option<Form>
+fn form_asked(word: &str) -> Option<PageForm>
     ensures { result ≡ form_asked word.now }
 {
     let word = word.as_bytes();
     if word == b"--text".as_slice() {
-        Some(Form::Text)
+        Some(PageForm::Text)
     } else if word == b"--html".as_slice() {
-        Some(Form::Html)
+        Some(PageForm::Html)
     } else if word == b"--transcript".as_slice() {
-        Some(Form::Transcript)
+        Some(PageForm::Transcript)
     } else {
         None
     }

@@ -14,7 +14,7 @@ pub const USAGE: &str = "usage: rosm_show [--text | --html | --transcript] \
 
 /// Why the program ends without a page. The text is one line.
 #[derive(Debug, PartialEq, Eq, Drop, Error)]
-pub enum Refusal<'a> {
+pub enum ShowRefusal<'a> {
     /// Memory ran out while the command line was read.
     #[error("{}", SettingsError::Memory)]
     Memory,
@@ -35,36 +35,36 @@ pub enum Refusal<'a> {
     Script(RunError),
 }
 
-impl Refusal<'_> {
-    ghost use Rattle.rosm_show.specs.Endings.{refusal_status};
+impl ShowRefusal<'_> {
+    ghost use Rattle.rosm_show.specs.Endings.{show_refusal_status};
 
     /// The exit status: 2 for a command line that can't be, else 4.
     pub fn status(&self) -> u8
-        ensures { result ≡ refusal_status self.now }
+        ensures { result ≡ show_refusal_status self.now }
     {
         match self {
-            Refusal::NotText | Refusal::Line(_) | Refusal::Sizes(_) => 2,
-            Refusal::Memory | Refusal::File(_, _) | Refusal::Script(_) => 4,
+            ShowRefusal::NotText | ShowRefusal::Line(_) | ShowRefusal::Sizes(_) => 2,
+            ShowRefusal::Memory | ShowRefusal::File(_, _) | ShowRefusal::Script(_) => 4,
         }
     }
 }
 
-impl<'a> From<AllocError> for Refusal<'a> {
-    ghost use Rattle.rosm_show.specs.declared.refusal.Refusal.TheVariants.{Memory};
+impl<'a> From<AllocError> for ShowRefusal<'a> {
+    ghost use Rattle.rosm_show.specs.declared.refusal.ShowRefusal.TheVariants.{Memory};
 
     ghost from_gives = { λ _ refused. refused ≡ Memory };
 
-    fn from(_error: AllocError) -> Refusal<'a> {
-        Refusal::Memory
+    fn from(_error: AllocError) -> ShowRefusal<'a> {
+        ShowRefusal::Memory
     }
 }
 
-impl<'a> From<RunError> for Refusal<'a> {
-    ghost use Rattle.rosm_show.specs.declared.refusal.Refusal.TheVariants.{Script};
+impl<'a> From<RunError> for ShowRefusal<'a> {
+    ghost use Rattle.rosm_show.specs.declared.refusal.ShowRefusal.TheVariants.{Script};
 
     ghost from_gives = { λ error refused. refused ≡ Script error };
 
-    fn from(error: RunError) -> Refusal<'a> {
-        Refusal::Script(error)
+    fn from(error: RunError) -> ShowRefusal<'a> {
+        ShowRefusal::Script(error)
     }
 }

@@ -6,8 +6,8 @@ ghost use Rattle.profile.specs.Devices.{device_failed, device_inner};
 ghost use Rattle.rosm_settings.specs.ImageFiles.{names_for};
 ghost use Rattle.rosm_show.specs.Showing.{names_in, ShowsPage};
 
-use crate::refusal::Refusal;
-use crate::words::Wanted;
+use crate::refusal::ShowRefusal;
+use crate::words::WantedPage;
 use command_line::Files;
 use command_shell::RunError;
 use command_shell_lines::read_script;
@@ -29,10 +29,10 @@ use std::path::Path;
 /// As for the program `rosm`; nothing is written before the last line is answered.
 pub fn show<'a, F, R, W>(
     files: &F,
-    wanted: &'a Wanted,
+    wanted: &'a WantedPage,
     reader: &mut R,
     writer: &mut Device<W>,
-) -> Result<Option<Stop>, Refusal<'a>>
+) -> Result<Option<Stop>, ShowRefusal<'a>>
 where
     F: AllocGlobal + fs::Files,
     R: Source,
@@ -55,7 +55,7 @@ where
     push_page(alloc, writer, page.entries.as_slice(), wanted.form)?;
     match writer.flush() {
         Ok(()) => Ok(page.last),
-        Err(_) => Err(Refusal::Script(RunError::WriteFault)),
+        Err(_) => Err(ShowRefusal::Script(RunError::WriteFault)),
     }
 }
 
@@ -66,14 +66,20 @@ fn script_of<R: Source>(alloc: Global, reader: &mut R) -> Result<Vec<u8>, RunErr
     Ok(read_script(alloc, reader)?)
 }
 
-fn take_files<'a, F>(files: &F, wanted: &'a Wanted, images: &mut Images) -> Result<(), Refusal<'a>>
+fn take_files<'a, F>(
+    files: &F,
+    wanted: &'a WantedPage,
+    images: &mut Images,
+) -> Result<(), ShowRefusal<'a>>
 where
     F: AllocGlobal + fs::Files,
 {
     match add_files(files, &wanted.settings.files, images) {
         Ok(()) => Ok(()),
-        Err(rosm_settings::refusal::Refusal::File(path, error)) => Err(Refusal::File(path, error)),
-        Err(_) => Err(Refusal::Memory),
+        Err(rosm_settings::refusal::SettingsRefusal::File(path, error)) => Err(ShowRefusal::File(
+            path, error,
+        )),
+        Err(_) => Err(ShowRefusal::Memory),
     }
 }
 
@@ -82,29 +88,32 @@ fn named_images<'a, 'f: 'a>(
     alloc: Global,
     files: &'f Files,
     images: &'a Images,
-) -> Result<Vec<NamedImage<'a>>, Refusal<'f>>
+) -> Result<Vec<NamedImage<'a>>, ShowRefusal<'f>>
     ensures { IfOk result (λ named. names_in named.items ≡ names_for files.entry.now) }
 {
     let mut named = Vec::new(alloc);
     for n in 0..files.len() {
         let image = image_of(files.get(n), images)?;
         let Ok(()) = named.push(image) else {
-            return Err(Refusal::Memory);
+            return Err(ShowRefusal::Memory);
         };
     }
     Ok(named)
 }
 
 // The image of a file that was taken in; each has a name, and stands in the table under it.
-fn image_of<'a, 'f: 'a>(path: &'f str, images: &'a Images) -> Result<NamedImage<'a>, Refusal<'f>>
+fn image_of<'a, 'f: 'a>(
+    path: &'f str,
+    images: &'a Images,
+) -> Result<NamedImage<'a>, ShowRefusal<'f>>
     ensures { IfOk result (λ image. path_file_name path.entry.now ≡ Some image.name.now) }
 {
     let Some(file_name) = Path::new(path).file_name() else {
-        return Err(Refusal::File(path, FileError::Nameless));
+        return Err(ShowRefusal::File(path, FileError::Nameless));
     };
     let name = file_name.as_bytes();
     match images.get(name) {
         Some(bytes) => Ok(NamedImage { name, bytes }),
-        None => Err(Refusal::File(path, FileError::Nameless)),
+        None => Err(ShowRefusal::File(path, FileError::Nameless)),
     }
 }

@@ -2,12 +2,12 @@
 
 ghost use Rattle.std.specs.Prelude.{◌≡◌, IfErr, IfOk, None, Ok, Result, map, string_bytes};
 ghost use Rattle.command_line.specs.Settings.{settings_for};
-ghost use Rattle.rosm_show.specs.Endings.{Asks, IsRefusalBy, IsRefusalOf, IsRefusedBy, words_refused};
+ghost use Rattle.rosm_show.specs.Endings.{Asks, IsRefusalBy, IsShowRefusalOf, IsRefusedBy, show_words_refused};
 
 use crate::form::{form_of, part_words};
-use crate::refusal::Refusal;
+use crate::refusal::ShowRefusal;
 use command_line::{Settings, SettingsError, line_reason, settings, sizes_reason};
-use script_page::Form;
+use script_page::PageForm;
 use std::alloc::{AllocError, Global};
 use std::env;
 use std::env::Env;
@@ -15,9 +15,9 @@ use std::io::ErrorKind;
 
 /// What the words ask for.
 #[derive(Drop)]
-pub struct Wanted {
+pub struct WantedPage {
     /// The form of the page.
-    pub form: Form,
+    pub form: PageForm,
     /// The machine and the files.
     pub settings: Settings,
 }
@@ -27,7 +27,7 @@ pub struct Wanted {
 /// # Errors
 ///
 /// `NotText`, `Line`, `Sizes` and `Memory`, as for the program `rosm`; a second form is `Line` too.
-pub fn read_words<R: Env + AllocGlobal>(rt: &R) -> Result<Wanted, Refusal<'static>> {
+pub fn read_words<R: Env + AllocGlobal>(rt: &R) -> Result<WantedPage, ShowRefusal<'static>> {
     let alloc = rt.alloc();
     let args = match env::args(rt) {
         Ok(args) => args,
@@ -37,28 +37,28 @@ pub fn read_words<R: Env + AllocGlobal>(rt: &R) -> Result<Wanted, Refusal<'stati
     wanted_of(alloc, words.as_slice())
 }
 
-fn words_refusal(kind: ErrorKind) -> Refusal<'static>
-    ensures { result ≡ words_refused kind }
+fn words_refusal(kind: ErrorKind) -> ShowRefusal<'static>
+    ensures { result ≡ show_words_refused kind }
 {
     match kind {
-        ErrorKind::OutOfMemory => Refusal::Memory,
-        _ => Refusal::NotText,
+        ErrorKind::OutOfMemory => ShowRefusal::Memory,
+        _ => ShowRefusal::NotText,
     }
 }
 
 // A line that can't be, for this reason, whatever else is asked for.
-fn refused_line(alloc: Global, reason: &str) -> Refusal<'static>
+fn refused_line(alloc: Global, reason: &str) -> ShowRefusal<'static>
     ensures { (answer : Result Settings SettingsError) → IsRefusalBy None answer result }
 {
     match String::from_str(alloc, reason) {
-        Ok(reason) => Refusal::Line(reason),
-        Err(_) => Refusal::Memory,
+        Ok(reason) => ShowRefusal::Line(reason),
+        Err(_) => ShowRefusal::Memory,
     }
 }
 
-fn wanted_of(alloc: Global, words: &[String]) -> Result<Wanted, Refusal<'static>>
+fn wanted_of(alloc: Global, words: &[String]) -> Result<WantedPage, ShowRefusal<'static>>
     ensures asks { IfOk result (Asks (map string_bytes words.now)) }
-    ensures refused { IfErr result (IsRefusalOf (map string_bytes words.now)) }
+    ensures refused { IfErr result (IsShowRefusalOf (map string_bytes words.now)) }
 {
     let texts = texts_of(alloc, words)?;
     let parted = part_words(alloc, texts.as_slice())?;
@@ -66,18 +66,18 @@ fn wanted_of(alloc: Global, words: &[String]) -> Result<Wanted, Refusal<'static>
         return Err(refused_line(alloc, "one form of the page at most"));
     };
     let settings = settings_of(alloc, parted.others.as_slice())?;
-    Ok(Wanted { form, settings })
+    Ok(WantedPage { form, settings })
 }
 
-fn settings_of(alloc: Global, words: &[&str]) -> Result<Settings, Refusal<'static>>
+fn settings_of(alloc: Global, words: &[&str]) -> Result<Settings, ShowRefusal<'static>>
     ensures ok { IfOk result (λ s. settings_for (map (λ w. w.now) words.now) ≡ Ok s) }
     ensures refused { IfErr result (IsRefusedBy (settings_for (map (λ w. w.now) words.now))) }
 {
     match settings(alloc, words) {
         Ok(settings) => Ok(settings),
-        Err(SettingsError::Memory) => Err(Refusal::Memory),
-        Err(SettingsError::Line) => Err(Refusal::Line(line_reason(alloc, words)?)),
-        Err(SettingsError::Sizes) => Err(Refusal::Sizes(sizes_reason(alloc, words)?)),
+        Err(SettingsError::Memory) => Err(ShowRefusal::Memory),
+        Err(SettingsError::Line) => Err(ShowRefusal::Line(line_reason(alloc, words)?)),
+        Err(SettingsError::Sizes) => Err(ShowRefusal::Sizes(sizes_reason(alloc, words)?)),
     }
 }
 

@@ -4,7 +4,7 @@ use Rattle.std.specs.Prelude.{codes}
 use Rattle.std.specs.Fmt.{decimal}
 use Rattle.std.specs.Io.KnownBytes.{Appends}
 use Rattle.profile.proofs.OutputLemmas.{Appends-join}
-use Rattle.page_markup.specs.Escape.{escaped}
+use Rattle.page_markup.specs.Escape.{escaped_bytes}
 use Rattle.script_page.specs.HtmlPage.{opening, part_html, told_html, figure_html, item_html}
 
 three : (a b c d : Option (List ℕ)) (x y z : List ℕ) → Appends a b x → Appends b c y → Appends c d z → Appends a d (x ++ (y ++ z))
@@ -29,10 +29,10 @@ opening_written a b c d e f number first second third fourth fifth =
     (codes "</span><div class=\"entry\"><pre class=\"typed\">\n") first second third fourth fifth
 
 pub part_written : (a b c d e f : Option (List ℕ)) (class part : List ℕ) → Appends a b (codes "<pre class=\"") → Appends b c class
-    → Appends c d (codes "\">\n") → Appends d e (escaped part) → Appends e f (codes "</pre>") → Appends a f (part_html class part)
+    → Appends c d (codes "\">\n") → Appends d e (escaped_bytes part) → Appends e f (codes "</pre>") → Appends a f (part_html class part)
 unfolding part_html
 part_written a b c d e f class part first second third fourth fifth =
-    five a b c d e f (codes "<pre class=\"") class (codes "\">\n") (escaped part) (codes "</pre>") first second third fourth fifth
+    five a b c d e f (codes "<pre class=\"") class (codes "\">\n") (escaped_bytes part) (codes "</pre>") first second third fourth fifth
 
 pub told_written : (a b c d e f : Option (List ℕ)) (guest answer steps : List ℕ) → Appends a b (codes "<div class=\"told\">")
     → Appends b c guest → Appends c d answer → Appends d e steps → Appends e f (codes "</div>")

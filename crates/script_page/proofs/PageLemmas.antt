@@ -12,8 +12,8 @@ use Rattle.std.specs.Cmp.Lexicographic.{pointwise}
 use Rattle.std.specs.Str.Lines.{lines}
 use Rattle.command_shell.specs.Script.{lines_told, script_told}
 use Rattle.script_page.specs.Page.{answers_of, left_behind, lines_of, number_after, numbers_from, steps_behind}
-use Rattle.script_page.specs.Page.{AddsSteps, GoesOn, HasSteps, IsPageBy, IsPage, OneMore}
-use Rattle.script_page.specs.Setting.{told_by}
+use Rattle.script_page.specs.Page.{AddsSteps, PageGoesOn, HasSteps, IsPageBy, IsPage, OneMore}
+use Rattle.script_page.specs.Setting.{script_answer_in}
 use Rattle.script_page.specs.declared.entry.Entry.{Entry}
 use Rattle.script_page.specs.declared.setting.Setting.{Setting}
 
@@ -76,8 +76,8 @@ behind_place end lines = take_all (length lines - end) (drop end lines) (omega (
 -- the lines after a place, and what is answered to them
 pub goes_by_one : (old new : List Entry) (end : ℕ) (lines before after answer : List ℕ) (steps : ℕ)
     → OneMore old new (take (length lines - end) (drop end lines)) answer steps → after ≡ before ++ answer
-    → GoesOn old new (take end lines) lines before after
-unfolding GoesOn
+    → PageGoesOn old new (take end lines) lines before after
+unfolding PageGoesOn
 goes_by_one old new end lines before after answer steps one more =
     let rest = take (length lines - end) (drop end lines) in
     let split : lines ≡ take end lines ++ rest =
@@ -86,8 +86,8 @@ goes_by_one old new end lines before after answer steps one more =
 
 -- all of it in one
 pub goes_at_once : (old empty new : List Entry) (front lines before after : List ℕ) (steps : ℕ)
-    → OneMore empty new lines after steps → empty ≡ [] → GoesOn old new front lines before after
-unfolding GoesOn
+    → OneMore empty new lines after steps → empty ≡ [] → PageGoesOn old new front lines before after
+unfolding PageGoesOn
 goes_at_once old empty new front lines before after steps one none =
     λ text page is now.
     let nothing : [] ≡ text [] = page.answers 0 in
@@ -154,7 +154,7 @@ front_taken s p None h = tt
 front_taken s p (Some x) h = strip_prefix_is Decides-eqb s p (Some x) h
 
 -- no line is answered with nothing
-nothing_told : (setting : Setting) → (told_by setting []).text ≡ []
+nothing_told : (setting : Setting) → (script_answer_in setting []).text ≡ []
 unfolding script_told lines_told
 nothing_told setting = refl
 
@@ -172,8 +172,8 @@ page_of_none setting front entries no_lines none =
     let Q : List Entry → Type 0 = λ es. IsPage setting [] es in
     subst P (sym no_lines) (subst Q (sym none) (none_at_all setting))
 
-pub told_none : (setting : Setting) (front : List ℕ) → front ≡ [] → (told_by setting front).text ≡ []
-told_none setting front none = ap (λ (xs : List ℕ). (told_by setting xs).text) none ∙ nothing_told setting
+pub told_none : (setting : Setting) (front : List ℕ) → front ≡ [] → (script_answer_in setting front).text ≡ []
+told_none setting front none = ap (λ (xs : List ℕ). (script_answer_in setting xs).text) none ∙ nothing_told setting
 
 -- the page of all lines
 pub page_whole : (setting : Setting) (script : List ℕ) (end : ℕ) (entries : List Entry) → length script ≤ end
@@ -191,12 +191,12 @@ take_take (suc end) (suc next) (byte ∷ script) most =
 
 -- the page of the lines up to one place, by that of those up to one before it
 pub goes_on : (setting : Setting) (old new : List Entry) (end next : ℕ) (script before after : List ℕ)
-    → GoesOn old new (take end (take next script)) (take next script) before after → end ≤ next
-    → IsPage setting (take end script) old → before ≡ (told_by setting (take end script)).text
-    → after ≡ (told_by setting (take next script)).text → IsPage setting (take next script) new
-unfolding IsPage GoesOn
+    → PageGoesOn old new (take end (take next script)) (take next script) before after → end ≤ next
+    → IsPage setting (take end script) old → before ≡ (script_answer_in setting (take end script)).text
+    → after ≡ (script_answer_in setting (take next script)).text → IsPage setting (take next script) new
+unfolding IsPage PageGoesOn
 goes_on setting old new end next script before after goes most page is now =
-    goes (λ lines. (told_by setting lines).text) (rw (take_take end next script most) page)
+    goes (λ lines. (script_answer_in setting lines).text) (rw (take_take end next script most) page)
     (rw (take_take end next script most) is) now
 
 -- and their steps

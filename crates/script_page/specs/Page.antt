@@ -3,9 +3,9 @@ use Rattle.std.specs.Prelude.{◌≡◌, ℕ, zero, suc, ◌+◌, ◌-◌, ◌^�
 use Rattle.std.specs.Fmt.{decimal}
 use Rattle.std.specs.List.{flat_map}
 use Rattle.std.specs.Str.Lines.{lines}
-use Rattle.script_page.specs.Setting.{told_by}
+use Rattle.script_page.specs.Setting.{script_answer_in}
 use Rattle.script_page.specs.Pictures.{IsPicture}
-use Rattle.script_page.specs.declared.form.Form.{Form}
+use Rattle.script_page.specs.declared.form.PageForm.{PageForm}
 use Rattle.script_page.specs.declared.setting.Setting.{Setting}
 use Rattle.script_page.specs.declared.entry.Entry.{Entry}
 use Rattle.script_page.specs.declared.entry.LineKind.{LineKind}
@@ -28,16 +28,17 @@ pub record IsPageBy (text : List ℕ → List ℕ) (script : List ℕ) (entries 
 
 -- a page whose answers are those of the shell
 unfoldable pub IsPage : Setting → List ℕ → List Entry → Type 0
-IsPage setting script entries = IsPageBy (λ lines. (told_by setting lines).text) script entries
+IsPage setting script entries = IsPageBy (λ lines. (script_answer_in setting lines).text) script entries
 
 -- what is left of the budget after lines
 abbrev pub left_behind : Setting → List ℕ → ℕ
-left_behind setting lines = (told_by setting lines).state.left
+left_behind setting lines = (script_answer_in setting lines).state.left
 
 -- how many steps each entry takes: what is left after it less than before it
 abbrev pub steps_behind : (List ℕ → ℕ) → List ℕ → List Entry → List ℕ
 steps_behind left front [] = []
-steps_behind left front (e ∷ rest) = (left front - left (front ++ e.lines.now)) ∷ steps_behind left (front ++ e.lines.now) rest
+steps_behind left front (e ∷ rest) = (left front - left (front ++ e.lines.now))
+    ∷ steps_behind left (front ++ e.lines.now) rest
 
 abbrev pub HasSteps : (List ℕ → ℕ) → List Entry → Type 0
 HasSteps left entries = map (λ (e : Entry). e.steps) entries ≡ steps_behind left [] entries
@@ -46,7 +47,8 @@ HasSteps left entries = map (λ (e : Entry). e.steps) entries ≡ steps_behind l
 -- line, before these lines and after them.
 unfoldable pub AddsSteps : List Entry → List Entry → List ℕ → List ℕ → ℕ → ℕ → ℕ → Type 0
 AddsSteps old new front lines most before after =
-    (left : List ℕ → ℕ) → HasSteps left old → lines_of old ≡ front → most ≡ left [] → before ≡ left front → after ≡ left lines
+    (left : List ℕ → ℕ) → HasSteps left old → lines_of old ≡ front → most ≡ left [] → before ≡ left front →
+    after ≡ left lines
     → HasSteps left new
 
 -- one entry more, of these lines, with this answer and so many steps
@@ -59,9 +61,10 @@ pub record OneMore (old new : List Entry) (lines answer : List ℕ) (steps : ℕ
 
 -- From a page of the lines up to a place to one of all lines, where both are answered so, by
 -- whatever rule.
-unfoldable pub GoesOn : List Entry → List Entry → List ℕ → List ℕ → List ℕ → List ℕ → Type 0
-GoesOn old new front lines before after =
-    (text : List ℕ → List ℕ) → IsPageBy text front old → before ≡ text front → after ≡ text lines → IsPageBy text lines new
+unfoldable pub PageGoesOn : List Entry → List Entry → List ℕ → List ℕ → List ℕ → List ℕ → Type 0
+PageGoesOn old new front lines before after =
+    (text : List ℕ → List ℕ) → IsPageBy text front old → before ≡ text front → after ≡ text lines →
+    IsPageBy text lines new
 
 -- the number of a line so many lines after another
 abbrev pub number_after : ℕ → ℕ → ℕ
@@ -73,7 +76,7 @@ numbers_from number [] = []
 numbers_from number (e ∷ rest) = number ∷ numbers_from (number_after number (length (lines e.lines.now))) rest
 
 -- the picture of an entry is one of its answer
-unfoldable pub ShowsItsAnswer : Form → Shown → Type 0
+unfoldable pub ShowsItsAnswer : PageForm → Shown → Type 0
 ShowsItsAnswer form s = IsPicture form (s.printed.now ++ s.answer.now) s.picture.items
 
 -- how many steps a line took, where it took more than one
@@ -86,9 +89,11 @@ steps_text kind.Other n = []
 
 -- What is shown of each entry, in order: its lines by their numbers, what the guest printed, and
 -- the answer after that; its steps; and the picture of what that tells.
-pub record AreShown (form : Form) (entries : List Entry) (shown : List Shown) : Type 0 where
+pub record AreShown (form : PageForm) (entries : List Entry) (shown : List Shown) : Type 0 where
   pub numbers : map (λ (s : Shown). s.number) shown ≡ numbers_from 1 entries
   pub lines : map (λ (s : Shown). s.lines.now) shown ≡ map (λ (e : Entry). e.lines.now) entries
-  pub answers : map (λ (s : Shown). s.printed.now ++ s.answer.now) shown ≡ map (λ (e : Entry). e.answer.items) entries
-  pub steps : map (λ (s : Shown). s.steps.items) shown ≡ map (λ (e : Entry). steps_text e.kind e.steps) entries
+  pub answers : map (λ (s : Shown). s.printed.now ++ s.answer.now) shown
+      ≡ map (λ (e : Entry). e.answer.items) entries
+  pub steps : map (λ (s : Shown). s.steps.items) shown ≡ map
+      (λ (e : Entry). steps_text e.kind e.steps) entries
   pub pictures : All (ShowsItsAnswer form) shown

@@ -12,12 +12,14 @@ with_image_unless table image None = with_entry table image.name.now image.bytes
 with_image_unless table image (Some refusal) = table
 
 -- a table with one more image, where it takes that
-abbrev pub with_image : List Entry → NamedImage → List Entry
-with_image table image = with_image_unless table image (refusal_for table image.name.now (length image.bytes.now))
+abbrev pub table_with_image : List Entry → NamedImage → List Entry
+table_with_image table image = with_image_unless table image
+    (refusal_for table image.name.now (length image.bytes.now))
 
 abbrev pub images_told : List NamedImage → List Entry
-images_told images = fold with_image [] images
+images_told images = fold table_with_image [] images
 
 -- what a script is answered, and the state that it leaves
-abbrev pub told_by : Setting → List ℕ → Answered
-told_by setting script = script_told setting.config (images_told setting.images.now) setting.budget script
+abbrev pub script_answer_in : Setting → List ℕ → Answered
+script_answer_in setting script = script_told setting.config
+    (images_told setting.images.now) setting.budget script

@@ -23,21 +23,22 @@ abbrev pub numbered_line : ℕ → List ℕ → List ℕ
 numbered_line number line = column number ++ whole_line line
 
 -- lines, each under its number
-abbrev pub numbered : ℕ → List (List ℕ) → List ℕ
-numbered number [] = []
-numbered number (line ∷ rest) = numbered_line number line ++ numbered (number_after number 1) rest
+abbrev pub numbered_lines : ℕ → List (List ℕ) → List ℕ
+numbered_lines number [] = []
+numbered_lines number (line ∷ rest) = numbered_line number line ++ numbered_lines (number_after number 1) rest
 
-abbrev pub line_behind : List ℕ → List ℕ → List ℕ
-line_behind front line = front ++ whole_line line
+abbrev pub shown_line_behind : List ℕ → List ℕ → List ℕ
+shown_line_behind front line = front ++ whole_line line
 
 -- lines, each after these signs
-abbrev pub behind : List ℕ → List (List ℕ) → List ℕ
-behind front lines = flat_map (line_behind front) lines
+abbrev pub lines_behind : List ℕ → List (List ℕ) → List ℕ
+lines_behind front lines = flat_map (shown_line_behind front) lines
 
 abbrev pub text_entry : Shown → List ℕ
 text_entry s =
-    numbered s.number (lines s.lines.now) ++ (behind (codes "     : ") (lines s.printed.now)
-    ++ (behind (codes "       ") (lines s.answer.now) ++ (behind (codes "     = ") (lines s.steps.items) ++ s.picture.items)))
+    numbered_lines s.number (lines s.lines.now) ++ (lines_behind (codes "     : ") (lines s.printed.now)
+    ++ (lines_behind (codes "       ") (lines s.answer.now)
+    ++ (lines_behind (codes "     = ") (lines s.steps.items) ++ s.picture.items)))
 
 abbrev pub text_entries : List Shown → List ℕ
 text_entries shown = flat_map text_entry shown

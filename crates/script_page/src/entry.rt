@@ -2,7 +2,7 @@
 ghost use Rattle.std.specs.Prelude.{◌≡◌, ◌<◌, ◌≤◌, length, IfOk};
 
 use command_shell_lines::text_lines::{Lines, cut};
-use command_shell_lines::{Command, command_of, skip_block};
+use command_shell_lines::{ScriptCommand, command_of, skip_block};
 use std::alloc::{AllocError, Global};
 
 /// What a line is, as far as a page shows it in a way of its own.
@@ -71,7 +71,10 @@ pub fn size_of_request(text: &[u8]) -> usize
 }
 
 fn opens_block(line: &[u8]) -> bool {
-    matches!(command_of(line), Command::Hex(_) | Command::Asm(_, _))
+    matches!(
+        command_of(line),
+        ScriptCommand::Hex(_) | ScriptCommand::Asm(_, _)
+    )
 }
 
 // How many bytes so many lines have, or all where there are fewer.
@@ -95,11 +98,17 @@ fn kind_of(lines: &[u8]) -> LineKind {
     }
 }
 
-fn kind_of_command(command: &Command<'_>) -> LineKind {
+fn kind_of_command(command: &ScriptCommand<'_>) -> LineKind {
     match command {
-        Command::Run | Command::Step(_) | Command::Call(_) | Command::Load(_) => LineKind::Steps,
-        Command::Heap(_) | Command::Flex | Command::Areas | Command::Modules | Command::Mem(_, _) =>
-            LineKind::View,
+        ScriptCommand::Run
+        | ScriptCommand::Step(_)
+        | ScriptCommand::Call(_)
+        | ScriptCommand::Load(_) => LineKind::Steps,
+        ScriptCommand::Heap(_)
+        | ScriptCommand::Flex
+        | ScriptCommand::Areas
+        | ScriptCommand::Modules
+        | ScriptCommand::Mem(_, _) => LineKind::View,
         _ => LineKind::Other,
     }
 }

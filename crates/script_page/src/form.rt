@@ -2,7 +2,7 @@
 
 /// What a page is written as.
 #[derive(Clone, Copy, Debug, PartialEq, Eq)]
-pub enum Form {
+pub enum PageForm {
     /// Text for a terminal.
     Text,
     /// One HTML file.

@@ -17,10 +17,10 @@ pub mod transcript;
 pub mod writing;
 
 pub use entry::{Entry, LineKind};
-pub use form::Form;
+pub use form::PageForm;
 pub use html::push_html;
 pub use page::{Page, page_of};
-pub use setting::{NamedImage, Setting, Told};
+pub use setting::{NamedImage, ScriptTold, Setting};
 pub use shown::{Shown, shown_of};
 pub use text::push_text_page;
 pub use transcript::push_transcript;

@@ -1,10 +1,10 @@
 //! The page as data.
 ghost use Rattle.std.specs.Prelude.{◌≡◌, ◌≤◌, ◌++◌, length, take, IfOk, IfSome, OnOk};
-ghost use Rattle.script_page.specs.Page.{AddsSteps, GoesOn, HasSteps, IsPage, OneMore, left_behind};
-ghost use Rattle.script_page.specs.Setting.{told_by};
+ghost use Rattle.script_page.specs.Page.{AddsSteps, PageGoesOn, HasSteps, IsPage, OneMore, left_behind};
+ghost use Rattle.script_page.specs.Setting.{script_answer_in};
 
 use crate::entry::{Entry, size_of_request};
-use crate::setting::{Setting, Told};
+use crate::setting::{ScriptTold, Setting};
 use command_shell::RunError;
 use profile::Stop;
 use std::alloc::{AllocError, Global};
@@ -34,7 +34,8 @@ pub fn page_of<'a>(
 ) -> Result<Page<'a>, RunError>
     ensures page { IfOk result (λ page. IsPage setting.now script.entry.now page.entries.items) }
     ensures steps { IfOk result (λ page. HasSteps (left_behind setting.now) page.entries.items) }
-    ensures last { IfOk result (λ page. page.last ≡ (told_by setting.now script.entry.now).state.last) }
+    ensures last { IfOk result (λ page. page.last ≡ (script_answer_in setting.now
+        script.entry.now).state.last) }
 {
     let mut entries = Vec::new(alloc);
     let mut told = setting.told(alloc, b"")?;
@@ -71,11 +72,11 @@ fn add_entry<'a>(
     lines: &'a [u8],
     end: usize,
     most: u64,
-    before: &Told,
-    after: &Told,
+    before: &ScriptTold,
+    after: &ScriptTold,
 ) -> Result<(), AllocError>
     requires { end ≤ length lines.now }
-    ensures answers { OnOk result (GoesOn entries.old.items entries.new.items (take end lines.entry.now)
+    ensures answers { OnOk result (PageGoesOn entries.old.items entries.new.items (take end lines.entry.now)
         lines.entry.now before.now.text.items after.now.text.items) }
     ensures steps { OnOk result (AddsSteps entries.old.items entries.new.items (take end lines.entry.now)
         lines.entry.now most before.now.left after.now.left) }

@@ -2,17 +2,17 @@
 
 ghost use Rattle.std.specs.Prelude.{◌≡◌, [], IfOk, IfSome, map};
 ghost use Rattle.profile.specs.Output.{Writes};
-ghost use Rattle.view_pictures.specs.Boxes.{place_of, places_told};
-ghost use Rattle.view_pictures.specs.Items.{items_text};
+ghost use Rattle.view_pictures.specs.Boxes.{place_of_box, places_told};
+ghost use Rattle.view_pictures.specs.Items.{picture_items_text};
 ghost use Rattle.script_page.specs.Pictures.{boxes_text, rows_text, IsPicture};
 
 use crate::entry::{Entry, LineKind};
-use crate::form::Form;
+use crate::form::PageForm;
 use page_markup::{push_grid, push_svg};
 use profile::{Sink, WriteFault};
 use std::alloc::{AllocError, Global};
 use view_pictures::{
-    GridRow, Layout, TextSink, View, layout_of, push_bars, push_marks, rows_of, view_of,
+    GridRow, Layout, PictureView, TextSink, layout_of, push_bars, push_marks, rows_of, view_of,
 };
 
 // What stands before each line of a picture in a text.
@@ -29,7 +29,7 @@ pub fn picture_of(
     alloc: Global,
     entry: &Entry<'_>,
     earlier: &[Entry<'_>],
-    form: Form,
+    form: PageForm,
 ) -> Result<Vec<u8>, AllocError>
     ensures { IfOk result (λ picture. IsPicture form entry.now.answer.items picture.items) }
 {
@@ -43,11 +43,11 @@ pub fn picture_of(
 }
 
 // What the answer of an entry shows, where its line asks for a view and the answer is one.
-fn view_in<'a>(alloc: Global, entry: &'a Entry<'_>) -> Result<Option<View<'a>>, AllocError>
+fn view_in<'a>(alloc: Global, entry: &'a Entry<'_>) -> Result<Option<PictureView<'a>>, AllocError>
     ensures text { IfOk result (λ found. IfSome found (λ view.
-        items_text view.items.items ≡ entry.entry.now.answer.items)) }
+        picture_items_text view.items.items ≡ entry.entry.now.answer.items)) }
     ensures boxes { IfOk result (λ found. IfSome found (λ view.
-        map place_of view.boxes.items ≡ places_told view.items.items)) }
+        map place_of_box view.boxes.items ≡ places_told view.items.items)) }
 {
     match entry.kind {
         LineKind::View => view_of(alloc, entry.answer.as_slice()),
@@ -59,8 +59,8 @@ fn view_in<'a>(alloc: Global, entry: &'a Entry<'_>) -> Result<Option<View<'a>>, 
 fn view_before<'a>(
     alloc: Global,
     earlier: &'a [Entry<'_>],
-    view: &View<'_>,
-) -> Result<Option<View<'a>>, AllocError> {
+    view: &PictureView<'_>,
+) -> Result<Option<PictureView<'a>>, AllocError> {
     for entry in earlier.iter().rev() {
         if let Some(old) = view_in(alloc, entry)? {
             if old.is_of(view) {
@@ -73,12 +73,13 @@ fn view_before<'a>(
 
 fn picture_of_view(
     alloc: Global,
-    view: &View<'_>,
-    before: Option<&View<'_>>,
-    form: Form,
+    view: &PictureView<'_>,
+    before: Option<&PictureView<'_>>,
+    form: PageForm,
 ) -> Result<Vec<u8>, AllocError>
-    requires { map place_of view.now.boxes.items ≡ places_told view.now.items.items }
-    ensures { IfOk result (λ picture. IsPicture form (items_text view.now.items.items) picture.items) }
+    requires { map place_of_box view.now.boxes.items ≡ places_told view.now.items.items }
+    ensures { IfOk result (λ picture. IsPicture form (picture_items_text view.now.items.items)
+        picture.items) }
 {
     if view.is_memory() {
         picture_of_rows(alloc, view, before, form)
@@ -90,11 +91,12 @@ fn picture_of_view(
 #[tactic(auto, using(crate::proofs::PictureLemmas::of_rows))]
 fn picture_of_rows(
     alloc: Global,
-    view: &View<'_>,
-    before: Option<&View<'_>>,
-    form: Form,
+    view: &PictureView<'_>,
+    before: Option<&PictureView<'_>>,
+    form: PageForm,
 ) -> Result<Vec<u8>, AllocError>
-    ensures { IfOk result (λ picture. IsPicture form (items_text view.now.items.items) picture.items) }
+    ensures { IfOk result (λ picture. IsPicture form (picture_items_text view.now.items.items)
+        picture.items) }
 {
     let rows = rows_of(alloc, view.items.as_slice(), before)?;
     let mut picture = TextSink::new(alloc);
@@ -107,12 +109,13 @@ fn picture_of_rows(
 #[tactic(auto, using(crate::proofs::PictureLemmas::of_boxes))]
 fn picture_of_boxes(
     alloc: Global,
-    view: &View<'_>,
-    before: Option<&View<'_>>,
-    form: Form,
+    view: &PictureView<'_>,
+    before: Option<&PictureView<'_>>,
+    form: PageForm,
 ) -> Result<Vec<u8>, AllocError>
-    requires { map place_of view.now.boxes.items ≡ places_told view.now.items.items }
-    ensures { IfOk result (λ picture. IsPicture form (items_text view.now.items.items) picture.items) }
+    requires { map place_of_box view.now.boxes.items ≡ places_told view.now.items.items }
+    ensures { IfOk result (λ picture. IsPicture form (picture_items_text view.now.items.items)
+        picture.items) }
 {
     let layout = layout_of(alloc, view.boxes.as_slice(), before)?;
     let mut picture = TextSink::new(alloc);
@@ -122,22 +125,22 @@ fn picture_of_boxes(
     }
 }
 
-fn push_rows<W: Sink>(sink: &mut W, form: Form, rows: &[GridRow<'_>]) -> Result<(), WriteFault>
+fn push_rows<W: Sink>(sink: &mut W, form: PageForm, rows: &[GridRow<'_>]) -> Result<(), WriteFault>
     ensures { Writes W.contents W.has_failed sink.old sink.new result (rows_text form rows.now) }
 {
     match form {
-        Form::Text => push_marks(sink, FRONT, rows),
-        Form::Html => push_grid(sink, rows),
-        Form::Transcript => Ok(()),
+        PageForm::Text => push_marks(sink, FRONT, rows),
+        PageForm::Html => push_grid(sink, rows),
+        PageForm::Transcript => Ok(()),
     }
 }
 
-fn push_boxes<W: Sink>(sink: &mut W, form: Form, layout: &Layout<'_>) -> Result<(), WriteFault>
+fn push_boxes<W: Sink>(sink: &mut W, form: PageForm, layout: &Layout<'_>) -> Result<(), WriteFault>
     ensures { Writes W.contents W.has_failed sink.old sink.new result (boxes_text form layout.now) }
 {
     match form {
-        Form::Text => push_bars(sink, FRONT, layout),
-        Form::Html => push_svg(sink, layout),
-        Form::Transcript => Ok(()),
+        PageForm::Text => push_bars(sink, FRONT, layout),
+        PageForm::Html => push_svg(sink, layout),
+        PageForm::Transcript => Ok(()),
     }
 }

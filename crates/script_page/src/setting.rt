@@ -1,6 +1,6 @@
 //! What a script is answered on, and what it is answered.
 ghost use Rattle.std.specs.Prelude.{◌≡◌, IfOk, OnOk};
-ghost use Rattle.script_page.specs.Setting.{images_told, told_by, with_image};
+ghost use Rattle.script_page.specs.Setting.{images_told, script_answer_in, table_with_image};
 
 use command_shell::{RunError, run_script};
 use image_loader::{ImageError, Images};
@@ -31,7 +31,7 @@ pub struct Setting<'a> {
 
 /// What a script is answered.
 #[derive(Drop)]
-pub struct Told {
+pub struct ScriptTold {
     /// All of its answers.
     pub text: Vec<u8>,
     /// The last stop that a line was answered with.
@@ -46,10 +46,10 @@ impl Setting<'_> {
     /// # Errors
     ///
     /// As [`run_script`].
-    pub fn told(&self, alloc: Global, script: &[u8]) -> Result<Told, RunError>
-        ensures text { IfOk result (λ told. told.text.items ≡ (told_by self.now script.now).text) }
-        ensures last { IfOk result (λ told. told.last ≡ (told_by self.now script.now).state.last) }
-        ensures left { IfOk result (λ told. told.left ≡ (told_by self.now script.now).state.left) }
+    pub fn told(&self, alloc: Global, script: &[u8]) -> Result<ScriptTold, RunError>
+        ensures text { IfOk result (λ told. told.text.items ≡ (script_answer_in self.now script.now).text) }
+        ensures last { IfOk result (λ told. told.last ≡ (script_answer_in self.now script.now).state.last) }
+        ensures left { IfOk result (λ told. told.left ≡ (script_answer_in self.now script.now).state.left) }
     {
         let mut images = images_of(alloc, self.images)?;
         let mut answers = TextSink::new(alloc);
@@ -62,7 +62,7 @@ impl Setting<'_> {
             self.config,
             self.budget,
         )?;
-        Ok(Told {
+        Ok(ScriptTold {
             text: answers.into_bytes(),
             last: summary.last,
             left: summary.left,
@@ -81,7 +81,7 @@ fn images_of(alloc: Global, named: &[NamedImage<'_>]) -> Result<Images, RunError
 }
 
 fn add_image(alloc: Global, images: &mut Images, image: &NamedImage<'_>) -> Result<(), RunError>
-    ensures { OnOk result (images.new ≡ with_image images.old image.now) }
+    ensures { OnOk result (images.new ≡ table_with_image images.old image.now) }
 {
     match images.add(alloc, image.name, image.bytes) {
         Err(ImageError::Memory) => Err(RunError::Memory),

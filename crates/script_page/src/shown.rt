@@ -5,7 +5,7 @@ ghost use Rattle.script_page.specs.Page.{AreShown, ShowsItsAnswer, number_after,
 
 use crate::answers::parts_of;
 use crate::entry::{Entry, LineKind};
-use crate::form::Form;
+use crate::form::PageForm;
 use crate::pictures::picture_of;
 use command_shell_lines::text_lines::Lines;
 use itoa::Buffer;
@@ -37,7 +37,7 @@ pub struct Shown<'a> {
 pub fn shown_of<'a>(
     alloc: Global,
     entries: &'a [Entry<'_>],
-    form: Form,
+    form: PageForm,
 ) -> Result<Vec<Shown<'a>>, AllocError>
     ensures { IfOk result (λ shown. AreShown form entries.entry.now shown.items) }
 {
@@ -65,7 +65,7 @@ fn shown_entry<'a>(
     number: usize,
     entry: &'a Entry<'_>,
     earlier: &[Entry<'_>],
-    form: Form,
+    form: PageForm,
 ) -> Result<Shown<'a>, AllocError>
     ensures number { IfOk result (λ s. s.number ≡ number) }
     ensures lines { IfOk result (λ s. s.lines.now ≡ entry.entry.now.lines.now) }

@@ -5,7 +5,7 @@ ghost use Rattle.std.specs.Prelude.{◌≡◌, length};
 ghost use Rattle.std.specs.List.{list_any};
 ghost use Rattle.std.specs.Str.Lines.{lines};
 ghost use Rattle.profile.specs.Output.{Writes};
-ghost use Rattle.script_page.specs.TextPage.{behind, blanks_before, column, line_behind, numbered};
+ghost use Rattle.script_page.specs.TextPage.{lines_behind, blanks_before, column, shown_line_behind, numbered_lines};
 ghost use Rattle.script_page.specs.TextPage.{has_picture, legend, numbered_line, text_entries, text_entry, text_page, whole_line};
 
 use crate::shown::Shown;
@@ -81,7 +81,8 @@ fn push_entry<W: Sink>(sink: &mut W, shown: &Shown<'_>) -> Result<(), WriteFault
 
 // The lines of a text, each under its number.
 fn push_numbered<W: Sink>(sink: &mut W, first: usize, text: &[u8]) -> Result<(), WriteFault>
-    ensures { Writes W.contents W.has_failed sink.old sink.new result (numbered first (lines text.now)) }
+    ensures { Writes W.contents W.has_failed sink.old sink.new result
+        (numbered_lines first (lines text.now)) }
 {
     let mut number = first;
     let mut lines = Lines::new(text);
@@ -127,7 +128,8 @@ fn blanks_before(digits: &[u8]) -> &'static [u8]
 
 // The lines of a text, each after these signs.
 fn push_behind<W: Sink>(sink: &mut W, front: &[u8], text: &[u8]) -> Result<(), WriteFault>
-    ensures { Writes W.contents W.has_failed sink.old sink.new result (behind front.now (lines text.now)) }
+    ensures { Writes W.contents W.has_failed sink.old sink.new result
+        (lines_behind front.now (lines text.now)) }
 {
     let mut lines = Lines::new(text);
     while let Some(line) = lines.next_line() {
@@ -137,7 +139,7 @@ fn push_behind<W: Sink>(sink: &mut W, front: &[u8], text: &[u8]) -> Result<(), W
 }
 
 fn push_behind_front<W: Sink>(sink: &mut W, front: &[u8], line: &[u8]) -> Result<(), WriteFault>
-    ensures { Writes W.contents W.has_failed sink.old sink.new result (line_behind front.now line.now) }
+    ensures { Writes W.contents W.has_failed sink.old sink.new result (shown_line_behind front.now line.now) }
 {
     push_all(sink, front)?;
     push_line(sink, line)

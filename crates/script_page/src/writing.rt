@@ -2,10 +2,10 @@
 
 ghost use Rattle.std.specs.Prelude.{◌≡◌, true, Err, OnOk};
 ghost use Rattle.profile.specs.Output.{Writes};
-ghost use Rattle.script_page.specs.Writing.{page_text, IsWritten};
+ghost use Rattle.script_page.specs.Writing.{page_text, IsPageWritten};
 
 use crate::entry::Entry;
-use crate::form::Form;
+use crate::form::PageForm;
 use crate::html::push_html;
 use crate::shown::{Shown, shown_of};
 use crate::style::{BACK, FRONT};
@@ -25,9 +25,9 @@ pub fn push_page<W: Sink>(
     alloc: Global,
     sink: &mut W,
     entries: &[Entry<'_>],
-    form: Form,
+    form: PageForm,
 ) -> Result<(), RunError>
-    ensures written { OnOk result (IsWritten FRONT.now BACK.now form entries.now
+    ensures written { OnOk result (IsPageWritten FRONT.now BACK.now form entries.now
         (W.contents sink.old) (W.contents sink.new)) }
     ensures memory { result ≡ Err RunError.Memory → sink.new ≡ sink.old }
     ensures write_fault { result ≡ Err RunError.WriteFault → W.has_failed sink.new ≡ true }
@@ -44,14 +44,14 @@ fn push_form<W: Sink>(
     back: &[u8],
     entries: &[Entry<'_>],
     shown: &[Shown<'_>],
-    form: Form,
+    form: PageForm,
 ) -> Result<(), WriteFault>
     ensures { Writes W.contents W.has_failed sink.old sink.new result
         (page_text front.now back.now form entries.now shown.now) }
 {
     match form {
-        Form::Text => push_text_page(sink, shown),
-        Form::Html => push_html(sink, front, shown, back),
-        Form::Transcript => push_transcript(sink, entries),
+        PageForm::Text => push_text_page(sink, shown),
+        PageForm::Html => push_html(sink, front, shown, back),
+        PageForm::Transcript => push_transcript(sink, entries),
     }
 }

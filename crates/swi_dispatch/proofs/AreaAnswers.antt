@@ -1,5 +1,6 @@
 -- OS_ChangeDynamicArea: what it answers, and that without the X bit it is a fault before anything
 -- moves.
+use Rattle.profile.specs.MemoryMap.{error_block_start}
 use Rattle.std.proofs.Common.{◌≡◌, ℕ, true, false, length, Option, Some, None, Result, Ok, Err, refl, sym, ◌∙◌, ap}
 use Rattle.std.proofs.lemmas.List.{length-set}
 use Rattle.std.specs.Prelude.{OnErr, option_map}
@@ -19,14 +20,14 @@ use Rattle.swi_dispatch_answers.specs.declared.refusal.Refusal.{Refusal}
 use Rattle.swi_dispatch_answers.specs.declared.refusal.Refusal.TheVariants as refusal
 use Rattle.swi_dispatch_plans.specs.swi_dispatch_store.specs.Areas.{change_asked, change_left}
 use Rattle.swi_dispatch.specs.Calls.{area_changing, call_answer, moving_error, with_guest}
-use Rattle.swi_dispatch.specs.MachineState.{MachineState, Outcome, machine_estate, quiet}
+use Rattle.swi_dispatch.specs.MachineState.{MachineState, StepOutcome, machine_estate, quiet}
 use Rattle.swi_dispatch.specs.Parts.{Answers, IsWellFormed, Parts, state_of}
-use Rattle.swi_dispatch.specs.Step.{ended, ended_by}
-use Rattle.swi_dispatch.specs.Returns.{halted}
+use Rattle.swi_dispatch.specs.Step.{outcome_of_answer, outcome_of_end}
+use Rattle.swi_dispatch.specs.Returns.{outcome_of_halt}
 use Rattle.swi_dispatch.proofs.ErrorNumbers.{block_read}
 
 -- where it errs something may have moved
-pub errs_moving : (s : MachineState) (next : ℕ) (name : Option SwiName) (r : Result ℕ Refusal) (o : Outcome) → name ≡ Some swi.ChangeDynamicArea
+pub errs_moving : (s : MachineState) (next : ℕ) (name : Option SwiName) (r : Result ℕ Refusal) (o : StepOutcome) → name ≡ Some swi.ChangeDynamicArea
     → Answers (area_changing s next) next r o → OnErr r (moving_error s name ≡ None → o ≡ quiet s)
 errs_moving s next name (Ok to) o is done = tt
 errs_moving s next name (Err e) o is done = λ still.
@@ -41,10 +42,10 @@ abbrev after_change : MachineState → Option Area → MachineState
 after_change s found = with_guest s (change_left s.cpu (machine_estate s) found (change_asked s.cpu (machine_estate s)).bytes)
 
 left_mapped : (s : MachineState) (found : Option Area) → AreAreas s.store s.pool s.tables.land → find_area (register_of s.cpu 0) s.tables.land.areas ≡ found
-    → (after_change s found).store.bytes.mapped 0x01C02100 ≡ true
-left_mapped s None areas e = system_mapped s.store s.pool s.tables.land areas 0x01C02100 refl
+    → (after_change s found).store.bytes.mapped error_block_start ≡ true
+left_mapped s None areas e = system_mapped s.store s.pool s.tables.land areas error_block_start refl
 left_mapped s (Some a) areas e =
-    change_keeps_system s.store s.pool s.tables.land (register_of s.cpu 0) (register_of s.cpu 1) a 0x01C02100 areas e refl
+    change_keeps_system s.store s.pool s.tables.land (register_of s.cpu 0) (register_of s.cpu 1) a error_block_start areas e refl
 
 left_size : (s : MachineState) (found : Option Area) → length s.cpu.file ≡ 26 → length (after_change s found).cpu.file ≡ 26
 left_size s None size = size
@@ -52,16 +53,16 @@ left_size s (Some a) size = size_set s.cpu 1 (change_asked s.cpu (machine_estate
 
 pub change_stop : (s : MachineState) (next : ℕ) (e : ErrorNumber) → AreAreas s.store s.pool s.tables.land → length s.cpu.file ≡ 26
     → (change_asked s.cpu (machine_estate s)).error ≡ Some e
-    → ended s false (area_changing s next) ≡ halted s (halt.Fault (ErrorStop (error_code e)))
+    → outcome_of_answer s false (area_changing s next) ≡ outcome_of_halt s (halt.Fault (ErrorStop (error_code e)))
 change_stop s next e areas size err =
     let left : MachineState = after_change s (find_area (register_of s.cpu 0) s.tables.land.areas) in
-    ap (λ (o : Option ErrorNumber). ended_by s false (area_changing s next) (option_map refusal.System o)) err
-    ∙ ap (λ (n : ℕ). halted s (halt.Fault (ErrorStop n))) (block_read left s.cpu.psr next e
+    ap (λ (o : Option ErrorNumber). outcome_of_end s false (area_changing s next) (option_map refusal.System o)) err
+    ∙ ap (λ (n : ℕ). outcome_of_halt s (halt.Fault (ErrorStop n))) (block_read left s.cpu.psr next e
     (left_mapped s (find_area (register_of s.cpu 0) s.tables.land.areas) areas refl)
     (left_size s (find_area (register_of s.cpu 0) s.tables.land.areas) size))
 
 pub moving_stop : (p : Parts) (next number : ℕ) (name : Option SwiName) (e : ErrorNumber) → IsWellFormed p → length p.cpu.file ≡ 26
     → name ≡ Some swi.ChangeDynamicArea → (change_asked (state_of p).cpu (machine_estate (state_of p))).error ≡ Some e
-    → ended (state_of p) false (call_answer (state_of p) next number name) ≡ halted (state_of p) (halt.Fault (ErrorStop (error_code e)))
+    → outcome_of_answer (state_of p) false (call_answer (state_of p) next number name) ≡ outcome_of_halt (state_of p) (halt.Fault (ErrorStop (error_code e)))
 unfolding call_answer
 moving_stop p next number name e well size is err = rw is (change_stop (state_of p) next e well.areas size err)

@@ -5,23 +5,23 @@ use Rattle.profile.specs.declared.error.ErrorNumber.{ErrorNumber}
 use Rattle.instances_plans.specs.Plans.{Plan}
 use Rattle.swi_dispatch_frames.specs.declared.call.Call.{Call}
 use Rattle.swi_dispatch.specs.Additions.{Planned, Starts}
-use Rattle.swi_dispatch.specs.Gates.{finished}
-use Rattle.swi_dispatch.specs.MachineState.{MachineState, Outcome, quiet}
-use Rattle.swi_dispatch.specs.Step.{begun, begun_by, call_of, call_refused}
+use Rattle.swi_dispatch.specs.Gates.{state_after_plan}
+use Rattle.swi_dispatch.specs.MachineState.{MachineState, StepOutcome, quiet}
+use Rattle.swi_dispatch.specs.Step.{outcome_of_planned, outcome_of_plan, call_of, call_refused}
 
 begins_by : (s t : MachineState) (x : Bool) (next : ℕ) (enters : Bool) (r : Result Planned ErrorNumber)
     (ended : Result (Option Plan) ErrorNumber) → Starts s (call_of s x next enters) r ended t
-    → begun_by t (call_of s x next enters) ended ≡ begun s x next enters r
-unfolding begun
+    → outcome_of_plan t (call_of s x next enters) ended ≡ outcome_of_planned s x next enters r
+unfolding outcome_of_planned
 begins_by s t x next enters (Ok w) (Ok ended) starts = λ i. quiet
-    (finished (starts.0 i) (call_of s x next enters) (starts.1 i))
+    (state_after_plan (starts.0 i) (call_of s x next enters) (starts.1 i))
 begins_by s t x next enters (Err e) (Err f) starts = λ i. call_refused (starts.1 i) x next (starts.0 i)
 begins_by s t x next enters (Ok w) (Err f) starts = absurd starts
 begins_by s t x next enters (Err e) (Ok ended) starts = absurd starts
 
 pub begins : (s t : MachineState) (x : Bool) (next : ℕ) (enters : Bool) (r : Result Planned ErrorNumber)
     (ended : Result (Option Plan) ErrorNumber) (call : Call)
-    (end : Outcome) → call ≡ call_of s x next enters → Starts s call r ended t → end ≡ begun_by t call ended
-    → end ≡ begun s x next enters r
-begins s t x next enters r ended call end is starts after = after ∙ ap (λ (c : Call). begun_by t c ended) is
+    (end : StepOutcome) → call ≡ call_of s x next enters → Starts s call r ended t → end ≡ outcome_of_plan t call ended
+    → end ≡ outcome_of_planned s x next enters r
+begins s t x next enters r ended call end is starts after = after ∙ ap (λ (c : Call). outcome_of_plan t c ended) is
     ∙ begins_by s t x next enters r ended (subst (λ (c : Call). Starts s c r ended t) is starts)

@@ -4,20 +4,20 @@ use Rattle.std.proofs.Common.{◌≡◌, ℕ, true, false, Some, None, Ok, Err, 
 use Rattle.std.proofs.Common.{ap, subst, ◌∙◌}
 use Rattle.std.specs.Prelude.{Option, Result}
 use Rattle.std.proofs.lemmas.Bool.{true≢false}
-use Rattle.dynamic_areas.specs.Ground.{IsEstate, IsRecorded, system_pages}
+use Rattle.dynamic_areas.specs.Ground.{IsEstate, IsRecorded, system_pages_range}
 use Rattle.instances_table.specs.declared.parts.Image.{Image}
 use Rattle.instances_table.specs.Modules.{slots_of}
 use Rattle.os_heap.specs.Store.{AreClasses, store_of}
 use Rattle.profile.specs.Outcome.{Gives}
 use Rattle.profile.specs.declared.error.ErrorNumber.{ErrorNumber}
-use Rattle.instances_plans.specs.declared.action.Action.{Action}
+use Rattle.instances_plans.specs.declared.action.PlanAction.{PlanAction}
 use Rattle.instances_plans.specs.declared.code.Code.{Code}
 use Rattle.instances_plans.specs.declared.code.Outcome.{Outcome as CodeOutcome}
 use Rattle.instances_plans.specs.declared.code.Outcome.TheVariants.{Well}
-use Rattle.instances_plans.specs.Carrying.{Carried, Doing, carried, carried_by, carried_from}
-use Rattle.instances_plans.specs.Plans.{Plan, settled}
-use Rattle.flex_ground.specs.instances_ground.specs.Sound.{IsWorld}
-use Rattle.flex_ground.specs.instances_ground.specs.World.{World}
+use Rattle.instances_plans.specs.Carrying.{Carried, Doing, carry_of_plan, carried_by, carried_from}
+use Rattle.instances_plans.specs.Plans.{Plan, plan_after_code}
+use Rattle.flex_machine.specs.module_world.specs.Sound.{IsWorld}
+use Rattle.flex_machine.specs.module_world.specs.World.{World}
 use Rattle.swi_dispatch_plans.specs.instances.specs.Turns.{IsUnderWay, MayGoOn, module_doing}
 use Rattle.swi_dispatch_plans.specs.instances.specs.instances_actions.specs.Pending.{pending_of}
 use Rattle.arm_core.specs.State.{State}
@@ -25,44 +25,44 @@ use Rattle.swi_dispatch_frames.specs.declared.call.Call.{Call}
 use Rattle.swi_dispatch_frames.specs.declared.frame.Frame.{Frame}
 use Rattle.profile.specs.declared.fault.Fault.TheVariants.{ErrorStop}
 use Rattle.swi_dispatch.specs.declared.halt.Halt.TheVariants as halt
-use Rattle.swi_dispatch.specs.Gates.{Resumes, come_back, core_by, ended_by, ended_of, fault_kept, finished}
-use Rattle.swi_dispatch.specs.Gates.{frames_by, kept_by, opened, outcome_left, plan_left, with_code}
+use Rattle.swi_dispatch.specs.Gates.{Resumes, come_back, core_by, plan_unless_code, ended_of, fault_kept, state_after_plan}
+use Rattle.swi_dispatch.specs.Gates.{frames_by, kept_by, state_with_code_entered, outcome_left, plan_left, with_code}
 use Rattle.swi_dispatch_plans.specs.Trials.{world_carried}
-use Rattle.swi_dispatch.specs.MachineState.{MachineState, Outcome, machine_world, quiet, with_world}
-use Rattle.swi_dispatch.specs.Additions.{Starts, planned}
+use Rattle.swi_dispatch.specs.MachineState.{MachineState, StepOutcome, machine_world, quiet, with_world}
+use Rattle.swi_dispatch.specs.Additions.{Starts, planned_of}
 use Rattle.swi_dispatch.specs.OpenFrames.{AreFrames}
 use Rattle.swi_dispatch.specs.Parts.{IsWellFormed, Parts, parts_world}
-use Rattle.swi_dispatch.specs.Returns.{halted}
-use Rattle.flex_ground.specs.Ground.{HasFlex}
-use Rattle.flex_ground.specs.flex_kept.specs.Keeping.{KeepsFlex}
+use Rattle.swi_dispatch.specs.Returns.{outcome_of_halt}
+use Rattle.flex_machine.specs.Ground.{HasFlex}
+use Rattle.flex_machine.specs.flex_frame.specs.Keeping.{KeepsFlex}
 use Rattle.swi_dispatch.proofs.Kept.{flex_by}
 use Rattle.swi_dispatch.proofs.OpenFrames.{frames_kept}
 
 -- where code is entered, it runs
-runs_by : (d : Doing World) (w : World) (p : Plan) (a : Action) (others : List Action) (o : Option Code) (code : Code)
+runs_by : (d : Doing World) (w : World) (p : Plan) (a : PlanAction) (others : List PlanAction) (o : Option Code) (code : Code)
     (on : World → Plan → Carried World)
     → ((v : World) (q : Plan) → (on v q).code ≡ Some code → (on v q).rest.runs ≡ true)
     → (carried_by d w p a others o on).code ≡ Some code → (carried_by d w p a others o on).rest.runs ≡ true
 runs_by d w p a others (Some c) code on later is = refl
 runs_by d w p a others None code on later is = later _ _ is
 
-runs_from : (d : Doing World) (actions : List Action) (w : World) (p : Plan) (code : Code)
+runs_from : (d : Doing World) (actions : List PlanAction) (w : World) (p : Plan) (code : Code)
     → (carried_from d actions w p).code ≡ Some code
     → (carried_from d actions w p).rest.runs ≡ true
 runs_from d [] w p code is = cc
 runs_from d (a ∷ others) w p code is =
     runs_by d w p a others (d.code_of w a) code (carried_from d others) (λ v q e. runs_from d others v q code e) is
 
-code_runs : (w : World) (p : Plan) (c : Carried World) (code : Code) → carried module_doing w p ≡ c
+code_runs : (w : World) (p : Plan) (c : Carried World) (code : Code) → carry_of_plan module_doing w p ≡ c
     → c.code ≡ Some code → c.rest.runs ≡ true
-unfolding carried
+unfolding carry_of_plan
 code_runs w p c code is has =
     sym (ap (λ (x : Carried World). x.rest.runs) is) ∙ runs_from module_doing p.actions w p code
     (ap (λ (x : Carried World). x.code) is ∙ has)
 
 -- what is kept of the plan may go on
 pub may_go_on : (w v : World) (p q : Plan) (code : Option Code)
-    → carried module_doing w p ≡ record { world = v; rest = q; code = code }
+    → carry_of_plan module_doing w p ≡ record { world = v; rest = q; code = code }
     → (code ≡ None → IsWorld v []) → IsUnderWay v q → MayGoOn v (kept_by q code)
 may_go_on w v p q None is ended going = ended refl
 may_go_on w v p q (Some code) is ended going = (
@@ -86,30 +86,30 @@ well_carried new pending world modules classes frames flex stepped sized = recor
 }
 
 -- a plan whose code isn't under way
-pub rests_settled : (p : Plan) (o : CodeOutcome) → p.runs ≡ false → settled p o ≡ p
-unfolding settled
+pub rests_settled : (p : Plan) (o : CodeOutcome) → p.runs ≡ false → plan_after_code p o ≡ p
+unfolding plan_after_code
 rests_settled p o rests = rw rests refl
 
 pub first_carried : (w : World) (p : Plan) (c : Carried World) → p.runs ≡ false
-    → carried module_doing w (settled p Well) ≡ c → c ≡ world_carried w p
-first_carried w p c rests is = sym is ∙ ap (carried module_doing w) (rests_settled p Well rests)
+    → carry_of_plan module_doing w (plan_after_code p Well) ≡ c → c ≡ world_carried w p
+first_carried w p c rests is = sym is ∙ ap (carry_of_plan module_doing w) (rests_settled p Well rests)
 
 -- the entry of a call comes back
 pub entry_goes_on : (s t : MachineState) (f : Frame) (kept ended : Option Plan)
     → fault_kept f.call (machine_world s) (outcome_left s.cpu) kept ≡ None
-    → Resumes s f (outcome_left s.cpu) kept ended t → quiet (finished t f.call ended) ≡ plan_left s f kept
+    → Resumes s f (outcome_left s.cpu) kept ended t → quiet (state_after_plan t f.call ended) ≡ plan_left s f kept
 entry_goes_on s t f None ended well resumes = absurd resumes
-entry_goes_on s t f (Some p) ended well resumes = rw well (λ i. quiet (finished (resumes.0 i) f.call (resumes.1 i)))
+entry_goes_on s t f (Some p) ended well resumes = rw well (λ i. quiet (state_after_plan (resumes.0 i) f.call (resumes.1 i)))
 
 pub none_else : {A : Type 0} (o : Option A) → ((x : A) → o ≡ Some x → ⊥) → o ≡ None
 none_else None never = refl
 none_else (Some x) never = absurd (never x refl)
 
 pub entry_went_on : (s t : MachineState) (f : Frame) (kept ended : Option Plan) (o : CodeOutcome)
-    (fault : Option ℕ) (end : Outcome)
+    (fault : Option ℕ) (end : StepOutcome)
     → fault ≡ fault_kept f.call (machine_world s) o kept → fault ≡ None → o ≡ outcome_left s.cpu
     → Resumes s f o kept ended t
-    → end.now ≡ finished t f.call ended → end.printed ≡ [] → end ≡ plan_left s f kept
+    → end.now ≡ state_after_plan t f.call ended → end.printed ≡ [] → end ≡ plan_left s f kept
 entry_went_on s t f kept ended o fault end is none left resumes now printed =
     let none : fault_kept f.call (machine_world s) (outcome_left s.cpu) kept ≡ None =
     ap (λ (x : CodeOutcome). fault_kept f.call (machine_world s) x kept) (sym left) ∙ sym is ∙ none in
@@ -118,15 +118,15 @@ entry_went_on s t f kept ended o fault end is none left resumes now printed =
 
 pub entry_stops : (s : MachineState) (f : Frame) (kept : Option Plan) (number : ℕ)
     → fault_kept f.call (machine_world s) (outcome_left s.cpu) kept ≡ Some number
-    → halted s (halt.Fault (ErrorStop number)) ≡ plan_left s f kept
+    → outcome_of_halt s (halt.Fault (ErrorStop number)) ≡ plan_left s f kept
 entry_stops s f None number is = cc
 entry_stops s f (Some p) number is = rw is refl
 
 -- a leaf of the machine that carries a call on: its invariant, its state, and the plan if that has
 -- ended
 pub carried_well : (old new : Parts) (w : World) (p q : Plan) (code : Option Code) (plans : Option Plan × Option Plan)
-    → plans ≡ (kept_by q code, ended_by q code)
-    → new.tables.plan ≡ plans.0 → carried module_doing w p ≡ record { world = parts_world new; rest = q; code = code }
+    → plans ≡ (kept_by q code, plan_unless_code q code)
+    → new.tables.plan ≡ plans.0 → carry_of_plan module_doing w p ≡ record { world = parts_world new; rest = q; code = code }
     → (code ≡ None → IsWorld (parts_world new) []) → IsUnderWay (parts_world new) q → AreClasses new.map
     → AreFrames new.tables
     → IsWellFormed old → KeepsFlex (store_of old.map) (store_of new.map) → new.tables.flex ≡ old.tables.flex
@@ -140,20 +140,20 @@ carried_well old new w p q code plans is plan carries ended going classes frames
 pub state_opened : (s : MachineState) (w : World) (q : Plan) (code : Option Code) (call : Call) (cpu : State)
     (frames : List Frame) (plans : Option Plan × Option Plan) (c : Carried World)
     → cpu ≡ core_by s.cpu code → frames ≡ frames_by s.tables.frames s.cpu call code
-    → plans ≡ (kept_by q code, ended_by q code) → record { world = w; rest = q; code = code } ≡ c
-    → with_code (with_world s w) cpu frames plans.0 ≡ opened s call c
+    → plans ≡ (kept_by q code, plan_unless_code q code) → record { world = w; rest = q; code = code } ≡ c
+    → with_code (with_world s w) cpu frames plans.0 ≡ state_with_code_entered s call c
 state_opened s w q code call cpu frames plans c core opens is carries =
-    (λ i. with_code (with_world s w) (core i) (opens i) ((is i).0)) ∙ ap (opened s call) carries
+    (λ i. with_code (with_world s w) (core i) (opens i) ((is i).0)) ∙ ap (state_with_code_entered s call) carries
 
 pub ended_carried : (w : World) (q : Plan) (code : Option Code) (plans : Option Plan × Option Plan) (c : Carried World)
-    → plans ≡ (kept_by q code, ended_by q code) → record { world = w; rest = q; code = code } ≡ c
+    → plans ≡ (kept_by q code, plan_unless_code q code) → record { world = w; rest = q; code = code } ≡ c
     → plans.1 ≡ ended_of c
 ended_carried w q code plans c is carries =
     ap (λ (r : Option Plan × Option Plan). r.1) is ∙ ap ended_of carries
 
 pub resumes_by : (s t : MachineState) (f : Frame) (o : CodeOutcome) (kept ended : Option Plan) (p : Plan)
-    → kept ≡ Some p → (let c = world_carried (machine_world s) (settled p o) in
-    (t ≡ opened (come_back s f) f.call c) × (ended ≡ ended_of c)) → Resumes s f o kept ended t
+    → kept ≡ Some p → (let c = world_carried (machine_world s) (plan_after_code p o) in
+    (t ≡ state_with_code_entered (come_back s f) f.call c) × (ended ≡ ended_of c)) → Resumes s f o kept ended t
 resumes_by s t f o kept ended p is resumes = rw is resumes
 
 -- a call that does something at once
@@ -169,7 +169,7 @@ pub refused_well : (old new : Parts) → IsWellFormed old → parts_world new �
 refused_well old new well world plan frames classes keeps flex stepped sizes = record {
   areas = subst (λ (w : World). IsEstate w.estate) (sym world) well.areas;
   classes = classes;
-  system = subst (λ (w : World). IsRecorded system_pages w.estate.store.others) (sym world) well.system;
+  system = subst (λ (w : World). IsRecorded system_pages_range w.estate.store.others) (sym world) well.system;
   modules = rw plan (subst (λ (w : World). MayGoOn w old.tables.plan) (sym world) well.modules);
   frames = frames_kept old.tables new.tables well.frames frames plan (ap (λ (w : World). slots_of w.modules) world);
   flex = flex_by old new well (subst (λ (w : World). IsEstate w.estate) (sym world) well.areas) keeps flex;
@@ -179,12 +179,12 @@ refused_well old new well world plan frames classes keeps flex stepped sizes = r
 
 pub starts_by : (s t : MachineState) (call : Call) (old w : World) (r : Result (World × Plan) ErrorNumber) (p : Plan)
     (ended : Option Plan) → Gives old r (Ok p) w
-    → t ≡ opened s call (world_carried w p) → ended ≡ ended_of (world_carried w p)
-    → Starts s call (planned r) (Ok ended) t
+    → t ≡ state_with_code_entered s call (world_carried w p) → ended ≡ ended_of (world_carried w p)
+    → Starts s call (planned_of r) (Ok ended) t
 starts_by s t call old w (Err f) p ended gives state ends = absurd gives
 starts_by s t call old w (Ok r) p ended gives state ends = (
-  state ∙ ap (λ (v : World). opened s call (world_carried v p)) gives.0
-      ∙ ap (λ (q : Plan). opened s call (world_carried r.0 q)) gives.1,
+  state ∙ ap (λ (v : World). state_with_code_entered s call (world_carried v p)) gives.0
+      ∙ ap (λ (q : Plan). state_with_code_entered s call (world_carried r.0 q)) gives.1,
   ends ∙ ap (λ (v : World). ended_of (world_carried v p)) gives.0
       ∙ ap (λ (q : Plan). ended_of (world_carried r.0 q)) gives.1,
 )

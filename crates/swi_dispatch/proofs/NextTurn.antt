@@ -5,29 +5,29 @@ use Rattle.profile.specs.declared.stop.Stop.TheVariants as stop
 use Rattle.arm_core.specs.declared.turn.Turn.{Turn}
 use Rattle.image_loader.specs.Entries.{Entry}
 use Rattle.swi_dispatch.specs.declared.halt.Halt.{Halt}
-use Rattle.swi_dispatch.specs.MachineState.{MachineState, Outcome, quiet}
-use Rattle.swi_dispatch.specs.Step.{called, turned, turn_end, instructed, store_called, unless_halted, machine_step, without_x}
+use Rattle.swi_dispatch.specs.MachineState.{MachineState, StepOutcome, quiet}
+use Rattle.swi_dispatch.specs.Step.{outcome_of_call, outcome_of_turn, turn_end, result_of_instruction, store_called, unless_halted, machine_step, without_x}
 use Rattle.swi_dispatch.specs.Parts.{TakesTurn}
 use Rattle.swi_dispatch.specs.Run.{Run, ran, quiet_run}
 use Rattle.swi_dispatch.proofs.RunLoop.{one_run, ran-none}
 use Rattle.swi_dispatch.proofs.Turning.{turned_by}
 
-pub awake_step : (images : List Entry) (s : MachineState) → s.halt ≡ None → machine_step images s ≡ turned images s (instructed s)
+pub awake_step : (images : List Entry) (s : MachineState) → s.halt ≡ None → machine_step images s ≡ outcome_of_turn images s (result_of_instruction s)
 unfolding machine_step
-awake_step images s awake = ap (λ (o : Option Halt). unless_halted s o (turned images s (instructed s))) awake
+awake_step images s awake = ap (λ (o : Option Halt). unless_halted s o (outcome_of_turn images s (result_of_instruction s))) awake
 
 -- a call from outside, of a machine that isn't halted
 pub outside_call : (images : List Entry) (s : MachineState) (number : ℕ) → s.halt ≡ None
-    → store_called images s number ≡ called images s true s.cpu.pc (without_x (number % 2 ^ 24))
+    → store_called images s number ≡ outcome_of_call images s true s.cpu.pc (without_x (number % 2 ^ 24))
 unfolding store_called
 outside_call images s number awake =
-    ap (λ (o : Option Halt). unless_halted s o (called images s true s.cpu.pc (without_x (number % 2 ^ 24)))) awake
+    ap (λ (o : Option Halt). unless_halted s o (outcome_of_call images s true s.cpu.pc (without_x (number % 2 ^ 24)))) awake
 
 -- a turn that is known, of a machine that it leaves as it is
 pub known_turn : (images : List Entry) (s : MachineState) (t : Turn) → s.halt ≡ None → TakesTurn s t s → turn_end images s t ≡ machine_step images s
-known_turn images s t awake h = turned_by images s (instructed s) t s h ∙ sym (awake_step images s awake)
+known_turn images s t awake h = turned_by images s (result_of_instruction s) t s h ∙ sym (awake_step images s awake)
 
-abbrev left_by : Run → Outcome
+abbrev left_by : Run → StepOutcome
 left_by r = record { now = r.now; printed = r.printed }
 
 -- a quiet run of one step is the step

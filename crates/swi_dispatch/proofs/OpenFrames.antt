@@ -9,17 +9,17 @@ use Rattle.std.proofs.lemmas.List.{take-append-drop}
 use Rattle.std.proofs.lemmas.List.Elements.{All-cons, All-head, All-nil, All-push, All-tail, All-take}
 use Rattle.swi_dispatch_plans.specs.instances.specs.Naming.{slots_of_kept, slots_of_plan}
 use Rattle.instances_plans.specs.declared.code.CodeKind.{CodeKind}
-use Rattle.instances_plans.specs.Plans.{Plan, first_of}
+use Rattle.instances_plans.specs.Plans.{Plan, first_action}
 use Rattle.instances_plans.specs.Doable.{is_used}
 use Rattle.instances_table.specs.Modules.{Module, slots_of}
 use Rattle.swi_dispatch_frames.specs.declared.frame.Frame.{Frame}
 use Rattle.swi_dispatch_frames.specs.declared.frame.FrameKind.{FrameKind}
 use Rattle.swi_dispatch_frames.specs.declared.frame.FrameKind.TheVariants.{Swi, Entry}
 use Rattle.swi_dispatch_frames.specs.Busy.{has_swi_of, is_swi}
-use Rattle.swi_dispatch_frames.specs.Frames.{closed, innermost}
+use Rattle.swi_dispatch_frames.specs.Frames.{frames_after_close, innermost_frame}
 use Rattle.swi_dispatch_plans.proofs.Sparing.{among, none_of}
 use Rattle.swi_dispatch.specs.MachineState.{Tables}
-use Rattle.swi_dispatch.specs.OpenFrames.{AreCalled, AreFrames, AreHeld, AreSpared, IsCalled, entries}
+use Rattle.swi_dispatch.specs.OpenFrames.{AreCalled, AreFrames, AreHeld, AreSpared, IsFrameOfCode, entries}
 use Rattle.swi_dispatch.specs.OpenFrames.{entry_called, entry_kept}
 
 -- the same frames and the same plan, of modules with the same slots
@@ -56,15 +56,15 @@ pub idle_spared : (slots : List ℕ) (fs : List Frame) → entries fs ≡ 0 → 
 idle_spared slots fs idle below above f is entry = absurd (no_entry below above f (ap entries (sym is) ∙ idle) entry)
 
 -- nor any of another entry than a plan's first action calls
-swi_called : (entry : Option (CodeKind × ℕ)) (kind : FrameKind) (slot : ℕ) → is_swi kind ≡ true → IsCalled entry kind slot
+swi_called : (entry : Option (CodeKind × ℕ)) (kind : FrameKind) (slot : ℕ) → is_swi kind ≡ true → IsFrameOfCode entry kind slot
 swi_called entry Swi slot swi = tt
 swi_called entry (Entry kind) slot swi = absurd (false≢true swi)
 
 idle_called : (plan : Option Plan) (fs : List Frame) → entries fs ≡ 0 → AreCalled plan fs
-idle_called plan [] idle = All-nil (λ (f : Frame). IsCalled (entry_kept plan) f.kind f.slot)
+idle_called plan [] idle = All-nil (λ (f : Frame). IsFrameOfCode (entry_kept plan) f.kind f.slot)
 idle_called plan (f ∷ fs) idle =
     let swi = idle_parts (is_swi f.kind) (entries fs) idle in
-    All-cons (λ (g : Frame). IsCalled (entry_kept plan) g.kind g.slot) f fs (swi_called (entry_kept plan) f.kind f.slot swi.0)
+    All-cons (λ (g : Frame). IsFrameOfCode (entry_kept plan) g.kind g.slot) f fs (swi_called (entry_kept plan) f.kind f.slot swi.0)
     (idle_called plan fs swi.1)
 
 -- no entry, and no plan that is kept
@@ -141,7 +141,7 @@ swi_opened old new f are plan modules opened swi there =
     ∙ rw swi (omega arith) in
     record {
       kept = rw (same, plan) are.kept;
-      called = rw (plan, opened) (All-push (λ (g : Frame). IsCalled (entry_kept old.plan) g.kind g.slot) old.frames f
+      called = rw (plan, opened) (All-push (λ (g : Frame). IsFrameOfCode (entry_kept old.plan) g.kind g.slot) old.frames f
           are.called (swi_called (entry_kept old.plan) f.kind f.slot swi));
       held = rw (modules, opened) (All-push (λ (g : Frame). is_used g.slot (slots_of old.modules) ≡ true) old.frames f
           are.held there);
@@ -157,7 +157,7 @@ entry_spared slots fs f idle none below above g is entry = elim (parted fs below
 ]
 
 pub entry_opened : (t : Tables) (fs : List Frame) (f : Frame) (p : Plan) → entries fs ≡ 0
-    → IsCalled (entry_called (first_of p.actions)) f.kind f.slot → AreHeld t.modules fs
+    → IsFrameOfCode (entry_called (first_action p.actions)) f.kind f.slot → AreHeld t.modules fs
     → is_used f.slot (slots_of t.modules) ≡ true → has_swi_of (f.slot ∷ slots_of_plan p) fs ≡ false
     → is_swi f.kind ≡ false → t.plan ≡ Some p → t.frames ≡ fs ++ f ∷ [] → AreFrames t
 entry_opened t fs f p idle called held there none entry plan opened =
@@ -165,7 +165,7 @@ entry_opened t fs f p idle called held there none entry plan opened =
     let one : entries t.frames ≡ 1 = omega (arith, ap entries opened, entries-append fs (f ∷ []), counted, idle) in
     record {
       kept = rw plan one;
-      called = rw (plan, opened) (All-push (λ (g : Frame). IsCalled (entry_called (first_of p.actions)) g.kind g.slot) fs f
+      called = rw (plan, opened) (All-push (λ (g : Frame). IsFrameOfCode (entry_called (first_action p.actions)) g.kind g.slot) fs f
           (idle_called (Some p) fs idle) called);
       held = rw opened (All-push (λ (g : Frame). is_used g.slot (slots_of t.modules) ≡ true) fs f held there);
       spared = rw (plan, opened) (entry_spared (slots_of_plan p) fs f idle none);
@@ -178,7 +178,7 @@ last_of zero (x ∷ []) f there len = let same : x ≡ f = cc in ap (λ (g : Fra
 last_of zero (x ∷ y ∷ ys) f there len = absurd (omega (arith, len))
 last_of (suc n) (x ∷ xs) f there len = ap (λ (ys : List Frame). x ∷ ys) (last_of n xs f there (omega (arith, len)))
 
-innermost_last : (xs : List Frame) (f : Frame) → innermost xs ≡ Some f → xs ≡ closed xs ++ f ∷ []
+innermost_last : (xs : List Frame) (f : Frame) → innermost_frame xs ≡ Some f → xs ≡ frames_after_close xs ++ f ∷ []
 innermost_last [] f there = cc
 innermost_last (x ∷ xs) f there = last_of (length (x ∷ xs) - 1) (x ∷ xs) f there (omega arith)
 
@@ -190,15 +190,15 @@ closed_spared slots n fs spared below above f is entry =
     ∙ append_assoc below (f ∷ above) (drop n fs) in
     spared below (above ++ drop n fs) f whole entry
 
-pub swi_closes : (old new : Tables) (f : Frame) → AreFrames old → innermost old.frames ≡ Some f → is_swi f.kind ≡ true
-    → new.plan ≡ old.plan → new.modules ≡ old.modules → new.frames ≡ closed old.frames → AreFrames new
+pub swi_closes : (old new : Tables) (f : Frame) → AreFrames old → innermost_frame old.frames ≡ Some f → is_swi f.kind ≡ true
+    → new.plan ≡ old.plan → new.modules ≡ old.modules → new.frames ≡ frames_after_close old.frames → AreFrames new
 swi_closes old new f are last swi plan modules closes =
     let none : entries (f ∷ []) ≡ 0 = rw swi refl in
-    let same : entries (closed old.frames) ≡ entries old.frames =
-    omega (arith, ap entries (innermost_last old.frames f last), entries-append (closed old.frames) (f ∷ []), none) in
+    let same : entries (frames_after_close old.frames) ≡ entries old.frames =
+    omega (arith, ap entries (innermost_last old.frames f last), entries-append (frames_after_close old.frames) (f ∷ []), none) in
     record {
       kept = ap entries closes ∙ same ∙ are.kept ∙ ap (λ (p : Option Plan). if is_some p then 1 else 0) (sym plan);
-      called = rw (plan, closes) (All-take (λ (g : Frame). IsCalled (entry_kept old.plan) g.kind g.slot)
+      called = rw (plan, closes) (All-take (λ (g : Frame). IsFrameOfCode (entry_kept old.plan) g.kind g.slot)
           (length old.frames - 1) old.frames are.called);
       held = rw (modules, closes) (All-take (λ (f : Frame). is_used f.slot (slots_of old.modules) ≡ true)
           (length old.frames - 1) old.frames are.held);
@@ -206,27 +206,27 @@ swi_closes old new f are last swi plan modules closes =
     }
 
 -- While an entry's frame is open, a plan is kept.
-pub plan_there : (t : Tables) (f : Frame) → AreFrames t → t.plan ≡ None → innermost t.frames ≡ Some f
+pub plan_there : (t : Tables) (f : Frame) → AreFrames t → t.plan ≡ None → innermost_frame t.frames ≡ Some f
     → is_swi f.kind ≡ false → ⊥
 plan_there t f are none last entry =
     let idle : entries t.frames ≡ 0 = are.kept ∙ ap (λ (p : Option Plan). if is_some p then 1 else 0) none in
-    no_entry (closed t.frames) [] f (ap entries (sym (innermost_last t.frames f last)) ∙ idle) entry
+    no_entry (frames_after_close t.frames) [] f (ap entries (sym (innermost_last t.frames f last)) ∙ idle) entry
 
 -- An entry's frame is closed: none is left, and no SWI under way is of an instance that its plan
 -- names.
-pub entry_closes : (xs : List Frame) (f : Frame) → entries xs ≡ 1 → innermost xs ≡ Some f → is_swi f.kind ≡ false
-    → entries (closed xs) ≡ 0
+pub entry_closes : (xs : List Frame) (f : Frame) → entries xs ≡ 1 → innermost_frame xs ≡ Some f → is_swi f.kind ≡ false
+    → entries (frames_after_close xs) ≡ 0
 entry_closes xs f one there entry =
     let counted : entries (f ∷ []) ≡ 1 = rw entry refl in
-    omega (arith, ap entries (innermost_last xs f there), entries-append (closed xs) (f ∷ []), counted, one)
+    omega (arith, ap entries (innermost_last xs f there), entries-append (frames_after_close xs) (f ∷ []), counted, one)
 
-pub closed_held : (ms : List Module) (xs : List Frame) → AreHeld ms xs → AreHeld ms (closed xs)
+pub closed_held : (ms : List Module) (xs : List Frame) → AreHeld ms xs → AreHeld ms (frames_after_close xs)
 closed_held ms xs held = All-take (λ (f : Frame). is_used f.slot (slots_of ms) ≡ true) (length xs - 1) xs held
 
 pub entry_spares : (used slots : List ℕ) (xs : List Frame) (f : Frame)
-    → All (λ (g : Frame). is_used g.slot used ≡ true) (closed xs)
-    → AreSpared slots xs → innermost xs ≡ Some f → is_swi f.kind ≡ false → has_swi_of slots (closed xs) ≡ false
+    → All (λ (g : Frame). is_used g.slot used ≡ true) (frames_after_close xs)
+    → AreSpared slots xs → innermost_frame xs ≡ Some f → is_swi f.kind ≡ false → has_swi_of slots (frames_after_close xs) ≡ false
 entry_spares used slots xs f held spared there entry =
-    none_of used (f.slot ∷ slots) slots (closed xs) held (λ s used none.
+    none_of used (f.slot ∷ slots) slots (frames_after_close xs) held (λ s used none.
     (or_parts (f.slot == s) (is_used s slots) none).1)
-    (spared (closed xs) [] f (innermost_last xs f there) entry)
+    (spared (frames_after_close xs) [] f (innermost_last xs f there) entry)

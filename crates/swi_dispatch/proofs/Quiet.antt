@@ -8,16 +8,16 @@ use Rattle.arm_core.specs.declared.turn.Turn.TheVariants as turn
 use Rattle.arm_core.specs.State.{State}
 use Rattle.image_loader.specs.Entries.{Entry}
 use Rattle.swi_dispatch.specs.declared.halt.Halt.{Halt}
-use Rattle.swi_dispatch.specs.MachineState.{MachineState, Outcome, quiet}
-use Rattle.swi_dispatch.specs.Step.{turned, Turned, instructed, unless_halted, machine_step}
+use Rattle.swi_dispatch.specs.MachineState.{MachineState, StepOutcome, quiet}
+use Rattle.swi_dispatch.specs.Step.{outcome_of_turn, Turned, result_of_instruction, unless_halted, machine_step}
 use Rattle.swi_dispatch.specs.Parts.{TakesTurn}
 use Rattle.swi_dispatch.specs.Run.{Run, is_among, ran, then_run, quiet_run, stop_after}
 use Rattle.swi_dispatch.proofs.RunLoop.{one_step, one_run, ran-none, steps_more}
 
 done_by : (images : List Entry) (s : MachineState) (r : Result (State × Bytes) Turn) (s' : MachineState) → Turned s r turn.Done s'
-    → (turned images s r ≡ quiet s') × (s'.halt ≡ s.halt)
+    → (outcome_of_turn images s r ≡ quiet s') × (s'.halt ≡ s.halt)
 done_by images s (Ok w) s' h = (ap quiet (sym h.1), ap (λ (x : MachineState). x.halt) h.1)
-done_by images s (Err e) s' h = (ap (λ (t : Turn). turned images s (Err t)) (sym h.0) ∙ ap quiet (sym h.1), ap (λ (x : MachineState). x.halt) h.1)
+done_by images s (Err e) s' h = (ap (λ (t : Turn). outcome_of_turn images s (Err t)) (sym h.0) ∙ ap quiet (sym h.1), ap (λ (x : MachineState). x.halt) h.1)
 
 other_by : (s : MachineState) (r : Result (State × Bytes) Turn) (t : Turn) (s' : MachineState) → t ≢ turn.Done → Turned s r t s' → s' ≡ s
 other_by s (Ok w) t s' other h = absurd (other h.0)
@@ -25,15 +25,15 @@ other_by s (Err e) t s' other h = h.1
 
 -- a turn that isn't done changes nothing
 pub other_stays : (s : MachineState) (t : Turn) (s' : MachineState) → t ≢ turn.Done → TakesTurn s t s' → s' ≡ s
-other_stays s t s' other h = other_by s (instructed s) t s' other h
+other_stays s t s' other h = other_by s (result_of_instruction s) t s' other h
 
 pub done_awake : (s s' : MachineState) (t : Turn) → t ≡ turn.Done → s.halt ≡ None → TakesTurn s t s' → s'.halt ≡ None
-done_awake s s' t done awake h = (done_by [] s (instructed s) s' (subst (λ (x : Turn). TakesTurn s x s') done h)).1 ∙ awake
+done_awake s s' t done awake h = (done_by [] s (result_of_instruction s) s' (subst (λ (x : Turn). TakesTurn s x s') done h)).1 ∙ awake
 
 done_step : (images : List Entry) (s s' : MachineState) → s.halt ≡ None → TakesTurn s turn.Done s' → machine_step images s ≡ quiet s'
 unfolding machine_step
 done_step images s s' awake h =
-    ap (λ (o : Option Halt). unless_halted s o (turned images s (instructed s))) awake ∙ (done_by images s (instructed s) s' h).0
+    ap (λ (o : Option Halt). unless_halted s o (outcome_of_turn images s (result_of_instruction s))) awake ∙ (done_by images s (result_of_instruction s) s' h).0
 
 -- where a run of one such step ends
 pub ends_by : (breaks : List ℕ) (s : MachineState) (b : Bool) → is_among breaks s.cpu.pc ≡ b
@@ -47,7 +47,7 @@ ends_unwatched breaks s none = ap (λ (bs : List ℕ). stop_after bs s None) non
 quiet_one : (images : List Entry) (breaks : List ℕ) (s s' : MachineState) (x : Stop) → s.halt ≡ None → stop_after breaks s' None ≡ x → TakesTurn s turn.Done s'
     → ran images breaks 1 s ≡ quiet_run s' 1 x
 quiet_one images breaks s s' x awake end h =
-    one_run images breaks s awake ∙ ap (λ (a : Outcome). one_step breaks a a.now.halt) (done_step images s s' awake h)
+    one_run images breaks s awake ∙ ap (λ (a : StepOutcome). one_step breaks a a.now.halt) (done_step images s s' awake h)
     ∙ ap (one_step breaks (quiet s')) (done_awake s s' turn.Done refl awake h) ∙ ap (quiet_run s' 1) end
 
 quiet_goes_on : (s : MachineState) (n : ℕ) → (quiet_run s n stop.Budget).stop ≡ stop.Budget

@@ -11,9 +11,9 @@ use Rattle.profile.specs.declared.stop.Stop.{Stop}
 use Rattle.profile.specs.declared.stop.Stop.TheVariants as stop
 use Rattle.image_loader.specs.Entries.{Entry}
 use Rattle.swi_dispatch.specs.declared.halt.Halt.{Halt}
-use Rattle.swi_dispatch.specs.MachineState.{MachineState, Outcome, stop_of}
+use Rattle.swi_dispatch.specs.MachineState.{MachineState, StepOutcome, stop_of}
 use Rattle.swi_dispatch.specs.Step.{machine_step}
-use Rattle.swi_dispatch.specs.Run.{Run, resting, joined, is_among, go_on, run_unless_halted, ran, then_run, later, last_or, quiet_run, quiet_last, stop_after, count_after}
+use Rattle.swi_dispatch.specs.Run.{Run, resting, run_after_steps, is_among, go_on, run_unless_halted, ran, then_run, later_text, last_or, quiet_run, quiet_last, stop_after, count_after}
 use Rattle.swi_dispatch.specs.Ending.{Ends, StandsAfter}
 use Rattle.swi_dispatch.proofs.Runs.{halt-no_budget, runs_on}
 
@@ -30,19 +30,19 @@ unfolding ran
 ran-none images breaks s e = ap (λ (o : Option Halt). run_unless_halted s o (resting s stop.Budget)) e
 
 -- the run of one step, by what the step left
-abbrev pub one_step : List ℕ → Outcome → Option Halt → Run
+abbrev pub one_step : List ℕ → StepOutcome → Option Halt → Run
 one_step breaks a o = record { now = a.now; printed = a.printed; last = Some a.printed; taken = count_after o; stop = stop_after breaks a.now o }
 
 one_branch : (b : Bool) (now : MachineState) (printed : List ℕ) (r : Run) → r ≡ resting now stop.Budget
     → (let broken : Run = record { now = now; printed = printed; last = Some printed; taken = 1; stop = stop.Break now.cpu.pc } in
     let end : Stop = if b then stop.Break now.cpu.pc else stop.Budget in
     let one : Run = record { now = now; printed = printed; last = Some printed; taken = 1; stop = end } in
-    (if b then broken else joined printed (Some printed) 1 r) ≡ one)
+    (if b then broken else run_after_steps printed (Some printed) 1 r) ≡ one)
 one_branch true now printed r e = refl
-one_branch false now printed r e = ap (joined printed (Some printed) 1) e
+one_branch false now printed r e = ap (run_after_steps printed (Some printed) 1) e
     ∙ ap (λ (xs : List ℕ). let q : Run = record { now = now; printed = xs; last = Some printed; taken = 1; stop = stop.Budget } in q) (append-nil printed)
 
-one_go : (images : List Entry) (breaks : List ℕ) (a : Outcome) (o : Option Halt) → a.now.halt ≡ o → go_on breaks a o (ran images breaks zero) ≡ one_step breaks a o
+one_go : (images : List Entry) (breaks : List ℕ) (a : StepOutcome) (o : Option Halt) → a.now.halt ≡ o → go_on breaks a o (ran images breaks zero) ≡ one_step breaks a o
 one_go images breaks a (Some h) e = refl
 one_go images breaks a None e = one_branch (is_among breaks a.now.cpu.pc) a.now a.printed (ran images breaks zero a.now) (ran-none images breaks a.now e)
 
@@ -61,12 +61,12 @@ start_stays images breaks s None m e other = absurd (other refl)
 branch_stays : (b : Bool) (now : MachineState) (printed : List ℕ) (r r' : Run)
     → (r.stop ≢ stop.Budget → r' ≡ r)
     → (let broken : Run = record { now = now; printed = printed; last = Some printed; taken = 1; stop = stop.Break now.cpu.pc } in
-    (if b then broken else joined printed (Some printed) 1 r).stop ≢ stop.Budget
-    → (if b then broken else joined printed (Some printed) 1 r') ≡ (if b then broken else joined printed (Some printed) 1 r))
+    (if b then broken else run_after_steps printed (Some printed) 1 r).stop ≢ stop.Budget
+    → (if b then broken else run_after_steps printed (Some printed) 1 r') ≡ (if b then broken else run_after_steps printed (Some printed) 1 r))
 branch_stays true now printed r r' h other = refl
-branch_stays false now printed r r' h other = ap (joined printed (Some printed) 1) (h other)
+branch_stays false now printed r r' h other = ap (run_after_steps printed (Some printed) 1) (h other)
 
-step_stays : (breaks : List ℕ) (s : MachineState) (o : Option Halt) (a : Outcome) (ao : Option Halt) (rest rest' : MachineState → Run)
+step_stays : (breaks : List ℕ) (s : MachineState) (o : Option Halt) (a : StepOutcome) (ao : Option Halt) (rest rest' : MachineState → Run)
     → ((x : MachineState) → (rest x).stop ≢ stop.Budget → rest' x ≡ rest x)
     → (run_unless_halted s o (go_on breaks a ao rest)).stop ≢ stop.Budget
     → run_unless_halted s o (go_on breaks a ao rest') ≡ run_unless_halted s o (go_on breaks a ao rest)
@@ -94,7 +94,7 @@ pub steps_more : (images : List Entry) (breaks : List ℕ) (s0 s : MachineState)
 steps_more images breaks s0 s n m budget now =
     runs_on images breaks n m s0 budget ∙ ap (λ (x : MachineState). then_run (ran images breaks n s0) (ran images breaks m x)) (sym now)
 
-last_or-later : (shown : List ℕ) (a b : Option (List ℕ)) → last_or (last_or shown a) b ≡ last_or shown (later a b)
+last_or-later : (shown : List ℕ) (a b : Option (List ℕ)) → last_or (last_or shown a) b ≡ last_or shown (later_text a b)
 last_or-later shown a None = refl
 last_or-later shown a (Some x) = refl
 
@@ -106,7 +106,7 @@ ends_more images breaks s0 s s' n m o0 o1 o2 c0 c1 c2 k x done more =
     let second : Run = ran images breaks m s in
     let e : ran images breaks (n + m) s0 ≡ then_run first second = steps_more images breaks s0 s n m (sym done.stop) done.machine in
     let text : Appends c0 c2 (first.printed ++ second.printed) = Appends-join c0 c1 c2 first.printed second.printed done.text more.text in
-    let output : o2 ≡ last_or o0 (later first.last second.last) =
+    let output : o2 ≡ last_or o0 (later_text first.last second.last) =
     more.shows ∙ ap (λ (o : List ℕ). last_or o second.last) done.shows ∙ last_or-later o0 first.last second.last in
     let count : n + k ≡ first.taken + second.taken = (let p : n ≡ first.taken = done.count in let q : k ≡ second.taken = more.count in cc) in
     let both : Ends (then_run first second) s' o0 o2 c0 c2 (n + k) x =
@@ -136,8 +136,8 @@ pub stands_more : (images : List Entry) (breaks : List ℕ) (s0 s s' : MachineSt
     → AddsPart c1 c2 o2 → StandsAfter images breaks budget s0 s' o2 c0 c2
 stands_more images breaks s0 s s' n budget o0 o1 o2 c0 c1 c2 lt done one last part =
     let e = steps_more images breaks s0 s n 1 (sym done.stop) done.machine in
-    let later_one : Some o2 ≡ later (ran images breaks n s0).last (ran images breaks 1 s).last =
-    ap (later (ran images breaks n s0).last) last in
+    let later_one : Some o2 ≡ later_text (ran images breaks n s0).last (ran images breaks 1 s).last =
+    ap (later_text (ran images breaks n s0).last) last in
     record {
       taken = n;
       within = lt;
@@ -150,18 +150,18 @@ stands_more images breaks s0 s s' n budget o0 o1 o2 c0 c1 c2 lt done one last pa
     }
 
 -- one step of a machine that isn't halted, and what it printed written
-pub ends_one : (images : List Entry) (breaks : List ℕ) (s : MachineState) (a : Outcome) (o : List ℕ) (c0 c1 : Option (List ℕ)) (k : ℕ) (x : Stop)
+pub ends_one : (images : List Entry) (breaks : List ℕ) (s : MachineState) (a : StepOutcome) (o : List ℕ) (c0 c1 : Option (List ℕ)) (k : ℕ) (x : Stop)
     → s.halt ≡ None → a ≡ machine_step images s → Appends c0 c1 a.printed
     → k ≡ count_after a.now.halt → x ≡ stop_after breaks a.now a.now.halt → Ends (ran images breaks 1 s) a.now o a.printed c0 c1 k x
 ends_one images breaks s a o c0 c1 k x awake after text count end =
-    let e : ran images breaks 1 s ≡ one_step breaks a a.now.halt = one_run images breaks s awake ∙ ap (λ (b : Outcome). one_step breaks b b.now.halt) (sym after) in
+    let e : ran images breaks 1 s ≡ one_step breaks a a.now.halt = one_run images breaks s awake ∙ ap (λ (b : StepOutcome). one_step breaks b b.now.halt) (sym after) in
     let one : Ends (one_step breaks a a.now.halt) a.now o a.printed c0 c1 k x = record { machine = refl; text = text; shows = refl; count = count; stop = end } in
     subst (λ (r : Run). Ends r a.now o a.printed c0 c1 k x) (sym e) one
 
-pub stands_one : (images : List Entry) (breaks : List ℕ) (s : MachineState) (a : Outcome) → s.halt ≡ None → a ≡ machine_step images s
+pub stands_one : (images : List Entry) (breaks : List ℕ) (s : MachineState) (a : StepOutcome) → s.halt ≡ None → a ≡ machine_step images s
     → (a.now ≡ (ran images breaks 1 s).now) × (Some a.printed ≡ (ran images breaks 1 s).last)
 stands_one images breaks s a awake after =
-    let e : one_step breaks a a.now.halt ≡ ran images breaks 1 s = ap (λ (b : Outcome). one_step breaks b b.now.halt) after ∙ sym (one_run images breaks s awake) in
+    let e : one_step breaks a a.now.halt ≡ ran images breaks 1 s = ap (λ (b : StepOutcome). one_step breaks b b.now.halt) after ∙ sym (one_run images breaks s awake) in
     (ap (λ (r : Run). r.now) e, ap (λ (r : Run). r.last) e)
 
 pub ends_stopped : (images : List Entry) (breaks : List ℕ) (budget : ℕ) (s : MachineState) (h : Option Halt) (x : Stop) (o : List ℕ) (c : Option (List ℕ))

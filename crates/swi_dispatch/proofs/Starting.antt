@@ -3,34 +3,34 @@ use Rattle.std.proofs.Common.{inl, ◌≡◌, Bool, false, true, IsSome, [], Opt
 use Rattle.profile.specs.Sizes.{Sizes}
 use Rattle.address_map.specs.declared.map.AddressMap.{AddressMap}
 use Rattle.address_map.specs.Memory.{free_pages}
-use Rattle.arm_core.specs.State.{start_state}
-use Rattle.flex_ground.specs.instances_ground.specs.Sound.{IsWorld}
-use Rattle.flex_ground.specs.instances_ground.specs.World.{world_of}
-use Rattle.flex_ground.specs.instances_ground.proofs.Starting.{start_world}
+use Rattle.arm_core.specs.State.{cpu_start_state}
+use Rattle.flex_machine.specs.module_world.specs.Sound.{IsWorld}
+use Rattle.flex_machine.specs.module_world.specs.World.{world_of}
+use Rattle.flex_machine.specs.module_world.proofs.Starting.{start_world}
 use Rattle.os_heap.specs.Store.{Store, store_of}
 use Rattle.dynamic_areas.specs.Areas.{start_land}
-use Rattle.dynamic_areas.specs.Ground.{AreAreas, IsRecorded, pool_of, system_pages}
+use Rattle.dynamic_areas.specs.Ground.{AreAreas, IsRecorded, pool_of, system_pages_range}
 use Rattle.dynamic_areas.proofs.HeapCalls.{pool_is}
 use Rattle.swi_dispatch.specs.declared.halt.Halt.{Halt}
-use Rattle.swi_dispatch.specs.MachineState.{MachineState, start_of}
+use Rattle.swi_dispatch.specs.MachineState.{MachineState, machine_start}
 use Rattle.swi_dispatch.proofs.Kept.{over, with_core}
 use Rattle.dynamic_areas.specs.Start.{start_store}
 
 pub starts : (m : AddressMap) (s : Sizes) → store_of m ≡ start_store s → AreAreas (store_of m) (free_pages m) (start_land s)
-    → over m start_state (record { land = start_land s; modules = []; frames = []; plan = None; flex = record { extent = None } }) None ≡ start_of s
-unfolding start_of
+    → over m cpu_start_state (record { land = start_land s; modules = []; frames = []; plan = None; flex = record { extent = None } }) None ≡ machine_start s
+unfolding machine_start
 starts m s e areas =
     let pool : free_pages m ≡ pool_of (start_land s) = pool_is _ _ _ areas in
-    λ i. with_core start_state (pool i) (record { land = start_land s; modules = []; frames = []; plan = None; flex = record { extent = None } }) None (e i)
+    λ i. with_core cpu_start_state (pool i) (record { land = start_land s; modules = []; frames = []; plan = None; flex = record { extent = None } }) None (e i)
 
 -- a machine that stands as it was made isn't halted
-pub fresh_awake : (s : MachineState) (sizes : Sizes) (b : Bool) (o : Option Halt) → (b ≡ true → s ≡ start_of sizes) → s.halt ≡ o → IsSome o → b ≡ false
-unfolding start_of
+pub fresh_awake : (s : MachineState) (sizes : Sizes) (b : Bool) (o : Option Halt) → (b ≡ true → s ≡ machine_start sizes) → s.halt ≡ o → IsSome o → b ≡ false
+unfolding machine_start
 fresh_awake s sizes false o start e some = refl
 fresh_awake s sizes true None start e some = cc
 fresh_awake s sizes true (Some h) start e some = let k : s.halt ≡ None = ap (λ (t : MachineState). t.halt) (start refl) in cc
 
-pub system_recorded : (m : AddressMap) (s : Sizes) → store_of m ≡ start_store s → IsRecorded system_pages (store_of m).others
+pub system_recorded : (m : AddressMap) (s : Sizes) → store_of m ≡ start_store s → IsRecorded system_pages_range (store_of m).others
 system_recorded m s e = rw e (inl refl)
 
 -- and there are no modules yet

@@ -1,4 +1,5 @@
 -- The system pages are mapped and recorded, and the private words stand there.
+use Rattle.profile.specs.MemoryMap.{system_start}
 use Rattle.std.proofs.Common.{ℕ, arith}
 use Rattle.address_map.proofs.InRange.{range_inside}
 use Rattle.address_map.specs.declared.map.AddressMap.{AddressMap}
@@ -6,17 +7,17 @@ use Rattle.address_map.specs.Bytes.{AreMapped}
 use Rattle.address_map.specs.Memory.{free_pages}
 use Rattle.os_heap.specs.Store.{Store, store_of}
 use Rattle.dynamic_areas.specs.Areas.{Land}
-use Rattle.dynamic_areas.specs.Ground.{AreAreas, IsRecorded, system_pages}
+use Rattle.dynamic_areas.specs.Ground.{AreAreas, IsRecorded, system_pages_range}
 use Rattle.dynamic_areas.proofs.HeapCalls.{system_mapped}
-use Rattle.flex_ground.specs.instances_ground.specs.Sound.{HasSystemPages}
+use Rattle.flex_machine.specs.module_world.specs.Sound.{HasSystemPages}
 
 pub private_room : (s : Store) (free : ℕ) (l : Land) → AreAreas s free l → AreMapped s.bytes.mapped 0x01C02000 256
-private_room s free l areas a low high = system_mapped s free l areas a (range_inside 0x01C00000 0x3000 a (omega arith) (omega arith))
+private_room s free l areas a low high = system_mapped s free l areas a (range_inside system_start 0x3000 a (omega arith) (omega arith))
 
-pub has_pages : (m : AddressMap) (l : Land) → AreAreas (store_of m) (free_pages m) l → IsRecorded system_pages (store_of m).others → HasSystemPages m
+pub has_pages : (m : AddressMap) (l : Land) → AreAreas (store_of m) (free_pages m) l → IsRecorded system_pages_range (store_of m).others → HasSystemPages m
 unfolding store_of
 has_pages m l areas recorded = record {
   sound = areas.ground.sound;
   recorded = recorded;
-  mapped = λ a low high. system_mapped (store_of m) (free_pages m) l areas a (range_inside 0x01C00000 0x3000 a low high);
+  mapped = λ a low high. system_mapped (store_of m) (free_pages m) l areas a (range_inside system_start 0x3000 a low high);
 }

@@ -10,7 +10,8 @@ use Rattle.swi_dispatch.specs.Run.{Run, ran, last_or}
 
 -- The machine, the bytes written, what it printed last, the count and the stop are the run's.
 -- `shown` is what the machine printed last before.
-pub record Ends (r : Run) (now : MachineState) (shown output : List ℕ) (before after : Option (List ℕ)) (taken : ℕ) (end : Stop) : Type 0 where
+pub record Ends (r : Run) (now : MachineState) (shown output : List ℕ) (before after : Option (List ℕ))
+    (taken : ℕ) (end : Stop) : Type 0 where
   pub machine : now ≡ r.now
   pub text : Appends before after r.printed
   pub shows : output ≡ last_or shown r.last
@@ -20,7 +21,8 @@ pub record Ends (r : Run) (now : MachineState) (shown output : List ℕ) (before
 -- Where the writer failed, the machine stands after the step whose output failed, one of those of
 -- the budget. What stands written is all that the steps before it printed and a front of what it
 -- printed, but not all of that.
-pub record StandsAfter (images : List Entry) (breaks : List ℕ) (budget : ℕ) (start now : MachineState) (output : List ℕ)
+pub record StandsAfter (images : List Entry) (breaks : List ℕ) (budget : ℕ) (start now : MachineState)
+    (output : List ℕ)
     (before after : Option (List ℕ)) : Type 0 where
   pub taken : ℕ
   pub within : taken < budget

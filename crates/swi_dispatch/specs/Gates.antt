@@ -14,8 +14,8 @@ use Rattle.instances_plans.specs.declared.code.Outcome.{Outcome as CodeOutcome}
 use Rattle.instances_plans.specs.declared.code.Outcome.TheVariants.{Well, Refused}
 use Rattle.instances_plans.specs.declared.given.Given.{Given}
 use Rattle.instances_plans.specs.Carrying.{Carried}
-use Rattle.instances_plans.specs.Plans.{Plan, settled}
-use Rattle.flex_ground.specs.instances_ground.specs.World.{World}
+use Rattle.instances_plans.specs.Plans.{Plan, plan_after_code}
+use Rattle.flex_machine.specs.module_world.specs.World.{World}
 use Rattle.swi_dispatch_plans.specs.instances.specs.declared.answers.Start.{Start}
 use Rattle.swi_dispatch_plans.specs.instances.specs.Reading.{start_found}
 use Rattle.swi_dispatch_frames.specs.declared.call.Call.{Call}
@@ -23,15 +23,15 @@ use Rattle.swi_dispatch_frames.specs.declared.frame.Frame.{Frame}
 use Rattle.swi_dispatch_frames.specs.declared.frame.FrameKind.{FrameKind}
 use Rattle.swi_dispatch_frames.specs.declared.frame.FrameKind.TheVariants.{Swi, Entry}
 use Rattle.swi_dispatch_frames.specs.Entering.{code_entered}
-use Rattle.swi_dispatch_frames.specs.Frames.{closed, frame_of, innermost}
+use Rattle.swi_dispatch_frames.specs.Frames.{frames_after_close, frame_of, innermost_frame}
 use Rattle.swi_dispatch_frames.specs.Leaving.{left}
 use Rattle.swi_dispatch.specs.declared.halt.Halt.TheVariants as halt
 use Rattle.swi_dispatch.specs.Answers.{with_answer}
-use Rattle.swi_dispatch.specs.MachineState.{MachineState, Outcome, machine_world, quiet, with_world}
+use Rattle.swi_dispatch.specs.MachineState.{MachineState, StepOutcome, machine_world, quiet, with_world}
 use Rattle.swi_dispatch.specs.ModuleStart.{opened_at}
-use Rattle.swi_dispatch.specs.Returns.{erred, gone_back, halted}
+use Rattle.swi_dispatch.specs.Returns.{outcome_of_error, gone_back, outcome_of_halt}
 use Rattle.swi_dispatch_answers.specs.Errors.{error_at}
-use Rattle.swi_dispatch_answers.specs.Returns.{returned}
+use Rattle.swi_dispatch_answers.specs.Returns.{state_after_return}
 use Rattle.swi_dispatch_plans.specs.Trials.{error_ahead, world_carried}
 
 -- A module that was loaded to be run is entered with the text of the call, as OS_Module 2 does.
@@ -69,49 +69,58 @@ abbrev pub kept_by : Plan → Option Code → Option Plan
 kept_by p (Some code) = Some p
 kept_by p None = None
 
-abbrev pub ended_by : Plan → Option Code → Option Plan
-ended_by p (Some code) = None
-ended_by p None = Some p
+abbrev pub plan_unless_code : Plan → Option Code → Option Plan
+plan_unless_code p (Some code) = None
+plan_unless_code p None = Some p
 
 abbrev pub with_code : MachineState → State → List Frame → Option Plan → MachineState
-with_code s cpu frames plan = record s { cpu = cpu; tables = record s.tables { frames = frames; plan = plan } }
+with_code s cpu frames plan = record s {
+  cpu = cpu;
+  tables = record s.tables
+      { frames = frames; plan = plan };
+}
 
-abbrev pub opened : MachineState → Call → Carried World → MachineState
-opened s call c = with_code (with_world s c.world) (core_by s.cpu c.code)
+abbrev pub state_with_code_entered : MachineState → Call → Carried World → MachineState
+state_with_code_entered s call c = with_code (with_world s c.world) (core_by s.cpu c.code)
     (frames_by s.tables.frames s.cpu call c.code) (kept_by c.rest c.code)
 
 abbrev pub ended_of : Carried World → Option Plan
-ended_of c = ended_by c.rest c.code
+ended_of c = plan_unless_code c.rest c.code
 
 -- A call whose plan has ended goes back; one whose code is under way does so when that is done.
-abbrev pub finished : MachineState → Call → Option Plan → MachineState
-finished s call (Some p) = call_ended s call p
-finished s call None = s
+abbrev pub state_after_plan : MachineState → Call → Option Plan → MachineState
+state_after_plan s call (Some p) = call_ended s call p
+state_after_plan s call None = s
 
 -- A call is carried on with what its plan has left to do.
 abbrev pub carried_on : MachineState → Call → Plan → MachineState
-carried_on s call p = (let c = world_carried (machine_world s) p in finished (opened s call c) call (ended_of c))
+carried_on s call p = (let c = world_carried (machine_world s) p in
+    state_after_plan (state_with_code_entered s call c) call (ended_of c))
 
 -- Module code has come back: the core is the caller's again, but for what a SWI leaves, and the
 -- frame is closed.
 abbrev pub come_back : MachineState → Frame → MachineState
-come_back s f = record s { cpu = left s.cpu f; tables = record s.tables { frames = closed s.tables.frames } }
+come_back s f = record s {
+  cpu = left s.cpu f;
+  tables = record s.tables
+      { frames = frames_after_close s.tables.frames };
+}
 
 -- A SWI of a module goes back. Where V is set it was refused: the error is the module's own, which
 -- stands where R0 points.
 abbrev pub returned_from : State → Frame → State
-returned_from cpu f = returned f.call.caller (left cpu f) cpu.psr.overflow f.call.next
+returned_from cpu f = state_after_return f.call.caller (left cpu f) cpu.psr.overflow f.call.next
 
 abbrev pub frame_closed : MachineState → Frame → MachineState
 frame_closed s f = record s {
   cpu = returned_from s.cpu f;
-  tables = record s.tables { frames = closed s.tables.frames };
+  tables = record s.tables { frames = frames_after_close s.tables.frames };
 }
 
-abbrev pub swi_left : MachineState → Frame → Outcome
+abbrev pub swi_left : MachineState → Frame → StepOutcome
 swi_left s f =
-    let answered : Outcome = quiet (frame_closed s f) in
-    if s.cpu.psr.overflow then erred s f.call.is_x answered else answered
+    let answered : StepOutcome = quiet (frame_closed s f) in
+    if s.cpu.psr.overflow then outcome_of_error s f.call.is_x answered else answered
 
 -- The two ways in which a SWI of a module can go back: the core is the caller's again, or its
 -- caller takes no error and there is one, of this number.
@@ -132,41 +141,42 @@ outcome_left cpu = if cpu.psr.overflow then Refused (register_of cpu 0) else Wel
 abbrev pub fault_ahead : Call → World → Plan → Option ℕ
 fault_ahead call w p = if call.is_x then None else error_ahead w p
 
-abbrev pub unless_fault : MachineState → Option ℕ → MachineState → Outcome
+abbrev pub unless_fault : MachineState → Option ℕ → MachineState → StepOutcome
 unless_fault s None t = quiet t
-unless_fault s (Some number) t = halted s (halt.Fault (ErrorStop number))
+unless_fault s (Some number) t = outcome_of_halt s (halt.Fault (ErrorStop number))
 
-abbrev pub entry_left : MachineState → Frame → Plan → Outcome
-entry_left s f p = unless_fault s (fault_ahead f.call (machine_world s) p) (carried_on (come_back s f) f.call p)
+abbrev pub entry_left : MachineState → Frame → Plan → StepOutcome
+entry_left s f p = unless_fault s (fault_ahead f.call (machine_world s) p)
+    (carried_on (come_back s f) f.call p)
 
 -- A plan is kept while the code of an entry runs, so the first of these is for no machine; it is as
 -- where no frame is open.
-abbrev pub plan_left : MachineState → Frame → Option Plan → Outcome
-plan_left s f None = halted s (halt.Fault FetchUnmapped)
-plan_left s f (Some p) = entry_left s f (settled p (outcome_left s.cpu))
+abbrev pub plan_left : MachineState → Frame → Option Plan → StepOutcome
+plan_left s f None = outcome_of_halt s (halt.Fault FetchUnmapped)
+plan_left s f (Some p) = entry_left s f (plan_after_code p (outcome_left s.cpu))
 
-abbrev pub frame_left : MachineState → Frame → FrameKind → Option Plan → Outcome
+abbrev pub frame_left : MachineState → Frame → FrameKind → Option Plan → StepOutcome
 frame_left s f Swi kept = swi_left s f
 frame_left s f (Entry kind) kept = plan_left s f kept
 
 -- Module code must have left the stack of supervisor mode as it was.
-abbrev pub gated_by : MachineState → Option Frame → Outcome
-gated_by s None = halted s (halt.Fault FetchUnmapped)
+abbrev pub gated_by : MachineState → Option Frame → StepOutcome
+gated_by s None = outcome_of_halt s (halt.Fault FetchUnmapped)
 gated_by s (Some f) =
     if register_in Supervisor s.cpu 13 == f.stack then frame_left s f f.kind s.tables.plan else
-    halted s (halt.Fault StackChanged)
+    outcome_of_halt s (halt.Fault StackChanged)
 
-abbrev pub gated : MachineState → Outcome
-gated s = gated_by s (innermost s.tables.frames)
+abbrev pub outcome_of_gate : MachineState → StepOutcome
+outcome_of_gate s = gated_by s (innermost_frame s.tables.frames)
 
 -- what a call comes to once its entry came back with an outcome, before it goes back if it has
 -- ended; a plan is kept
 abbrev pub Resumes : MachineState → Frame → CodeOutcome → Option Plan → Option Plan → MachineState → Type 0
 Resumes s f o (Some p) ended t =
-    (let c = world_carried (machine_world s) (settled p o) in
-    (t ≡ opened (come_back s f) f.call c) × (ended ≡ ended_of c))
+    (let c = world_carried (machine_world s) (plan_after_code p o) in
+    (t ≡ state_with_code_entered (come_back s f) f.call c) × (ended ≡ ended_of c))
 Resumes s f o None ended t = ⊥
 
 abbrev pub fault_kept : Call → World → CodeOutcome → Option Plan → Option ℕ
 fault_kept call w o None = None
-fault_kept call w o (Some p) = fault_ahead call w (settled p o)
+fault_kept call w o (Some p) = fault_ahead call w (plan_after_code p o)

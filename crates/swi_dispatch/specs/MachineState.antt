@@ -6,13 +6,13 @@ use Rattle.profile.specs.declared.stop.Stop.{Stop}
 use Rattle.profile.specs.declared.stop.Stop.TheVariants as stop
 use Rattle.profile.specs.Sizes.{Sizes}
 use Rattle.address_map.specs.Bytes.{Bytes}
-use Rattle.arm_core.specs.State.{State, start_state}
+use Rattle.arm_core.specs.State.{State, cpu_start_state}
 use Rattle.os_heap.specs.Store.{Store}
 use Rattle.dynamic_areas.specs.Areas.{Land, start_land}
 use Rattle.dynamic_areas.specs.Ground.{Estate, pool_of}
 use Rattle.dynamic_areas.specs.Start.{start_store}
-use Rattle.flex_ground.specs.flex_store.specs.declared.flex.Flex.{Flex}
-use Rattle.flex_ground.specs.instances_ground.specs.World.{World}
+use Rattle.flex_machine.specs.flex_store.specs.declared.flex.Flex.{Flex}
+use Rattle.flex_machine.specs.module_world.specs.World.{World}
 use Rattle.instances_plans.specs.Plans.{Plan}
 use Rattle.instances_table.specs.Modules.{Module}
 use Rattle.swi_dispatch_frames.specs.declared.frame.Frame.{Frame}
@@ -38,12 +38,12 @@ pub record MachineState : Type 0 where
   pub halt : Option Halt
 
 -- what a step leaves: the machine, and the bytes that it printed
-pub record Outcome : Type 0 where
+pub record StepOutcome : Type 0 where
   pub now : MachineState
   pub printed : List ℕ
 
 -- what is left where nothing is printed
-abbrev pub quiet : MachineState → Outcome
+abbrev pub quiet : MachineState → StepOutcome
 quiet s = record { now = s; printed = [] }
 
 abbrev pub stop_of : Halt → Stop
@@ -76,11 +76,17 @@ abbrev pub setting_of : MachineState → Setting
 setting_of s = record { cpu = s.cpu; world = machine_world s; frames = s.tables.frames; plan = s.tables.plan }
 
 -- the start: all pages but those mapped then are in the pool
-unfoldable pub start_of : Sizes → MachineState
-start_of s = record {
-  cpu = start_state;
+unfoldable pub machine_start : Sizes → MachineState
+machine_start s = record {
+  cpu = cpu_start_state;
   store = start_store s;
   pool = pool_of (start_land s);
-  tables = record { land = start_land s; modules = []; frames = []; plan = None; flex = record { extent = None } };
+  tables = record {
+    land = start_land s;
+    modules = [];
+    frames = [];
+    plan = None;
+    flex = record { extent = None };
+  };
   halt = None;
 }

@@ -8,10 +8,10 @@ use Rattle.arm_core.specs.State.{State}
 use Rattle.arm_core.specs.declared.turn.Turn.{Turn}
 use Rattle.arm_core.specs.declared.turn.Turn.TheVariants as turn
 use Rattle.image_loader.specs.Entries.{Entry}
-use Rattle.swi_dispatch.specs.Boot.{registered}
+use Rattle.swi_dispatch.specs.Boot.{machine_with_register}
 use Rattle.swi_dispatch.specs.MachineState.{MachineState}
 use Rattle.swi_dispatch.specs.Parts.{IsMachine, Parts, state_of}
-use Rattle.swi_dispatch.specs.Step.{instructed, machine_step, store_called, without_x}
+use Rattle.swi_dispatch.specs.Step.{result_of_instruction, machine_step, store_called, without_x}
 
 -- a machine's state
 pub record IsState (s : MachineState) : Type 0 where
@@ -27,19 +27,20 @@ pub data Move : Type 0 where
 
 abbrev pub with_registers : MachineState → ℕ → List ℕ → MachineState
 with_registers s n [] = s
-with_registers s n (v ∷ vs) = with_registers (registered s n v) (n + 1) vs
+with_registers s n (v ∷ vs) = with_registers (machine_with_register s n v) (n + 1) vs
 
 -- the machine on which a call from outside is made
-abbrev pub given : MachineState → List ℕ → MachineState
-given s words = with_registers s 0 words
+abbrev pub machine_with_words : MachineState → List ℕ → MachineState
+machine_with_words s words = with_registers s 0 words
 
-abbrev pub moved : List Entry → MachineState → Move → MachineState
-moved images s (Call number words) = (store_called images (given s words) number).now
-moved images s Step = (machine_step images s).now
+abbrev pub machine_after_move : List Entry → MachineState → Move → MachineState
+machine_after_move images s (Call number words) = (store_called images
+    (machine_with_words s words) number).now
+machine_after_move images s Step = (machine_step images s).now
 
 abbrev pub moved_all : List Entry → MachineState → List Move → MachineState
 moved_all images s [] = s
-moved_all images s (m ∷ ms) = moved_all images (moved images s m) ms
+moved_all images s (m ∷ ms) = moved_all images (machine_after_move images s m) ms
 
 -- the name of a call from outside: bits 31 to 24 of its number and its X bit are left out
 abbrev pub outside_name : ℕ → Option SwiName
@@ -52,8 +53,8 @@ swi_of_turn other = None
 
 abbrev pub swi_made : MachineState → Move → Option SwiName
 swi_made s (Call number words) = outside_name number
-swi_made s Step = swi_of_turn (instructed s)
+swi_made s Step = swi_of_turn (result_of_instruction s)
 
 abbrev pub core_of : MachineState → Move → State
-core_of s (Call number words) = (given s words).cpu
+core_of s (Call number words) = (machine_with_words s words).cpu
 core_of s Step = s.cpu

@@ -5,21 +5,21 @@ use Rattle.profile.specs.Sizes.{Sizes}
 use Rattle.address_map.specs.declared.map.AddressMap.{AddressMap}
 use Rattle.address_map.specs.Memory.{free_pages}
 use Rattle.os_heap.specs.Store.{AreClasses, store_of}
-use Rattle.dynamic_areas.specs.Ground.{AreAreas, IsRecorded, system_pages}
+use Rattle.dynamic_areas.specs.Ground.{AreAreas, IsRecorded, system_pages_range}
 use Rattle.dynamic_areas.specs.Rooms.{IsAreaTable}
-use Rattle.flex_ground.specs.Ground.{HasFlex}
+use Rattle.flex_machine.specs.Ground.{HasFlex}
 use Rattle.arm_core.specs.declared.turn.Turn.{Turn}
 use Rattle.arm_core.specs.State.{IsCore, State}
-use Rattle.flex_ground.specs.instances_ground.specs.World.{World, world_of}
+use Rattle.flex_machine.specs.module_world.specs.World.{World, world_of}
 use Rattle.instances_plans.specs.Plans.{Plan}
 use Rattle.instances_table.specs.Modules.{AreModules}
 use Rattle.swi_dispatch_plans.specs.instances.specs.Turns.{MayGoOn}
 use Rattle.swi_dispatch.specs.declared.halt.Halt.{Halt}
 use Rattle.swi_dispatch_answers.specs.declared.refusal.Refusal.{Refusal}
 use Rattle.swi_dispatch.specs.Answers.{Answer}
-use Rattle.swi_dispatch.specs.MachineState.{MachineState, Outcome, Tables, start_of}
+use Rattle.swi_dispatch.specs.MachineState.{MachineState, StepOutcome, Tables, machine_start}
 use Rattle.swi_dispatch.specs.OpenFrames.{AreFrames}
-use Rattle.swi_dispatch.specs.Step.{Turned, instructed}
+use Rattle.swi_dispatch.specs.Step.{Turned, result_of_instruction}
 
 pub record Parts : Type 0 where
   pub cpu : State
@@ -31,15 +31,21 @@ pub record Parts : Type 0 where
   pub printed : List ℕ
 
 abbrev pub state_of : Parts → MachineState
-state_of p = record { cpu = p.cpu; store = store_of p.map; pool = free_pages p.map; tables = p.tables; halt = p.halt }
+state_of p = record {
+  cpu = p.cpu;
+  store = store_of p.map;
+  pool = free_pages p.map;
+  tables = p.tables;
+  halt = p.halt;
+}
 
 -- the written machine, and what the last step printed
-abbrev pub outcome_of : Parts → Outcome
+abbrev pub outcome_of : Parts → StepOutcome
 outcome_of p = record { now = state_of p; printed = p.printed }
 
 -- A call of the real machine, by its result, answers so: on an error the guest goes on after the
 -- call.
-abbrev pub Answers : Answer → ℕ → Result ℕ Refusal → Outcome → Type 0
+abbrev pub Answers : Answer → ℕ → Result ℕ Refusal → StepOutcome → Type 0
 Answers a next (Ok to) o = (o ≡ a.left) × ((to ≡ a.next) × (a.error ≡ None))
 Answers a next (Err e) o = (o ≡ a.left) × ((next ≡ a.next) × (a.error ≡ Some e))
 
@@ -58,11 +64,11 @@ parts_world p = world_of p.map p.tables.land p.tables.modules
 pub record IsWellFormed (p : Parts) : Type 0 where
   pub areas : AreAreas (store_of p.map) (free_pages p.map) p.tables.land
   pub classes : AreClasses p.map
-  pub system : IsRecorded system_pages (store_of p.map).others
+  pub system : IsRecorded system_pages_range (store_of p.map).others
   pub modules : MayGoOn (parts_world p) p.tables.plan
   pub frames : AreFrames p.tables
   pub flex : HasFlex p.map p.tables.flex
-  pub fresh : p.is_fresh ≡ true → state_of p ≡ start_of p.sizes
+  pub fresh : p.is_fresh ≡ true → state_of p ≡ machine_start p.sizes
   pub sized : p.tables.land.sizes ≡ p.sizes
 
 -- All that holds of every machine, whatever its guest does. Beside what its steps keep: the core
@@ -100,4 +106,4 @@ pub record OnlyState (old new : Parts) : Type 0 where
 
 -- the core takes a turn, and the rest of the machine stays
 abbrev pub TakesTurn : MachineState → Turn → MachineState → Type 0
-TakesTurn s t s' = Turned s (instructed s) t s'
+TakesTurn s t s' = Turned s (result_of_instruction s) t s'

@@ -7,22 +7,22 @@ use Rattle.arm_core.specs.declared.psr.Psr.{Psr}
 use Rattle.swi_dispatch.specs.declared.halt.Halt.{Halt}
 use Rattle.swi_dispatch.specs.declared.halt.Halt.TheVariants as halt
 use Rattle.swi_dispatch_answers.specs.declared.refusal.Refusal.{Refusal}
-use Rattle.swi_dispatch_answers.specs.Returns.{returned}
-use Rattle.swi_dispatch.specs.MachineState.{MachineState, Outcome, quiet}
+use Rattle.swi_dispatch_answers.specs.Returns.{state_after_return}
+use Rattle.swi_dispatch.specs.MachineState.{MachineState, StepOutcome, quiet}
 use Rattle.swi_dispatch.specs.Errors.{error_number, with_error}
 
-abbrev pub halted : MachineState → Halt → Outcome
-halted s h = quiet (record s { halt = Some h })
+abbrev pub outcome_of_halt : MachineState → Halt → StepOutcome
+outcome_of_halt s h = quiet (record s { halt = Some h })
 
 abbrev pub gone_back : Psr → MachineState → Bool → ℕ → MachineState
-gone_back caller s overflow next = record s { cpu = returned caller s.cpu overflow next }
+gone_back caller s overflow next = record s { cpu = state_after_return caller s.cpu overflow next }
 
 -- what a call leaves that errs, where the error is answered to the guest
-abbrev pub error_answered : Psr → Outcome → ℕ → Refusal → Outcome
+abbrev pub error_answered : Psr → StepOutcome → ℕ → Refusal → StepOutcome
 error_answered caller o next e = record o { now = gone_back caller (with_error o.now e) true next }
 
 -- With the X bit an error is answered. Without, the step is a fault: nothing of that is done, and
 -- the fault has the number that R0 would point to.
-abbrev pub erred : MachineState → Bool → Outcome → Outcome
-erred s true answered = answered
-erred s false answered = halted s (halt.Fault (ErrorStop (error_number answered.now)))
+abbrev pub outcome_of_error : MachineState → Bool → StepOutcome → StepOutcome
+outcome_of_error s true answered = answered
+outcome_of_error s false answered = outcome_of_halt s (halt.Fault (ErrorStop (error_number answered.now)))

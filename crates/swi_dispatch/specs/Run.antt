@@ -9,7 +9,7 @@ use Rattle.arm_core.specs.declared.turn.Turn.{Turn}
 unfoldable pub use Rattle.swi_dispatch_breaks.specs.Breaks.{is_among}
 use Rattle.swi_dispatch.specs.declared.halt.Halt.{Halt}
 use Rattle.swi_dispatch.specs.declared.halt.Halt.TheVariants as halt
-use Rattle.swi_dispatch.specs.MachineState.{MachineState, Outcome, stop_of}
+use Rattle.swi_dispatch.specs.MachineState.{MachineState, StepOutcome, stop_of}
 use Rattle.swi_dispatch.specs.Step.{machine_step}
 
 -- what a run leaves: the machine, all that was printed, what the last step printed, if there was a
@@ -24,26 +24,38 @@ pub record Run : Type 0 where
 abbrev pub resting : MachineState → Stop → Run
 resting s x = record { now = s; printed = []; last = None; taken = 0; stop = x }
 
-abbrev pub counted : Halt → ℕ
-counted halt.Exit = 1
-counted (halt.Fault f) = 0
+abbrev pub halt_step_count : Halt → ℕ
+halt_step_count halt.Exit = 1
+halt_step_count (halt.Fault f) = 0
 
 -- the later of two texts, where there is one
-abbrev pub later : {A : Type 0} → Option A → Option A → Option A
-later first None = first
-later first (Some x) = Some x
+abbrev pub later_text : {A : Type 0} → Option A → Option A → Option A
+later_text first None = first
+later_text first (Some x) = Some x
 
 -- a run after steps that printed so much, the last of them this, and of which so many count
-abbrev pub joined : List ℕ → Option (List ℕ) → ℕ → Run → Run
-joined printed last taken r =
-    record r { printed = printed ++ r.printed; last = later last r.last; taken = taken + r.taken }
+abbrev pub run_after_steps : List ℕ → Option (List ℕ) → ℕ → Run → Run
+run_after_steps printed last taken r =
+    record r { printed = printed ++ r.printed; last = later_text last r.last; taken = taken + r.taken }
 
-abbrev pub go_on : List ℕ → Outcome → Option Halt → (MachineState → Run) → Run
+abbrev pub go_on : List ℕ → StepOutcome → Option Halt → (MachineState → Run) → Run
 go_on breaks a (Some h) rest =
-    record { now = a.now; printed = a.printed; last = Some a.printed; taken = counted h; stop = stop_of h }
+    record {
+      now = a.now;
+      printed = a.printed;
+      last = Some a.printed;
+      taken = halt_step_count h;
+      stop = stop_of h;
+    }
 go_on breaks a None rest = if is_among breaks a.now.cpu.pc
-    then record { now = a.now; printed = a.printed; last = Some a.printed; taken = 1; stop = stop.Break a.now.cpu.pc }
-    else joined a.printed (Some a.printed) 1 (rest a.now)
+    then record {
+      now = a.now;
+      printed = a.printed;
+      last = Some a.printed;
+      taken = 1;
+      stop = stop.Break a.now.cpu.pc;
+    }
+    else run_after_steps a.printed (Some a.printed) 1 (rest a.now)
 
 abbrev pub run_unless_halted : MachineState → Option Halt → Run → Run
 run_unless_halted s (Some h) r = resting s (stop_of h)
@@ -57,7 +69,7 @@ ran images breaks (suc n) s =
 
 -- one run and then another from where it stopped
 abbrev pub then_run : Run → Run → Run
-then_run first second = joined first.printed first.last first.taken second
+then_run first second = run_after_steps first.printed first.last first.taken second
 
 -- Runs add up: where n steps end with the budget used up, n steps and then m are n + m.
 abbrev pub RunsOn : List Entry → List ℕ → MachineState → ℕ → ℕ → Type 0
@@ -70,7 +82,7 @@ stop_after breaks s (Some h) = stop_of h
 stop_after breaks s None = if is_among breaks s.cpu.pc then stop.Break s.cpu.pc else stop.Budget
 
 abbrev pub count_after : Option Halt → ℕ
-count_after (Some h) = counted h
+count_after (Some h) = halt_step_count h
 count_after None = 1
 
 -- what a machine that had printed so much before a run has printed last after it

@@ -22,16 +22,17 @@ impl Machine {
     ghost use Rattle.swi_dispatch.specs.Parts.{state_of, outcome_of, IsInStep, OnlySteps, OnlyState};
     ghost use Rattle.swi_dispatch_plans.specs.Beginning.{IsFree, SparesTitle};
     ghost use Rattle.swi_dispatch_plans.specs.ImagePlans.{SparesRange};
-    ghost use Rattle.swi_dispatch.specs.Step.{begun, begun_by};
+    ghost use Rattle.swi_dispatch.specs.Step.{outcome_of_planned, outcome_of_plan};
 
     /// OS_Module 0 and 1: R1 points to the name of an image and a text. `enters` says whether the
     /// module is entered at the end.
-    #[tactic(auto, unfolding(crate::specs::Step::begun))]
+    #[tactic(auto, unfolding(crate::specs::Step::outcome_of_planned))]
     pub(crate) fn load_named(&mut self, images: &Images, is_x: bool, next: u32, enters: bool)
         requires step { IsInStep self.old }
         requires next { next < 2 ^ 26 }
         ensures after { let s = state_of self.old in
-            outcome_of self.new ≡ begun s is_x next enters (named_load_planned images.now s enters) }
+            outcome_of self.new ≡ outcome_of_planned s is_x next enters
+            (named_load_planned images.now s enters) }
         ensures others { OnlySteps self.old self.new }
     {
         let words = self.planner().string(1);
@@ -53,7 +54,8 @@ impl Machine {
     )
         requires step { IsInStep self.old }
         ensures after { let s = state_of self.old in
-            outcome_of self.new ≡ begun s is_x next enters (load_planned images.now s words.now enters) }
+            outcome_of self.new ≡ outcome_of_planned s is_x next enters
+            (load_planned images.now s words.now enters) }
         ensures others { OnlySteps self.old self.new }
     {
         let call = self.call_of(is_x, next, enters);
@@ -64,7 +66,7 @@ impl Machine {
     /// A call goes on that has begun, or is refused.
     pub(crate) fn go_on(&mut self, call: Call, started: Started)
         requires step { IsInStep self.old }
-        ensures after { outcome_of self.new ≡ begun_by (state_of self.old) call started }
+        ensures after { outcome_of self.new ≡ outcome_of_plan (state_of self.old) call started }
         ensures others { OnlySteps self.old self.new }
     {
         match started {
@@ -88,7 +90,8 @@ impl Machine {
     #[tactic(auto, unfolding(crate::specs::Additions::insertion_planned))]
     pub(crate) fn start_insertion(&mut self, call: Call) -> Started
         requires stepped { self.old.is_fresh ≡ false }
-        ensures state { let s = state_of self.old in Starts s call (insertion_planned s) result (state_of self.new) }
+        ensures state { let s = state_of self.old in Starts s call (insertion_planned s) result
+            (state_of self.new) }
         ensures others { OnlyState self.old self.new }
     {
         let range = self.planner().insertion()?;
@@ -99,7 +102,8 @@ impl Machine {
     #[tactic(auto, unfolding(crate::specs::Additions::copy_planned))]
     pub(crate) fn start_copy(&mut self, call: Call) -> Started
         requires stepped { self.old.is_fresh ≡ false }
-        ensures state { let s = state_of self.old in Starts s call (copy_planned s) result (state_of self.new) }
+        ensures state { let s = state_of self.old in Starts s call (copy_planned s) result
+            (state_of self.new) }
         ensures others { OnlyState self.old self.new }
     {
         let range = self.planner().copy()?;

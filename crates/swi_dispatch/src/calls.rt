@@ -1,7 +1,7 @@
 //! Store calls: what each does, and how a guest comes back from one.
 
 ghost use Rattle.std.specs.Prelude.{◌≡◌, ◌<◌, ◌≤◌, ◌^◌, false, [], ◌∷◌, ◌++◌, None, length, OnErr};
-ghost use Rattle.swi_dispatch.specs.Step.{called, ended, is_exit, os_module_called};
+ghost use Rattle.swi_dispatch.specs.Step.{outcome_of_call, outcome_of_answer, is_exit, os_module_called};
 
 use crate::halt::Halt;
 use crate::machine::{MOST_PRINTED, Machine};
@@ -18,17 +18,18 @@ impl Machine {
     ghost use Rattle.swi_dispatch.specs.Parts.{state_of, outcome_of, IsInStep, OnlySteps, OnlyState, Answers};
     ghost use Rattle.swi_dispatch.specs.Answers.{with_answer};
     ghost use Rattle.swi_dispatch.specs.Calls.{call_answer, moving_error, wrote_text_after, wrote_text_at};
-    ghost use Rattle.swi_dispatch.specs.Calls.{printable_at, in_supervisor};
+    ghost use Rattle.swi_dispatch.specs.Calls.{printable_at, machine_in_supervisor};
     ghost use Rattle.swi_dispatch.specs.Returns.{gone_back};
     ghost use Rattle.arm_core.specs.State.{register_of};
 
     /// A store call by its number without the X bit. `is_x` says whether an error goes back to the
     /// guest, and `next` where the guest goes on.
-    #[tactic(auto, unfolding(crate::specs::Step::called))]
+    #[tactic(auto, unfolding(crate::specs::Step::outcome_of_call))]
     pub(crate) fn call(&mut self, images: &Images, is_x: bool, next: u32, number: u32)
         requires step { IsInStep self.old }
         requires next { next < 2 ^ 26 }
-        ensures after { outcome_of self.new ≡ called images.now (state_of self.old) is_x next number }
+        ensures after { outcome_of self.new ≡ outcome_of_call images.now (state_of self.old) is_x next
+            number }
         ensures others { OnlySteps self.old self.new }
     {
         let name = SwiName::of(number);
@@ -48,7 +49,8 @@ impl Machine {
     fn call_os_module(&mut self, images: &Images, is_x: bool, next: u32, number: u32)
         requires step { IsInStep self.old }
         requires next { next < 2 ^ 26 }
-        ensures after { outcome_of self.new ≡ os_module_called images.now (state_of self.old) is_x next number }
+        ensures after { outcome_of self.new ≡ os_module_called images.now
+            (state_of self.old) is_x next number }
         ensures others { OnlySteps self.old self.new }
     {
         let call = self.call_of(is_x, next, false);
@@ -94,7 +96,7 @@ impl Machine {
         requires step { IsInStep self.old }
         requires next { next < 2 ^ 26 }
         ensures after { let s = state_of self.old in
-            outcome_of self.new ≡ ended s is_x (call_answer s next number name) }
+            outcome_of self.new ≡ outcome_of_answer s is_x (call_answer s next number name) }
         ensures others { OnlySteps self.old self.new }
     {
         if !is_x && let Some(error) = self.moving_error(name) {
@@ -112,7 +114,8 @@ impl Machine {
     fn perform(&mut self, next: u32, number: u32, name: Option<SwiName>) -> Result<u32, Refusal>
         requires step { IsInStep self.old }
         requires next { next < 2 ^ 26 }
-        ensures done { Answers (call_answer (state_of self.old) next number name) next result (outcome_of self.new) }
+        ensures done { Answers (call_answer (state_of self.old) next number name) next result
+            (outcome_of self.new) }
         ensures unmoved { let s = state_of self.old in
             OnErr result (moving_error s name ≡ None → outcome_of self.new ≡ quiet s) }
         ensures silent { OnErr result (self.new.printed ≡ []) }
@@ -194,7 +197,7 @@ impl Machine {
 
     fn enter_supervisor(&mut self)
         requires stepped { self.old.is_fresh ≡ false }
-        ensures state { state_of self.new ≡ in_supervisor (state_of self.old) }
+        ensures state { state_of self.new ≡ machine_in_supervisor (state_of self.old) }
         ensures others { OnlyState self.old self.new }
     {
         self.cpu.set_mode(Mode::Supervisor);
@@ -204,7 +207,8 @@ impl Machine {
     fn write_text_after(&mut self, next: u32) -> Result<u32, Refusal>
         requires step { IsInStep self.old }
         ensures done { let s = state_of self.old in
-            Answers (wrote_text_after s next (printable_at s.store.bytes next)) next result (outcome_of self.new) }
+            Answers (wrote_text_after s next (printable_at s.store.bytes next)) next result
+            (outcome_of self.new) }
         ensures unmoved { OnErr result (outcome_of self.new ≡ quiet (state_of self.old)) }
         ensures others { OnlySteps self.old self.new }
     {
@@ -220,7 +224,8 @@ impl Machine {
     fn write_text(&mut self, next: u32) -> Result<u32, Refusal>
         requires step { IsInStep self.old }
         ensures done { let at = register_of (state_of self.old).cpu 0 in
-            Answers (wrote_text_at (state_of self.old) next at (printable_at (state_of self.old).store.bytes at))
+            Answers (wrote_text_at (state_of self.old) next at
+            (printable_at (state_of self.old).store.bytes at))
             next result (outcome_of self.new) }
         ensures unmoved { OnErr result (outcome_of self.new ≡ quiet (state_of self.old)) }
         ensures others { OnlySteps self.old self.new }

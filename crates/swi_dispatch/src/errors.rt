@@ -13,9 +13,9 @@ use swi_dispatch_answers::errors::{error_at, write_error};
 
 impl Machine {
     ghost use Rattle.swi_dispatch.specs.Parts.{state_of, outcome_of, IsInStep, OnlySteps, OnlyState};
-    ghost use Rattle.swi_dispatch.specs.Calls.{generated};
+    ghost use Rattle.swi_dispatch.specs.Calls.{generated_refusal};
     ghost use Rattle.swi_dispatch.specs.Errors.{error_number, with_error};
-    ghost use Rattle.swi_dispatch.specs.Returns.{gone_back, error_answered, erred};
+    ghost use Rattle.swi_dispatch.specs.Returns.{gone_back, error_answered, outcome_of_error};
     ghost use Rattle.arm_core.specs.State.{register_of};
     ghost use Rattle.arm_core.specs.declared.psr.Psr.{Psr};
 
@@ -30,7 +30,7 @@ impl Machine {
     /// A call that errs goes back with its error, or is a fault, and then nothing is changed.
     pub(crate) fn end_with_error(&mut self, is_x: bool, caller: Psr, next: u32, refusal: Refusal)
         requires step { IsInStep self.old }
-        ensures after { outcome_of self.new ≡ erred (state_of self.old) is_x
+        ensures after { outcome_of self.new ≡ outcome_of_error (state_of self.old) is_x
             (error_answered caller (outcome_of self.old) next refusal) }
         ensures others { OnlySteps self.old self.new }
     {
@@ -58,7 +58,8 @@ impl Machine {
     // The error block would hold the system's error.
     fn system_number(&self, error: ErrorNumber) -> u32
         ensures { (caller : Psr) (next : ℕ) → result
-            ≡ error_number (gone_back caller (with_error (state_of self.now) (Refusal.System error)) true next) }
+            ≡ error_number (gone_back caller (with_error (state_of self.now)
+            (Refusal.System error)) true next) }
     {
         self.cpu.known();
         error.number()
@@ -67,7 +68,7 @@ impl Machine {
     /// OS_GenerateError: the error of the block that R0 points to.
     #[tactic(auto, unfolding(os_heap::specs::Store::store_of))]
     pub(crate) fn own_error(&self) -> Refusal
-        ensures { result ≡ generated (state_of self.now) (register_of (state_of self.now).cpu 0) }
+        ensures { result ≡ generated_refusal (state_of self.now) (register_of (state_of self.now).cpu 0) }
     {
         let at = self.cpu.register(0);
         if at % 4 == 0 && self.memory.translate(at).is_some() {

@@ -3,8 +3,8 @@
 ghost use Rattle.std.specs.Prelude.{◌≡◌, false, true, Some, MatchResult};
 ghost use Rattle.address_map.specs.Memory.{bytes_of};
 ghost use Rattle.swi_dispatch_frames.specs.Busy.{is_swi};
-ghost use Rattle.swi_dispatch_frames.specs.Frames.{innermost};
-ghost use Rattle.swi_dispatch.specs.Gates.{GoesBack, IsUntaken, Resumes, fault_kept, gated, outcome_left, plan_left};
+ghost use Rattle.swi_dispatch_frames.specs.Frames.{innermost_frame};
+ghost use Rattle.swi_dispatch.specs.Gates.{GoesBack, IsUntaken, Resumes, fault_kept, outcome_of_gate, outcome_left, plan_left};
 
 use crate::halt::Halt;
 use crate::machine::Machine;
@@ -24,7 +24,7 @@ impl Machine {
     /// What a step does at the gate. Where no frame is open, there is nothing to be fetched.
     pub(crate) fn pass_gate(&mut self)
         requires step { IsInStep self.old }
-        ensures after { outcome_of self.new ≡ gated (state_of self.old) }
+        ensures after { outcome_of self.new ≡ outcome_of_gate (state_of self.old) }
         ensures others { OnlySteps self.old self.new }
     {
         let Some(frame) = self.frames.innermost() else {
@@ -49,9 +49,10 @@ impl Machine {
     #[inline(never)]
     fn leave_entry(&mut self, frame: Frame)
         requires step { IsInStep self.old }
-        requires last { innermost (state_of self.old).tables.frames ≡ Some frame }
+        requires last { innermost_frame (state_of self.old).tables.frames ≡ Some frame }
         requires entry { is_swi frame.kind ≡ false }
-        ensures after { outcome_of self.new ≡ plan_left (state_of self.old) frame (state_of self.old).tables.plan }
+        ensures after { outcome_of self.new ≡ plan_left (state_of self.old) frame
+            (state_of self.old).tables.plan }
         ensures others { OnlySteps self.old self.new }
     {
         let outcome = outcome_left(self.cpu());
@@ -66,9 +67,10 @@ impl Machine {
     // while an entry's frame is open, is carried on. Answers it if it has ended.
     fn resume(&mut self, frame: Frame, outcome: Outcome) -> Option<Plan>
         requires stepped { self.old.is_fresh ≡ false }
-        requires last { innermost (state_of self.old).tables.frames ≡ Some frame }
+        requires last { innermost_frame (state_of self.old).tables.frames ≡ Some frame }
         requires entry { is_swi frame.kind ≡ false }
-        ensures state { let s = state_of self.old in Resumes s frame outcome s.tables.plan result (state_of self.new) }
+        ensures state { let s = state_of self.old in Resumes s frame outcome s.tables.plan result
+            (state_of self.new) }
         ensures others { OnlyState self.old self.new }
     {
         let mut plan = self.plan.take()?;
@@ -85,7 +87,8 @@ impl Machine {
     // The number of the error that a call ends with whose entry comes back with this outcome, if it
     // ends with one that its caller doesn't take.
     fn fault_ahead(&mut self, call: Call, outcome: Outcome) -> Option<u32>
-        ensures value { let s = state_of self.old in result ≡ fault_kept call (machine_world s) outcome s.tables.plan }
+        ensures value { let s = state_of self.old in result
+            ≡ fault_kept call (machine_world s) outcome s.tables.plan }
         ensures same { self.new ≡ self.old }
     {
         if call.is_x {

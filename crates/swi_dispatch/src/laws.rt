@@ -9,5 +9,6 @@ ghost use Rattle.swi_dispatch.specs.Run.{RunsOn};
 /// steps after it are the run of `n + m`, in the machine, the bytes printed, the count and the
 /// stop.
 pub fn runs_add_up()
-    ensures { (images : List Entry) (breaks : List ℕ) (s : MachineState) (n m : ℕ) → RunsOn images breaks s n m }
+    ensures { (images : List Entry) (breaks : List ℕ) (s : MachineState) (n m : ℕ) →
+        RunsOn images breaks s n m }
 {}

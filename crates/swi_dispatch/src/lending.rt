@@ -5,14 +5,14 @@ ghost use Rattle.std.specs.Option.{option_map};
 ghost use Rattle.address_map.specs.Memory.{free_pages};
 ghost use Rattle.os_heap.specs.Store.{store_of, IsSound};
 ghost use Rattle.dynamic_areas.specs.Rooms.{IsAreaTable};
-ghost use Rattle.flex_ground.specs.flex_store.specs.State.{IsFlex};
+ghost use Rattle.flex_machine.specs.flex_store.specs.State.{IsFlex};
 
 use crate::halt::Halt;
 use crate::machine::Machine;
 use address_map::AddressMap;
 use arm_core::Cpu;
 use dynamic_areas::Areas;
-use flex_ground::flex_store::Flex;
+use flex_machine::flex_store::Flex;
 use os_heap::Heaps;
 use profile::Stop;
 use swi_dispatch_plans::Planner;

@@ -20,7 +20,7 @@ pub mod store_calls;
 pub use arm_step;
 pub use boot_error::BootError;
 pub use dynamic_areas;
-pub use flex_ground::flex_store;
+pub use flex_machine::flex_store;
 pub use halt::Halt;
 pub use instances_table;
 pub use machine::Machine;

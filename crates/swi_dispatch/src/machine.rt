@@ -12,7 +12,7 @@ use arm_core::{Cpu, Turn};
 use arm_step::step;
 use arrayvec::ArrayVec;
 use dynamic_areas::{Areas, start_memory};
-use flex_ground::flex_store::Flex;
+use flex_machine::flex_store::Flex;
 use image_loader::Images;
 use instances_plans::Plan;
 use os_heap::Heaps;
@@ -81,15 +81,15 @@ impl Model for Machine {
 impl Machine {
     ghost use Rattle.swi_dispatch.specs.Parts.{state_of, outcome_of, IsInStep, OnlySteps, OnlyState};
     ghost use Rattle.swi_dispatch.specs.Parts.{TakesTurn, IsMachine, IsWellFormed};
-    ghost use Rattle.swi_dispatch.specs.MachineState.{start_of, stop_of, quiet};
-    ghost use Rattle.swi_dispatch.specs.Boot.{booted, registered, poked};
-    ghost use Rattle.swi_dispatch.specs.Returns.{halted};
+    ghost use Rattle.swi_dispatch.specs.MachineState.{machine_start, stop_of, quiet};
+    ghost use Rattle.swi_dispatch.specs.Boot.{machine_after_boot, machine_with_register, machine_after_poke};
+    ghost use Rattle.swi_dispatch.specs.Returns.{outcome_of_halt};
 
     /// A machine of these sizes at its start: user mode at &8000, each register 0 but the stack
     /// pointer of supervisor mode, all mapped memory 0 but the descriptor of the module area's
     /// heap.
     pub fn new(alloc: Global, config: Config) -> Result<Machine, AllocError>
-        ensures start { IfOk result (λ m. state_of m ≡ start_of config) }
+        ensures start { IfOk result (λ m. state_of m ≡ machine_start config) }
         ensures sizes { IfOk result (λ m. m.sizes ≡ config) }
         ensures fresh { IfOk result (λ m. m.is_fresh ≡ true) }
         ensures printed { IfOk result (λ m. m.printed ≡ []) }
@@ -119,10 +119,11 @@ impl Machine {
     ///
     /// `Booted` where the machine was stepped or written to before, else `TooLarge` where the
     /// program is longer than the application space.
-    #[tactic(auto, unfolding(crate::specs::Boot::booted))]
+    #[tactic(auto, unfolding(crate::specs::Boot::machine_after_boot))]
     pub fn boot(&mut self, program: &[u8]) -> Result<(), BootError>
         ensures state { Leaves (state_of self.old)
-            (booted self.old.sizes self.old.is_fresh (state_of self.old) program.now) result (state_of self.new) }
+            (machine_after_boot self.old.sizes self.old.is_fresh (state_of self.old) program.now) result
+            (state_of self.new) }
         ensures fresh { self.new.is_fresh ≡ (self.old.is_fresh && is_err result) }
         ensures sizes { self.new.sizes ≡ self.old.sizes }
         ensures printed { self.new.printed ≡ self.old.printed }
@@ -189,7 +190,7 @@ impl Machine {
     /// Loads a module as OS_Module 1 does with the X bit, with these words in place of the string
     /// that R1 points to: the name of an image and a text. The guest goes on at the present program
     /// counter. A halted machine stays as it is.
-    #[tactic(auto, unfolding(crate::specs::Step::module_loaded, crate::specs::Step::begun))]
+    #[tactic(auto, unfolding(crate::specs::Step::module_loaded, crate::specs::Step::outcome_of_planned))]
     pub fn load_module(&mut self, images: &Images, text: &[u8]) -> Option<Stop>
         ensures after { outcome_of self.new ≡ module_loaded images.now (state_of self.old) text.now }
         ensures stop { result ≡ option_map stop_of (state_of self.new).halt }
@@ -211,10 +212,10 @@ impl Machine {
     }
 
     /// Sets one of R0 to R14 of the present mode. The machine can't be booted after that.
-    #[tactic(auto, unfolding(crate::specs::Boot::registered))]
+    #[tactic(auto, unfolding(crate::specs::Boot::machine_with_register))]
     pub fn set_register(&mut self, number: u32, value: u32)
         requires { number ≤ 14 }
-        ensures state { state_of self.new ≡ registered (state_of self.old) number value }
+        ensures state { state_of self.new ≡ machine_with_register (state_of self.old) number value }
         ensures fresh { self.new.is_fresh ≡ false }
         ensures sizes { self.new.sizes ≡ self.old.sizes }
         ensures printed { self.new.printed ≡ self.old.printed }
@@ -235,7 +236,8 @@ impl Machine {
     /// `OwnedWord` where the store calls keep their records.
     pub fn poke(&mut self, at: u32, value: u32) -> Result<(), Fault>
         requires { at % 4 ≡ 0 }
-        ensures state { Leaves (state_of self.old) (poked (state_of self.old) at value) result (state_of self.new) }
+        ensures state { Leaves (state_of self.old) (machine_after_poke (state_of self.old) at value) result
+            (state_of self.new) }
         ensures fresh { self.new.is_fresh ≡ (self.old.is_fresh && is_err result) }
         ensures sizes { self.new.sizes ≡ self.old.sizes }
         ensures printed { self.new.printed ≡ self.old.printed }
@@ -354,7 +356,7 @@ impl Machine {
 
     pub(crate) fn halt_with(&mut self, halt: Halt)
         requires step { IsInStep self.old }
-        ensures after { outcome_of self.new ≡ halted (state_of self.old) halt }
+        ensures after { outcome_of self.new ≡ outcome_of_halt (state_of self.old) halt }
         ensures others { OnlySteps self.old self.new }
     {
         self.halt = Some(halt);

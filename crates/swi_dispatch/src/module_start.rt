@@ -4,7 +4,7 @@
 ghost use Rattle.std.specs.Prelude.{◌≡◌, ◌<◌, ◌≤◌, ◌^◌, false, length};
 
 use crate::machine::Machine;
-use flex_ground::instances_ground::put_text;
+use flex_machine::module_world::put_text;
 use swi_dispatch_plans::instances::Start;
 use swi_dispatch_plans::{Opening, enter_as_user};
 
@@ -70,7 +70,8 @@ impl Machine {
     fn go_as_user(&mut self, at: u32, slot: u32)
         requires stepped { self.old.is_fresh ≡ false }
         requires slot { slot < 64 }
-        ensures state { state_of self.new ≡ (let s = state_of self.old in record s { cpu = as_user s.cpu at slot }) }
+        ensures state { state_of self.new ≡ (let s = state_of self.old in
+            record s { cpu = as_user s.cpu at slot }) }
         ensures others { OnlyState self.old self.new }
     {
         enter_as_user(&mut self.cpu, at, slot);

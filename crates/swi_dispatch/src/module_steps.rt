@@ -2,8 +2,8 @@
 //! ends (RISC OS 3 Programmer's Reference Manual, "Modules" and "OS_Module").
 
 ghost use Rattle.std.specs.Prelude.{◌≡◌, ◌<◌, false, length, IfOk};
-ghost use Rattle.swi_dispatch.specs.Gates.{call_ended, carried_on, core_by, ended_by, ended_of, finished, frames_by};
-ghost use Rattle.swi_dispatch.specs.Gates.{kept_by, loaded_entered, opened};
+ghost use Rattle.swi_dispatch.specs.Gates.{call_ended, carried_on, core_by, plan_unless_code, ended_of, state_after_plan, frames_by};
+ghost use Rattle.swi_dispatch.specs.Gates.{kept_by, loaded_entered, state_with_code_entered};
 ghost use Rattle.swi_dispatch_plans.specs.Trials.{world_carried};
 
 use crate::machine::Machine;
@@ -19,7 +19,7 @@ impl Machine {
     ghost use Rattle.swi_dispatch.specs.Step.{begun_alone, call_of};
 
     /// A call begins whose plan is made, or is refused.
-    #[tactic(auto, unfolding(crate::specs::Step::begun))]
+    #[tactic(auto, unfolding(crate::specs::Step::outcome_of_planned))]
     pub(crate) fn begin(&mut self, is_x: bool, next: u32, planned: Result<Plan, ErrorNumber>)
         requires step { IsInStep self.old }
         requires begins { IfOk planned (CanBegin (setting_of (state_of self.old))) }
@@ -63,7 +63,7 @@ impl Machine {
         requires stepped { self.old.is_fresh ≡ false }
         requires begins { CanBegin (setting_of (state_of self.old)) plan }
         ensures state { let s = state_of self.old in
-            state_of self.new ≡ opened s call (world_carried (machine_world s) plan) }
+            state_of self.new ≡ state_with_code_entered s call (world_carried (machine_world s) plan) }
         ensures ended { result ≡ ended_of (world_carried (machine_world (state_of self.old)) plan) }
         ensures others { OnlyState self.old self.new }
     {
@@ -79,7 +79,7 @@ impl Machine {
     /// A call goes back if its plan has ended.
     pub(crate) fn finish(&mut self, call: Call, ended: Option<Plan>)
         requires stepped { self.old.is_fresh ≡ false }
-        ensures state { state_of self.new ≡ finished (state_of self.old) call ended }
+        ensures state { state_of self.new ≡ state_after_plan (state_of self.old) call ended }
         ensures others { OnlyState self.old self.new }
     {
         if let Some(plan) = ended {
@@ -131,7 +131,7 @@ pub(crate) fn open_code(
     requires { length frames.old < 32 }
     ensures core { cpu.new ≡ core_by cpu.old code }
     ensures frames { frames.new ≡ frames_by frames.old cpu.old call code }
-    ensures plans { result ≡ (kept_by plan code, ended_by plan code) }
+    ensures plans { result ≡ (kept_by plan code, plan_unless_code plan code) }
 {
     let Some(code) = code else {
         return (None, Some(plan));

@@ -13,14 +13,14 @@ impl Machine {
     ghost use Rattle.instances_table.specs.Lookup.{handler_of};
     ghost use Rattle.instances_table.specs.Modules.{slots_of};
     ghost use Rattle.swi_dispatch.specs.Parts.{state_of, outcome_of, IsInStep, OnlySteps, OnlyState};
-    ghost use Rattle.swi_dispatch.specs.Step.{call_refused, handler_entered, module_called};
+    ghost use Rattle.swi_dispatch.specs.Step.{call_refused, handler_entered, outcome_of_module_swi};
 
     /// A call that isn't the system's own.
     #[inline(never)]
     pub(crate) fn call_module(&mut self, is_x: bool, next: u32, number: u32)
         requires step { IsInStep self.old }
         requires next { next < 2 ^ 26 }
-        ensures after { outcome_of self.new ≡ module_called (state_of self.old) is_x next number
+        ensures after { outcome_of self.new ≡ outcome_of_module_swi (state_of self.old) is_x next number
             (handler_of number (state_of self.old).tables.modules) }
         ensures others { OnlySteps self.old self.new }
     {

@@ -52,14 +52,16 @@ impl Machine {
         sink: &mut W,
         budget: u64,
     ) -> Result<Ran, WriteFault>
-        ensures ends { IfOk result (λ r. Ends (ran images.now breaks.now budget (state_of self.old)) (state_of self.new)
+        ensures ends { IfOk result (λ r. Ends (ran images.now breaks.now budget (state_of self.old))
+            (state_of self.new)
             self.old.printed self.new.printed (W.contents sink.old) (W.contents sink.new) r.taken r.stop) }
         ensures count { IfOk result (λ r. r.taken ≤ budget) }
         ensures fresh { self.new.is_fresh ≡ (self.old.is_fresh && (budget == 0)) }
         ensures sizes { self.new.sizes ≡ self.old.sizes }
         ensures well_formed { IsWellFormed self.new }
         ensures kept { IsMachine self.new }
-        ensures stands { OnErr result (StandsAfter images.now breaks.now budget (state_of self.old) (state_of self.new)
+        ensures stands { OnErr result (StandsAfter images.now breaks.now budget (state_of self.old)
+            (state_of self.new)
             self.new.printed (W.contents sink.old) (W.contents sink.new)) }
         ensures flag { OnErr result (W.has_failed sink.new ≡ true) }
         ensures same_flag { OnOk result (W.has_failed sink.new ≡ W.has_failed sink.old) }
@@ -186,7 +188,8 @@ impl Machine {
     ) -> Result<Ran, WriteFault>
         requires awake { (state_of self.old).halt ≡ None }
         requires next { TakesTurn (state_of self.old) turn (state_of self.old) }
-        ensures ends { IfOk result (λ r. Ends (ran images.now breaks.now 1 (state_of self.old)) (state_of self.new)
+        ensures ends { IfOk result (λ r. Ends (ran images.now breaks.now 1 (state_of self.old))
+            (state_of self.new)
             self.old.printed self.new.printed (W.contents sink.old) (W.contents sink.new) r.taken r.stop) }
         ensures awake { IfOk result (λ r. r.stop ≡ Stop.Budget → (state_of self.new).halt ≡ None) }
         ensures count { IfOk result (λ r. r.taken ≤ 1) }
@@ -194,8 +197,10 @@ impl Machine {
         ensures sizes { self.new.sizes ≡ self.old.sizes }
         ensures well_formed { IsWellFormed self.new }
         ensures kept { IsMachine self.new }
-        ensures stands { OnErr result (state_of self.new ≡ (ran images.now breaks.now 1 (state_of self.old)).now) }
-        ensures output { OnErr result (Some self.new.printed ≡ (ran images.now breaks.now 1 (state_of self.old)).last) }
+        ensures stands { OnErr result (state_of self.new
+            ≡ (ran images.now breaks.now 1 (state_of self.old)).now) }
+        ensures output { OnErr result (Some self.new.printed
+            ≡ (ran images.now breaks.now 1 (state_of self.old)).last) }
         ensures part { OnErr result (AddsPart (W.contents sink.old) (W.contents sink.new) self.new.printed) }
         ensures flag { OnErr result (W.has_failed sink.new ≡ true) }
         ensures same_flag { OnOk result (W.has_failed sink.new ≡ W.has_failed sink.old) }

@@ -10,7 +10,7 @@ ghost use Rattle.swi_dispatch_flex.specs.Calls.{flex_called};
 ghost use Rattle.swi_dispatch_plans.specs.swi_dispatch_store.specs.Areas.{area_called, area_changed, area_read};
 ghost use Rattle.swi_dispatch_plans.specs.swi_dispatch_store.specs.Areas.{change_asked};
 ghost use Rattle.swi_dispatch_plans.specs.swi_dispatch_store.specs.Heaps.{heap_called};
-ghost use Rattle.swi_dispatch_plans.specs.swi_dispatch_modules.specs.Calls.{module_called};
+ghost use Rattle.swi_dispatch_plans.specs.swi_dispatch_modules.specs.Calls.{result_of_module_call};
 
 use crate::halt::Halt;
 use crate::machine::Machine;
@@ -27,8 +27,8 @@ impl Machine {
     ghost use Rattle.swi_dispatch.specs.Calls.{on_estate, on_flex, on_store, on_world};
     ghost use Rattle.swi_dispatch.specs.MachineState.{machine_estate, machine_world};
     ghost use Rattle.swi_dispatch.specs.Parts.{state_of, outcome_of, Answers, IsInStep, OnlySteps, OnlyState};
-    ghost use Rattle.swi_dispatch.specs.Step.{ended};
-    ghost use Rattle.swi_dispatch.specs.Returns.{halted};
+    ghost use Rattle.swi_dispatch.specs.Step.{outcome_of_answer};
+    ghost use Rattle.swi_dispatch.specs.Returns.{outcome_of_halt};
 
     /// OS_Heap.
     pub(crate) fn call_heap(&mut self) -> Result<(), Refusal>
@@ -64,7 +64,7 @@ impl Machine {
     pub(crate) fn call_module_reason(&mut self) -> Result<(), Refusal>
         requires stepped { self.old.is_fresh ≡ false }
         ensures state { let s = state_of self.old in
-            Leaves s (on_world s (module_called s.cpu (machine_world s))) result (state_of self.new) }
+            Leaves s (on_world s (result_of_module_call s.cpu (machine_world s))) result (state_of self.new) }
         ensures others { OnlyState self.old self.new }
     {
         call_module(
@@ -115,8 +115,8 @@ impl Machine {
     pub(crate) fn moving_error(&self, name: Option<SwiName>) -> Option<ErrorNumber>
         ensures value { result ≡ moving_error (state_of self.now) name }
         ensures stop { (e : ErrorNumber) → result ≡ Some e → (next number : ℕ)
-            → ended (state_of self.now) false (call_answer (state_of self.now) next number name)
-            ≡ halted (state_of self.now) (Halt.Fault (ErrorStop (error_code e))) }
+            → outcome_of_answer (state_of self.now) false (call_answer (state_of self.now) next number name)
+            ≡ outcome_of_halt (state_of self.now) (Halt.Fault (ErrorStop (error_code e))) }
     {
         self.cpu.known();
         match name {

@@ -6,19 +6,19 @@ use Rattle.std.specs.Option.{option_map}
 use Rattle.profile.specs.declared.fault.Fault.{Fault}
 use Rattle.profile.specs.declared.fault.Fault.TheVariants.{AddressException, DataUnmapped}
 use Rattle.address_map.specs.declared.map.AddressMap.{AddressMap}
-use Rattle.address_map.specs.Bytes.{Bytes, byte_loaded, unless}
+use Rattle.address_map.specs.Bytes.{Bytes, byte_loaded, ok_unless_fault}
 use Rattle.address_map.specs.Memory.{bytes_of, is_mapped}
 use Rattle.address_map.proofs.Spans.{mapped_below}
 use Rattle.swi_dispatch_answers.specs.Strings.{text_at}
 
 -- what a load of a byte says
-loaded_by : {A : Type 0} (far mapped : Bool) (x v : A) → unless (cond far (Some AddressException) (cond mapped None (Some DataUnmapped))) x ≡ Ok v
+loaded_by : {A : Type 0} (far mapped : Bool) (x v : A) → ok_unless_fault (cond far (Some AddressException) (cond mapped None (Some DataUnmapped))) x ≡ Ok v
     → (mapped ≡ true) × (v ≡ x)
 loaded_by true mapped x v e = cc
 loaded_by false false x v e = cc
 loaded_by false true x v e = (refl, cc)
 
-refused_by : {A : Type 0} (far mapped : Bool) (x : A) (f : Fault) → unless (cond far (Some AddressException) (cond mapped None (Some DataUnmapped))) x ≡ Err f
+refused_by : {A : Type 0} (far mapped : Bool) (x : A) (f : Fault) → ok_unless_fault (cond far (Some AddressException) (cond mapped None (Some DataUnmapped))) x ≡ Err f
     → (mapped ≡ true → far ≡ false) → mapped ≡ false
 refused_by far false x f e below = refl
 refused_by true true x f e below = absurd (true≢false (below refl))

@@ -1,6 +1,7 @@
 -- Errors that guests see: an error is a block in memory, its number and then its text, and R0
 -- points to it (RISC OS 3 Programmer's Reference Manual, "Generating and handling errors"; the
 -- system's block at &01C02100, and the number where none can be read, are this project's own).
+use Rattle.profile.specs.MemoryMap.{error_block_start}
 use Rattle.std.specs.Prelude.{ℕ, ◌%◌, ◌==◌, Result, Ok, Err, List, [], ◌∷◌, ◌++◌, if◌then◌else◌}
 use Rattle.profile.specs.ErrorNames.{error_code}
 use Rattle.profile.specs.declared.error.ErrorNumber.TheVariants.{BadPointer}
@@ -13,9 +14,11 @@ word_or other (Ok word) = word
 word_or other (Err fault) = other
 
 unfoldable pub error_at : Bytes → ℕ → ℕ
-error_at b at = if at % 4 == 0 then word_or (error_code BadPointer) (word_loaded b at) else error_code BadPointer
+error_at b at = if at % 4 == 0 then word_or (error_code BadPointer) (word_loaded b at)
+    else error_code BadPointer
 
 -- An error of the system writes its number and its text, a zero byte after it, to the block at
 -- &01C02100.
-abbrev pub error_block : Bytes → ℕ → List ℕ → Bytes
-error_block b number text = with_bytes (with_word b 0x01C02100 number) 0x01C02104 (text ++ 0 ∷ [])
+abbrev pub memory_with_error : Bytes → ℕ → List ℕ → Bytes
+memory_with_error b number text = with_bytes (with_word b error_block_start number) 0x01C02104
+    (text ++ 0 ∷ [])

@@ -13,6 +13,6 @@ return_word caller next = psr_bits caller + next / 4 % 2 ^ 24 * 4
 
 -- A call goes back: V says whether it was refused, R14 of supervisor mode is the return address,
 -- and the guest goes on there.
-unfoldable pub returned : Psr → State → Bool → ℕ → State
-returned caller cpu overflow next =
+unfoldable pub state_after_return : Psr → State → Bool → ℕ → State
+state_after_return caller cpu overflow next =
     with_pc (with_register_in Supervisor (with_overflow cpu overflow) 14 (return_word caller next)) next

@@ -21,15 +21,16 @@ ends end.Control byte = nat_lt byte 32
 unfoldable pub text_at : (ℕ → Bool) → ℕ → Bytes → ℕ → Option (List ℕ)
 text_at is_end zero b at = if b.mapped at && is_end (b.at at) then Some [] else None
 text_at is_end (suc most) b at =
-    if b.mapped at then (if is_end (b.at at) then Some [] else option_map (λ text. b.at at ∷ text) (text_at is_end most b (at + 1))) else None
+    if b.mapped at then (if is_end (b.at at) then Some []
+    else option_map (λ text. b.at at ∷ text) (text_at is_end most b (at + 1))) else None
 
 -- the first whole word at or after an address
 abbrev pub next_word : ℕ → ℕ
 next_word a = 4 * ((a + 3) / 4)
 
 -- a string that is not printed
-abbrev pub name_at : Bytes → ℕ → Option (List ℕ)
-name_at b at = text_at (ends end.Control) 255 b at
+abbrev pub string_at : Bytes → ℕ → Option (List ℕ)
+string_at b at = text_at (ends end.Control) 255 b at
 
 -- the string that a register points to, and as it is read
 abbrev pub bytes_read : Result (ArrayVec ℕ) ErrorNumber → Result (List ℕ) ErrorNumber
@@ -37,4 +38,4 @@ bytes_read (Ok text) = Ok text.items
 bytes_read (Err e) = Err e
 
 abbrev pub string_in : Bytes → State → ℕ → Result (List ℕ) ErrorNumber
-string_in b cpu n = ok_or (name_at b (register_of cpu n)) BadString
+string_in b cpu n = ok_or (string_at b (register_of cpu n)) BadString

@@ -6,8 +6,8 @@ use Rattle.std.specs.List.{position}
 abbrev pub is_space : ℕ → Bool
 is_space byte = byte == 32
 
-abbrev pub is_word : ℕ → Bool
-is_word byte = not (is_space byte)
+abbrev pub is_byte_of_word : ℕ → Bool
+is_byte_of_word byte = not (is_space byte)
 
 -- what stands before a place, and what stands from it on; where there is no place, all and nothing
 abbrev pub before_place : List ℕ → Option ℕ → List ℕ
@@ -19,7 +19,7 @@ from_place words None = []
 from_place words (Some place) = drop place words
 
 abbrev pub without_spaces : List ℕ → List ℕ
-without_spaces words = from_place words (position is_word words)
+without_spaces words = from_place words (position is_byte_of_word words)
 
 abbrev pub name_part : List ℕ → List ℕ
 name_part words = before_place words (position is_space words)

@@ -1,11 +1,12 @@
 //! The block that an error stands in: its number and then its text (RISC OS 3 Programmer's
 //! Reference Manual, "Generating and handling errors").
 
+ghost use Rattle.profile.specs.MemoryMap.{error_block_start};
 ghost use Rattle.std.specs.Prelude.{◌≡◌};
 ghost use Rattle.profile.specs.ErrorNames.{error_code, error_name};
 ghost use Rattle.address_map.specs.Bytes.{AreMapped};
 ghost use Rattle.address_map.specs.Memory.{bytes_of, is_mapped, layout, class_of};
-ghost use Rattle.swi_dispatch_answers.specs.Errors.{error_at, error_block};
+ghost use Rattle.swi_dispatch_answers.specs.Errors.{error_at, memory_with_error};
 
 use address_map::AddressMap;
 use profile::memory_map::ERROR_BLOCK;
@@ -26,8 +27,9 @@ pub fn error_at(memory: &AddressMap, at: u32) -> u32
 
 /// The number and the text of an error, with a zero byte after it, go to the error block.
 pub fn write_error(memory: &mut AddressMap, error: ErrorNumber)
-    requires { AreMapped (is_mapped memory.old) 0x01C02100 256 }
-    ensures bytes { bytes_of memory.new ≡ error_block (bytes_of memory.old) (error_code error) (error_name error) }
+    requires { AreMapped (is_mapped memory.old) error_block_start 256 }
+    ensures bytes { bytes_of memory.new ≡ memory_with_error (bytes_of memory.old) (error_code error)
+        (error_name error) }
     ensures layout { layout memory.new ≡ layout memory.old }
     ensures marks { class_of memory.new ≡ class_of memory.old }
 {

@@ -2,15 +2,15 @@
 //! SWIs").
 
 ghost use Rattle.std.specs.Prelude.{◌≡◌, ◌<◌, ◌^◌};
-ghost use Rattle.swi_dispatch_answers.specs.Returns.{returned};
+ghost use Rattle.swi_dispatch_answers.specs.Returns.{state_after_return};
 
 use arm_core::{Cpu, Mode, Psr};
 use profile::memory_map::ADDRESS_LIMIT;
 
 /// The return address, with the caller's status, goes to the link register of supervisor mode.
-#[tactic(auto, unfolding(crate::specs::Returns::returned))]
+#[tactic(auto, unfolding(crate::specs::Returns::state_after_return))]
 pub fn return_to(cpu: &mut Cpu, caller: Psr, is_refused: bool, next: u32)
-    ensures { cpu.new ≡ returned caller cpu.old is_refused next }
+    ensures { cpu.new ≡ state_after_return caller cpu.old is_refused next }
 {
     let address = next % ADDRESS_LIMIT / 4 * 4;
     cpu.set_overflow(is_refused);

@@ -3,7 +3,7 @@
 
 ghost use Rattle.std.specs.Prelude.{◌≡◌, ◌≤◌, length, option_map, IfSome};
 ghost use Rattle.std.specs.List.{position};
-ghost use Rattle.swi_dispatch_answers.specs.Words.{host_string, is_control, is_space, is_word, name_part, text_part, up_to_control, without_spaces};
+ghost use Rattle.swi_dispatch_answers.specs.Words.{host_string, is_control, is_space, is_byte_of_word, name_part, text_part, up_to_control, without_spaces};
 
 use crate::strings::MAX_TEXT;
 
@@ -47,7 +47,7 @@ fn place_of_space(words: &[u8]) -> Option<usize>
 }
 
 fn place_of_word(words: &[u8]) -> Option<usize>
-    ensures { result ≡ position is_word words.now }
+    ensures { result ≡ position is_byte_of_word words.now }
 {
     words.iter().position(|byte| is_word(*byte))
 }
@@ -59,7 +59,7 @@ fn is_space(byte: u8) -> bool
 }
 
 fn is_word(byte: u8) -> bool
-    ensures { result ≡ is_word byte }
+    ensures { result ≡ is_byte_of_word byte }
 {
     byte != b' '
 }

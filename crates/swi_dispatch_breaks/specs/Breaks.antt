@@ -25,9 +25,9 @@ abbrev pub without_break : List ℕ → ℕ → Result (List ℕ) BreakError
 without_break breaks a = without_place breaks (position (λ b. b == a) breaks)
 
 -- the place of the mark of an address
-abbrev pub mark_of : ℕ → ℕ
-mark_of a = a / 4 % 64
+abbrev pub mark_place_of : ℕ → ℕ
+mark_place_of a = a / 4 % 64
 
 -- the mark of each break is set
-abbrev pub AreMarked : List Bool → List ℕ → Type 0
-AreMarked marks breaks = All (λ a. get_or marks (mark_of a) false ≡ true) breaks
+abbrev pub AreBreaksMarked : List Bool → List ℕ → Type 0
+AreBreaksMarked marks breaks = All (λ a. get_or marks (mark_place_of a) false ≡ true) breaks

@@ -3,7 +3,7 @@
 ghost use Rattle.std.specs.Prelude.{◌≡◌, ◌==◌, ◌↔◌, ◌<◌, ℕ, [], List, IsTrue};
 ghost use Rattle.std.specs.List.{position};
 ghost use Rattle.profile.specs.Outcome.{Leaves};
-ghost use Rattle.swi_dispatch_breaks.specs.Breaks.{mark_of};
+ghost use Rattle.swi_dispatch_breaks.specs.Breaks.{mark_place_of};
 
 use arrayvec::ArrayVec;
 use std::error::Error;
@@ -55,13 +55,13 @@ pub struct Breaks {
 
 impl Model for Breaks {
     ghost use Rattle.std.specs.Prelude.{ℕ, List};
-    ghost use Rattle.swi_dispatch_breaks.specs.Breaks.{AreMarked};
+    ghost use Rattle.swi_dispatch_breaks.specs.Breaks.{AreBreaksMarked};
 
     ghost Value = { List ℕ };
 
     ghost view = { λ b. b.addresses.items };
 
-    ghost invariant = { λ b. AreMarked b.marks b.addresses.items };
+    ghost invariant = { λ b. AreBreaksMarked b.marks b.addresses.items };
 }
 
 impl Breaks {
@@ -150,7 +150,7 @@ impl Breaks {
 // Which mark an address has; others may have the same.
 #[inline(always)]
 fn mark_of(address: u32) -> usize
-    ensures value { result ≡ mark_of address }
+    ensures value { result ≡ mark_place_of address }
     ensures inside { result < 64 }
 {
     (address / 4 % 64) as usize

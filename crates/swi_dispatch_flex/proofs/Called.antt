@@ -5,18 +5,18 @@ use Rattle.profile.specs.Outcome.{Gives}
 use Rattle.profile.specs.declared.error.ErrorNumber.{ErrorNumber}
 use Rattle.address_map.specs.Memory.{layout}
 use Rattle.address_map.specs.declared.map.AddressMap.{AddressMap}
-use Rattle.flex_ground.proofs.Calls.{flex_left, flex_stays_so, state_is}
-use Rattle.flex_ground.specs.CallLaws.{AreAnchorsAllowed, IsFlexCall, IsLeft}
-use Rattle.flex_ground.specs.Ground.{HasFlex}
-use Rattle.flex_ground.specs.flex_store.specs.Calls.{FlexState}
-use Rattle.flex_ground.specs.flex_store.specs.State.{IsFlex, state_of as flex_state_of}
-use Rattle.flex_ground.specs.flex_store.specs.declared.flex.Flex.{Flex}
-use Rattle.flex_ground.specs.instances_ground.proofs.Worlds.{world_kept}
-use Rattle.flex_ground.specs.instances_ground.specs.dynamic_areas.proofs.HeapCalls.{areas_written}
-use Rattle.flex_ground.specs.instances_ground.specs.os_heap.proofs.Frame.{layout-others}
-use Rattle.flex_ground.specs.instances_ground.specs.os_heap.specs.Store.{AreClasses, IsSound, store_of}
-use Rattle.flex_ground.specs.instances_ground.specs.World.{world_of}
-use Rattle.swi_dispatch_flex.specs.Calls.{left_by, memory_of, state_in, with_flexed}
+use Rattle.flex_machine.proofs.Calls.{flex_left, flex_stays_so, state_is}
+use Rattle.flex_machine.specs.CallLaws.{AreAnchorsAllowed, IsFlexCall, IsLeft}
+use Rattle.flex_machine.specs.Ground.{HasFlex}
+use Rattle.flex_machine.specs.flex_store.specs.Calls.{FlexState}
+use Rattle.flex_machine.specs.flex_store.specs.State.{IsFlex, state_of_flex as flex_state_of}
+use Rattle.flex_machine.specs.flex_store.specs.declared.flex.Flex.{Flex}
+use Rattle.flex_machine.specs.module_world.proofs.Worlds.{world_kept}
+use Rattle.flex_machine.specs.module_world.specs.dynamic_areas.proofs.HeapCalls.{areas_written}
+use Rattle.flex_machine.specs.module_world.specs.os_heap.proofs.Frame.{layout-others}
+use Rattle.flex_machine.specs.module_world.specs.os_heap.specs.Store.{AreClasses, IsSound, store_of}
+use Rattle.flex_machine.specs.module_world.specs.World.{world_of}
+use Rattle.swi_dispatch_flex.specs.Calls.{memory_after_flex, memory_of, state_in, memory_with_flex}
 use Rattle.swi_dispatch_flex.specs.Leaving.{CanCallFlex, LeavesFlex}
 
 -- what the contracts of these calls say of memory
@@ -41,7 +41,7 @@ leaves_same m f can = record { flex = can.flex; classes = can.classes; world = �
 
 -- what such a call leaves, and what one that was refused
 called_left : (m n : AddressMap) (f g : Flex) (t : FlexState) → IsFlexCall m n f g → flex_state_of n g ≡ t
-    → memory_of n g ≡ with_flexed (store_of m) t
+    → memory_of n g ≡ memory_with_flex (store_of m) t
 called_left m n f g t call state =
     let left : IsLeft m n g t = flex_left m n f g t call state in
     λ i. record { store = left.store i; flex = left.flex i }
@@ -56,7 +56,7 @@ refused_left m n f g is call state =
 left_so : (A : Type 0) (m n : AddressMap) (f g : Flex) (r : Result (FlexState × A) ErrorNumber)
     (x : Result A ErrorNumber) → IsFlex m f → IsFlexCall m n f g
     → Gives {U = A} (flex_state_of m f) r x (flex_state_of n g)
-    → Gives {U = A} (memory_of m f) (left_by (store_of m) r) x (memory_of n g)
+    → Gives {U = A} (memory_of m f) (memory_after_flex (store_of m) r) x (memory_of n g)
 left_so A m n f g (Ok q) (Ok u) is call gives = (called_left m n f g q.0 call gives.0, gives.1)
 left_so A m n f g (Err e) (Err d) is call gives = (gives.0, refused_left m n f g is call gives.1)
 left_so A m n f g (Ok q) (Err d) is call gives = absurd gives
@@ -66,7 +66,7 @@ left_so A m n f g (Err e) (Ok u) is call gives = absurd gives
 pub call_left : (A : Type 0) (m n : AddressMap) (f g : Flex) (call : FlexState → Result (FlexState × A) ErrorNumber)
     (x : Result A ErrorNumber) → IsFlex m f → IsFlexCall m n f g
     → Gives {U = A} (flex_state_of m f) (call (flex_state_of m f)) x (flex_state_of n g)
-    → Gives {U = A} (memory_of m f) (left_by (store_of m) (call (state_in (memory_of m f)))) x (memory_of n g)
+    → Gives {U = A} (memory_of m f) (memory_after_flex (store_of m) (call (state_in (memory_of m f)))) x (memory_of n g)
 call_left A m n f g call x is made gives =
     left_so A m n f g (call (state_in (memory_of m f))) x is made
     (subst (λ (t : FlexState). Gives {U = A} (flex_state_of m f) (call t) x (flex_state_of n g)) (state_is m f) gives)

@@ -7,32 +7,32 @@ use Rattle.profile.specs.Outcome.{Gives}
 use Rattle.profile.specs.declared.error.ErrorNumber.{ErrorNumber}
 use Rattle.address_map.specs.Memory.{regions}
 use Rattle.address_map.specs.declared.map.AddressMap.{AddressMap}
-use Rattle.flex_ground.proofs.Calls.{ok_is, state_is}
-use Rattle.flex_ground.proofs.Starts.{IsFlexMade, has_made, made_areas, made_left, others_made, room_there}
-use Rattle.flex_ground.proofs.Starts.{unmade_areas, unmade_left}
-use Rattle.flex_ground.proofs.Worlds.{begun_world}
-use Rattle.flex_ground.specs.Ground.{HasFlex, records_with, with_flex_record}
-use Rattle.flex_ground.specs.flex_store.specs.Blocks.{FlexStore}
-use Rattle.flex_ground.specs.flex_store.specs.Calls.{FlexState, begun, begun_by, flex_record, is_flex_range, with_flex}
-use Rattle.flex_ground.specs.flex_store.specs.State.{IsFlex, flex_in, state_of as flex_state_of}
-use Rattle.flex_ground.specs.flex_store.specs.declared.flex.Extent.{Extent}
-use Rattle.flex_ground.specs.flex_store.specs.declared.flex.Flex.{Flex}
-use Rattle.flex_ground.specs.instances_ground.proofs.Worlds.{world_kept}
-use Rattle.flex_ground.specs.instances_ground.specs.os_heap.specs.Store.{AreClasses, Store, store_of}
-use Rattle.flex_ground.specs.instances_ground.specs.Sound.{count_beside}
-use Rattle.flex_ground.specs.instances_ground.specs.World.{world_of}
-use Rattle.swi_dispatch_flex.specs.Calls.{flex_in_range, left_by, memory_of, state_in}
+use Rattle.flex_machine.proofs.Calls.{ok_is, state_is}
+use Rattle.flex_machine.proofs.Starts.{IsFlexMade, has_made, made_areas, made_left, others_made, room_there}
+use Rattle.flex_machine.proofs.Starts.{unmade_areas, unmade_left}
+use Rattle.flex_machine.proofs.Worlds.{begun_world}
+use Rattle.flex_machine.specs.Ground.{HasFlex, records_with, with_flex_record}
+use Rattle.flex_machine.specs.flex_store.specs.Blocks.{FlexStore}
+use Rattle.flex_machine.specs.flex_store.specs.Calls.{FlexState, flex_after_init, flex_after_init_over, flex_record, is_flex_range, with_flex_range}
+use Rattle.flex_machine.specs.flex_store.specs.State.{IsFlex, flex_in, state_of_flex as flex_state_of}
+use Rattle.flex_machine.specs.flex_store.specs.declared.flex.Extent.{Extent}
+use Rattle.flex_machine.specs.flex_store.specs.declared.flex.Flex.{Flex}
+use Rattle.flex_machine.specs.module_world.proofs.Worlds.{world_kept}
+use Rattle.flex_machine.specs.module_world.specs.os_heap.specs.Store.{AreClasses, Store, store_of}
+use Rattle.flex_machine.specs.module_world.specs.Sound.{count_beside}
+use Rattle.flex_machine.specs.module_world.specs.World.{world_of}
+use Rattle.swi_dispatch_flex.specs.Calls.{flex_in_range, memory_after_flex, memory_of, state_in}
 use Rattle.swi_dispatch_flex.specs.Leaving.{LeavesFlex}
 
 -- what is so where the call was done
 record IsBegun (places : Store) (t : FlexState) (start end : ℕ) (r : FlexState × Unit {0}) : Type 0 where
   none : t.flex ≡ None
   room : is_flex_range places start end ≡ true
-  left : with_flex t start end ≡ r.0
+  left : with_flex_range t start end ≡ r.0
 
 begun_from : (places : Store) (t : FlexState) (start end : ℕ) (o : Option FlexStore) (r : FlexState × Unit {0})
-    → begun_by places t start end o ≡ Ok r
-    → (o ≡ None) × ((is_flex_range places start end ≡ true) × (with_flex t start end ≡ r.0))
+    → flex_after_init_over places t start end o ≡ Ok r
+    → (o ≡ None) × ((is_flex_range places start end ≡ true) × (with_flex_range t start end ≡ r.0))
 begun_from places t start end (Some s) r is = absurd (let no : Err _ ≡ Ok r = is in cc)
 begun_from places t start end None r is = elim (cases_Bool (is_flex_range places start end)) [
   | inl room ↦
@@ -41,9 +41,9 @@ begun_from places t start end None r is = elim (cases_Bool (is_flex_range places
   | inr bad ↦ let done = rw bad at is in absurd (let no : Err _ ≡ Ok r = done in cc)
 ]
 
-is_begun : (places : Store) (t : FlexState) (start end : ℕ) (r : FlexState × Unit {0}) → begun places t start end ≡ Ok r
+is_begun : (places : Store) (t : FlexState) (start end : ℕ) (r : FlexState × Unit {0}) → flex_after_init places t start end ≡ Ok r
     → IsBegun places t start end r
-unfolding begun
+unfolding flex_after_init
 is_begun places t start end r is =
     let parts = begun_from places t start end t.flex r is in
     record { none = parts.0; room = parts.1.0; left = parts.1.1 }
@@ -58,7 +58,7 @@ an_extent m (Some e) s is = refl
 
 -- what stands on the memory where it was done
 begun_leaves : (m n : AddressMap) (f g : Flex) (start end : ℕ) (r : FlexState × Unit {0}) → HasFlex m f
-    → begun (store_of m) (flex_state_of m f) start end ≡ Ok r → flex_state_of n g ≡ r.0 → IsFlexMade m n g
+    → flex_after_init (store_of m) (flex_state_of m f) start end ≡ Ok r → flex_state_of n g ≡ r.0 → IsFlexMade m n g
     → regions n ≡ regions m ++ flex_record start end ∷ [] → AreClasses n → LeavesFlex m n g
 unfolding flex_state_of
 begun_leaves m n f g start end r has is state made records classes =
@@ -101,7 +101,7 @@ unbegun_leaves m n f g has state made records classes =
     }
 
 pub made_leaves : (m n : AddressMap) (f g : Flex) (start end : ℕ) (r : Result (FlexState × Unit {0}) ErrorNumber)
-    (x : Result (Unit {0}) ErrorNumber) → HasFlex m f → begun (store_of m) (flex_state_of m f) start end ≡ r
+    (x : Result (Unit {0}) ErrorNumber) → HasFlex m f → flex_after_init (store_of m) (flex_state_of m f) start end ≡ r
     → Gives {U = Unit {0}} (flex_state_of m f) r x (flex_state_of n g) → IsFlexMade m n g
     → MatchResult x (λ _. regions n ≡ regions m ++ flex_record start end ∷ []) (λ _. regions n ≡ regions m)
     → AreClasses n → LeavesFlex m n g
@@ -117,7 +117,7 @@ made_so : (m n : AddressMap) (f g : Flex) (start end : ℕ) (r : Result (FlexSta
     (x : Result (Unit {0}) ErrorNumber) → IsFlex m f
     → Gives {U = Unit {0}} (flex_state_of m f) r x (flex_state_of n g) → IsFlexMade m n g
     → MatchResult x (λ _. regions n ≡ regions m ++ flex_record start end ∷ []) (λ _. regions n ≡ regions m)
-    → Gives {U = Unit {0}} (memory_of m f) (left_by (with_flex_record (store_of m) start end) r) x (memory_of n g)
+    → Gives {U = Unit {0}} (memory_of m f) (memory_after_flex (with_flex_record (store_of m) start end) r) x (memory_of n g)
 made_so m n f g start end (Ok r) (Ok u) is gives made records =
     let left = made_left m n g r.0 start end made records gives.0 in
     (λ i. record { store = left.0 i; flex = left.1 i }, gives.1)
@@ -128,11 +128,11 @@ made_so m n f g start end (Ok r) (Err d) is gives made records = absurd gives
 made_so m n f g start end (Err e) (Ok u) is gives made records = absurd gives
 
 pub made_given : (m n : AddressMap) (f g : Flex) (start end : ℕ) (x : Result (Unit {0}) ErrorNumber) → IsFlex m f
-    → Gives {U = Unit {0}} (flex_state_of m f) (begun (store_of m) (flex_state_of m f) start end) x (flex_state_of n g)
+    → Gives {U = Unit {0}} (flex_state_of m f) (flex_after_init (store_of m) (flex_state_of m f) start end) x (flex_state_of n g)
     → IsFlexMade m n g
     → MatchResult x (λ _. regions n ≡ regions m ++ flex_record start end ∷ []) (λ _. regions n ≡ regions m)
     → Gives {U = Unit {0}} (memory_of m f) (flex_in_range (memory_of m f) start end) x (memory_of n g)
 made_given m n f g start end x is gives made records =
-    made_so m n f g start end (begun (store_of m) (state_in (memory_of m f)) start end) x is
-    (subst (λ (t : FlexState). Gives {U = Unit {0}} (flex_state_of m f) (begun (store_of m) t start end) x
+    made_so m n f g start end (flex_after_init (store_of m) (state_in (memory_of m f)) start end) x is
+    (subst (λ (t : FlexState). Gives {U = Unit {0}} (flex_state_of m f) (flex_after_init (store_of m) t start end) x
     (flex_state_of n g)) (state_is m f) gives) made records

@@ -10,11 +10,11 @@ use Rattle.profile.specs.declared.swi.SwiName.{SwiName}
 use Rattle.profile.specs.declared.swi.SwiName.TheVariants as swi
 use Rattle.address_map.specs.declared.map.AddressMap.{AddressMap}
 use Rattle.arm_core.specs.State.{State, register_of, with_register}
-use Rattle.flex_ground.specs.Ground.{flex_of, flex_state, store_flexed, with_flex_record}
-use Rattle.flex_ground.specs.flex_store.specs.Calls.{FlexState, allocated, begun, extended, mid_extended, released}
-use Rattle.flex_ground.specs.flex_store.specs.Calls.{sized}
-use Rattle.flex_ground.specs.flex_store.specs.declared.flex.Flex.{Flex}
-use Rattle.flex_ground.specs.instances_ground.specs.os_heap.specs.Store.{Store, store_of}
+use Rattle.flex_machine.specs.Ground.{flex_of, flex_state, store_flexed, with_flex_record}
+use Rattle.flex_machine.specs.flex_store.specs.Calls.{FlexState, flex_after_alloc, flex_after_init, flex_after_extend, mid_extended, flex_after_release}
+use Rattle.flex_machine.specs.flex_store.specs.Calls.{flex_block_size}
+use Rattle.flex_machine.specs.flex_store.specs.declared.flex.Flex.{Flex}
+use Rattle.flex_machine.specs.module_world.specs.os_heap.specs.Store.{Store, store_of}
 use Rattle.swi_dispatch_answers.specs.declared.refusal.Refusal.{Refusal}
 use Rattle.swi_dispatch_answers.specs.Refusals.{or_error, system_error}
 
@@ -31,51 +31,59 @@ memory_of m f = record { store = store_of m; flex = f }
 abbrev pub state_in : FlexMemory → FlexState
 state_in s = flex_state s.store s.flex
 
-abbrev pub with_flexed : Store → FlexState → FlexMemory
-with_flexed store t = record { store = store_flexed store t; flex = flex_of t.flex }
+abbrev pub memory_with_flex : Store → FlexState → FlexMemory
+memory_with_flex store t = record { store = store_flexed store t; flex = flex_of t.flex }
 
 -- what a call leaves, with what it answers
-abbrev pub left_by : {A : Type 0} → Store → Result (FlexState × A) ErrorNumber → Result (FlexMemory × A) ErrorNumber
-left_by store r = bind r (λ q. Ok (with_flexed store q.0, q.1))
+abbrev pub memory_after_flex : {A : Type 0} → Store → Result (FlexState × A) ErrorNumber →
+    Result (FlexMemory × A) ErrorNumber
+memory_after_flex store r = bind r (λ q. Ok (memory_with_flex store q.0, q.1))
 
 -- Flex_Init: the store's range is from R0 up to R1.
 abbrev pub flex_in_range : FlexMemory → ℕ → ℕ → Result (FlexMemory × Unit {0}) ErrorNumber
-flex_in_range s start end = left_by (with_flex_record s.store start end) (begun s.store (state_in s) start end)
+flex_in_range s start end = memory_after_flex (with_flex_record s.store start end)
+    (flex_after_init s.store (state_in s) start end)
 
 abbrev pub flex_made : State → FlexMemory → Result (State × FlexMemory) Refusal
-flex_made cpu s = bind (or_error (flex_in_range s (register_of cpu 0) (register_of cpu 1))) (λ r. Ok (cpu, r.0))
+flex_made cpu s = bind (or_error (flex_in_range s (register_of cpu 0) (register_of cpu 1)))
+    (λ r. Ok (cpu, r.0))
 
 -- In R0 a call tells whether the store had room: 1, or 0 with nothing changed.
-abbrev pub word_of : Bool → ℕ
-word_of true = 1
-word_of false = 0
+abbrev pub room_word_of : Bool → ℕ
+room_word_of true = 1
+room_word_of false = 0
 
 abbrev pub fit_told : State → Result (FlexMemory × Bool) ErrorNumber → Result (State × FlexMemory) Refusal
-fit_told cpu r = bind (or_error r) (λ q. Ok (with_register cpu 0 (word_of q.1), q.0))
+fit_told cpu r = bind (or_error r) (λ q. Ok (with_register cpu 0 (room_word_of q.1), q.0))
 
 -- Flex_Alloc: R0 has the anchor's address, R1 a size.
 abbrev pub flex_allocated : State → FlexMemory → Result (State × FlexMemory) Refusal
 flex_allocated cpu s =
-    fit_told cpu (left_by s.store (allocated s.store (state_in s) (register_of cpu 0) (register_of cpu 1)))
+    fit_told cpu (memory_after_flex s.store (flex_after_alloc s.store (state_in s) (register_of cpu 0)
+    (register_of cpu 1)))
 
 -- Flex_Free: R0 has an anchor's address.
 abbrev pub flex_released : State → FlexMemory → Result (State × FlexMemory) Refusal
-flex_released cpu s = bind (or_error (left_by s.store (released (state_in s) (register_of cpu 0)))) (λ r. Ok (cpu, r.0))
+flex_released cpu s = bind (or_error (memory_after_flex s.store
+    (flex_after_release (state_in s) (register_of cpu 0)))) (λ r. Ok (cpu, r.0))
 
 -- Flex_Size: R0 has an anchor's address, and the size of its block then.
 abbrev pub flex_sized : State → FlexMemory → Result (State × FlexMemory) Refusal
-flex_sized cpu s = bind (or_error (sized (state_in s) (register_of cpu 0))) (λ n. Ok (with_register cpu 0 n, s))
+flex_sized cpu s = bind (or_error (flex_block_size (state_in s) (register_of cpu 0)))
+    (λ n. Ok (with_register cpu 0 n, s))
 
 -- Flex_Extend: R0 has an anchor's address, R1 the new size of its block.
 abbrev pub flex_extended : State → FlexMemory → Result (State × FlexMemory) Refusal
-flex_extended cpu s = fit_told cpu (left_by s.store (extended (state_in s) (register_of cpu 0) (register_of cpu 1)))
+flex_extended cpu s = fit_told cpu (memory_after_flex s.store
+    (flex_after_extend (state_in s) (register_of cpu 0) (register_of cpu 1)))
 
 -- Flex_MidExtend: R0 has an anchor's address, R1 a place in its block, R2 how many bytes come
 -- there, or go before it.
 abbrev pub flex_mid_extended : State → FlexMemory → Result (State × FlexMemory) Refusal
 flex_mid_extended cpu s =
     fit_told cpu
-    (left_by s.store (mid_extended (state_in s) (register_of cpu 0) (register_of cpu 1) (register_of cpu 2)))
+    (memory_after_flex s.store (mid_extended (state_in s) (register_of cpu 0) (register_of cpu 1)
+    (register_of cpu 2)))
 
 unfoldable pub flex_called : State → FlexMemory → Option SwiName → Result (State × FlexMemory) Refusal
 flex_called cpu s (Some swi.FlexInit) = flex_made cpu s

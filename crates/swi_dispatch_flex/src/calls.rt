@@ -2,15 +2,15 @@
 
 ghost use Rattle.std.specs.Prelude.{◌≡◌};
 ghost use Rattle.profile.specs.Outcome.{Gives, Leaves};
-ghost use Rattle.flex_ground.specs.flex_store.specs.Calls.{allocated, extended, mid_extended, released, sized};
+ghost use Rattle.flex_machine.specs.flex_store.specs.Calls.{flex_after_alloc, flex_after_extend, mid_extended, flex_after_release, flex_block_size};
 ghost use Rattle.swi_dispatch_flex.specs.Calls.{flex_allocated, flex_called, flex_extended, flex_in_range, flex_made};
 ghost use Rattle.swi_dispatch_flex.specs.Calls.{flex_mid_extended, flex_released, flex_sized};
-ghost use Rattle.swi_dispatch_flex.specs.Calls.{left_by, memory_of, state_in, word_of};
+ghost use Rattle.swi_dispatch_flex.specs.Calls.{memory_after_flex, memory_of, state_in, room_word_of};
 ghost use Rattle.swi_dispatch_flex.specs.Leaving.{CanCallFlex, LeavesFlex};
 
 use address_map::AddressMap;
 use arm_core::Cpu;
-use flex_ground::flex_store::Flex;
+use flex_machine::flex_store::Flex;
 use profile::{ErrorNumber, SwiName};
 use swi_dispatch_answers::Refusal;
 
@@ -30,7 +30,8 @@ pub fn call_flex(
 ) -> Result<(), Refusal>
     requires { CanCallFlex memory.old flex.old }
     ensures state { Leaves (cpu.old, memory_of memory.old flex.old)
-        (flex_called cpu.old (memory_of memory.old flex.old) name) result (cpu.new, memory_of memory.new flex.new) }
+        (flex_called cpu.old (memory_of memory.old flex.old) name) result
+        (cpu.new, memory_of memory.new flex.new) }
     ensures leaves { LeavesFlex memory.old memory.new flex.new }
 {
     match name {
@@ -73,7 +74,8 @@ fn begin_flex(
 fn alloc_flex(cpu: &mut Cpu, memory: &mut AddressMap, flex: &mut Flex) -> Result<(), Refusal>
     requires { CanCallFlex memory.old flex.old }
     ensures state { Leaves (cpu.old, memory_of memory.old flex.old)
-        (flex_allocated cpu.old (memory_of memory.old flex.old)) result (cpu.new, memory_of memory.new flex.new) }
+        (flex_allocated cpu.old (memory_of memory.old flex.old)) result
+        (cpu.new, memory_of memory.new flex.new) }
     ensures leaves { LeavesFlex memory.old memory.new flex.new }
 {
     let anchor = cpu.register(0);
@@ -91,7 +93,8 @@ fn alloc_block(
 ) -> Result<bool, ErrorNumber>
     requires { CanCallFlex memory.old flex.old }
     ensures state { let s = memory_of memory.old flex.old in
-        Gives s (left_by s.store (allocated s.store (state_in s) anchor size)) result (memory_of memory.new flex.new) }
+        Gives s (memory_after_flex s.store (flex_after_alloc s.store (state_in s) anchor size)) result
+        (memory_of memory.new flex.new) }
     ensures leaves { LeavesFlex memory.old memory.new flex.new }
 {
     flex.alloc(memory, anchor, size)
@@ -100,7 +103,8 @@ fn alloc_block(
 fn release_flex(cpu: &mut Cpu, memory: &mut AddressMap, flex: &mut Flex) -> Result<(), Refusal>
     requires { CanCallFlex memory.old flex.old }
     ensures state { Leaves (cpu.old, memory_of memory.old flex.old)
-        (flex_released cpu.old (memory_of memory.old flex.old)) result (cpu.new, memory_of memory.new flex.new) }
+        (flex_released cpu.old (memory_of memory.old flex.old)) result
+        (cpu.new, memory_of memory.new flex.new) }
     ensures leaves { LeavesFlex memory.old memory.new flex.new }
 {
     let anchor = cpu.register(0);
@@ -111,7 +115,8 @@ fn release_flex(cpu: &mut Cpu, memory: &mut AddressMap, flex: &mut Flex) -> Resu
 fn release_block(memory: &mut AddressMap, flex: &mut Flex, anchor: u32) -> Result<(), ErrorNumber>
     requires { CanCallFlex memory.old flex.old }
     ensures state { let s = memory_of memory.old flex.old in
-        Gives s (left_by s.store (released (state_in s) anchor)) result (memory_of memory.new flex.new) }
+        Gives s (memory_after_flex s.store (flex_after_release (state_in s) anchor)) result
+        (memory_of memory.new flex.new) }
     ensures leaves { LeavesFlex memory.old memory.new flex.new }
 {
     flex.release(memory, anchor)
@@ -130,7 +135,7 @@ fn size_flex(cpu: &mut Cpu, memory: &AddressMap, flex: &Flex) -> Result<(), Refu
 
 fn block_size(memory: &AddressMap, flex: &Flex, anchor: u32) -> Result<u32, ErrorNumber>
     requires { CanCallFlex memory.now flex.now }
-    ensures { result ≡ sized (state_in (memory_of memory.now flex.now)) anchor }
+    ensures { result ≡ flex_block_size (state_in (memory_of memory.now flex.now)) anchor }
 {
     flex.size(memory, anchor)
 }
@@ -138,7 +143,8 @@ fn block_size(memory: &AddressMap, flex: &Flex, anchor: u32) -> Result<u32, Erro
 fn extend_flex(cpu: &mut Cpu, memory: &mut AddressMap, flex: &mut Flex) -> Result<(), Refusal>
     requires { CanCallFlex memory.old flex.old }
     ensures state { Leaves (cpu.old, memory_of memory.old flex.old)
-        (flex_extended cpu.old (memory_of memory.old flex.old)) result (cpu.new, memory_of memory.new flex.new) }
+        (flex_extended cpu.old (memory_of memory.old flex.old)) result
+        (cpu.new, memory_of memory.new flex.new) }
     ensures leaves { LeavesFlex memory.old memory.new flex.new }
 {
     let anchor = cpu.register(0);
@@ -156,7 +162,8 @@ fn extend_block(
 ) -> Result<bool, ErrorNumber>
     requires { CanCallFlex memory.old flex.old }
     ensures state { let s = memory_of memory.old flex.old in
-        Gives s (left_by s.store (extended (state_in s) anchor size)) result (memory_of memory.new flex.new) }
+        Gives s (memory_after_flex s.store (flex_after_extend (state_in s) anchor size)) result
+        (memory_of memory.new flex.new) }
     ensures leaves { LeavesFlex memory.old memory.new flex.new }
 {
     flex.extend(memory, anchor, size)
@@ -165,7 +172,8 @@ fn extend_block(
 fn mid_extend_flex(cpu: &mut Cpu, memory: &mut AddressMap, flex: &mut Flex) -> Result<(), Refusal>
     requires { CanCallFlex memory.old flex.old }
     ensures state { Leaves (cpu.old, memory_of memory.old flex.old)
-        (flex_mid_extended cpu.old (memory_of memory.old flex.old)) result (cpu.new, memory_of memory.new flex.new) }
+        (flex_mid_extended cpu.old (memory_of memory.old flex.old)) result
+        (cpu.new, memory_of memory.new flex.new) }
     ensures leaves { LeavesFlex memory.old memory.new flex.new }
 {
     let anchor = cpu.register(0);
@@ -185,7 +193,8 @@ fn mid_extend_block(
 ) -> Result<bool, ErrorNumber>
     requires { CanCallFlex memory.old flex.old }
     ensures state { let s = memory_of memory.old flex.old in
-        Gives s (left_by s.store (mid_extended (state_in s) anchor at by)) result (memory_of memory.new flex.new) }
+        Gives s (memory_after_flex s.store (mid_extended (state_in s) anchor at by)) result
+        (memory_of memory.new flex.new) }
     ensures leaves { LeavesFlex memory.old memory.new flex.new }
 {
     flex.mid_extend(memory, anchor, at, by)
@@ -193,7 +202,7 @@ fn mid_extend_block(
 
 // What R0 tells of whether a block fits.
 fn word_of(fits: bool) -> u32
-    ensures { result ≡ word_of fits }
+    ensures { result ≡ room_word_of fits }
 {
     u32::from(fits)
 }

@@ -11,4 +11,5 @@ is_swi (Entry kind) = false
 
 -- a SWI of an instance in one of these slots is under way
 abbrev pub has_swi_of : List ℕ → List Frame → Bool
-has_swi_of slots frames = list_any (λ (f : Frame). is_swi f.kind && list_any (λ slot. slot == f.slot) slots) frames
+has_swi_of slots frames = list_any (λ (f : Frame). is_swi f.kind
+    && list_any (λ slot. slot == f.slot) slots) frames

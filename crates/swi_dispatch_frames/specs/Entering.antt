@@ -2,6 +2,7 @@
 -- handler code", "Initialisation entry point", "Finalisation entry point"; the return gate is this
 -- project's own): supervisor mode, V clear, the other flags and the masks as the caller has them,
 -- and R14 of supervisor mode the gate with that status.
+use Rattle.profile.specs.MemoryMap.{return_gate}
 use Rattle.std.specs.Prelude.{ℕ, false, ◌+◌, ◌%◌}
 use Rattle.arm_core.specs.declared.psr.Mode.TheVariants.{User, Supervisor}
 use Rattle.arm_core.specs.Psr.{psr_bits}
@@ -11,18 +12,21 @@ use Rattle.instances_plans.specs.declared.code.Code.{Code}
 
 -- where module code returns to, which is never mapped
 abbrev pub gate : ℕ
-gate = 0x03800000
+gate = return_gate
 
-abbrev pub in_supervisor : State → State
-in_supervisor cpu = with_overflow (with_mode cpu Supervisor) false
+abbrev pub state_in_supervisor : State → State
+state_in_supervisor cpu = with_overflow (with_mode cpu Supervisor) false
 
-abbrev pub entered : State → ℕ → State
-entered cpu at = with_pc (with_register_in Supervisor (in_supervisor cpu) 14 (psr_bits (in_supervisor cpu).psr + gate)) at
+abbrev pub state_after_entry : State → ℕ → State
+state_after_entry cpu at = with_pc (with_register_in Supervisor (state_in_supervisor cpu) 14
+    (psr_bits (state_in_supervisor cpu).psr + gate)) at
 
 -- R11 is the number of the SWI in its chunk of 64, R12 the address of the instance's private word.
 unfoldable pub swi_entered : State → ℕ → ℕ → ℕ → State
-swi_entered cpu at number slot = with_register_in User (with_register_in User (entered cpu at) 11 (number % 64)) 12 (private_of slot)
+swi_entered cpu at number slot = with_register_in User (with_register_in User (state_after_entry cpu at) 11
+    (number % 64)) 12 (private_of slot)
 
 unfoldable pub code_entered : State → Code → State
 code_entered cpu code =
-    with_register_in User (with_register_in User (with_register_in User (entered cpu code.at) 10 code.r10) 11 code.r11) 12 code.r12
+    with_register_in User (with_register_in User (with_register_in User
+    (state_after_entry cpu code.at) 10 code.r10) 11 code.r11) 12 code.r12

@@ -21,8 +21,8 @@ frame_of cpu call kind slot = record {
   stack = register_in Supervisor cpu 13;
 }
 
-abbrev pub innermost : List Frame → Option Frame
-innermost frames = slice_get frames (length frames - 1)
+abbrev pub innermost_frame : List Frame → Option Frame
+innermost_frame frames = slice_get frames (length frames - 1)
 
-abbrev pub closed : List Frame → List Frame
-closed frames = take (length frames - 1) frames
+abbrev pub frames_after_close : List Frame → List Frame
+frames_after_close frames = take (length frames - 1) frames

@@ -11,9 +11,10 @@ use Rattle.swi_dispatch_frames.specs.declared.frame.FrameKind.{FrameKind}
 use Rattle.swi_dispatch_frames.specs.declared.frame.FrameKind.TheVariants.{Swi, Entry}
 
 -- so many registers of the shared bank, from one on, get their words of a list
-abbrev pub restored : ℕ → ℕ → List ℕ → State → State
-restored n zero saved cpu = cpu
-restored n (suc count) saved cpu = restored (n + 1) count saved (with_register_in User cpu n (slice_index saved n))
+abbrev pub state_with_saved_words : ℕ → ℕ → List ℕ → State → State
+state_with_saved_words n zero saved cpu = cpu
+state_with_saved_words n (suc count) saved cpu = state_with_saved_words (n + 1) count saved
+    (with_register_in User cpu n (slice_index saved n))
 
 -- the first register that gets its old word
 abbrev pub first_restored : FrameKind → ℕ
@@ -21,10 +22,16 @@ first_restored Swi = 10
 first_restored (Entry kind) = 0
 
 abbrev pub status_left : FrameKind → Psr → Psr → Psr
-status_left Swi now caller = record caller { negative = now.negative; zero = now.zero; carry = now.carry; overflow = now.overflow }
+status_left Swi now caller = record caller {
+  negative = now.negative;
+  zero = now.zero;
+  carry = now.carry;
+  overflow = now.overflow;
+}
 status_left (Entry kind) now caller = caller
 
 unfoldable pub left : State → Frame → State
 left cpu f =
     let first : ℕ = first_restored f.kind in
-    with_pc (with_psr (restored first (13 - first) f.saved cpu) (status_left f.kind cpu.psr f.call.caller)) f.call.next
+    with_pc (with_psr (state_with_saved_words first (13 - first) f.saved cpu)
+    (status_left f.kind cpu.psr f.call.caller)) f.call.next

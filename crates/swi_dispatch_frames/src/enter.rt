@@ -1,7 +1,7 @@
 //! The core on its way into module code.
 
 ghost use Rattle.std.specs.Prelude.{◌≡◌, ◌<◌};
-ghost use Rattle.swi_dispatch_frames.specs.Entering.{entered, swi_entered, code_entered};
+ghost use Rattle.swi_dispatch_frames.specs.Entering.{state_after_entry, swi_entered, code_entered};
 
 use arm_core::profile::memory_map::RETURN_GATE;
 use arm_core::{Cpu, Mode};
@@ -34,7 +34,7 @@ pub fn enter_code(cpu: &mut Cpu, code: Code)
 
 // The core goes to an address in supervisor mode, and what is there returns to the gate.
 fn enter(cpu: &mut Cpu, at: u32)
-    ensures { cpu.new ≡ entered cpu.old at }
+    ensures { cpu.new ≡ state_after_entry cpu.old at }
 {
     cpu.set_mode(Mode::Supervisor);
     cpu.set_overflow(false);

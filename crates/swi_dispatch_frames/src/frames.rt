@@ -1,7 +1,7 @@
 //! The frames that are open.
 
 ghost use Rattle.std.specs.Prelude.{◌≡◌, ◌<◌, ◌≤◌, [], ◌∷◌, ◌++◌, None, Some, MatchOption, length};
-ghost use Rattle.swi_dispatch_frames.specs.Frames.{innermost, closed};
+ghost use Rattle.swi_dispatch_frames.specs.Frames.{innermost_frame, frames_after_close};
 
 use crate::frame::Frame;
 use arrayvec::ArrayVec;
@@ -61,14 +61,15 @@ impl Frames {
 
     /// The frame that was opened last, if one is open.
     pub fn innermost(&self) -> Option<&Frame>
-        ensures { MatchOption result (innermost self.now ≡ None) (λ frame. innermost self.now ≡ Some frame.now) }
+        ensures { MatchOption result (innermost_frame self.now ≡ None)
+            (λ frame. innermost_frame self.now ≡ Some frame.now) }
     {
         self.table.as_slice().last()
     }
 
     /// Closes the innermost frame, if one is open.
     pub fn close(&mut self)
-        ensures value { self.new ≡ closed self.old }
+        ensures value { self.new ≡ frames_after_close self.old }
         ensures room { length self.new < 32 }
     {
         self.table.pop();

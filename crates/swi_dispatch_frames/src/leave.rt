@@ -1,7 +1,7 @@
 //! The core on its way out of module code.
 
 ghost use Rattle.std.specs.Prelude.{◌≡◌, ◌≤◌, ◌-◌, length};
-ghost use Rattle.swi_dispatch_frames.specs.Leaving.{first_restored, left, restored, status_left};
+ghost use Rattle.swi_dispatch_frames.specs.Leaving.{first_restored, left, state_with_saved_words, status_left};
 
 use crate::frame::{Frame, FrameKind, SAVED_REGISTERS};
 use arm_core::{Cpu, Mode, Psr};
@@ -51,7 +51,7 @@ fn status_left(kind: FrameKind, now: Psr, caller: Psr) -> Psr
 #[tactic(auto, using(crate::proofs::Restoring::restoring))]
 fn restore(cpu: &mut Cpu, saved: &[u32; SAVED_REGISTERS], first: usize)
     requires { first ≤ 13 }
-    ensures { cpu.new ≡ restored first (13 - first) saved.now cpu.old }
+    ensures { cpu.new ≡ state_with_saved_words first (13 - first) saved.now cpu.old }
 {
     for number in first..SAVED_REGISTERS {
         cpu.set_register_in(Mode::User, number as u32, saved[number]);

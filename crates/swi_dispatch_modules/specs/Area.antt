@@ -5,8 +5,8 @@ use Rattle.profile.specs.Outcome.{bind}
 use Rattle.swi_dispatch_store.specs.swi_dispatch_answers.specs.arm_core.specs.State.{State, register_of, with_register}
 use Rattle.swi_dispatch_store.specs.swi_dispatch_answers.specs.declared.refusal.Refusal.{Refusal}
 use Rattle.swi_dispatch_store.specs.swi_dispatch_answers.specs.Refusals.{or_error}
-use Rattle.instances_ground.specs.rma.specs.Calls.{rma_described, rma_claimed, rma_freed, rma_extended}
-use Rattle.instances_ground.specs.World.{World}
+use Rattle.module_world.specs.rma.specs.Calls.{rma_described, rma_claimed, rma_freed, rma_extended}
+use Rattle.module_world.specs.World.{World}
 
 -- reason 5, describe: the largest block and all that is free go to R2 and R3
 abbrev pub with_room_told : State → ℕ × ℕ → State
@@ -18,11 +18,13 @@ area_described cpu w = Ok (with_room_told cpu (rma_described w.estate.store), w)
 -- reason 6, claim: R3 has the size, and R2 the block then
 abbrev pub block_claimed : State → World → Result (State × World) Refusal
 block_claimed cpu w =
-    bind (or_error (rma_claimed w.estate (register_of cpu 3))) (λ r. Ok (with_register cpu 2 r.1, record w { estate = r.0 }))
+    bind (or_error (rma_claimed w.estate (register_of cpu 3)))
+    (λ r. Ok (with_register cpu 2 r.1, record w { estate = r.0 }))
 
 -- reason 7, free: R2 has the block
-abbrev pub block_freed : State → World → Result (State × World) Refusal
-block_freed cpu w = bind (or_error (rma_freed w.estate (register_of cpu 2))) (λ r. Ok (cpu, record w { estate = r.0 }))
+abbrev pub rma_block_after_free : State → World → Result (State × World) Refusal
+rma_block_after_free cpu w = bind (or_error (rma_freed w.estate (register_of cpu 2)))
+    (λ r. Ok (cpu, record w { estate = r.0 }))
 
 -- reason 13, extend: R2 has the block, and where it lies then, or 0; R3 the change
 abbrev pub block_extended : State → World → Result (State × World) Refusal

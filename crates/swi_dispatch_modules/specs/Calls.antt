@@ -9,14 +9,14 @@ use Rattle.profile.specs.declared.reason.ModuleReason.TheVariants as reason
 use Rattle.swi_dispatch_store.specs.swi_dispatch_answers.specs.arm_core.specs.State.{State, register_of}
 use Rattle.swi_dispatch_store.specs.swi_dispatch_answers.specs.declared.refusal.Refusal.{Refusal}
 use Rattle.swi_dispatch_store.specs.swi_dispatch_answers.specs.Refusals.{system_error}
-use Rattle.instances_ground.specs.World.{World}
-use Rattle.swi_dispatch_modules.specs.Area.{area_described, block_claimed, block_extended, block_freed}
+use Rattle.module_world.specs.World.{World}
+use Rattle.swi_dispatch_modules.specs.Area.{area_described, block_claimed, block_extended, rma_block_after_free}
 use Rattle.swi_dispatch_modules.specs.Naming.{instance_found, instance_preferred, instance_renamed, instance_told}
 
 abbrev pub module_called_for : State → World → Option ModuleReason → Result (State × World) Refusal
 module_called_for cpu w (Some reason.DescribeArea) = area_described cpu w
 module_called_for cpu w (Some reason.Claim) = block_claimed cpu w
-module_called_for cpu w (Some reason.Free) = block_freed cpu w
+module_called_for cpu w (Some reason.Free) = rma_block_after_free cpu w
 module_called_for cpu w (Some reason.Info) = instance_told cpu w
 module_called_for cpu w (Some reason.Extend) = block_extended cpu w
 module_called_for cpu w (Some reason.Rename) = instance_renamed cpu w
@@ -24,5 +24,5 @@ module_called_for cpu w (Some reason.Prefer) = instance_preferred cpu w
 module_called_for cpu w (Some reason.Lookup) = instance_found cpu w
 module_called_for cpu w other = system_error ModuleBadReason
 
-unfoldable pub module_called : State → World → Result (State × World) Refusal
-module_called cpu w = module_called_for cpu w (module_reason (register_of cpu 0))
+unfoldable pub result_of_module_call : State → World → Result (State × World) Refusal
+result_of_module_call cpu w = module_called_for cpu w (module_reason (register_of cpu 0))

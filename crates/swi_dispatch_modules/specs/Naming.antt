@@ -10,10 +10,10 @@ use Rattle.swi_dispatch_store.specs.swi_dispatch_answers.specs.Refusals.{or_erro
 use Rattle.swi_dispatch_store.specs.swi_dispatch_answers.specs.Strings.{string_in}
 use Rattle.instances.specs.declared.answers.Found.{Found}
 use Rattle.instances.specs.declared.answers.Told.{Told}
-use Rattle.instances.specs.Reading.{found, told}
-use Rattle.instances_ground.specs.World.{World}
+use Rattle.instances.specs.Reading.{instance_looked_up, instance_info}
+use Rattle.module_world.specs.World.{World}
 use Rattle.instances_table.specs.declared.parts.Place.{Place}
-use Rattle.instances_table.specs.Changes.{preferring, renamed}
+use Rattle.instances_table.specs.Changes.{preferring, modules_after_rename}
 
 -- reason 12, information: R1 and R2 have the numbers of a module and of an instance, and those of
 -- the next instance then; R3 the address of the image, and R4 the value of the private word
@@ -22,14 +22,17 @@ place_asked cpu = record { number = register_of cpu 1; instance = register_of cp
 
 abbrev pub with_told : State → Told → State
 with_told cpu t =
-    with_register (with_register (with_register (with_register cpu 1 t.next.number) 2 t.next.instance) 3 t.image) 4 t.word
+    with_register (with_register
+    (with_register (with_register cpu 1 t.next.number) 2 t.next.instance) 3 t.image) 4 t.word
 
 abbrev pub instance_told : State → World → Result (State × World) Refusal
-instance_told cpu w = bind (or_error (told w.estate.store.bytes.at w.modules (place_asked cpu))) (λ t. Ok (with_told cpu t, w))
+instance_told cpu w = bind (or_error (instance_info w.estate.store.bytes.at w.modules (place_asked cpu)))
+    (λ t. Ok (with_told cpu t, w))
 
 -- reason 15, rename: R1 points to the full name of an instance, R2 to its new name
 abbrev pub named_anew : State → World → List ℕ → List ℕ → Result (State × World) ErrorNumber
-named_anew cpu w full new = bind (renamed w.modules full new) (λ modules. Ok (cpu, record w { modules = modules }))
+named_anew cpu w full new = bind (modules_after_rename w.modules full new)
+    (λ modules. Ok (cpu, record w { modules = modules }))
 
 abbrev pub instance_renamed : State → World → Result (State × World) Refusal
 instance_renamed cpu w =
@@ -38,7 +41,8 @@ instance_renamed cpu w =
 
 -- reason 16, prefer: R1 points to the full name of an instance
 abbrev pub made_preferred : State → World → List ℕ → Result (State × World) ErrorNumber
-made_preferred cpu w full = bind (preferring w.modules full) (λ modules. Ok (cpu, record w { modules = modules }))
+made_preferred cpu w full = bind (preferring w.modules full)
+    (λ modules. Ok (cpu, record w { modules = modules }))
 
 abbrev pub instance_preferred : State → World → Result (State × World) Refusal
 instance_preferred cpu w =
@@ -48,10 +52,12 @@ instance_preferred cpu w =
 -- reason 12
 abbrev pub with_found : State → Found → State
 with_found cpu f =
-    with_register (with_register (with_register (with_register cpu 1 f.place.number) 2 f.place.instance) 3 f.image) 4 f.word
+    with_register (with_register
+    (with_register (with_register cpu 1 f.place.number) 2 f.place.instance) 3 f.image) 4 f.word
 
 abbrev pub looked_for : State → World → List ℕ → Result (State × World) ErrorNumber
-looked_for cpu w full = bind (found w.estate.store.bytes.at w.modules full) (λ f. Ok (with_found cpu f, w))
+looked_for cpu w full = bind (instance_looked_up w.estate.store.bytes.at w.modules full)
+    (λ f. Ok (with_found cpu f, w))
 
 abbrev pub instance_found : State → World → Result (State × World) Refusal
 instance_found cpu w =

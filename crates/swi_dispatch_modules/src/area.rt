@@ -3,25 +3,26 @@
 
 ghost use Rattle.std.specs.Prelude.{◌≡◌, List};
 ghost use Rattle.profile.specs.Outcome.{Leaves};
-ghost use Rattle.instances_ground.specs.rma.specs.os_heap.specs.Store.{AreClasses, IsSound, store_of};
-ghost use Rattle.instances_ground.specs.rma.specs.dynamic_areas.specs.Areas.{Land};
-ghost use Rattle.instances_ground.specs.rma.specs.dynamic_areas.specs.Ground.{IsEstate, estate_of};
+ghost use Rattle.module_world.specs.rma.specs.os_heap.specs.Store.{AreClasses, IsSound, store_of};
+ghost use Rattle.module_world.specs.rma.specs.dynamic_areas.specs.Areas.{Land};
+ghost use Rattle.module_world.specs.rma.specs.dynamic_areas.specs.Ground.{IsEstate, estate_of};
 ghost use Rattle.instances_table.specs.Modules.{Module};
-ghost use Rattle.instances_ground.specs.World.{world_of};
+ghost use Rattle.module_world.specs.World.{world_of};
 ghost use Rattle.swi_dispatch_store.specs.Leaving.{LeavesSound};
-ghost use Rattle.swi_dispatch_modules.specs.Area.{area_described, block_claimed, block_extended, block_freed};
+ghost use Rattle.swi_dispatch_modules.specs.Area.{area_described, block_claimed, block_extended, rma_block_after_free};
 
 use arm_core::Cpu;
-use instances_ground::rma::Rma;
-use instances_ground::rma::address_map::AddressMap;
-use instances_ground::rma::dynamic_areas::Areas;
+use module_world::rma::Rma;
+use module_world::rma::address_map::AddressMap;
+use module_world::rma::dynamic_areas::Areas;
 use swi_dispatch_store::swi_dispatch_answers::Refusal;
 
 /// Reason 5: the largest free block and all that is free go to R2 and R3.
 pub(crate) fn describe_area(cpu: &mut Cpu, memory: &AddressMap) -> Result<(), Refusal>
     requires { IsSound (store_of memory.now) }
     ensures { (l : Land) (modules : List Module) → Leaves (cpu.old, world_of memory.now l modules)
-        (area_described cpu.old (world_of memory.now l modules)) result (cpu.new, world_of memory.now l modules) }
+        (area_described cpu.old (world_of memory.now l modules)) result
+        (cpu.new, world_of memory.now l modules) }
 {
     let (largest, free) = Rma::new().describe(memory)?;
     cpu.set_register(2, largest);
@@ -58,7 +59,7 @@ pub(crate) fn free_block(
     requires estate { IsEstate (estate_of memory.old areas.now) }
     requires classes { AreClasses memory.old }
     ensures state { (modules : List Module) → Leaves (cpu.old, world_of memory.old areas.now modules)
-        (block_freed cpu.old (world_of memory.old areas.now modules)) result
+        (rma_block_after_free cpu.old (world_of memory.old areas.now modules)) result
         (cpu.new, world_of memory.new areas.now modules) }
     ensures leaves { LeavesSound memory.old memory.new areas.now }
 {

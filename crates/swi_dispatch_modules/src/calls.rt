@@ -2,10 +2,10 @@
 
 ghost use Rattle.std.specs.Prelude.{◌≡◌};
 ghost use Rattle.profile.specs.Outcome.{Leaves};
-ghost use Rattle.instances_ground.specs.rma.specs.os_heap.specs.Store.{AreClasses};
-ghost use Rattle.instances_ground.specs.rma.specs.dynamic_areas.specs.Ground.{IsEstate, estate_of};
-ghost use Rattle.instances_ground.specs.World.{world_of};
-ghost use Rattle.swi_dispatch_modules.specs.Calls.{module_called};
+ghost use Rattle.module_world.specs.rma.specs.os_heap.specs.Store.{AreClasses};
+ghost use Rattle.module_world.specs.rma.specs.dynamic_areas.specs.Ground.{IsEstate, estate_of};
+ghost use Rattle.module_world.specs.World.{world_of};
+ghost use Rattle.swi_dispatch_modules.specs.Calls.{result_of_module_call};
 ghost use Rattle.swi_dispatch_modules.specs.Leaving.{LeavesWorld};
 
 use crate::area::{claim_block, describe_area, extend_block, free_block};
@@ -13,7 +13,7 @@ use crate::naming::{find_instance, prefer_instance, rename_instance, tell_instan
 use address_map::AddressMap;
 use arm_core::Cpu;
 use instances::Instances;
-use instances_ground::rma::dynamic_areas::Areas;
+use module_world::rma::dynamic_areas::Areas;
 use profile::{ErrorNumber, ModuleReason};
 use swi_dispatch_store::swi_dispatch_answers::Refusal;
 
@@ -24,7 +24,7 @@ use swi_dispatch_store::swi_dispatch_answers::Refusal;
 ///
 /// `ModuleBadReason` where it is none of these reasons, `BadString` where a string can't be read,
 /// else as the call of `rma` or of `instances` refuses it; nothing is changed then.
-#[tactic(auto, unfolding(crate::specs::Calls::module_called))]
+#[tactic(auto, unfolding(crate::specs::Calls::result_of_module_call))]
 pub fn call_module(
     cpu: &mut Cpu,
     memory: &mut AddressMap,
@@ -34,7 +34,7 @@ pub fn call_module(
     requires estate { IsEstate (estate_of memory.old areas.old) }
     requires classes { AreClasses memory.old }
     ensures state { Leaves (cpu.old, world_of memory.old areas.old instances.old)
-        (module_called cpu.old (world_of memory.old areas.old instances.old)) result
+        (result_of_module_call cpu.old (world_of memory.old areas.old instances.old)) result
         (cpu.new, world_of memory.new areas.new instances.new) }
     ensures leaves { LeavesWorld memory.old memory.new areas.old areas.new instances.old instances.new }
     ensures sizes { areas.new.sizes ≡ areas.old.sizes }

@@ -5,14 +5,14 @@ use Rattle.std.proofs.lemmas.Bool.{false≢true, true≢false}
 use Rattle.address_map.specs.Bytes.{Bytes}
 use Rattle.address_map.specs.declared.map.AddressMap.{AddressMap}
 use Rattle.address_map.specs.Memory.{Layout, byte_at, bytes_of, class_of, layout}
-use Rattle.instances_ground.specs.World.{World, world_of}
-use Rattle.instances_ground.specs.dynamic_areas.specs.Areas.{Land}
+use Rattle.module_world.specs.World.{World, world_of}
+use Rattle.module_world.specs.dynamic_areas.specs.Areas.{Land}
 use Rattle.instances_plans.specs.declared.code.Code.{Code}
 use Rattle.instances_plans.specs.declared.code.Ended.{Ended}
 use Rattle.instances_plans.specs.declared.code.Ended.TheVariants as ended
 use Rattle.instances_plans.specs.declared.code.Outcome.{Outcome as CodeOutcome}
-use Rattle.instances_plans.specs.Carrying.{Carried, carried}
-use Rattle.instances_plans.specs.Plans.{Plan, end_by, settled}
+use Rattle.instances_plans.specs.Carrying.{Carried, carry_of_plan}
+use Rattle.instances_plans.specs.Plans.{Plan, end_by, plan_after_code}
 use Rattle.instances_table.specs.Modules.{Module}
 use Rattle.os_heap.proofs.Frame.{IsKept, classes_same, heads_kept}
 use Rattle.os_heap.specs.Store.{AreClasses, IsSound, Store, store_of}
@@ -33,14 +33,14 @@ no_first (Some r) (inl is) = cc
 no_first (Some r) (inr is) = absurd (let never = is.1 in cc)
 
 pub error_in_code : (w v : World) (p q : Plan) (code : Option Code)
-    → carried module_doing w p ≡ record { world = v; rest = q; code = code }
+    → carry_of_plan module_doing w p ≡ record { world = v; rest = q; code = code }
     → is_some code ≡ true → None ≡ error_ahead w p
 unfolding error_ahead
 error_in_code w v p q None is some = absurd (false≢true some)
 error_in_code w v p q (Some c) is some = sym (ap (λ (x : Carried World). error_left x x.code) is)
 
 pub error_at_end : (w v : World) (p q : Plan) (code : Option Code) (r0 number : ℕ)
-    → carried module_doing w p ≡ record { world = v; rest = q; code = code }
+    → carry_of_plan module_doing w p ≡ record { world = v; rest = q; code = code }
     → is_some code ≡ false → end_by q.first ≡ ended.Own r0 → number ≡ error_at v.estate.store.bytes r0
     → Some number ≡ error_ahead w p
 unfolding error_ahead
@@ -50,7 +50,7 @@ error_at_end w v p q None r0 number is none own there =
     ∙ ap (option_map (error_at v.estate.store.bytes)) (own_first q.first r0 own))
 
 pub no_error_at_end : (w v : World) (p q : Plan) (code : Option Code) (end : Ended)
-    → carried module_doing w p ≡ record { world = v; rest = q; code = code } → is_some code ≡ false
+    → carry_of_plan module_doing w p ≡ record { world = v; rest = q; code = code } → is_some code ≡ false
     → end ≡ end_by q.first
     → (end ≡ ended.Well) ⊎ ((e : ErrorNumber) × (end ≡ ended.System e)) → None ≡ error_ahead w p
 unfolding error_ahead
@@ -87,8 +87,8 @@ copied_classes m n at same marks sound classes =
     classes_same m n (ap (λ (s : Store). s.heaps) (copied_kept m n at same marks sound).store) (λ a i. marks i a) classes
 
 pub tried : (w v : World) (p q : Plan) (o : CodeOutcome) (c : Carried World) → v ≡ w → q ≡ p
-    → carried module_doing v (settled q o) ≡ c
-    → carried module_doing w (settled p o) ≡ c
+    → carry_of_plan module_doing v (plan_after_code q o) ≡ c
+    → carry_of_plan module_doing w (plan_after_code p o) ≡ c
 tried w v p q o c world plan is =
-    ap (λ (x : World). carried module_doing x (settled p o)) (sym world)
-    ∙ ap (λ (x : Plan). carried module_doing v (settled x o)) (sym plan) ∙ is
+    ap (λ (x : World). carry_of_plan module_doing x (plan_after_code p o)) (sym world)
+    ∙ ap (λ (x : Plan). carry_of_plan module_doing v (plan_after_code x o)) (sym plan) ∙ is

@@ -2,11 +2,11 @@
 use Rattle.std.specs.Prelude.{◌≡◌, ◌<◌, ◌+◌, length, ℕ, true, false, IfOk, None, Result, List, [], ◌∷◌}
 use Rattle.std.specs.Prelude.{if◌then◌else◌}
 use Rattle.std.specs.List.{All}
-use Rattle.instances_ground.specs.Sound.{IsWorld}
-use Rattle.instances_ground.specs.dynamic_areas.specs.Ground.{IsEstate}
+use Rattle.module_world.specs.Sound.{IsWorld}
+use Rattle.module_world.specs.dynamic_areas.specs.Ground.{IsEstate}
 use Rattle.instances_plans.specs.Doable.{is_used}
 use Rattle.instances_plans.specs.Plans.{Plan}
-use Rattle.instances_table.specs.Changes.{titled}
+use Rattle.instances_table.specs.Changes.{modules_of_title}
 use Rattle.instances_table.specs.Modules.{Module, slots_of}
 use Rattle.module_header.specs.declared.fault.HeaderFault.{HeaderFault}
 use Rattle.module_header.specs.declared.header.Header.{Header}
@@ -53,7 +53,7 @@ pub record CanBegin (s : Setting) (p : Plan) : Type 0 where
 -- No SWI is under way of an instance of the module that one of a title, or one with a header, takes
 -- the place of.
 abbrev pub SparesTitled : Setting → List ℕ → Type 0
-SparesTitled s title = has_swi_of (slots_of (titled title s.world.modules)) s.frames ≡ false
+SparesTitled s title = has_swi_of (slots_of (modules_of_title title s.world.modules)) s.frames ≡ false
 
 abbrev pub SparesTitle : Setting → Result Header HeaderFault → Type 0
 SparesTitle s h = IfOk h (λ header. SparesTitled s header.title.items)

@@ -8,11 +8,11 @@ use Rattle.profile.specs.declared.error.ErrorNumber.{ErrorNumber}
 use Rattle.profile.specs.declared.error.ErrorNumber.TheVariants.{BadPointer, BadString, ImageUnknown, ModuleNotFound}
 use Rattle.address_map.specs.Bytes.{bytes_between}
 use Rattle.arm_core.specs.State.{register_of}
-use Rattle.image_loader.specs.Entries.{Entry, bytes_of}
-use Rattle.instances_ground.specs.rma.specs.Copies.{may_be_copied}
-use Rattle.instances_ground.specs.rma.specs.NewImages.{may_be_in_place}
+use Rattle.image_loader.specs.Entries.{Entry, bytes_of_image}
+use Rattle.module_world.specs.rma.specs.Copies.{may_be_copied}
+use Rattle.module_world.specs.rma.specs.NewImages.{may_be_in_place}
 use Rattle.instances_plans.specs.Plans.{Plan}
-use Rattle.instances_table.specs.Changes.{titled}
+use Rattle.instances_table.specs.Changes.{modules_of_title}
 use Rattle.instances_table.specs.Modules.{slots_of}
 use Rattle.module_header.specs.declared.fault.HeaderFault.{HeaderFault}
 use Rattle.module_header.specs.declared.header.Header.{Header}
@@ -28,7 +28,7 @@ use Rattle.swi_dispatch_plans.specs.Setting.{Setting, string_asked}
 -- A module that is added takes the place of an older one of its title, whose instances are
 -- finalised.
 abbrev pub may_replace : List ℕ → Setting → Result (Unit {0}) ErrorNumber
-may_replace title s = may_finalise (slots_of (titled title s.world.modules)) s
+may_replace title s = may_finalise (slots_of (modules_of_title title s.world.modules)) s
 
 -- A load that is to enter its module then may begin only while no module code is under way.
 abbrev pub may_load : Bool → List ℕ → Setting → Result (Unit {0}) ErrorNumber
@@ -46,7 +46,7 @@ loading_of (Err e) = Err e
 -- reasons 0 and 1, run and load: a string of the name of an image and a text
 unfoldable pub load_asked : List Entry → Setting → List ℕ → Bool → Result Loading ErrorNumber
 load_asked images s words must_be_alone =
-    bind (ok_or (bytes_of images (name_part words)) ImageUnknown) (λ image.
+    bind (ok_or (bytes_of_image images (name_part words)) ImageUnknown) (λ image.
     bind (good_header (header_of image)) (λ header.
     bind (may_load must_be_alone header.title.items s) (λ _.
     Ok (record { image = image; text = text_part words }))))
@@ -56,17 +56,17 @@ abbrev pub range_asked : Setting → ImageRange
 range_asked s = record { at = register_of s.cpu 1; len = register_of s.cpu 2 }
 
 -- the header of the image that stands in a range
-abbrev pub header_in : Setting → ℕ → ℕ → Result Header HeaderFault
-header_in s at len = header_of (bytes_between s.world.estate.store.bytes.at at len)
+abbrev pub image_header_in : Setting → ℕ → ℕ → Result Header HeaderFault
+image_header_in s at len = header_of (bytes_between s.world.estate.store.bytes.at at len)
 
 -- no SWI is under way of an instance of the module that it takes the place of
 abbrev pub SparesRange : Setting → ℕ → ℕ → Type 0
-SparesRange s at len = SparesTitle s (header_in s at len)
+SparesRange s at len = SparesTitle s (image_header_in s at len)
 
 -- that image may be added
 abbrev pub may_add : Setting → ImageRange → Result (Unit {0}) ErrorNumber
 may_add s range =
-    bind (good_header (header_in s range.at range.len)) (λ header.
+    bind (good_header (image_header_in s range.at range.len)) (λ header.
     may_replace header.title.items s)
 
 -- reason 10, insert: the image stays in place, and has to be one that may

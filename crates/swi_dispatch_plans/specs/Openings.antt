@@ -1,6 +1,7 @@
 -- OS_Module 2, enter: what it is given, what it refuses, and the core as a module is started (RISC
 -- OS 3 Programmer's Reference Manual, "OS_Module", reason 2; that no module code may be under way,
 -- and that R10 has the address of the text, are this project's own).
+use Rattle.profile.specs.MemoryMap.{environment_text_start}
 use Rattle.std.specs.Prelude.{ℕ, nat_lt, List, length, Result, Ok, Err, if◌then◌else◌}
 use Rattle.profile.specs.Outcome.{bind}
 use Rattle.profile.specs.declared.error.ErrorNumber.{ErrorNumber}
@@ -32,5 +33,6 @@ opening_asked s =
 -- of the private word.
 abbrev pub as_user : State → ℕ → ℕ → State
 as_user cpu at slot =
-    with_pc (with_register_in User (with_register_in User (with_psr cpu start_psr) 10 0x01C02200) 12 (private_of slot))
+    with_pc (with_register_in User (with_register_in User
+    (with_psr cpu start_psr) 10 environment_text_start) 12 (private_of slot))
     at

@@ -3,8 +3,8 @@ use Rattle.std.specs.Prelude.{ℕ, Option, Result, List}
 use Rattle.profile.specs.declared.error.ErrorNumber.{ErrorNumber}
 use Rattle.address_map.specs.declared.map.AddressMap.{AddressMap}
 use Rattle.arm_core.specs.State.{State}
-use Rattle.instances_ground.specs.World.{World, world_of}
-use Rattle.instances_ground.specs.dynamic_areas.specs.Areas.{Land}
+use Rattle.module_world.specs.World.{World, world_of}
+use Rattle.module_world.specs.dynamic_areas.specs.Areas.{Land}
 use Rattle.instances_plans.specs.Plans.{Plan}
 use Rattle.instances_table.specs.Modules.{Module}
 use Rattle.swi_dispatch_answers.specs.Strings.{string_in}
@@ -32,4 +32,9 @@ pub record PlanParts : Type 0 where
   pub plan : Option Plan
 
 abbrev pub setting_in : PlanParts → Setting
-setting_in p = record { cpu = p.cpu; world = world_of p.map p.land p.modules; frames = p.frames; plan = p.plan }
+setting_in p = record {
+  cpu = p.cpu;
+  world = world_of p.map p.land p.modules;
+  frames = p.frames;
+  plan = p.plan;
+}

@@ -12,9 +12,9 @@ ghost use Rattle.swi_dispatch_plans.specs.Setting.{setting_in};
 
 use crate::planner::Planner;
 use image_loader::Images;
-use instances_ground::rma::Rma;
 use instances_plans::Plan;
 use module_header::Header;
+use module_world::rma::Rma;
 use profile::ErrorNumber;
 use swi_dispatch_answers::words::{name_part, text_part};
 
@@ -49,7 +49,8 @@ impl<'a> Planner<'a> {
         words: &'b [u8],
         must_be_alone: bool,
     ) -> Result<Load<'b>, ErrorNumber>
-        ensures value { loading_of result ≡ load_asked images.now (setting_in self.now) words.now must_be_alone }
+        ensures value { loading_of result ≡ load_asked images.now
+            (setting_in self.now) words.now must_be_alone }
         ensures free { IfOk result (λ _. IsFree (setting_in self.now)) }
         ensures spared { IfOk result (λ load. SparesTitle (setting_in self.now) (header_of load.image.now)) }
         ensures short { IfOk result (λ load. length load.text.now ≤ length words.now) }

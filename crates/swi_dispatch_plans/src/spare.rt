@@ -4,14 +4,14 @@
 ghost use Rattle.std.specs.Prelude.{◌≡◌, IfOk};
 ghost use Rattle.profile.specs.Sizes.{AreGood};
 ghost use Rattle.os_heap.specs.Store.{AreClasses};
-ghost use Rattle.instances_plans.specs.Plans.{settled};
-ghost use Rattle.instances_ground.specs.World.{world_of};
+ghost use Rattle.instances_plans.specs.Plans.{plan_after_code};
+ghost use Rattle.module_world.specs.World.{world_of};
 ghost use Rattle.swi_dispatch_modules.specs.instances.specs.Turns.{IsUnderWay};
 ghost use Rattle.swi_dispatch_plans.specs.Trials.{error_ahead};
 
 use address_map::AddressMap;
-use instances_ground::dynamic_areas::{Areas, areas_count_pages};
 use instances_plans::{Ended, Outcome, Plan};
+use module_world::dynamic_areas::{Areas, areas_count_pages};
 use profile::Config;
 use std::alloc::{AllocError, Global};
 use std::marker::Model;
@@ -76,7 +76,8 @@ impl Spare {
         requires going { IsUnderWay (world_of memory.now areas.now instances.now) plan.now }
         requires classes { AreClasses memory.now }
         requires sizes { areas.now.sizes ≡ self.old }
-        ensures error { result ≡ error_ahead (world_of memory.now areas.now instances.now) (settled plan.now outcome) }
+        ensures error { result ≡ error_ahead (world_of memory.now areas.now instances.now)
+            (plan_after_code plan.now outcome) }
         ensures same { self.new ≡ self.old }
     {
         areas_count_pages();

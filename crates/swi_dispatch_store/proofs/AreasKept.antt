@@ -1,4 +1,5 @@
 -- Calls on areas keep the flex store, and all ranges that are recorded.
+use Rattle.profile.specs.MemoryMap.{module_area_start}
 use Rattle.std.proofs.Common.{◌≡◌, ℕ, ◌*◌, ◌==◌, Option, Some, None, Result, Ok, Err, List, refl, sym, ap, ◌∙◌, inl, inr}
 use Rattle.std.specs.Prelude.{MatchResult}
 use Rattle.std.proofs.lemmas.Bool.{cases_Bool}
@@ -8,18 +9,18 @@ use Rattle.address_map.specs.Memory.{free_pages}
 use Rattle.address_map.specs.declared.map.AddressMap.{AddressMap}
 use Rattle.os_heap.specs.os_heap_lists.specs.Heap.{HeapList}
 use Rattle.os_heap.specs.Store.{Store, find_heap, store_of}
-use Rattle.flex_kept.specs.dynamic_areas.specs.declared.area.Area.{Area}
-use Rattle.flex_kept.specs.dynamic_areas.specs.declared.area.Changed.{Changed}
-use Rattle.flex_kept.specs.dynamic_areas.specs.declared.area.Created.{Created}
-use Rattle.flex_kept.specs.dynamic_areas.specs.declared.area.Wanted.{Wanted}
-use Rattle.flex_kept.specs.dynamic_areas.specs.Areas.{Land, find_area}
-use Rattle.flex_kept.specs.dynamic_areas.specs.Changing.{change_answer, ended_by, is_growth, removed, store_changed, store_emptied, store_extended, store_less, store_more, store_reduced, with_heap_end}
-use Rattle.flex_kept.specs.dynamic_areas.specs.Creating.{created, pages_for}
-use Rattle.flex_kept.specs.dynamic_areas.specs.Ground.{AreAreas, estate_of}
-use Rattle.flex_kept.specs.dynamic_areas.specs.Remapped.{with_pages_at}
-use Rattle.flex_kept.proofs.Areas.{area_changed_keeps, created_keeps, removed_keeps}
-use Rattle.flex_kept.proofs.Keeping.{keeps_equal}
-use Rattle.flex_kept.specs.Keeping.{KeepsFlex}
+use Rattle.flex_frame.specs.dynamic_areas.specs.declared.area.Area.{Area}
+use Rattle.flex_frame.specs.dynamic_areas.specs.declared.area.Changed.{Changed}
+use Rattle.flex_frame.specs.dynamic_areas.specs.declared.area.Created.{Created}
+use Rattle.flex_frame.specs.dynamic_areas.specs.declared.area.Wanted.{Wanted}
+use Rattle.flex_frame.specs.dynamic_areas.specs.Areas.{Land, find_area}
+use Rattle.flex_frame.specs.dynamic_areas.specs.Changing.{change_answer, store_after_end, is_growth, land_after_remove, store_changed, store_emptied, store_extended, store_less, store_more, store_reduced, with_heap_end}
+use Rattle.flex_frame.specs.dynamic_areas.specs.Creating.{land_after_create, pages_for}
+use Rattle.flex_frame.specs.dynamic_areas.specs.Ground.{AreAreas, estate_of}
+use Rattle.flex_frame.specs.dynamic_areas.specs.Remapped.{with_pages_at}
+use Rattle.flex_frame.proofs.Areas.{area_changed_keeps, created_keeps, removed_keeps}
+use Rattle.flex_frame.proofs.Keeping.{keeps_equal}
+use Rattle.flex_frame.specs.Keeping.{KeepsFlex}
 
 pub record AreKept (s t : Store) : Type 0 where
   pub flex : KeepsFlex s t
@@ -29,11 +30,11 @@ same_kept : (s t : Store) → t ≡ s → AreKept s t
 same_kept s t same = record { flex = keeps_equal s t same; others = ap (λ (u : Store). u.others) same }
 
 pub created_kept : (m n : AddressMap) (l k : Land) (w : Wanted) (name : List ℕ) (x : Result Created ErrorNumber)
-    → AreAreas (store_of m) (free_pages m) l → AreAreas (store_of n) (free_pages n) k → Gives l (created l (free_pages m) w name) x k
+    → AreAreas (store_of m) (free_pages m) l → AreAreas (store_of n) (free_pages n) k → Gives l (land_after_create l (free_pages m) w name) x k
     → MatchResult x (λ made. store_of n ≡ with_pages_at (store_of m) made.base (4096 * pages_for w.size)) (λ _. store_of n ≡ store_of m)
     → AreKept (store_of m) (store_of n)
-created_kept m n l k w name x areas areas' gives store = by x (created l (free_pages m) w name) refl gives store where
-  by : (x : Result Created ErrorNumber) (r : Result (Land × Created) ErrorNumber) → created l (free_pages m) w name ≡ r → Gives l r x k
+created_kept m n l k w name x areas areas' gives store = by x (land_after_create l (free_pages m) w name) refl gives store where
+  by : (x : Result Created ErrorNumber) (r : Result (Land × Created) ErrorNumber) → land_after_create l (free_pages m) w name ≡ r → Gives l r x k
       → MatchResult x (λ made. store_of n ≡ with_pages_at (store_of m) made.base (4096 * pages_for w.size)) (λ _. store_of n ≡ store_of m)
       → AreKept (store_of m) (store_of n)
   by (Ok made) (Ok r) is gives store = record {
@@ -48,11 +49,11 @@ emptied_others s None = refl
 emptied_others s (Some a) = refl
 
 pub removed_kept : (m n : AddressMap) (l k : Land) (number : ℕ) (x : Result (Unit {0}) ErrorNumber) → AreAreas (store_of m) (free_pages m) l
-    → AreAreas (store_of n) (free_pages n) k → Leaves {U = Unit {0}} l (removed l (store_of m) number) x k
+    → AreAreas (store_of n) (free_pages n) k → Leaves {U = Unit {0}} l (land_after_remove l (store_of m) number) x k
     → MatchResult x (λ _. store_of n ≡ store_emptied (store_of m) (find_area number l.areas)) (λ _. store_of n ≡ store_of m)
     → AreKept (store_of m) (store_of n)
-removed_kept m n l k number x areas areas' leaves store = by x (removed l (store_of m) number) refl leaves store where
-  by : (x : Result (Unit {0}) ErrorNumber) (r : Result Land ErrorNumber) → removed l (store_of m) number ≡ r → Leaves {U = Unit {0}} l r x k
+removed_kept m n l k number x areas areas' leaves store = by x (land_after_remove l (store_of m) number) refl leaves store where
+  by : (x : Result (Unit {0}) ErrorNumber) (r : Result Land ErrorNumber) → land_after_remove l (store_of m) number ≡ r → Leaves {U = Unit {0}} l r x k
       → MatchResult x (λ _. store_of n ≡ store_emptied (store_of m) (find_area number l.areas)) (λ _. store_of n ≡ store_of m)
       → AreKept (store_of m) (store_of n)
   by (Ok u) (Ok r) is leaves store = record {
@@ -70,19 +71,19 @@ less_others : (s : Store) (count : ℕ) (o : Option Area) → (store_less s coun
 less_others s count None = refl
 less_others s count (Some a) = refl
 
-ended_others : (s : Store) (end : ℕ) (o : Option HeapList) → (ended_by s end o).others ≡ s.others
+ended_others : (s : Store) (end : ℕ) (o : Option HeapList) → (store_after_end s end o).others ≡ s.others
 ended_others s end None = refl
 ended_others s end (Some h) = refl
 
 extended_others : (s : Store) (number count : ℕ) (o : Option Area) → (store_extended s number count o).others ≡ s.others
 extended_others s number count o = elim (cases_Bool (number == 1)) [
-  | inl own ↦ rw own (ended_others (store_more s count o) _ (find_heap 0x01800000 (store_more s count o).heaps) ∙ more_others s count o)
+  | inl own ↦ rw own (ended_others (store_more s count o) _ (find_heap module_area_start (store_more s count o).heaps) ∙ more_others s count o)
   | inr other ↦ rw other (more_others s count o)
 ]
 
 reduced_others : (s : Store) (number count : ℕ) (o : Option Area) → (store_reduced s number count o).others ≡ s.others
 reduced_others s number count o = elim (cases_Bool (number == 1)) [
-  | inl own ↦ rw own (less_others (with_heap_end s _) count o ∙ ended_others s _ (find_heap 0x01800000 s.heaps))
+  | inl own ↦ rw own (less_others (with_heap_end s _) count o ∙ ended_others s _ (find_heap module_area_start s.heaps))
   | inr other ↦ rw other (less_others s count o)
 ]
 

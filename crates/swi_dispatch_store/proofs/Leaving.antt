@@ -4,15 +4,15 @@ use Rattle.profile.specs.Outcome.{Gives}
 use Rattle.profile.specs.declared.error.ErrorNumber.{ErrorNumber}
 use Rattle.address_map.specs.declared.map.AddressMap.{AddressMap}
 use Rattle.address_map.specs.Memory.{layout, mapping}
-use Rattle.os_heap.specs.Calls.{begun, changed, gave_back, resized}
+use Rattle.os_heap.specs.Calls.{store_after_init, store_after_change, gave_back, store_after_resize}
 use Rattle.os_heap.specs.Store.{AreClasses, IsSound, store_of}
 use Rattle.os_heap.proofs.Frame.{layout-others}
-use Rattle.flex_kept.specs.dynamic_areas.proofs.HeapCalls.{areas_begun, areas_changed, areas_freed, areas_resized, areas_written}
-use Rattle.flex_kept.proofs.Heaps.{begun_keeps, changed_keeps, freed_keeps, resized_keeps}
-use Rattle.flex_kept.proofs.Keeping.{keeps_same}
-use Rattle.flex_kept.specs.Keeping.{KeepsFlex}
-use Rattle.flex_kept.specs.dynamic_areas.specs.Areas.{Land}
-use Rattle.flex_kept.specs.dynamic_areas.specs.Ground.{IsEstate, estate_of}
+use Rattle.flex_frame.specs.dynamic_areas.proofs.HeapCalls.{areas_begun, areas_changed, areas_freed, areas_resized, areas_written}
+use Rattle.flex_frame.proofs.Heaps.{begun_keeps, changed_keeps, freed_keeps, resized_keeps}
+use Rattle.flex_frame.proofs.Keeping.{keeps_same}
+use Rattle.flex_frame.specs.Keeping.{KeepsFlex}
+use Rattle.flex_frame.specs.dynamic_areas.specs.Areas.{Land}
+use Rattle.flex_frame.specs.dynamic_areas.specs.Ground.{IsEstate, estate_of}
 use Rattle.swi_dispatch_store.specs.Leaving.{LeavesAreas, LeavesSound}
 
 -- what moves no page and changes no record
@@ -35,7 +35,7 @@ leaves_all m classes = λ l estate. leaves_memory m l estate classes
 -- what makes a heap, and what gives one another end
 pub leaves_begun : (m n : AddressMap) (heap size : ℕ) (r : Result (Unit {0}) ErrorNumber) → IsSound (store_of m) → IsSound (store_of n)
     → AreClasses n → (store_of n).others ≡ (store_of m).others → mapping n ≡ mapping m
-    → Gives (store_of m) (begun (store_of m) heap size) r (store_of n) → LeavesAreas m n
+    → Gives (store_of m) (store_after_init (store_of m) heap size) r (store_of n) → LeavesAreas m n
 leaves_begun m n heap size r sound sound' classes others same gives = λ l estate. record {
   estate = areas_begun m n l estate sound' others same heap size r gives;
   classes = classes;
@@ -45,7 +45,7 @@ leaves_begun m n heap size r sound sound' classes others same gives = λ l estat
 
 pub leaves_changed : (m n : AddressMap) (heap change : ℕ) (r : Result (Unit {0}) ErrorNumber) → IsSound (store_of m) → IsSound (store_of n)
     → AreClasses n → (store_of n).others ≡ (store_of m).others → mapping n ≡ mapping m
-    → Gives (store_of m) (changed (store_of m) heap change) r (store_of n) → LeavesAreas m n
+    → Gives (store_of m) (store_after_change (store_of m) heap change) r (store_of n) → LeavesAreas m n
 leaves_changed m n heap change r sound sound' classes others same gives = λ l estate. record {
   estate = areas_changed m n l estate sound' others same heap change r gives;
   classes = classes;
@@ -66,7 +66,7 @@ leaves_freed m n heap block r sound sound' classes others same gives = λ l esta
 
 pub leaves_resized : (m n : AddressMap) (heap block change : ℕ) (r : Result ℕ ErrorNumber) → IsSound (store_of m) → IsSound (store_of n)
     → AreClasses n → (store_of n).others ≡ (store_of m).others → mapping n ≡ mapping m
-    → Gives (store_of m) (resized (store_of m) heap block change) r (store_of n) → LeavesAreas m n
+    → Gives (store_of m) (store_after_resize (store_of m) heap block change) r (store_of n) → LeavesAreas m n
 leaves_resized m n heap block change r sound sound' classes others same gives = λ l estate. record {
   estate = areas_resized m n l estate sound' others same heap block change r gives;
   classes = classes;

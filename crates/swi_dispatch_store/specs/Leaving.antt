@@ -2,9 +2,9 @@
 use Rattle.std.specs.Prelude.{◌≡◌}
 use Rattle.address_map.specs.declared.map.AddressMap.{AddressMap}
 use Rattle.os_heap.specs.Store.{AreClasses, Store, store_of}
-use Rattle.flex_kept.specs.dynamic_areas.specs.Areas.{Land}
-use Rattle.flex_kept.specs.dynamic_areas.specs.Ground.{IsEstate, estate_of}
-use Rattle.flex_kept.specs.Keeping.{KeepsFlex}
+use Rattle.flex_frame.specs.dynamic_areas.specs.Areas.{Land}
+use Rattle.flex_frame.specs.dynamic_areas.specs.Ground.{IsEstate, estate_of}
+use Rattle.flex_frame.specs.Keeping.{KeepsFlex}
 
 -- Memory and areas after a call: the areas stand on the memory, the marked words are those of the
 -- heaps' lists, the other recorded ranges and the flex store are as before.

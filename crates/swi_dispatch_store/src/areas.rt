@@ -4,15 +4,15 @@
 ghost use Rattle.std.specs.Prelude.{◌≡◌, Some, None, Err};
 ghost use Rattle.profile.specs.Outcome.{Leaves};
 ghost use Rattle.os_heap.specs.Store.{AreClasses};
-ghost use Rattle.flex_kept.specs.dynamic_areas.specs.Changing.{change_answer, land_changed, store_changed};
-ghost use Rattle.flex_kept.specs.dynamic_areas.specs.Ground.{IsEstate, estate_of};
-ghost use Rattle.flex_kept.specs.dynamic_areas.specs.Rooms.{IsAreaTable};
+ghost use Rattle.flex_frame.specs.dynamic_areas.specs.Changing.{change_answer, land_changed, store_changed};
+ghost use Rattle.flex_frame.specs.dynamic_areas.specs.Ground.{IsEstate, estate_of};
+ghost use Rattle.flex_frame.specs.dynamic_areas.specs.Rooms.{IsAreaTable};
 ghost use Rattle.swi_dispatch_store.specs.Areas.{area_called, area_changed, area_created, area_enumerated, area_named, area_read, area_removed, area_renumbered, area_told, change_asked, wanted_of, with_land};
 ghost use Rattle.swi_dispatch_store.specs.Leaving.{LeavesSound};
 
 use address_map::AddressMap;
 use arm_core::Cpu;
-use flex_kept::dynamic_areas::{Areas, Changed, Wanted};
+use flex_frame::dynamic_areas::{Areas, Changed, Wanted};
 use profile::memory_map::PAGE_SIZE;
 use profile::{AreaReason, ErrorNumber};
 use swi_dispatch_answers::strings::text_at;
@@ -27,7 +27,8 @@ use swi_dispatch_answers::{MAX_TEXT, Refusal, TextEnd};
 pub fn read_area(cpu: &mut Cpu, memory: &AddressMap, areas: &Areas) -> Result<(), Refusal>
     requires { IsAreaTable areas.now.areas }
     ensures { Leaves (cpu.old, estate_of memory.now areas.now)
-        (area_read cpu.old (estate_of memory.now areas.now)) result (cpu.new, estate_of memory.now areas.now) }
+        (area_read cpu.old (estate_of memory.now areas.now)) result
+        (cpu.new, estate_of memory.now areas.now) }
 {
     let word = cpu.register(0);
     let extent = areas.read(word)?;
@@ -51,7 +52,8 @@ pub fn call_area(cpu: &mut Cpu, memory: &mut AddressMap, areas: &mut Areas) -> R
     requires estate { IsEstate (estate_of memory.old areas.old) }
     requires classes { AreClasses memory.old }
     ensures state { Leaves (cpu.old, estate_of memory.old areas.old)
-        (area_called cpu.old (estate_of memory.old areas.old)) result (cpu.new, estate_of memory.new areas.new) }
+        (area_called cpu.old (estate_of memory.old areas.old)) result
+        (cpu.new, estate_of memory.new areas.new) }
     ensures leaves { LeavesSound memory.old memory.new areas.new }
     ensures sizes { areas.new.sizes ≡ areas.old.sizes }
 {
@@ -71,7 +73,8 @@ fn create_area(cpu: &mut Cpu, memory: &mut AddressMap, areas: &mut Areas) -> Res
     requires estate { IsEstate (estate_of memory.old areas.old) }
     requires classes { AreClasses memory.old }
     ensures state { Leaves (cpu.old, estate_of memory.old areas.old)
-        (area_created cpu.old (estate_of memory.old areas.old)) result (cpu.new, estate_of memory.new areas.new) }
+        (area_created cpu.old (estate_of memory.old areas.old)) result
+        (cpu.new, estate_of memory.new areas.new) }
     ensures leaves { LeavesSound memory.old memory.new areas.new }
     ensures sizes { areas.new.sizes ≡ areas.old.sizes }
 {
@@ -134,7 +137,8 @@ fn remove_area(cpu: &mut Cpu, memory: &mut AddressMap, areas: &mut Areas) -> Res
     requires estate { IsEstate (estate_of memory.old areas.old) }
     requires classes { AreClasses memory.old }
     ensures state { Leaves (cpu.old, estate_of memory.old areas.old)
-        (area_removed cpu.old (estate_of memory.old areas.old)) result (cpu.new, estate_of memory.new areas.new) }
+        (area_removed cpu.old (estate_of memory.old areas.old)) result
+        (cpu.new, estate_of memory.new areas.new) }
     ensures leaves { LeavesSound memory.old memory.new areas.new }
     ensures sizes { areas.new.sizes ≡ areas.old.sizes }
 {
@@ -146,7 +150,8 @@ fn remove_area(cpu: &mut Cpu, memory: &mut AddressMap, areas: &mut Areas) -> Res
 fn tell_area(cpu: &mut Cpu, memory: &AddressMap, areas: &Areas) -> Result<(), Refusal>
     requires estate { IsEstate (estate_of memory.now areas.now) }
     ensures { Leaves (cpu.old, estate_of memory.now areas.now)
-        (area_told cpu.old (estate_of memory.now areas.now)) result (cpu.new, estate_of memory.now areas.now) }
+        (area_told cpu.old (estate_of memory.now areas.now)) result
+        (cpu.new, estate_of memory.now areas.now) }
 {
     let number = cpu.register(1);
     let area = areas.info(number)?;
@@ -161,7 +166,8 @@ fn tell_area(cpu: &mut Cpu, memory: &AddressMap, areas: &Areas) -> Result<(), Re
 
 fn next_area(cpu: &mut Cpu, memory: &AddressMap, areas: &Areas) -> Result<(), Refusal>
     ensures { Leaves (cpu.old, estate_of memory.now areas.now)
-        (area_enumerated cpu.old (estate_of memory.now areas.now)) result (cpu.new, estate_of memory.now areas.now) }
+        (area_enumerated cpu.old (estate_of memory.now areas.now)) result
+        (cpu.new, estate_of memory.now areas.now) }
 {
     let number = cpu.register(1);
     let next = areas.next(number)?;
@@ -172,7 +178,8 @@ fn next_area(cpu: &mut Cpu, memory: &AddressMap, areas: &Areas) -> Result<(), Re
 fn renumber_area(cpu: &mut Cpu, memory: &AddressMap, areas: &mut Areas) -> Result<(), Refusal>
     requires estate { IsEstate (estate_of memory.now areas.old) }
     ensures state { Leaves (cpu.old, estate_of memory.now areas.old)
-        (area_renumbered cpu.old (estate_of memory.now areas.old)) result (cpu.new, estate_of memory.now areas.new) }
+        (area_renumbered cpu.old (estate_of memory.now areas.old)) result
+        (cpu.new, estate_of memory.now areas.new) }
     ensures estate { IsEstate (estate_of memory.now areas.new) }
     ensures sizes { areas.new.sizes ≡ areas.old.sizes }
 {
@@ -189,7 +196,8 @@ pub fn change_area(cpu: &mut Cpu, memory: &mut AddressMap, areas: &mut Areas) ->
     requires estate { IsEstate (estate_of memory.old areas.old) }
     requires classes { AreClasses memory.old }
     ensures error { result ≡ (change_asked cpu.old (estate_of memory.old areas.old)).error }
-    ensures state { (cpu.new, estate_of memory.new areas.new) ≡ area_changed cpu.old (estate_of memory.old areas.old) }
+    ensures state { (cpu.new, estate_of memory.new areas.new)
+        ≡ area_changed cpu.old (estate_of memory.old areas.old) }
     ensures leaves { LeavesSound memory.old memory.new areas.new }
     ensures sizes { areas.new.sizes ≡ areas.old.sizes }
 {
@@ -209,7 +217,8 @@ fn resize_area(memory: &mut AddressMap, areas: &mut Areas, number: u32, amount: 
     ensures answer { let e = estate_of memory.old areas.old in
         result ≡ change_answer e.land.areas e.store e.pool number amount }
     ensures estate { let e = estate_of memory.old areas.old in
-        estate_of memory.new areas.new ≡ with_land (store_changed e.store e.land.areas number amount result.bytes)
+        estate_of memory.new areas.new
+        ≡ with_land (store_changed e.store e.land.areas number amount result.bytes)
         (land_changed e.land number amount result.bytes) }
     ensures leaves { LeavesSound memory.old memory.new areas.new }
     ensures sizes { areas.new.sizes ≡ areas.old.sizes }

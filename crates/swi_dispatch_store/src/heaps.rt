@@ -3,7 +3,7 @@
 ghost use Rattle.std.specs.Prelude.{◌≡◌};
 ghost use Rattle.profile.specs.Outcome.{Leaves};
 ghost use Rattle.os_heap.specs.Store.{AreClasses, IsSound, store_of};
-ghost use Rattle.swi_dispatch_store.specs.Heaps.{block_freed, block_got, block_measured, block_resized, heap_begun, heap_called, heap_described, heap_resized};
+ghost use Rattle.swi_dispatch_store.specs.Heaps.{heap_block_after_free, block_got, block_measured, block_resized, heap_begun, heap_called, heap_described, heap_resized};
 ghost use Rattle.swi_dispatch_store.specs.Leaving.{LeavesAreas};
 
 use address_map::AddressMap;
@@ -82,7 +82,7 @@ fn free_block(cpu: &mut Cpu, memory: &mut AddressMap) -> Result<(), Refusal>
     requires sound { IsSound (store_of memory.old) }
     requires classes { AreClasses memory.old }
     ensures state { Leaves (cpu.old, store_of memory.old)
-        (block_freed cpu.old (store_of memory.old)) result (cpu.new, store_of memory.new) }
+        (heap_block_after_free cpu.old (store_of memory.old)) result (cpu.new, store_of memory.new) }
     ensures leaves { LeavesAreas memory.old memory.new }
 {
     let heap = cpu.register(1);

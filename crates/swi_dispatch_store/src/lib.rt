@@ -11,6 +11,6 @@ pub mod areas;
 pub mod heaps;
 
 pub use areas::{call_area, change_area, change_error, read_area};
-pub use flex_kept::dynamic_areas;
+pub use flex_frame::dynamic_areas;
 pub use heaps::call_heap;
 pub use swi_dispatch_answers;

@@ -4,7 +4,7 @@ use Rattle.std.specs.Prelude.{min}
 use Rattle.std.proofs.lemmas.List.{at_drop_more, at_drop_all}
 use Rattle.profile.proofs.OutputLemmas.{AddsAllBut-start, AddsAllBut-more, AddsAllBut-same, Appends-from_all_but}
 use Rattle.profile.specs.Digits.{hex_number}
-use Rattle.view_pictures.specs.Bars.{addresses, blanks_after, digits_at, end_digits, further, has_changed, has_room, mark_of, marks}
+use Rattle.view_pictures.specs.Bars.{addresses, blanks_after_box, digits_at, end_digits, place_further, has_changed, has_room, box_mark, box_marks}
 use Rattle.view_pictures.specs.Bars.{written_with}
 use Rattle.view_pictures.specs.Layout.{height_of, spot, spots_from}
 use Rattle.view_pictures.specs.declared.boxes.PictureBox.{PictureBox}
@@ -21,20 +21,20 @@ pub spots_end : (total top : ℕ) (boxes : List PictureBox) (place : ℕ) → le
 spots_end total top boxes place all = at_drop_all (spots_from total top) boxes place all
 
 pub marks_more : (blanks : ℕ) (boxes : List Drawn) (place : ℕ) (d : Drawn) → place < length boxes
-    → marks blanks (drop place boxes)
-    ≡ mark_of (has_changed (get_or boxes place d)) (get_or boxes place d).width blanks
-    ++ marks (blanks_after (has_changed (get_or boxes place d)) (get_or boxes place d).width blanks) (drop (place + 1) boxes)
-marks_more blanks boxes place d within = at_drop_more (marks blanks) boxes place d within
+    → box_marks blanks (drop place boxes)
+    ≡ box_mark (has_changed (get_or boxes place d)) (get_or boxes place d).width blanks
+    ++ box_marks (blanks_after_box (has_changed (get_or boxes place d)) (get_or boxes place d).width blanks) (drop (place + 1) boxes)
+marks_more blanks boxes place d within = at_drop_more (box_marks blanks) boxes place d within
 
-pub marks_end : (blanks : ℕ) (boxes : List Drawn) (place : ℕ) → length boxes ≤ place → marks blanks (drop place boxes) ≡ []
-marks_end blanks boxes place all = at_drop_all (marks blanks) boxes place all
+pub marks_end : (blanks : ℕ) (boxes : List Drawn) (place : ℕ) → length boxes ≤ place → box_marks blanks (drop place boxes) ≡ []
+marks_end blanks boxes place all = at_drop_all (box_marks blanks) boxes place all
 
 pub addresses_more : (end : Option ℕ) (written place : ℕ) (boxes : List Drawn) (n : ℕ) (d : Drawn) → n < length boxes
     → addresses end written place (drop n boxes)
     ≡ digits_at (has_room written place (get_or boxes n d).own) written place (hex_number (get_or boxes n d).own.address)
     ++ addresses end
     (written_with (has_room written place (get_or boxes n d).own) written place (hex_number (get_or boxes n d).own.address))
-    (further (further place (get_or boxes n d).width) 1) (drop (n + 1) boxes)
+    (place_further (place_further place (get_or boxes n d).width) 1) (drop (n + 1) boxes)
 addresses_more end written place boxes n d within = at_drop_more (addresses end written place) boxes n d within
 
 pub addresses_end : (end : Option ℕ) (written place : ℕ) (boxes : List Drawn) (n : ℕ) → length boxes ≤ n

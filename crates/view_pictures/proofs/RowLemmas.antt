@@ -3,7 +3,7 @@ use Rattle.std.proofs.Common.{◌≡◌, ◌≤◌, ◌<◌, ◌+◌, ◌-◌, �
 use Rattle.std.proofs.Common.{refl, ap, arith}
 use Rattle.std.specs.Prelude.{◌||◌}
 use Rattle.profile.proofs.OutputLemmas.{AddsAllBut-start, AddsAllBut-more, AddsAllBut-same, Appends-from_all_but}
-use Rattle.view_pictures.specs.RowMarks.{any_from, blanks_after, mark_of, marks}
+use Rattle.view_pictures.specs.RowMarks.{any_from, blanks_after_byte, byte_mark, byte_marks}
 use Rattle.view_pictures.specs.Rows.{is_changed}
 use Rattle.view_pictures.specs.declared.rows.GridRow.{GridRow}
 
@@ -22,21 +22,21 @@ unfolding any_from
 any_end is number all = let none : 16 - number ≡ 0 = omega (arith, all) in rw none refl
 
 marks_next : (left : ℕ) (r : GridRow) (number blanks : ℕ)
-    → marks (suc left) r number blanks
-    ≡ mark_of (is_changed number r) blanks ++ marks left r (number + 1) (blanks_after (is_changed number r) blanks)
-unfolding marks
+    → byte_marks (suc left) r number blanks
+    ≡ byte_mark (is_changed number r) blanks ++ byte_marks left r (number + 1) (blanks_after_byte (is_changed number r) blanks)
+unfolding byte_marks
 marks_next left r number blanks = refl
 
 pub marks_more : (r : GridRow) (number blanks : ℕ) → number < 16
-    → marks (16 - number) r number blanks
-    ≡ mark_of (is_changed number r) blanks
-    ++ marks (16 - (number + 1)) r (number + 1) (blanks_after (is_changed number r) blanks)
+    → byte_marks (16 - number) r number blanks
+    ≡ byte_mark (is_changed number r) blanks
+    ++ byte_marks (16 - (number + 1)) r (number + 1) (blanks_after_byte (is_changed number r) blanks)
 marks_more r number blanks below =
     let next : 16 - number ≡ suc (16 - (number + 1)) = omega (arith, below) in
     rw next (marks_next (16 - (number + 1)) r number blanks)
 
-pub marks_end : (r : GridRow) (number blanks : ℕ) → 16 ≤ number → marks (16 - number) r number blanks ≡ []
-unfolding marks
+pub marks_end : (r : GridRow) (number blanks : ℕ) → 16 ≤ number → byte_marks (16 - number) r number blanks ≡ []
+unfolding byte_marks
 marks_end r number blanks all = let none : 16 - number ≡ 0 = omega (arith, all) in rw none refl
 
 many_next : (left : ℕ) (byte : ℕ) → replicate (suc left) byte ≡ byte ∷ replicate left byte

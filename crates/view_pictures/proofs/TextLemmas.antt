@@ -5,8 +5,8 @@ use Rattle.std.proofs.lemmas.Bool.Decides.{Decides-eqb}
 use Rattle.std.proofs.lemmas.List.{drop_all}
 use Rattle.std.proofs.lemmas.Slice.Eq.{slice_eq-Decides}
 use Rattle.profile.specs.Output.{AddsAllBut}
-use Rattle.view_pictures.specs.Items.{items_text}
-use Rattle.view_pictures.specs.declared.items.Item.{Item}
+use Rattle.view_pictures.specs.Items.{picture_items_text}
+use Rattle.view_pictures.specs.declared.items.PictureItem.{PictureItem}
 use Rattle.profile.proofs.OutputLemmas.{AddsAllBut-start, AddsAllBut-more, AddsAllBut-same, Appends-from_all_but}
 
 pub ruleset text_steps = (AddsAllBut-start, AddsAllBut-more, AddsAllBut-same, Appends-from_all_but)
@@ -16,11 +16,11 @@ all_written : (bytes rest all : List ℕ) → AddsAllBut (Some []) (Some bytes) 
 all_written bytes rest all done none = Appends-from_all_but (Some []) (Some bytes) rest all done none
 
 -- once no item is left, it has the text of all
-pub items_written : (bytes : List ℕ) (items : List Item) (place : ℕ)
-    → AddsAllBut (Some []) (Some bytes) (items_text (drop place items)) (items_text items) → length items ≤ place
-    → bytes ≡ items_text items
+pub items_written : (bytes : List ℕ) (items : List PictureItem) (place : ℕ)
+    → AddsAllBut (Some []) (Some bytes) (picture_items_text (drop place items)) (picture_items_text items) → length items ≤ place
+    → bytes ≡ picture_items_text items
 items_written bytes items place done all =
-    all_written bytes (items_text (drop place items)) (items_text items) done (ap items_text (drop_all place items all))
+    all_written bytes (picture_items_text (drop place items)) (picture_items_text items) done (ap picture_items_text (drop_all place items all))
 
 pub ruleset written_steps = (AddsAllBut-start, AddsAllBut-more, AddsAllBut-same, items_written)
 

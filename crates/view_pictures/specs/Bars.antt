@@ -20,27 +20,28 @@ abbrev pub has_changed : Drawn → Bool
 has_changed d = not (length d.change.now == 0)
 
 -- the marks under a box, after so many blanks
-abbrev pub mark_of : Bool → ℕ → ℕ → List ℕ
-mark_of true width blanks = replicate blanks 32 ++ replicate width 94
-mark_of false width blanks = []
+abbrev pub box_mark : Bool → ℕ → ℕ → List ℕ
+box_mark true width blanks = replicate blanks 32 ++ replicate width 94
+box_mark false width blanks = []
 
 -- how many blanks stand before the next mark
-abbrev pub blanks_after : Bool → ℕ → ℕ → ℕ
-blanks_after true width blanks = 1
-blanks_after false width blanks = min (min (blanks + width) (2 ^ 32 - 1) + 1) (2 ^ 32 - 1)
+abbrev pub blanks_after_box : Bool → ℕ → ℕ → ℕ
+blanks_after_box true width blanks = 1
+blanks_after_box false width blanks = min (min (blanks + width) (2 ^ 32 - 1) + 1) (2 ^ 32 - 1)
 
 -- `^` under each box that has changed, after so many blanks
-abbrev pub marks : ℕ → List Drawn → List ℕ
-marks blanks [] = []
-marks blanks (d ∷ rest) =
-    mark_of (has_changed d) d.width blanks ++ marks (blanks_after (has_changed d) d.width blanks) rest
+abbrev pub box_marks : ℕ → List Drawn → List ℕ
+box_marks blanks [] = []
+box_marks blanks (d ∷ rest) =
+    box_mark (has_changed d) d.width blanks ++ box_marks
+    (blanks_after_box (has_changed d) d.width blanks) rest
 
 abbrev pub mark_line : List ℕ → List Drawn → List ℕ
-mark_line front boxes = if list_any has_changed boxes then front ++ (marks 1 boxes ++ codes "\n") else []
+mark_line front boxes = if list_any has_changed boxes then front ++ (box_marks 1 boxes ++ codes "\n") else []
 
 -- a place of a line that is so much further on
-abbrev pub further : ℕ → ℕ → ℕ
-further place count = min (place + count) (2 ^ 32 - 1)
+abbrev pub place_further : ℕ → ℕ → ℕ
+place_further place count = min (place + count) (2 ^ 32 - 1)
 
 -- Whether the address of a box can stand under its first character: what is written ends before,
 -- and the page pool is at no address.
@@ -54,7 +55,7 @@ digits_at false written place digits = []
 
 -- where what is written ends then; an address has eight digits at most
 abbrev pub written_with : Bool → ℕ → ℕ → List ℕ → ℕ
-written_with true written place digits = further place (min (length digits) 8)
+written_with true written place digits = place_further place (min (length digits) 8)
 written_with false written place digits = written
 
 -- where a heap or the flex store ends
@@ -68,7 +69,7 @@ addresses end written place [] = end_digits end written place
 addresses end written place (d ∷ rest) =
     digits_at (has_room written place d.own) written place (hex_number d.own.address)
     ++ addresses end (written_with (has_room written place d.own) written place (hex_number d.own.address))
-    (further (further place d.width) 1) rest
+    (place_further (place_further place d.width) 1) rest
 
 abbrev pub address_line : List ℕ → Layout → List ℕ
 address_line front layout = front ++ (addresses layout.end 0 1 layout.boxes.items ++ codes "\n")
@@ -103,6 +104,6 @@ below_bar front layout =
     address_line front layout ++ (flat_map (change_line front) layout.boxes.items
     ++ (flat_map (gone_line front) layout.gone.items ++ chain front layout.boxes.items))
 
-abbrev pub bars : List ℕ → Layout → List ℕ
-bars front layout =
+abbrev pub bar_lines : List ℕ → Layout → List ℕ
+bar_lines front layout =
     front ++ (bar layout.boxes.items ++ (mark_line front layout.boxes.items ++ below_bar front layout))

@@ -3,57 +3,58 @@
 use Rattle.std.specs.Prelude.{ℕ, ◌+◌, ◌-◌, ◌*◌, ◌^◌, ◌&&◌, nat_lt, List, [], ◌∷◌, ◌++◌, Option, Some, None, if◌then◌else◌}
 use Rattle.std.specs.Option.{option_to_list}
 use Rattle.std.specs.List.{flat_map}
-use Rattle.view_pictures.specs.declared.boxes.Kind.{Kind}
-use Rattle.view_pictures.specs.declared.boxes.Kind.TheVariants as kind
+use Rattle.view_pictures.specs.declared.boxes.BoxKind.{BoxKind}
+use Rattle.view_pictures.specs.declared.boxes.BoxKind.TheVariants as kind
 use Rattle.view_pictures.specs.declared.boxes.PictureBox.{PictureBox}
-use Rattle.view_pictures.specs.declared.items.Item.{Item}
-use Rattle.view_pictures.specs.declared.items.Item.TheVariants as item
+use Rattle.view_pictures.specs.declared.items.PictureItem.{PictureItem}
+use Rattle.view_pictures.specs.declared.items.PictureItem.TheVariants as item
 
-pub record Place : Type 0 where
-  pub kind : Kind
+pub record BoxPlace : Type 0 where
+  pub kind : BoxKind
   pub address : ℕ
   pub size : ℕ
 
-abbrev pub place : Kind → ℕ → ℕ → Place
-place kind address size = record { kind = kind; address = address; size = size }
+abbrev pub box_place : BoxKind → ℕ → ℕ → BoxPlace
+box_place kind address size = record { kind = kind; address = address; size = size }
 
-abbrev pub place_of : PictureBox → Place
-place_of b = place b.kind b.address b.size
+abbrev pub place_of_box : PictureBox → BoxPlace
+place_of_box b = box_place b.kind b.address b.size
 
 -- the box of an item's own
-abbrev pub own_place : Item → Option Place
-own_place (item.Heap start base end) = Some (place kind.Descriptor start 16)
-own_place (item.Live address size) = Some (place kind.Live address size)
-own_place (item.Free address size) = Some (place kind.Free address size)
+abbrev pub own_place : PictureItem → Option BoxPlace
+own_place (item.Heap start base end) = Some (box_place kind.Descriptor start 16)
+own_place (item.Live address size) = Some (box_place kind.Live address size)
+own_place (item.Free address size) = Some (box_place kind.Free address size)
 own_place (item.Flex start end used) = None
-own_place (item.Block anchor address size holder) = Some (place kind.Block address size)
-own_place (item.Area number base size max name) = Some (place kind.Area base size)
-own_place (item.Pool pages) = if nat_lt (pages * 4096) (2 ^ 32) then Some (place kind.Pool 0 (pages * 4096)) else None
-own_place (item.Module title address size) = Some (place kind.Module address size)
-own_place (item.Instance name word value is_preferred) = Some (place kind.Word word 4)
+own_place (item.Block anchor address size holder) = Some (box_place kind.Block address size)
+own_place (item.Area number base size max name) = Some (box_place kind.Area base size)
+own_place (item.Pool pages) = if nat_lt (pages * 4096) (2 ^ 32) then
+    Some (box_place kind.Pool 0 (pages * 4096)) else None
+own_place (item.Module title address size) = Some (box_place kind.Module address size)
+own_place (item.Instance name word value is_preferred) = Some (box_place kind.Word word 4)
 own_place (item.Row address bytes) = None
 
 -- bytes from one address up to another, where there are some
-abbrev pub between : Kind → ℕ → ℕ → Option Place
-between k from to = if nat_lt from to && nat_lt to (2 ^ 32) then Some (place k from (to - from)) else None
+abbrev pub between : BoxKind → ℕ → ℕ → Option BoxPlace
+between k from to = if nat_lt from to && nat_lt to (2 ^ 32) then Some (box_place k from (to - from)) else None
 
 -- what an area may grow by
-abbrev pub growth_place : Item → Option Place
+abbrev pub growth_place : PictureItem → Option BoxPlace
 growth_place (item.Area number base size max name) = between kind.Unused (base + size) (base + max)
 growth_place other = None
 
-abbrev pub item_places : Item → List Place
+abbrev pub item_places : PictureItem → List BoxPlace
 item_places i = option_to_list (own_place i) ++ option_to_list (growth_place i)
 
 -- the room after the last used byte of a heap or the flex store
-abbrev pub room_place : Item → Option Place
+abbrev pub room_place : PictureItem → Option BoxPlace
 room_place (item.Heap start base end) = between kind.Room (start + base) (start + end)
 room_place (item.Flex start end used) = between kind.Room (start + used) end
 room_place other = None
 
-abbrev pub room_places : List Item → List Place
+abbrev pub room_places : List PictureItem → List BoxPlace
 room_places [] = []
 room_places (first ∷ others) = option_to_list (room_place first)
 
-abbrev pub places_told : List Item → List Place
+abbrev pub places_told : List PictureItem → List BoxPlace
 places_told items = flat_map item_places items ++ room_places items

@@ -4,8 +4,8 @@ use Rattle.std.specs.List.{flat_map}
 use Rattle.std.specs.Fmt.{decimal}
 use Rattle.profile.specs.Digits.{hex_word}
 use Rattle.view_pictures.specs.declared.items.Holder.{Holder}
-use Rattle.view_pictures.specs.declared.items.Item.{Item}
-use Rattle.view_pictures.specs.declared.items.Item.TheVariants as item
+use Rattle.view_pictures.specs.declared.items.PictureItem.{PictureItem}
+use Rattle.view_pictures.specs.declared.items.PictureItem.TheVariants as item
 
 -- words, an address in eight digits, and more
 abbrev pub address_then : List ℕ → ℕ → List ℕ → List ℕ
@@ -19,33 +19,42 @@ abbrev pub preferred_text : Bool → List ℕ
 preferred_text true = codes " preferred\n"
 preferred_text false = codes "\n"
 
-abbrev pub block_text : ℕ → ℕ → ℕ → List ℕ
-block_text anchor address size =
-    address_then (codes "block anchor ") anchor (address_then (codes " at ") address (codes " size " ++ decimal size))
+abbrev pub picture_block_text : ℕ → ℕ → ℕ → List ℕ
+picture_block_text anchor address size =
+    address_then (codes "block anchor ") anchor (address_then (codes " at ") address
+    (codes " size " ++ decimal size))
 
 -- where in the bytes of a block an anchor lies, if it does, and the end of the line
-abbrev pub holder_text : Option Holder → List ℕ
-holder_text None = codes "\n"
-holder_text (Some h) = address_then (codes " in ") h.address (number_then (codes " offset ") h.offset (codes "\n"))
+abbrev pub picture_holder_text : Option Holder → List ℕ
+picture_holder_text None = codes "\n"
+picture_holder_text (Some h) = address_then (codes " in ") h.address
+    (number_then (codes " offset ") h.offset (codes "\n"))
 
-abbrev pub item_text : Item → List ℕ
-item_text (item.Heap start base end) =
-    address_then (codes "heap ") start (number_then (codes " base ") base (number_then (codes " end ") end (codes "\n")))
-item_text (item.Live address size) = address_then (codes "live ") address (number_then (codes " ") size (codes "\n"))
-item_text (item.Free address size) = address_then (codes "free ") address (number_then (codes " ") size (codes "\n"))
-item_text (item.Flex start end used) =
-    address_then (codes "flex ") start (address_then (codes " ") end (number_then (codes " used ") used (codes "\n")))
-item_text (item.Block anchor address size holder) = block_text anchor address size ++ holder_text holder
-item_text (item.Area number base size max name) =
+abbrev pub picture_item_text : PictureItem → List ℕ
+picture_item_text (item.Heap start base end) =
+    address_then (codes "heap ") start (number_then (codes " base ") base
+    (number_then (codes " end ") end (codes "\n")))
+picture_item_text (item.Live address size) = address_then (codes "live ") address
+    (number_then (codes " ") size (codes "\n"))
+picture_item_text (item.Free address size) = address_then (codes "free ") address
+    (number_then (codes " ") size (codes "\n"))
+picture_item_text (item.Flex start end used) =
+    address_then (codes "flex ") start (address_then (codes " ") end
+    (number_then (codes " used ") used (codes "\n")))
+picture_item_text (item.Block anchor address size holder) =
+    picture_block_text anchor address size ++ picture_holder_text holder
+picture_item_text (item.Area number base size max name) =
     number_then (codes "area ") number (address_then (codes " base ") base (number_then (codes " size ") size
     (number_then (codes " max ") max (codes " " ++ (name.now ++ codes "\n")))))
-item_text (item.Pool pages) = number_then (codes "pool ") pages (codes " pages\n")
-item_text (item.Module title address size) =
-    codes "module " ++ (title.now ++ address_then (codes " at ") address (number_then (codes " length ") size (codes "\n")))
-item_text (item.Instance name word value is_preferred) =
-    codes "  " ++ (name.now ++ address_then (codes " word ") word (address_then (codes " ") value (preferred_text is_preferred)))
-item_text (item.Row address bytes) = hex_word address ++ (codes ": " ++ (bytes.now ++ codes "\n"))
+picture_item_text (item.Pool pages) = number_then (codes "pool ") pages (codes " pages\n")
+picture_item_text (item.Module title address size) =
+    codes "module " ++ (title.now ++ address_then (codes " at ") address
+    (number_then (codes " length ") size (codes "\n")))
+picture_item_text (item.Instance name word value is_preferred) =
+    codes "  " ++ (name.now ++ address_then (codes " word ") word
+    (address_then (codes " ") value (preferred_text is_preferred)))
+picture_item_text (item.Row address bytes) = hex_word address ++ (codes ": " ++ (bytes.now ++ codes "\n"))
 
 -- items, each in its line
-abbrev pub items_text : List Item → List ℕ
-items_text items = flat_map item_text items
+abbrev pub picture_items_text : List PictureItem → List ℕ
+picture_items_text items = flat_map picture_item_text items

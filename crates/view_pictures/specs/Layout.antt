@@ -1,12 +1,12 @@
 -- Where the boxes of a picture stand, by what they are and how many bytes they have.
 use Rattle.std.specs.Prelude.{ℕ, ◌+◌, ◌-◌, ◌*◌, ◌/◌, ◌^◌, min, max, Bool, true, false, List, [], ◌∷◌, fold, codes, if◌then◌else◌}
-use Rattle.view_pictures.specs.declared.boxes.Kind.{Kind}
-use Rattle.view_pictures.specs.declared.boxes.Kind.TheVariants as kind
+use Rattle.view_pictures.specs.declared.boxes.BoxKind.{BoxKind}
+use Rattle.view_pictures.specs.declared.boxes.BoxKind.TheVariants as kind
 use Rattle.view_pictures.specs.declared.boxes.PictureBox.{PictureBox}
 use Rattle.view_pictures.specs.declared.layout.Drawn.{Drawn}
 
 -- the word that stands in a box
-abbrev pub kind_word : Kind → List ℕ
+abbrev pub kind_word : BoxKind → List ℕ
 kind_word kind.Descriptor = codes "descriptor"
 kind_word kind.Live = codes "live"
 kind_word kind.Free = codes "free"
@@ -19,7 +19,7 @@ kind_word kind.Module = codes "module"
 kind_word kind.Word = codes "word"
 
 -- the character that fills it in a bar
-abbrev pub kind_sign : Kind → ℕ
+abbrev pub kind_sign : BoxKind → ℕ
 kind_sign kind.Descriptor = 100
 kind_sign kind.Live = 35
 kind_sign kind.Free = 46
@@ -32,23 +32,23 @@ kind_sign kind.Module = 35
 kind_sign kind.Word = 119
 
 -- whether it has a second line, for a name, an anchor or a word's value
-abbrev pub has_second_line : Kind → Bool
+abbrev pub has_second_line : BoxKind → Bool
 has_second_line kind.Block = true
 has_second_line kind.Area = true
 has_second_line kind.Module = true
 has_second_line kind.Word = true
 has_second_line other = false
 
-abbrev pub is_free : Kind → Bool
+abbrev pub is_free : BoxKind → Bool
 is_free kind.Free = true
 is_free other = false
 
-abbrev pub is_pool : Kind → Bool
+abbrev pub is_pool : BoxKind → Bool
 is_pool kind.Pool = true
 is_pool other = false
 
 -- What a box counts for its scale: what an area may grow by is no memory yet, and counts nothing.
-abbrev pub scaled_by : Kind → ℕ → ℕ
+abbrev pub scaled_by : BoxKind → ℕ → ℕ
 scaled_by kind.Unused size = 0
 scaled_by other size = size
 
@@ -56,8 +56,9 @@ abbrev pub scaled_size : PictureBox → ℕ
 scaled_size b = scaled_by b.kind b.size
 
 -- how many bytes all boxes have that count, and at least one
-abbrev pub total_of : List PictureBox → ℕ
-total_of boxes = max (fold (λ total (b : PictureBox). min (total + scaled_size b) (2 ^ 64 - 1)) 0 boxes) 1
+abbrev pub total_box_size : List PictureBox → ℕ
+total_box_size boxes = max (fold (λ total (b : PictureBox). min (total + scaled_size b)
+    (2 ^ 64 - 1)) 0 boxes) 1
 
 -- the share of so much that bytes have of all bytes
 abbrev pub share_of : ℕ → ℕ → ℕ → ℕ
@@ -68,7 +69,7 @@ abbrev pub height_of : ℕ → PictureBox → ℕ
 height_of total b = max (share_of total (scaled_size b) 200) (if has_second_line b.kind then 40 else 24)
 
 -- a character at least, and always four for what an area may grow by
-abbrev pub least_width : Kind → ℕ
+abbrev pub least_width : BoxKind → ℕ
 least_width kind.Unused = 4
 least_width other = 1
 

@@ -10,27 +10,28 @@ any_from zero is number = false
 any_from (suc left) is number = is number || any_from left is (number + 1)
 
 -- the mark under a byte, after so many blanks
-abbrev pub mark_of : Bool → ℕ → List ℕ
-mark_of true blanks = replicate blanks 32 ++ codes "^^"
-mark_of false blanks = []
+abbrev pub byte_mark : Bool → ℕ → List ℕ
+byte_mark true blanks = replicate blanks 32 ++ codes "^^"
+byte_mark false blanks = []
 
 -- how many blanks stand before the next mark
-abbrev pub blanks_after : Bool → ℕ → ℕ
-blanks_after true blanks = 1
-blanks_after false blanks = min (blanks + 3) (2 ^ 32 - 1)
+abbrev pub blanks_after_byte : Bool → ℕ → ℕ
+blanks_after_byte true blanks = 1
+blanks_after_byte false blanks = min (blanks + 3) (2 ^ 32 - 1)
 
 -- `^^` under each byte that has changed, from one number on, after so many blanks
-unfoldable pub marks : ℕ → GridRow → ℕ → ℕ → List ℕ
-marks zero r number blanks = []
-marks (suc left) r number blanks =
-    mark_of (is_changed number r) blanks ++ marks left r (number + 1) (blanks_after (is_changed number r) blanks)
+unfoldable pub byte_marks : ℕ → GridRow → ℕ → ℕ → List ℕ
+byte_marks zero r number blanks = []
+byte_marks (suc left) r number blanks =
+    byte_mark (is_changed number r) blanks ++ byte_marks left r (number + 1)
+    (blanks_after_byte (is_changed number r) blanks)
 
-abbrev pub marked : List ℕ → GridRow → Bool → List ℕ
-marked front r true =
+abbrev pub row_text_with_marks : List ℕ → GridRow → Bool → List ℕ
+row_text_with_marks front r true =
     front ++ (hex_word r.address ++ (codes ": " ++ (r.bytes.now ++ (codes "\n" ++ (front ++ (codes "changed  "
-    ++ (marks 16 r 0 1 ++ codes "\n")))))))
-marked front r false = []
+    ++ (byte_marks 16 r 0 1 ++ codes "\n")))))))
+row_text_with_marks front r false = []
 
 -- a row that has a byte which has changed, and marks under those bytes
 abbrev pub mark_lines : List ℕ → GridRow → List ℕ
-mark_lines front r = marked front r (any_from 16 (λ number. is_changed number r) 0)
+mark_lines front r = row_text_with_marks front r (any_from 16 (λ number. is_changed number r) 0)

@@ -4,8 +4,8 @@ use Rattle.std.specs.Prelude.{take, drop, Option, Some, None, if◌then◌else�
 use Rattle.std.specs.List.{flat_map}
 use Rattle.std.specs.Str.{bytes_eq}
 use Rattle.view_pictures.specs.declared.rows.GridRow.{GridRow}
-use Rattle.view_pictures.specs.declared.items.Item.{Item}
-use Rattle.view_pictures.specs.declared.items.Item.TheVariants as item
+use Rattle.view_pictures.specs.declared.items.PictureItem.{PictureItem}
+use Rattle.view_pictures.specs.declared.items.PictureItem.TheVariants as item
 
 -- an address, and the bytes that are shown there
 pub record RowBytes : Type 0 where
@@ -15,15 +15,15 @@ pub record RowBytes : Type 0 where
 abbrev pub row_bytes : ℕ → List ℕ → RowBytes
 row_bytes address bytes = record { address = address; bytes = bytes }
 
-abbrev pub bytes_of : GridRow → RowBytes
-bytes_of r = row_bytes r.address r.bytes.now
+abbrev pub bytes_of_row : GridRow → RowBytes
+bytes_of_row r = row_bytes r.address r.bytes.now
 
-abbrev pub row_told : Item → List RowBytes
+abbrev pub row_told : PictureItem → List RowBytes
 row_told (item.Row address bytes) = row_bytes address bytes.now ∷ []
 row_told other = []
 
 -- the rows that a view tells of
-abbrev pub rows_told : List Item → List RowBytes
+abbrev pub rows_told : List PictureItem → List RowBytes
 rows_told items = flat_map row_told items
 
 -- the upper edge of a row with so many above it

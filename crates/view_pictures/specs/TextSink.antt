@@ -2,5 +2,5 @@
 use Rattle.std.specs.Prelude.{ℕ, List}
 use Rattle.view_pictures.specs.declared.text_sink.TextSink.{TextSink}
 
-abbrev pub text_of : TextSink → List ℕ
-text_of s = s.bytes.items
+abbrev pub sink_text_of : TextSink → List ℕ
+sink_text_of s = s.bytes.items

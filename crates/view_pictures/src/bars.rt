@@ -4,9 +4,9 @@
 ghost use Rattle.std.specs.Prelude.{◌≡◌};
 ghost use Rattle.std.specs.List.{flat_map, list_any};
 ghost use Rattle.profile.specs.Output.{Writes};
-ghost use Rattle.view_pictures.specs.Bars.{address_before, address_line, addresses, bar, bar_box, bars, below_bar};
-ghost use Rattle.view_pictures.specs.Bars.{blanks_after, box_line, chain, change_line, digits_at, end_digits, free_address};
-ghost use Rattle.view_pictures.specs.Bars.{further, gone_line, has_changed, has_room, mark_line, mark_of, marks};
+ghost use Rattle.view_pictures.specs.Bars.{address_before, address_line, addresses, bar, bar_box, bar_lines, below_bar};
+ghost use Rattle.view_pictures.specs.Bars.{blanks_after_box, box_line, chain, change_line, digits_at, end_digits, free_address};
+ghost use Rattle.view_pictures.specs.Bars.{place_further, gone_line, has_changed, has_room, mark_line, box_mark, box_marks};
 ghost use Rattle.view_pictures.specs.Bars.{written_with};
 ghost use Rattle.view_pictures.specs.Layout.{is_free};
 
@@ -17,7 +17,7 @@ use profile::{HexText, Sink, WriteFault, push_all, push_parts};
 
 /// Writes a picture of boxes. Each of its lines begins with these bytes.
 pub fn push_bars<W: Sink>(sink: &mut W, front: &[u8], layout: &Layout<'_>) -> Result<(), WriteFault>
-    ensures { Writes W.contents W.has_failed sink.old sink.new result (bars front.now layout.now) }
+    ensures { Writes W.contents W.has_failed sink.old sink.new result (bar_lines front.now layout.now) }
 {
     let boxes = layout.boxes.as_slice();
     push_all(sink, front)?;
@@ -104,7 +104,7 @@ fn push_mark_line<W: Sink>(
 // Blanks are written only before a mark, so that none ends the line.
 #[tactic(auto, using(crate::proofs::LayoutLemmas::mark_steps))]
 fn push_marks<W: Sink>(sink: &mut W, boxes: &[Drawn<'_>]) -> Result<(), WriteFault>
-    ensures { Writes W.contents W.has_failed sink.old sink.new result (marks 1 boxes.now) }
+    ensures { Writes W.contents W.has_failed sink.old sink.new result (box_marks 1 boxes.now) }
 {
     let mut blanks = 1u32;
     for drawn in boxes {
@@ -116,7 +116,7 @@ fn push_marks<W: Sink>(sink: &mut W, boxes: &[Drawn<'_>]) -> Result<(), WriteFau
 
 fn push_mark<W: Sink>(sink: &mut W, drawn: &Drawn<'_>, blanks: u32) -> Result<(), WriteFault>
     ensures { Writes W.contents W.has_failed sink.old sink.new result
-        (mark_of (has_changed drawn.now) drawn.now.width blanks) }
+        (box_mark (has_changed drawn.now) drawn.now.width blanks) }
 {
     if !has_changed(drawn) {
         return Ok(());
@@ -127,7 +127,7 @@ fn push_mark<W: Sink>(sink: &mut W, drawn: &Drawn<'_>, blanks: u32) -> Result<()
 
 // How many blanks stand before the next mark.
 fn blanks_after(drawn: &Drawn<'_>, blanks: u32) -> u32
-    ensures { result ≡ blanks_after (has_changed drawn.now) drawn.now.width blanks }
+    ensures { result ≡ blanks_after_box (has_changed drawn.now) drawn.now.width blanks }
 {
     if has_changed(drawn) {
         1
@@ -158,7 +158,8 @@ fn push_change<W: Sink>(sink: &mut W, front: &[u8], drawn: &Drawn<'_>) -> Result
 
 #[tactic(auto, using(crate::proofs::TextLemmas::text_steps))]
 fn push_gone<W: Sink>(sink: &mut W, front: &[u8], gone: &[PictureBox<'_>]) -> Result<(), WriteFault>
-    ensures { Writes W.contents W.has_failed sink.old sink.new result (flat_map (gone_line front.now) gone.now) }
+    ensures { Writes W.contents W.has_failed sink.old sink.new result
+        (flat_map (gone_line front.now) gone.now) }
 {
     for own in gone {
         push_box_line(sink, front, own, b"gone")?;
@@ -241,7 +242,8 @@ fn push_digits<W: Sink>(
     place: u32,
     digits: &[u8],
 ) -> Result<(), WriteFault>
-    ensures { Writes W.contents W.has_failed sink.old sink.new result (digits_at fits written place digits.now) }
+    ensures { Writes W.contents W.has_failed sink.old sink.new result
+        (digits_at fits written place digits.now) }
 {
     if !fits {
         return Ok(());
@@ -262,7 +264,7 @@ fn written_with(fits: bool, written: u32, place: u32, digits: &[u8]) -> u32
 }
 
 fn further(place: u32, count: u32) -> u32
-    ensures { result ≡ further place count }
+    ensures { result ≡ place_further place count }
 {
     place.saturating_add(count)
 }

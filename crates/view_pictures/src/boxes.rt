@@ -3,16 +3,16 @@
 
 ghost use Rattle.std.specs.Prelude.{◌≡◌, ◌+◌, ◌++◌, IfOk, OnOk, map};
 ghost use Rattle.std.specs.Option.{option_map, option_to_list};
-ghost use Rattle.view_pictures.specs.Boxes.{between, growth_place, own_place, place, place_of};
+ghost use Rattle.view_pictures.specs.Boxes.{between, growth_place, own_place, box_place, place_of_box};
 ghost use Rattle.view_pictures.specs.Boxes.{places_told, room_place, room_places};
 ghost use Rattle.view_pictures.specs.Layout.{has_second_line, is_free, is_pool, kind_sign, kind_word};
 
-use crate::items::{Holder, Item};
+use crate::items::{Holder, PictureItem};
 use std::alloc::{AllocError, Global};
 
 /// What a box stands for.
 #[derive(Clone, Copy, Debug, PartialEq, Eq)]
-pub enum Kind {
+pub enum BoxKind {
     /// The descriptor of a heap.
     Descriptor,
     /// A block of a heap.
@@ -39,7 +39,7 @@ pub enum Kind {
 #[derive(Clone, Copy, Debug)]
 pub struct PictureBox<'a> {
     /// What it stands for.
-    pub kind: Kind,
+    pub kind: BoxKind,
     /// Where that begins.
     pub address: u32,
     /// How many bytes it has.
@@ -52,22 +52,22 @@ pub struct PictureBox<'a> {
     pub holder: Option<u32>,
 }
 
-impl Kind {
+impl BoxKind {
     /// The word that stands in a box of it, and the class of its rectangle.
     pub fn word(self) -> &'static [u8]
         ensures { result.now ≡ kind_word self }
     {
         match self {
-            Kind::Descriptor => b"descriptor",
-            Kind::Live => b"live",
-            Kind::Free => b"free",
-            Kind::Room => b"room",
-            Kind::Block => b"block",
-            Kind::Area => b"area",
-            Kind::Unused => b"unused",
-            Kind::Pool => b"pool",
-            Kind::Module => b"module",
-            Kind::Word => b"word",
+            BoxKind::Descriptor => b"descriptor",
+            BoxKind::Live => b"live",
+            BoxKind::Free => b"free",
+            BoxKind::Room => b"room",
+            BoxKind::Block => b"block",
+            BoxKind::Area => b"area",
+            BoxKind::Unused => b"unused",
+            BoxKind::Pool => b"pool",
+            BoxKind::Module => b"module",
+            BoxKind::Word => b"word",
         }
     }
 
@@ -76,13 +76,13 @@ impl Kind {
         ensures { result ≡ kind_sign self }
     {
         match self {
-            Kind::Descriptor => b'd',
-            Kind::Live | Kind::Block | Kind::Area | Kind::Module => b'#',
-            Kind::Free => b'.',
-            Kind::Room => b' ',
-            Kind::Unused => b'~',
-            Kind::Pool => b'p',
-            Kind::Word => b'w',
+            BoxKind::Descriptor => b'd',
+            BoxKind::Live | BoxKind::Block | BoxKind::Area | BoxKind::Module => b'#',
+            BoxKind::Free => b'.',
+            BoxKind::Room => b' ',
+            BoxKind::Unused => b'~',
+            BoxKind::Pool => b'p',
+            BoxKind::Word => b'w',
         }
     }
 
@@ -90,27 +90,30 @@ impl Kind {
     pub fn has_second_line(self) -> bool
         ensures { result ≡ has_second_line self }
     {
-        matches!(self, Kind::Block | Kind::Area | Kind::Module | Kind::Word)
+        matches!(
+            self,
+            BoxKind::Block | BoxKind::Area | BoxKind::Module | BoxKind::Word
+        )
     }
 
     /// Whether it is the page pool, which is at no address.
     pub fn is_pool(self) -> bool
         ensures { result ≡ is_pool self }
     {
-        matches!(self, Kind::Pool)
+        matches!(self, BoxKind::Pool)
     }
 
     /// Whether it is room between the blocks of a heap.
     pub fn is_free(self) -> bool
         ensures { result ≡ is_free self }
     {
-        matches!(self, Kind::Free)
+        matches!(self, BoxKind::Free)
     }
 }
 
 impl<'a> PictureBox<'a> {
-    fn plain(kind: Kind, address: u32, size: u32) -> PictureBox<'a>
-        ensures { place_of result ≡ place kind address size }
+    fn plain(kind: BoxKind, address: u32, size: u32) -> PictureBox<'a>
+        ensures { place_of_box result ≡ box_place kind address size }
     {
         PictureBox {
             kind,
@@ -141,8 +144,11 @@ impl<'a> PictureBox<'a> {
 /// # Errors
 ///
 /// Memory ran out.
-pub fn boxes_of<'a>(alloc: Global, items: &[Item<'a>]) -> Result<Vec<PictureBox<'a>>, AllocError>
-    ensures { IfOk result (λ boxes. map place_of boxes.items ≡ places_told items.entry.now) }
+pub fn boxes_of<'a>(
+    alloc: Global,
+    items: &[PictureItem<'a>],
+) -> Result<Vec<PictureBox<'a>>, AllocError>
+    ensures { IfOk result (λ boxes. map place_of_box boxes.items ≡ places_told items.entry.now) }
 {
     let mut boxes = Vec::new(alloc);
     for item in items {
@@ -157,8 +163,8 @@ fn push_found<'a>(
     boxes: &mut Vec<PictureBox<'a>>,
     found: Option<PictureBox<'a>>,
 ) -> Result<(), AllocError>
-    ensures { OnOk result (map place_of boxes.new.items
-        ≡ map place_of boxes.old.items ++ option_to_list (option_map place_of found.entry)) }
+    ensures { OnOk result (map place_of_box boxes.new.items
+        ≡ map place_of_box boxes.old.items ++ option_to_list (option_map place_of_box found.entry)) }
 {
     if let Some(own) = found {
         boxes.push(own)?;
@@ -166,8 +172,8 @@ fn push_found<'a>(
     Ok(())
 }
 
-fn room_of_all<'a>(items: &[Item<'a>]) -> Option<PictureBox<'a>>
-    ensures { option_to_list (option_map place_of result) ≡ room_places items.entry.now }
+fn room_of_all<'a>(items: &[PictureItem<'a>]) -> Option<PictureBox<'a>>
+    ensures { option_to_list (option_map place_of_box result) ≡ room_places items.entry.now }
 {
     match items {
         [first, ..] => room_of(first),
@@ -176,33 +182,37 @@ fn room_of_all<'a>(items: &[Item<'a>]) -> Option<PictureBox<'a>>
 }
 
 // The box of an item's own.
-fn box_of<'a>(item: &Item<'a>) -> Option<PictureBox<'a>>
-    ensures { option_map place_of result ≡ own_place item.entry.now }
+fn box_of<'a>(item: &PictureItem<'a>) -> Option<PictureBox<'a>>
+    ensures { option_map place_of_box result ≡ own_place item.entry.now }
 {
     match *item {
-        Item::Heap(start, _, _) => Some(PictureBox::plain(Kind::Descriptor, start, 16)),
-        Item::Live(address, size) => Some(PictureBox::plain(Kind::Live, address, size)),
-        Item::Free(address, size) => Some(PictureBox::plain(Kind::Free, address, size)),
-        Item::Block(anchor, address, size, holder) => Some(PictureBox {
+        PictureItem::Heap(start, _, _) => Some(PictureBox::plain(BoxKind::Descriptor, start, 16)),
+        PictureItem::Live(address, size) => Some(PictureBox::plain(BoxKind::Live, address, size)),
+        PictureItem::Free(address, size) => Some(PictureBox::plain(BoxKind::Free, address, size)),
+        PictureItem::Block(anchor, address, size, holder) => Some(PictureBox {
             detail: anchor,
             holder: address_of(holder),
-            ..PictureBox::plain(Kind::Block, address, size)
+            ..PictureBox::plain(BoxKind::Block, address, size)
         }),
-        Item::Area(_, base, size, _, name) => Some(PictureBox {
+        PictureItem::Area(_, base, size, _, name) => Some(PictureBox {
             name,
-            ..PictureBox::plain(Kind::Area, base, size)
+            ..PictureBox::plain(BoxKind::Area, base, size)
         }),
-        Item::Pool(pages) => Some(PictureBox::plain(Kind::Pool, 0, pages.checked_mul(4096)?)),
-        Item::Module(name, address, size) => Some(PictureBox {
+        PictureItem::Pool(pages) => Some(PictureBox::plain(
+            BoxKind::Pool,
+            0,
+            pages.checked_mul(4096)?,
+        )),
+        PictureItem::Module(name, address, size) => Some(PictureBox {
             name,
-            ..PictureBox::plain(Kind::Module, address, size)
+            ..PictureBox::plain(BoxKind::Module, address, size)
         }),
-        Item::Instance(name, word, value, _) => Some(PictureBox {
+        PictureItem::Instance(name, word, value, _) => Some(PictureBox {
             name,
             detail: value,
-            ..PictureBox::plain(Kind::Word, word, 4)
+            ..PictureBox::plain(BoxKind::Word, word, 4)
         }),
-        Item::Flex(_, _, _) | Item::Row(_, _) => None,
+        PictureItem::Flex(_, _, _) | PictureItem::Row(_, _) => None,
     }
 }
 
@@ -211,8 +221,8 @@ fn address_of(holder: Option<Holder>) -> Option<u32> {
 }
 
 // The bytes from one address up to another, where there are some.
-fn between<'a>(kind: Kind, from: u64, to: u64) -> Option<PictureBox<'a>>
-    ensures { option_map place_of result ≡ between kind from to }
+fn between<'a>(kind: BoxKind, from: u64, to: u64) -> Option<PictureBox<'a>>
+    ensures { option_map place_of_box result ≡ between kind from to }
 {
     if from < to && to <= u64::from(u32::MAX) {
         Some(PictureBox::plain(kind, from as u32, (to - from) as u32))
@@ -222,12 +232,12 @@ fn between<'a>(kind: Kind, from: u64, to: u64) -> Option<PictureBox<'a>>
 }
 
 // What an area may grow by.
-fn growth_of<'a>(item: &Item<'a>) -> Option<PictureBox<'a>>
-    ensures { option_map place_of result ≡ growth_place item.entry.now }
+fn growth_of<'a>(item: &PictureItem<'a>) -> Option<PictureBox<'a>>
+    ensures { option_map place_of_box result ≡ growth_place item.entry.now }
 {
     match *item {
-        Item::Area(_, base, size, max, _) => between(
-            Kind::Unused,
+        PictureItem::Area(_, base, size, max, _) => between(
+            BoxKind::Unused,
             behind(base, size),
             behind(base, max),
         ),
@@ -236,16 +246,20 @@ fn growth_of<'a>(item: &Item<'a>) -> Option<PictureBox<'a>>
 }
 
 // The room after the last used byte of what begins a view.
-fn room_of<'a>(item: &Item<'a>) -> Option<PictureBox<'a>>
-    ensures { option_map place_of result ≡ room_place item.entry.now }
+fn room_of<'a>(item: &PictureItem<'a>) -> Option<PictureBox<'a>>
+    ensures { option_map place_of_box result ≡ room_place item.entry.now }
 {
     match *item {
-        Item::Heap(start, base, end) => between(
-            Kind::Room,
+        PictureItem::Heap(start, base, end) => between(
+            BoxKind::Room,
             behind(start, base),
             behind(start, end),
         ),
-        Item::Flex(start, end, used) => between(Kind::Room, behind(start, used), u64::from(end)),
+        PictureItem::Flex(start, end, used) => between(
+            BoxKind::Room,
+            behind(start, used),
+            u64::from(end),
+        ),
         _ => None,
     }
 }

@@ -1,24 +1,22 @@
 //! What has changed since the last picture of the same thing.
 
-use crate::boxes::{Kind, PictureBox};
-use crate::views::View;
+use crate::boxes::{BoxKind, PictureBox};
+use crate::views::PictureView;
 
 /// What has become of a box, in a word, where it has changed; nothing where there is no earlier
 /// picture, or where the box stands for no memory, or always for the same.
-pub fn change_of(own: &PictureBox<'_>, before: Option<&View<'_>>) -> Option<&'static [u8]> {
+pub fn change_of(own: &PictureBox<'_>, before: Option<&PictureView<'_>>) -> Option<&'static [u8]> {
     let boxes = before?.boxes.as_slice();
     match own.kind {
-        Kind::Descriptor | Kind::Unused => None,
-        Kind::Room | Kind::Pool => size_change(own, boxes),
+        BoxKind::Descriptor | BoxKind::Unused => None,
+        BoxKind::Room | BoxKind::Pool => size_change(own, boxes),
         _ if boxes.iter().any(|old| old.is_same(own)) => None,
-        Kind::Block
-            if boxes
-                .iter()
-                .any(|old| old.kind == Kind::Block && old.detail == own.detail) => {
+        BoxKind::Block
+            if boxes.iter().any(|old| old.kind == BoxKind::Block && old.detail == own.detail) => {
             Some(block_change(own, boxes))
         }
-        Kind::Free => Some(free_change(own, boxes)),
-        Kind::Module if boxes.iter().any(|old| has_title_of(old, own)) => {
+        BoxKind::Free => Some(free_change(own, boxes)),
+        BoxKind::Module if boxes.iter().any(|old| has_title_of(old, own)) => {
             Some(module_change(own, boxes))
         }
         kind
@@ -51,12 +49,12 @@ fn size_change(own: &PictureBox<'_>, boxes: &[PictureBox<'_>]) -> Option<&'stati
 fn free_change(own: &PictureBox<'_>, boxes: &[PictureBox<'_>]) -> &'static [u8] {
     if boxes
         .iter()
-        .any(|old| old.kind == Kind::Free && is_within(own, old))
+        .any(|old| old.kind == BoxKind::Free && is_within(own, old))
     {
         b"cut"
     } else if boxes
         .iter()
-        .any(|old| old.kind == Kind::Free && is_within(old, own))
+        .any(|old| old.kind == BoxKind::Free && is_within(old, own))
     {
         b"joined"
     } else {
@@ -99,7 +97,7 @@ fn module_change(own: &PictureBox<'_>, boxes: &[PictureBox<'_>]) -> &'static [u8
 }
 
 fn has_title_of(old: &PictureBox<'_>, own: &PictureBox<'_>) -> bool {
-    old.kind == Kind::Module && old.name == own.name
+    old.kind == BoxKind::Module && old.name == own.name
 }
 
 fn same_place_change(own: &PictureBox<'_>, boxes: &[PictureBox<'_>]) -> &'static [u8] {

@@ -4,8 +4,8 @@ ghost use Rattle.std.specs.Prelude.{◌≡◌, IfOk, Option, not, option_map};
 ghost use Rattle.std.specs.List.{filter, list_any};
 ghost use Rattle.view_pictures.specs.Gone.{gone_from, is_gone, stands_for};
 
-use crate::boxes::{Kind, PictureBox};
-use crate::views::View;
+use crate::boxes::{BoxKind, PictureBox};
+use crate::views::PictureView;
 use std::alloc::{AllocError, Global};
 
 /// The boxes of a view from before that none of these boxes stands for, in order.
@@ -16,7 +16,7 @@ use std::alloc::{AllocError, Global};
 pub fn gone_of<'a>(
     alloc: Global,
     boxes: &[PictureBox<'_>],
-    before: Option<&View<'a>>,
+    before: Option<&PictureView<'a>>,
 ) -> Result<Vec<PictureBox<'a>>, AllocError>
     ensures { IfOk result (λ gone. gone.items
         ≡ gone_from (option_map (λ view. view.now) before.entry) boxes.now) }
@@ -66,14 +66,14 @@ fn stands_for(new: &PictureBox<'_>, old: &PictureBox<'_>) -> bool
     ensures { result ≡ stands_for new.now old.now }
 {
     match old.kind {
-        Kind::Live | Kind::Free => {
-            matches!(new.kind, Kind::Live | Kind::Free) && new.address == old.address
+        BoxKind::Live | BoxKind::Free => {
+            matches!(new.kind, BoxKind::Live | BoxKind::Free) && new.address == old.address
         }
-        Kind::Block => matches!(new.kind, Kind::Block) && new.detail == old.detail,
-        Kind::Room => matches!(new.kind, Kind::Room),
-        Kind::Area => matches!(new.kind, Kind::Area) && new.address == old.address,
-        Kind::Module => matches!(new.kind, Kind::Module) && new.name == old.name,
-        Kind::Word => matches!(new.kind, Kind::Word) && new.address == old.address,
-        Kind::Descriptor | Kind::Unused | Kind::Pool => true,
+        BoxKind::Block => matches!(new.kind, BoxKind::Block) && new.detail == old.detail,
+        BoxKind::Room => matches!(new.kind, BoxKind::Room),
+        BoxKind::Area => matches!(new.kind, BoxKind::Area) && new.address == old.address,
+        BoxKind::Module => matches!(new.kind, BoxKind::Module) && new.name == old.name,
+        BoxKind::Word => matches!(new.kind, BoxKind::Word) && new.address == old.address,
+        BoxKind::Descriptor | BoxKind::Unused | BoxKind::Pool => true,
     }
 }

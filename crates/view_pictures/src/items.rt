@@ -2,7 +2,7 @@
 
 ghost use Rattle.std.specs.Prelude.{◌≡◌, codes};
 ghost use Rattle.profile.specs.Output.{Writes};
-ghost use Rattle.view_pictures.specs.Items.{address_then, block_text, holder_text, item_text, number_then, preferred_text};
+ghost use Rattle.view_pictures.specs.Items.{address_then, picture_block_text, picture_holder_text, picture_item_text, number_then, preferred_text};
 
 use crate::words::{Words, cut_last};
 use itoa::Buffer;
@@ -10,7 +10,7 @@ use profile::{HexText, Sink, WriteFault, push_all, push_parts};
 
 /// What a line of a view tells.
 #[derive(Clone, Copy, Debug)]
-pub enum Item<'a> {
+pub enum PictureItem<'a> {
     /// `heap 00009000 base 64 end 256`; base and end are bytes from its start.
     Heap(u32, u32, u32),
     /// `live 00009010 24`: the address and the length.
@@ -45,46 +45,46 @@ pub struct Holder {
 
 /// What a line tells, if it is a line of a view. What it gives may be another line's than this one:
 /// its text decides.
-pub fn item_of(line: &[u8]) -> Option<Item<'_>> {
+pub fn item_of(line: &[u8]) -> Option<PictureItem<'_>> {
     let mut words = Words::new(line);
     let first = words.next()?;
     match first {
         b"heap" => heap_item(words),
-        b"live" => Some(Item::Live(words.address()?, words.number()?)),
-        b"free" => Some(Item::Free(words.address()?, words.number()?)),
+        b"live" => Some(PictureItem::Live(words.address()?, words.number()?)),
+        b"free" => Some(PictureItem::Free(words.address()?, words.number()?)),
         b"flex" => flex_item(words),
         b"block" => block_item(words),
         b"area" => area_item(words),
-        b"pool" => Some(Item::Pool(words.number()?)),
+        b"pool" => Some(PictureItem::Pool(words.number()?)),
         b"module" => module_item(words.rest()?),
         b"" => instance_item(line),
         _ => row_item(line),
     }
 }
 
-fn heap_item(mut words: Words<'_>) -> Option<Item<'_>> {
+fn heap_item(mut words: Words<'_>) -> Option<PictureItem<'_>> {
     let start = words.address()?;
     words.pass(b"base")?;
     let base = words.number()?;
     words.pass(b"end")?;
-    Some(Item::Heap(start, base, words.number()?))
+    Some(PictureItem::Heap(start, base, words.number()?))
 }
 
-fn flex_item(mut words: Words<'_>) -> Option<Item<'_>> {
+fn flex_item(mut words: Words<'_>) -> Option<PictureItem<'_>> {
     let start = words.address()?;
     let end = words.address()?;
     words.pass(b"used")?;
-    Some(Item::Flex(start, end, words.number()?))
+    Some(PictureItem::Flex(start, end, words.number()?))
 }
 
-fn block_item(mut words: Words<'_>) -> Option<Item<'_>> {
+fn block_item(mut words: Words<'_>) -> Option<PictureItem<'_>> {
     words.pass(b"anchor")?;
     let anchor = words.address()?;
     words.pass(b"at")?;
     let address = words.address()?;
     words.pass(b"size")?;
     let size = words.number()?;
-    Some(Item::Block(anchor, address, size, holder_of(words)))
+    Some(PictureItem::Block(anchor, address, size, holder_of(words)))
 }
 
 // Such a line may end here.
@@ -98,7 +98,7 @@ fn holder_of(mut words: Words<'_>) -> Option<Holder> {
     })
 }
 
-fn area_item(mut words: Words<'_>) -> Option<Item<'_>> {
+fn area_item(mut words: Words<'_>) -> Option<PictureItem<'_>> {
     let number = words.number()?;
     words.pass(b"base")?;
     let base = words.address()?;
@@ -106,55 +106,58 @@ fn area_item(mut words: Words<'_>) -> Option<Item<'_>> {
     let size = words.number()?;
     words.pass(b"max")?;
     let max = words.number()?;
-    Some(Item::Area(number, base, size, max, words.rest()?))
+    Some(PictureItem::Area(number, base, size, max, words.rest()?))
 }
 
 // A title may have any bytes, so what is known stands after it.
-fn module_item(rest: &[u8]) -> Option<Item<'_>> {
+fn module_item(rest: &[u8]) -> Option<PictureItem<'_>> {
     let (title, place) = cut_last(rest, b" at ")?;
     let mut words = Words::new(place);
     let address = words.address()?;
     words.pass(b"length")?;
-    Some(Item::Module(title, address, words.number()?))
+    Some(PictureItem::Module(title, address, words.number()?))
 }
 
-fn instance_item(line: &[u8]) -> Option<Item<'_>> {
+fn instance_item(line: &[u8]) -> Option<PictureItem<'_>> {
     let (name, place) = cut_last(line.strip_prefix(b"  ")?, b" word ")?;
     let mut words = Words::new(place);
     let word = words.address()?;
     let value = words.address()?;
-    Some(Item::Instance(name, word, value, words.rest().is_some()))
+    Some(PictureItem::Instance(name, word, value, words.rest().is_some()))
 }
 
-fn row_item(line: &[u8]) -> Option<Item<'_>> {
+fn row_item(line: &[u8]) -> Option<PictureItem<'_>> {
     let (digits, bytes) = cut_last(line, b": ")?;
-    Some(Item::Row(Words::new(digits).address()?, bytes))
+    Some(PictureItem::Row(Words::new(digits).address()?, bytes))
 }
 
 /// Writes the line that an item is, with its line feed.
-pub fn push_item<W: Sink>(sink: &mut W, item: &Item<'_>) -> Result<(), WriteFault>
-    ensures { Writes W.contents W.has_failed sink.old sink.new result (item_text item.now) }
+pub fn push_item<W: Sink>(sink: &mut W, item: &PictureItem<'_>) -> Result<(), WriteFault>
+    ensures { Writes W.contents W.has_failed sink.old sink.new result (picture_item_text item.now) }
 {
     match *item {
-        Item::Heap(start, base, end) => push_heap(sink, start, base, end),
-        Item::Live(address, size) => push_part(sink, b"live ", address, size),
-        Item::Free(address, size) => push_part(sink, b"free ", address, size),
-        Item::Flex(start, end, used) => push_flex(sink, start, end, used),
-        Item::Block(anchor, address, size, holder) => push_block(
+        PictureItem::Heap(start, base, end) => push_heap(sink, start, base, end),
+        PictureItem::Live(address, size) => push_part(sink, b"live ", address, size),
+        PictureItem::Free(address, size) => push_part(sink, b"free ", address, size),
+        PictureItem::Flex(start, end, used) => push_flex(sink, start, end, used),
+        PictureItem::Block(anchor, address, size, holder) => push_block(
             sink, anchor, address, size, holder,
         ),
-        Item::Area(number, base, size, max, name) => push_area(sink, number, base, size, max, name),
-        Item::Pool(pages) => push_pool(sink, pages),
-        Item::Module(title, address, size) => push_module(sink, title, address, size),
-        Item::Instance(name, word, value, preferred) => push_instance(
+        PictureItem::Area(number, base, size, max, name) => push_area(
+            sink, number, base, size, max, name,
+        ),
+        PictureItem::Pool(pages) => push_pool(sink, pages),
+        PictureItem::Module(title, address, size) => push_module(sink, title, address, size),
+        PictureItem::Instance(name, word, value, preferred) => push_instance(
             sink, name, word, value, preferred,
         ),
-        Item::Row(address, bytes) => push_row(sink, address, bytes),
+        PictureItem::Row(address, bytes) => push_row(sink, address, bytes),
     }
 }
 
 fn push_heap<W: Sink>(sink: &mut W, start: u32, base: u32, end: u32) -> Result<(), WriteFault>
-    ensures { Writes W.contents W.has_failed sink.old sink.new result (item_text (Item.Heap start base end)) }
+    ensures { Writes W.contents W.has_failed sink.old sink.new result
+        (picture_item_text (PictureItem.Heap start base end)) }
 {
     let mut base_digits = Buffer::new();
     let mut end_digits = Buffer::new();
@@ -190,7 +193,8 @@ fn push_part<W: Sink>(sink: &mut W, word: &[u8], address: u32, size: u32) -> Res
 }
 
 fn push_flex<W: Sink>(sink: &mut W, start: u32, end: u32, used: u32) -> Result<(), WriteFault>
-    ensures { Writes W.contents W.has_failed sink.old sink.new result (item_text (Item.Flex start end used)) }
+    ensures { Writes W.contents W.has_failed sink.old sink.new result
+        (picture_item_text (PictureItem.Flex start end used)) }
 {
     let mut digits = Buffer::new();
     push_parts(
@@ -215,7 +219,7 @@ fn push_block<W: Sink>(
     holder: Option<Holder>,
 ) -> Result<(), WriteFault>
     ensures { Writes W.contents W.has_failed sink.old sink.new result
-        (item_text (Item.Block anchor address size holder)) }
+        (picture_item_text (PictureItem.Block anchor address size holder)) }
 {
     push_own(sink, anchor, address, size)?;
     push_holder(sink, holder)
@@ -223,7 +227,8 @@ fn push_block<W: Sink>(
 
 // The line of a block up to its size.
 fn push_own<W: Sink>(sink: &mut W, anchor: u32, address: u32, size: u32) -> Result<(), WriteFault>
-    ensures { Writes W.contents W.has_failed sink.old sink.new result (block_text anchor address size) }
+    ensures { Writes W.contents W.has_failed sink.old sink.new result
+        (picture_block_text anchor address size) }
 {
     let mut digits = Buffer::new();
     push_parts(
@@ -241,7 +246,7 @@ fn push_own<W: Sink>(sink: &mut W, anchor: u32, address: u32, size: u32) -> Resu
 
 // Where the anchor lies, and the end of the line.
 fn push_holder<W: Sink>(sink: &mut W, holder: Option<Holder>) -> Result<(), WriteFault>
-    ensures { Writes W.contents W.has_failed sink.old sink.new result (holder_text holder) }
+    ensures { Writes W.contents W.has_failed sink.old sink.new result (picture_holder_text holder) }
 {
     let Some(own) = holder else {
         return push_all(sink, b"\n");
@@ -268,7 +273,7 @@ fn push_area<W: Sink>(
     name: &[u8],
 ) -> Result<(), WriteFault>
     ensures { Writes W.contents W.has_failed sink.old sink.new result
-        (item_text (Item.Area number base size max name.entry)) }
+        (picture_item_text (PictureItem.Area number base size max name.entry)) }
 {
     let mut number_digits = Buffer::new();
     let mut size_digits = Buffer::new();
@@ -292,7 +297,8 @@ fn push_area<W: Sink>(
 }
 
 fn push_pool<W: Sink>(sink: &mut W, pages: u32) -> Result<(), WriteFault>
-    ensures { Writes W.contents W.has_failed sink.old sink.new result (item_text (Item.Pool pages)) }
+    ensures { Writes W.contents W.has_failed sink.old sink.new result
+        (picture_item_text (PictureItem.Pool pages)) }
 {
     let mut digits = Buffer::new();
     push_parts(
@@ -311,7 +317,8 @@ fn push_module<W: Sink>(
     address: u32,
     size: u32,
 ) -> Result<(), WriteFault>
-    ensures { Writes W.contents W.has_failed sink.old sink.new result (item_text (Item.Module title.entry address size)) }
+    ensures { Writes W.contents W.has_failed sink.old sink.new result
+        (picture_item_text (PictureItem.Module title.entry address size)) }
 {
     let mut digits = Buffer::new();
     push_parts(
@@ -336,7 +343,7 @@ fn push_instance<W: Sink>(
     is_preferred: bool,
 ) -> Result<(), WriteFault>
     ensures { Writes W.contents W.has_failed sink.old sink.new result
-        (item_text (Item.Instance name.entry word value is_preferred)) }
+        (picture_item_text (PictureItem.Instance name.entry word value is_preferred)) }
 {
     push_parts(
         sink,
@@ -359,7 +366,8 @@ fn line_end(is_preferred: bool) -> &'static [u8]
 }
 
 fn push_row<W: Sink>(sink: &mut W, address: u32, bytes: &[u8]) -> Result<(), WriteFault>
-    ensures { Writes W.contents W.has_failed sink.old sink.new result (item_text (Item.Row address bytes.entry)) }
+    ensures { Writes W.contents W.has_failed sink.old sink.new result
+        (picture_item_text (PictureItem.Row address bytes.entry)) }
 {
     push_parts(
         sink,

@@ -3,12 +3,12 @@
 ghost use Rattle.std.specs.Prelude.{◌≡◌, ◌<◌, IfOk, map, option_map};
 ghost use Rattle.view_pictures.specs.Gone.{gone_from};
 ghost use Rattle.view_pictures.specs.Layout.{height_of, least_width, scaled_size, share_of, spot_of, spots_from};
-ghost use Rattle.view_pictures.specs.Layout.{total_of, width_of};
+ghost use Rattle.view_pictures.specs.Layout.{total_box_size, width_of};
 
-use crate::boxes::{Kind, PictureBox};
+use crate::boxes::{BoxKind, PictureBox};
 use crate::changes::change_of;
 use crate::gone::gone_of;
-use crate::views::View;
+use crate::views::PictureView;
 use std::alloc::{AllocError, Global};
 
 // What all boxes share by their sizes: the height of a picture, and the characters of a bar.
@@ -62,13 +62,13 @@ pub struct Layout<'a> {
 pub fn layout_of<'a>(
     alloc: Global,
     boxes: &[PictureBox<'a>],
-    before: Option<&View<'a>>,
+    before: Option<&PictureView<'a>>,
 ) -> Result<Layout<'a>, AllocError>
     ensures boxes { IfOk result (λ layout. map (λ d. d.own) layout.boxes.items ≡ boxes.entry.now) }
     ensures spots { IfOk result (λ layout. map spot_of layout.boxes.items
-        ≡ spots_from (total_of boxes.entry.now) 8 boxes.entry.now) }
+        ≡ spots_from (total_box_size boxes.entry.now) 8 boxes.entry.now) }
     ensures widths { IfOk result (λ layout. map (λ d. d.width) layout.boxes.items
-        ≡ map (width_of (total_of boxes.entry.now)) boxes.entry.now) }
+        ≡ map (width_of (total_box_size boxes.entry.now)) boxes.entry.now) }
     ensures gone { IfOk result (λ layout. layout.gone.items
         ≡ gone_from (option_map (λ view. view.now) before.entry) boxes.entry.now) }
 {
@@ -84,9 +84,13 @@ pub fn layout_of<'a>(
             height,
             width: width_of(total, own),
             change: change_of(own, before).unwrap_or(b""),
-            link: if own.kind == Kind::Free { chain } else { None },
+            link: if own.kind == BoxKind::Free {
+                chain
+            } else {
+                None
+            },
         })?;
-        if let Kind::Descriptor | Kind::Free = own.kind {
+        if let BoxKind::Descriptor | BoxKind::Free = own.kind {
             chain = Some(top.saturating_add(height / 2));
         }
         top = top.saturating_add(height);
@@ -104,14 +108,14 @@ fn scaled_size(own: &PictureBox<'_>) -> u32
     ensures { result ≡ scaled_size own.now }
 {
     match own.kind {
-        Kind::Unused => 0,
+        BoxKind::Unused => 0,
         _ => own.size,
     }
 }
 
 // How many bytes all boxes have that count, and at least one.
 fn total_of(boxes: &[PictureBox<'_>]) -> u64
-    ensures value { result ≡ total_of boxes.now }
+    ensures value { result ≡ total_box_size boxes.now }
     ensures some { 0 < result }
 {
     let mut total = 0u64;
@@ -141,11 +145,11 @@ fn width_of(total: u64, own: &PictureBox<'_>) -> u32
 }
 
 // A character at least, and always four for what an area may grow by.
-fn least_width(kind: Kind) -> u32
+fn least_width(kind: BoxKind) -> u32
     ensures { result ≡ least_width kind }
 {
     match kind {
-        Kind::Unused => 4,
+        BoxKind::Unused => 4,
         _ => 1,
     }
 }
@@ -163,7 +167,9 @@ fn share(total: u64, size: u32, all: u64) -> u32
 fn end_of(boxes: &[PictureBox<'_>]) -> Option<u32> {
     let last = boxes.last()?;
     match last.kind {
-        Kind::Live | Kind::Free | Kind::Room => Some(last.address.saturating_add(last.size)),
+        BoxKind::Live | BoxKind::Free | BoxKind::Room => Some(
+            last.address.saturating_add(last.size),
+        ),
         _ => None,
     }
 }

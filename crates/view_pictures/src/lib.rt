@@ -17,12 +17,12 @@ pub mod views;
 mod words;
 
 pub use bars::push_bars;
-pub use boxes::{Kind, PictureBox, boxes_of};
+pub use boxes::{BoxKind, PictureBox, boxes_of};
 pub use gone::gone_of;
-pub use items::Item;
+pub use items::PictureItem;
 pub use layout::{Drawn, Layout, layout_of};
 pub use row_marks::push_marks;
 pub use rows::{GridRow, is_changed, rows_of, shown_byte, top_of};
 pub use spelt::{digit, push_spelt};
 pub use text_sink::TextSink;
-pub use views::{View, view_of};
+pub use views::{PictureView, view_of};

@@ -3,7 +3,7 @@
 ghost use Rattle.std.specs.Prelude.{◌≡◌};
 ghost use Rattle.std.specs.List.{flat_map};
 ghost use Rattle.profile.specs.Output.{Writes};
-ghost use Rattle.view_pictures.specs.RowMarks.{any_from, blanks_after, mark_lines, mark_of, marks};
+ghost use Rattle.view_pictures.specs.RowMarks.{any_from, blanks_after_byte, mark_lines, byte_mark, byte_marks};
 ghost use Rattle.view_pictures.specs.Rows.{is_changed};
 
 use crate::rows::{GridRow, is_changed};
@@ -64,7 +64,7 @@ fn has_changed(row: &GridRow<'_>) -> bool
 // the line.
 #[tactic(auto, using(crate::proofs::RowLemmas::mark_steps))]
 fn push_row_marks<W: Sink>(sink: &mut W, row: &GridRow<'_>) -> Result<(), WriteFault>
-    ensures { Writes W.contents W.has_failed sink.old sink.new result (marks 16 row.now 0 1) }
+    ensures { Writes W.contents W.has_failed sink.old sink.new result (byte_marks 16 row.now 0 1) }
 {
     let mut blanks = 1u32;
     for number in 0..16usize {
@@ -76,7 +76,7 @@ fn push_row_marks<W: Sink>(sink: &mut W, row: &GridRow<'_>) -> Result<(), WriteF
 }
 
 fn push_mark<W: Sink>(sink: &mut W, changed: bool, blanks: u32) -> Result<(), WriteFault>
-    ensures { Writes W.contents W.has_failed sink.old sink.new result (mark_of changed blanks) }
+    ensures { Writes W.contents W.has_failed sink.old sink.new result (byte_mark changed blanks) }
 {
     if !changed {
         return Ok(());
@@ -87,7 +87,7 @@ fn push_mark<W: Sink>(sink: &mut W, changed: bool, blanks: u32) -> Result<(), Wr
 
 // How many blanks stand before the next mark.
 fn blanks_after(changed: bool, blanks: u32) -> u32
-    ensures { result ≡ blanks_after changed blanks }
+    ensures { result ≡ blanks_after_byte changed blanks }
 {
     if changed { 1 } else { blanks.saturating_add(3) }
 }

@@ -1,10 +1,10 @@
 //! A view of memory as rows of bytes.
 
 ghost use Rattle.std.specs.Prelude.{◌≡◌, ◌<◌, ◌++◌, IfOk, OnOk, map, option_map};
-ghost use Rattle.view_pictures.specs.Rows.{bytes_of, is_changed, row_told, rows_told, shown_byte, top_of};
+ghost use Rattle.view_pictures.specs.Rows.{bytes_of_row, is_changed, row_told, rows_told, shown_byte, top_of};
 
-use crate::items::Item;
-use crate::views::View;
+use crate::items::PictureItem;
+use crate::views::PictureView;
 use std::alloc::{AllocError, Global};
 
 const ROW_HEIGHT: u32 = 24;
@@ -31,10 +31,10 @@ pub struct GridRow<'a> {
 /// Memory ran out.
 pub fn rows_of<'a>(
     alloc: Global,
-    items: &[Item<'a>],
-    before: Option<&View<'a>>,
+    items: &[PictureItem<'a>],
+    before: Option<&PictureView<'a>>,
 ) -> Result<Vec<GridRow<'a>>, AllocError>
-    ensures { IfOk result (λ rows. map bytes_of rows.items ≡ rows_told items.entry.now) }
+    ensures { IfOk result (λ rows. map bytes_of_row rows.items ≡ rows_told items.entry.now) }
 {
     let mut rows = Vec::new(alloc);
     for item in items {
@@ -45,12 +45,13 @@ pub fn rows_of<'a>(
 
 fn push_row_of<'a>(
     rows: &mut Vec<GridRow<'a>>,
-    item: &Item<'a>,
-    before: Option<&View<'a>>,
+    item: &PictureItem<'a>,
+    before: Option<&PictureView<'a>>,
 ) -> Result<(), AllocError>
-    ensures { OnOk result (map bytes_of rows.new.items ≡ map bytes_of rows.old.items ++ row_told item.now) }
+    ensures { OnOk result (map bytes_of_row rows.new.items ≡ map bytes_of_row rows.old.items ++ row_told
+        item.now) }
 {
-    if let Item::Row(address, bytes) = *item {
+    if let PictureItem::Row(address, bytes) = *item {
         rows.push(GridRow {
             top: top_of(rows.len()),
             address,
@@ -70,10 +71,10 @@ pub fn top_of(count: usize) -> u32
 }
 
 // The bytes that were shown at an address.
-fn row_before<'a>(address: u32, before: Option<&View<'a>>) -> &'a [u8] {
+fn row_before<'a>(address: u32, before: Option<&PictureView<'a>>) -> &'a [u8] {
     if let Some(view) = before {
         for item in view.items.iter() {
-            if let Item::Row(start, bytes) = *item {
+            if let PictureItem::Row(start, bytes) = *item {
                 if start == address {
                     return bytes;
                 }

@@ -1,6 +1,6 @@
 //! A sink that keeps what it takes.
 ghost use Rattle.std.specs.Prelude.{◌≡◌, [], Some};
-ghost use Rattle.view_pictures.specs.TextSink.{text_of};
+ghost use Rattle.view_pictures.specs.TextSink.{sink_text_of};
 
 use profile::{Sink, WriteFault};
 use std::alloc::Global;
@@ -15,7 +15,7 @@ pub struct TextSink {
 impl TextSink {
     /// A sink that has taken nothing.
     pub fn new(alloc: Global) -> TextSink
-        ensures { text_of result ≡ [] }
+        ensures { sink_text_of result ≡ [] }
     {
         TextSink {
             bytes: Vec::new(alloc),
@@ -25,21 +25,21 @@ impl TextSink {
 
     /// What it has taken.
     pub fn bytes(&self) -> &[u8]
-        ensures { result.now ≡ text_of self.now }
+        ensures { result.now ≡ sink_text_of self.now }
     {
         self.bytes.as_slice()
     }
 
     /// What it has taken, as bytes of one's own.
     pub fn into_bytes(self) -> Vec<u8>
-        ensures { result.items ≡ text_of self }
+        ensures { result.items ≡ sink_text_of self }
     {
         self.bytes
     }
 }
 
 impl Sink for TextSink {
-    ghost contents = { λ s. Some (text_of s) };
+    ghost contents = { λ s. Some (sink_text_of s) };
 
     ghost has_failed = { λ s. s.has_failed };
 

@@ -1,39 +1,41 @@
 //! The answer of a view as its items.
 
 ghost use Rattle.std.specs.Prelude.{◌≡◌, true, IfOk, IfSome, map};
-ghost use Rattle.view_pictures.specs.Boxes.{place_of, places_told};
-ghost use Rattle.view_pictures.specs.Items.{items_text};
+ghost use Rattle.view_pictures.specs.Boxes.{place_of_box, places_told};
+ghost use Rattle.view_pictures.specs.Items.{picture_items_text};
 
 use crate::boxes::{PictureBox, boxes_of};
-use crate::items::{Item, item_of, push_item};
+use crate::items::{PictureItem, item_of, push_item};
 use crate::text_sink::TextSink;
 use std::alloc::{AllocError, Global};
 use text_lines::Lines;
 
 /// What the answer of a view tells, line by line.
 #[derive(Drop)]
-pub struct View<'a> {
+pub struct PictureView<'a> {
     /// An item for each line.
-    pub items: Vec<Item<'a>>,
+    pub items: Vec<PictureItem<'a>>,
     /// The boxes of its picture.
     pub boxes: Vec<PictureBox<'a>>,
 }
 
-impl View<'_> {
+impl PictureView<'_> {
     /// Whether it is a view of memory.
     pub fn is_memory(&self) -> bool {
-        matches!(self.items.first(), Some(Item::Row(_, _)))
+        matches!(self.items.first(), Some(PictureItem::Row(_, _)))
     }
 
     /// Whether both look at the same thing: the heap or the memory of one address, or the one
     /// store, all areas or all modules.
-    pub fn is_of(&self, other: &View<'_>) -> bool {
+    pub fn is_of(&self, other: &PictureView<'_>) -> bool {
         match (self.items.first(), other.items.first()) {
-            (Some(Item::Heap(start, _, _)), Some(Item::Heap(other, _, _))) => start == other,
-            (Some(Item::Row(start, _)), Some(Item::Row(other, _))) => start == other,
-            (Some(Item::Flex(_, _, _)), Some(Item::Flex(_, _, _))) => true,
-            (Some(Item::Area(_, _, _, _, _)), Some(Item::Area(_, _, _, _, _))) => true,
-            (Some(Item::Module(_, _, _)), Some(Item::Module(_, _, _))) => true,
+            (Some(PictureItem::Heap(start, _, _)), Some(PictureItem::Heap(other, _, _))) => start
+                == other,
+            (Some(PictureItem::Row(start, _)), Some(PictureItem::Row(other, _))) => start == other,
+            (Some(PictureItem::Flex(_, _, _)), Some(PictureItem::Flex(_, _, _))) => true,
+            (Some(PictureItem::Area(_, _, _, _, _)), Some(PictureItem::Area(_, _, _, _, _))) =>
+                true,
+            (Some(PictureItem::Module(_, _, _)), Some(PictureItem::Module(_, _, _))) => true,
             _ => false,
         }
     }
@@ -45,10 +47,11 @@ impl View<'_> {
 /// # Errors
 ///
 /// Memory ran out.
-pub fn view_of<'a>(alloc: Global, answer: &'a [u8]) -> Result<Option<View<'a>>, AllocError>
-    ensures text { IfOk result (λ found. IfSome found (λ view. items_text view.items.items ≡ answer.now)) }
+pub fn view_of<'a>(alloc: Global, answer: &'a [u8]) -> Result<Option<PictureView<'a>>, AllocError>
+    ensures text { IfOk result (λ found. IfSome found
+        (λ view. picture_items_text view.items.items ≡ answer.now)) }
     ensures boxes { IfOk result (λ found. IfSome found (λ view.
-        map place_of view.boxes.items ≡ places_told view.items.items)) }
+        map place_of_box view.boxes.items ≡ places_told view.items.items)) }
 {
     let mut items = Vec::new(alloc);
     let mut lines = Lines::new(answer);
@@ -63,13 +66,13 @@ pub fn view_of<'a>(alloc: Global, answer: &'a [u8]) -> Result<Option<View<'a>>, 
         return Ok(None);
     }
     let boxes = boxes_of(alloc, items.as_slice())?;
-    Ok(Some(View { items, boxes }))
+    Ok(Some(PictureView { items, boxes }))
 }
 
 // The items, written out.
 #[tactic(auto, using(crate::proofs::TextLemmas::written_steps))]
-fn written_text(alloc: Global, items: &[Item<'_>]) -> Result<Vec<u8>, AllocError>
-    ensures { IfOk result (λ text. text.items ≡ items_text items.now) }
+fn written_text(alloc: Global, items: &[PictureItem<'_>]) -> Result<Vec<u8>, AllocError>
+    ensures { IfOk result (λ text. text.items ≡ picture_items_text items.now) }
 {
     let mut written = TextSink::new(alloc);
     for item in items {

@@ -1,7 +1,7 @@
 use Rattle.std.proofs.Common.{◌<◌, ◌+◌, ◌%◌, ap, sym, ◌∙◌, arith}
 use Rattle.address_map.proofs.Lending.{page_fits, place_ahead}
 use Rattle.address_map.specs.Memory.{bytes_of}
-use Rattle.arm_step.specs.Blocks.{block_size, block_value}
+use Rattle.arm_step.specs.Blocks.{transferred_count, block_value}
 use Rattle.arm_core.specs.State.{register_in}
 use Rattle.arm_core.specs.declared.psr.Mode.TheVariants.{User}
 use Rattle.arm_core.proofs.Listing.{few_of_all}
@@ -19,7 +19,7 @@ pub put_word_at-requires-clause-there : goal.put_word_at-requires-clause-there
 put_word_at-requires-clause-there c =
     let more = length_next _ _ _ c.split_lowest-register.ensures.registers in
     let below : c.args.first % 4096 + c.loop-rest.offset < 4096 =
-    omega (arith, page_within c.args.first (block_size c.args.block.now) c.requires.page, c.loop-rest.invariant.room, more) in
+    omega (arith, page_within c.args.first (transferred_count c.args.block.now) c.requires.page, c.loop-rest.invariant.room, more) in
     ap (λ l. l.place (c.args.first + c.loop-rest.offset)) c.loop-rest.invariant.layout
     ∙ place_ahead c.args.memory.now c.args.first c.loop-rest.offset c.args.at c.requires.place below
 

@@ -1,12 +1,12 @@
 -- Each way out is what the definition says there.
 use Rattle.std.proofs.Common.{rules}
-use Rattle.assembler_names.specs.Expressions.{with_digit}
+use Rattle.assembler_names.specs.Expressions.{value_with_digit}
 use Rattle.assembler_names.proofs.numerals.with_digit.Goals as goal
 
 pub returns-in_err-digit-clause-value : goal.returns-in_err-digit-clause-value
-unfolding with_digit
+unfolding value_with_digit
 returns-in_err-digit-clause-value c = search rules
 
 pub returns-clause-value : goal.returns-clause-value
-unfolding with_digit
+unfolding value_with_digit
 returns-clause-value c = search rules

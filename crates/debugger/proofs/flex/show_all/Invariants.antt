@@ -3,14 +3,14 @@ use Rattle.std.specs.List.{flat_map}
 use Rattle.profile.specs.Output.{AddsAllBut}
 use Rattle.swi_dispatch.specs.flex_store.specs.Listed.{all_listed}
 use Rattle.swi_dispatch.specs.flex_store.specs.State.{flex_in}
-use Rattle.debugger.specs.Flex.{block_text, blocks_text}
+use Rattle.debugger.specs.Flex.{flex_block_text, flex_blocks_text}
 use Rattle.debugger.proofs.flex.show_all.Given as goal
 
 -- what stands written, and the lines of the blocks that are left, is all
 abbrev pub invariant-loop-block : goal.invariant-loop-block
 invariant-loop-block g l = record {
   text : AddsAllBut (g.W.Sink.contents l.fn.sink) (g.W.Sink.contents l.sink)
-      (flat_map (block_text (all_listed (flex_in l.memory l.flex.extent))) l.rest) (blocks_text (all_listed (flex_in l.memory l.flex.extent)));
+      (flat_map (flex_block_text (all_listed (flex_in l.memory l.flex.extent))) l.rest) (flex_blocks_text (all_listed (flex_in l.memory l.flex.extent)));
   same_flag : g.W.Sink.has_failed l.sink ≡ g.W.Sink.has_failed l.fn.sink;
 }
 

@@ -5,7 +5,7 @@ use Rattle.profile.proofs.OutputLemmas.{Appends-join}
 use Rattle.address_map.specs.Memory.{bytes_of}
 use Rattle.swi_dispatch.specs.flex_store.specs.Listed.{all_listed}
 use Rattle.swi_dispatch.specs.flex_store.specs.State.{flex_in}
-use Rattle.debugger.specs.Flex.{blocks_text, flex_text, range_text}
+use Rattle.debugger.specs.Flex.{flex_blocks_text, flex_text, range_text}
 use Rattle.debugger.proofs.FlexLemmas.{shown}
 use Rattle.debugger.proofs.flex.show_store.Goals as goal
 
@@ -15,7 +15,7 @@ returns-clause-writes g c =
     let f = c.args.flex.now in
     let line = range_text c.in-Some.start c.in-Some.end c.in-Some.used in
     let blocks = all_listed (flex_in m f.extent) in
-    let lines = blocks_text blocks in
+    let lines = flex_blocks_text blocks in
     let from = g.W.Sink.contents c.args.sink.now in
     let between = g.W.Sink.contents c.show_range.new.sink in
     let to = g.W.Sink.contents c.show_all.new.sink in

@@ -6,22 +6,22 @@ use Rattle.address_map.specs.Items.{size_of}
 use Rattle.swi_dispatch.specs.os_heap.specs.Store.{Store, store_of}
 use Rattle.swi_dispatch.specs.os_heap.specs.Calls.{items_of}
 use Rattle.swi_dispatch.specs.Parts.{state_of}
-use Rattle.debugger.specs.Heap.{limits_text, items_text, blocks_text}
+use Rattle.debugger.specs.Heap.{limits_text, heap_items_text, heap_blocks_text}
 use Rattle.debugger.proofs.HeapLemmas.{IsShown, shown, not_shown}
 use Rattle.debugger.proofs.heap.show_blocks.Goals as goal
 
 pub returns-in_default-clause-found : goal.returns-in_default-clause-found
 returns-in_default-clause-found g c =
     let none : items_of (store_of c.memory-memory.result.now) c.args.heap ≡ None = sym c.blocks-2.ensures ∙ c.in_default.is in
-    sym (ap (λ (s : Store). is_some (blocks_text s c.args.heap)) (sym c.memory-memory.ensures.store)
+    sym (ap (λ (s : Store). is_some (heap_blocks_text s c.args.heap)) (sym c.memory-memory.ensures.store)
     ∙ ap is_some (not_shown (store_of c.memory-memory.result.now) c.args.heap none))
 
 pub returns-in_default-clause-writes : goal.returns-in_default-clause-writes
 returns-in_default-clause-writes g c =
     let a = g.W.Sink.contents c.args.sink.now in
     let none : items_of (store_of c.memory-memory.result.now) c.args.heap ≡ None = sym c.blocks-2.ensures ∙ c.in_default.is in
-    let text : blocks_text (state_of c.args.machine.now).store c.args.heap ≡ None =
-    ap (λ (s : Store). blocks_text s c.args.heap) (sym c.memory-memory.ensures.store)
+    let text : heap_blocks_text (state_of c.args.machine.now).store c.args.heap ≡ None =
+    ap (λ (s : Store). heap_blocks_text s c.args.heap) (sym c.memory-memory.ensures.store)
     ∙ not_shown (store_of c.memory-memory.result.now) c.args.heap none in
     record {
       text = subst (λ (o : Option (List ℕ)). Appends a a (unwrap_or o [])) (sym text) (Appends-nothing a);
@@ -55,7 +55,7 @@ returns-clause-found g c =
     let m = c.memory-memory.result.now in
     let is : IsShown m c.args.heap c.in-Some.blocks =
     shown m c.args.heap c.in-Some.blocks c.memory-memory.ensures.sound (sym c.blocks-2.ensures ∙ c.in-Some.is) in
-    sym (ap (λ (s : Store). is_some (blocks_text s c.args.heap)) (sym c.memory-memory.ensures.store) ∙ ap is_some is.text)
+    sym (ap (λ (s : Store). is_some (heap_blocks_text s c.args.heap)) (sym c.memory-memory.ensures.store) ∙ ap is_some is.text)
 
 pub returns-clause-writes : goal.returns-clause-writes
 returns-clause-writes g c =
@@ -66,12 +66,12 @@ returns-clause-writes g c =
     let between = g.W.Sink.contents c.show_limits.new.sink in
     let to = g.W.Sink.contents c.show_items.new.sink in
     let is : IsShown m heap items = shown m heap items c.memory-memory.ensures.sound (sym c.blocks-2.ensures ∙ c.in-Some.is) in
-    let text : blocks_text (state_of c.args.machine.now).store heap
-    ≡ Some (limits_text heap (16 + size_of is.part.items) is.part.end ++ items_text (heap + 16) items) =
-    ap (λ (s : Store). blocks_text s heap) (sym c.memory-memory.ensures.store) ∙ is.text in
+    let text : heap_blocks_text (state_of c.args.machine.now).store heap
+    ≡ Some (limits_text heap (16 + size_of is.part.items) is.part.end ++ heap_items_text (heap + 16) items) =
+    ap (λ (s : Store). heap_blocks_text s heap) (sym c.memory-memory.ensures.store) ∙ is.text in
     record {
       text = subst (λ (o : Option (List ℕ)). Appends from to (unwrap_or o [])) (sym text)
-          (Appends-join from between to (limits_text heap (16 + size_of is.part.items) is.part.end) (items_text (heap + 16) items)
+          (Appends-join from between to (limits_text heap (16 + size_of is.part.items) is.part.end) (heap_items_text (heap + 16) items)
           (rw is.found at c.in_ok-show_limits.ensures.text) c.in_ok-show_items.ensures.text);
       flag = tt;
       same_flag = c.in_ok-show_items.ensures.same_flag ∙ c.in_ok-show_limits.ensures.same_flag;

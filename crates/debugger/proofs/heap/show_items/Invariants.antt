@@ -1,12 +1,12 @@
 use Rattle.std.proofs.Common.{◌≡◌, ◌≤◌, ◌+◌, ◌^◌, length}
 use Rattle.profile.specs.Output.{AddsAllBut}
 use Rattle.address_map.specs.Items.{size_of}
-use Rattle.debugger.specs.Heap.{items_text}
+use Rattle.debugger.specs.Heap.{heap_items_text}
 use Rattle.debugger.proofs.heap.show_items.Given as goal
 
 abbrev pub invariant-loop-item : goal.invariant-loop-item
 invariant-loop-item g l = record {
-  text : AddsAllBut (g.W.Sink.contents l.fn.sink) (g.W.Sink.contents l.sink) (items_text l.at l.rest) (items_text l.start l.fn.blocks);
+  text : AddsAllBut (g.W.Sink.contents l.fn.sink) (g.W.Sink.contents l.sink) (heap_items_text l.at l.rest) (heap_items_text l.start l.fn.blocks);
   below : l.at + size_of l.rest ≤ 2 ^ 26;
   same_flag : g.W.Sink.has_failed l.sink ≡ g.W.Sink.has_failed l.fn.sink;
 }

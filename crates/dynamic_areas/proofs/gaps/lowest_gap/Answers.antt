@@ -1,3 +1,4 @@
+use Rattle.profile.specs.MemoryMap.{area_window_start}
 use Rattle.std.proofs.Common.{◌≡◌, ◌+◌, ◌-◌, ◌*◌, true, sym, ◌∙◌, arith}
 use Rattle.dynamic_areas.specs.Rooms.{meets_area}
 use Rattle.dynamic_areas.proofs.Tables.{gap_passed}
@@ -7,12 +8,12 @@ use Rattle.dynamic_areas.specs.Creating.{lowest_gap}
 
 pub loop-page-preserved : goal.loop-page-preserved
 loop-page-preserved c =
-    let met : meets_area (0x02000000 + 4096 * c.loop-page.page) c.args.maximum c.args.areas.now ≡ true =
+    let met : meets_area (area_window_start + 4096 * c.loop-page.page) c.args.maximum c.args.areas.now ≡ true =
     sym c.meets_area.ensures ∙ c.if-not-meets_area.false in
-    let base : 0x02000000 + 4096 * (c.loop-page.page + 1) ≡ 0x02000000 + 4096 * c.loop-page.page + 4096 = omega arith in
+    let base : area_window_start + 4096 * (c.loop-page.page + 1) ≡ area_window_start + 4096 * c.loop-page.page + 4096 = omega arith in
     let left : c.gap_count-count.result - (c.loop-page.page + 1) ≡ c.gap_count-count.result - c.loop-page.page - 1 = omega arith in
     rw (base, left) (
-    sym (gap_passed c.args.areas.now c.args.maximum (0x02000000 + 4096 * c.loop-page.page) (c.gap_count-count.result - c.loop-page.page) met (omega arith))
+    sym (gap_passed c.args.areas.now c.args.maximum (area_window_start + 4096 * c.loop-page.page) (c.gap_count-count.result - c.loop-page.page) met (omega arith))
     ∙ c.loop-page.invariant
     )
 

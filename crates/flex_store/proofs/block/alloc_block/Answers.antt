@@ -1,7 +1,7 @@
 use Rattle.std.proofs.Common.{◌∷◌, [], sym, ◌∙◌}
 use Rattle.os_heap.specs.Store.{store_of}
 use Rattle.flex_store.specs.Blocks.{new_block}
-use Rattle.flex_store.specs.State.{blocks_of, store_in}
+use Rattle.flex_store.specs.State.{blocks_of, flex_store_in}
 use Rattle.std.proofs.lemmas.Bool.{and_parts}
 use Rattle.flex_store.specs.Calls.{is_anchor_place, may_stand}
 use Rattle.flex_store.proofs.Keeping.{place_headless}
@@ -46,4 +46,4 @@ pub append_block-requires-clause-head : goal.append_block-requires-clause-head
 append_block-requires-clause-head c =
     let m = c.args.map.now in
     place_headless m c.args.anchor c.requires.sound c.requires.classes
-    (and_parts (is_anchor_place (store_of m) c.args.anchor) (may_stand (store_in m c.args.extent.now) c.args.anchor) (sym c.may_hold.ensures ∙ c.if-not-may_hold.false)).0
+    (and_parts (is_anchor_place (store_of m) c.args.anchor) (may_stand (flex_store_in m c.args.extent.now) c.args.anchor) (sym c.may_hold.ensures ∙ c.if-not-may_hold.false)).0

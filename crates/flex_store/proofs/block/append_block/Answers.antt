@@ -1,11 +1,11 @@
 use Rattle.std.proofs.Common.{◌≡◌, ◌+◌, arith, refl, ap, ◌∙◌}
-use Rattle.flex_store.specs.Blocks.{taken}
+use Rattle.flex_store.specs.Blocks.{bytes_taken_by}
 use Rattle.flex_store.proofs.Allocating.{alloc_done, alloc_none, alloc_numbers}
 use Rattle.flex_store.proofs.block.append_block.Goals as goal
 
 pub returns-then-from-used : goal.returns-then-from-used
 returns-then-from-used c =
-    let new : c.taken.result ≡ taken c.args.size = c.taken.ensures ∙ ap taken c.from-2.ensures in
+    let new : c.taken.result ≡ bytes_taken_by c.args.size = c.taken.ensures ∙ ap bytes_taken_by c.from-2.ensures in
     let all : c.from.result ≡ c.args.extent.now.used = c.from.ensures in
     let start : c.from-3.result ≡ c.args.extent.now.start = c.from-3.ensures in
     let end : c.from-4.result ≡ c.args.extent.now.end = c.from-4.ensures in
@@ -13,7 +13,7 @@ returns-then-from-used c =
 
 pub append-requires-clause-aligned : goal.append-requires-clause-aligned
 append-requires-clause-aligned c =
-    let new : c.taken.result ≡ taken c.args.size = c.taken.ensures ∙ ap taken c.from-2.ensures in
+    let new : c.taken.result ≡ bytes_taken_by c.args.size = c.taken.ensures ∙ ap bytes_taken_by c.from-2.ensures in
     let all : c.from.result ≡ c.args.extent.now.used = c.from.ensures in
     let start : c.from-3.result ≡ c.args.extent.now.start = c.from-3.ensures in
     let end : c.from-4.result ≡ c.args.extent.now.end = c.from-4.ensures in
@@ -22,7 +22,7 @@ append-requires-clause-aligned c =
 pub returns : goal.returns
 returns c =
     let e = c.args.extent.now in
-    let new : c.taken.result ≡ taken c.args.size = c.taken.ensures ∙ ap taken c.from-2.ensures in
+    let new : c.taken.result ≡ bytes_taken_by c.args.size = c.taken.ensures ∙ ap bytes_taken_by c.from-2.ensures in
     let all : c.from.result ≡ c.args.extent.now.used = c.from.ensures in
     let start : c.from-3.result ≡ c.args.extent.now.start = c.from-3.ensures in
     let end : c.from-4.result ≡ c.args.extent.now.end = c.from-4.ensures in

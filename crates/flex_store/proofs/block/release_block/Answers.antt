@@ -2,7 +2,7 @@ use Rattle.std.proofs.Common.{ℕ, Bool, true, false, ◌≡◌, ◌+◌, ◌-�
 use Rattle.address_map.specs.declared.map.AddressMap.{AddressMap}
 use Rattle.address_map.specs.Memory.{anchor_of}
 use Rattle.address_map.specs.Records.{anchor_among}
-use Rattle.flex_store.specs.Blocks.{taken}
+use Rattle.flex_store.specs.Blocks.{bytes_taken_by}
 use Rattle.flex_store.specs.Relaid.{first_at}
 use Rattle.flex_store.proofs.Finding.{header_word, placed}
 use Rattle.flex_store.proofs.Releasing.{anchor_word, release_gets, release_gives, release_keeps, release_refused, removes}
@@ -48,19 +48,19 @@ pub overflow_cast-extent : goal.overflow_cast-extent
 overflow_cast-extent c =
     let w = (header_word c.args.map.now c.args.extent.now c.args.anchor c.in-Some.header c.requires c.in-Some.ensures) in
     let p = (placed c.args.map.now c.args.extent.now c.args.anchor c.in-Some.header c.requires c.in-Some.ensures) in
-    let size : c.taken.result ≡ taken (first_at c.args.map.now c.in-Some.header).size = c.taken.ensures ∙ ap taken (c.from.ensures ∙ c.word-size.ensures) in
+    let size : c.taken.result ≡ bytes_taken_by (first_at c.args.map.now c.in-Some.header).size = c.taken.ensures ∙ ap bytes_taken_by (c.from.ensures ∙ c.word-size.ensures) in
     omega (arith, w.fits, p.low, p.total, p.store.fits)
 
 pub overflow_sub-extent : goal.overflow_sub-extent
 overflow_sub-extent c =
     let w = (header_word c.args.map.now c.args.extent.now c.args.anchor c.in-Some.header c.requires c.in-Some.ensures) in
-    let size : c.taken.result ≡ taken (first_at c.args.map.now c.in-Some.header).size = c.taken.ensures ∙ ap taken (c.from.ensures ∙ c.word-size.ensures) in
+    let size : c.taken.result ≡ bytes_taken_by (first_at c.args.map.now c.in-Some.header).size = c.taken.ensures ∙ ap bytes_taken_by (c.from.ensures ∙ c.word-size.ensures) in
     omega (arith, w.fits)
 
 pub returns-clause-state : goal.returns-clause-state
 returns-clause-state c =
     let e = c.args.extent.now in
-    let size : c.taken.result ≡ taken (first_at c.args.map.now c.in-Some.header).size = c.taken.ensures ∙ ap taken (c.from.ensures ∙ c.word-size.ensures) in
+    let size : c.taken.result ≡ bytes_taken_by (first_at c.args.map.now c.in-Some.header).size = c.taken.ensures ∙ ap bytes_taken_by (c.from.ensures ∙ c.word-size.ensures) in
     release_gives c.args.map.now c.args.extent.now c.args.anchor c.in-Some.header c.in-Some.ensures.split.before (placed c.args.map.now c.args.extent.now c.args.anchor c.in-Some.header c.requires c.in-Some.ensures) (holds_by c.args.map.now c.in-Some.header c.word-size.result c.anchor_in.result false c.anchor_in.ensures c.word-size.ensures c.if-anchor_in.false) c.put_word.new.self (record { bytes = c.put_word.ensures.bytes; marks = c.put_word.ensures.marks; same = c.put_word.ensures.layout }) c.remove.new.map (record { start = e.start; end = e.end; used = e.used - c.taken.result }) c.requires
     (release_gets c.args.map.now c.args.extent.now c.args.anchor c.in-Some.header c.in-Some.ensures.split.before (placed c.args.map.now c.args.extent.now c.args.anchor c.in-Some.header c.requires c.in-Some.ensures) (holds_by c.args.map.now c.in-Some.header c.word-size.result c.anchor_in.result false c.anchor_in.ensures c.word-size.ensures c.if-anchor_in.false) c.put_word.new.self (record { bytes = c.put_word.ensures.bytes; marks = c.put_word.ensures.marks; same = c.put_word.ensures.layout }) c.remove.new.map (record { start = e.start; end = e.end; used = e.used - c.taken.result })
     c.remove.ensures refl refl (ap (λ (n : ℕ). e.used - n) size))
@@ -68,7 +68,7 @@ returns-clause-state c =
 pub returns-clause-keeps : goal.returns-clause-keeps
 returns-clause-keeps c =
     let e = c.args.extent.now in
-    let size : c.taken.result ≡ taken (first_at c.args.map.now c.in-Some.header).size = c.taken.ensures ∙ ap taken (c.from.ensures ∙ c.word-size.ensures) in
+    let size : c.taken.result ≡ bytes_taken_by (first_at c.args.map.now c.in-Some.header).size = c.taken.ensures ∙ ap bytes_taken_by (c.from.ensures ∙ c.word-size.ensures) in
     release_keeps c.args.map.now c.args.extent.now c.args.anchor c.in-Some.header c.in-Some.ensures.split.before (placed c.args.map.now c.args.extent.now c.args.anchor c.in-Some.header c.requires c.in-Some.ensures) (holds_by c.args.map.now c.in-Some.header c.word-size.result c.anchor_in.result false c.anchor_in.ensures c.word-size.ensures c.if-anchor_in.false) c.put_word.new.self (record { bytes = c.put_word.ensures.bytes; marks = c.put_word.ensures.marks; same = c.put_word.ensures.layout }) c.remove.new.map (record { start = e.start; end = e.end; used = e.used - c.taken.result })
     (release_gets c.args.map.now c.args.extent.now c.args.anchor c.in-Some.header c.in-Some.ensures.split.before (placed c.args.map.now c.args.extent.now c.args.anchor c.in-Some.header c.requires c.in-Some.ensures) (holds_by c.args.map.now c.in-Some.header c.word-size.result c.anchor_in.result false c.anchor_in.ensures c.word-size.ensures c.if-anchor_in.false) c.put_word.new.self (record { bytes = c.put_word.ensures.bytes; marks = c.put_word.ensures.marks; same = c.put_word.ensures.layout }) c.remove.new.map (record { start = e.start; end = e.end; used = e.used - c.taken.result })
     c.remove.ensures refl refl (ap (λ (n : ℕ). e.used - n) size))

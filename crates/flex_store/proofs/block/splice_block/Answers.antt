@@ -2,10 +2,10 @@ use Rattle.std.proofs.Common.{ℕ, Bool, true, false, ◌≡◌, ◌+◌, ◌-�
 use Rattle.address_map.specs.declared.map.AddressMap.{AddressMap}
 use Rattle.address_map.specs.Memory.{anchor_of}
 use Rattle.flex_store.specs.declared.splice.Splice.{Splice}
-use Rattle.flex_store.specs.Blocks.{taken}
+use Rattle.flex_store.specs.Blocks.{bytes_taken_by}
 use Rattle.flex_store.specs.Calls.{breaks_anchor}
-use Rattle.flex_store.specs.Relaid.{first_at, replaced}
-use Rattle.flex_store.specs.Splices.{size_after}
+use Rattle.flex_store.specs.Relaid.{first_at, blocks_after_splice}
+use Rattle.flex_store.specs.Splices.{size_after_splice}
 use Rattle.flex_store.proofs.Answering.{fits_keeps, splice_allowed, splice_broken, splice_done}
 use Rattle.flex_store.proofs.Finding.{header_word, placed}
 use Rattle.flex_store.proofs.Replacing.{changed, IsChange, may_replace, no_room}
@@ -40,15 +40,15 @@ returns-then-breaks_anchor-clause-state c =
 
 pub overflow_sub-others : goal.overflow_sub-others
 overflow_sub-others c =
-    let total : c.taken.result ≡ taken (first_at c.args.map.now c.args.header).size = c.taken.ensures ∙ ap taken (c.from-2.ensures ∙ c.word-size.ensures) in
+    let total : c.taken.result ≡ bytes_taken_by (first_at c.args.map.now c.args.header).size = c.taken.ensures ∙ ap bytes_taken_by (c.from-2.ensures ∙ c.word-size.ensures) in
     let all : c.from.result ≡ c.args.extent.now.used = c.from.ensures in
     omega (arith, (header_word c.args.map.now c.args.extent.now c.args.anchor c.args.header c.requires.store c.requires.place).fits)
 
 pub returns-then-from-used-clause-state : goal.returns-then-from-used-clause-state
 returns-then-from-used-clause-state c =
     let s = c.args.splice.now in
-    let old : c.taken.result ≡ taken (first_at c.args.map.now c.args.header).size = c.taken.ensures ∙ ap taken (c.from-2.ensures ∙ c.word-size.ensures) in
-    let new : c.taken-2.result ≡ taken (size_after s (first_at c.args.map.now c.args.header).size) = c.taken-2.ensures ∙ ap taken (c.size_after.ensures ∙ ap (size_after s) c.word-size.ensures) in
+    let old : c.taken.result ≡ bytes_taken_by (first_at c.args.map.now c.args.header).size = c.taken.ensures ∙ ap bytes_taken_by (c.from-2.ensures ∙ c.word-size.ensures) in
+    let new : c.taken-2.result ≡ bytes_taken_by (size_after_splice s (first_at c.args.map.now c.args.header).size) = c.taken-2.ensures ∙ ap bytes_taken_by (c.size_after.ensures ∙ ap (size_after_splice s) c.word-size.ensures) in
     let all : c.from.result ≡ c.args.extent.now.used = c.from.ensures in
     let start : c.from-3.result ≡ c.args.extent.now.start = c.from-3.ensures in
     let end : c.from-4.result ≡ c.args.extent.now.end = c.from-4.ensures in
@@ -64,8 +64,8 @@ replace-requires-clause-words c = (placed c.args.map.now c.args.extent.now c.arg
 pub replace-requires-clause-room : goal.replace-requires-clause-room
 replace-requires-clause-room c =
     let s = c.args.splice.now in
-    let old : c.taken.result ≡ taken (first_at c.args.map.now c.args.header).size = c.taken.ensures ∙ ap taken (c.from-2.ensures ∙ c.word-size.ensures) in
-    let new : c.taken-2.result ≡ taken (size_after s (first_at c.args.map.now c.args.header).size) = c.taken-2.ensures ∙ ap taken (c.size_after.ensures ∙ ap (size_after s) c.word-size.ensures) in
+    let old : c.taken.result ≡ bytes_taken_by (first_at c.args.map.now c.args.header).size = c.taken.ensures ∙ ap bytes_taken_by (c.from-2.ensures ∙ c.word-size.ensures) in
+    let new : c.taken-2.result ≡ bytes_taken_by (size_after_splice s (first_at c.args.map.now c.args.header).size) = c.taken-2.ensures ∙ ap bytes_taken_by (c.size_after.ensures ∙ ap (size_after_splice s) c.word-size.ensures) in
     let all : c.from.result ≡ c.args.extent.now.used = c.from.ensures in
     let start : c.from-3.result ≡ c.args.extent.now.start = c.from-3.ensures in
     let end : c.from-4.result ≡ c.args.extent.now.end = c.from-4.ensures in
@@ -81,8 +81,8 @@ replace-requires-clause-room c =
 pub returns-clause-state : goal.returns-clause-state
 returns-clause-state c =
     let s = c.args.splice.now in
-    let old : c.taken.result ≡ taken (first_at c.args.map.now c.args.header).size = c.taken.ensures ∙ ap taken (c.from-2.ensures ∙ c.word-size.ensures) in
-    let new : c.taken-2.result ≡ taken (size_after s (first_at c.args.map.now c.args.header).size) = c.taken-2.ensures ∙ ap taken (c.size_after.ensures ∙ ap (size_after s) c.word-size.ensures) in
+    let old : c.taken.result ≡ bytes_taken_by (first_at c.args.map.now c.args.header).size = c.taken.ensures ∙ ap bytes_taken_by (c.from-2.ensures ∙ c.word-size.ensures) in
+    let new : c.taken-2.result ≡ bytes_taken_by (size_after_splice s (first_at c.args.map.now c.args.header).size) = c.taken-2.ensures ∙ ap bytes_taken_by (c.size_after.ensures ∙ ap (size_after_splice s) c.word-size.ensures) in
     let all : c.from.result ≡ c.args.extent.now.used = c.from.ensures in
     let start : c.from-3.result ≡ c.args.extent.now.start = c.from-3.ensures in
     let end : c.from-4.result ≡ c.args.extent.now.end = c.from-4.ensures in
@@ -99,8 +99,8 @@ returns-clause-state c =
 pub returns-clause-keeps : goal.returns-clause-keeps
 returns-clause-keeps c =
     let s = c.args.splice.now in
-    let old : c.taken.result ≡ taken (first_at c.args.map.now c.args.header).size = c.taken.ensures ∙ ap taken (c.from-2.ensures ∙ c.word-size.ensures) in
-    let new : c.taken-2.result ≡ taken (size_after s (first_at c.args.map.now c.args.header).size) = c.taken-2.ensures ∙ ap taken (c.size_after.ensures ∙ ap (size_after s) c.word-size.ensures) in
+    let old : c.taken.result ≡ bytes_taken_by (first_at c.args.map.now c.args.header).size = c.taken.ensures ∙ ap bytes_taken_by (c.from-2.ensures ∙ c.word-size.ensures) in
+    let new : c.taken-2.result ≡ bytes_taken_by (size_after_splice s (first_at c.args.map.now c.args.header).size) = c.taken-2.ensures ∙ ap bytes_taken_by (c.size_after.ensures ∙ ap (size_after_splice s) c.word-size.ensures) in
     let all : c.from.result ≡ c.args.extent.now.used = c.from.ensures in
     let start : c.from-3.result ≡ c.args.extent.now.start = c.from-3.ensures in
     let end : c.from-4.result ≡ c.args.extent.now.end = c.from-4.ensures in
@@ -111,6 +111,6 @@ returns-clause-keeps c =
       free = breaks_by c.args.map.now c.args.header c.word-size.result s c.breaks_anchor.result false c.breaks_anchor.ensures c.word-size.ensures c.if-breaks_anchor.false;
       room = rw (← all, ← old, ← new, ← start, ← end) c.if-from-used.false;
     } in
-    fits_keeps c.args.map.now c.replace.new.map c.args.extent.now (record { start = c.args.extent.now.start; end = c.args.extent.now.end; used = c.from.result - c.taken.result + c.taken-2.result }) c.requires.place.split.before (replaced c.args.map.now c.args.header (c.args.extent.now.start + c.args.extent.now.used) s) true c.requires.store
+    fits_keeps c.args.map.now c.replace.new.map c.args.extent.now (record { start = c.args.extent.now.start; end = c.args.extent.now.end; used = c.from.result - c.taken.result + c.taken-2.result }) c.requires.place.split.before (blocks_after_splice c.args.map.now c.args.header (c.args.extent.now.start + c.args.extent.now.used) s) true c.requires.store
     (splice_allowed c.args.map.now c.args.extent.now c.args.anchor c.args.header c.requires.place.split.before s (placed c.args.map.now c.args.extent.now c.args.anchor c.args.header c.requires.store c.requires.place) change)
     (changed c.args.map.now c.args.extent.now c.args.anchor c.args.header c.requires.place.split.before s (placed c.args.map.now c.args.extent.now c.args.anchor c.args.header c.requires.store c.requires.place) change c.replace.new.map (record { start = c.args.extent.now.start; end = c.args.extent.now.end; used = c.from.result - c.taken.result + c.taken-2.result }) c.replace.ensures refl refl (rw (all, old, new) refl))

@@ -1,7 +1,7 @@
 use Rattle.std.proofs.Common.{ℕ, ◌≡◌, ◌≤◌, ◌<◌, ◌+◌, ◌-◌, List, arith, ap, refl, ◌∙◌}
 use Rattle.address_map.specs.Bytes.{bytes_between, with_bytes_at, with_moved_at}
 use Rattle.address_map.specs.Memory.{byte_at}
-use Rattle.flex_store.specs.Blocks.{filled, spliced, whole_words}
+use Rattle.flex_store.specs.Blocks.{whole_words_of_bytes, bytes_after_splice, whole_words}
 use Rattle.flex_store.proofs.Laying.{respaced_down, respaced_up}
 use Rattle.flex_store.proofs.slide.respace.Goals as goal
 
@@ -15,7 +15,7 @@ returns-then-new_end-old_end-clause-bytes c =
     let old : c.whole_words.result ≡ w = c.whole_words.ensures ∙ ap whole_words c.from.ensures in
     let new : c.whole_words-2.result ≡ w' = c.whole_words-2.ensures ∙ ap whole_words c.size_after.ensures in
     let less : k + c.whole_words-2.result < k + c.whole_words.result = c.if-new_end-old_end.true in
-    let l : List ℕ = filled (spliced (bytes_between f k c.args.size) s.at s.cut s.more) in
+    let l : List ℕ = whole_words_of_bytes (bytes_after_splice (bytes_between f k c.args.size) s.at s.cut s.more) in
     respaced_down f (byte_at c.move_bytes.new.self) k c.args.size w w' (c.args.end - (k + w)) s.at s.cut s.more c.requires.splice.at (omega arith) refl
     (λ a. c.move_bytes.ensures.bytes a
     ∙ (ap (λ (n : ℕ). with_moved_at (byte_at c.splice_bytes.new.map) (k + n) (k + c.whole_words-2.result) (c.args.end - (k + n)) a) old
@@ -38,4 +38,4 @@ returns-clause-bytes c =
     ∙ ap (λ (n : ℕ). with_moved_at f (k + w) (k + n) (c.args.end - (k + w)) x) new) in
     respaced_up f (byte_at c.splice_bytes-2.new.map) k c.args.size w w' (c.args.end - (k + w)) s.at s.cut s.more c.requires.splice.at (omega arith) (omega arith) refl
     (λ a. c.splice_bytes-2.ensures.bytes a
-    ∙ ap (λ (g : ℕ → ℕ). with_bytes_at g k (filled (spliced (bytes_between g k c.args.size) s.at s.cut s.more)) a) (λ i x. moved x i))
+    ∙ ap (λ (g : ℕ → ℕ). with_bytes_at g k (whole_words_of_bytes (bytes_after_splice (bytes_between g k c.args.size) s.at s.cut s.more)) a) (λ i x. moved x i))

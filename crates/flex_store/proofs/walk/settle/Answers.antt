@@ -4,7 +4,7 @@ use Rattle.address_map.specs.Bytes.{word_at, with_word_at}
 use Rattle.address_map.specs.Memory.{byte_at, class_of, is_mapped}
 use Rattle.address_map.specs.declared.class.Class.{Class}
 use Rattle.address_map.specs.declared.class.Class.TheVariants as class
-use Rattle.flex_store.specs.Blocks.{taken}
+use Rattle.flex_store.specs.Blocks.{bytes_taken_by}
 use Rattle.flex_store.specs.Marks.{with_block_marks}
 use Rattle.flex_store.specs.Shifts.{gone_to}
 use Rattle.flex_store.proofs.Settling.{gone_ahead, settling_all, settling_more}
@@ -72,7 +72,7 @@ loop-header-preserved c =
     let m = c.loop-header.map in
     let to : ℕ = c.loop-header.header in
     let gone : c.gone_to-anchor.result ≡ gone_to c.args.shifts.now (word_at (byte_at m) to) = (c.gone_to-anchor.ensures ∙ ap (gone_to c.args.shifts.now) c.word.ensures) in
-    let next : taken (word_at (byte_at m) (to + 4)) ≡ c.taken.result = sym (c.taken.ensures ∙ ap taken (c.from.ensures ∙ c.word-size.ensures)) in
+    let next : bytes_taken_by (word_at (byte_at m) (to + 4)) ≡ c.taken.result = sym (c.taken.ensures ∙ ap bytes_taken_by (c.from.ensures ∙ c.word-size.ensures)) in
     rw (← next) (settling_more c.args.shifts.now c.args.map.now c.args.at m c.put_word-in-loop-header.new.self to c.args.end c.loop-header-test.true c.loop-header.invariant
     (c.put_word-in-loop-header.ensures.layout ∙ (c.put_word.ensures.layout ∙ c.mark_block.ensures.layout))
     (λ a. c.put_word-in-loop-header.ensures.bytes a

@@ -2,7 +2,7 @@ use Rattle.std.proofs.Common.{ℕ, ◌≡◌, ◌+◌, arith, ◌∙◌, ap, sym
 use Rattle.address_map.specs.Bytes.{word_at}
 use Rattle.address_map.specs.Memory.{byte_at, class_of}
 use Rattle.address_map.specs.declared.class.Class.TheVariants as class
-use Rattle.flex_store.specs.Blocks.{taken}
+use Rattle.flex_store.specs.Blocks.{bytes_taken_by}
 use Rattle.flex_store.specs.Marks.{with_block_marks}
 use Rattle.flex_store.proofs.Walks.{ahead, anchor_ahead, marking_all, marking_more}
 use Rattle.flex_store.proofs.walk.unmark.Goals as goal
@@ -49,7 +49,7 @@ pub loop-header-preserved : goal.loop-header-preserved
 loop-header-preserved c =
     let m = c.loop-header.map in
     let n = c.clear_block.new.map in
-    let next : taken (word_at (byte_at m) (c.loop-header.header + 4)) ≡ c.taken.result = sym (c.taken.ensures ∙ ap taken (c.from.ensures ∙ c.word-size.ensures)) in
+    let next : bytes_taken_by (word_at (byte_at m) (c.loop-header.header + 4)) ≡ c.taken.result = sym (c.taken.ensures ∙ ap bytes_taken_by (c.from.ensures ∙ c.word-size.ensures)) in
     rw (← next) (marking_more class.Plain c.args.map.now c.args.at m n c.loop-header.header c.args.end c.loop-header-test.true c.loop-header.invariant
     c.clear_block.ensures.layout c.clear_block.ensures.bytes
     (λ a. c.clear_block.ensures.marks a ∙ ap (λ (w : ℕ). with_block_marks class.Plain class.Plain c.loop-header.header w (class_of m) a) c.word-anchor.ensures))

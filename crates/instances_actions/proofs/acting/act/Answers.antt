@@ -1,4 +1,4 @@
-use Rattle.instances_ground.proofs.Records.{layout-mapping, loses_heaps, loses_laid}
+use Rattle.module_world.proofs.Records.{layout-mapping, loses_heaps, loses_laid}
 use Rattle.instances_actions.proofs.acting.act.Goals as goal
 
 pub returns-in-Remove-clause-sound : goal.returns-in-Remove-clause-sound

@@ -1,8 +1,8 @@
 use Rattle.std.proofs.Common.{◌≡◌, sym, subst, []}
-use Rattle.instances_ground.specs.dynamic_areas.specs.Ground.{Estate, IsEstate, estate_of}
-use Rattle.instances_ground.specs.Sound.{IsWorld}
-use Rattle.instances_ground.specs.World.{image_gone, world_of}
-use Rattle.instances_ground.proofs.Removals.{world_given_up}
+use Rattle.module_world.specs.dynamic_areas.specs.Ground.{Estate, IsEstate, estate_of}
+use Rattle.module_world.specs.Sound.{IsWorld}
+use Rattle.module_world.specs.World.{image_gone, world_of}
+use Rattle.module_world.proofs.Removals.{world_given_up}
 use Rattle.instances_actions.specs.Actions.{image_given}
 use Rattle.instances_actions.proofs.adding.give_up.Goals as goal
 

@@ -1,7 +1,7 @@
 use Rattle.std.proofs.Common.{refl, [], ◌∷◌}
 use Rattle.instances_table.proofs.ModuleLemmas.{new_parts}
-use Rattle.instances_ground.specs.World.{world_of}
-use Rattle.instances_ground.proofs.Worlds.{world_renewed}
+use Rattle.module_world.specs.World.{world_of}
+use Rattle.module_world.proofs.Worlds.{world_renewed}
 use Rattle.instances_actions.specs.Actions.{image_given}
 use Rattle.instances_actions.proofs.NewImages.{images_new}
 use Rattle.instances_actions.proofs.adding.insert.Goals as goal

@@ -1,7 +1,7 @@
 use Rattle.std.proofs.Common.{ap, ◌∙◌, refl, ◌++◌}
-use Rattle.instances_ground.specs.Sound.{images_of}
-use Rattle.instances_ground.specs.World.{world_of}
-use Rattle.instances_ground.proofs.Worlds.{world_renewed}
+use Rattle.module_world.specs.Sound.{images_of}
+use Rattle.module_world.specs.World.{world_of}
+use Rattle.module_world.proofs.Worlds.{world_renewed}
 use Rattle.instances_actions.proofs.NewImages.{images_another}
 use Rattle.instances_actions.proofs.adding.instantiate.Goals as goal
 

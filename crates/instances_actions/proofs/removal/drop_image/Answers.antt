@@ -1,13 +1,13 @@
 use Rattle.std.proofs.Common.{sym, subst, ◌∙◌}
-use Rattle.instances_ground.specs.address_map.specs.Memory.{regions}
-use Rattle.instances_ground.specs.address_map.specs.Records.{without_region}
-use Rattle.instances_ground.specs.address_map.specs.declared.region.Kind.TheVariants as kind
-use Rattle.instances_ground.specs.os_heap.specs.Order.{stays}
-use Rattle.instances_ground.specs.os_heap.specs.Store.{store_of}
-use Rattle.instances_ground.specs.rma.specs.Images.{image_dropped, image_freed}
-use Rattle.instances_ground.specs.Records.{LosesRecords}
-use Rattle.instances_ground.specs.World.{image_gone}
-use Rattle.instances_ground.proofs.Records.{loses_both, loses_filtered, loses_one}
+use Rattle.module_world.specs.address_map.specs.Memory.{regions}
+use Rattle.module_world.specs.address_map.specs.Records.{without_region}
+use Rattle.module_world.specs.address_map.specs.declared.region.Kind.TheVariants as kind
+use Rattle.module_world.specs.os_heap.specs.Order.{stays}
+use Rattle.module_world.specs.os_heap.specs.Store.{store_of}
+use Rattle.module_world.specs.rma.specs.Images.{image_dropped, image_freed}
+use Rattle.module_world.specs.Records.{LosesRecords}
+use Rattle.module_world.specs.World.{image_gone}
+use Rattle.module_world.proofs.Records.{loses_both, loses_filtered, loses_one}
 use Rattle.instances_actions.proofs.Estates.{estate_with, others_dropped, others_freed, pages_less}
 use Rattle.instances_actions.proofs.removal.drop_image.Goals as goal
 

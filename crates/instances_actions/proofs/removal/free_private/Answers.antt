@@ -1,16 +1,16 @@
 use Rattle.std.proofs.Common.{List, [], ◌≡◌, ap, sym, ◌∙◌, refl, arith}
 use Rattle.std.specs.List.{filter}
-use Rattle.instances_ground.specs.address_map.specs.Memory.{mapping, regions}
-use Rattle.instances_ground.specs.os_heap.specs.os_heap_lists.specs.Heap.{HeapList}
-use Rattle.instances_ground.specs.os_heap.proofs.Frame.{layout-others, layout-regions}
-use Rattle.instances_ground.specs.os_heap.specs.Order.{stays}
-use Rattle.instances_ground.specs.os_heap.specs.Store.{store_of}
-use Rattle.instances_ground.specs.dynamic_areas.specs.Areas.{Land}
-use Rattle.instances_ground.specs.dynamic_areas.specs.Ground.{Estate, estate_of}
-use Rattle.instances_ground.specs.flex_kept.proofs.Keeping.{keeps_then}
-use Rattle.instances_ground.specs.rma.specs.Calls.{rma_freed}
-use Rattle.instances_ground.specs.World.{or_same, private_freed, with_private, world_of}
-use Rattle.instances_ground.proofs.Worlds.{world_kept}
+use Rattle.module_world.specs.address_map.specs.Memory.{mapping, regions}
+use Rattle.module_world.specs.os_heap.specs.os_heap_lists.specs.Heap.{HeapList}
+use Rattle.module_world.specs.os_heap.proofs.Frame.{layout-others, layout-regions}
+use Rattle.module_world.specs.os_heap.specs.Order.{stays}
+use Rattle.module_world.specs.os_heap.specs.Store.{store_of}
+use Rattle.module_world.specs.dynamic_areas.specs.Areas.{Land}
+use Rattle.module_world.specs.dynamic_areas.specs.Ground.{Estate, estate_of}
+use Rattle.module_world.specs.flex_frame.proofs.Keeping.{keeps_then}
+use Rattle.module_world.specs.rma.specs.Calls.{rma_freed}
+use Rattle.module_world.specs.World.{or_same, private_freed, with_private, world_of}
+use Rattle.module_world.proofs.Worlds.{world_kept}
 use Rattle.instances_actions.proofs.Estates.{pages_stay}
 use Rattle.instances_actions.proofs.Removing.{freed_by}
 use Rattle.instances_actions.proofs.removal.free_private.Goals as goal

@@ -1,11 +1,11 @@
 use Rattle.std.proofs.Common.{◌≡◌, sym, subst, ◌∙◌, refl, Some, None}
-use Rattle.instances_ground.specs.address_map.specs.Memory.{regions}
-use Rattle.instances_ground.specs.dynamic_areas.specs.Ground.{IsEstate, estate_of}
-use Rattle.instances_ground.specs.flex_kept.proofs.Keeping.{keeps_then}
-use Rattle.instances_ground.specs.Sound.{IsWorld}
-use Rattle.instances_ground.specs.World.{World, removed, world_of}
-use Rattle.instances_ground.proofs.Records.{loses_both, loses_heaps}
-use Rattle.instances_ground.proofs.Removals.{world_removed}
+use Rattle.module_world.specs.address_map.specs.Memory.{regions}
+use Rattle.module_world.specs.dynamic_areas.specs.Ground.{IsEstate, estate_of}
+use Rattle.module_world.specs.flex_frame.proofs.Keeping.{keeps_then}
+use Rattle.module_world.specs.Sound.{IsWorld}
+use Rattle.module_world.specs.World.{World, world_after_remove, world_of}
+use Rattle.module_world.proofs.Records.{loses_both, loses_heaps}
+use Rattle.module_world.proofs.Removals.{world_removed}
 use Rattle.instances_actions.proofs.Removing.{removed_by}
 use Rattle.instances_actions.proofs.removal.remove.Goals as goal
 
@@ -17,7 +17,7 @@ returns-in-Some-clause-world c = λ l.
 
 pub returns-in-Some-clause-sound : goal.returns-in-Some-clause-sound
 returns-in-Some-clause-sound c = λ l pending world.
-    let all : world_of c.drop_image.new.map l c.remove.new.self ≡ removed (world_of c.args.map.now l c.args.table.now) c.args.slot =
+    let all : world_of c.drop_image.new.map l c.remove.new.self ≡ world_after_remove (world_of c.args.map.now l c.args.table.now) c.args.slot =
     removed_by (estate_of c.args.map.now l) (estate_of c.free_private.new.map l) (estate_of c.drop_image.new.map l) c.args.table.now c.remove.new.self
     c.args.slot (Some c.in-Some.image) (c.free_private.ensures.estate l) c.remove.ensures (sym c.in-Some.is ∙ c.last_image-image.ensures)
     (c.drop_image.ensures.estate l) in
@@ -33,7 +33,7 @@ returns-in_default-clause-world c = λ l.
 
 pub returns-in_default-clause-sound : goal.returns-in_default-clause-sound
 returns-in_default-clause-sound c = λ l pending world.
-    let all : world_of c.free_private.new.map l c.remove.new.self ≡ removed (world_of c.args.map.now l c.args.table.now) c.args.slot =
+    let all : world_of c.free_private.new.map l c.remove.new.self ≡ world_after_remove (world_of c.args.map.now l c.args.table.now) c.args.slot =
     removed_by (estate_of c.args.map.now l) (estate_of c.free_private.new.map l) (estate_of c.free_private.new.map l) c.args.table.now c.remove.new.self
     c.args.slot None (c.free_private.ensures.estate l) c.remove.ensures (sym c.in_default.is ∙ c.last_image-image.ensures) refl in
     let freed = c.free_private.ensures.sound l c.args.table.now pending world in

@@ -1,7 +1,7 @@
 use Rattle.std.proofs.Common.{◌≡◌, true, false, Err, Ok, Some, refl, sym, subst, arith, ◌∙◌}
 use Rattle.profile.specs.declared.error.ErrorNumber.TheVariants.{HeapBadRegion}
 use Rattle.address_map.specs.Memory.{bytes_of}
-use Rattle.os_heap.specs.Calls.{changed, end_changed, ending, has_own_size}
+use Rattle.os_heap.specs.Calls.{store_after_change, end_changed, ending, has_own_size}
 use Rattle.os_heap_lists.specs.Heap.{HeapList}
 use Rattle.os_heap_lists.specs.Lists.{changed_by}
 use Rattle.os_heap.specs.Probes.{change_probes_of}
@@ -26,7 +26,7 @@ returns-then-change-ne0-clause-store c =
     let s = store_of c.args.map.now in
     let h : HeapList = heap_in (bytes_of c.args.map.now) c.in-Some.region in
     let own : has_own_size h.kind ≡ true = cc in
-    let is : changed s c.args.heap c.args.change ≡ end_changed s h c.args.change (changed_by h.end c.args.change) = changed_own s c.args.heap c.args.change h c.in-Some.ensures.1 own in
+    let is : store_after_change s c.args.heap c.args.change ≡ end_changed s h c.args.change (changed_by h.end c.args.change) = changed_own s c.args.heap c.args.change h c.in-Some.ensures.1 own in
     let refused : end_changed s h c.args.change (changed_by h.end c.args.change) ≡ Err HeapBadRegion =
     elim c.then-change-ne0.branch [
       | then-change-ne0-via-then-change-ne0 w ↦ end_odd s h c.args.change (changed_by h.end c.args.change) w.if-change-ne0.true
@@ -51,7 +51,7 @@ returns-in_default-answer-clause-store c =
     let s = store_of c.args.map.now in
     let h : HeapList = heap_in (bytes_of c.args.map.now) c.in-Some.region in
     let own : has_own_size h.kind ≡ true = cc in
-    let is : changed s c.args.heap c.args.change ≡ end_changed s h c.args.change (changed_by h.end c.args.change) = changed_own s c.args.heap c.args.change h c.in-Some.ensures.1 own in
+    let is : store_after_change s c.args.heap c.args.change ≡ end_changed s h c.args.change (changed_by h.end c.args.change) = changed_own s c.args.heap c.args.change h c.in-Some.ensures.1 own in
     let told = rw c.in_default-answer.is at c.may_end-tested.ensures.answer in
     let refused = told c.args.change c.if-change-ne0.false in
     let there = rw c.changed_by-end.ensures at refused in
@@ -70,7 +70,7 @@ returns-in-Ok-clause-store c =
     let s = store_of c.args.map.now in
     let h : HeapList = heap_in (bytes_of c.args.map.now) c.in-Some.region in
     let own : has_own_size h.kind ≡ true = cc in
-    let is : changed s c.args.heap c.args.change ≡ end_changed s h c.args.change (changed_by h.end c.args.change) = changed_own s c.args.heap c.args.change h c.in-Some.ensures.1 own in
+    let is : store_after_change s c.args.heap c.args.change ≡ end_changed s h c.args.change (changed_by h.end c.args.change) = changed_own s c.args.heap c.args.change h c.in-Some.ensures.1 own in
     let may = rw c.in-Ok.is at c.may_end-tested.ensures.answer in
     let done : end_changed s h c.args.change c.changed_by-end.result ≡ Ok (ending s h c.changed_by-end.result, tt) = end_done s h c.args.change c.changed_by-end.result c.if-change-ne0.false may in
     let there = rw c.changed_by-end.ensures at done in

@@ -10,7 +10,7 @@ use Rattle.address_map.proofs.Marking.{heap_is_no_word}
 use Rattle.address_map.proofs.Stores.{layout-mapping}
 use Rattle.os_heap_lists.specs.Heap.{with_heap}
 use Rattle.os_heap.specs.Store.{store_of, IsSound}
-use Rattle.os_heap.specs.Calls.{begun_with}
+use Rattle.os_heap.specs.Calls.{store_with_new_heap}
 use Rattle.os_heap.proofs.FlexWords.{flex_begun}
 use Rattle.os_heap.proofs.Frame.{layout-regions}
 use Rattle.os_heap.proofs.Added.{begun_unflexed, recorded, store_begun, begun_sound, classes_begun}
@@ -81,7 +81,7 @@ returns-clause-store c =
 
 pub returns-clause-kept : goal.returns-clause-kept
 returns-clause-kept c =
-    let store : store_of c.own.new.self ≡ begun_with c.args.kind (store_of c.args.map.now) c.args.heap c.args.size = returns-clause-store c in
+    let store : store_of c.own.new.self ≡ store_with_new_heap c.args.kind (store_of c.args.map.now) c.args.heap c.args.size = returns-clause-store c in
     record {
       sound = subst IsSound (sym store) (begun_sound c.args.kind (store_of c.args.map.now) c.args.heap c.args.size c.requires.may c.requires.state.sound);
       classes = classes_begun c.args.map.now c.own.new.self c.args.kind c.args.heap c.args.size store

@@ -4,7 +4,7 @@ use Rattle.address_map.specs.declared.region.Kind.TheVariants as kind
 use Rattle.address_map.specs.declared.region.Region.{Region}
 use Rattle.os_heap_lists.specs.Heap.{HeapList}
 use Rattle.os_heap.specs.Bars.{bars_record}
-use Rattle.os_heap.specs.Nesting.{innermost, later}
+use Rattle.os_heap.specs.Nesting.{innermost_heap, later_heap}
 use Rattle.os_heap.specs.Store.{heap_in, heaps_in}
 use Rattle.os_heap.proofs.Innermost.{round_next, round_passed}
 use Rattle.os_heap.proofs.obstacles.innermost.Goals as goal
@@ -25,13 +25,13 @@ loop-region-preserved c =
       free = ap (λ (t : Bool). t || list_any test (drop (k + 1) rs)) (sym c.if-bars.false ∙ c.bars.ensures) ∙ all;
       last = λ b.
           let last : Option HeapList = option_map (heap_in b) c.loop-region.last in
-          let next : later last (innermost c.args.at c.args.len (heaps_in b (r ∷ drop (k + 1) rs))) ≡ innermost c.args.at c.args.len (heaps_in b rs) =
-          subst (λ (l : List Region). later last (innermost c.args.at c.args.len (heaps_in b l)) ≡ innermost c.args.at c.args.len (heaps_in b rs)) split
+          let next : later_heap last (innermost_heap c.args.at c.args.len (heaps_in b (r ∷ drop (k + 1) rs))) ≡ innermost_heap c.args.at c.args.len (heaps_in b rs) =
+          subst (λ (l : List Region). later_heap last (innermost_heap c.args.at c.args.len (heaps_in b l)) ≡ innermost_heap c.args.at c.args.len (heaps_in b rs)) split
           (c.loop-region.invariant.last b) in
           elim c.if-is_round.branch [
             | then-is_round w ↦ rw w.last-is (round_next c.args.at c.args.len b r w.later.result (drop (k + 1) rs) c.loop-region.last
                 (c.is_round.ensures b ∙ w.if-is_round.true) (w.later.ensures b) ∙ next)
-            | else-is_round w ↦ rw w.last-is (ap (later last)
+            | else-is_round w ↦ rw w.last-is (ap (later_heap last)
                 (round_passed c.args.at c.args.len b r (drop (k + 1) rs) (c.is_round.ensures b ∙ w.if-is_round.false)) ∙ next)
           ];
     }

@@ -1,5 +1,5 @@
 use Rattle.std.proofs.Common.{◌≤◌, ◌+◌, ◌^◌, ap, refl, ◌∙◌, arith}
-use Rattle.address_map.specs.Items.{linked, size_of}
+use Rattle.address_map.specs.Items.{link_target, size_of}
 use Rattle.address_map.specs.Memory.{bytes_of}
 use Rattle.os_heap_words.specs.Outcomes.{items_at}
 use Rattle.os_heap_words.proofs.Tally.{heap_below, first_link_below}
@@ -48,7 +48,7 @@ invariant_of-result c =
     let below : c.args.heap + c.args.end ≤ 2 ^ 26 = heap_below m c.args.heap c.args.end c.requires in
     let inside : 16 + size_of (items_at m c.args.heap) ≤ c.args.end = c.requires.inside in
     (rest_of m c.args.heap c.args.end (c.args.heap + 16) c.linked.result (c.args.heap + c.word-2.result) c.requires refl
-    (c.linked.ensures ∙ ap (linked c.args.heap) c.word.ensures) (ap (λ w. c.args.heap + w) c.word-2.ensures)).0
+    (c.linked.ensures ∙ ap (link_target c.args.heap) c.word.ensures) (ap (λ w. c.args.heap + w) c.word-2.ensures)).0
 
 pub returns : goal.returns
 returns c =
@@ -56,5 +56,5 @@ returns c =
     let below : c.args.heap + c.args.end ≤ 2 ^ 26 = heap_below m c.args.heap c.args.end c.requires in
     let inside : 16 + size_of (items_at m c.args.heap) ≤ c.args.end = c.requires.inside in
     let r = rest_of m c.args.heap c.args.end (c.args.heap + 16) c.linked.result (c.args.heap + c.word-2.result) c.requires refl
-    (c.linked.ensures ∙ ap (linked c.args.heap) c.word.ensures) (ap (λ w. c.args.heap + w) c.word-2.ensures) in
+    (c.linked.ensures ∙ ap (link_target c.args.heap) c.word.ensures) (ap (λ w. c.args.heap + w) c.word-2.ensures) in
     rest_items (bytes_of m) (c.args.heap + 16) c.linked.result (c.args.heap + c.word-2.result) r.0 ∙ r.1

@@ -1,6 +1,6 @@
 use Rattle.std.proofs.Common.{◌+◌, ap, ◌∙◌, arith}
 use Rattle.address_map.specs.Bytes.{word_at}
-use Rattle.address_map.specs.Items.{linked}
+use Rattle.address_map.specs.Items.{link_target}
 use Rattle.address_map.specs.Memory.{byte_at}
 use Rattle.os_heap_words.specs.Outcomes.{items_at}
 use Rattle.os_heap_words.proofs.Tally.{heap_below, first_link_below, tally_start}
@@ -15,7 +15,7 @@ linked-requires c = rw c.word.ensures (omega (arith, first_link_below c.args.map
 
 pub loop-tally-init : goal.loop-tally-init
 loop-tally-init c =
-    tally_start c.args.map.now c.args.heap c.args.end c.linked.result c.requires (c.linked.ensures ∙ ap (linked c.args.heap) c.word.ensures)
+    tally_start c.args.map.now c.args.heap c.args.end c.linked.result c.requires (c.linked.ensures ∙ ap (link_target c.args.heap) c.word.ensures)
 
 pub returns-clause-count : goal.returns-clause-count
 returns-clause-count c =

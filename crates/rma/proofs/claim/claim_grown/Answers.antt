@@ -1,13 +1,14 @@
+use Rattle.profile.specs.MemoryMap.{module_area_start}
 use Rattle.std.proofs.Common.{◌∙◌, ◌≡◌, ◌+◌, Ok, arith}
 use Rattle.os_heap.specs.os_heap_lists.specs.Lists.{total_for}
-use Rattle.os_heap.specs.Calls.{got}
+use Rattle.os_heap.specs.Calls.{store_after_get}
 use Rattle.os_heap.specs.Store.{store_of}
 use Rattle.os_heap.proofs.Frame.{layout-others}
 use Rattle.os_heap.proofs.Order.{order_laid}
-use Rattle.flex_kept.specs.dynamic_areas.specs.Ground.{Estate, estate_of}
-use Rattle.flex_kept.specs.dynamic_areas.proofs.HeapCalls.{areas_written}
-use Rattle.flex_kept.proofs.Heaps.{got_keeps, got_unanchored}
-use Rattle.flex_kept.proofs.Keeping.{keeps_then}
+use Rattle.flex_frame.specs.dynamic_areas.specs.Ground.{Estate, estate_of}
+use Rattle.flex_frame.specs.dynamic_areas.proofs.HeapCalls.{areas_written}
+use Rattle.flex_frame.proofs.Heaps.{got_keeps, got_unanchored}
+use Rattle.flex_frame.proofs.Keeping.{keeps_then}
 use Rattle.rma.specs.Calls.{grown_to}
 use Rattle.rma.proofs.Estates.{is_done}
 use Rattle.rma.proofs.ExtendLemmas.{claim_done}
@@ -27,7 +28,7 @@ returns-in-Err-clause-claimed c =
     let done : grown_to e end ≡ Ok g = leaves_done e g (grown_to e end) c.in_ok-grow_to.ensures.grown in
     let ok = claim_done e g c.args.size end (is_grown e g end c.requires.estate done)
     (omega (arith, c.from.ensures, c.base.ensures, c.total_for.ensures)) in
-    absurd (is_done (store_of c.grow_to.new.map) (store_of c.get.new.map) (got (store_of c.grow_to.new.map) 0x01800000 c.args.size) c.in-Err.error ok
+    absurd (is_done (store_of c.grow_to.new.map) (store_of c.get.new.map) (store_after_get (store_of c.grow_to.new.map) module_area_start c.args.size) c.in-Err.error ok
     (let given = rw c.in-Err.is at c.get.ensures.store in given))
 
 pub returns-in-Ok-clause-others : goal.returns-in-Ok-clause-others
@@ -55,19 +56,19 @@ returns-in-Ok-clause-alone c =
 pub returns-in-Ok-clause-flex : goal.returns-in-Ok-clause-flex
 returns-in-Ok-clause-flex c =
     keeps_then (store_of c.args.map.now) (store_of c.grow_to.new.map) (store_of c.get.new.map) c.grow_to.ensures.flex
-    (got_keeps (store_of c.grow_to.new.map) (store_of c.get.new.map) 0x01800000 c.args.size c.get.result.answer c.grow_to.ensures.estate.ground.sound
+    (got_keeps (store_of c.grow_to.new.map) (store_of c.get.new.map) module_area_start c.args.size c.get.result.answer c.grow_to.ensures.estate.ground.sound
     c.get.ensures.sound c.get.ensures.store)
 
 pub returns-in-Err-clause-flex : goal.returns-in-Err-clause-flex
 returns-in-Err-clause-flex c =
     keeps_then (store_of c.args.map.now) (store_of c.grow_to.new.map) (store_of c.get.new.map) c.grow_to.ensures.flex
-    (got_keeps (store_of c.grow_to.new.map) (store_of c.get.new.map) 0x01800000 c.args.size c.get.result.answer c.grow_to.ensures.estate.ground.sound
+    (got_keeps (store_of c.grow_to.new.map) (store_of c.get.new.map) module_area_start c.args.size c.get.result.answer c.grow_to.ensures.estate.ground.sound
     c.get.ensures.sound c.get.ensures.store)
 
 pub returns-in-Ok-clause-unanchored : goal.returns-in-Ok-clause-unanchored
 returns-in-Ok-clause-unanchored c =
     let given = rw c.in-Ok.is at c.get.ensures.store in
-    got_unanchored (store_of c.grow_to.new.map) (store_of c.get.new.map) 0x01800000 c.args.size (Ok c.in-Ok.block) c.grow_to.ensures.estate.ground.sound given
+    got_unanchored (store_of c.grow_to.new.map) (store_of c.get.new.map) module_area_start c.args.size (Ok c.in-Ok.block) c.grow_to.ensures.estate.ground.sound given
 
 pub returns-in-Ok-clause-order : goal.returns-in-Ok-clause-order
 returns-in-Ok-clause-order c = order_laid c.grow_to.new.map c.get.new.map c.get.ensures.layout ∙ c.grow_to.ensures.order

@@ -1,14 +1,15 @@
+use Rattle.profile.specs.MemoryMap.{module_area_start}
 use Rattle.std.proofs.Common.{if◌then◌else◌, ◌≡◌, Ok, refl, sym, ap, ◌∙◌}
 use Rattle.std.specs.Prelude.{is_ok}
 use Rattle.profile.specs.declared.error.ErrorNumber.TheVariants.{RmaBlockHoldsHeap, RmaNoRoom}
-use Rattle.os_heap.specs.Calls.{block_sized, resized}
+use Rattle.os_heap.specs.Calls.{block_sized, store_after_resize}
 use Rattle.os_heap.specs.Store.{store_of}
 use Rattle.os_heap.proofs.LostRecords.{loses_none}
 use Rattle.os_heap.proofs.Order.{order_lost}
-use Rattle.flex_kept.specs.dynamic_areas.specs.Ground.{Estate, estate_of}
-use Rattle.flex_kept.specs.dynamic_areas.proofs.HeapCalls.{areas_resized}
-use Rattle.flex_kept.proofs.Heaps.{resized_keeps}
-use Rattle.flex_kept.proofs.Keeping.{keeps_same, keeps_then}
+use Rattle.flex_frame.specs.dynamic_areas.specs.Ground.{Estate, estate_of}
+use Rattle.flex_frame.specs.dynamic_areas.proofs.HeapCalls.{areas_resized}
+use Rattle.flex_frame.proofs.Heaps.{resized_keeps}
+use Rattle.flex_frame.proofs.Keeping.{keeps_same, keeps_then}
 use Rattle.rma.specs.Calls.{end_if_moved, grown_to, rma_base}
 use Rattle.rma.proofs.Estates.{is_done}
 use Rattle.rma.proofs.ExtendLemmas.{move_done, why_refused}
@@ -35,22 +36,22 @@ returns-in_err-grow_to-clause-records c =
 pub returns-in-Ok-clause-estate : goal.returns-in-Ok-clause-estate
 returns-in-Ok-clause-estate c =
     areas_resized c.grow_to.new.map c.resize.new.map c.grow_to.new.areas c.grow_to.ensures.estate c.resize.ensures.sound c.resize.ensures.others
-    c.resize.ensures.mapping 0x01800000 c.args.block c.args.change c.resize.result.answer c.resize.ensures.store
+    c.resize.ensures.mapping module_area_start c.args.block c.args.change c.resize.result.answer c.resize.ensures.store
 
 pub returns-in-Err-clause-estate : goal.returns-in-Err-clause-estate
 returns-in-Err-clause-estate c =
     areas_resized c.grow_to.new.map c.resize.new.map c.grow_to.new.areas c.grow_to.ensures.estate c.resize.ensures.sound c.resize.ensures.others
-    c.resize.ensures.mapping 0x01800000 c.args.block c.args.change c.resize.result.answer c.resize.ensures.store
+    c.resize.ensures.mapping module_area_start c.args.block c.args.change c.resize.result.answer c.resize.ensures.store
 
 pub returns-in-Err-clause-moved : goal.returns-in-Err-clause-moved
 returns-in-Err-clause-moved c =
     let e : Estate = estate_of c.args.map.now c.args.areas.now in
     let g : Estate = estate_of c.grow_to.new.map c.grow_to.new.areas in
     let done : grown_to e c.end_if_moved-end.result ≡ Ok g = leaves_done e g (grown_to e c.end_if_moved-end.result) c.in_ok-grow_to.ensures.grown in
-    let done' : grown_to e (end_if_moved (rma_base e.store) c.args.change (block_sized e.store 0x01800000 c.args.block)) ≡ Ok g =
+    let done' : grown_to e (end_if_moved (rma_base e.store) c.args.change (block_sized e.store module_area_start c.args.block)) ≡ Ok g =
     ap (grown_to e) (sym c.end_if_moved-end.ensures) ∙ done in
     let ok = move_done e g c.args.block c.args.change c.requires.estate c.requires.full (sym c.holds_heap.ensures ∙ c.if-holds_heap.false) done' in
-    absurd (is_done (store_of c.grow_to.new.map) (store_of c.resize.new.map) (resized (store_of c.grow_to.new.map) 0x01800000 c.args.block c.args.change) c.in-Err.error ok
+    absurd (is_done (store_of c.grow_to.new.map) (store_of c.resize.new.map) (store_after_resize (store_of c.grow_to.new.map) module_area_start c.args.block c.args.change) c.in-Err.error ok
     (let given = rw c.in-Err.is at c.resize.ensures.store in given))
 
 pub returns-in-Ok-clause-others : goal.returns-in-Ok-clause-others
@@ -62,13 +63,13 @@ returns-in-Err-clause-others c = c.resize.ensures.others ∙ c.grow_to.ensures.o
 pub returns-in-Ok-clause-flex : goal.returns-in-Ok-clause-flex
 returns-in-Ok-clause-flex c =
     keeps_then (store_of c.args.map.now) (store_of c.grow_to.new.map) (store_of c.resize.new.map) c.grow_to.ensures.flex
-    (resized_keeps (store_of c.grow_to.new.map) (store_of c.resize.new.map) 0x01800000 c.args.block c.args.change c.resize.result.answer
+    (resized_keeps (store_of c.grow_to.new.map) (store_of c.resize.new.map) module_area_start c.args.block c.args.change c.resize.result.answer
     c.grow_to.ensures.estate.ground.sound c.resize.ensures.sound c.resize.ensures.store)
 
 pub returns-in-Err-clause-flex : goal.returns-in-Err-clause-flex
 returns-in-Err-clause-flex c =
     keeps_then (store_of c.args.map.now) (store_of c.grow_to.new.map) (store_of c.resize.new.map) c.grow_to.ensures.flex
-    (resized_keeps (store_of c.grow_to.new.map) (store_of c.resize.new.map) 0x01800000 c.args.block c.args.change c.resize.result.answer
+    (resized_keeps (store_of c.grow_to.new.map) (store_of c.resize.new.map) module_area_start c.args.block c.args.change c.resize.result.answer
     c.grow_to.ensures.estate.ground.sound c.resize.ensures.sound c.resize.ensures.store)
 
 pub returns-in-Ok-clause-records : goal.returns-in-Ok-clause-records

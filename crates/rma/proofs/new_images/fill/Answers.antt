@@ -2,10 +2,10 @@ use Rattle.std.proofs.Common.{◌-◌, length, sym, ap, subst, arith}
 use Rattle.os_heap.specs.os_heap_lists.specs.Lists.{total_for}
 use Rattle.os_heap.proofs.Frame.{classes_same}
 use Rattle.os_heap.specs.Store.{Store, store_of}
-use Rattle.flex_kept.specs.dynamic_areas.proofs.HeapCalls.{areas_written}
-use Rattle.rma.specs.NewImages.{filled}
-use Rattle.flex_kept.specs.Keeping.{IsUnanchored, KeepsFlex}
-use Rattle.flex_kept.proofs.Writes.{unanchored_written}
+use Rattle.flex_frame.specs.dynamic_areas.proofs.HeapCalls.{areas_written}
+use Rattle.rma.specs.NewImages.{store_with_image_bytes}
+use Rattle.flex_frame.specs.Keeping.{RangeHasNoAnchor, KeepsFlex}
+use Rattle.flex_frame.proofs.Writes.{unanchored_written}
 use Rattle.address_map.specs.Bytes.{with_bytes}
 use Rattle.rma.proofs.FlexLemmas.{filled_keeps}
 use Rattle.rma.proofs.NewImageLemmas.{IsFilled, is_filled, payload_mapped}
@@ -34,7 +34,7 @@ returns-clause-estate c l areas =
 
 pub returns-clause-classes : goal.returns-clause-classes
 returns-clause-classes c classes =
-    let is : IsFilled c.args.map.now c.put_bytes.new.self (filled (store_of c.args.map.now) c.args.block c.args.bytes.now) =
+    let is : IsFilled c.args.map.now c.put_bytes.new.self (store_with_image_bytes (store_of c.args.map.now) c.args.block c.args.bytes.now) =
     is_filled c.args.map.now c.put_bytes.new.self c.args.block (total_for (length c.args.bytes.now)) c.args.bytes.now c.put_bytes.ensures.layout
     c.put_bytes.ensures.marks c.requires.sound c.requires.live c.requires.unheaped (omega arith) c.put_bytes.ensures.bytes in
     classes_same c.args.map.now c.put_bytes.new.self (ap (λ (s : Store). s.heaps) is.store) (λ a i. c.put_bytes.ensures.marks i a) classes
@@ -51,6 +51,6 @@ pub returns-clause-unanchored : goal.returns-clause-unanchored
 returns-clause-unanchored c =
     let store = (is_filled c.args.map.now c.put_bytes.new.self c.args.block (total_for (length c.args.bytes.now)) c.args.bytes.now c.put_bytes.ensures.layout
     c.put_bytes.ensures.marks c.requires.sound c.requires.live c.requires.unheaped (omega arith) c.put_bytes.ensures.bytes).store in
-    subst (λ (t : Store). IsUnanchored t c.args.block (total_for (length c.args.bytes.now) - 4)) (sym store)
+    subst (λ (t : Store). RangeHasNoAnchor t c.args.block (total_for (length c.args.bytes.now) - 4)) (sym store)
     (unanchored_written (store_of c.args.map.now) (with_bytes (store_of c.args.map.now).bytes c.args.block c.args.bytes.now) c.args.block
     (total_for (length c.args.bytes.now) - 4) c.requires.unanchored)

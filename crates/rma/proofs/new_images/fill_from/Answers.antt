@@ -1,11 +1,11 @@
 use Rattle.std.proofs.Common.{◌-◌, sym, ap, subst, arith}
 use Rattle.os_heap.specs.os_heap_lists.specs.Lists.{total_for}
 use Rattle.os_heap.proofs.Frame.{classes_same}
-use Rattle.os_heap.specs.Calls.{copied}
+use Rattle.os_heap.specs.Calls.{store_after_copy}
 use Rattle.os_heap.specs.Store.{Store, store_of}
-use Rattle.flex_kept.specs.dynamic_areas.proofs.HeapCalls.{areas_written}
-use Rattle.flex_kept.specs.Keeping.{IsUnanchored, KeepsFlex}
-use Rattle.flex_kept.proofs.Writes.{unanchored_written}
+use Rattle.flex_frame.specs.dynamic_areas.proofs.HeapCalls.{areas_written}
+use Rattle.flex_frame.specs.Keeping.{RangeHasNoAnchor, KeepsFlex}
+use Rattle.flex_frame.proofs.Writes.{unanchored_written}
 use Rattle.address_map.specs.Bytes.{with_moved}
 use Rattle.rma.proofs.FlexLemmas.{copied_keeps}
 use Rattle.rma.proofs.NewImageLemmas.{IsFilled, is_copied, payload_mapped}
@@ -34,7 +34,7 @@ returns-clause-estate c l areas =
 
 pub returns-clause-classes : goal.returns-clause-classes
 returns-clause-classes c classes =
-    let is : IsFilled c.args.map.now c.move_bytes.new.self (copied (store_of c.args.map.now) c.args.from c.args.block c.args.len) =
+    let is : IsFilled c.args.map.now c.move_bytes.new.self (store_after_copy (store_of c.args.map.now) c.args.from c.args.block c.args.len) =
     is_copied c.args.map.now c.move_bytes.new.self c.args.block (total_for c.args.len) c.args.from c.args.len c.move_bytes.ensures.layout
     c.move_bytes.ensures.marks c.requires.sound c.requires.live c.requires.unheaped (omega arith) c.move_bytes.ensures.bytes in
     classes_same c.args.map.now c.move_bytes.new.self (ap (λ (s : Store). s.heaps) is.store) (λ a i. c.move_bytes.ensures.marks i a) classes
@@ -51,6 +51,6 @@ pub returns-clause-unanchored : goal.returns-clause-unanchored
 returns-clause-unanchored c =
     let store = (is_copied c.args.map.now c.move_bytes.new.self c.args.block (total_for c.args.len) c.args.from c.args.len c.move_bytes.ensures.layout
     c.move_bytes.ensures.marks c.requires.sound c.requires.live c.requires.unheaped (omega arith) c.move_bytes.ensures.bytes).store in
-    subst (λ (t : Store). IsUnanchored t c.args.block (total_for c.args.len - 4)) (sym store)
+    subst (λ (t : Store). RangeHasNoAnchor t c.args.block (total_for c.args.len - 4)) (sym store)
     (unanchored_written (store_of c.args.map.now) (with_moved (store_of c.args.map.now).bytes c.args.from c.args.block c.args.len) c.args.block
     (total_for c.args.len - 4) c.requires.unanchored)

@@ -1,6 +1,6 @@
 use Rattle.std.proofs.Common.{ℕ, List, refl, ap, subst, ◌∙◌}
 use Rattle.script_page.specs.Page.{IsPage}
-use Rattle.script_page.specs.Setting.{told_by}
+use Rattle.script_page.specs.Setting.{script_answer_in}
 use Rattle.script_page.specs.declared.setting.Setting.{Setting}
 use Rattle.rosm_show.specs.Showing.{names_in}
 use Rattle.rosm_show.proofs.ShowLemmas.{shows_page, written_kept}
@@ -18,4 +18,4 @@ returns-in-Ok-clause-page g c =
     (subst (λ (bytes : List ℕ). IsPage setting bytes entries) c.as_slice-2.ensures.value c.in_ok-page.ensures.page)
     c.in_ok-page.ensures.steps
     (written_kept _ _ wanted.form _ entries _ _ _ c.as_slice-3.ensures.value c.in_ok-push_page.ensures.written c.in-Ok.ensures.bytes)
-    (c.in_ok-page.ensures.last ∙ ap (λ (bytes : List ℕ). (told_by setting bytes).state.last) c.as_slice-2.ensures.value)
+    (c.in_ok-page.ensures.last ∙ ap (λ (bytes : List ℕ). (script_answer_in setting bytes).state.last) c.as_slice-2.ensures.value)

@@ -1,13 +1,13 @@
 use Rattle.std.proofs.Common.{◌≡◌, length}
 use Rattle.std.specs.Str.Lines.{lines}
 use Rattle.profile.specs.Output.{AddsAllBut}
-use Rattle.script_page.specs.TextPage.{behind}
+use Rattle.script_page.specs.TextPage.{lines_behind}
 use Rattle.script_page.proofs.text.push_behind.Given as goal
 
 -- what stands written, and the lines that are left, is all
 abbrev pub invariant-loop-line : goal.invariant-loop-line
 invariant-loop-line g l = record {
-  text : AddsAllBut (g.W.Sink.contents l.fn.sink) (g.W.Sink.contents l.sink) (behind l.front l.lines.left) (behind l.front (lines l.text));
+  text : AddsAllBut (g.W.Sink.contents l.fn.sink) (g.W.Sink.contents l.sink) (lines_behind l.front l.lines.left) (lines_behind l.front (lines l.text));
   same_flag : g.W.Sink.has_failed l.sink ≡ g.W.Sink.has_failed l.fn.sink;
 }
 

@@ -1,13 +1,13 @@
 use Rattle.std.proofs.Common.{◌≡◌, length}
 use Rattle.std.specs.Str.Lines.{lines}
 use Rattle.profile.specs.Output.{AddsAllBut}
-use Rattle.script_page.specs.TextPage.{numbered}
+use Rattle.script_page.specs.TextPage.{numbered_lines}
 use Rattle.script_page.proofs.text.push_numbered.Given as goal
 
 -- what stands written, and the lines that are left, is all
 abbrev pub invariant-loop-line : goal.invariant-loop-line
 invariant-loop-line g l = record {
-  text : AddsAllBut (g.W.Sink.contents l.fn.sink) (g.W.Sink.contents l.sink) (numbered l.number l.lines.left) (numbered l.first (lines l.text));
+  text : AddsAllBut (g.W.Sink.contents l.fn.sink) (g.W.Sink.contents l.sink) (numbered_lines l.number l.lines.left) (numbered_lines l.first (lines l.text));
   same_flag : g.W.Sink.has_failed l.sink ≡ g.W.Sink.has_failed l.fn.sink;
 }
 

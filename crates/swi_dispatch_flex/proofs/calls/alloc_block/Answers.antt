@@ -1,14 +1,14 @@
 use Rattle.std.proofs.Common.{Bool}
-use Rattle.flex_ground.proofs.Calls.{has_allocated}
-use Rattle.flex_ground.specs.flex_store.specs.Calls.{allocated}
-use Rattle.flex_ground.specs.instances_ground.specs.os_heap.specs.Store.{store_of}
+use Rattle.flex_machine.proofs.Calls.{has_allocated}
+use Rattle.flex_machine.specs.flex_store.specs.Calls.{flex_after_alloc}
+use Rattle.flex_machine.specs.module_world.specs.os_heap.specs.Store.{store_of}
 use Rattle.swi_dispatch_flex.proofs.Called.{call_left, flex_call, leaves_called}
 use Rattle.swi_dispatch_flex.proofs.calls.alloc_block.Goals as goal
 
 pub returns-clause-state : goal.returns-clause-state
 returns-clause-state c =
     let did = c.alloc.ensures in
-    call_left Bool _ _ _ _ (λ t. allocated (store_of c.args.memory.now) t c.args.anchor c.args.size) _
+    call_left Bool _ _ _ _ (λ t. flex_after_alloc (store_of c.args.memory.now) t c.args.anchor c.args.size) _
     c.requires.flex.is (flex_call _ _ _ _ did.flex did.layout did.heaps did.anchors) did.state
 
 pub returns-clause-leaves : goal.returns-clause-leaves

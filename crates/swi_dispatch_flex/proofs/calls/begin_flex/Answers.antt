@@ -1,5 +1,5 @@
 use Rattle.std.proofs.Common.{refl}
-use Rattle.flex_ground.proofs.Starts.{flex_made}
+use Rattle.flex_machine.proofs.Starts.{flex_made}
 use Rattle.swi_dispatch_flex.proofs.Made.{made_given, made_leaves}
 use Rattle.swi_dispatch_flex.proofs.calls.begin_flex.Goals as goal
 

@@ -1,13 +1,13 @@
 use Rattle.std.proofs.Common.{Bool}
-use Rattle.flex_ground.proofs.Calls.{has_extended}
-use Rattle.flex_ground.specs.flex_store.specs.Calls.{extended}
+use Rattle.flex_machine.proofs.Calls.{has_extended}
+use Rattle.flex_machine.specs.flex_store.specs.Calls.{flex_after_extend}
 use Rattle.swi_dispatch_flex.proofs.Called.{call_left, flex_call, leaves_called}
 use Rattle.swi_dispatch_flex.proofs.calls.extend_block.Goals as goal
 
 pub returns-clause-state : goal.returns-clause-state
 returns-clause-state c =
     let did = c.extend.ensures in
-    call_left Bool _ _ _ _ (λ t. extended t c.args.anchor c.args.size) _ c.requires.flex.is
+    call_left Bool _ _ _ _ (λ t. flex_after_extend t c.args.anchor c.args.size) _ c.requires.flex.is
     (flex_call _ _ _ _ did.flex did.layout did.heaps did.anchors) did.state
 
 pub returns-clause-leaves : goal.returns-clause-leaves

@@ -1,12 +1,12 @@
-use Rattle.flex_ground.proofs.Calls.{has_released}
-use Rattle.flex_ground.specs.flex_store.specs.Calls.{released}
+use Rattle.flex_machine.proofs.Calls.{has_released}
+use Rattle.flex_machine.specs.flex_store.specs.Calls.{flex_after_release}
 use Rattle.swi_dispatch_flex.proofs.Called.{call_left, flex_call, leaves_called}
 use Rattle.swi_dispatch_flex.proofs.calls.release_block.Goals as goal
 
 pub returns-clause-state : goal.returns-clause-state
 returns-clause-state c =
     let did = c.release.ensures in
-    call_left (Unit {0}) _ _ _ _ (λ t. released t c.args.anchor) _ c.requires.flex.is
+    call_left (Unit {0}) _ _ _ _ (λ t. flex_after_release t c.args.anchor) _ c.requires.flex.is
     (flex_call _ _ _ _ did.flex did.layout did.heaps did.anchors) did.state
 
 pub returns-clause-leaves : goal.returns-clause-leaves

@@ -1,7 +1,7 @@
 use Rattle.std.proofs.Common.{◌≡◌, ℕ, Err, subst}
 use Rattle.profile.specs.declared.error.ErrorNumber.{ErrorNumber}
-use Rattle.flex_kept.specs.dynamic_areas.specs.declared.area.Area.{Area}
-use Rattle.flex_kept.specs.dynamic_areas.specs.Areas.{area_in}
+use Rattle.flex_frame.specs.dynamic_areas.specs.declared.area.Area.{Area}
+use Rattle.flex_frame.specs.dynamic_areas.specs.Areas.{area_in}
 use Rattle.swi_dispatch_store.proofs.AreaAnswers.{unknown_error}
 use Rattle.swi_dispatch_store.proofs.Leaving.{leaves_memory}
 use Rattle.swi_dispatch_store.proofs.areas.change_area.Goals as goal

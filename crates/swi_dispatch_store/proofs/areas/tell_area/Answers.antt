@@ -1,5 +1,5 @@
 use Rattle.std.proofs.Common.{arith}
-use Rattle.flex_kept.specs.dynamic_areas.proofs.RoomLemmas.{held_small}
+use Rattle.flex_frame.specs.dynamic_areas.proofs.RoomLemmas.{held_small}
 use Rattle.swi_dispatch_store.proofs.areas.tell_area.Goals as goal
 
 pub overflow_mul-area : goal.overflow_mul-area

@@ -1,4 +1,4 @@
-use Rattle.flex_kept.proofs.Heaps.{got_keeps}
+use Rattle.flex_frame.proofs.Heaps.{got_keeps}
 use Rattle.swi_dispatch_store.proofs.Leaving.{leaves_written}
 use Rattle.swi_dispatch_store.proofs.heaps.get_block.Goals as goal
 

@@ -1,5 +1,5 @@
 use Rattle.std.proofs.Common.{◌≡◌, ◌∙◌, ◌+◌, ◌*◌, ◌/◌, ◌<◌, ◌++◌, ◌∷◌, [], ℕ, List, None, length, arith, ap, subst, refl}
-use Rattle.raw_store.specs.Region.{grown}
+use Rattle.raw_store.specs.Region.{bytes_after_growth}
 use Rattle.address_map.specs.Memory.{place, byte_at, free_pages, regions, class_of}
 use Rattle.address_map.specs.Pages.{frame_at, IsPageTable}
 use Rattle.address_map.proofs.Loads.{unmapped_page}
@@ -76,7 +76,7 @@ returns-clause-bytes c a =
     let below : c.args.addr / 4096 < length m.frames = omega (arith, m.table.size) in
     let none : frame_at m.frames (c.args.addr / 4096) ≡ None = unmapped_page m c.args.addr c.requires.unmapped in
     rw (c.set.ensures, c.of.ensures, c.write_zeros.ensures.bytes)
-    (bytes_more m.frames c.args.addr f c.requires.aligned below none (grown m.store.items (4096 * f + 4096)) 4096 refl
+    (bytes_more m.frames c.args.addr f c.requires.aligned below none (bytes_after_growth m.store.items (4096 * f + 4096)) 4096 refl
     (unused_frame m.frames free (c.args.addr / 4096) f table below none) (length-grown m.store.items (4096 * f + 4096)).0 a
     ∙ bytes_grown m.frames m.store.items (4096 * f + 4096) a m.written)
 

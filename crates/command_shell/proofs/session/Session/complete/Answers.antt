@@ -1,5 +1,5 @@
 use Rattle.std.proofs.Common.{length}
-use Rattle.command_shell.specs.Calls.{finished, first_step, step_made}
+use Rattle.command_shell.specs.Calls.{answer_after_steps, first_step, step_made}
 use Rattle.command_shell.specs.Session.{script_state}
 use Rattle.command_shell.specs.State.{answer}
 use Rattle.command_shell.proofs.AnswerLemmas.{tells_then}
@@ -15,5 +15,5 @@ returns-clause-told g c =
     (g.W.Sink.contents c.finish.new.sink)
     (script_state c.finish.new.self images) (script_state c.begin_call.new.self images)
     (answer (step_made w a) a.printed)
-    (λ after. finished (length w.machine.tables.frames) after.left after) begun.text begun.state
+    (λ after. answer_after_steps (length w.machine.tables.frames) after.left after) begun.text begun.state
     (rw c.frames-frames.ensures.value at c.finish.ensures.told)

@@ -1,5 +1,5 @@
 use Rattle.std.proofs.Common.{sym, ◌∙◌}
-use Rattle.command_shell.specs.Calls.{finished}
+use Rattle.command_shell.specs.Calls.{answer_after_steps}
 use Rattle.command_shell.specs.Session.{script_state}
 use Rattle.command_shell.proofs.CallLemmas.{call_ends, call_goes_on, fewer_steps, goes_left}
 use Rattle.command_shell.proofs.session.Session.finish.Goals as goal
@@ -11,7 +11,7 @@ returns-in-Some-clause-told g c =
     let now = script_state c.tell_end.new.self images in
     call_ends c.tell_end.result (g.W.Sink.contents c.args.sink.now) (g.W.Sink.contents c.loop-end.sink)
     (g.W.Sink.contents c.tell_end.new.sink)
-    c.args.frames (script_state c.loop-end.self images) now c.in-Some.end (finished c.args.frames start.left start)
+    c.args.frames (script_state c.loop-end.self images) now c.in-Some.end (answer_after_steps c.args.frames start.left start)
     c.loop-end.invariant.text c.loop-end.invariant.state (sym (c.call_end.ensures images) ∙ c.in-Some.is)
     (c.tell_end.ensures.told images)
 
@@ -34,7 +34,7 @@ loop-end-preserved g c =
     let step =
     call_goes_on (g.W.Sink.contents c.args.sink.now) (g.W.Sink.contents c.loop-end.sink)
     (g.W.Sink.contents c.take_step.new.sink)
-    c.args.frames (script_state c.loop-end.self images) now (finished c.args.frames start.left start)
+    c.args.frames (script_state c.loop-end.self images) now (answer_after_steps c.args.frames start.left start)
     c.loop-end.invariant.text c.loop-end.invariant.state (sym (c.call_end.ensures images) ∙ c.in-None.is)
     c.in_ok-take_step-in-None.ensures.state c.in_ok-take_step-in-None.ensures.text in
     record {

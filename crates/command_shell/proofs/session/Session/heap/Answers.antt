@@ -1,7 +1,7 @@
 use Rattle.std.proofs.Common.{◌≡◌, ℕ, false, List, [], sym, ◌∙◌, refl, subst}
 use Rattle.std.specs.Prelude.{codes, is_some}
 use Rattle.std.specs.Io.KnownBytes.{Appends}
-use Rattle.debugger.specs.Heap.{blocks_text}
+use Rattle.debugger.specs.Heap.{heap_blocks_text}
 use Rattle.command_shell.specs.Answers.{refused_text}
 use Rattle.command_shell.specs.Session.{script_state}
 use Rattle.command_shell.specs.State.{answer}
@@ -17,7 +17,7 @@ returns-clause-told g c images =
     let from = g.W.Sink.contents c.args.sink.now in
     let between = g.W.Sink.contents c.show_blocks.new.sink in
     let to = g.W.Sink.contents c.tell_refused.new.sink in
-    let none : is_some (blocks_text s.machine.store c.args.address) ≡ false = sym shown.found ∙ c.if-branch.false in
+    let none : is_some (heap_blocks_text s.machine.store c.args.address) ≡ false = sym shown.found ∙ c.if-branch.false in
     let nothing : Appends from between [] =
     subst (λ (text : List ℕ). Appends from between text) (nothing_shown s c.args.address none) shown.writes.text in
     tells_same c.tell_refused.result from to s (answer s (refused_text (codes "NoHeap"))) (heap_told s c.args.address)

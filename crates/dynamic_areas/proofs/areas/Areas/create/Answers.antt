@@ -2,8 +2,8 @@ use Rattle.std.proofs.Common.{◌≡◌, ℕ, ◌+◌, ◌*◌, ◌≤◌, Some,
 use Rattle.address_map.specs.Memory.{free_pages}
 use Rattle.os_heap.specs.Store.{Store, store_of}
 use Rattle.dynamic_areas.specs.declared.area.Area.{Area}
-use Rattle.dynamic_areas.specs.Areas.{find_area, paged, with_area, with_areas}
-use Rattle.dynamic_areas.specs.Creating.{created}
+use Rattle.dynamic_areas.specs.Areas.{find_area, area_with_pages, with_area, with_areas}
+use Rattle.dynamic_areas.specs.Creating.{land_after_create}
 use Rattle.dynamic_areas.proofs.PutLemmas.{find_with, ground_put, paged_with}
 use Rattle.dynamic_areas.proofs.RoomLemmas.{find_with_other}
 use Rattle.dynamic_areas.proofs.WantedLemmas.{IsWanted, wanted_area}
@@ -20,7 +20,7 @@ grow-requires-clause-ground c =
     let e = rw c.free_pages.ensures at c.in_ok-area.ensures in
     let w : IsWanted c.args.self.now (free_pages c.args.map.now) c.args.wanted.now c.in_ok-area.area =
     wanted_area c.args.self.now (free_pages c.args.map.now) c.args.wanted.now c.args.name.now c.in_ok-area.area c.requires.areas.ground.table.rooms (sym e) in
-    rw c.put_area.ensures (ground_put (store_of c.args.map.now) (free_pages c.args.map.now) c.args.self.now (paged 0 c.in_ok-area.area)
+    rw c.put_area.ensures (ground_put (store_of c.args.map.now) (free_pages c.args.map.now) c.args.self.now (area_with_pages 0 c.in_ok-area.area)
     c.requires.areas.ground w.room refl w.other w.new w.clear)
 
 pub grow-requires-clause-room : goal.grow-requires-clause-room
@@ -29,8 +29,8 @@ grow-requires-clause-room c b found =
     let w : IsWanted c.args.self.now (free_pages c.args.map.now) c.args.wanted.now c.in_ok-area.area =
     wanted_area c.args.self.now (free_pages c.args.map.now) c.args.wanted.now c.args.name.now c.in_ok-area.area c.requires.areas.ground.table.rooms (sym e) in
     let found' = rw c.put_area.ensures at found in
-    let both : Some (paged 0 c.in_ok-area.area) ≡ Some b = sym (find_with (paged 0 c.in_ok-area.area) c.args.self.now.areas w.new) ∙ found' in
-    let same : paged 0 c.in_ok-area.area ≡ b = cc in
+    let both : Some (area_with_pages 0 c.in_ok-area.area) ≡ Some b = sym (find_with (area_with_pages 0 c.in_ok-area.area) c.args.self.now.areas w.new) ∙ found' in
+    let same : area_with_pages 0 c.in_ok-area.area ≡ b = cc in
     subst (λ (y : Area). 4096 * (y.pages + c.in_ok-area.area.pages) ≤ y.maximum) same (omega (arith, w.fits))
 
 pub grow-requires-clause-pool : goal.grow-requires-clause-pool
@@ -44,23 +44,23 @@ returns-clause-store c =
     let a = c.in_ok-area.area in
     let w : IsWanted c.args.self.now (free_pages c.args.map.now) c.args.wanted.now a =
     wanted_area c.args.self.now (free_pages c.args.map.now) c.args.wanted.now c.args.name.now a c.requires.areas.ground.table.rooms (sym e) in
-    let find : find_area a.number (with_area (paged 0 a) c.args.self.now.areas) ≡ Some (paged 0 a) = find_with (paged 0 a) c.args.self.now.areas w.new in
+    let find : find_area a.number (with_area (area_with_pages 0 a) c.args.self.now.areas) ≡ Some (area_with_pages 0 a) = find_with (area_with_pages 0 a) c.args.self.now.areas w.new in
     let base : a.base + 4096 * 0 ≡ a.base = omega arith in
     let store = rw (c.put_area.ensures, find, base, w.pages) at c.grow.ensures.store in
     store
 
 pub returns-clause-land : goal.returns-clause-land
-unfolding created
+unfolding land_after_create
 returns-clause-land c =
     let e = rw c.free_pages.ensures at c.in_ok-area.ensures in
     let a = c.in_ok-area.area in
     let w : IsWanted c.args.self.now (free_pages c.args.map.now) c.args.wanted.now a =
     wanted_area c.args.self.now (free_pages c.args.map.now) c.args.wanted.now c.args.name.now a c.requires.areas.ground.table.rooms (sym e) in
-    let find : find_area a.number (with_area (paged 0 a) c.args.self.now.areas) ≡ Some (paged 0 a) = find_with (paged 0 a) c.args.self.now.areas w.new in
+    let find : find_area a.number (with_area (area_with_pages 0 a) c.args.self.now.areas) ≡ Some (area_with_pages 0 a) = find_with (area_with_pages 0 a) c.args.self.now.areas w.new in
     let land = rw (c.put_area.ensures, find) at c.grow.ensures.land in
     rw (← e) (
-      land ∙ ap (λ (xs : List Area). with_areas c.args.self.now xs) (paged_with (paged 0 a) (0 + a.pages) c.args.self.now.areas w.new
-          ∙ ap (λ (n : ℕ). with_area (paged n a) c.args.self.now.areas) (zero-add a.pages)),
+      land ∙ ap (λ (xs : List Area). with_areas c.args.self.now xs) (paged_with (area_with_pages 0 a) (0 + a.pages) c.args.self.now.areas w.new
+          ∙ ap (λ (n : ℕ). with_area (area_with_pages n a) c.args.self.now.areas) (zero-add a.pages)),
       refl,
     )
 
@@ -70,11 +70,11 @@ returns-clause-areas c =
     let a = c.in_ok-area.area in
     let w : IsWanted c.args.self.now (free_pages c.args.map.now) c.args.wanted.now a =
     wanted_area c.args.self.now (free_pages c.args.map.now) c.args.wanted.now c.args.name.now a c.requires.areas.ground.table.rooms (sym e) in
-    let find : find_area a.number (with_area (paged 0 a) c.args.self.now.areas) ≡ Some (paged 0 a) = find_with (paged 0 a) c.args.self.now.areas w.new in
+    let find : find_area a.number (with_area (area_with_pages 0 a) c.args.self.now.areas) ≡ Some (area_with_pages 0 a) = find_with (area_with_pages 0 a) c.args.self.now.areas w.new in
     let land = rw (c.put_area.ensures, find) at c.grow.ensures.land in
     let after : c.grow.new.self ≡ with_areas c.args.self.now (with_area a c.args.self.now.areas) =
-    land ∙ ap (λ (xs : List Area). with_areas c.args.self.now xs) (paged_with (paged 0 a) (0 + a.pages) c.args.self.now.areas w.new
-    ∙ ap (λ (n : ℕ). with_area (paged n a) c.args.self.now.areas) (zero-add a.pages)) in
+    land ∙ ap (λ (xs : List Area). with_areas c.args.self.now xs) (paged_with (area_with_pages 0 a) (0 + a.pages) c.args.self.now.areas w.new
+    ∙ ap (λ (n : ℕ). with_area (area_with_pages n a) c.args.self.now.areas) (zero-add a.pages)) in
     let heaps : (store_of c.grow.new.map).heaps ≡ (store_of c.args.map.now).heaps = ap (λ (s : Store). s.heaps) (returns-clause-store c) in
     record {
       ground = c.grow.ensures.ground;
@@ -82,5 +82,5 @@ returns-clause-areas c =
     }
 
 pub returns-in_err-area-clause-land : goal.returns-in_err-area-clause-land
-unfolding created
+unfolding land_after_create
 returns-in_err-area-clause-land c = search rules

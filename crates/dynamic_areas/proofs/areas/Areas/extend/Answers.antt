@@ -1,10 +1,11 @@
+use Rattle.profile.specs.MemoryMap.{module_area_start}
 use Rattle.std.proofs.Common.{◌≡◌, ℕ, ◌+◌, ◌*◌, ◌∙◌, Some, refl, sym, ap, subst, arith}
 use Rattle.address_map.specs.Memory.{Mapping, free_pages}
 use Rattle.os_heap.specs.Calls.{ending}
 use Rattle.os_heap.proofs.Order.{order_kept}
 use Rattle.os_heap.specs.Store.{Store, store_of, find_heap, IsSound}
-use Rattle.dynamic_areas.specs.Areas.{find_area, paged, with_pages}
-use Rattle.dynamic_areas.specs.Rooms.{IsRoom}
+use Rattle.dynamic_areas.specs.Areas.{find_area, area_with_pages, with_pages}
+use Rattle.dynamic_areas.specs.Rooms.{IsAreaRoom}
 use Rattle.dynamic_areas.proofs.GroundLemmas.{FitsWindow, fits_window, find_paged, land_none}
 use Rattle.dynamic_areas.proofs.ModuleArea.{IsModuleArea, module_area_known, may_grow_heap, find_ended, ground_ended}
 use Rattle.dynamic_areas.proofs.PutLemmas.{find_paged_other}
@@ -20,7 +21,7 @@ pub overflow_add-pages : goal.overflow_add-pages
 overflow_add-pages c =
     let e = rw c.list.ensures.value at c.in-Some.ensures in
     let a = c.in-Some.area.now in
-    let room : IsRoom a = found_room c.args.number c.args.self.now.areas a c.requires.areas.ground.table.rooms (sym e) in
+    let room : IsAreaRoom a = found_room c.args.number c.args.self.now.areas a c.requires.areas.ground.table.rooms (sym e) in
     let fits : FitsWindow a a.pages c.args.count = fits_window a a.pages c.args.count room (c.requires.room a (sym e)) in
     omega (arith, fits.sum)
 
@@ -28,7 +29,7 @@ pub overflow_mul-pages : goal.overflow_mul-pages
 overflow_mul-pages c =
     let e = rw c.list.ensures.value at c.in-Some.ensures in
     let a = c.in-Some.area.now in
-    let room : IsRoom a = found_room c.args.number c.args.self.now.areas a c.requires.areas.ground.table.rooms (sym e) in
+    let room : IsAreaRoom a = found_room c.args.number c.args.self.now.areas a c.requires.areas.ground.table.rooms (sym e) in
     omega (arith, c.requires.room a (sym e), room_small a room)
 
 pub set_module_area_end-requires-clause-may : goal.set_module_area_end-requires-clause-may
@@ -51,7 +52,7 @@ returns-then-number-eq-MODULE_AREA-clause-areas c =
     module_area_known (store_of c.args.map.now) (free_pages c.args.map.now) c.args.self.now a c.requires.areas first in
     let end : ℕ = 4096 * (a.pages + c.args.count) in
     let store = rw (← e) at c.grow.ensures.store in
-    let found : find_heap 0x01800000 (store_of c.grow.new.map).heaps ≡ Some m.heap = rw store m.found in
+    let found : find_heap module_area_start (store_of c.grow.new.map).heaps ≡ Some m.heap = rw store m.found in
     let is : store_of c.set_module_area_end.new.map ≡ ending (store_of c.grow.new.map) m.heap (4096 * (a.pages + c.args.count)) =
     (let ends = rw found at c.set_module_area_end.ensures.store in ends) in
     let sound : IsSound (ending (store_of c.grow.new.map) m.heap (4096 * (a.pages + c.args.count))) =
@@ -59,10 +60,10 @@ returns-then-number-eq-MODULE_AREA-clause-areas c =
     let free : free_pages c.set_module_area_end.new.map ≡ free_pages c.grow.new.map =
     ap (λ (x : Mapping). x.free_pages) c.set_module_area_end.ensures.mapping in
     let land = rw (← e) at c.grow.ensures.land in
-    let there : find_area 1 (with_pages c.args.number (a.pages + c.args.count) c.args.self.now.areas) ≡ Some (paged (a.pages + c.args.count) a) =
-    subst (λ (n : ℕ). find_area n (with_pages c.args.number (a.pages + c.args.count) c.args.self.now.areas) ≡ Some (paged (a.pages + c.args.count) a))
+    let there : find_area 1 (with_pages c.args.number (a.pages + c.args.count) c.args.self.now.areas) ≡ Some (area_with_pages (a.pages + c.args.count) a) =
+    subst (λ (n : ℕ). find_area n (with_pages c.args.number (a.pages + c.args.count) c.args.self.now.areas) ≡ Some (area_with_pages (a.pages + c.args.count) a))
     c.if-number-eq-MODULE_AREA.true (find_paged c.args.number (a.pages + c.args.count) c.args.self.now.areas a (sym e)) in
-    let ended = find_ended (store_of c.grow.new.map).heaps m.heap 0x01800000 (4096 * (a.pages + c.args.count)) found in
+    let ended = find_ended (store_of c.grow.new.map).heaps m.heap module_area_start (4096 * (a.pages + c.args.count)) found in
     record {
       ground = rw (is, free) (ground_ended (store_of c.grow.new.map) (free_pages c.grow.new.map) c.grow.new.self m.heap (4096 * (a.pages + c.args.count))
           c.grow.ensures.ground sound);

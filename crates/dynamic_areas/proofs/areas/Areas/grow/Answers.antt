@@ -3,7 +3,7 @@ use Rattle.address_map.specs.Memory.{free_pages}
 use Rattle.os_heap.specs.Store.{Store, store_of}
 use Rattle.os_heap.proofs.Frame.{classes_same}
 use Rattle.dynamic_areas.specs.Remapped.{with_pages_at}
-use Rattle.dynamic_areas.specs.Rooms.{IsRoom}
+use Rattle.dynamic_areas.specs.Rooms.{IsAreaRoom}
 use Rattle.dynamic_areas.proofs.GroundLemmas.{ground_grown, unmapped_above, FitsWindow, fits_window, land_none}
 use Rattle.dynamic_areas.proofs.Remapped.{store_grown}
 use Rattle.dynamic_areas.proofs.RoomLemmas.{found_room, room_small}
@@ -18,14 +18,14 @@ pub overflow_mul-pages : goal.overflow_mul-pages
 overflow_mul-pages c =
     let e = rw c.list.ensures.value at c.in-Some.ensures in
     let a = c.in-Some.area.now in
-    let room : IsRoom a = found_room c.args.number c.args.self.now.areas a c.requires.ground.table.rooms (sym e) in
+    let room : IsAreaRoom a = found_room c.args.number c.args.self.now.areas a c.requires.ground.table.rooms (sym e) in
     omega (arith, room.within, room_small a room)
 
 pub overflow_add-area : goal.overflow_add-area
 overflow_add-area c =
     let e = rw c.list.ensures.value at c.in-Some.ensures in
     let a = c.in-Some.area.now in
-    let room : IsRoom a = found_room c.args.number c.args.self.now.areas a c.requires.ground.table.rooms (sym e) in
+    let room : IsAreaRoom a = found_room c.args.number c.args.self.now.areas a c.requires.ground.table.rooms (sym e) in
     let fits : FitsWindow a a.pages c.args.count = fits_window a a.pages c.args.count room (c.requires.room a (sym e)) in
     omega (arith, fits.below)
 
@@ -33,7 +33,7 @@ pub overflow_add-pages : goal.overflow_add-pages
 overflow_add-pages c =
     let e = rw c.list.ensures.value at c.in-Some.ensures in
     let a = c.in-Some.area.now in
-    let room : IsRoom a = found_room c.args.number c.args.self.now.areas a c.requires.ground.table.rooms (sym e) in
+    let room : IsAreaRoom a = found_room c.args.number c.args.self.now.areas a c.requires.ground.table.rooms (sym e) in
     let fits : FitsWindow a a.pages c.args.count = fits_window a a.pages c.args.count room (c.requires.room a (sym e)) in
     omega (arith, fits.sum)
 
@@ -41,7 +41,7 @@ pub map_pages-requires-clause-aligned : goal.map_pages-requires-clause-aligned
 map_pages-requires-clause-aligned c =
     let e = rw c.list.ensures.value at c.in-Some.ensures in
     let a = c.in-Some.area.now in
-    let room : IsRoom a = found_room c.args.number c.args.self.now.areas a c.requires.ground.table.rooms (sym e) in
+    let room : IsAreaRoom a = found_room c.args.number c.args.self.now.areas a c.requires.ground.table.rooms (sym e) in
     let fits : FitsWindow a a.pages c.args.count = fits_window a a.pages c.args.count room (c.requires.room a (sym e)) in
     fits.aligned
 
@@ -49,7 +49,7 @@ pub map_pages-requires-clause-below : goal.map_pages-requires-clause-below
 map_pages-requires-clause-below c =
     let e = rw c.list.ensures.value at c.in-Some.ensures in
     let a = c.in-Some.area.now in
-    let room : IsRoom a = found_room c.args.number c.args.self.now.areas a c.requires.ground.table.rooms (sym e) in
+    let room : IsAreaRoom a = found_room c.args.number c.args.self.now.areas a c.requires.ground.table.rooms (sym e) in
     let fits : FitsWindow a a.pages c.args.count = fits_window a a.pages c.args.count room (c.requires.room a (sym e)) in
     omega (arith, fits.below)
 

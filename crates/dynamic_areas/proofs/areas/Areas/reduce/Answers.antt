@@ -1,3 +1,4 @@
+use Rattle.profile.specs.MemoryMap.{module_area_start}
 use Rattle.std.proofs.Common.{◌≡◌, ℕ, ◌-◌, ◌*◌, ◌≤◌, Some, refl, sym, ap, subst, ◌∙◌, arith}
 use Rattle.address_map.specs.Memory.{free_pages}
 use Rattle.os_heap.specs.Calls.{ending}
@@ -5,9 +6,9 @@ use Rattle.os_heap.specs.Order.{KeepsOrder}
 use Rattle.os_heap.proofs.Order.{order_kept}
 use Rattle.os_heap.specs.Store.{Store, store_of}
 use Rattle.dynamic_areas.specs.declared.area.Area.{Area}
-use Rattle.dynamic_areas.specs.Areas.{find_area, paged, with_pages}
+use Rattle.dynamic_areas.specs.Areas.{find_area, area_with_pages, with_pages}
 use Rattle.dynamic_areas.specs.Changing.{AreLoose, loose_pages}
-use Rattle.dynamic_areas.specs.Rooms.{IsRoom}
+use Rattle.dynamic_areas.specs.Rooms.{IsAreaRoom}
 use Rattle.dynamic_areas.proofs.GroundLemmas.{find_paged, land_none}
 use Rattle.dynamic_areas.proofs.LooseLemmas.{loose_created}
 use Rattle.dynamic_areas.proofs.Loosened.{loose_ended}
@@ -31,7 +32,7 @@ pub overflow_mul-area : goal.overflow_mul-area
 overflow_mul-area c =
     let e = rw c.list.ensures.value at c.in-Some.ensures in
     let a = c.in-Some.area.now in
-    let room : IsRoom a = found_room c.args.number c.args.self.now.areas a c.requires.areas.ground.table.rooms (sym e) in
+    let room : IsAreaRoom a = found_room c.args.number c.args.self.now.areas a c.requires.areas.ground.table.rooms (sym e) in
     omega (arith, room.within, room_small a room)
 
 pub set_module_area_end-requires-clause-may : goal.set_module_area_end-requires-clause-may
@@ -84,10 +85,10 @@ returns-clause-areas c =
             module_area_known (store_of c.args.map.now) (free_pages c.args.map.now) c.args.self.now a c.requires.areas first in
             let is : store_of w.set_module_area_end.new.map ≡ ending (store_of c.args.map.now) m.heap (4096 * (a.pages - c.args.count)) =
             (let ends = rw m.found at w.set_module_area_end.ensures.store in ends) in
-            let there : find_area 1 (with_pages c.args.number (a.pages - c.args.count) c.args.self.now.areas) ≡ Some (paged (a.pages - c.args.count) a) =
-            subst (λ (n : ℕ). find_area n (with_pages c.args.number (a.pages - c.args.count) c.args.self.now.areas) ≡ Some (paged (a.pages - c.args.count) a))
+            let there : find_area 1 (with_pages c.args.number (a.pages - c.args.count) c.args.self.now.areas) ≡ Some (area_with_pages (a.pages - c.args.count) a) =
+            subst (λ (n : ℕ). find_area n (with_pages c.args.number (a.pages - c.args.count) c.args.self.now.areas) ≡ Some (area_with_pages (a.pages - c.args.count) a))
             w.if-number-eq-MODULE_AREA.true (find_paged c.args.number (a.pages - c.args.count) c.args.self.now.areas a (sym e)) in
-            let ended = find_ended (store_of c.args.map.now).heaps m.heap 0x01800000 (4096 * (a.pages - c.args.count)) m.found in
+            let ended = find_ended (store_of c.args.map.now).heaps m.heap module_area_start (4096 * (a.pages - c.args.count)) m.found in
             rw (heaps, w.map-is, is, ended, land, there) (m.kind, refl)
         | else-number-eq-MODULE_AREA w ↦
             rw (heaps, w.map-is, land, find_paged_other c.args.number (a.pages - c.args.count) 1 c.args.self.now.areas w.if-number-eq-MODULE_AREA.false)

@@ -4,14 +4,14 @@ use Rattle.address_map.specs.Memory.{free_pages}
 use Rattle.os_heap.specs.Store.{Store, store_of}
 use Rattle.dynamic_areas.specs.declared.area.Area.{Area}
 use Rattle.dynamic_areas.specs.Areas.{with_areas, with_pages, without_area}
-use Rattle.dynamic_areas.specs.Changing.{AreLoose, loose_pages, removed}
+use Rattle.dynamic_areas.specs.Changing.{AreLoose, loose_pages, land_after_remove}
 use Rattle.dynamic_areas.specs.Ground.{IsGround}
 use Rattle.dynamic_areas.proofs.LooseLemmas.{loose_created}
 use Rattle.dynamic_areas.proofs.PutLemmas.{areas_removed, without_paged}
 use Rattle.dynamic_areas.proofs.RoomLemmas.{found_number, found_room}
 use Rattle.dynamic_areas.proofs.areas.Areas.remove.Goals as goal
 use Rattle.std.proofs.Common.{rules}
-use Rattle.dynamic_areas.specs.Changing.{removed}
+use Rattle.dynamic_areas.specs.Changing.{land_after_remove}
 
 pub loose_pages-requires-clause-room : goal.loose_pages-requires-clause-room
 loose_pages-requires-clause-room c =
@@ -31,7 +31,7 @@ shrink-requires-clause-loose c a found =
     (λ is. c.if-number-eq-MODULE_AREA.false (sym number ∙ is)) fits)
 
 pub returns-clause-land : goal.returns-clause-land
-unfolding removed
+unfolding land_after_remove
 returns-clause-land c =
     let e = rw c.list.ensures.value at c.in-Some.ensures in
     let fits : c.in-Some.area.now.pages ≤ loose_pages (store_of c.args.map.now) c.in-Some.area.now =
@@ -54,13 +54,13 @@ returns-clause-areas c =
     c.if-number-eq-MODULE_AREA.false ground heaps c.requires.areas.heap)
 
 pub returns-in_default-clause-land : goal.returns-in_default-clause-land
-unfolding removed
+unfolding land_after_remove
 returns-in_default-clause-land c = search rules
 
 pub returns-then-number-eq-MODULE_AREA-clause-land : goal.returns-then-number-eq-MODULE_AREA-clause-land
-unfolding removed
+unfolding land_after_remove
 returns-then-number-eq-MODULE_AREA-clause-land c = search rules
 
 pub returns-then-loose_pages-pages-clause-land : goal.returns-then-loose_pages-pages-clause-land
-unfolding removed
+unfolding land_after_remove
 returns-then-loose_pages-pages-clause-land c = search rules

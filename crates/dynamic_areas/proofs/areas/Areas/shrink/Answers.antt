@@ -3,7 +3,7 @@ use Rattle.address_map.specs.Memory.{bytes_of, regions, free_pages}
 use Rattle.os_heap.specs.Store.{Store, store_of}
 use Rattle.dynamic_areas.specs.Changing.{AreLoose}
 use Rattle.dynamic_areas.specs.Remapped.{without_pages_at}
-use Rattle.dynamic_areas.specs.Rooms.{IsRoom}
+use Rattle.dynamic_areas.specs.Rooms.{IsAreaRoom}
 use Rattle.dynamic_areas.proofs.ClassLemmas.{no_anchor, classes_unmapped}
 use Rattle.dynamic_areas.proofs.GroundLemmas.{ground_shrunk, mapped_held, FitsWindow, fits_window, land_none}
 use Rattle.dynamic_areas.proofs.RecordLemmas.{unmet_records}
@@ -25,14 +25,14 @@ pub overflow_mul-pages : goal.overflow_mul-pages
 overflow_mul-pages c =
     let e = rw c.list.ensures.value at c.in-Some.ensures in
     let a = c.in-Some.area.now in
-    let room : IsRoom a = found_room c.args.number c.args.self.now.areas a c.requires.ground.table.rooms (sym e) in
+    let room : IsAreaRoom a = found_room c.args.number c.args.self.now.areas a c.requires.ground.table.rooms (sym e) in
     omega (arith, room.within, room_small a room)
 
 pub overflow_add-area : goal.overflow_add-area
 overflow_add-area c =
     let e = rw c.list.ensures.value at c.in-Some.ensures in
     let a = c.in-Some.area.now in
-    let room : IsRoom a = found_room c.args.number c.args.self.now.areas a c.requires.ground.table.rooms (sym e) in
+    let room : IsAreaRoom a = found_room c.args.number c.args.self.now.areas a c.requires.ground.table.rooms (sym e) in
     let fits : FitsWindow a a.pages 0 = fits_window a a.pages 0 room (omega (arith, room.within)) in
     omega (arith, fits.below)
 
@@ -40,7 +40,7 @@ pub unmap_pages-requires-clause-aligned : goal.unmap_pages-requires-clause-align
 unmap_pages-requires-clause-aligned c =
     let e = rw c.list.ensures.value at c.in-Some.ensures in
     let a = c.in-Some.area.now in
-    let room : IsRoom a = found_room c.args.number c.args.self.now.areas a c.requires.ground.table.rooms (sym e) in
+    let room : IsAreaRoom a = found_room c.args.number c.args.self.now.areas a c.requires.ground.table.rooms (sym e) in
     let fits : FitsWindow a (a.pages - c.args.count) 0 = fits_window a (a.pages - c.args.count) 0 room (omega (arith, room.within)) in
     fits.aligned
 

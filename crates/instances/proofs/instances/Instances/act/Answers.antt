@@ -1,18 +1,18 @@
 use Rattle.std.proofs.Common.{List, Some, sym, ap, subst, ◌∙◌}
 use Rattle.address_map.specs.Memory.{regions}
-use Rattle.instances_plans.specs.declared.action.Action.{Action}
+use Rattle.instances_plans.specs.declared.action.PlanAction.{PlanAction}
 use Rattle.instances_plans.specs.declared.given.Given.{Given}
-use Rattle.instances_plans.specs.Plans.{finished}
+use Rattle.instances_plans.specs.Plans.{plan_after_action}
 use Rattle.instances_table.specs.Modules.{AreModules, Module}
-use Rattle.instances_slide.specs.instances_ground.specs.Records.{TurnsRecords}
-use Rattle.instances_slide.specs.instances_ground.specs.Sound.{IsWorld}
-use Rattle.instances_slide.specs.instances_ground.specs.World.{world_of}
-use Rattle.instances_slide.specs.instances_ground.proofs.Records.{turns_losing}
-use Rattle.instances_slide.specs.instances_ground.proofs.Writes.{has_system}
-use Rattle.instances_actions.specs.Actions.{acted}
+use Rattle.module_tidy.specs.module_world.specs.Records.{TurnsRecords}
+use Rattle.module_tidy.specs.module_world.specs.Sound.{IsWorld}
+use Rattle.module_tidy.specs.module_world.specs.World.{world_of}
+use Rattle.module_tidy.specs.module_world.proofs.Records.{turns_losing}
+use Rattle.module_tidy.specs.module_world.proofs.Writes.{has_system}
+use Rattle.instances_actions.specs.Actions.{world_after_action}
 use Rattle.instances_actions.specs.Pending.{pending_of}
 use Rattle.instances_actions.proofs.Readying.{ready_acts}
-use Rattle.instances_slide.specs.Slid.{world_slid}
+use Rattle.module_tidy.specs.Slid.{world_slid}
 use Rattle.instances.proofs.Turning.{world_acted, world_after_slide, world_before_slide}
 use Rattle.instances.proofs.instances.Instances.act.Goals as goal
 
@@ -34,19 +34,19 @@ returns-in-Slide-clause-world c =
     c.slide.ensures.world
     ∙ ap (λ (g : Given). world_slid g.return_address (world_of c.args.map.now c.args.areas.now c.self.inside.table)) c.given-given.ensures
     ∙ ap (λ (ms : List Module). world_slid c.args.plan.now.given.return_address (world_of c.args.map.now c.args.areas.now ms)) c.self.view_is
-    ∙ ap (acted world_slid c.args.plan.now.given (world_of c.args.map.now c.args.areas.now c.args.self.now)) (sym c.in-Slide.is)
+    ∙ ap (world_after_action world_slid c.args.plan.now.given (world_of c.args.map.now c.args.areas.now c.args.self.now)) (sym c.in-Slide.is)
 
 pub returns-in-Slide-clause-sound : goal.returns-in-Slide-clause-sound
 returns-in-Slide-clause-sound c =
-    subst (λ (a : Action). IsWorld (world_of c.slide.new.map c.args.areas.now c.slide.new.table) (pending_of (finished c.args.plan.now a))) (sym c.in-Slide.is)
+    subst (λ (a : PlanAction). IsWorld (world_of c.slide.new.map c.args.areas.now c.slide.new.table) (pending_of (plan_after_action c.args.plan.now a))) (sym c.in-Slide.is)
     (world_after_slide (world_of c.args.map.now c.args.areas.now c.args.self.now) (world_of c.slide.new.map c.args.areas.now c.slide.new.table) c.args.plan.now
     (c.requires.first ∙ ap Some c.in-Slide.is) c.requires.going c.slide.ensures.sound)
 
 pub returns-in_default : goal.returns-in_default
 returns-in_default c = record {
   world = c.act.ensures.world world_slid c.args.areas.now
-      ∙ ap (λ (g : Given). acted world_slid g (world_of c.args.map.now c.args.areas.now c.self.inside.table) c.args.action) c.given-given.ensures
-      ∙ ap (λ (ms : List Module). acted world_slid c.args.plan.now.given (world_of c.args.map.now c.args.areas.now ms) c.args.action) c.self.view_is;
+      ∙ ap (λ (g : Given). world_after_action world_slid g (world_of c.args.map.now c.args.areas.now c.self.inside.table) c.args.action) c.given-given.ensures
+      ∙ ap (λ (ms : List Module). world_after_action world_slid c.args.plan.now.given (world_of c.args.map.now c.args.areas.now ms) c.args.action) c.self.view_is;
   sound = world_acted (world_of c.args.map.now c.args.areas.now c.args.self.now) (world_of c.act.new.map c.args.areas.now c.act.new.table) c.args.plan.now c.args.action
       c.requires.first c.requires.going
       (λ pending none world. c.act.ensures.sound c.args.areas.now pending none
@@ -60,4 +60,4 @@ returns-in_default c = record {
 
 pub returns-in-Slide-clause-records : goal.returns-in-Slide-clause-records
 returns-in-Slide-clause-records c =
-    subst (λ (a : Action). TurnsRecords a (regions c.args.map.now) (regions c.slide.new.map)) (sym c.in-Slide.is) c.slide.ensures.records
+    subst (λ (a : PlanAction). TurnsRecords a (regions c.args.map.now) (regions c.slide.new.map)) (sym c.in-Slide.is) c.slide.ensures.records

@@ -1,11 +1,11 @@
 use Rattle.std.proofs.Common.{List, sym, ap, subst, refl, ◌∙◌}
 use Rattle.std.specs.Prelude.{Option}
 use Rattle.address_map.specs.Memory.{regions}
-use Rattle.instances_plans.specs.declared.action.Action.{Action}
-use Rattle.instances_plans.specs.Plans.{Plan, first_of}
+use Rattle.instances_plans.specs.declared.action.PlanAction.{PlanAction}
+use Rattle.instances_plans.specs.Plans.{Plan, first_action}
 use Rattle.instances_table.specs.Modules.{AreModules, Module}
-use Rattle.instances_slide.specs.instances_ground.specs.Records.{MayTurnRecords}
-use Rattle.instances_slide.specs.instances_ground.specs.World.{world_of}
+use Rattle.module_tidy.specs.module_world.specs.Records.{MayTurnRecords}
+use Rattle.module_tidy.specs.module_world.specs.World.{world_of}
 use Rattle.instances_actions.specs.Codes.{code_among}
 use Rattle.instances.proofs.Turning.{goes_into_code, goes_on, going_back, turn_ends, turn_enters, turn_goes_on}
 use Rattle.instances.proofs.instances.Instances.advance.Goals as goal
@@ -57,15 +57,15 @@ returns-in-None-clause-going c =
 
 pub returns-in_default-clause-records : goal.returns-in_default-clause-records
 returns-in_default-clause-records c =
-    subst (λ (a : Option Action). MayTurnRecords a (regions c.args.map.now) (regions c.args.map.now))
-    (sym (ap (λ (p : Plan). first_of p.actions) (sym c.settle.ensures) ∙ sym c.next.ensures ∙ c.in_default.is)) refl
+    subst (λ (a : Option PlanAction). MayTurnRecords a (regions c.args.map.now) (regions c.args.map.now))
+    (sym (ap (λ (p : Plan). first_action p.actions) (sym c.settle.ensures) ∙ sym c.next.ensures ∙ c.in_default.is)) refl
 
 pub returns-in-Some-code-clause-records : goal.returns-in-Some-code-clause-records
 returns-in-Some-code-clause-records c =
-    subst (λ (a : Option Action). MayTurnRecords a (regions c.args.map.now) (regions c.act.new.map))
-    (sym (ap (λ (p : Plan). first_of p.actions) (sym c.settle.ensures) ∙ sym c.next.ensures ∙ c.in-Some.is)) c.act.ensures.records
+    subst (λ (a : Option PlanAction). MayTurnRecords a (regions c.args.map.now) (regions c.act.new.map))
+    (sym (ap (λ (p : Plan). first_action p.actions) (sym c.settle.ensures) ∙ sym c.next.ensures ∙ c.in-Some.is)) c.act.ensures.records
 
 pub returns-in-None-clause-records : goal.returns-in-None-clause-records
 returns-in-None-clause-records c =
-    subst (λ (a : Option Action). MayTurnRecords a (regions c.args.map.now) (regions c.act.new.map))
-    (sym (ap (λ (p : Plan). first_of p.actions) (sym c.settle.ensures) ∙ sym c.next.ensures ∙ c.in-Some.is)) c.act.ensures.records
+    subst (λ (a : Option PlanAction). MayTurnRecords a (regions c.args.map.now) (regions c.act.new.map))
+    (sym (ap (λ (p : Plan). first_action p.actions) (sym c.settle.ensures) ∙ sym c.next.ensures ∙ c.in-Some.is)) c.act.ensures.records

@@ -1,11 +1,11 @@
 use Rattle.std.proofs.Common.{List, None, Some, refl, subst, ◌∙◌}
 use Rattle.address_map.specs.Memory.{regions}
-use Rattle.instances_plans.specs.declared.action.Action.{Action}
-use Rattle.instances_plans.specs.Plans.{settled}
-use Rattle.instances_slide.specs.flex_kept.proofs.Keeping.{keeps_then}
-use Rattle.instances_slide.specs.instances_ground.specs.Records.{CarriesRecords}
-use Rattle.instances_slide.specs.instances_ground.specs.World.{world_of}
-use Rattle.instances_slide.specs.instances_ground.proofs.Records.{carries_last, carries_on}
+use Rattle.instances_plans.specs.declared.action.PlanAction.{PlanAction}
+use Rattle.instances_plans.specs.Plans.{plan_after_code}
+use Rattle.module_tidy.specs.flex_frame.proofs.Keeping.{keeps_then}
+use Rattle.module_tidy.specs.module_world.specs.Records.{CarriesRecords}
+use Rattle.module_tidy.specs.module_world.specs.World.{world_of}
+use Rattle.module_tidy.specs.module_world.proofs.Records.{carries_last, carries_on}
 use Rattle.instances.proofs.Carrying.{code_carried, end_carried, next_carried, next_fewer, next_left, world_at_end}
 use Rattle.instances.proofs.Naming.{keeps_others}
 use Rattle.instances.proofs.NextCode.{code_is_first}
@@ -26,9 +26,9 @@ loop-outcome-preserved c = record {
   mapping = c.advance.ensures.mapping ∙ c.loop-outcome.invariant.mapping;
   records = λ new later.
       c.loop-outcome.invariant.records new
-      (carries_on (settled c.loop-outcome.plan c.loop-outcome.outcome).actions (regions c.loop-outcome.map) (regions c.advance.new.map) new
+      (carries_on (plan_after_code c.loop-outcome.plan c.loop-outcome.outcome).actions (regions c.loop-outcome.map) (regions c.advance.new.map) new
       c.advance.ensures.records
-      (subst (λ (actions : List Action). CarriesRecords actions (regions c.advance.new.map) new)
+      (subst (λ (actions : List PlanAction). CarriesRecords actions (regions c.advance.new.map) new)
       (next_left (world_of c.loop-outcome.map c.args.areas.now c.loop-outcome.self) (world_of c.advance.new.map c.args.areas.now c.advance.new.self)
       c.loop-outcome.plan c.advance.new.plan c.loop-outcome.outcome c.advance.result c.advance.ensures.advanced c.in-Next.is) later));
   flex = keeps_then _ _ _ c.loop-outcome.invariant.flex c.advance.ensures.flex;
@@ -82,9 +82,9 @@ returns-in-End-clause-mapping c = c.advance.ensures.mapping ∙ c.loop-outcome.i
 pub returns-in-Code-clause-records : goal.returns-in-Code-clause-records
 returns-in-Code-clause-records c =
     c.loop-outcome.invariant.records (regions c.advance.new.map)
-    (carries_last (settled c.loop-outcome.plan c.loop-outcome.outcome).actions (regions c.loop-outcome.map) (regions c.advance.new.map) c.advance.ensures.records)
+    (carries_last (plan_after_code c.loop-outcome.plan c.loop-outcome.outcome).actions (regions c.loop-outcome.map) (regions c.advance.new.map) c.advance.ensures.records)
 
 pub returns-in-End-clause-records : goal.returns-in-End-clause-records
 returns-in-End-clause-records c =
     c.loop-outcome.invariant.records (regions c.advance.new.map)
-    (carries_last (settled c.loop-outcome.plan c.loop-outcome.outcome).actions (regions c.loop-outcome.map) (regions c.advance.new.map) c.advance.ensures.records)
+    (carries_last (plan_after_code c.loop-outcome.plan c.loop-outcome.outcome).actions (regions c.loop-outcome.map) (regions c.advance.new.map) c.advance.ensures.records)

@@ -1,26 +1,26 @@
 use Rattle.std.proofs.Common.{◌≡◌, List, length}
 use Rattle.address_map.specs.Memory.{mapping, regions}
 use Rattle.address_map.specs.declared.region.Region.{Region}
-use Rattle.instances_slide.specs.os_heap.specs.Store.{AreClasses, store_of}
-use Rattle.instances_slide.specs.flex_kept.specs.Keeping.{KeepsFlex}
-use Rattle.instances_plans.specs.Carrying.{carried}
-use Rattle.instances_plans.specs.Plans.{settled}
-use Rattle.instances_slide.specs.instances_ground.specs.Records.{CarriesRecords}
-use Rattle.instances_slide.specs.instances_ground.specs.World.{world_of}
+use Rattle.module_tidy.specs.os_heap.specs.Store.{AreClasses, store_of}
+use Rattle.module_tidy.specs.flex_frame.specs.Keeping.{KeepsFlex}
+use Rattle.instances_plans.specs.Carrying.{carry_of_plan}
+use Rattle.instances_plans.specs.Plans.{plan_after_code}
+use Rattle.module_tidy.specs.module_world.specs.Records.{CarriesRecords}
+use Rattle.module_tidy.specs.module_world.specs.World.{world_of}
 use Rattle.instances.specs.Turns.{IsUnderWay, module_doing}
 use Rattle.instances.proofs.instances.Instances.carry.Given as goal
 
 abbrev pub invariant-loop-outcome : goal.invariant-loop-outcome
 invariant-loop-outcome l = record {
-  carried : carried module_doing (world_of l.map l.areas l.self) (settled l.plan l.outcome)
-      ≡ carried module_doing (world_of l.fn.map l.fn.areas l.fn.self) (settled l.fn.plan l.fn.outcome);
+  carried : carry_of_plan module_doing (world_of l.map l.areas l.self) (plan_after_code l.plan l.outcome)
+      ≡ carry_of_plan module_doing (world_of l.fn.map l.fn.areas l.fn.self) (plan_after_code l.fn.plan l.fn.outcome);
   going : IsUnderWay (world_of l.map l.areas l.self) l.plan;
   classes : AreClasses l.map;
   mapping : mapping l.map ≡ mapping l.fn.map;
-  records : (new : List Region) → CarriesRecords (settled l.plan l.outcome).actions (regions l.map) new
-      → CarriesRecords (settled l.fn.plan l.fn.outcome).actions (regions l.fn.map) new;
+  records : (new : List Region) → CarriesRecords (plan_after_code l.plan l.outcome).actions (regions l.map) new
+      → CarriesRecords (plan_after_code l.fn.plan l.fn.outcome).actions (regions l.fn.map) new;
   flex : KeepsFlex (store_of l.fn.map) (store_of l.map);
 }
 
 abbrev pub decreases-loop-outcome : goal.decreases-loop-outcome
-decreases-loop-outcome l = length (settled l.plan l.outcome).actions
+decreases-loop-outcome l = length (plan_after_code l.plan l.outcome).actions

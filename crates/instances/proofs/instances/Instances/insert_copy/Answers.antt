@@ -1,8 +1,8 @@
 use Rattle.std.proofs.Common.{[], refl, sym, ◌∙◌, arith}
-use Rattle.instances_slide.specs.os_heap.specs.Store.{store_of}
-use Rattle.instances_slide.specs.dynamic_areas.specs.Ground.{estate_of}
-use Rattle.instances_slide.specs.instances_ground.specs.World.{world_of}
-use Rattle.instances_slide.specs.instances_ground.proofs.Worlds.{few_records}
+use Rattle.module_tidy.specs.os_heap.specs.Store.{store_of}
+use Rattle.module_tidy.specs.dynamic_areas.specs.Ground.{estate_of}
+use Rattle.module_tidy.specs.module_world.specs.World.{world_of}
+use Rattle.module_tidy.specs.module_world.proofs.Worlds.{few_records}
 use Rattle.instances.proofs.AddingLemmas.{copied_mapped, no_image, world_with_block}
 use Rattle.instances.proofs.instances.Instances.insert_copy.Goals as goal
 

@@ -1,10 +1,10 @@
 use Rattle.std.proofs.Common.{◌≡◌, [], true, false, refl, sym, ap, ◌∙◌, arith}
-use Rattle.instances_slide.specs.os_heap.specs.Store.{store_of}
-use Rattle.instances_slide.specs.dynamic_areas.specs.Ground.{Estate}
-use Rattle.instances_slide.specs.rma.specs.NewImages.{may_be_in_place}
-use Rattle.instances_slide.specs.rma.proofs.InPlaceLemmas.{may_be}
-use Rattle.instances_slide.specs.instances_ground.specs.World.{world_of}
-use Rattle.instances_slide.specs.instances_ground.proofs.Worlds.{few_records}
+use Rattle.module_tidy.specs.os_heap.specs.Store.{store_of}
+use Rattle.module_tidy.specs.dynamic_areas.specs.Ground.{Estate}
+use Rattle.module_tidy.specs.rma.specs.NewImages.{may_be_in_place}
+use Rattle.module_tidy.specs.rma.proofs.InPlaceLemmas.{may_be}
+use Rattle.module_tidy.specs.module_world.specs.World.{world_of}
+use Rattle.module_tidy.specs.module_world.proofs.Worlds.{few_records}
 use Rattle.instances.specs.Adding.{inserting}
 use Rattle.instances.proofs.AddingLemmas.{world_in_place}
 use Rattle.instances.proofs.instances.Instances.insert_in_place.Goals as goal

@@ -1,5 +1,5 @@
 use Rattle.std.proofs.Common.{◌≡◌, ◌-◌, ◌+◌, ◌<◌, true, refl, sym, ◌∙◌, arith}
-use Rattle.instances_table.specs.Changes.{free_slot, is_held, titled_otherwise}
+use Rattle.instances_table.specs.Changes.{free_slot, is_slot_held, titled_otherwise}
 use Rattle.instances_table.specs.Table.{modules_of}
 use Rattle.instances_table.proofs.RoomLemmas.{few_modules}
 use Rattle.instances_table.proofs.SlotLemmas.{free_passed, free_here, none_free}
@@ -11,7 +11,7 @@ loop-slot-init c = refl
 
 pub loop-slot-preserved : goal.loop-slot-preserved
 loop-slot-preserved c =
-    let held : is_held c.loop-slot.slot (titled_otherwise c.args.title.now c.args.self.now) ≡ true = sym c.is_held_beside.ensures ∙ c.if-not-is_held_beside.false in
+    let held : is_slot_held c.loop-slot.slot (titled_otherwise c.args.title.now c.args.self.now) ≡ true = sym c.is_held_beside.ensures ∙ c.if-not-is_held_beside.false in
     let below : c.loop-slot.slot < 64 = omega arith in
     sym (free_passed _ c.loop-slot.slot (64 - c.loop-slot.slot) (64 - (c.loop-slot.slot + 1)) held (omega arith)) ∙ c.loop-slot.invariant
 

@@ -1,3 +1,4 @@
+use Rattle.profile.specs.MemoryMap.{module_area_start}
 use Rattle.std.proofs.Common.{◌≡◌, Some, sym, subst}
 use Rattle.address_map.specs.Memory.{bytes_of}
 use Rattle.os_heap.specs.Store.{store_of, heap_in, find_heap}
@@ -6,7 +7,7 @@ use Rattle.os_heap.proofs.heaps.Heaps.set_module_area_end.Goals as goal
 
 pub set_end-requires-clause-kind : goal.set_end-requires-clause-kind
 set_end-requires-clause-kind c =
-    found_heap_kind c.args.map.now 0x01800000 (heap_in (bytes_of c.args.map.now) c.in-Some.region) c.in-Some.ensures.1
+    found_heap_kind c.args.map.now module_area_start (heap_in (bytes_of c.args.map.now) c.in-Some.region) c.in-Some.ensures.1
 
 pub set_end-requires-clause-found : goal.set_end-requires-clause-found
 set_end-requires-clause-found c =

@@ -32,9 +32,9 @@ use denote.Slice.{MutSlice, slice_val}
 use denote.Steps.{nothing, heard, opens}
 use denote.Triple.Entry.{alive}
 use denote.Triple.Walked.{Stays, stay_dropped, walk_of, Goes-dropped, Goes-spent_ref}
-use Rattle.raw_store.specs.Lends.{with_items}
-use Rattle.raw_store.specs.Ownership.{bytes_type, bytes_at, block_owns}
-use Rattle.raw_store.specs.Region.{written}
+use Rattle.raw_store.specs.Lends.{bytes_with_items}
+use Rattle.raw_store.specs.Ownership.{bytes_type, owns_bytes_at, block_owns}
+use Rattle.raw_store.specs.Region.{bytes_after_write}
 use Rattle.raw_store.proofs.Memory.{Around, run_out, run_in, to_cells, of_cells}
 use Rattle.raw_store.proofs.Values.{base_val, base_told, none_own}
 use Rattle.raw_store.proofs.Walks.{slot_at}
@@ -48,7 +48,7 @@ use Rattle.raw_store.proofs.block.Bytes.lend_mut.Code as code
 
 module _ {M : Type 1} {𝓤 : Ura M} (𝓛 : Logic 𝓤) (d : R.Denot) (i n rb ro : ℕ) where
   abbrev after_loan : List ℕ → R.Denot
-  after_loan ws = with_items d (written d.items i (take n ws))
+  after_loan ws = bytes_with_items d (bytes_after_write d.items i (take n ws))
 
   module _ (vs : List Val) (b o : ℕ) where
     -- all but the run
@@ -62,8 +62,8 @@ module _ {M : Type 1} {𝓤 : Ura M} (𝓛 : Logic 𝓤) (d : R.Denot) (i n rb r
         let new : R.Denot = after_loan ws in let size : length ws ≡ n = same ∙ count in let all : take n ws ≡ ws = take_all n ws (omega (arith, size)) in
         let is : take i d.items ++ (ws ++ drop_l (i + n) d.items) ≡ new.items = (λ j. take i d.items ++ (sym all j ++ drop_l (i + sym (ap length all ∙ size) j) d.items)) in
         let long : length new.items ≡ length d.items = length-written d.items (take n ws) i (omega (arith, within, size, ap length all)) in
-        qed 𝓛 (‵ (cells (mem u8) ws b (i + o)) ∷ ‵ Rest ∷ []) ∵ use1 𝓛 (‵ (bytes_at b (i + o) ws)) (of_cells 𝓛 b ws (i + o)) $ move ! (1 ∷ []) $ fsplit ! $ move ! (2 ∷ 0 ∷ []) $
-        use2 𝓛 (‵ (bytes_at b o (take i d.items ++ (ws ++ drop_l (i + n) d.items)))) (run_in 𝓛 b o d.items i n within ws (sym size)) $ rewrite ! 0 (λ (l : List ℕ). ‵ (bytes_at b o l)) is refl $
+        qed 𝓛 (‵ (cells (mem u8) ws b (i + o)) ∷ ‵ Rest ∷ []) ∵ use1 𝓛 (‵ (owns_bytes_at b (i + o) ws)) (of_cells 𝓛 b ws (i + o)) $ move ! (1 ∷ []) $ fsplit ! $ move ! (2 ∷ 0 ∷ []) $
+        use2 𝓛 (‵ (owns_bytes_at b o (take i d.items ++ (ws ++ drop_l (i + n) d.items)))) (run_in 𝓛 b o d.items i n within ws (sym size)) $ rewrite ! 0 (λ (l : List ℕ). ‵ (owns_bytes_at b o l)) is refl $
         move ! (1 ∷ []) $ fsplit3 ! $ rewrite ! 0 (λ (k : ℕ). ‵ (froom (bytes_type d.spare) b (k + o))) (sym long) refl $ move ! (3 ∷ 0 ∷ []) $ fjoin ! $
         flt_i ! (length new.items + d.spare) (2 ^ 63) (subst (λ k. k + d.spare < 2 ^ 63) (sym long) small) $ fjoin ! $
         rewrite ! 0 (λ (p : Ptr). ‵ (block_owns p new.items d.spare)) (sym e) refl $ move ! (1 ∷ 0 ∷ []) $ fjoin ! $ move ! (1 ∷ 0 ∷ []) $ fjoin ! $
@@ -99,7 +99,7 @@ lend_mut_spec 𝓤 𝓛 𝓜 𝓡 wired =
     sets_last ! (agg ! (and_then ! (get ! refl) (and_then ! (get ! refl) (no_more !)))) refl (tt, (tt, (record { fits = fits_n }, tt))) $
     exec ! C Λ En (after 1 fn.body) (at_ret En Post) $ sets ! (of_opd ! (get ! refl)) refl (tt, (tt, (record { fits = fits_n }, tt))) $
     -- [the bytes; the room; the owner's fields; its cell; the open borrow, in three entries]
-    use1 𝓛 (‵ (bytes_at b (i + o) run) ⊛ ‵ (Around 𝓛 b o xs i n)) (run_out 𝓛 b o xs i n asked.1) $ split ! $ use1 𝓛 (‵ (cells (mem u8) run b (i + o))) (to_cells 𝓛 b run (i + o)) $
+    use1 𝓛 (‵ (owns_bytes_at b (i + o) run) ⊛ ‵ (Around 𝓛 b o xs i n)) (run_out 𝓛 b o xs i n asked.1) $ split ! $ use1 𝓛 (‵ (cells (mem u8) run b (i + o))) (to_cells 𝓛 b run (i + o)) $
     move ! (3 ∷ 4 ∷ []) $ fjoin ! $ move ! (3 ∷ 0 ∷ []) $ fjoin ! $ move ! (2 ∷ 0 ∷ []) $ fjoin ! $ move ! (2 ∷ 3 ∷ 4 ∷ 1 ∷ 0 ∷ []) $ group ! 5 $
     let new = after_loan 𝓛 d i n rb ro in let at = i + o in let way = back 𝓛 d i n rb ro vs b o e asked.1 small run long in
     let roomy : length run < 2 ^ 64 = omega (arith, long) in let fitting : length run * 1 < 2 ^ 63 = omega (arith, long, asked.1, small) in

@@ -25,7 +25,7 @@ use denote.Signature.{plain, types_at}
 use denote.Steps.{nothing, heard, opens, closes}
 use denote.Triple.Entry.{alive}
 use denote.Triple.Walked.{Stays, stay_dropped, stay_ref, walk_of, Goes-dropped, Goes-ref}
-use Rattle.raw_store.specs.Ownership.{bytes_type, bytes_at, block_owns}
+use Rattle.raw_store.specs.Ownership.{bytes_type, owns_bytes_at, block_owns}
 use Rattle.raw_store.proofs.Memory.{glue}
 use Rattle.raw_store.proofs.Values.{base_val, base_told}
 use Rattle.raw_store.proofs.Walks.{slot_at}
@@ -68,7 +68,7 @@ push_spec 𝓤 𝓛 𝓜 𝓡 wired =
     assigns_last ! (of_opd ! (get ! refl)) (through ! refl (stop !)) (init ! 0 refl (tt, record { fits = good })) $
     exec ! C Λ En (after 1 fn.body) (at_ret En Post) $ sets ! (of_opd ! (unit_lit !)) refl (tt, tt) $
     use1 𝓛 (‵ (part_at u8 full_share x b end)) (uint_in 𝓛 full_share w8 x b end) $ nothing ! $ move ! (1 ∷ 0 ∷ []) $ fjoin ! $ move ! (2 ∷ 0 ∷ []) $
-    use2 𝓛 (‵ (bytes_at b o (xs ++ x ∷ []))) (glue 𝓛 b xs (x ∷ []) o end (ap (λ k. k + o) asked.1)) $
+    use2 𝓛 (‵ (owns_bytes_at b o (xs ++ x ∷ []))) (glue 𝓛 b xs (x ∷ []) o end (ap (λ k. k + o) asked.1)) $
     let new : R.Denot = record { at = d.at; items = xs ++ x ∷ []; spare = n } in let long = length-append xs (x ∷ []) in
     move ! (1 ∷ []) $ rewrite ! 0 (λ (k : ℕ). ‵ (froom (bytes_type n) b k)) {x = length new.items + o} (omega (arith, long, asked.1)) refl $ move ! (1 ∷ 0 ∷ []) $ fjoin ! $
     flt_i ! (length new.items + new.spare) (2 ^ 63) (omega (arith, long, more, small)) $ fjoin ! $

@@ -25,7 +25,7 @@ use denote.Signature.{plain, types_at}
 use denote.Steps.{nothing, heard, opens, closes}
 use denote.Triple.Entry.{alive}
 use denote.Triple.Walked.{Stays, stay_dropped, stay_ref, walk_of, Goes-dropped, Goes-ref}
-use Rattle.raw_store.specs.Ownership.{bytes_type, bytes_at, block_owns}
+use Rattle.raw_store.specs.Ownership.{bytes_type, owns_bytes_at, block_owns}
 use Rattle.raw_store.proofs.Memory.{Besides, byte_out, byte_in}
 use Rattle.raw_store.proofs.Values.{base_val, base_told}
 use Rattle.raw_store.proofs.Walks.{slot_at}
@@ -65,7 +65,7 @@ write_spec 𝓤 𝓛 𝓜 𝓡 wired =
     use1 𝓛 (‵ (fat full_share (ty_int w8) b (i + o) (vint w8 (get_or xs i 0)))) (uint_out 𝓛 full_share w8 (get_or xs i 0) b (i + o)) $
     assigns_last ! (of_opd ! (get ! refl)) (through ! refl (stop !)) (store ! 0 refl (tt, record { fits = good })) $
     exec ! C Λ En (after 1 fn.body) (at_ret En Post) $ sets ! (of_opd ! (unit_lit !)) refl (tt, tt) $
-    use1 𝓛 (‵ (part_at u8 full_share x b (i + o))) (uint_in 𝓛 full_share w8 x b (i + o)) $ use2 𝓛 (‵ (bytes_at b o (set xs i x))) (byte_in 𝓛 b o xs i asked.1 x) $
+    use1 𝓛 (‵ (part_at u8 full_share x b (i + o))) (uint_in 𝓛 full_share w8 x b (i + o)) $ use2 𝓛 (‵ (owns_bytes_at b o (set xs i x))) (byte_in 𝓛 b o xs i asked.1 x) $
     let new : R.Denot = record { at = d.at; items = set xs i x; spare = d.spare } in let long = length-set xs i x in
     move ! (1 ∷ []) $ rewrite ! 0 (λ (n : ℕ). ‵ (froom (bytes_type d.spare) b (n + o))) (sym long) refl $ move ! (1 ∷ 0 ∷ []) $ fjoin ! $
     flt_i ! (length new.items + new.spare) (2 ^ 63) (subst (λ n. n + d.spare < 2 ^ 63) (sym long) small) $ fjoin ! $

@@ -35,10 +35,10 @@ use denote.Struct.Tuple.{Tuple}
 use denote.Steps.{nothing, heard, opens, peeks}
 use denote.Triple.Entry.{alive}
 use denote.Triple.Walked.{Stays, stay_dropped, walk_of, Goes-dropped, Goes-spent_ref}
-use Rattle.raw_store.specs.Lends.{with_items}
-use Rattle.raw_store.specs.Ownership.{bytes_type, bytes_at, block_owns}
-use Rattle.raw_store.specs.Region.{AreApart, Region, written}
-use Rattle.raw_store.specs.Region.{with_items as with_written}
+use Rattle.raw_store.specs.Lends.{bytes_with_items}
+use Rattle.raw_store.specs.Ownership.{bytes_type, owns_bytes_at, block_owns}
+use Rattle.raw_store.specs.Region.{AreApartOrEmpty, Region, bytes_after_write}
+use Rattle.raw_store.specs.Region.{region_with_items as with_written}
 use Rattle.raw_store.proofs.Memory.{to_cells, of_cells}
 use Rattle.raw_store.proofs.Two.{Others, two_out, two_in}
 use Rattle.raw_store.proofs.Values.{base_val, base_told, none_own, two_val, two_of}
@@ -73,16 +73,16 @@ others_of vss = vss.1.0 ++ (vss.1.1.0 ++ (vss.1.1.1.0 ++ (vss.1.1.1.1.0 ++ [])))
 
 -- a store whose bytes are others
 abbrev with_bytes : Inside → List ℕ → Inside
-with_bytes s xs = record s { bytes = with_items s.bytes xs }
+with_bytes s xs = record s { bytes = bytes_with_items s.bytes xs }
 
 module _ {M : Type 1} {𝓤 : Ura M} (𝓛 : Logic 𝓤) (s : Inside) (i n k m rb ro : ℕ) where
   abbrev after_loan : List ℕ → List ℕ → List ℕ
-  after_loan ws zs = written (written s.bytes.items i (take n ws)) k (take m zs)
+  after_loan ws zs = bytes_after_write (bytes_after_write s.bytes.items i (take n ws)) k (take m zs)
 
   abbrev region_after : List ℕ → List ℕ → Region
   region_after ws zs = record { items = after_loan ws zs; spare = s.bytes.spare }
 
-  module _ (vs : List Val) (vss : Valss Fields) (b o : ℕ) (apart : AreApart i n k m) where
+  module _ (vs : List Val) (vss : Valss Fields) (b o : ℕ) (apart : AreApartOrEmpty i n k m) where
     -- all but the two runs: the room, what the fields own, and the store's cell
     abbrev Rest : Fml
     Rest = fsep (Others 𝓛 b o s.bytes.items i n k m apart) (fsep (froom (bytes_type s.bytes.spare) b (length s.bytes.items + o)) (fsep (none_own vss.1.1.0)
@@ -98,13 +98,13 @@ module _ {M : Type 1} {𝓤 : Ura M} (𝓛 : Logic 𝓤) (s : Inside) (i n k m r
         fsplit ! $ feq_l ! (λ same_n. move ! (1 ∷ []) $ fsplit ! $ feq_l ! (λ same_m.
         let all_n : take n ws ≡ ws = take_all n ws (omega (arith, same_n, count_n)) in let all_m : take m zs ≡ zs = take_all m zs (omega (arith, same_m, count_m)) in
         let long_n : n ≡ length (take n ws) = omega (arith, same_n, count_n, ap length all_n) in let long_m : m ≡ length (take m zs) = omega (arith, same_m, count_m, ap length all_m) in
-        let half = written items i (take n ws) in let once : length half ≡ length items = length-written items (take n ws) i (omega (arith, within_n, long_n)) in
+        let half = bytes_after_write items i (take n ws) in let once : length half ≡ length items = length-written items (take n ws) i (omega (arith, within_n, long_n)) in
         let long : length new ≡ length items = length-written half (take m zs) k (omega (arith, within_m, long_m, once)) ∙ once in
         let still : the_invariant t = (holds.0, long ∙ holds.1, ap (λ j. j + spare) long ∙ holds.2, holds.3, holds.4) in let region : Region = region_after ws zs in
-        use1 𝓛 (‵ (bytes_at b (k + o) zs)) (of_cells 𝓛 b zs (k + o)) $ rewrite ! 0 (λ (l : List ℕ). ‵ (bytes_at b (k + o) l)) (sym all_m) refl $ move ! (1 ∷ []) $
-        use1 𝓛 (‵ (bytes_at b (i + o) ws)) (of_cells 𝓛 b ws (i + o)) $ rewrite ! 0 (λ (l : List ℕ). ‵ (bytes_at b (i + o) l)) (sym all_n) refl $
+        use1 𝓛 (‵ (owns_bytes_at b (k + o) zs)) (of_cells 𝓛 b zs (k + o)) $ rewrite ! 0 (λ (l : List ℕ). ‵ (owns_bytes_at b (k + o) l)) (sym all_m) refl $ move ! (1 ∷ []) $
+        use1 𝓛 (‵ (owns_bytes_at b (i + o) ws)) (of_cells 𝓛 b ws (i + o)) $ rewrite ! 0 (λ (l : List ℕ). ‵ (owns_bytes_at b (i + o) l)) (sym all_n) refl $
         -- [the first run; the second; the rest]
-        move ! (2 ∷ []) $ fsplit ! $ move ! (2 ∷ 3 ∷ 0 ∷ []) $ use3 𝓛 (‵ (bytes_at b o new)) (two_in 𝓛 b o items i n k m apart within_n within_m (take n ws) (take m zs) long_n long_m) $
+        move ! (2 ∷ []) $ fsplit ! $ move ! (2 ∷ 3 ∷ 0 ∷ []) $ use3 𝓛 (‵ (owns_bytes_at b o new)) (two_in 𝓛 b o items i n k m apart within_n within_m (take n ws) (take m zs) long_n long_m) $
         move ! (1 ∷ []) $ fsplit3 ! $ rewrite ! 0 (λ (j : ℕ). ‵ (froom (bytes_type spare) b (j + o))) (sym long) refl $ move ! (3 ∷ 0 ∷ []) $ fjoin ! $
         flt_i ! (length new + spare) (2 ^ 63) (subst (λ j. j + spare < 2 ^ 63) (sym long) small) $ fjoin ! $
         rewrite ! 0 (λ (p : Ptr). ‵ (block_owns p new spare)) (sym e) refl $ move ! (1 ∷ 0 ∷ []) $ fjoin ! $
@@ -143,8 +143,8 @@ lend_two_spec 𝓤 𝓛 𝓜 𝓡 wired =
     let rb = a.0.ref_ptr.0 in let ro = a.0.ref_ptr.1 in let γ = a.0.ghost_name in let xs = a.0.now in
     let i = a.1.0 in let n = a.1.1.0 in let k = a.1.1.1.0 in let m = a.1.1.1.1.0 in
     let fits : i < 2 ^ 64 = are.1.0.1 in let fits_n : n < 2 ^ 64 = are.1.1.0.1 in let fits_k : k < 2 ^ 64 = are.1.1.1.0.1 in let fits_m : m < 2 ^ 64 = are.1.1.1.1.0.1 in
-    qed 𝓛 ((raw (alive 𝓛 ended.signature z.0.0 z.0.1) ⊛ ‵ (owns (types_at S z.0.0) a vss)) ∷ (raw (fact 𝓤 (i + n ≤ length xs.items)) ⊛ raw (fact 𝓤 (k + m ≤ length xs.items)) ⊛ raw (fact 𝓤 (AreApart i n k m))) ∷ []) ∵
-    move ! (1 ∷ []) $ split3 ! $ heard ! (i + n ≤ length xs.items) (λ within_n. heard ! (k + m ≤ length xs.items) (λ within_m. heard ! (AreApart i n k m) (λ apart. split ! $ use1 𝓛 (‵ (flft κ q) ⊛ ‵ ftrue) (id⊢ 𝓤 _) $ split ! $ move ! (2 ∷ []) $
+    qed 𝓛 ((raw (alive 𝓛 ended.signature z.0.0 z.0.1) ⊛ ‵ (owns (types_at S z.0.0) a vss)) ∷ (raw (fact 𝓤 (i + n ≤ length xs.items)) ⊛ raw (fact 𝓤 (k + m ≤ length xs.items)) ⊛ raw (fact 𝓤 (AreApartOrEmpty i n k m))) ∷ []) ∵
+    move ! (1 ∷ []) $ split3 ! $ heard ! (i + n ≤ length xs.items) (λ within_n. heard ! (k + m ≤ length xs.items) (λ within_m. heard ! (AreApartOrEmpty i n k m) (λ apart. split ! $ use1 𝓛 (‵ (flft κ q) ⊛ ‵ ftrue) (id⊢ 𝓤 _) $ split ! $ move ! (2 ∷ []) $
     fsplit ! $ fsplit3 ! $ drop ! $ keep ! (0 ∷ 1 ∷ 3 ∷ []) $
     regoal ! (λ (us : List Val). prop (WpFn 𝓤 H C Λ fn us Post)) (λ j. are.0.0 j ++ (are.1.0.0 j ++ (are.1.1.0.0 j ++ (are.1.1.1.0.0 j ++ (are.1.1.1.1.0.0 j ++ []))))) refl $
     enter ! C Λ fn (vptr rb ro ∷ vint w64 i ∷ vint w64 n ∷ vint w64 k ∷ vint w64 m ∷ []) Post $
@@ -175,7 +175,7 @@ lend_two_spec 𝓤 𝓛 𝓜 𝓡 wired =
     let way = back 𝓛 s i n k m rb ro vs us b o apart spelt holds e in_n in_m small one two long long_m in
     let roomy : (length one < 2 ^ 64) × (length one * 1 < 2 ^ 63) = (omega (arith, long), omega (arith, long, in_n, small)) in
     let roomy_m : (length two < 2 ^ 64) × (length two * 1 < 2 ^ 63) = (omega (arith, long_m), omega (arith, long_m, in_m, small)) in
-    use1 𝓛 (‵ (bytes_at b at one) ⊛ ‵ (bytes_at b at_m two) ⊛ ‵ (Others 𝓛 b o ys i n k m apart)) (two_out 𝓛 b o ys i n k m apart in_n in_m) $ split3 ! $
+    use1 𝓛 (‵ (owns_bytes_at b at one) ⊛ ‵ (owns_bytes_at b at_m two) ⊛ ‵ (Others 𝓛 b o ys i n k m apart)) (two_out 𝓛 b o ys i n k m apart in_n in_m) $ split3 ! $
     use1 𝓛 (‵ (cells (mem u8) one b at)) (to_cells 𝓛 b one at) $ feq_i ! ℕ (length one) (length one) refl $ fjoin ! $ move ! (1 ∷ []) $
     use1 𝓛 (‵ (cells (mem u8) two b at_m)) (to_cells 𝓛 b two at_m) $ feq_i ! ℕ (length two) (length two) refl $ fjoin ! $
     -- [the second run; the first; the others; the room; the owner's fields; the deed and the room;
@@ -194,7 +194,7 @@ lend_two_spec 𝓤 𝓛 𝓜 𝓡 wired =
     move ! (1 ∷ 0 ∷ []) $ use2 𝓛 (‵ ((Tuple (Part ∷ Part ∷ [])).own_val (r, r_m) (v ∷ []))) (two_of 𝓛 Part Part r r_m (slice_val (b, at) n) (slice_val (b, at_m) m)) $
     -- [the pair; the token and what the store follows]
     move ! (1 ∷ []) $ split ! $ nothing ! $ move ! (1 ∷ 0 ∷ []) $ join ! $ move ! (1 ∷ []) $
-    rewrite ! 0 (λ (l : Region). ‵ (after₂ (mem R) T U γ γs.0 γs.1 (λ ws zs. with_written l (written (written l.items i (take n ws)) k (take m zs))))) view_is refl $
+    rewrite ! 0 (λ (l : Region). ‵ (after₂ (mem R) T U γ γs.0 γs.1 (λ ws zs. with_written l (bytes_after_write (bytes_after_write l.items i (take n ws)) k (take m zs))))) view_is refl $
     use0 𝓛 (raw (fact 𝓤 Second)) (fact_i 𝓤 Second (emp 𝓤) second_is) $ use0 𝓛 (raw (fact 𝓤 First)) (fact_i 𝓤 First (emp 𝓤) first_is) $ join ! $ move ! (1 ∷ 0 ∷ []) $ join ! $
     nothing ! $ nothing ! $ fjoin ! $ nothing ! $ fjoin ! $ nothing ! $ fjoin ! $ nothing ! $ fjoin ! $ nothing ! $ fjoin ! $ move ! (2 ∷ 0 ∷ 3 ∷ 1 ∷ []) $
     by ! (leaves 𝓛 ended stays c z v (r, r_m) (tt, (tt, (tt, (tt, (tt, tt))))) (tt, (tt, (tt, (tt, (tt, tt)))))))))))))))))))

@@ -1,6 +1,6 @@
 use Rattle.std.proofs.Common.{◌≡◌, ◌≤◌, ◌⊎◌, ◌+◌, ◌-◌, ◌^◌, ◌<◌, ◌∙◌, sym, inl, inr, arith, length, ap, ℕ, List}
 use Rattle.std.proofs.lemmas.Bool.{cases_lt}
-use Rattle.raw_store.specs.Region.{Region, zeroed, grown}
+use Rattle.raw_store.specs.Region.{Region, bytes_after_zero, bytes_after_growth}
 use Rattle.raw_store.proofs.Pieces.{cleared_inside, cleared_past}
 use Rattle.raw_store.proofs.store.RawStore.write_zeros.Goals as goal
 use Rattle.raw_store.proofs.store.RawStore.write_zeros.Goals.{then-at-written, else-at-written}
@@ -25,12 +25,12 @@ returns-clause-bytes c =
             | inr more ↦ inl (omega (arith, w.min.ensures, more, start))
           ] in
           c.grow.ensures.bytes
-          ∙ ap (λ (r : Region). grown r.items (c.args.at + c.args.len)) w.self-is
-          ∙ ap (λ (xs : List ℕ). grown xs (c.args.at + c.args.len)) w.zero.ensures.bytes
+          ∙ ap (λ (r : Region). bytes_after_growth r.items (c.args.at + c.args.len)) w.self-is
+          ∙ ap (λ (xs : List ℕ). bytes_after_growth xs (c.args.at + c.args.len)) w.zero.ensures.bytes
           ∙ cleared_inside c.args.self.now.items c.args.at c.args.len (w.min.result - c.args.at) (omega (arith, w.min.ensures, start, long))
           (omega (arith, w.min.ensures, start)) ends
       | else-at-written w ↦
           c.grow.ensures.bytes
-          ∙ ap (λ (r : Region). grown r.items (c.args.at + c.args.len)) w.self-is
+          ∙ ap (λ (r : Region). bytes_after_growth r.items (c.args.at + c.args.len)) w.self-is
           ∙ cleared_past c.args.self.now.items c.args.at c.args.len (omega (arith, w.if-at-written.false, long))
     ]

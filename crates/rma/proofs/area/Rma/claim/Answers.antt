@@ -1,14 +1,15 @@
+use Rattle.profile.specs.MemoryMap.{module_area_start}
 use Rattle.std.proofs.Common.{◌≡◌, ◌+◌, Ok, sym, ap, subst, ◌∙◌}
 use Rattle.profile.specs.Outcome.{Gives}
 use Rattle.os_heap.specs.os_heap_lists.specs.Lists.{total_for}
-use Rattle.os_heap.specs.Calls.{got}
+use Rattle.os_heap.specs.Calls.{store_after_get}
 use Rattle.os_heap.specs.Store.{Store, store_of}
 use Rattle.os_heap.proofs.Frame.{layout-others}
 use Rattle.os_heap.proofs.Order.{order_laid}
-use Rattle.flex_kept.specs.dynamic_areas.specs.Ground.{Estate, estate_of}
-use Rattle.flex_kept.specs.dynamic_areas.proofs.HeapCalls.{areas_written}
-use Rattle.flex_kept.proofs.Heaps.{got_keeps, got_unanchored}
-use Rattle.flex_kept.proofs.Keeping.{keeps_then}
+use Rattle.flex_frame.specs.dynamic_areas.specs.Ground.{Estate, estate_of}
+use Rattle.flex_frame.specs.dynamic_areas.proofs.HeapCalls.{areas_written}
+use Rattle.flex_frame.proofs.Heaps.{got_keeps, got_unanchored}
+use Rattle.flex_frame.proofs.Keeping.{keeps_then}
 use Rattle.rma.specs.Calls.{in_grown_area, is_no_room, rma_base, rma_claimed}
 use Rattle.rma.proofs.Estates.{estate_same, full_where, or_done, or_refused, store_kept}
 use Rattle.rma.proofs.NewImageLemmas.{block_made, live_inside}
@@ -19,8 +20,8 @@ pub returns-in-Ok-clause-claimed : goal.returns-in-Ok-clause-claimed
 unfolding rma_claimed
 returns-in-Ok-clause-claimed c =
     let s : Store = store_of c.args.map.now in
-    or_done c.args.map.now c.get.new.map c.args.areas.now (rma_base s + total_for c.args.size) (λ t. got t 0x01800000 c.args.size)
-    (got s 0x01800000 c.args.size) c.in-Ok.block (layout-mapping c.args.map.now c.get.new.map c.get.ensures.layout) (let given = rw c.in-Ok.is at c.get.ensures.store in given)
+    or_done c.args.map.now c.get.new.map c.args.areas.now (rma_base s + total_for c.args.size) (λ t. store_after_get t module_area_start c.args.size)
+    (store_after_get s module_area_start c.args.size) c.in-Ok.block (layout-mapping c.args.map.now c.get.new.map c.get.ensures.layout) (let given = rw c.in-Ok.is at c.get.ensures.store in given)
 
 pub returns-in-Ok-clause-estate : goal.returns-in-Ok-clause-estate
 returns-in-Ok-clause-estate c =
@@ -31,11 +32,11 @@ unfolding rma_claimed
 returns-in-Err-clause-claimed c =
     let s : Store = store_of c.args.map.now in
     let given = rw c.in-Err.is at c.get.ensures.store in
-    let full = full_where s (store_of c.get.new.map) (got s 0x01800000 c.args.size) c.in-Err.error (sym c.is_no_room.ensures ∙ c.if-is_no_room.true) given in
-    let kept : store_of c.get.new.map ≡ s = store_kept s (store_of c.get.new.map) (got s 0x01800000 c.args.size) c.in-Err.error given in
+    let full = full_where s (store_of c.get.new.map) (store_after_get s module_area_start c.args.size) c.in-Err.error (sym c.is_no_room.ensures ∙ c.if-is_no_room.true) given in
+    let kept : store_of c.get.new.map ≡ s = store_kept s (store_of c.get.new.map) (store_after_get s module_area_start c.args.size) c.in-Err.error given in
     let same : estate_of c.get.new.map c.args.areas.now ≡ estate_of c.args.map.now c.args.areas.now =
     estate_same c.args.map.now c.get.new.map c.args.areas.now s (layout-mapping c.args.map.now c.get.new.map c.get.ensures.layout) kept in
-    rw full (subst (λ (x : Estate). Gives x (in_grown_area x (rma_base x.store + total_for c.args.size) (λ t. got t 0x01800000 c.args.size))
+    rw full (subst (λ (x : Estate). Gives x (in_grown_area x (rma_base x.store + total_for c.args.size) (λ t. store_after_get t module_area_start c.args.size))
     c.claim_grown.result (estate_of c.claim_grown.new.map c.claim_grown.new.areas)) same c.claim_grown.ensures.claimed)
 
 pub returns-in-Err-2-clause-claimed : goal.returns-in-Err-2-clause-claimed
@@ -45,8 +46,8 @@ returns-in-Err-2-clause-claimed c =
     let both = sym c.in-Err.is ∙ c.in-Err-2.is in
     let same : c.in-Err.error ≡ c.in-Err-2.error = cc in
     rw c.rma_error.ensures
-    (or_refused c.args.map.now c.get.new.map c.args.areas.now (rma_base s + total_for c.args.size) (λ t. got t 0x01800000 c.args.size)
-    (got s 0x01800000 c.args.size) c.in-Err-2.error (layout-mapping c.args.map.now c.get.new.map c.get.ensures.layout) (ap is_no_room (sym same) ∙ sym c.is_no_room.ensures ∙ c.if-is_no_room.false)
+    (or_refused c.args.map.now c.get.new.map c.args.areas.now (rma_base s + total_for c.args.size) (λ t. store_after_get t module_area_start c.args.size)
+    (store_after_get s module_area_start c.args.size) c.in-Err-2.error (layout-mapping c.args.map.now c.get.new.map c.get.ensures.layout) (ap is_no_room (sym same) ∙ sym c.is_no_room.ensures ∙ c.if-is_no_room.false)
     (let given = rw c.in-Err-2.is at c.get.ensures.store in given))
 
 pub returns-in-Ok-clause-others : goal.returns-in-Ok-clause-others
@@ -75,22 +76,22 @@ returns-in-Ok-clause-alone c =
 
 pub returns-in-Ok-clause-flex : goal.returns-in-Ok-clause-flex
 returns-in-Ok-clause-flex c =
-    got_keeps (store_of c.args.map.now) (store_of c.get.new.map) 0x01800000 c.args.size c.get.result.answer c.requires.estate.ground.sound c.get.ensures.sound c.get.ensures.store
+    got_keeps (store_of c.args.map.now) (store_of c.get.new.map) module_area_start c.args.size c.get.result.answer c.requires.estate.ground.sound c.get.ensures.sound c.get.ensures.store
 
 pub returns-in-Err-clause-flex : goal.returns-in-Err-clause-flex
 returns-in-Err-clause-flex c =
     keeps_then (store_of c.args.map.now) (store_of c.get.new.map) (store_of c.claim_grown.new.map)
-    (got_keeps (store_of c.args.map.now) (store_of c.get.new.map) 0x01800000 c.args.size c.get.result.answer c.requires.estate.ground.sound
+    (got_keeps (store_of c.args.map.now) (store_of c.get.new.map) module_area_start c.args.size c.get.result.answer c.requires.estate.ground.sound
     c.get.ensures.sound c.get.ensures.store) c.claim_grown.ensures.flex
 
 pub returns-in-Err-2-clause-flex : goal.returns-in-Err-2-clause-flex
 returns-in-Err-2-clause-flex c =
-    got_keeps (store_of c.args.map.now) (store_of c.get.new.map) 0x01800000 c.args.size c.get.result.answer c.requires.estate.ground.sound c.get.ensures.sound c.get.ensures.store
+    got_keeps (store_of c.args.map.now) (store_of c.get.new.map) module_area_start c.args.size c.get.result.answer c.requires.estate.ground.sound c.get.ensures.sound c.get.ensures.store
 
 pub returns-in-Ok-clause-unanchored : goal.returns-in-Ok-clause-unanchored
 returns-in-Ok-clause-unanchored c =
     let given = rw c.in-Ok.is at c.get.ensures.store in
-    got_unanchored (store_of c.args.map.now) (store_of c.get.new.map) 0x01800000 c.args.size (Ok c.in-Ok.block) c.requires.estate.ground.sound given
+    got_unanchored (store_of c.args.map.now) (store_of c.get.new.map) module_area_start c.args.size (Ok c.in-Ok.block) c.requires.estate.ground.sound given
 
 pub returns-in-Ok-clause-order : goal.returns-in-Ok-clause-order
 returns-in-Ok-clause-order c = order_laid c.args.map.now c.get.new.map c.get.ensures.layout

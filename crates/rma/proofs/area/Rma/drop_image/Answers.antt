@@ -3,8 +3,8 @@ use Rattle.address_map.specs.Memory.{free_pages}
 use Rattle.os_heap.proofs.ForgetLemmas.{same_bytes_of}
 use Rattle.os_heap.specs.Store.{IsSound, Store, store_of}
 use Rattle.os_heap.proofs.Frame.{classes_same}
-use Rattle.flex_kept.specs.Keeping.{KeepsFlex}
-use Rattle.flex_kept.proofs.Writes.{dropped_keeps}
+use Rattle.flex_frame.specs.Keeping.{KeepsFlex}
+use Rattle.flex_frame.proofs.Writes.{dropped_keeps}
 use Rattle.rma.specs.Images.{image_dropped}
 use Rattle.rma.proofs.ImageLemmas.{areas_less, same_pool, sound_less, store_less}
 use Rattle.rma.proofs.area.Rma.drop_image.Goals as goal

@@ -1,7 +1,8 @@
+use Rattle.profile.specs.MemoryMap.{module_area_start}
 use Rattle.os_heap.specs.Calls.{gave_back}
 use Rattle.os_heap.specs.Store.{store_of}
-use Rattle.flex_kept.specs.dynamic_areas.proofs.HeapCalls.{areas_freed}
-use Rattle.flex_kept.proofs.Heaps.{freed_keeps}
+use Rattle.flex_frame.specs.dynamic_areas.proofs.HeapCalls.{areas_freed}
+use Rattle.flex_frame.proofs.Heaps.{freed_keeps}
 use Rattle.rma.specs.Calls.{rma_freed}
 use Rattle.rma.proofs.Estates.{area_done, area_refused}
 use Rattle.rma.proofs.area.Rma.free.Goals as goal
@@ -9,32 +10,32 @@ use Rattle.rma.proofs.area.Rma.free.Goals as goal
 pub returns-in-Ok-clause-freed : goal.returns-in-Ok-clause-freed
 unfolding rma_freed
 returns-in-Ok-clause-freed c l =
-    area_done c.args.map.now c.free.new.map l (gave_back (store_of c.args.map.now) 0x01800000 c.args.block) tt c.free.ensures.mapping
+    area_done c.args.map.now c.free.new.map l (gave_back (store_of c.args.map.now) module_area_start c.args.block) tt c.free.ensures.mapping
     (let given = rw c.in-Ok.is at c.free.ensures.store in given)
 
 pub returns-in-Ok-clause-estate : goal.returns-in-Ok-clause-estate
 returns-in-Ok-clause-estate c l good =
-    areas_freed c.args.map.now c.free.new.map l good c.free.ensures.sound c.free.ensures.others c.free.ensures.mapping 0x01800000 c.args.block
+    areas_freed c.args.map.now c.free.new.map l good c.free.ensures.sound c.free.ensures.others c.free.ensures.mapping module_area_start c.args.block
     c.free.result.answer c.free.ensures.store
 
 pub returns-in-Err-clause-estate : goal.returns-in-Err-clause-estate
 returns-in-Err-clause-estate c l good =
-    areas_freed c.args.map.now c.free.new.map l good c.free.ensures.sound c.free.ensures.others c.free.ensures.mapping 0x01800000 c.args.block
+    areas_freed c.args.map.now c.free.new.map l good c.free.ensures.sound c.free.ensures.others c.free.ensures.mapping module_area_start c.args.block
     c.free.result.answer c.free.ensures.store
 
 pub returns-in-Err-clause-freed : goal.returns-in-Err-clause-freed
 unfolding rma_freed
 returns-in-Err-clause-freed c l =
     rw c.rma_error.ensures
-    (area_refused c.args.map.now c.free.new.map l (gave_back (store_of c.args.map.now) 0x01800000 c.args.block) c.in-Err.error c.free.ensures.mapping
+    (area_refused c.args.map.now c.free.new.map l (gave_back (store_of c.args.map.now) module_area_start c.args.block) c.in-Err.error c.free.ensures.mapping
     (let given = rw c.in-Err.is at c.free.ensures.store in given))
 
 pub returns-in-Ok-clause-flex : goal.returns-in-Ok-clause-flex
 returns-in-Ok-clause-flex c =
-    freed_keeps (store_of c.args.map.now) (store_of c.free.new.map) 0x01800000 c.args.block c.free.result.answer c.requires.sound c.free.ensures.sound
+    freed_keeps (store_of c.args.map.now) (store_of c.free.new.map) module_area_start c.args.block c.free.result.answer c.requires.sound c.free.ensures.sound
     c.free.ensures.store
 
 pub returns-in-Err-clause-flex : goal.returns-in-Err-clause-flex
 returns-in-Err-clause-flex c =
-    freed_keeps (store_of c.args.map.now) (store_of c.free.new.map) 0x01800000 c.args.block c.free.result.answer c.requires.sound c.free.ensures.sound
+    freed_keeps (store_of c.args.map.now) (store_of c.free.new.map) module_area_start c.args.block c.free.result.answer c.requires.sound c.free.ensures.sound
     c.free.ensures.store

@@ -1,3 +1,4 @@
+use Rattle.profile.specs.MemoryMap.{module_area_start}
 use Rattle.std.proofs.Common.{◌≡◌, Ok, refl, sym, ap, subst, ◌∙◌, arith}
 use Rattle.address_map.specs.Memory.{free_pages}
 use Rattle.address_map.specs.declared.region.Kind.TheVariants as kind
@@ -9,9 +10,9 @@ use Rattle.os_heap.proofs.Limits.{range_room}
 use Rattle.os_heap.proofs.Frame.{classes_same}
 use Rattle.os_heap.proofs.Order.{order_added}
 use Rattle.os_heap.proofs.Recorded.{store_recorded}
-use Rattle.flex_kept.specs.Keeping.{KeepsFlex}
-use Rattle.flex_kept.proofs.Keeping.{keeps_same}
-use Rattle.flex_kept.proofs.Writes.{recorded_keeps}
+use Rattle.flex_frame.specs.Keeping.{KeepsFlex}
+use Rattle.flex_frame.proofs.Keeping.{keeps_same}
+use Rattle.flex_frame.proofs.Writes.{recorded_keeps}
 use Rattle.rma.specs.Images.{image_recorded}
 use Rattle.rma.proofs.ExtendLemmas.{lies_below}
 use Rattle.rma.proofs.ImageLemmas.{areas_recorded, is_recorded, same_pool}
@@ -19,7 +20,7 @@ use Rattle.rma.proofs.area.Rma.record_image.Goals as goal
 
 pub own-requires-clause-region : goal.own-requires-clause-region
 own-requires-clause-region c =
-    let sized : block_sized (store_of c.args.map.now) 0x01800000 c.args.at ≡ Ok c.in-Ok.len = sym c.block_size.ensures.answer ∙ c.in-Ok.is in
+    let sized : block_sized (store_of c.args.map.now) module_area_start c.args.at ≡ Ok c.in-Ok.len = sym c.block_size.ensures.answer ∙ c.in-Ok.is in
     let below = lies_below c.args.map.now c.args.at c.in-Ok.len c.requires.sound sized in
     record {
       aligned = (is_recorded (store_of c.args.map.now) c.args.at c.in-Ok.len c.requires.sound c.requires.may sized).aligned;
@@ -32,7 +33,7 @@ own-requires-clause-room c = λ record_kind. range_room c.args.map.now c.require
 pub returns-in-Ok-clause-store : goal.returns-in-Ok-clause-store
 unfolding image_recorded
 returns-in-Ok-clause-store c =
-    let sized : block_sized (store_of c.args.map.now) 0x01800000 c.args.at ≡ Ok c.in-Ok.len = sym c.block_size.ensures.answer ∙ c.in-Ok.is in
+    let sized : block_sized (store_of c.args.map.now) module_area_start c.args.at ≡ Ok c.in-Ok.len = sym c.block_size.ensures.answer ∙ c.in-Ok.is in
     let r : Region = record { kind = kind.Image; at = c.args.at; len = c.in-Ok.len } in
     rw sized (store_recorded c.args.map.now c.own.new.self r refl c.own.ensures.regions
     (same_bytes_of c.args.map.now c.own.new.self c.own.ensures.mapping c.own.ensures.bytes) c.own.ensures.marks)
@@ -40,7 +41,7 @@ returns-in-Ok-clause-store c =
 pub returns-in-Ok-clause-sound : goal.returns-in-Ok-clause-sound
 returns-in-Ok-clause-sound c =
     let s : Store = store_of c.args.map.now in
-    let sized : block_sized s 0x01800000 c.args.at ≡ Ok c.in-Ok.len = sym c.block_size.ensures.answer ∙ c.in-Ok.is in
+    let sized : block_sized s module_area_start c.args.at ≡ Ok c.in-Ok.len = sym c.block_size.ensures.answer ∙ c.in-Ok.is in
     let r : Region = record { kind = kind.Image; at = c.args.at; len = c.in-Ok.len } in
     let store = store_recorded c.args.map.now c.own.new.self r refl c.own.ensures.regions
     (same_bytes_of c.args.map.now c.own.new.self c.own.ensures.mapping c.own.ensures.bytes) c.own.ensures.marks in
@@ -49,7 +50,7 @@ returns-in-Ok-clause-sound c =
 pub returns-in-Ok-clause-estate : goal.returns-in-Ok-clause-estate
 returns-in-Ok-clause-estate c l areas =
     let s : Store = store_of c.args.map.now in
-    let sized : block_sized s 0x01800000 c.args.at ≡ Ok c.in-Ok.len = sym c.block_size.ensures.answer ∙ c.in-Ok.is in
+    let sized : block_sized s module_area_start c.args.at ≡ Ok c.in-Ok.len = sym c.block_size.ensures.answer ∙ c.in-Ok.is in
     let r : Region = record { kind = kind.Image; at = c.args.at; len = c.in-Ok.len } in
     let store = store_recorded c.args.map.now c.own.new.self r refl c.own.ensures.regions
     (same_bytes_of c.args.map.now c.own.new.self c.own.ensures.mapping c.own.ensures.bytes) c.own.ensures.marks in
@@ -70,7 +71,7 @@ returns-in-Err-clause-store c = rw (sym c.block_size.ensures.answer ∙ c.in-Err
 pub returns-in-Ok-clause-flex : goal.returns-in-Ok-clause-flex
 returns-in-Ok-clause-flex c = λ unanchored.
     let s : Store = store_of c.args.map.now in
-    let sized : block_sized s 0x01800000 c.args.at ≡ Ok c.in-Ok.len = sym c.block_size.ensures.answer ∙ c.in-Ok.is in
+    let sized : block_sized s module_area_start c.args.at ≡ Ok c.in-Ok.len = sym c.block_size.ensures.answer ∙ c.in-Ok.is in
     let r : Region = record { kind = kind.Image; at = c.args.at; len = c.in-Ok.len } in
     let store = store_recorded c.args.map.now c.own.new.self r refl c.own.ensures.regions
     (same_bytes_of c.args.map.now c.own.new.self c.own.ensures.mapping c.own.ensures.bytes) c.own.ensures.marks in
@@ -82,7 +83,7 @@ returns-in-Err-clause-flex c = λ unanchored. keeps_same (store_of c.args.map.no
 
 pub returns-in-Ok-clause-order : goal.returns-in-Ok-clause-order
 returns-in-Ok-clause-order c =
-    let sized : block_sized (store_of c.args.map.now) 0x01800000 c.args.at ≡ Ok c.in-Ok.len = sym c.block_size.ensures.answer ∙ c.in-Ok.is in
+    let sized : block_sized (store_of c.args.map.now) module_area_start c.args.at ≡ Ok c.in-Ok.len = sym c.block_size.ensures.answer ∙ c.in-Ok.is in
     let r : Region = record { kind = kind.Image; at = c.args.at; len = c.in-Ok.len } in
     rw sized (order_added c.args.map.now c.own.new.self r c.own.ensures.regions)
 

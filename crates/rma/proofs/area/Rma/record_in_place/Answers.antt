@@ -8,8 +8,8 @@ use Rattle.os_heap.proofs.Limits.{range_room}
 use Rattle.os_heap.proofs.Frame.{classes_same}
 use Rattle.os_heap.proofs.Order.{order_added}
 use Rattle.os_heap.proofs.Recorded.{store_recorded}
-use Rattle.flex_kept.specs.Keeping.{KeepsFlex}
-use Rattle.flex_kept.proofs.Writes.{recorded_keeps, unanchored_by}
+use Rattle.flex_frame.specs.Keeping.{KeepsFlex}
+use Rattle.flex_frame.proofs.Writes.{recorded_keeps, unanchored_by}
 use Rattle.rma.proofs.ImageLemmas.{areas_recorded, same_pool}
 use Rattle.rma.proofs.InPlaceLemmas.{may_be, placed, region_placed}
 use Rattle.rma.proofs.area.Rma.record_in_place.Goals as goal

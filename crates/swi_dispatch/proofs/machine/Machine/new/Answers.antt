@@ -1,6 +1,6 @@
 use Rattle.std.proofs.Common.{refl, ap, sym, ◌∙◌}
 use Rattle.dynamic_areas.specs.Areas.{Land}
-use Rattle.flex_ground.proofs.Kept.{flex_started}
+use Rattle.flex_machine.proofs.Kept.{flex_started}
 use Rattle.swi_dispatch.proofs.OpenFrames.{frames_none}
 use Rattle.swi_dispatch.proofs.Starting.{start_modules, starts, system_recorded}
 use Rattle.swi_dispatch.proofs.machine.Machine.new.Goals as goal

@@ -5,7 +5,7 @@ use Rattle.profile.specs.declared.fault.Fault.TheVariants.{ErrorStop}
 use Rattle.swi_dispatch.specs.declared.halt.Halt.TheVariants as halt
 use Rattle.swi_dispatch.specs.MachineState.{MachineState, Tables}
 use Rattle.swi_dispatch.specs.Parts.{Parts}
-use Rattle.swi_dispatch.specs.Returns.{halted}
+use Rattle.swi_dispatch.specs.Returns.{outcome_of_halt}
 use Rattle.swi_dispatch.proofs.GateReturns.{swi_else, swi_stops}
 use Rattle.swi_dispatch.proofs.Kept.{over, well_framed}
 use Rattle.swi_dispatch.proofs.OpenFrames.{swi_closes}
@@ -31,7 +31,7 @@ returns-in-Err-clause-after c =
     let before : MachineState = over c.self.inside.memory c.self.inside.cpu tables c.self.inside.halt in
     let stack = sym c.has_its_stack.ensures ∙ c.if-not-has_its_stack.false in
     let stops = c.halt_with-in-Err.ensures.after
-    ∙ ap (λ (cpu : State). halted (over c.self.inside.memory cpu tables c.self.inside.halt) (halt.Fault (ErrorStop c.in-Err.number)))
+    ∙ ap (λ (cpu : State). outcome_of_halt (over c.self.inside.memory cpu tables c.self.inside.halt) (halt.Fault (ErrorStop c.in-Err.number)))
     c.in-Err.ensures.1 in
     rw (← c.self.view_is) (swi_stops before c.in-Some.frame.now _ c.in-Err.number c.in-Some.ensures stack
     (swi_else _ c.in_default-kind.not-Entry) c.in-Err.ensures.0 stops)

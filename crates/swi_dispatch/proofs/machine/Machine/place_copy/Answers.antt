@@ -1,8 +1,8 @@
 use Rattle.std.proofs.Common.{refl, ap, subst, sym, ◌∙◌}
-use Rattle.flex_ground.specs.flex_kept.proofs.Keeping.{keeps_then}
+use Rattle.flex_machine.specs.flex_frame.proofs.Keeping.{keeps_then}
 use Rattle.swi_dispatch_plans.specs.instances.proofs.NamedByCalls.{copying_names, named_given}
 use Rattle.swi_dispatch.specs.MachineState.{MachineState, machine_world, setting_of}
-use Rattle.swi_dispatch_plans.specs.ImagePlans.{SparesRange, header_in}
+use Rattle.swi_dispatch_plans.specs.ImagePlans.{SparesRange, image_header_in}
 use Rattle.swi_dispatch_plans.specs.Beginning.{IsFree}
 use Rattle.swi_dispatch.specs.Parts.{Parts, state_of}
 use Rattle.swi_dispatch.proofs.Kept.{over}
@@ -35,7 +35,7 @@ invariant_of-self-2 c =
     c.requires.spared in
     let names = named_given _ _ _ _ _ _ (copying_names (machine_world before) c.args.at c.args.len) given.world
     given.ready in
-    let beneath = titled_beneath before _ (header_in (setting_of before) c.args.at c.args.len) free spared names in
+    let beneath = titled_beneath before _ (image_header_in (setting_of before) c.args.at c.args.len) free spared names in
     let carries = c.carry-code.ensures in
     let opens = c.open_code-kept.ensures in
     carried_well _ _ _ _ _ _ _ opens.plans refl carries.carried carries.ended carries.going carries.classes

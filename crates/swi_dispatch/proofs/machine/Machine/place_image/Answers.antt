@@ -1,5 +1,5 @@
 use Rattle.std.proofs.Common.{refl, ap, subst, sym, ◌∙◌}
-use Rattle.flex_ground.specs.flex_kept.proofs.Keeping.{keeps_then}
+use Rattle.flex_machine.specs.flex_frame.proofs.Keeping.{keeps_then}
 use Rattle.swi_dispatch_plans.specs.instances.proofs.NamedByCalls.{loading_names, named_given}
 use Rattle.module_header.specs.Header.{header_of}
 use Rattle.swi_dispatch.specs.MachineState.{MachineState, machine_world, setting_of}

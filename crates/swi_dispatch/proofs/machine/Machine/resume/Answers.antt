@@ -1,7 +1,7 @@
 use Rattle.std.proofs.Common.{refl, ap, subst, sym, ◌∙◌}
-use Rattle.swi_dispatch_frames.specs.Frames.{innermost}
+use Rattle.swi_dispatch_frames.specs.Frames.{innermost_frame}
 use Rattle.arm_core.specs.State.{State}
-use Rattle.flex_ground.specs.instances_ground.specs.World.{world_of}
+use Rattle.flex_machine.specs.module_world.specs.World.{world_of}
 use Rattle.swi_dispatch.specs.Gates.{Resumes, come_back, core_by, frames_by, with_code}
 use Rattle.swi_dispatch.specs.MachineState.{MachineState, with_world}
 use Rattle.swi_dispatch.specs.Parts.{Parts, state_of}
@@ -16,7 +16,7 @@ pub invariant_of-self-2 : goal.invariant_of-self-2
 invariant_of-self-2 c =
     let carries = c.carry-code.ensures in
     let opens = c.open_code-kept.ensures in
-    let last = ap (λ (p : Parts). innermost p.tables.frames) c.self.view_is ∙ c.requires.last in
+    let last = ap (λ (p : Parts). innermost_frame p.tables.frames) c.self.view_is ∙ c.requires.last in
     let beneath = left_beneath _ c.args.frame _ c.self.invariant.frames (sym c.in_ok-plan.ensures.value) last c.requires.entry in
     carried_well _ _ _ _ _ _ _ opens.plans refl carries.carried carries.ended carries.going carries.classes
     (opened_frames _ _ _ _ _ c.leave.new.cpu _ _ _ _ opens.plans refl refl
@@ -53,5 +53,5 @@ returns-clause-state c =
 -- a plan is kept while an entry's frame is open
 pub returns-in_err-plan-clause-state : goal.returns-in_err-plan-clause-state
 returns-in_err-plan-clause-state c =
-    let last = ap (λ (p : Parts). innermost p.tables.frames) c.self.view_is ∙ c.requires.last in
+    let last = ap (λ (p : Parts). innermost_frame p.tables.frames) c.self.view_is ∙ c.requires.last in
     absurd (plan_there _ c.args.frame c.self.invariant.frames (sym c.in_err-plan.ensures.value) last c.requires.entry)

@@ -1,6 +1,6 @@
 use Rattle.std.proofs.Common.{◌≡◌, ap, ◌∙◌, None, Err, List, ℕ}
 use Rattle.profile.specs.declared.stop.Stop.TheVariants as stop
-use Rattle.swi_dispatch.specs.MachineState.{MachineState, Outcome, quiet}
+use Rattle.swi_dispatch.specs.MachineState.{MachineState, StepOutcome, quiet}
 use Rattle.swi_dispatch.specs.Parts.{Parts, state_of, outcome_of}
 use Rattle.swi_dispatch.specs.Step.{machine_step}
 use Rattle.swi_dispatch.proofs.RunLoop.{halt-none}
@@ -27,6 +27,6 @@ returns-clause-after c =
           let ran = rw (c.new.ensures, w.in-Err.is) at one.ran images in
           let all = λ (e : w.in-Err.field-0 ≡ stop.Budget). one.all (w.in-Err.is ∙ ap Err e) in
           let shown : outcome_of c.take_instructions-next.new.self ≡ quiet after =
-          ap (λ (xs : List ℕ). let o : Outcome = record { now = after; printed = xs } in o) (one.others.printed ∙ c.begin_step.ensures.printed) in
+          ap (λ (xs : List ℕ). let o : StepOutcome = record { now = after; printed = xs } in o) (one.others.printed ∙ c.begin_step.ensures.printed) in
           ap (λ (p : Parts). outcome_of p) w.self-is ∙ shown ∙ nothing_left images before after _ w.in-Err.field-0 awake ran one.most all ∙ begun
     ]

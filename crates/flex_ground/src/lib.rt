@@ -1,9 +1,0 @@
-//! Frame: what the flex store is on a machine's memory, and that all calls keep it.
-#![tactic(auto)]
-
-pub mod laws;
-pub mod world_laws;
-
-pub use flex_store;
-pub use instances_ground;
-pub use instances_ground::rma;

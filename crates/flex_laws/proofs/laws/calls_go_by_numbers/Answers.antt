@@ -1,5 +1,0 @@
-use Rattle.flex_laws.proofs.Calls.{calls_go_by_numbers}
-use Rattle.flex_laws.proofs.laws.calls_go_by_numbers.Goals as goal
-
-pub returns : goal.returns
-returns c = calls_go_by_numbers

@@ -1,5 +1,0 @@
-use Rattle.flex_laws.proofs.Splices.{splice_goes_by_numbers}
-use Rattle.flex_laws.proofs.laws.splice_goes_by_numbers.Goals as goal
-
-pub returns : goal.returns
-returns c = splice_goes_by_numbers

@@ -1,5 +1,0 @@
-use Rattle.flex_laws.proofs.Splices.{splice_shows_its_own}
-use Rattle.flex_laws.proofs.laws.splice_shows_its_own.Goals as goal
-
-pub returns : goal.returns
-returns c = splice_shows_its_own

@@ -1,0 +1,9 @@
+//! Frame: what the flex store is on a machine's memory, and that all calls keep it.
+#![tactic(auto)]
+
+pub mod laws;
+pub mod world_laws;
+
+pub use flex_store;
+pub use module_world;
+pub use module_world::rma;

@@ -1,6 +1,0 @@
--- Lists of moves on a machine, and on two. Begin with Making.
-pub use Rattle.heap_alone
-pub mod Calls
-pub mod Making
-pub mod Moves
-pub mod Pairs

@@ -1,5 +1,0 @@
-use Rattle.heap_turns.proofs.Forgotten.{calls_forget, forgotten_lies}
-use Rattle.heap_turns.proofs.laws.calls_forget_heaps.Goals as goal
-
-pub returns : goal.returns
-returns c = record { forgotten = calls_forget; inner = forgotten_lies }

@@ -1,7 +1,0 @@
-use Rattle.heaps_kept.proofs.AreaForgetting.{area_calls_forget}
-use Rattle.heaps_kept.proofs.AreaReleases.{releases_keep, removals_forget}
-use Rattle.heaps_kept.proofs.PlanForgetting.{acts_forget_none}
-use Rattle.heaps_kept.proofs.laws.area_calls_forget_heaps.Goals as goal
-
-pub returns : goal.returns
-returns c = record { calls = area_calls_forget; removals = removals_forget; acts = acts_forget_none; bytes = releases_keep }

@@ -1,5 +1,0 @@
-use Rattle.heaps_kept.proofs.FlexCalls.{flex_calls_keep, flex_init_keeps}
-use Rattle.heaps_kept.proofs.laws.flex_calls_keep_heap.Goals as goal
-
-pub returns : goal.returns
-returns c = record { called = flex_calls_keep; init = flex_init_keeps }

@@ -1,0 +1,16 @@
+//! Laws: over lists of moves on real machines, what a guest's heap answers is what it answers
+//! alone.
+#![tactic(auto)]
+
+pub mod laws;
+pub mod making;
+pub mod moves;
+pub mod own_calls;
+pub mod pairs;
+
+pub use making::make_moves;
+pub use moves::{End, MachineMove, MachineMoves, Made, Reply};
+pub use pairs::make_in_two;
+
+#[cfg(test)]
+mod tests;
