@@ -6,7 +6,8 @@ ghost use Rattle.profile.specs.Devices.{device_failed, device_inner};
 ghost use Rattle.profile.specs.Pulls.{PullsAtMost};
 ghost use Rattle.profile.specs.Output.{AddsFront};
 ghost use Rattle.command_shell.specs.Fronts.{HasSome};
-ghost use Rattle.rosm_settings.specs.Answering.{AnswersScript, EndsWithin, RefusesFiles, answers_to, is_of_run};
+ghost use Rattle.rosm_settings.specs.Answering.{AnswersScript, EndsWithin, RefusesFiles, TellsOfFile, answers_to, is_of_run};
+ghost use Rattle.rosm_settings.specs.Endings.{refusal_status};
 
 use crate::image_files::add_files;
 use crate::refusal::SettingsRefusal;
@@ -16,7 +17,7 @@ use image_loader::Images;
 use profile::{Device, Sink, Source, Stop};
 use std::alloc::Global;
 use std::fs;
-use std::io::Write;
+use std::io::{BufWriter, Write};
 
 /// Takes in the settings' files, runs the script of `reader`, writes all of its answers, and gives
 /// the last stop. What the writer holds back is handed on before that.
@@ -63,6 +64,43 @@ where
     let last = answer_script(files.alloc(), settings, &mut images, reader, writer)?;
     match writer.flush() {
         Ok(()) => Ok(last),
+        Err(_) => Err(SettingsRefusal::Script(RunError::WriteFault)),
+    }
+}
+
+/// Runs as [`run`], writes the answers to a stream in large pieces, and gives the last stop and the
+/// stream, in which all of them stand.
+///
+/// # Errors
+///
+/// As [`run`]; and `Memory` where there is none for the pieces.
+pub fn run_to_stream<'a, F, R, W>(
+    files: &F,
+    settings: &'a Settings,
+    reader: &mut R,
+    stream: W,
+) -> Result<(Option<Stop>, Device<W>), SettingsRefusal<'a>>
+where
+    F: AllocGlobal + fs::Files,
+    R: Source,
+    W: Write + Drop,
+    ensures answers { IfOk result (λ ended. AnswersScript F.File.Read.remaining settings.entry.now
+        (R.remaining reader.old) (W.contents stream) (W.contents (device_inner ended.1)) ended.0) }
+    ensures well { IfOk result (λ ended. device_failed ended.1 ≡ false) }
+    ensures refused { IfErr result (λ e. refusal_status e ≡ 4) }
+    ensures files { IfErr result (TellsOfFile F.File.Read.remaining settings.entry.now.files) }
+    ensures read_fault { result ≡ Err (SettingsRefusal.Script RunError.ReadFault)
+        → R.has_failed reader.new ≡ true }
+    ensures too_long { result ≡ Err (SettingsRefusal.Script RunError.ScriptTooLong)
+        → IfSome (R.remaining reader.old) (λ script. 1048576 < length script) }
+{
+    let Ok(buffered) = BufWriter::new(files.alloc(), stream) else {
+        return Err(SettingsRefusal::Memory);
+    };
+    let mut writer = Device::new(buffered);
+    let last = run(files, settings, reader, &mut writer)?;
+    match writer.unbuffered() {
+        Ok(stream) => Ok((last, stream)),
         Err(_) => Err(SettingsRefusal::Script(RunError::WriteFault)),
     }
 }

@@ -7,7 +7,7 @@ pub mod image_files;
 pub mod process;
 pub mod refusal;
 
-pub use answering::{answer_script, run};
+pub use answering::{answer_script, run, run_to_stream};
 pub use command_line;
 pub use command_line::{Files, Settings, SettingsError, settings, stop_status};
 pub use command_shell::RunError;

@@ -7,13 +7,13 @@ ghost use Rattle.command_shell.specs.declared.error.RunError.TheVariants.{Script
 ghost use Rattle.rosm_settings.specs.Answering.{StopsWithScript, TellsOfFile, TellsTooMuch};
 ghost use Rattle.rosm_settings.specs.Endings.{IsSettingsRefusalOf, TellsEnding, TellsLine, refusal_status, status_of, words_refused};
 
-use crate::answering::run;
+use crate::answering::run_to_stream;
 use crate::refusal::SettingsRefusal;
 use command_line::{Settings, SettingsError, line_reason, settings, sizes_reason, stop_status};
 use profile::{Device, Sink, Stop, WriteFault, push_parts};
 use std::alloc::{AllocError, Global};
 use std::env::Env;
-use std::io::{BufWriter, ErrorKind};
+use std::io::ErrorKind;
 use std::process::ExitCode;
 use std::{env, fs, io};
 
@@ -77,7 +77,7 @@ fn texts_of<'a>(alloc: Global, words: &'a [String]) -> Result<Vec<&'a str>, Allo
 ///
 /// # Errors
 ///
-/// As [`run`]; and `Memory` where there is none for the output's buffer.
+/// As [`run_to_stream`].
 pub fn run_on_standard_streams<'a, R>(
     rt: &R,
     settings: &'a Settings,
@@ -91,11 +91,9 @@ where
     ensures too_long { result ≡ Err (SettingsRefusal.Script ScriptTooLong) → TellsTooMuch
         R.Reader.Read.remaining }
 {
-    let Ok(buffered) = BufWriter::new(rt.alloc(), io::writer(rt)) else {
-        return Err(SettingsRefusal::Memory);
-    };
-    let mut writer = Device::new(buffered);
-    run(rt, settings, &mut Device::new(rt.reader()), &mut writer)
+    let mut input = Device::new(rt.reader());
+    let (last, _) = run_to_stream(rt, settings, &mut input, io::writer(rt))?;
+    Ok(last)
 }
 
 /// The exit status, with one line on standard error, `errors`, where the program is refused.

@@ -5,11 +5,10 @@ ghost use Rattle.std.specs.Process.{exit_status};
 ghost use Rattle.rosm_show.specs.Endings.{show_status_of};
 
 use crate::refusal::ShowRefusal;
-use crate::show::show;
+use crate::show::show_to_stream;
 use crate::words::WantedPage;
 use command_line::stop_status;
 use profile::{Device, Stop};
-use std::io::BufWriter;
 use std::process::ExitCode;
 use std::{fs, io};
 
@@ -17,7 +16,7 @@ use std::{fs, io};
 ///
 /// # Errors
 ///
-/// As [`show`]; and `Memory` where there is none for the output's buffer.
+/// As [`show_to_stream`].
 pub fn show_on_standard_streams<'a, R>(
     rt: &R,
     wanted: &'a WantedPage,
@@ -25,11 +24,9 @@ pub fn show_on_standard_streams<'a, R>(
 where
     R: AllocGlobal + fs::Files + Input + Print,
 {
-    let Ok(buffered) = BufWriter::new(rt.alloc(), io::writer(rt)) else {
-        return Err(ShowRefusal::Memory);
-    };
-    let mut writer = Device::new(buffered);
-    show(rt, wanted, &mut Device::new(rt.reader()), &mut writer)
+    let mut input = Device::new(rt.reader());
+    let (last, _) = show_to_stream(rt, wanted, &mut input, io::writer(rt))?;
+    Ok(last)
 }
 
 /// The exit status, with one line on standard error where the program is refused.

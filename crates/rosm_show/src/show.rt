@@ -18,7 +18,7 @@ use script_page::style::{BACK, FRONT};
 use script_page::{NamedImage, Setting, page_of, push_page};
 use std::alloc::Global;
 use std::fs;
-use std::io::Write;
+use std::io::{BufWriter, Write};
 use std::path::Path;
 
 /// Takes in the files, answers the script of `reader`, writes its page to `writer`, and gives the
@@ -55,6 +55,37 @@ where
     push_page(alloc, writer, page.entries.as_slice(), wanted.form)?;
     match writer.flush() {
         Ok(()) => Ok(page.last),
+        Err(_) => Err(ShowRefusal::Script(RunError::WriteFault)),
+    }
+}
+
+/// Shows as [`show`], writes the page to a stream in large pieces, and gives the last stop and the
+/// stream, in which all of it stands.
+///
+/// # Errors
+///
+/// As [`show`]; and `Memory` where there is none for the pieces.
+pub fn show_to_stream<'a, F, R, W>(
+    files: &F,
+    wanted: &'a WantedPage,
+    reader: &mut R,
+    stream: W,
+) -> Result<(Option<Stop>, Device<W>), ShowRefusal<'a>>
+where
+    F: AllocGlobal + fs::Files,
+    R: Source,
+    W: Write + Drop,
+    ensures page { IfOk result (λ ended. ShowsPage FRONT.now BACK.now wanted.entry.now
+        (R.remaining reader.old) (W.contents stream) (W.contents (device_inner ended.1)) ended.0) }
+    ensures well { IfOk result (λ ended. device_failed ended.1 ≡ false) }
+{
+    let Ok(buffered) = BufWriter::new(files.alloc(), stream) else {
+        return Err(ShowRefusal::Memory);
+    };
+    let mut writer = Device::new(buffered);
+    let last = show(files, wanted, reader, &mut writer)?;
+    match writer.unbuffered() {
+        Ok(stream) => Ok((last, stream)),
         Err(_) => Err(ShowRefusal::Script(RunError::WriteFault)),
     }
 }

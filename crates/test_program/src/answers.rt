@@ -4,7 +4,7 @@ use image_loader::{ImageError, Images};
 use profile::{Device, MemorySink, MemorySource, Stop};
 use rosm_settings::image_files::{FileError, add_image};
 use rosm_settings::{
-    RunError, SettingsRefusal, answer_script, exit_code, run, settings, stop_status,
+    RunError, SettingsRefusal, answer_script, exit_code, run, run_to_stream, settings, stop_status,
 };
 use std::io;
 use std::io::{BufWriter, ErrorKind, Write};
@@ -92,6 +92,24 @@ fn answers_are_handed_on_at_the_end(rt: HostRuntime) -> Result<(), Fail> {
     let full = BufWriter::new(alloc, Full)?;
     let ending = run(&rt, &settings, &mut reader, &mut Device::new(full));
     assert_eq!(rt; ending, Err(SettingsRefusal::Script(RunError::WriteFault)));
+    Ok(())
+}
+
+// A thousand lines, each answered by its number: more bytes than the buffer between holds.
+#[test]
+fn a_stream_has_all_answers(rt: HostRuntime) -> Result<(), Fail> {
+    let settings = settings(rt.alloc(), &["rosm"])?;
+    let mut script = Vec::new(rt.alloc());
+    for _ in 0..1000 {
+        script.push(b'?')?;
+        script.push(b'\n')?;
+    }
+    let mut reader = MemorySource::new(script.as_slice(), 4096, u64::MAX);
+    let mut bytes = Vec::new(rt.alloc());
+    let (last, _) = run_to_stream(&rt, &settings, &mut reader, &mut bytes)?;
+    assert_eq!(rt; last, None);
+    assert!(rt; bytes.as_slice().len() == 10_893);
+    assert!(rt; bytes.as_slice().ends_with(b"? line 1000\n"));
     Ok(())
 }
 
