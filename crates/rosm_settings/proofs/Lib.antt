@@ -1,2 +1,3 @@
 pub mod ImageFilesLemmas
 pub mod StreamLemmas
+pub mod TextLemmas

@@ -1,6 +1,6 @@
 -- Why words are refused, and the exit status of the program: 2 for a command line that can't be, 4
 -- for anything else that keeps a script from running whole, and else that of its last stop.
-use Rattle.std.specs.Prelude.{◌≡◌, ℕ, Bool, false, List, ◌++◌, Option, Result, Ok, Err, codes}
+use Rattle.std.specs.Prelude.{◌≡◌, ◌⊎◌, ℕ, Bool, false, List, ◌++◌, Option, Result, Ok, Err, IfSome, codes}
 use Rattle.std.specs.Io.KnownBytes.{Appends}
 use Rattle.std.specs.declared.io.ErrorKind.{ErrorKind}
 use Rattle.std.specs.declared.io.ErrorKind.TheVariants.{OutOfMemory}
@@ -9,6 +9,7 @@ use Rattle.command_line.specs.Status.{status_after}
 use Rattle.command_line.specs.declared.options.Settings.{Settings}
 use Rattle.command_line.specs.declared.options.SettingsError.{SettingsError}
 use Rattle.command_line.specs.declared.options.SettingsError.TheVariants as refused
+use Rattle.rosm_settings.specs.Texts.{refusal_text}
 use Rattle.rosm_settings.specs.declared.refusal.SettingsRefusal.{SettingsRefusal}
 use Rattle.rosm_settings.specs.declared.refusal.SettingsRefusal.TheVariants as refusal
 
@@ -36,9 +37,14 @@ abbrev pub status_of : Result (Option Stop) SettingsRefusal → ℕ
 status_of (Ok last) = status_after last
 status_of (Err refused) = refusal_status refused
 
--- One line was appended, which begins with the program's name.
-pub record TellsLine (before after : Option (List ℕ)) : Type 0 where
+-- The text is that of the refusal, as far as it is known, or says that there was no memory for it.
+abbrev pub IsTold : Option (List ℕ) → List ℕ → Type 0
+IsTold told text = IfSome told (λ known. (text ≡ known) ⊎ (text ≡ codes "out of memory"))
+
+-- One line was appended: the program's name, and what is told of the refusal.
+pub record TellsLine (told before after : Option (List ℕ)) : Type 0 where
   pub text : List ℕ
+  pub is_told : IsTold told text
   pub line : Appends before after (codes "rosm: " ++ (text ++ codes "\n"))
 
 -- What stands on standard error at the end: nothing after a script that ran whole, and else one
@@ -47,4 +53,4 @@ abbrev pub TellsEnding : {W : Type 0} → (W → Option (List ℕ)) → (W → B
     Result (Option Stop) SettingsRefusal → Type 0
 TellsEnding contents has_failed before after (Ok last) = after ≡ before
 TellsEnding contents has_failed before after (Err refused) =
-    has_failed after ≡ false → TellsLine (contents before) (contents after)
+    has_failed after ≡ false → TellsLine (refusal_text refused) (contents before) (contents after)

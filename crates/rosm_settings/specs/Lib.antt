@@ -3,3 +3,4 @@ pub use Rattle.command_line
 pub mod Answering
 pub mod Endings
 pub mod ImageFiles
+pub mod Texts

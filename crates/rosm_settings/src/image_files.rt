@@ -1,47 +1,66 @@
 //! Files taken in as images, and why one gives none.
 
-ghost use Rattle.std.specs.Prelude.{◌≡◌, [], ◌∷◌, ◌++◌, false, IfErr, IfOk, IfSome, OnErr, OnOk};
+ghost use Rattle.std.specs.Prelude.{◌≡◌, [], ◌∷◌, ◌++◌, false, IfErr, IfOk, IfSome, OnErr, OnOk, Some};
 ghost use Rattle.std.specs.Path.{path_file_name};
 ghost use Rattle.rosm_settings.specs.ImageFiles.{file_error as error_of};
 ghost use Rattle.rosm_settings.specs.ImageFiles.{AddsFile, AddsFiles, AddsImageFile, RefusesFile, RefusesImage, StopsAtFile};
 ghost use Rattle.rosm_settings.specs.ImageFiles.{front_of, is_host_error, names_for, names_of};
+ghost use Rattle.rosm_settings.specs.Texts.{rule_text};
 
 use crate::refusal::SettingsRefusal;
 use command_line::Files;
 use image_loader::{ImageError, Images};
 use profile::memory_map::MOST_BYTES;
 use std::alloc::Global;
+use std::error::Error;
 use std::fs::File;
 use std::io::{ErrorKind, Read};
 use std::path::Path;
-use std::{fs, io};
-use thiserror::Error;
+use std::{fmt, fs, io};
 
 /// Why a file gives no image.
-#[derive(Clone, Copy, Debug, PartialEq, Eq, Error)]
+#[derive(Clone, Copy, Debug, PartialEq, Eq)]
 pub enum FileError {
     /// There is no such file.
-    #[error("no such file")]
     Missing,
     /// The file may not be read by this user.
-    #[error("no permission to read it")]
     NotPermitted,
     /// It is a directory.
-    #[error("a directory")]
     Directory,
     /// It can't be opened or read to its end, for another reason.
-    #[error("can't be read")]
     Unreadable,
     /// Its path has no last part.
-    #[error("no name in this path")]
     Nameless,
     /// The table of images refuses it.
-    #[error("refused {0}{rule}", rule = image_rule(.0))]
     Image(ImageError),
 }
 
+impl fmt::Display for FileError {
+    ghost use Rattle.rosm_settings.specs.Texts.{file_error_text};
+
+    ghost output = { λ error. Some (file_error_text error) };
+
+    fn fmt<W: fmt::Write>(&self, f: &mut fmt::Formatter<W>) -> fmt::Result {
+        match self {
+            FileError::Missing => f.write_str("no such file"),
+            FileError::NotPermitted => f.write_str("no permission to read it"),
+            FileError::Directory => f.write_str("a directory"),
+            FileError::Unreadable => f.write_str("can't be read"),
+            FileError::Nameless => f.write_str("no name in this path"),
+            FileError::Image(error) => {
+                let (name, rule) = (error.name(), image_rule(*error));
+                write!(f, "refused {name}{rule}")
+            }
+        }
+    }
+}
+
+impl Error for FileError {}
+
 // What an image has to be that is refused so, for people who named a file.
-fn image_rule(error: &ImageError) -> &'static str {
+fn image_rule(error: ImageError) -> &'static str
+    ensures { result.now ≡ rule_text error }
+{
     match error {
         ImageError::BadName => ": a name has 1 to 63 bytes from ! to ~, and no space",
         ImageError::NameTaken => ": the last part of a path is the name, and each name stands once",

@@ -6,6 +6,7 @@ ghost use Rattle.command_line.specs.Settings.{settings_for};
 ghost use Rattle.command_shell.specs.declared.error.RunError.TheVariants.{ScriptTooLong};
 ghost use Rattle.rosm_settings.specs.Answering.{StopsWithScript, TellsOfFile, TellsTooMuch};
 ghost use Rattle.rosm_settings.specs.Endings.{IsSettingsRefusalOf, TellsEnding, TellsLine, refusal_status, status_of, words_refused};
+ghost use Rattle.rosm_settings.specs.Texts.{refusal_text};
 
 use crate::answering::run_to_stream;
 use crate::refusal::SettingsRefusal;
@@ -121,7 +122,8 @@ fn tell_refusal<W: Sink>(
     errors: &mut W,
     refusal: &SettingsRefusal<'_>,
 ) -> Result<(), WriteFault>
-    ensures line { OnOk result (TellsLine (W.contents errors.old) (W.contents errors.new)) }
+    ensures line { OnOk result
+        (TellsLine (refusal_text refusal.now) (W.contents errors.old) (W.contents errors.new)) }
     ensures flag { OnErr result (W.has_failed errors.new ≡ true) }
 {
     match format!(in alloc; "{refusal}") {

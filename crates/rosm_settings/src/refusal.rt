@@ -3,31 +3,26 @@
 ghost use Rattle.std.specs.Prelude.{◌≡◌};
 
 use crate::image_files::FileError;
-use command_line::{SettingsError, USAGE};
+use command_line::USAGE;
 use command_shell::RunError;
 use std::alloc::AllocError;
-use thiserror::Error;
+use std::error::Error;
+use std::fmt;
 
 /// Why the program ends without having run its script whole. The text is one line.
-#[derive(Debug, PartialEq, Eq, Drop, Error)]
+#[derive(Debug, PartialEq, Eq, Drop)]
 pub enum SettingsRefusal<'a> {
     /// Memory ran out while the command line was read.
-    #[error("{}", SettingsError::Memory)]
     Memory,
     /// A word of the command line is no text.
-    #[error("a word is not text in UTF-8; {usage}", usage = USAGE)]
     NotText,
     /// The words are no command line; the text says what is wrong with them.
-    #[error("{0}; {usage}", usage = USAGE)]
     Line(String),
     /// No machine can have the sizes of the command line; the text says which, and by what rule.
-    #[error("{0}; {usage}", usage = USAGE)]
     Sizes(String),
     /// The file of this path is no image, for this reason.
-    #[error("{0:?}: {1}")]
     File(&'a str, FileError),
     /// The script can't be run whole, for this reason.
-    #[error("{0}")]
     Script(RunError),
 }
 
@@ -44,6 +39,26 @@ impl SettingsRefusal<'_> {
         }
     }
 }
+
+/// A path stands in quotes, as Rust writes them.
+impl fmt::Display for SettingsRefusal<'_> {
+    ghost use Rattle.rosm_settings.specs.Texts.{refusal_text};
+
+    ghost output = { refusal_text };
+
+    fn fmt<W: fmt::Write>(&self, f: &mut fmt::Formatter<W>) -> fmt::Result {
+        match self {
+            SettingsRefusal::Memory => f.write_str("out of memory"),
+            SettingsRefusal::NotText => write!(f, "a word is not text in UTF-8; {USAGE}"),
+            SettingsRefusal::Line(reason) => write!(f, "{reason}; {USAGE}"),
+            SettingsRefusal::Sizes(reason) => write!(f, "{reason}; {USAGE}"),
+            SettingsRefusal::File(path, error) => write!(f, "{path:?}: {error}"),
+            SettingsRefusal::Script(error) => write!(f, "{error}"),
+        }
+    }
+}
+
+impl Error for SettingsRefusal<'_> {}
 
 impl<'a> From<AllocError> for SettingsRefusal<'a> {
     ghost use Rattle.rosm_settings.specs.declared.refusal.SettingsRefusal.TheVariants.{Memory};
