@@ -6,7 +6,7 @@ use Rattle.arm_core.specs.State.{register_of, with_register}
 use Rattle.os_heap.specs.Store.{Store}
 use Rattle.flex_machine.specs.Ground.{flex_state}
 use Rattle.flex_machine.specs.flex_store.specs.Calls.{FlexState, flex_after_alloc, flex_after_extend, mid_extended}
-use Rattle.swi_dispatch_flex.specs.Calls.{fit_told, flex_called, room_word_of}
+use Rattle.swi_dispatch_flex.specs.Calls.{fit_told, flex_called, memory_after_flex as memory_left, room_word_of}
 use Rattle.swi_dispatch.proofs.ErrorNumbers.{zero_kept, zero_set}
 use Rattle.swi_dispatch.specs.Answers.{went_on}
 use Rattle.swi_dispatch.specs.Calls.{machine_flex, on_flex}
