@@ -1,6 +1,5 @@
 pub mod Beginnings
 pub mod ItemLemmas
-pub mod OutputLemmas
 pub mod PassLemmas
 pub mod PrintedLines
 pub mod PrintedPrograms

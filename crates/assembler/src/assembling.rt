@@ -22,7 +22,6 @@ use text_lines::Lines;
 ///
 /// The line that is refused, and why, as [`AsmError`] says; or, where the host has no memory left,
 /// line 0 and `Memory`.
-#[tactic(auto, using(std::proofs::lemmas::List::take_all), unfolding(crate::specs::Passes::means))]
 pub fn assemble(alloc: Global, source: &[u8], origin: u32) -> Result<Program, AsmError>
     ensures below { origin < 2 ^ 26 → result ≢ Err (record { line = 0; reason = Reason.Memory })
         → result ≡ means source.now origin }
@@ -55,7 +54,6 @@ pub fn assemble_lines(
     }
 }
 
-#[tactic(auto, unfolding(crate::specs::Passes::means_lines))]
 fn both_passes(
     alloc: Global,
     lines: &Lines,
@@ -72,7 +70,6 @@ fn both_passes(
 }
 
 // The first pass: the labels of a source, with their addresses.
-#[tactic(auto, using(crate::proofs::PassLemmas::first_steps))]
 fn labels_of<'s>(
     alloc: Global,
     source: &Lines<'s>,
@@ -100,7 +97,6 @@ fn labels_of<'s>(
 }
 
 // A line of the first pass, which knows no label's address.
-#[tactic(auto, unfolding(crate::specs::Passes::measured_with_line))]
 fn measure<'s>(
     none: &Labels,
     origin: u32,
@@ -133,7 +129,6 @@ fn measure<'s>(
 }
 
 // The second pass: the bytes of the lines, with the labels of the first.
-#[tactic(auto, using(crate::proofs::PassLemmas::second_steps))]
 fn program_of(
     alloc: Global,
     labels: &Labels,

@@ -64,7 +64,6 @@ fn size_after(radix: u32, text: &[u8]) -> Read<'_, usize>
     Some((size_of(radix, word(text))?, after_word(text)))
 }
 
-#[tactic(auto, using(crate::proofs::SizeLemmas::size_steps))]
 fn size_of(radix: u32, digits: &[u8]) -> Option<usize>
     requires low { 2 ≤ radix }
     requires high { radix ≤ 36 }
@@ -82,7 +81,6 @@ fn size_of(radix: u32, digits: &[u8]) -> Option<usize>
 }
 
 // One more digit after a size.
-#[tactic(auto, unfolding(crate::specs::Directives::size_with_digit))]
 fn with_digit(size: usize, digit: u8, radix: u32) -> Option<usize>
     requires low { 2 ≤ radix }
     requires high { radix ≤ 36 }

@@ -31,7 +31,6 @@ pub(crate) fn put_items<'t>(
 }
 
 // The items after a comma each, at most `count`.
-#[tactic(auto, using(crate::proofs::ItemLemmas::item_steps))]
 fn put_more_items<'t>(
     kind: Data,
     labels: &Labels,
@@ -55,7 +54,6 @@ fn put_more_items<'t>(
     Ok(Some(rest))
 }
 
-#[tactic(auto, unfolding(crate::specs::Directives::with_item_read))]
 fn put_item<'t>(kind: Data, labels: &Labels, text: &'t [u8], output: &mut Output) -> Rest<'t>
     ensures { IfOk result (λ rest. option_map (λ rest. (output.new, rest.now)) rest
         ≡ with_item_read kind (address_of labels.now) output.old text.now) }

@@ -13,7 +13,6 @@ use std::alloc::AllocError;
 
 /// Writes a line, and answers its label, which may be empty, and the label's address; or `None`
 /// where the line isn't of the grammar.
-#[tactic(auto, unfolding(crate::specs::Line::line))]
 pub(crate) fn put_line<'s>(
     labels: &Labels,
     origin: u32,

@@ -89,7 +89,6 @@ impl Output {
     }
 
     /// So many zero bytes.
-    #[tactic(auto, using(crate::proofs::OutputLemmas::output_steps))]
     pub(crate) fn push_zeros(&mut self, count: usize) -> Result<(), AllocError>
         requires room { length self.old.bytes < 2 ^ 31 }
         requires count { count < 2 ^ 31 }

@@ -106,7 +106,6 @@ pub fn condition_named(name: &[u8]) -> Option<Condition>
 }
 
 // The condition that is printed so.
-#[tactic(auto, unfolding(crate::specs::Names::printed_condition))]
 fn printed_condition(name: &[u8]) -> Option<Condition>
     ensures { result ≡ printed_condition name.now }
 {
@@ -123,7 +122,6 @@ fn names_condition(name: &[u8], condition: Condition) -> bool
 }
 
 /// The operation of this name, `AND` to `MVN`.
-#[tactic(auto, unfolding(crate::specs::Names::operation_named))]
 pub fn operation_named(name: &[u8]) -> Option<Operation>
     ensures { result ≡ operation_named name.now }
 {

@@ -27,7 +27,6 @@ fn x_call_named(name: &[u8]) -> Option<u32>
     }
 }
 
-#[tactic(auto, unfolding(crate::specs::SwiNames::call_named))]
 fn call_named(name: &[u8]) -> Option<u32>
     ensures { result ≡ call_named name.now }
 {

@@ -15,7 +15,6 @@ use assembler_names::{Labels, Read, Reason, Value, expression};
 pub type SignedOffset = (Direction, Offset);
 
 /// The operands of LDR or STR at an address: `Rd,` and an address in brackets, or a label.
-#[tactic(auto, unfolding(crate::specs::Addresses::transfer_text_at))]
 pub fn transfer_at<'t>(
     labels: &Labels,
     address: u32,
@@ -116,7 +115,6 @@ fn from_pc(direction: Direction, number: u32) -> Address
 }
 
 // After `[`.
-#[tactic(auto, unfolding(crate::specs::Addresses::address_after_bracket))]
 fn bracketed<'t>(
     labels: &Labels,
     translates: bool,
@@ -210,7 +208,6 @@ fn indexed(indexing: Indexing, rn: Register, by: ReadOutcome<SignedOffset>) -> R
 }
 
 // `#n`, `#-n`, or a register with its shift, with a minus or without.
-#[tactic(auto, unfolding(crate::specs::Addresses::offset_in))]
 fn offset_in<'t>(labels: &Labels, text: &'t [u8]) -> Read<'t, ReadOutcome<SignedOffset>>
     ensures { read_of result ≡ offset_in (address_of labels.now) text.now }
 {

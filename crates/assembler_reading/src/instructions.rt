@@ -21,7 +21,6 @@ use assembler_names::{
 /// Answers its word, or the first reason why it has none, in this order: UnknownLabel,
 /// BadImmediate, OutOfReach, Forbidden; and what follows it. `None` where no instruction is
 /// written so.
-#[tactic(auto, unfolding(crate::specs::Instructions::instruction))]
 pub fn instruction<'t>(labels: &Labels, address: u32, text: &'t [u8]) -> Read<'t, ReadOutcome<u32>>
     ensures { read_of result ≡ instruction (address_of labels.now) address text.now }
 {
@@ -99,7 +98,6 @@ fn branch_to(address: u32, links: bool, target: Value) -> ReadOutcome<Action>
     Ok(Action::Branch { links, distance })
 }
 
-#[tactic(auto, unfolding(crate::specs::Instructions::swi_at))]
 fn swi_at<'t>(labels: &Labels, text: &'t [u8]) -> Read<'t, ReadOutcome<Action>>
     ensures { read_of result ≡ swi_at (address_of labels.now) text.now }
 {

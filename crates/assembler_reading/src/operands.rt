@@ -16,7 +16,6 @@ use profile::shift::rotate_right;
 pub type ReadOutcome<A> = Result<A, Reason>;
 
 /// The second operand of data processing: `#v`, `#b,r`, or a register with its shift.
-#[tactic(auto, unfolding(crate::specs::Operands::second_operand))]
 pub fn second_operand<'t>(labels: &Labels, text: &'t [u8]) -> Read<'t, ReadOutcome<Operand>>
     ensures { read_of result ≡ second_operand (address_of labels.now) text.now }
 {
@@ -84,7 +83,6 @@ fn rotated_of(byte: Value, turns: Value) -> ReadOutcome<Operand>
 }
 
 /// A register: `Rm`, `Rm,LSL #n`, `Rm,LSL Rs` or `Rm,RRX`.
-#[tactic(auto, unfolding(crate::specs::Operands::shifted_operand))]
 pub fn shifted<'t>(labels: &Labels, text: &'t [u8]) -> Read<'t, ReadOutcome<Operand>>
     ensures { read_of result ≡ shifted_operand (address_of labels.now) text.now }
 {

@@ -12,7 +12,6 @@ use assembler_names::words::comma;
 use assembler_names::{Labels, Read};
 
 /// The operands of AND to MVN. The flag is S, or of a test P.
-#[tactic(auto, unfolding(crate::specs::Operating::operate_at))]
 pub fn operate_at<'t>(
     labels: &Labels,
     operation: Operation,
@@ -104,7 +103,6 @@ fn operated(
 }
 
 /// The operands of MUL, and of MLA, which accumulates.
-#[tactic(auto, unfolding(crate::specs::Operating::multiply_at))]
 pub fn multiply_at(
     accumulates: bool,
     sets_flags: bool,

@@ -11,7 +11,6 @@ use assembler_names::names::register;
 use assembler_names::words::{byte, comma, mark};
 
 /// The operands of LDM or STM: `Rn!,{R0,R4-R6}^`.
-#[tactic(auto, unfolding(crate::specs::RegisterLists::block_transfer_text_at))]
 pub fn block_at(loads: bool, mode: BlockMode, text: &[u8]) -> Read<'_, ReadOutcome<Action>>
     ensures { read_of result ≡ block_transfer_text_at loads mode text.now }
 {
@@ -43,7 +42,6 @@ fn register_list(text: &[u8]) -> Read<'_, RegisterList>
 }
 
 // The registers and ranges up to the closing brace, at most `count`.
-#[tactic(auto, using(crate::proofs::Ranges::list_steps))]
 fn more_registers(count: usize, text: &[u8]) -> Read<'_, RegisterList>
     ensures { read_of result ≡ more_registers count 0 text.now }
 {
@@ -93,7 +91,6 @@ fn last_register(first: Register, text: &[u8]) -> Read<'_, Register>
 }
 
 // The list with the registers of a range.
-#[tactic(auto, using(crate::proofs::Ranges::range_steps))]
 fn with_range(list: RegisterList, first: Register, last: Register) -> RegisterList
     ensures { result ≡ with_range list first last }
 {
@@ -105,7 +102,6 @@ fn with_range(list: RegisterList, first: Register, last: Register) -> RegisterLi
 }
 
 // The list with one more register, which may be there already.
-#[tactic(auto, using(crate::proofs::Ranges::fits), unfolding(crate::specs::RegisterLists::list_with_register))]
 fn with_register(list: RegisterList, register: Register) -> RegisterList
     ensures { result ≡ list_with_register list register }
 {

@@ -38,7 +38,6 @@ pub(crate) fn push_immediate<W: Sink>(
 }
 
 /// The least rotation field under which some byte gives this value.
-#[tactic(auto, using(crate::proofs::Rotations::search_steps))]
 pub fn least_rotation(value: u32) -> Option<u32>
     ensures least { result ≡ least_rotation value }
     ensures is_field { IfSome result (λ rotation. rotation < 16) }

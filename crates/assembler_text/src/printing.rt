@@ -12,7 +12,6 @@ use arm_decode::{Action, Condition, Multiply, Operate, Operation, decode};
 
 /// Writes the text of a word at its address: its instruction, or, where it is no instruction,
 /// `DCD &` and eight digits.
-#[tactic(auto, unfolding(crate::specs::Printing::print))]
 pub fn disassemble<W: Sink>(word: u32, address: u32, sink: &mut W) -> Result<(), WriteFault>
     ensures text { OnOk result (Appends (W.contents sink.old) (W.contents sink.new) (print word address)) }
     ensures flag { OnErr result (W.has_failed sink.new ≡ true) }

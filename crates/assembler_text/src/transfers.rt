@@ -227,7 +227,6 @@ fn push_braces<W: Sink>(block: &BlockTransfer, sink: &mut W) -> Result<(), Write
 }
 
 // The registers of a list, with commas between them.
-#[tactic(auto, using(crate::proofs::Listed::listed_steps))]
 fn push_listed<W: Sink>(list: RegisterList, sink: &mut W) -> Result<(), WriteFault>
     ensures text { OnOk result (Appends (W.contents sink.old) (W.contents sink.new) (listed_text list)) }
     ensures flag { OnErr result (W.has_failed sink.new ≡ true) }

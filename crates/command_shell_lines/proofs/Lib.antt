@@ -4,3 +4,4 @@ pub mod LineLemmas
 pub mod NumberLemmas
 pub mod PullLemmas
 pub mod ReadLemmas
+pub mod WholeRequestLemmas

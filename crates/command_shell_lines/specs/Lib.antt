@@ -5,3 +5,4 @@ pub mod HexPairs
 pub mod Numbers
 pub mod Operands
 pub mod Requests
+pub mod WholeRequests

@@ -18,7 +18,6 @@ pub enum Block {
 }
 
 /// Reads the lines of a HEX block and the line that ends it. The script's end is an end, too.
-#[tactic(auto, using(crate::proofs::BlockLemmas::block_steps))]
 pub fn read_block(alloc: Global, script: &mut Lines) -> Result<Block, AllocError>
     ensures block { IfOk result (λ block. result_of_block block
         ≡ block_bytes 0 (block_lines script.old.left)) }
@@ -42,7 +41,6 @@ pub fn read_block(alloc: Global, script: &mut Lines) -> Result<Block, AllocError
 
 /// Passes over the lines of a block and the line that ends it, and answers how many lines the
 /// block has.
-#[tactic(auto, using(crate::proofs::BlockLemmas::block_steps))]
 pub fn skip_block(script: &mut Lines) -> usize
     ensures lines { result ≡ length (block_lines script.old.left) }
     ensures front { take result script.old.left ≡ block_lines script.old.left }

@@ -7,7 +7,6 @@ use std::alloc::AllocError;
 
 /// Appends the bytes that a line of hexadecimal digits spells, and answers whether the line is
 /// whole pairs; where it isn't, some bytes may have been appended.
-#[tactic(auto, using(crate::proofs::HexLemmas::hex_steps))]
 pub fn append_spelled(bytes: &mut Vec<u8>, line: &[u8]) -> Result<bool, AllocError>
     ensures { IfOk result (λ is_spelled. with_spelled bytes.old.items line.now
         ≡ (if is_spelled then Some bytes.new.items else None)) }

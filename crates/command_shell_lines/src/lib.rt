@@ -8,6 +8,7 @@ mod numbers;
 mod operands;
 mod reading;
 mod requests;
+mod whole_requests;
 
 pub use blocks::{Block, read_block, skip_block};
 pub use error::ReadingError;
@@ -15,3 +16,4 @@ pub use operands::{Origin, RegisterNumber, WordAddress};
 pub use reading::read_script;
 pub use requests::{ScriptCommand, command_of};
 pub use text_lines;
+pub use whole_requests::whole_request_bytes;

@@ -16,7 +16,6 @@ pub fn number_of(word: &[u8]) -> Option<u32>
 }
 
 // The number that digits of this radix spell.
-#[tactic(auto, using(crate::proofs::NumberLemmas::number_steps))]
 fn number_in(digits: &[u8], radix: u32) -> Option<u32>
     requires low { 2 ≤ radix }
     requires high { radix ≤ 36 }

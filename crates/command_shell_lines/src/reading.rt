@@ -16,7 +16,6 @@ const CHUNK: usize = 4096;
 /// # Errors
 ///
 /// `Memory`, `ReadFault`, and `ScriptTooLong` past 1,048,576 bytes.
-#[tactic(auto, using(crate::proofs::ReadLemmas::read_steps))]
 pub fn read_script<R: Source>(alloc: Global, reader: &mut R) -> Result<Vec<u8>, ReadingError>
     ensures bytes { IfOk result (λ script. IfSome (R.remaining reader.old) (λ told. script.items ≡ told)) }
     ensures in_limit { IfOk result (λ script. length script.items ≤ 1048576) }

@@ -68,6 +68,17 @@ pub enum ScriptCommand<'a> {
     Unknown,
 }
 
+impl ScriptCommand<'_> {
+    ghost use Rattle.command_shell_lines.specs.Requests.{opens_block, request_of_command};
+
+    /// Whether the lines that follow are a block of the line's own.
+    pub(crate) fn opens_block(&self) -> bool
+        ensures { result ≡ opens_block (request_of_command self.now) }
+    {
+        matches!(self, ScriptCommand::Hex(_) | ScriptCommand::Asm(_, _))
+    }
+}
+
 /// Reads a line. Words are parted by single spaces, but the text of LOAD is all that follows; a
 /// command may be in upper or lower case.
 pub fn command_of(line: &[u8]) -> ScriptCommand<'_>

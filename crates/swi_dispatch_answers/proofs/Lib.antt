@@ -1,3 +1,2 @@
 mod ErrorBlock
 mod StringLemmas
-pub mod WordLemmas

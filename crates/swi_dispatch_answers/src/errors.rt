@@ -14,7 +14,6 @@ use profile::{ErrorNumber, error_text};
 
 /// The number of the error whose block stands at an address, or that of `BadPointer` where none can
 /// stand there.
-#[tactic(auto, unfolding(crate::specs::Errors::error_at))]
 pub fn error_at(memory: &AddressMap, at: u32) -> u32
     ensures { result ≡ error_at (bytes_of memory.now) at }
 {

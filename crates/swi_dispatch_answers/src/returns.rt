@@ -8,7 +8,6 @@ use arm_core::{Cpu, Mode, Psr};
 use profile::memory_map::ADDRESS_LIMIT;
 
 /// The return address, with the caller's status, goes to the link register of supervisor mode.
-#[tactic(auto, unfolding(crate::specs::Returns::state_after_return))]
 pub fn return_to(cpu: &mut Cpu, caller: Psr, is_refused: bool, next: u32)
     ensures { cpu.new ≡ state_after_return caller cpu.old is_refused next }
 {

@@ -18,7 +18,6 @@ pub fn name_part(words: &[u8]) -> &[u8]
 }
 
 /// The text: what follows all the spaces after the name.
-#[tactic(auto, using(crate::proofs::WordLemmas::take_rest))]
 pub fn text_part(words: &[u8]) -> &[u8]
     ensures value { result.now ≡ text_part words.now }
     ensures short { length result.now ≤ length words.now }
@@ -29,7 +28,6 @@ pub fn text_part(words: &[u8]) -> &[u8]
     }
 }
 
-#[tactic(auto, using(crate::proofs::WordLemmas::take_rest))]
 fn without_spaces(words: &[u8]) -> &[u8]
     ensures value { result.now ≡ without_spaces words.now }
     ensures short { length result.now ≤ length words.now }

@@ -10,7 +10,6 @@ use instances_plans::{Code, private_word};
 /// The core goes to the SWI handler of a module: R11 is the number of the SWI in its chunk, R12 the
 /// address of the private word of the instance in `slot` (RISC OS 3 Programmer's Reference Manual,
 /// "Modules", "SWI handler code").
-#[tactic(auto, unfolding(crate::specs::Entering::swi_entered))]
 pub fn enter_swi(cpu: &mut Cpu, at: u32, number: u32, slot: u32)
     requires { slot < 64 }
     ensures { cpu.new ≡ swi_entered cpu.old at number slot }
@@ -22,7 +21,6 @@ pub fn enter_swi(cpu: &mut Cpu, at: u32, number: u32, slot: u32)
 
 /// The core goes to an initialisation or finalisation entry of a module, with R10 to R12 as they
 /// are asked for.
-#[tactic(auto, unfolding(crate::specs::Entering::code_entered))]
 pub fn enter_code(cpu: &mut Cpu, code: Code)
     ensures { cpu.new ≡ code_entered cpu.old code }
 {

@@ -70,7 +70,6 @@ impl Frame {
 }
 
 // R0 to R12 of the shared bank.
-#[tactic(auto, using(crate::proofs::Saving::saving))]
 fn shared_registers(cpu: &Cpu) -> [u32; SAVED_REGISTERS]
     ensures { result ≡ shared_registers cpu.now }
 {

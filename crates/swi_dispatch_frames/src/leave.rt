@@ -10,7 +10,6 @@ impl Frame {
     /// The core comes back from module code to where the call goes on. After a SWI, R0 to R9 and
     /// the flags N, Z, C and V stay as the code left them; after another entry nothing does, and
     /// whether it refused is for the caller to read before.
-    #[tactic(auto, unfolding(crate::specs::Leaving::left))]
     pub fn leave(&self, cpu: &mut Cpu)
         ensures { cpu.new ≡ left cpu.old self.now }
     {
@@ -48,7 +47,6 @@ fn status_left(kind: FrameKind, now: Psr, caller: Psr) -> Psr
 }
 
 // The registers of the shared bank, from one on to R12, get their old words.
-#[tactic(auto, using(crate::proofs::Restoring::restoring))]
 fn restore(cpu: &mut Cpu, saved: &[u32; SAVED_REGISTERS], first: usize)
     requires { first ≤ 13 }
     ensures { cpu.new ≡ state_with_saved_words first (13 - first) saved.now cpu.old }

@@ -1,5 +1,5 @@
-use Rattle.std.proofs.Common.{ℕ, Option, sym, ap, ◌∙◌}
-use Rattle.command_shell_lines.proofs.HexLemmas.{with_pair, takes_two, no_pair, takes_pair}
+use Rattle.std.proofs.Common.{ℕ, Option, sym, ap, ◌∙◌, arith}
+use Rattle.command_shell_lines.proofs.HexLemmas.{with_pair, takes_two, no_pair, takes_pair, hex_steps}
 use Rattle.command_shell_lines.proofs.hex_pairs.append_spelled.Goals as goal
 
 pub returns-in_default-pair : goal.returns-in_default-pair
@@ -23,3 +23,12 @@ loop-first-preserved-then-first-ne32 c =
     first.ensures.cases.0 c.if-first-ne32.true second.ensures.cases.0
     ∙ ap (λ (o : Option ℕ). with_pair l.bytes.items o second.others.now) (sym c.pair.ensures ∙ c.in-Some-pair.is)
     ∙ takes_pair l.bytes.items second.others.now c.in-Some-pair.byte)
+
+pub returns-in_default-split_first : goal.returns-in_default-split_first
+returns-in_default-split_first c = grind (arith, hex_steps)
+
+pub loop-first-preserved : goal.loop-first-preserved
+loop-first-preserved c = grind (arith, hex_steps)
+
+pub returns : goal.returns
+returns c = grind (arith, hex_steps)

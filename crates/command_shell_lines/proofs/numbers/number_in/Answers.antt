@@ -1,5 +1,5 @@
 use Rattle.std.proofs.Common.{sym, ◌∙◌, arith}
-use Rattle.command_shell_lines.proofs.NumberLemmas.{last_at}
+use Rattle.command_shell_lines.proofs.NumberLemmas.{last_at, number_steps}
 use Rattle.command_shell_lines.proofs.numbers.number_in.Goals as goal
 
 pub returns : goal.returns
@@ -8,3 +8,15 @@ returns c =
     sym (l.invariant.number
     ∙ last_at c.args.radix l.value l.digit-index c.args.digits.now (omega (arith, c.loop-digit-test.false))
     l.invariant.low)
+
+pub returns-then-is_empty : goal.returns-then-is_empty
+returns-then-is_empty c = grind (arith, number_steps)
+
+pub loop-digit-init : goal.loop-digit-init
+loop-digit-init c = grind (arith, number_steps)
+
+pub returns-in_err-value : goal.returns-in_err-value
+returns-in_err-value c = grind (arith, number_steps)
+
+pub loop-digit-preserved : goal.loop-digit-preserved
+loop-digit-preserved c = grind (arith, number_steps)

@@ -1,0 +1,13 @@
+-- By the lemmas of `listed_steps`.
+use Rattle.std.proofs.Common.{arith}
+use Rattle.assembler_text.proofs.Listed.{listed_steps}
+use Rattle.assembler_text.proofs.transfers.push_listed.Goals as goal
+
+pub loop-number-init : goal.loop-number-init
+loop-number-init g c = grind (arith, listed_steps)
+
+pub loop-number-preserved : goal.loop-number-preserved
+loop-number-preserved g c = grind (arith, listed_steps)
+
+pub returns-clause-text : goal.returns-clause-text
+returns-clause-text g c = grind (arith, listed_steps)
