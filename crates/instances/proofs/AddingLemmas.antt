@@ -78,11 +78,14 @@ header_long image header is = elim (cases_Bool (nat_lt (length image) 28)) [
 ]
 
 -- so an image in memory isn't
-pub header_some : (f : ℕ → ℕ) (at len : ℕ) → IfOk (good_header (header_of (bytes_between f at len))) (λ header. 0 < len)
-header_some f at len = go (header_of (bytes_between f at len)) refl where
-  go : (r : Result Header HeaderFault) → header_of (bytes_between f at len) ≡ r → IfOk (good_header r) (λ header. 0 < len)
-  go (Ok header) is = omega (arith, header_long (bytes_between f at len) header is, bytes_counted f at len)
-  go (Err fault) is = tt
+pub header_some : (f : ℕ → ℕ) (at len : ℕ) (header : Header) → header_of (bytes_between f at len) ≡ Ok header → 0 < len
+header_some f at len header is =
+    omega (arith, header_long (bytes_between f at len) header is, bytes_counted f at len)
+
+-- a header that is good is the one that was read
+pub header_good : (r : Result Header HeaderFault) → IfOk (good_header r) (λ header. r ≡ Ok header)
+header_good (Ok header) = refl
+header_good (Err fault) = tt
 
 -- a range that may be copied is mapped
 pub copied_mapped : (e : Estate) (at len : ℕ) → may_be_copied e at len ≡ true → AreMapped e.store.bytes.mapped at len

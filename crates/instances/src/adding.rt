@@ -1,5 +1,5 @@
 //! The calls that add a module whose image gets a block of the module area.
-ghost use Rattle.std.specs.Prelude.{◌≡◌, ◌≤◌, ◌<◌, ◌∷◌, [], false, length, ok_or, IfOk, IfSome, MatchResult};
+ghost use Rattle.std.specs.Prelude.{◌≡◌, ◌≤◌, ◌<◌, ◌∷◌, [], false, length, ok_or, IfOk, IfSome, MatchResult, Ok};
 ghost use Rattle.profile.specs.Outcome.{Gives};
 ghost use Rattle.address_map.specs.Bytes.{bytes_between, AreMapped};
 ghost use Rattle.address_map.specs.Memory.{is_mapped};
@@ -109,7 +109,8 @@ impl Instances {
 pub(crate) fn header_at(map: &AddressMap, at: u32, len: u32) -> Result<Header, ErrorNumber>
     requires { AreMapped (is_mapped map.now) at len }
     ensures value { result ≡ good_header (header_of (bytes_between (store_of map.now).bytes.at at len)) }
-    ensures some { IfOk result (λ header. 0 < len) }
+    ensures there { IfOk result (λ header. header_of (bytes_between (store_of map.now).bytes.at at len)
+        ≡ Ok header) }
 {
     good_header(Header::read_from(&map.view(at, len)))
 }

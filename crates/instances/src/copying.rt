@@ -1,10 +1,14 @@
-//! The call that adds a module whose image is a copy of bytes in memory.
-ghost use Rattle.std.specs.Prelude.{◌≡◌, [], false, IfOk, MatchResult};
+//! The calls that add a module whose image is a copy of bytes in memory.
+ghost use Rattle.std.specs.Prelude.{◌≡◌, [], false, true, IfOk, MatchResult, Ok};
 ghost use Rattle.profile.specs.Outcome.{Gives};
+ghost use Rattle.address_map.specs.Bytes.{bytes_between};
+ghost use Rattle.module_tidy.specs.dynamic_areas.specs.Ground.{estate_of};
 ghost use Rattle.module_tidy.specs.os_heap.specs.Order.{KeepsOrder};
 ghost use Rattle.module_tidy.specs.os_heap.specs.Store.{AreClasses, store_of};
 ghost use Rattle.module_tidy.specs.flex_frame.specs.Keeping.{KeepsFlex};
 ghost use Rattle.module_tidy.specs.rma.specs.Places.{KeepsPlaces};
+ghost use Rattle.module_tidy.specs.rma.specs.Copies.{may_be_copied};
+ghost use Rattle.instances_plans.specs.module_header.specs.Header.{header_of};
 ghost use Rattle.instances_actions.specs.Pending.{pending_of};
 ghost use Rattle.instances_actions.specs.Ready.{IsReady};
 ghost use Rattle.module_tidy.specs.module_world.specs.Sound.{IsWorld};
@@ -15,6 +19,7 @@ use crate::adding::header_at;
 use crate::instances::Instances;
 use address_map::AddressMap;
 use instances_plans::Plan;
+use instances_plans::module_header::Header;
 use instances_table::Image;
 use module_tidy::dynamic_areas::Areas;
 use module_tidy::rma::Rma;
@@ -57,13 +62,50 @@ impl Instances {
         ensures rests { IfOk result (λ plan. plan.runs ≡ false) }
         ensures sizes { areas.new.sizes ≡ areas.old.sizes }
     {
-        let rma = Rma::new();
-        if !rma.may_be_copied(map, areas, at, len) {
+        if !Rma::new().may_be_copied(map, areas, at, len) {
             return Err(ErrorNumber::BadPointer);
         }
         let header = header_at(map, at, len)?;
+        self.insert_copy_found(map, areas, at, len, header)
+    }
+
+    /// Inserts a module as `insert_copy` does, for a caller that has asked: the bytes may be copied,
+    /// and this is their header.
+    ///
+    /// # Errors
+    ///
+    /// The first of these, and nothing is changed then: `InstanceTableFull` where there are 64
+    /// instances, and none of a module of the title; `RmaNoRoom` where the module area has no room
+    /// for the image, and can't grow by as much.
+    #[tactic(auto, unfolding(crate::specs::Adding::copying), using(crate::proofs::Keeping::keeps_same))]
+    pub fn insert_copy_found(
+        &self,
+        map: &mut AddressMap,
+        areas: &mut Areas,
+        at: u32,
+        len: u32,
+        header: Header,
+    ) -> Result<Plan, ErrorNumber>
+        requires sound { IsWorld (world_of map.old areas.old self.now) [] }
+        requires classes { AreClasses map.old }
+        requires may { may_be_copied (estate_of map.old areas.old) at len ≡ true }
+        requires header { header_of (bytes_between (store_of map.old).bytes.at at len) ≡ Ok header }
+        ensures world { Gives (world_of map.old areas.old self.now)
+            (copying (world_of map.old areas.old self.now) at len) result
+            (world_of map.new areas.new self.now) }
+        ensures sound { IfOk result (λ plan. IsWorld (world_of map.new areas.new self.now)
+            (pending_of plan)) }
+        ensures classes { AreClasses map.new }
+        ensures order { MatchResult result (λ plan. AddsImage map.old map.new plan.given.image)
+            (λ _. KeepsOrder map.old map.new) }
+        ensures places { KeepsPlaces map.old map.new }
+        ensures flex { KeepsFlex (store_of map.old) (store_of map.new) }
+        ensures ready { IfOk result (λ plan. IsReady self.now plan) }
+        ensures rests { IfOk result (λ plan. plan.runs ≡ false) }
+        ensures sizes { areas.new.sizes ≡ areas.old.sizes }
+    {
         let slot = self.slot_for(&header)?;
-        let copy = rma.copy_image(map, areas, at, len)?;
+        let copy = Rma::new().copy_image(map, areas, at, len)?;
         let placed = Image { at: copy, len };
         Ok(self.adding_plan(header, placed, &[], slot))
     }

@@ -1,10 +1,13 @@
-//! The call that adds a module whose image stays where it stands.
-ghost use Rattle.std.specs.Prelude.{◌≡◌, ◌∷◌, [], false, IfOk, MatchResult};
+//! The calls that add a module whose image stays where it stands.
+ghost use Rattle.std.specs.Prelude.{◌≡◌, ◌∷◌, [], false, true, IfOk, MatchResult, Ok};
 ghost use Rattle.profile.specs.Outcome.{Gives};
+ghost use Rattle.address_map.specs.Bytes.{bytes_between};
 ghost use Rattle.address_map.specs.Memory.{mapping};
 ghost use Rattle.module_tidy.specs.os_heap.specs.Order.{KeepsOrder};
 ghost use Rattle.module_tidy.specs.os_heap.specs.Store.{AreClasses, store_of};
 ghost use Rattle.module_tidy.specs.flex_frame.specs.Keeping.{KeepsFlex};
+ghost use Rattle.module_tidy.specs.rma.specs.NewImages.{may_be_in_place};
+ghost use Rattle.instances_plans.specs.module_header.specs.Header.{header_of};
 ghost use Rattle.instances_actions.specs.Pending.{pending_of};
 ghost use Rattle.instances_actions.specs.Ready.{IsReady};
 ghost use Rattle.module_tidy.specs.module_world.specs.Sound.{IsWorld};
@@ -15,6 +18,7 @@ use crate::adding::header_at;
 use crate::instances::Instances;
 use address_map::AddressMap;
 use instances_plans::Plan;
+use instances_plans::module_header::Header;
 use instances_table::Image;
 use module_tidy::dynamic_areas::Areas;
 use module_tidy::rma::Rma;
@@ -55,13 +59,48 @@ impl Instances {
         ensures ready { IfOk result (λ plan. IsReady self.now plan) }
         ensures rests { IfOk result (λ plan. plan.runs ≡ false) }
     {
-        let rma = Rma::new();
-        if !rma.may_be_in_place(map, at, len) {
+        if !Rma::new().may_be_in_place(map, at, len) {
             return Err(ErrorNumber::BadPointer);
         }
         let header = header_at(map, at, len)?;
+        self.insert_found(map, areas, at, len, header)
+    }
+
+    /// Inserts a module as `insert_in_place` does, for a caller that has asked: the bytes may be an
+    /// image in place, and this is their header.
+    ///
+    /// # Errors
+    ///
+    /// `InstanceTableFull` where there are 64 instances, and none of a module of the title; nothing
+    /// is changed then.
+    #[tactic(auto, unfolding(crate::specs::Adding::inserting), using(crate::proofs::Keeping::keeps_same))]
+    pub fn insert_found(
+        &self,
+        map: &mut AddressMap,
+        areas: &Areas,
+        at: u32,
+        len: u32,
+        header: Header,
+    ) -> Result<Plan, ErrorNumber>
+        requires sound { IsWorld (world_of map.old areas.now self.now) [] }
+        requires classes { AreClasses map.old }
+        requires may { may_be_in_place (store_of map.old) at len ≡ true }
+        requires header { header_of (bytes_between (store_of map.old).bytes.at at len) ≡ Ok header }
+        ensures world { Gives (world_of map.old areas.now self.now)
+            (inserting (world_of map.old areas.now self.now) at len) result
+            (world_of map.new areas.now self.now) }
+        ensures sound { IfOk result (λ plan. IsWorld (world_of map.new areas.now self.now)
+            (pending_of plan)) }
+        ensures classes { AreClasses map.new }
+        ensures mapping { mapping map.new ≡ mapping map.old }
+        ensures order { MatchResult result (λ plan. AddsImage map.old map.new plan.given.image)
+            (λ _. KeepsOrder map.old map.new) }
+        ensures flex { KeepsFlex (store_of map.old) (store_of map.new) }
+        ensures ready { IfOk result (λ plan. IsReady self.now plan) }
+        ensures rests { IfOk result (λ plan. plan.runs ≡ false) }
+    {
         let slot = self.slot_for(&header)?;
-        rma.record_in_place(map, at, len);
+        Rma::new().record_in_place(map, at, len);
         let placed = Image { at, len };
         Ok(self.adding_plan(header, placed, &[], slot))
     }

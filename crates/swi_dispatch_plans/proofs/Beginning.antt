@@ -1,5 +1,5 @@
 -- When a call on modules may begin.
-use Rattle.std.proofs.Common.{◌≡◌, ◌<◌, length, ℕ, false, None, Ok, Err, List, [], ◌∷◌, sym, subst, ◌∙◌}
+use Rattle.std.proofs.Common.{◌≡◌, ℕ, false, Ok, Err, List, [], ◌∷◌, sym, subst, ◌∙◌}
 use Rattle.std.specs.Prelude.{IfOk, Result}
 use Rattle.std.proofs.lemmas.Bool.{true≢false}
 use Rattle.module_world.specs.Sound.{IsWorld}
@@ -8,23 +8,12 @@ use Rattle.instances_table.specs.Modules.{slots_of}
 use Rattle.profile.specs.declared.error.ErrorNumber.{ErrorNumber}
 use Rattle.swi_dispatch_frames.specs.Busy.{has_swi_of}
 use Rattle.swi_dispatch_modules.specs.instances.specs.Naming.{NamesOnly, slots_of_plan}
-use Rattle.swi_dispatch_modules.specs.instances.specs.Turns.{MayGoOn}
 use Rattle.swi_dispatch_modules.specs.instances.specs.instances_actions.specs.Pending.{pending_of}
 use Rattle.swi_dispatch_modules.specs.instances.specs.instances_actions.specs.Ready.{IsReady}
 use Rattle.swi_dispatch_modules.specs.instances.proofs.NamedByCalls.{NamesNone, NamesOne}
-use Rattle.swi_dispatch_plans.specs.Beginning.{CanBegin, IsFree, IsSetting}
+use Rattle.swi_dispatch_plans.specs.Beginning.{CanBegin, IsFree}
 use Rattle.swi_dispatch_plans.specs.Setting.{Setting}
-use Rattle.swi_dispatch_plans.proofs.Sparing.{none_of, none_of_empty, none_of_none}
-
--- a setting in which no call on modules is under way
-pub is_free : (s : Setting) → IsSetting s → s.plan ≡ None → length s.frames < 32 → IsFree s
-is_free s is none room = record {
-  none = none;
-  room = room;
-  idle = is.idle none;
-  held = is.held;
-  world = subst (MayGoOn s.world) none is.modules;
-}
+use Rattle.swi_dispatch_plans.proofs.Sparing.{none_of, none_of_none}
 
 can_begin : (s : Setting) (p : Plan) → IsFree s → IsReady s.world.modules p → p.runs ≡ false → pending_of p ≡ []
     → has_swi_of (slots_of_plan p) s.frames ≡ false → CanBegin s p
@@ -38,12 +27,6 @@ can_begin s p free ready rests pending spared = record {
   free = free;
   spared = spared;
 }
-
--- a call that no module code under way allows
-pub alone_begins : (s : Setting) (p : Plan) → IsFree s → s.frames ≡ [] → IsReady s.world.modules p → p.runs ≡ false
-    → pending_of p ≡ [] → CanBegin s p
-alone_begins s p free alone ready rests pending =
-    can_begin s p free ready rests pending (none_of_empty (slots_of_plan p) s.frames alone)
 
 -- one whose plan names only instances that were tested for
 named_begins : (s : Setting) (p : Plan) (slots : List ℕ) → IsFree s → IsReady s.world.modules p → p.runs ≡ false

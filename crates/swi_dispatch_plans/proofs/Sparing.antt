@@ -34,6 +34,3 @@ none_of used slots more (f ∷ fs) held fewer none =
 pub none_of_none : (fs : List Frame) → has_swi_of [] fs ≡ false
 none_of_none [] = refl
 none_of_none (f ∷ fs) = rw (and-false (is_swi f.kind), none_of_none fs) refl
-
-pub none_of_empty : (slots : List ℕ) (fs : List Frame) → fs ≡ [] → has_swi_of slots fs ≡ false
-none_of_empty slots fs none = ap (has_swi_of slots) none

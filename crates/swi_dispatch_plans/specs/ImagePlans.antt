@@ -20,6 +20,7 @@ use Rattle.module_header.specs.Header.{header_of}
 use Rattle.swi_dispatch_answers.specs.Words.{name_part, text_part}
 use Rattle.swi_dispatch_modules.specs.instances.specs.Adding.{good_header, instantiation}
 use Rattle.swi_dispatch_plans.specs.Beginning.{SparesTitle}
+use Rattle.swi_dispatch_plans.specs.declared.image_plans.ImageFound.{ImageFound}
 use Rattle.swi_dispatch_plans.specs.declared.image_plans.ImageRange.{ImageRange}
 use Rattle.swi_dispatch_plans.specs.declared.image_plans.Load.{Load}
 use Rattle.swi_dispatch_plans.specs.ModulePlans.{may_begin_alone, may_finalise}
@@ -54,6 +55,11 @@ load_asked images s words must_be_alone =
 -- reasons 10 and 11, insert and copy: R1 has the address of the image, R2 its length
 abbrev pub range_asked : Setting → ImageRange
 range_asked s = record { at = register_of s.cpu 1; len = register_of s.cpu 2 }
+
+-- where an image that was found stands
+abbrev pub range_found : Result ImageFound ErrorNumber → Result ImageRange ErrorNumber
+range_found (Ok found) = Ok found.range
+range_found (Err e) = Err e
 
 -- the header of the image that stands in a range
 abbrev pub image_header_in : Setting → ℕ → ℕ → Result Header HeaderFault

@@ -1,13 +1,16 @@
 //! OS_Module, the reasons that add a module or an instance (RISC OS 3 Programmer's Reference
 //! Manual, "OS_Module", reasons 0, 1, 10, 11 and 14).
-#![tactic(auto, unfolding(crate::specs::ImagePlans::load_asked, crate::specs::ImagePlans::insertion_asked, crate::specs::ImagePlans::copy_asked, crate::specs::ImagePlans::instantiation_planned))]
 
-ghost use Rattle.std.specs.Prelude.{◌≡◌, ◌≤◌, length, IfOk};
+ghost use Rattle.std.specs.Prelude.{◌≡◌, ◌≤◌, length, true, IfOk, Ok};
+ghost use Rattle.profile.specs.Outcome.{bind};
 ghost use Rattle.address_map.specs.Bytes.{AreMapped};
 ghost use Rattle.module_header.specs.Header.{header_of};
+ghost use Rattle.module_world.specs.rma.specs.Copies.{may_be_copied};
+ghost use Rattle.module_world.specs.rma.specs.NewImages.{may_be_in_place};
 ghost use Rattle.swi_dispatch_plans.specs.Beginning.{CanBegin, IsFree, SparesTitle};
-ghost use Rattle.swi_dispatch_plans.specs.ImagePlans.{SparesRange, copy_asked, insertion_asked, instantiation_planned};
-ghost use Rattle.swi_dispatch_plans.specs.ImagePlans.{load_asked, loading_of, may_add, range_asked, well_named};
+ghost use Rattle.swi_dispatch_plans.specs.ImagePlans.{SparesRange, copy_asked, image_header_in, insertion_asked};
+ghost use Rattle.swi_dispatch_plans.specs.ImagePlans.{instantiation_planned, load_asked, loading_of, may_add};
+ghost use Rattle.swi_dispatch_plans.specs.ImagePlans.{range_asked, range_found, well_named};
 ghost use Rattle.swi_dispatch_plans.specs.Setting.{setting_in};
 
 use crate::planner::Planner;
@@ -32,6 +35,13 @@ pub struct Load<'a> {
 pub struct ImageRange {
     pub at: u32,
     pub len: u32,
+}
+
+/// An image in memory that may be added: where it stands, and its header.
+#[derive(Drop)]
+pub struct ImageFound {
+    pub range: ImageRange,
+    pub header: Header,
 }
 
 impl<'a> Planner<'a> {
@@ -76,17 +86,23 @@ impl<'a> Planner<'a> {
     /// where the image has no good header; `ModuleBusy` while an initialisation or a finalisation
     /// is under way, or a SWI of a module of the title; `FrameLimit` where no frame more can be
     /// opened.
-    pub fn insertion(&self) -> Result<ImageRange, ErrorNumber>
-        ensures value { result ≡ insertion_asked (setting_in self.now) }
+    #[tactic(auto, unfolding(crate::specs::ImagePlans::insertion_asked))]
+    pub fn insertion(&self) -> Result<ImageFound, ErrorNumber>
+        ensures value { range_found result ≡ insertion_asked (setting_in self.now) }
+        ensures place { IfOk result (λ found. may_be_in_place (setting_in self.now).world.estate.store
+            found.range.at found.range.len ≡ true) }
+        ensures header { IfOk result (λ found. image_header_in (setting_in self.now)
+            found.range.at found.range.len ≡ Ok found.header) }
         ensures free { IfOk result (λ _. IsFree (setting_in self.now)) }
-        ensures spared { IfOk result (λ range. SparesRange (setting_in self.now) range.at range.len) }
+        ensures spared { IfOk result (λ found. SparesRange (setting_in self.now)
+            found.range.at found.range.len) }
     {
         let range = self.range_asked();
         if !Rma::new().may_be_in_place(self.memory, range.at, range.len) {
             return Err(ErrorNumber::BadPointer);
         }
-        self.may_add(range)?;
-        Ok(range)
+        let header = self.header_to_add(range)?;
+        Ok(ImageFound { range, header })
     }
 
     /// OS_Module 11: R1 has the address of the bytes of an image, R2 their number.
@@ -95,17 +111,23 @@ impl<'a> Planner<'a> {
     ///
     /// The first of these: `BadPointer` where an image can't be a copy of these bytes; all others
     /// as in `insertion`.
-    pub fn copy(&self) -> Result<ImageRange, ErrorNumber>
-        ensures value { result ≡ copy_asked (setting_in self.now) }
+    #[tactic(auto, unfolding(crate::specs::ImagePlans::copy_asked))]
+    pub fn copy(&self) -> Result<ImageFound, ErrorNumber>
+        ensures value { range_found result ≡ copy_asked (setting_in self.now) }
+        ensures place { IfOk result (λ found. may_be_copied (setting_in self.now).world.estate
+            found.range.at found.range.len ≡ true) }
+        ensures header { IfOk result (λ found. image_header_in (setting_in self.now)
+            found.range.at found.range.len ≡ Ok found.header) }
         ensures free { IfOk result (λ _. IsFree (setting_in self.now)) }
-        ensures spared { IfOk result (λ range. SparesRange (setting_in self.now) range.at range.len) }
+        ensures spared { IfOk result (λ found. SparesRange (setting_in self.now)
+            found.range.at found.range.len) }
     {
         let range = self.range_asked();
         if !Rma::new().may_be_copied(self.memory, self.areas, range.at, range.len) {
             return Err(ErrorNumber::BadPointer);
         }
-        self.may_add(range)?;
-        Ok(range)
+        let header = self.header_to_add(range)?;
+        Ok(ImageFound { range, header })
     }
 
     /// OS_Module 14: R1 points to the full name of the new instance and a text.
@@ -139,18 +161,21 @@ impl<'a> Planner<'a> {
         }
     }
 
-    // Whether the image that stands in a range may be added.
+    // The header of the image that stands in a range, if it may be added.
     #[tactic(auto, unfolding(os_heap::specs::Store::store_of))]
-    fn may_add(&self, range: ImageRange) -> Result<(), ErrorNumber>
+    fn header_to_add(&self, range: ImageRange) -> Result<Header, ErrorNumber>
         requires { AreMapped (setting_in self.now).world.estate.store.bytes.mapped range.at range.len }
-        ensures value { result ≡ may_add (setting_in self.now) range }
+        ensures value { bind result (λ _. Ok tt) ≡ may_add (setting_in self.now) range }
+        ensures header { IfOk result (λ header. image_header_in (setting_in self.now) range.at range.len
+            ≡ Ok header) }
         ensures free { IfOk result (λ _. IsFree (setting_in self.now)) }
         ensures spared { IfOk result (λ _. SparesRange (setting_in self.now) range.at range.len) }
     {
         let Ok(header) = Header::read_from(&self.memory.view(range.at, range.len)) else {
             return Err(ErrorNumber::ModuleBadHeader);
         };
-        self.may_replace(header.title.as_slice())
+        self.may_replace(header.title.as_slice())?;
+        Ok(header)
     }
 }
 

@@ -14,7 +14,7 @@ pub mod planner;
 pub mod refusals;
 pub mod spare;
 
-pub use image_plans::{ImageRange, Load};
+pub use image_plans::{ImageFound, ImageRange, Load};
 pub use openings::{Opening, enter_as_user};
 pub use planner::Planner;
 pub use spare::Spare;

@@ -1,6 +1,5 @@
 //! OS_Module, the reasons that may run module code of instances that are there (RISC OS 3
 //! Programmer's Reference Manual, "OS_Module", reasons 3, 4, 8 and 9).
-#![tactic(auto, using(crate::proofs::Beginning::alone_begins), unfolding(crate::specs::ModulePlans::reinit_planned, crate::specs::ModulePlans::delete_planned, crate::specs::ModulePlans::tidy_planned, crate::specs::ModulePlans::clear_planned))]
 
 ghost use Rattle.std.specs.Prelude.{◌≡◌, IfOk};
 ghost use Rattle.swi_dispatch_plans.specs.Beginning.{CanBegin};

@@ -1,6 +1,5 @@
 //! OS_Module 2, enter: what it is given, what it refuses, and the core as a module is started (RISC
 //! OS 3 Programmer's Reference Manual, "OS_Module", reason 2).
-#![tactic(auto, unfolding(crate::specs::Openings::opening_asked))]
 
 ghost use Rattle.std.specs.Prelude.{◌≡◌, ◌<◌, IfOk};
 ghost use Rattle.swi_dispatch_plans.specs.Openings.{as_user, opening_asked};

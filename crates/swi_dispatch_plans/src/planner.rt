@@ -1,5 +1,4 @@
 //! What the plans of calls on modules are made from.
-#![tactic(auto, unfolding(os_heap::specs::Store::store_of, crate::specs::Setting::string_asked))]
 
 ghost use Rattle.std.specs.Prelude.{◌≡◌, ◌≤◌};
 ghost use Rattle.swi_dispatch_answers.specs.Strings.{bytes_read};

@@ -13,7 +13,6 @@ use swi_dispatch_frames::MOST_FRAMES;
 
 impl<'a> Planner<'a> {
     // Whether a call that finalises these instances may begin.
-    #[tactic(auto, using(crate::proofs::Beginning::is_free), unfolding(crate::specs::ModulePlans::may_finalise))]
     pub(crate) fn may_finalise(&self, slots: &[u32]) -> Result<(), ErrorNumber>
         ensures value { result ≡ may_finalise slots.now (setting_in self.now) }
         ensures free { IfOk result (λ _. IsFree (setting_in self.now)) }
@@ -29,7 +28,6 @@ impl<'a> Planner<'a> {
     }
 
     // Whether a call may begin that no module code under way allows.
-    #[tactic(auto, using(crate::proofs::Beginning::is_free), unfolding(crate::specs::ModulePlans::may_begin_alone))]
     pub(crate) fn may_begin_alone(&self) -> Result<(), ErrorNumber>
         ensures value { result ≡ may_begin_alone (setting_in self.now) }
         ensures free { IfOk result (λ _. IsFree (setting_in self.now)) }
@@ -42,7 +40,6 @@ impl<'a> Planner<'a> {
     }
 
     // Whether a load of a module of a title may begin.
-    #[tactic(auto, using(crate::proofs::Sparing::none_of_empty))]
     pub(crate) fn may_load(&self, must_be_alone: bool, title: &[u8]) -> Result<(), ErrorNumber>
         ensures value { result ≡ may_load must_be_alone title.now (setting_in self.now) }
         ensures free { IfOk result (λ _. IsFree (setting_in self.now)) }

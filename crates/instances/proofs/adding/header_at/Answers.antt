@@ -1,6 +1,12 @@
+use Rattle.address_map.specs.Bytes.{bytes_between}
 use Rattle.address_map.specs.Memory.{byte_at}
-use Rattle.instances.proofs.AddingLemmas.{header_some}
+use Rattle.instances_plans.specs.module_header.specs.Header.{header_of}
+use Rattle.module_tidy.specs.os_heap.specs.Store.{store_of}
+use Rattle.instances.proofs.AddingLemmas.{header_good}
 use Rattle.instances.proofs.adding.header_at.Goals as goal
 
-pub returns-clause-some : goal.returns-clause-some
-returns-clause-some c = rw (c.good_header.ensures, c.read_from.ensures, c.view.ensures) (header_some (byte_at c.args.map.now) c.args.at c.args.len)
+pub returns-clause-there : goal.returns-clause-there
+unfolding store_of
+returns-clause-there c =
+    rw (c.good_header.ensures, c.read_from.ensures, c.view.ensures)
+    (header_good (header_of (bytes_between (byte_at c.args.map.now) c.args.at c.args.len)))

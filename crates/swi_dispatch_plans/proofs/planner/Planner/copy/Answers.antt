@@ -5,10 +5,16 @@ use Rattle.swi_dispatch_modules.specs.instances.proofs.AddingLemmas.{copied_mapp
 use Rattle.swi_dispatch_plans.specs.Setting.{PlanParts}
 use Rattle.swi_dispatch_plans.proofs.planner.Planner.copy.Goals as goal
 
-pub may_add-requires : goal.may_add-requires
-may_add-requires c =
+pub header_to_add-requires : goal.header_to_add-requires
+header_to_add-requires c =
     let range = c.range_asked-range.result in
     let may : may_be_copied (estate_of c.args.self.now.map c.args.self.now.land) range.at range.len ≡ true =
     ap (λ (p : PlanParts). may_be_copied (estate_of p.map p.land) range.at range.len) (sym c.self.view_is)
     ∙ sym c.may_be_copied.ensures ∙ c.if-not-may_be_copied.false in
     copied_mapped (estate_of c.args.self.now.map c.args.self.now.land) range.at range.len may
+
+pub returns-clause-place : goal.returns-clause-place
+returns-clause-place c =
+    let range = c.range_asked-range.result in
+    ap (λ (p : PlanParts). may_be_copied (estate_of p.map p.land) range.at range.len) (sym c.self.view_is)
+    ∙ sym c.may_be_copied.ensures ∙ c.if-not-may_be_copied.false

@@ -1,4 +1,4 @@
-use Rattle.std.proofs.Common.{◌≡◌, IfOk, List, Ok, ap, subst, ◌∙◌}
+use Rattle.std.proofs.Common.{◌≡◌, IfOk, List, Ok, ap, subst, ◌∙◌, rules}
 use Rattle.instances_table.specs.Modules.{Module}
 use Rattle.swi_dispatch_modules.specs.instances.specs.Plans.{deletion}
 use Rattle.swi_dispatch_modules.specs.instances.specs.Reading.{slot_meant}
@@ -6,6 +6,7 @@ use Rattle.swi_dispatch_modules.specs.instances.specs.instances_actions.specs.Re
 use Rattle.swi_dispatch_modules.specs.instances.proofs.NamedByCalls.{deletion_names}
 use Rattle.swi_dispatch_plans.specs.Setting.{PlanParts, setting_in}
 use Rattle.swi_dispatch_plans.proofs.Beginning.{meant_begins}
+use Rattle.swi_dispatch_plans.specs.ModulePlans.{delete_planned}
 use Rattle.swi_dispatch_plans.proofs.planner.Planner.delete.Goals as goal
 
 pub returns-clause-begins : goal.returns-clause-begins
@@ -22,3 +23,19 @@ returns-clause-begins c =
     meant_begins s (slot_meant s.world.modules name) (deletion s.world.modules name) c.plan_delete.result
     c.in_ok-slot.slot means makes (deletion_names s.world.modules name) c.in_ok-may_finalise.ensures.spared
     c.in_ok-may_finalise.ensures.free ready c.plan_delete.ensures.rests c.plan_delete.ensures.pending
+
+pub returns-in_err-name-clause-value : goal.returns-in_err-name-clause-value
+unfolding delete_planned
+returns-in_err-name-clause-value c = search rules
+
+pub returns-in_err-slot-clause-value : goal.returns-in_err-slot-clause-value
+unfolding delete_planned
+returns-in_err-slot-clause-value c = search rules
+
+pub returns-in_err-may_finalise-clause-value : goal.returns-in_err-may_finalise-clause-value
+unfolding delete_planned
+returns-in_err-may_finalise-clause-value c = search rules
+
+pub returns-clause-value : goal.returns-clause-value
+unfolding delete_planned
+returns-clause-value c = search rules

@@ -1,10 +1,11 @@
-use Rattle.std.proofs.Common.{◌≡◌, IfOk, List, ap, subst, ◌∙◌}
+use Rattle.std.proofs.Common.{◌≡◌, IfOk, List, ap, subst, ◌∙◌, rules}
 use Rattle.instances_table.specs.Modules.{Module}
 use Rattle.swi_dispatch_modules.specs.instances.specs.Adding.{instantiation}
 use Rattle.swi_dispatch_modules.specs.instances.specs.instances_actions.specs.Ready.{IsReady}
 use Rattle.swi_dispatch_modules.specs.instances.proofs.NamedByCalls.{instantiation_names}
 use Rattle.swi_dispatch_plans.specs.Setting.{PlanParts, setting_in}
 use Rattle.swi_dispatch_plans.proofs.Beginning.{new_begins}
+use Rattle.swi_dispatch_plans.specs.ImagePlans.{instantiation_planned}
 use Rattle.swi_dispatch_plans.proofs.planner.Planner.instantiation.Goals as goal
 
 pub returns-clause-begins : goal.returns-clause-begins
@@ -20,3 +21,19 @@ returns-clause-begins c =
     new_begins s (instantiation s.world.modules name text) made.result makes
     (instantiation_names s.world.modules name text)
     c.in_ok-may_finalise.ensures.free ready made.ensures.rests made.ensures.pending
+
+pub returns-in_err-words-clause-value : goal.returns-in_err-words-clause-value
+unfolding instantiation_planned
+returns-in_err-words-clause-value c = search rules
+
+pub returns-in_err-well_named-clause-value : goal.returns-in_err-well_named-clause-value
+unfolding instantiation_planned
+returns-in_err-well_named-clause-value c = search rules
+
+pub returns-in_err-may_finalise-clause-value : goal.returns-in_err-may_finalise-clause-value
+unfolding instantiation_planned
+returns-in_err-may_finalise-clause-value c = search rules
+
+pub returns-clause-value : goal.returns-clause-value
+unfolding instantiation_planned
+returns-clause-value c = search rules

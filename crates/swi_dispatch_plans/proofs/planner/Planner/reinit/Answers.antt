@@ -1,4 +1,4 @@
-use Rattle.std.proofs.Common.{◌≡◌, IfOk, List, Ok, ap, subst, ◌∙◌}
+use Rattle.std.proofs.Common.{◌≡◌, IfOk, List, Ok, ap, subst, ◌∙◌, rules}
 use Rattle.instances_table.specs.Modules.{Module}
 use Rattle.swi_dispatch_modules.specs.instances.specs.Plans.{reinitialisation}
 use Rattle.swi_dispatch_modules.specs.instances.specs.Reading.{slot_meant}
@@ -6,6 +6,7 @@ use Rattle.swi_dispatch_modules.specs.instances.specs.instances_actions.specs.Re
 use Rattle.swi_dispatch_modules.specs.instances.proofs.NamedByCalls.{reinitialisation_names}
 use Rattle.swi_dispatch_plans.specs.Setting.{PlanParts, setting_in}
 use Rattle.swi_dispatch_plans.proofs.Beginning.{meant_begins}
+use Rattle.swi_dispatch_plans.specs.ModulePlans.{reinit_planned}
 use Rattle.swi_dispatch_plans.proofs.planner.Planner.reinit.Goals as goal
 
 pub returns-clause-begins : goal.returns-clause-begins
@@ -24,3 +25,19 @@ returns-clause-begins c =
     c.in_ok-slot.slot means makes (reinitialisation_names s.world.modules name text)
     c.in_ok-may_finalise.ensures.spared c.in_ok-may_finalise.ensures.free ready c.plan_reinit.ensures.rests
     c.plan_reinit.ensures.pending
+
+pub returns-in_err-words-clause-value : goal.returns-in_err-words-clause-value
+unfolding reinit_planned
+returns-in_err-words-clause-value c = search rules
+
+pub returns-in_err-slot-clause-value : goal.returns-in_err-slot-clause-value
+unfolding reinit_planned
+returns-in_err-slot-clause-value c = search rules
+
+pub returns-in_err-may_finalise-clause-value : goal.returns-in_err-may_finalise-clause-value
+unfolding reinit_planned
+returns-in_err-may_finalise-clause-value c = search rules
+
+pub returns-clause-value : goal.returns-clause-value
+unfolding reinit_planned
+returns-clause-value c = search rules
