@@ -2,8 +2,8 @@
 
 ghost use Rattle.std.specs.List.{flat_map};
 ghost use Rattle.profile.specs.Output.{Writes};
-ghost use Rattle.swi_dispatch.specs.Parts.{state_of};
 ghost use Rattle.debugger.specs.Areas.{area_text, areas_text, area_extent_text, pool_text};
+ghost use Rattle.swi_dispatch_guest.specs.Parts.{state_of};
 
 use itoa::Buffer;
 use profile::memory_map::PAGE_SIZE;
@@ -15,7 +15,7 @@ use swi_dispatch::dynamic_areas::Area;
 /// its size and its maximum in bytes, and then how many pages are in the pool, `pool 173 pages`.
 pub fn show_areas<W: Sink>(machine: &Machine, sink: &mut W) -> Result<(), WriteFault>
     ensures writes { Writes W.contents W.has_failed sink.old sink.new result
-        (areas_text (state_of machine.now).tables.land.areas (state_of machine.now).pool) }
+        (areas_text (state_of machine.now.guest).tables.land.areas (state_of machine.now.guest).pool) }
 {
     let areas = machine.areas();
     show_list(areas.list(), sink)?;
@@ -23,7 +23,6 @@ pub fn show_areas<W: Sink>(machine: &Machine, sink: &mut W) -> Result<(), WriteF
 }
 
 // A line for each area.
-#[tactic(auto, using(profile::proofs::OutputLemmas::output_steps))]
 fn show_list<W: Sink>(areas: &[Area], sink: &mut W) -> Result<(), WriteFault>
     ensures { Writes W.contents W.has_failed sink.old sink.new result (flat_map area_text areas.now) }
 {

@@ -2,8 +2,8 @@
 
 ghost use Rattle.address_map.specs.Memory.{bytes_of};
 ghost use Rattle.profile.specs.Output.{Writes};
-ghost use Rattle.swi_dispatch.specs.Parts.{state_of};
 ghost use Rattle.debugger.specs.Code.{line_address_text, code_line, code_text, word_text};
+ghost use Rattle.swi_dispatch_guest.specs.Parts.{state_of};
 
 use address_map::AddressMap;
 use assembler_text::disassemble;
@@ -19,12 +19,11 @@ pub fn show_code<W: Sink>(
     sink: &mut W,
 ) -> Result<(), WriteFault>
     ensures writes { Writes W.contents W.has_failed sink.old sink.new result
-        (code_text (state_of machine.now).store.bytes address count) }
+        (code_text (state_of machine.now.guest).store.bytes address count) }
 {
     show_words(machine.memory(), address, count, sink)
 }
 
-#[tactic(auto, using(crate::proofs::CodeLines::code_steps))]
 fn show_words<W: Sink>(
     memory: &AddressMap,
     address: u32,

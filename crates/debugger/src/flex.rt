@@ -5,8 +5,8 @@ ghost use Rattle.address_map.specs.Memory.{bytes_of};
 ghost use Rattle.swi_dispatch.specs.flex_store.specs.Listed.{all_listed};
 ghost use Rattle.swi_dispatch.specs.flex_store.specs.State.{flex_in, IsFlex};
 ghost use Rattle.profile.specs.Output.{Writes};
-ghost use Rattle.swi_dispatch.specs.Parts.{state_of};
 ghost use Rattle.debugger.specs.Flex.{flex_blocks_text, flex_text, holder_in, flex_holder_text, own_text, range_text};
+ghost use Rattle.swi_dispatch_guest.specs.Parts.{state_of};
 
 use address_map::AddressMap;
 use itoa::Buffer;
@@ -19,9 +19,9 @@ use swi_dispatch::flex_store::{Flex, FlexBlock, FlexBlocks};
 /// lies in the bytes of a block. Answers whether there is a store; nothing is written where there
 /// is none.
 pub fn show_flex<W: Sink>(machine: &Machine, sink: &mut W) -> Result<bool, WriteFault>
-    ensures found { let s = state_of machine.now in
+    ensures found { let s = state_of machine.now.guest in
         IfOk result (λ is_there. is_there ≡ is_some (flex_text s.store.bytes s.tables.flex)) }
-    ensures writes { let s = state_of machine.now in
+    ensures writes { let s = state_of machine.now.guest in
         Writes W.contents W.has_failed sink.old sink.new result
         (unwrap_or (flex_text s.store.bytes s.tables.flex) []) }
 {
@@ -62,7 +62,6 @@ fn show_range<W: Sink>(start: u32, end: u32, used: u32, sink: &mut W) -> Result<
 }
 
 // A line for each block.
-#[tactic(auto, using(profile::proofs::OutputLemmas::output_steps))]
 fn show_all<W: Sink>(flex: &Flex, memory: &AddressMap, sink: &mut W) -> Result<(), WriteFault>
     requires { IsFlex memory.now flex.now }
     ensures { Writes W.contents W.has_failed sink.old sink.new result

@@ -6,8 +6,8 @@ ghost use Rattle.profile.specs.Output.{Writes};
 ghost use Rattle.address_map.specs.Items.{size_of};
 ghost use Rattle.swi_dispatch.specs.os_heap.specs.Calls.{items_of};
 ghost use Rattle.swi_dispatch.specs.os_heap.specs.Store.{store_of, find_heap, IsSound};
-ghost use Rattle.swi_dispatch.specs.Parts.{state_of};
 ghost use Rattle.debugger.specs.Heap.{use_text, limits_text, heap_item_text, heap_items_text, heap_text, heap_blocks_text};
+ghost use Rattle.swi_dispatch_guest.specs.Parts.{state_of};
 
 use address_map::{AddressMap, Item};
 use itoa::Buffer;
@@ -26,9 +26,9 @@ const END: u32 = 12;
 /// none does.
 pub fn show_blocks<W: Sink>(machine: &Machine, heap: u32, sink: &mut W) -> Result<bool, WriteFault>
     ensures found { IfOk result (λ is_there. is_there ≡ is_some
-        (heap_blocks_text (state_of machine.now).store heap)) }
+        (heap_blocks_text (state_of machine.now.guest).store heap)) }
     ensures writes { Writes W.contents W.has_failed sink.old sink.new result
-        (unwrap_or (heap_blocks_text (state_of machine.now).store heap) []) }
+        (unwrap_or (heap_blocks_text (state_of machine.now.guest).store heap) []) }
 {
     let memory = machine.memory();
     let Some(blocks) = machine.heaps().blocks(memory, heap) else {
@@ -84,7 +84,6 @@ fn end_of(memory: &AddressMap, heap: u32) -> u32
 }
 
 // A line for each item, the first of them at the address.
-#[tactic(auto, using(crate::proofs::HeapLemmas::item_steps))]
 fn show_items<W: Sink>(start: u32, blocks: Blocks, sink: &mut W) -> Result<(), WriteFault>
     requires { start + size_of blocks ≤ 2 ^ 26 }
     ensures { Writes W.contents W.has_failed sink.old sink.new result (heap_items_text start blocks.entry) }

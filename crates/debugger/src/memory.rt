@@ -5,8 +5,8 @@ ghost use Rattle.address_map.specs.Bytes.{byte_loaded};
 ghost use Rattle.address_map.specs.Memory.{bytes_of};
 ghost use Rattle.profile.specs.Digits.{hex_digit};
 ghost use Rattle.profile.specs.Output.{Writes};
-ghost use Rattle.swi_dispatch.specs.Parts.{state_of};
 ghost use Rattle.debugger.specs.Memory.{loaded_text, byte_text, bytes_text, line_text, memory_text};
+ghost use Rattle.swi_dispatch_guest.specs.Parts.{state_of};
 
 use address_map::AddressMap;
 use profile::{HexText, Sink, WriteFault, push_all, push_parts};
@@ -18,7 +18,6 @@ const LINE_BYTES: u32 = 16;
 /// Writes `count` bytes of memory from an address on, 16 on a line, each line with the address of
 /// its first byte: `00009000: 48 65 61 70`. A byte where no memory is mapped is `--`. Addresses
 /// count modulo 2^32.
-#[tactic(auto, using(crate::proofs::MemoryLemmas::line_steps))]
 pub fn show_memory<W: Sink>(
     machine: &Machine,
     address: u32,
@@ -26,7 +25,7 @@ pub fn show_memory<W: Sink>(
     sink: &mut W,
 ) -> Result<(), WriteFault>
     ensures writes { Writes W.contents W.has_failed sink.old sink.new result
-        (memory_text (state_of machine.now).store.bytes address count) }
+        (memory_text (state_of machine.now.guest).store.bytes address count) }
 {
     let map = machine.memory();
     let mut at = address;
@@ -54,7 +53,6 @@ fn show_line<W: Sink>(
     push_all(sink, b"\n")
 }
 
-#[tactic(auto, using(crate::proofs::MemoryLemmas::byte_steps))]
 fn show_bytes<W: Sink>(
     map: &AddressMap,
     address: u32,

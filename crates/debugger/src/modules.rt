@@ -3,10 +3,10 @@
 ghost use Rattle.std.specs.Prelude.{◌≡◌, ◌<◌, slice_get};
 ghost use Rattle.address_map.specs.Memory.{bytes_of};
 ghost use Rattle.profile.specs.Output.{Writes};
-ghost use Rattle.swi_dispatch.specs.Parts.{state_of};
 ghost use Rattle.swi_dispatch.specs.instances_table.specs.Lookup.{told_of_place};
 ghost use Rattle.debugger.specs.Modules.{instance_line, instances_text, module_line, module_text, modules_text, one_text};
 ghost use Rattle.debugger.specs.Modules.{preferred_text};
+ghost use Rattle.swi_dispatch_guest.specs.Parts.{state_of};
 
 use address_map::AddressMap;
 use itoa::Buffer;
@@ -19,13 +19,13 @@ use swi_dispatch::instances::{InstanceInfo, Instances, ModuleInfo};
 /// a line for each of its instances, `  Base word 01C02000 00000000 preferred`, with the address of
 /// its private word and what stands there.
 pub fn show_modules<W: Sink>(machine: &Machine, sink: &mut W) -> Result<(), WriteFault>
-    ensures writes { let s = state_of machine.now in Writes W.contents W.has_failed sink.old sink.new result
+    ensures writes { let s = state_of machine.now.guest in
+        Writes W.contents W.has_failed sink.old sink.new result
         (modules_text s.store.bytes s.tables.modules) }
 {
     show_all(machine.instances(), machine.memory(), sink)
 }
 
-#[tactic(auto, using(crate::proofs::ModuleLemmas::module_steps))]
 fn show_all<W: Sink>(
     modules: &Instances,
     memory: &AddressMap,
@@ -76,7 +76,6 @@ fn show_title<W: Sink>(info: &ModuleInfo, sink: &mut W) -> Result<(), WriteFault
 }
 
 // A line for each instance of the module of a number.
-#[tactic(auto, using(crate::proofs::ModuleLemmas::instance_steps))]
 fn show_instances<W: Sink>(
     modules: &Instances,
     number: u32,

@@ -2,8 +2,8 @@
 
 ghost use Rattle.std.specs.Prelude.{◌≡◌, ◌≤◌};
 ghost use Rattle.profile.specs.Output.{Writes};
-ghost use Rattle.swi_dispatch.specs.Parts.{state_of};
 ghost use Rattle.debugger.specs.Registers.{register_label, row_text, status_text, cpu_registers_text, flag_letter, flag_letters, mode_text};
+ghost use Rattle.swi_dispatch_guest.specs.Parts.{state_of};
 
 use profile::{HexText, Sink, WriteFault, push_parts};
 use swi_dispatch::Machine;
@@ -13,7 +13,7 @@ use swi_dispatch::arm_step::{Cpu, Mode, Psr};
 /// set flag stands in capitals.
 pub fn show_regs<W: Sink>(machine: &Machine, sink: &mut W) -> Result<(), WriteFault>
     ensures writes { Writes W.contents W.has_failed sink.old sink.new result
-        (cpu_registers_text (state_of machine.now).cpu) }
+        (cpu_registers_text (state_of machine.now.guest).cpu) }
 {
     show_core(machine.cpu(), sink)
 }
@@ -29,7 +29,6 @@ fn show_core<W: Sink>(cpu: &Cpu, sink: &mut W) -> Result<(), WriteFault>
 }
 
 // Four registers from the `first` on.
-#[tactic(auto, unfolding(crate::specs::Registers::row_text))]
 fn show_row<W: Sink>(cpu: &Cpu, first: u32, sink: &mut W) -> Result<(), WriteFault>
     requires { first ≤ 12 }
     ensures { Writes W.contents W.has_failed sink.old sink.new result (row_text cpu.now first) }
@@ -53,7 +52,6 @@ fn show_row<W: Sink>(cpu: &Cpu, first: u32, sink: &mut W) -> Result<(), WriteFau
     )
 }
 
-#[tactic(auto, unfolding(crate::specs::Registers::status_text))]
 fn show_status<W: Sink>(psr: Psr, sink: &mut W) -> Result<(), WriteFault>
     ensures { Writes W.contents W.has_failed sink.old sink.new result (status_text psr) }
 {

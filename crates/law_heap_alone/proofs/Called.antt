@@ -30,12 +30,12 @@ use Rattle.swi_dispatch_answers.specs.declared.refusal.Refusal.TheVariants as re
 use Rattle.swi_dispatch_flex.specs.Calls.{flex_called, state_in}
 use Rattle.swi_dispatch_store.specs.Areas.{area_called, area_changed, area_read, change_asked, with_extent}
 use Rattle.swi_dispatch_store.specs.Heaps.{heap_called, heap_called_for}
-use Rattle.swi_dispatch.specs.declared.halt.Halt.TheVariants as halt
-use Rattle.swi_dispatch.specs.Answers.{Answer, refusal_answer, went_on}
-use Rattle.swi_dispatch.specs.Calls.{call_answer, machine_flex, on_estate, on_flex, on_store, printable_at, with_guest, wrote_text_after, wrote_text_at}
-use Rattle.swi_dispatch.specs.MachineState.{MachineState, StepOutcome, machine_estate, quiet}
-use Rattle.swi_dispatch.specs.Returns.{outcome_of_halt}
-use Rattle.swi_dispatch.specs.Step.{call_of, call_refused, outcome_of_call, called_by, outcome_of_answer, handler_entered, is_exit, outcome_of_module_swi as handler_called}
+use Rattle.swi_dispatch_guest.specs.declared.halt.Halt.TheVariants as halt
+use Rattle.swi_dispatch_guest.specs.Answers.{Answer, refusal_answer, went_on}
+use Rattle.swi_dispatch_guest.specs.Calls.{call_answer, machine_flex, on_estate, on_flex, on_store, printable_at, with_guest, wrote_text_after, wrote_text_at}
+use Rattle.swi_dispatch_guest.specs.MachineState.{MachineState, StepOutcome, machine_estate, quiet}
+use Rattle.swi_dispatch_guest.specs.Returns.{outcome_of_halt}
+use Rattle.swi_dispatch_guest.specs.Step.{call_of, call_refused, outcome_of_call, called_by, outcome_of_answer, handler_entered, is_exit, outcome_of_module_swi as handler_called}
 use Rattle.law_heap_alone.proofs.HeapAnswers.{Agree, heap_agrees}
 use Rattle.law_heap_alone.proofs.Keeping.{AnswerKeeps, IsOffSystem, KeepsWhole, Went, ended_keeps, off_system}
 use Rattle.law_heap_alone.proofs.Rows.{NamesNone, area_went, change_keeps, flex_went, is_flex_call}

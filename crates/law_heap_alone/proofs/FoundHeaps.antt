@@ -1,6 +1,6 @@
 -- Which heaps are recorded after a move.
 use Rattle.profile.specs.MemoryMap.{module_area_start}
-use Rattle.swi_dispatch.specs.Moves.{Call, Step, core_of, machine_with_words, machine_after_move, outside_name, swi_made, swi_of_turn}
+use Rattle.swi_dispatch_guest.specs.Moves.{Call, Step, core_of, machine_with_words, machine_after_move, outside_name, swi_made, swi_of_turn}
 use Rattle.std.proofs.Common.{ℕ, ◌≡◌, ◌≢◌, ◌+◌, ◌%◌, ◌^◌, ◌==◌, ◌||◌, ◌∙◌, Bool, true, false, length, List, is_some, Option, Some, None, Result, Ok, Err, refl, sym, ap, subst, inl, inr, if◌then◌else◌}
 use Rattle.std.proofs.lemmas.Bool.{both_ways, cases_Bool, false_from_ne_true, false≢true, or_parts, true≢false}
 use Rattle.profile.specs.Outcome.{bind}
@@ -37,13 +37,13 @@ use Rattle.swi_dispatch_answers.specs.declared.refusal.Refusal.TheVariants as re
 use Rattle.swi_dispatch_flex.specs.Calls.{fit_told, flex_called, memory_after_flex, state_in}
 use Rattle.swi_dispatch_store.specs.Areas.{area_called, area_changed, area_read, with_extent}
 use Rattle.swi_dispatch_store.specs.Heaps.{heap_called, heap_called_for}
-use Rattle.swi_dispatch.specs.declared.halt.Halt.TheVariants as halt
-use Rattle.swi_dispatch.proofs.NextTurn.{awake_step, outside_call}
-use Rattle.swi_dispatch.specs.Answers.{Answer, refusal_answer, went_on}
-use Rattle.swi_dispatch.specs.Calls.{call_answer, machine_flex, on_estate, on_flex, on_store, printable_at, with_guest, wrote_text_after, wrote_text_at}
-use Rattle.swi_dispatch.specs.MachineState.{MachineState, StepOutcome, machine_estate, quiet}
-use Rattle.swi_dispatch.specs.Returns.{outcome_of_halt}
-use Rattle.swi_dispatch.specs.Step.{call_of, call_refused, outcome_of_call, called_by, outcome_of_answer, outcome_of_end, handler_entered, result_of_instruction, is_exit, outcome_of_module_swi as handler_called, outcome_of_turn, without_x}
+use Rattle.swi_dispatch_guest.specs.declared.halt.Halt.TheVariants as halt
+use Rattle.swi_dispatch_guest.proofs.NextTurn.{awake_step, outside_call}
+use Rattle.swi_dispatch_guest.specs.Answers.{Answer, refusal_answer, went_on}
+use Rattle.swi_dispatch_guest.specs.Calls.{call_answer, machine_flex, on_estate, on_flex, on_store, printable_at, with_guest, wrote_text_after, wrote_text_at}
+use Rattle.swi_dispatch_guest.specs.MachineState.{MachineState, StepOutcome, machine_estate, quiet}
+use Rattle.swi_dispatch_guest.specs.Returns.{outcome_of_halt}
+use Rattle.swi_dispatch_guest.specs.Step.{call_of, call_refused, outcome_of_call, called_by, outcome_of_answer, outcome_of_end, handler_entered, result_of_instruction, is_exit, outcome_of_module_swi as handler_called, outcome_of_turn, without_x}
 use Rattle.law_heap_alone.proofs.HeapAnswers.{Agree, heap_agrees}
 use Rattle.law_heap_alone.proofs.LiveBytes.{call_goes}
 use Rattle.law_heap_alone.proofs.ModuleMoves.{module_moves_keep}

@@ -16,11 +16,11 @@ use Rattle.law_heap_calls.specs.Laws.{IsLeftWhole, KeepsHeap}
 use Rattle.swi_dispatch_answers.specs.Errors.{memory_with_error}
 use Rattle.swi_dispatch_answers.specs.declared.refusal.Refusal.{Refusal}
 use Rattle.swi_dispatch_answers.specs.declared.refusal.Refusal.TheVariants as refusal
-use Rattle.swi_dispatch.proofs.Kept.{outside_bytes, outside_word, short_name}
-use Rattle.swi_dispatch.specs.Answers.{Answer}
-use Rattle.swi_dispatch.specs.Errors.{with_error}
-use Rattle.swi_dispatch.specs.MachineState.{MachineState}
-use Rattle.swi_dispatch.specs.Step.{outcome_of_answer, outcome_of_end}
+use Rattle.swi_dispatch_guest.proofs.Kept.{outside_bytes, outside_word, short_name}
+use Rattle.swi_dispatch_guest.specs.Answers.{Answer}
+use Rattle.swi_dispatch_guest.specs.Errors.{with_error}
+use Rattle.swi_dispatch_guest.specs.MachineState.{MachineState}
+use Rattle.swi_dispatch_guest.specs.Step.{outcome_of_answer, outcome_of_end}
 use Rattle.law_heap_alone.proofs.States.{HasStore, sound_store}
 use Rattle.law_heap_alone.specs.Laws.{alone_at}
 use Rattle.law_heap_frame.proofs.Areas.{heap_same}

@@ -1,5 +1,5 @@
 -- Lists of moves: by their first move, and the others from the state that it leaves.
-use Rattle.swi_dispatch.specs.Moves.{Move, machine_after_move, moved_all}
+use Rattle.swi_dispatch_guest.specs.Moves.{Move, machine_after_move, moved_all}
 use Rattle.std.proofs.Common.{ℕ, ◌≡◌, ◌++◌, ◌∙◌, Bool, true, false, List, [], ◌∷◌, Some, refl, sym, ap, subst, inl, inr, if◌then◌else◌}
 use Rattle.std.proofs.lemmas.Bool.{cases_Bool}
 use Rattle.image_loader.specs.Entries.{Entry}
@@ -8,7 +8,7 @@ use Rattle.law_heap_calls.specs.Alone.{Alone, HeapCall, alone_in}
 use Rattle.law_heap_calls.proofs.NoHeapInside.{whole_alone}
 use Rattle.law_heap_calls.specs.Laws.{KeepsHeap}
 use Rattle.law_heap_calls.specs.Turns.{Reply, heap_after_calls, replies, turn_of_call}
-use Rattle.swi_dispatch.specs.MachineState.{MachineState}
+use Rattle.swi_dispatch_guest.specs.MachineState.{MachineState}
 use Rattle.law_heap_alone.proofs.Keeping.{found_alone, kept_alone}
 use Rattle.law_heap_alone.proofs.OwnCalls.{OwnCall, Stands, own_call}
 use Rattle.law_heap_alone.proofs.Steps.{move_keeps}

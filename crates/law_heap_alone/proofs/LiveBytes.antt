@@ -1,6 +1,6 @@
 -- Instructions change the bytes that they store to, and calls of OS_Heap none that live blocks hold
 -- but those of the heap called.
-use Rattle.swi_dispatch.specs.Moves.{Call, Step, machine_with_words, machine_after_move, swi_of_turn}
+use Rattle.swi_dispatch_guest.specs.Moves.{Call, Step, machine_with_words, machine_after_move, swi_of_turn}
 use Rattle.std.proofs.Common.{ℕ, ◌≡◌, ◌≢◌, ◌==◌, ◌≤◌, ◌<◌, ◌-◌, ◌+◌, ◌%◌, ◌^◌, ◌∙◌, ◌⊎◌, Bool, true, false, List, Option, Some, None, Result, Ok, Err, refl, sym, ap, subst, inl, inr, arith, if◌then◌else◌}
 use Rattle.std.proofs.lemmas.Bool.{and_parts, cases_Bool, eqb-true, false_from_ne_true, false≢true, le-leb, lt-ltb}
 use Rattle.profile.specs.Outcome.{bind}
@@ -35,15 +35,15 @@ use Rattle.law_heap_calls.specs.Lists.{is_call_to, is_on_heap}
 use Rattle.law_heap_calls.specs.Turns.{call_on}
 use Rattle.swi_dispatch_answers.specs.declared.refusal.Refusal.{Refusal}
 use Rattle.swi_dispatch_store.specs.Heaps.{heap_called, heap_called_for}
-use Rattle.swi_dispatch.proofs.Kept.{by_words}
-use Rattle.swi_dispatch.proofs.NextTurn.{awake_step, outside_call}
-use Rattle.swi_dispatch.specs.declared.halt.Halt.TheVariants as halt
-use Rattle.swi_dispatch.specs.Answers.{went_on}
-use Rattle.swi_dispatch.specs.Calls.{call_answer, on_store}
-use Rattle.swi_dispatch.specs.Errors.{with_error}
-use Rattle.swi_dispatch.specs.MachineState.{MachineState, StepOutcome}
-use Rattle.swi_dispatch.specs.Returns.{outcome_of_halt}
-use Rattle.swi_dispatch.specs.Step.{outcome_of_call, called_by, outcome_of_answer, result_of_instruction, is_exit, machine_step, store_called, outcome_of_turn, without_x}
+use Rattle.swi_dispatch_guest.proofs.Kept.{by_words}
+use Rattle.swi_dispatch_guest.proofs.NextTurn.{awake_step, outside_call}
+use Rattle.swi_dispatch_guest.specs.declared.halt.Halt.TheVariants as halt
+use Rattle.swi_dispatch_guest.specs.Answers.{went_on}
+use Rattle.swi_dispatch_guest.specs.Calls.{call_answer, on_store}
+use Rattle.swi_dispatch_guest.specs.Errors.{with_error}
+use Rattle.swi_dispatch_guest.specs.MachineState.{MachineState, StepOutcome}
+use Rattle.swi_dispatch_guest.specs.Returns.{outcome_of_halt}
+use Rattle.swi_dispatch_guest.specs.Step.{outcome_of_call, called_by, outcome_of_answer, result_of_instruction, is_exit, machine_step, store_called, outcome_of_turn, without_x}
 use Rattle.law_heap_alone.proofs.HeapAnswers.{Agree, heap_agrees}
 use Rattle.law_heap_alone.proofs.Keeping.{error_kept, off_system}
 use Rattle.law_heap_alone.proofs.States.{HasStore, IsGiven, given_goes, given_same, given_stays, given_store, has_store, sound_store}

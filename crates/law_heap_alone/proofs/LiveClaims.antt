@@ -17,11 +17,11 @@ use Rattle.module_world.specs.World.{World}
 use Rattle.swi_dispatch_answers.specs.Refusals.{or_error}
 use Rattle.swi_dispatch_answers.specs.declared.refusal.Refusal.{Refusal}
 use Rattle.swi_dispatch_modules.specs.Calls.{result_of_module_call as area_called, module_called_for as area_called_for}
-use Rattle.swi_dispatch.specs.Answers.{went_on}
-use Rattle.swi_dispatch.specs.Calls.{call_answer, on_world}
-use Rattle.swi_dispatch.specs.Errors.{with_error}
-use Rattle.swi_dispatch.specs.MachineState.{MachineState, machine_estate, machine_world}
-use Rattle.swi_dispatch.specs.Step.{outcome_of_answer, os_module_called, os_module_called_for}
+use Rattle.swi_dispatch_guest.specs.Answers.{went_on}
+use Rattle.swi_dispatch_guest.specs.Calls.{call_answer, on_world}
+use Rattle.swi_dispatch_guest.specs.Errors.{with_error}
+use Rattle.swi_dispatch_guest.specs.MachineState.{MachineState, machine_estate, machine_world}
+use Rattle.swi_dispatch_guest.specs.Step.{outcome_of_answer, os_module_called, os_module_called_for}
 use Rattle.law_heap_frame.proofs.Areas.{heap_same}
 use Rattle.law_heap_frame.proofs.BlockCalls.{block_calls_keep}
 use Rattle.law_heap_frame.proofs.Guests.{estates_fit}
@@ -31,7 +31,7 @@ use Rattle.law_heap_alone.proofs.Keeping.{error_kept, off_system}
 use Rattle.law_heap_alone.proofs.LiveBytes.{payload_inside}
 use Rattle.law_heap_alone.proofs.States.{HasStore, IsGiven, given_same, given_stays, given_store, has_store, sound_store}
 use Rattle.law_heap_alone.specs.AreaByteLaws.{ClaimsKeepLiveBytes, KeepsAreaBlocks}
-use Rattle.swi_dispatch.specs.Moves.{machine_with_words}
+use Rattle.swi_dispatch_guest.specs.Moves.{machine_with_words}
 
 stay_same : (s t : Store) → StayLive s t → KeepsAreaBlocks s t
 stay_same s t stay h g block total new_total a found found' live live' here there = (stay block total (ap (total_in block) found ∙ live)).1 a here

@@ -1,6 +1,6 @@
 -- Over any move, the blocks of a heap that a guest made, and in which no heap lies or is made, keep
 -- what they hold, but for what an instruction stores.
-use Rattle.swi_dispatch.specs.Moves.{Call, Step, machine_with_words, machine_after_move, swi_of_turn}
+use Rattle.swi_dispatch_guest.specs.Moves.{Call, Step, machine_with_words, machine_after_move, swi_of_turn}
 use Rattle.std.proofs.Common.{ℕ, ◌≡◌, ◌≢◌, ◌-◌, ◌+◌, ◌%◌, ◌^◌, ◌∙◌, ◌⊎◌, Bool, true, false, List, Option, Some, Result, Ok, Err, refl, sym, ap, subst, inl, inr}
 use Rattle.std.proofs.lemmas.Bool.{cases_Bool, cases_eq, true≢false}
 use Rattle.profile.specs.SwiNames.{swi_of}
@@ -18,9 +18,9 @@ use Rattle.os_heap.specs.Calls.{OfHeap, has_own_size}
 use Rattle.os_heap.specs.Store.{IsSound, Store, find_heap}
 use Rattle.law_heap_calls.proofs.NoHeapInside.{whole_recorded}
 use Rattle.law_heap_calls.specs.Laws.{HeapHasNoAnchor, HoldsNoHeap, IsLeftWhole}
-use Rattle.swi_dispatch.proofs.NextTurn.{awake_step, outside_call}
-use Rattle.swi_dispatch.specs.MachineState.{MachineState, StepOutcome}
-use Rattle.swi_dispatch.specs.Step.{outcome_of_call, result_of_instruction, machine_step, store_called, outcome_of_turn, without_x}
+use Rattle.swi_dispatch_guest.proofs.NextTurn.{awake_step, outside_call}
+use Rattle.swi_dispatch_guest.specs.MachineState.{MachineState, StepOutcome}
+use Rattle.swi_dispatch_guest.specs.Step.{outcome_of_call, result_of_instruction, machine_step, store_called, outcome_of_turn, without_x}
 use Rattle.law_heap_alone.proofs.Gates.{gate_keeps}
 use Rattle.law_heap_alone.proofs.LiveBytes.{byte_done, heap_call_leaves, payload_inside}
 use Rattle.law_heap_alone.proofs.ModuleHosts.{IsHost}

@@ -20,11 +20,11 @@ use Rattle.module_tidy.specs.Slid.{world_slid}
 use Rattle.instances_table.specs.Modules.{AreModules}
 use Rattle.swi_dispatch_frames.specs.declared.call.Call.{Call}
 use Rattle.swi_dispatch_plans.specs.Trials.{world_carried}
-use Rattle.swi_dispatch.specs.Gates.{call_ended_by, carried_on, ended_of, entered_if, entered_with, state_after_plan, state_with_code_entered}
-use Rattle.swi_dispatch.specs.MachineState.{MachineState, machine_estate, machine_world}
-use Rattle.swi_dispatch.specs.ModuleStart.{opened_at}
-use Rattle.swi_dispatch.specs.Parts.{IsMachine, Parts, state_of}
-use Rattle.swi_dispatch.specs.Returns.{gone_back}
+use Rattle.swi_dispatch_guest.specs.Gates.{call_ended_by, carried_on, ended_of, entered_if, entered_with, state_after_plan, state_with_code_entered}
+use Rattle.swi_dispatch_guest.specs.MachineState.{MachineState, machine_estate, machine_world}
+use Rattle.swi_dispatch_guest.specs.ModuleStart.{opened_at}
+use Rattle.swi_dispatch_guest.specs.Parts.{IsGuest, IsState, Parts, state_of}
+use Rattle.swi_dispatch_guest.specs.Returns.{gone_back}
 use Rattle.law_heap_frame.proofs.Guests.{estates_fit, outside_keeps}
 use Rattle.law_heap_frame.proofs.Holding.{keeps_all, keeps_both}
 use Rattle.law_heap_frame.proofs.Plans.{plans_fit}
@@ -37,7 +37,6 @@ use Rattle.law_heap_calls.specs.Laws.{IsNotForgotten, KeepsHeap}
 use Rattle.law_heap_alone.proofs.Keeping.{IsOffSystem, off_system}
 use Rattle.law_heap_alone.proofs.ModulePlans.{IsFitPlan}
 use Rattle.law_heap_alone.proofs.States.{HasStore, IsGiven, given_store, has_store, with_cpu}
-use Rattle.swi_dispatch.specs.Moves.{IsState}
 
 -- what a machine has of modules and of what is left of a call on them
 pub record HasModules (s : MachineState) : Type 0 where
@@ -46,7 +45,7 @@ pub record HasModules (s : MachineState) : Type 0 where
   pub going : MayGoOn (machine_world s) s.tables.plan
   pub text : IfSome s.tables.plan (λ (plan : Plan). length plan.given.text.items ≤ 255)
 
-parts_modules : (p : Parts) → IsMachine p → HasStore (state_of p) → HasModules (state_of p)
+parts_modules : (p : Parts) → IsGuest p → HasStore (state_of p) → HasModules (state_of p)
 parts_modules p machine store = record {
   store = store;
   modules = machine.modules;

@@ -7,17 +7,17 @@ use Rattle.os_heap_lists.specs.Heap.{HeapList}
 use Rattle.os_heap.specs.Store.{Store, find_heap}
 use Rattle.law_heap_calls.specs.Laws.{KeepsHeap}
 use Rattle.swi_dispatch_answers.specs.Words.{host_string}
-use Rattle.swi_dispatch.specs.declared.halt.Halt.{Halt}
-use Rattle.swi_dispatch.specs.Additions.{load_planned}
-use Rattle.swi_dispatch.specs.MachineState.{MachineState, StepOutcome}
-use Rattle.swi_dispatch.specs.Step.{outcome_of_planned, outcome_of_module_swi, module_loaded, os_module_called, unless_halted}
+use Rattle.swi_dispatch_guest.specs.declared.halt.Halt.{Halt}
+use Rattle.swi_dispatch_guest.specs.Additions.{load_planned}
+use Rattle.swi_dispatch_guest.specs.MachineState.{MachineState, StepOutcome}
+use Rattle.swi_dispatch_guest.specs.Step.{outcome_of_planned, outcome_of_module_swi, module_loaded, os_module_called, unless_halted}
 use Rattle.law_heap_alone.proofs.Gates.{gate_keeps}
 use Rattle.law_heap_alone.proofs.ModuleCalls.{loaded_keeps, module_swi_keeps, os_module_keeps}
 use Rattle.law_heap_alone.proofs.ModuleHosts.{HasModules, IsHost, KeepsRecorded, given_modules, has_modules}
 use Rattle.law_heap_alone.proofs.States.{IsGiven, given_goes, given_same, given_stays}
 use Rattle.law_heap_alone.specs.Laws.{HasHeap}
 use Rattle.law_heap_alone.specs.ModuleLaws.{GatesKeepHeap, HasAnyHeap, LoadsKeepHeap, ModuleCallsKeepHeap, ModuleSwisKeepHeap}
-use Rattle.swi_dispatch.specs.Moves.{machine_with_words}
+use Rattle.swi_dispatch_guest.specs.Moves.{machine_with_words}
 use Rattle.law_heap_frame.proofs.Areas.{heap_same}
 
 pub any_heap : (s : MachineState) (h : HeapList) → HasHeap s h → HasAnyHeap s h

@@ -13,18 +13,18 @@ use Rattle.arm_core.specs.declared.turn.Turn.TheVariants as turn
 use Rattle.image_loader.specs.Entries.{Entry}
 use Rattle.os_heap_lists.specs.Heap.{HeapList}
 use Rattle.os_heap.specs.Store.{Store}
-use Rattle.swi_dispatch.specs.declared.halt.Halt.{Halt}
-use Rattle.swi_dispatch.specs.declared.halt.Halt.TheVariants as halt
-use Rattle.swi_dispatch.specs.MachineState.{MachineState}
-use Rattle.swi_dispatch.specs.Returns.{outcome_of_halt}
-use Rattle.swi_dispatch.specs.Step.{outcome_of_call, called_by, result_of_instruction, is_exit, machine_step, store_called, outcome_of_turn, unless_halted, without_x}
+use Rattle.swi_dispatch_guest.specs.declared.halt.Halt.{Halt}
+use Rattle.swi_dispatch_guest.specs.declared.halt.Halt.TheVariants as halt
+use Rattle.swi_dispatch_guest.specs.MachineState.{MachineState}
+use Rattle.swi_dispatch_guest.specs.Returns.{outcome_of_halt}
+use Rattle.swi_dispatch_guest.specs.Step.{outcome_of_call, called_by, result_of_instruction, is_exit, machine_step, store_called, outcome_of_turn, unless_halted, without_x}
 use Rattle.law_heap_alone.proofs.Gates.{gate_keeps}
 use Rattle.law_heap_alone.proofs.ModuleCalls.{os_module_keeps}
 use Rattle.law_heap_alone.proofs.ModuleHosts.{IsHost, KeepsRecorded}
 use Rattle.law_heap_alone.proofs.ModuleLaws.{IsAsked, asked, host}
 use Rattle.law_heap_alone.specs.ModuleLaws.{ModuleMovesKeepHeap}
 use Rattle.law_heap_alone.specs.ModuleMoves.{is_at_gate, is_module_name}
-use Rattle.swi_dispatch.specs.Moves.{Call, Step, machine_with_words, swi_of_turn}
+use Rattle.swi_dispatch_guest.specs.Moves.{Call, Step, machine_with_words, swi_of_turn}
 
 module _ (images : List Entry) (s : MachineState) (h : HeapList) (here : IsHost s h) where
   named_keeps : (x : Bool) (next number : ℕ) (name : Option SwiName) → is_module_name name ≡ true

@@ -1,6 +1,6 @@
 -- An own call of the heap answers one turn of it, and leaves what the turn leaves.
-use Rattle.swi_dispatch.specs.Moves.{Call, IsState, Move, Step, machine_with_words, machine_after_move, outside_name}
-use Rattle.swi_dispatch.proofs.NextTurn.{outside_call}
+use Rattle.swi_dispatch_guest.specs.Moves.{Call, Move, Step, machine_with_words, machine_after_move, outside_name}
+use Rattle.swi_dispatch_guest.proofs.NextTurn.{outside_call}
 use Rattle.std.proofs.Common.{ℕ, ◌≡◌, ◌==◌, ◌∙◌, ◌%◌, ◌^◌, Bool, true, false, List, [], ◌∷◌, Option, Some, None, Result, Ok, Err, refl, sym, ap, subst, if◌then◌else◌}
 use Rattle.std.proofs.lemmas.Bool.{and_parts, eqb-true, false≢true}
 use Rattle.profile.specs.Reasons.{heap_reason}
@@ -23,14 +23,15 @@ use Rattle.law_heap_calls.specs.Turns.{Answered, Refused, HeapTurn, alone_or, ca
 use Rattle.swi_dispatch_answers.specs.declared.refusal.Refusal.{Refusal}
 use Rattle.swi_dispatch_answers.specs.declared.refusal.Refusal.TheVariants as refusal
 use Rattle.swi_dispatch_store.specs.Heaps.{heap_called, heap_called_for}
-use Rattle.swi_dispatch.proofs.ErrorNumbers.{block_read}
-use Rattle.swi_dispatch.specs.declared.halt.Halt.TheVariants as halt
-use Rattle.swi_dispatch.specs.Answers.{went_on}
-use Rattle.swi_dispatch.specs.Calls.{call_answer, on_store}
-use Rattle.swi_dispatch.specs.Errors.{error_number, with_error}
-use Rattle.swi_dispatch.specs.MachineState.{MachineState, StepOutcome}
-use Rattle.swi_dispatch.specs.Returns.{outcome_of_halt}
-use Rattle.swi_dispatch.specs.Step.{outcome_of_call, called_by, outcome_of_answer, is_exit, without_x}
+use Rattle.swi_dispatch_guest.proofs.ErrorNumbers.{block_read}
+use Rattle.swi_dispatch_guest.specs.declared.halt.Halt.TheVariants as halt
+use Rattle.swi_dispatch_guest.specs.Answers.{went_on}
+use Rattle.swi_dispatch_guest.specs.Calls.{call_answer, on_store}
+use Rattle.swi_dispatch_guest.specs.Errors.{error_number, with_error}
+use Rattle.swi_dispatch_guest.specs.MachineState.{MachineState, StepOutcome}
+use Rattle.swi_dispatch_guest.specs.Returns.{outcome_of_halt}
+use Rattle.swi_dispatch_guest.specs.Step.{outcome_of_call, called_by, outcome_of_answer, is_exit, without_x}
+use Rattle.swi_dispatch_guest.specs.Parts.{IsState}
 use Rattle.law_heap_alone.proofs.HeapAnswers.{Agree, heap_agrees, overflow_back, three_back, two_back}
 use Rattle.law_heap_alone.proofs.Keeping.{error_kept, kept_alone, off_system}
 use Rattle.law_heap_alone.proofs.States.{HasStore, IsGiven, given_goes, given_same, given_stays, given_store, guest_heap, has_store, mapped_block}

@@ -31,8 +31,8 @@ use Rattle.swi_dispatch_plans.specs.ModulePlans.{clear_planned, delete_planned, 
 use Rattle.swi_dispatch_plans.specs.Openings.{opening_asked}
 use Rattle.swi_dispatch_plans.specs.Setting.{Setting, string_asked}
 use Rattle.swi_dispatch_plans.specs.declared.openings.Opening.{Opening}
-use Rattle.swi_dispatch.specs.Additions.{Planned, copy_planned, insertion_planned, load_planned, named_load_planned, plan_alone, planned_of}
-use Rattle.swi_dispatch.specs.MachineState.{MachineState, machine_world, setting_of}
+use Rattle.swi_dispatch_guest.specs.Additions.{Planned, copy_planned, insertion_planned, load_planned, named_load_planned, plan_alone, planned_of}
+use Rattle.swi_dispatch_guest.specs.MachineState.{MachineState, machine_world, setting_of}
 use Rattle.law_heap_frame.proofs.ModuleArea.{fit_same, module_area_calls_fit}
 use Rattle.law_heap_frame.proofs.Words.{writes_fit}
 use Rattle.law_heap_frame.specs.FitEstates.{EstateStaysFit, IsFitEstate}

@@ -37,8 +37,8 @@ use Rattle.swi_dispatch_answers.specs.Strings.{string_at}
 use Rattle.swi_dispatch_answers.specs.declared.refusal.Refusal.{Refusal}
 use Rattle.swi_dispatch_flex.specs.Calls.{fit_told, flex_called, memory_after_flex as memory_left}
 use Rattle.swi_dispatch_store.specs.Areas.{area_called_for, area_changed, area_made, area_named, area_resized, change_asked, change_left, wanted_of, with_land}
-use Rattle.swi_dispatch.specs.Calls.{machine_flex, on_estate, on_flex, with_guest}
-use Rattle.swi_dispatch.specs.MachineState.{MachineState, machine_estate}
+use Rattle.swi_dispatch_guest.specs.Calls.{machine_flex, on_estate, on_flex, with_guest}
+use Rattle.swi_dispatch_guest.specs.MachineState.{MachineState, machine_estate}
 use Rattle.law_heap_alone.proofs.Keeping.{Went}
 use Rattle.law_heap_alone.proofs.States.{HasStore, sound_store, stores_in}
 

@@ -18,13 +18,13 @@ use Rattle.law_sliding.specs.Meaning.{AreStores, Stores}
 use Rattle.swi_dispatch_plans.specs.instances.specs.Turns.{MayGoOn}
 use Rattle.swi_dispatch_plans.specs.instances.specs.instances_actions.specs.Pending.{is_pending, pending_of}
 use Rattle.law_heap_calls.specs.Laws.{AreImagesFull, IsGuestHeap}
-use Rattle.swi_dispatch.proofs.FlexCalls.{pending_one}
-use Rattle.swi_dispatch.specs.Boot.{machine_with_register}
-use Rattle.swi_dispatch.specs.MachineState.{MachineState, machine_estate, machine_world}
-use Rattle.swi_dispatch.specs.Parts.{IsMachine, Parts, parts_world, state_of}
+use Rattle.swi_dispatch_guest.proofs.FlexCalls.{pending_one}
+use Rattle.swi_dispatch_guest.specs.MachineState.{MachineState, machine_estate, machine_world}
+use Rattle.swi_dispatch_guest.specs.Parts.{IsGuest, IsState, Parts, parts_world, state_of}
 use Rattle.law_heap_alone.proofs.HeapAnswers.{set_length}
 use Rattle.law_heap_alone.specs.Laws.{HasHeap}
-use Rattle.swi_dispatch.specs.Moves.{IsState, with_registers}
+use Rattle.swi_dispatch_guest.specs.Moves.{with_registers}
+use Rattle.swi_dispatch_guest.specs.Writes.{machine_with_register}
 
 -- what flex calls act on
 abbrev pub stores_in : MachineState → List Image → Stores
@@ -65,7 +65,7 @@ stores_by p (Some q) going flex modules =
     machines_have p.map p.tables.land p.tables.modules (pending_of q) p.tables.flex going.1.world flex modules
     (pending_one (is_pending q.actions) q.given)
 
-parts_store : (p : Parts) → IsMachine p → HasStore (state_of p)
+parts_store : (p : Parts) → IsGuest p → HasStore (state_of p)
 parts_store p machine = record {
   estate = machine.well_formed.areas;
   system = machine.well_formed.system;

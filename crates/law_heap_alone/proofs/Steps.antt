@@ -1,5 +1,5 @@
 -- What a move that isn't a call on a heap leaves of it: all of it, where it leaves it whole.
-use Rattle.swi_dispatch.specs.Moves.{Call, Move, Step, machine_with_words, machine_after_move, outside_name, swi_of_turn}
+use Rattle.swi_dispatch_guest.specs.Moves.{Call, Move, Step, machine_with_words, machine_after_move, outside_name, swi_of_turn}
 use Rattle.std.proofs.Common.{ℕ, ◌≡◌, ◌≢◌, ◌+◌, ◌%◌, ◌^◌, ◌==◌, ◌&&◌, ◌∙◌, Bool, true, false, List, Option, Some, None, Result, Ok, Err, refl, sym, ap, subst, inl, inr}
 use Rattle.std.proofs.lemmas.Bool.{and_parts, cases_Bool, eqb-true, false_from_ne_true}
 use Rattle.profile.specs.Reasons.{heap_reason}
@@ -18,9 +18,9 @@ use Rattle.os_heap.specs.Calls.{has_own_size}
 use Rattle.os_heap.specs.Store.{IsSound, Store, find_heap, owned_in}
 use Rattle.law_heap_calls.proofs.NoHeapInside.{whole_recorded}
 use Rattle.law_heap_calls.specs.Laws.{HeapHasNoAnchor, IsLeftWhole, KeepsHeap}
-use Rattle.swi_dispatch.proofs.NextTurn.{awake_step, outside_call}
-use Rattle.swi_dispatch.specs.MachineState.{MachineState, StepOutcome}
-use Rattle.swi_dispatch.specs.Step.{outcome_of_call, result_of_instruction, machine_step, store_called, outcome_of_turn, without_x}
+use Rattle.swi_dispatch_guest.proofs.NextTurn.{awake_step, outside_call}
+use Rattle.swi_dispatch_guest.specs.MachineState.{MachineState, StepOutcome}
+use Rattle.swi_dispatch_guest.specs.Step.{outcome_of_call, result_of_instruction, machine_step, store_called, outcome_of_turn, without_x}
 use Rattle.law_heap_alone.proofs.Called.{IsElsewhere, IsHeapElsewhere, called_keeps}
 use Rattle.law_heap_alone.proofs.Gates.{gate_keeps}
 use Rattle.law_heap_alone.proofs.Keeping.{KeepsWhole}

@@ -10,9 +10,10 @@ use Rattle.image_loader.specs.Entries.{Entry}
 use Rattle.os_heap_lists.specs.Heap.{HeapList}
 use Rattle.os_heap_lists.specs.Lists.{live_total}
 use Rattle.os_heap.specs.Store.{Store, find_heap}
-use Rattle.swi_dispatch.specs.MachineState.{MachineState}
-use Rattle.swi_dispatch.specs.Step.{os_module_called}
-use Rattle.swi_dispatch.specs.Moves.{IsState, machine_with_words}
+use Rattle.swi_dispatch_guest.specs.MachineState.{MachineState}
+use Rattle.swi_dispatch_guest.specs.Step.{os_module_called}
+use Rattle.swi_dispatch_guest.specs.Moves.{machine_with_words}
+use Rattle.swi_dispatch_guest.specs.Parts.{IsState}
 
 -- Each block of the module area that is live in both stores holds the same in both, as far as it
 -- holds it in both.

@@ -12,10 +12,11 @@ use Rattle.os_heap_lists.specs.Lists.{live_total}
 use Rattle.os_heap.specs.Laws.{KeepsPayloads}
 use Rattle.os_heap.specs.Store.{find_heap, owned_in}
 use Rattle.law_heap_calls.specs.Laws.{HoldsNoHeap}
-use Rattle.swi_dispatch.specs.MachineState.{MachineState}
-use Rattle.swi_dispatch.specs.Step.{result_of_instruction}
+use Rattle.swi_dispatch_guest.specs.MachineState.{MachineState}
+use Rattle.swi_dispatch_guest.specs.Step.{result_of_instruction}
 use Rattle.law_heap_alone.specs.Laws.{HasHeap}
-use Rattle.swi_dispatch.specs.Moves.{IsState, Move, Step, core_of, machine_after_move, swi_made}
+use Rattle.swi_dispatch_guest.specs.Moves.{Move, Step, core_of, machine_after_move, swi_made}
+use Rattle.swi_dispatch_guest.specs.Parts.{IsState}
 use Rattle.law_heap_alone.specs.Storing.{is_stored}
 
 -- the instruction at the program counter stores to a byte, and the byte belongs to no record that

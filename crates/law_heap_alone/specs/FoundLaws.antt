@@ -12,10 +12,10 @@ use Rattle.os_heap_lists.specs.Heap.{HeapList}
 use Rattle.os_heap.specs.Store.{Store, find_heap}
 use Rattle.law_heap_calls.specs.Forgotten.{IsForgotten}
 use Rattle.law_heap_calls.specs.Laws.{IsNotForgotten, LiesInBlock}
-use Rattle.swi_dispatch.specs.MachineState.{MachineState}
+use Rattle.swi_dispatch_guest.specs.MachineState.{MachineState}
 use Rattle.law_heap_alone.specs.ModuleLaws.{HasAnyHeap}
 use Rattle.law_heap_alone.specs.ModuleMoves.{is_module_move}
-use Rattle.swi_dispatch.specs.Moves.{Move, core_of, machine_after_move, swi_made}
+use Rattle.swi_dispatch_guest.specs.Moves.{Move, core_of, machine_after_move, swi_made}
 
 abbrev pub OuterHeapsStay : Type 0
 OuterHeapsStay =

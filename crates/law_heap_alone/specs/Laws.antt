@@ -1,6 +1,6 @@
 -- A guest's heap stands alone: whatever else a machine does, short of making a heap in it or
 -- freeing the block that it lies in, calls on the heap answer by the heap's own list and bytes.
-use Rattle.swi_dispatch.specs.Moves.{IsState, Move, Step, core_of, machine_after_move, moved_all, swi_made}
+use Rattle.swi_dispatch_guest.specs.Moves.{Move, Step, core_of, machine_after_move, moved_all, swi_made}
 use Rattle.std.specs.Prelude.{ℕ, ◌≡◌, ◌≢◌, true, false, Option, Some, None, option_map, List, [], ◌∷◌}
 use Rattle.profile.specs.declared.swi.SwiName.TheVariants as swi
 use Rattle.address_map.specs.Bytes.{in_range}
@@ -12,7 +12,8 @@ use Rattle.os_heap.specs.Store.{Store, find_heap}
 use Rattle.law_heap_calls.specs.Alone.{Alone, alone_in}
 use Rattle.law_heap_calls.specs.Laws.{HeapHasNoAnchor, HoldsNoHeap, IsLeftWhole}
 use Rattle.law_heap_calls.specs.Turns.{heap_after_calls, replies}
-use Rattle.swi_dispatch.specs.MachineState.{MachineState}
+use Rattle.swi_dispatch_guest.specs.MachineState.{MachineState}
+use Rattle.swi_dispatch_guest.specs.Parts.{IsState}
 use Rattle.law_heap_alone.specs.Moves.{answers_in, calls_in, is_own}
 use Rattle.law_heap_alone.specs.Storing.{is_stored}
 

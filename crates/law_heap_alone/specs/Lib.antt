@@ -3,7 +3,7 @@ pub use Rattle.arm_core
 pub use Rattle.arm_step
 pub use Rattle.os_heap
 pub use Rattle.law_heap_calls
-pub use Rattle.swi_dispatch
+pub use Rattle.swi_dispatch_guest
 pub mod AreaByteLaws
 pub mod ByteLaws
 pub mod FoundLaws

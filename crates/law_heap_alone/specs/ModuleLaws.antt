@@ -10,10 +10,11 @@ use Rattle.os_heap.specs.Store.{find_heap}
 use Rattle.instances_table.specs.declared.parts.Handler.{Handler}
 use Rattle.law_heap_calls.specs.Laws.{IsNotForgotten, KeepsHeap}
 use Rattle.law_heap_frame.specs.Fits.{LiesInArea}
-use Rattle.swi_dispatch.specs.Gates.{outcome_of_gate}
-use Rattle.swi_dispatch.specs.MachineState.{MachineState}
-use Rattle.swi_dispatch.specs.Step.{outcome_of_module_swi, module_loaded, os_module_called}
-use Rattle.swi_dispatch.specs.Moves.{IsState, Move, machine_with_words, machine_after_move}
+use Rattle.swi_dispatch_guest.specs.Gates.{outcome_of_gate}
+use Rattle.swi_dispatch_guest.specs.MachineState.{MachineState}
+use Rattle.swi_dispatch_guest.specs.Step.{outcome_of_module_swi, module_loaded, os_module_called}
+use Rattle.swi_dispatch_guest.specs.Moves.{Move, machine_with_words, machine_after_move}
+use Rattle.swi_dispatch_guest.specs.Parts.{IsState}
 use Rattle.law_heap_alone.specs.ModuleMoves.{is_module_move}
 
 -- A machine that isn't halted, with a heap that a guest made, whatever lies in it.

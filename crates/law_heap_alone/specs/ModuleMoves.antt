@@ -6,9 +6,9 @@ use Rattle.address_map.specs.Bytes.{Bytes}
 use Rattle.arm_core.specs.State.{State}
 use Rattle.arm_core.specs.declared.turn.Turn.{Turn}
 use Rattle.arm_core.specs.declared.turn.Turn.TheVariants as turn
-use Rattle.swi_dispatch.specs.MachineState.{MachineState}
-use Rattle.swi_dispatch.specs.Step.{result_of_instruction}
-use Rattle.swi_dispatch.specs.Moves.{Call, Move, Step, swi_made}
+use Rattle.swi_dispatch_guest.specs.MachineState.{MachineState}
+use Rattle.swi_dispatch_guest.specs.Step.{result_of_instruction}
+use Rattle.swi_dispatch_guest.specs.Moves.{Call, Move, Step, swi_made}
 
 abbrev pub is_module_name : Option SwiName → Bool
 is_module_name (Some swi.Module) = true

@@ -1,7 +1,7 @@
 -- Moves of a machine: store calls that a user makes from outside, and steps. Which of them are
 -- calls on one heap, what they ask and what they answer (RISC OS 3 Programmer's Reference Manual,
 -- "OS_Heap", reasons 1 to 6: the heap in R1, a block in R2, a size in R3).
-use Rattle.swi_dispatch.specs.Moves.{Call, Move, Step, machine_with_words, machine_after_move, outside_name}
+use Rattle.swi_dispatch_guest.specs.Moves.{Call, Move, Step, machine_with_words, machine_after_move, outside_name}
 use Rattle.std.specs.Prelude.{ℕ, ◌+◌, ◌==◌, ◌&&◌, ◌++◌, Bool, true, false, Option, Some, None, List, [], ◌∷◌, if◌then◌else◌}
 use Rattle.profile.specs.Reasons.{heap_reason}
 use Rattle.profile.specs.declared.reason.HeapReason.{HeapReason}
@@ -14,8 +14,8 @@ use Rattle.os_heap.specs.Store.{Store, find_heap}
 use Rattle.law_heap_calls.specs.Alone.{HeapCall, call_given}
 use Rattle.law_heap_calls.specs.Lists.{is_on_heap}
 use Rattle.law_heap_calls.specs.Turns.{Answered, Refused, Reply}
-use Rattle.swi_dispatch.specs.Errors.{error_number}
-use Rattle.swi_dispatch.specs.MachineState.{MachineState}
+use Rattle.swi_dispatch_guest.specs.Errors.{error_number}
+use Rattle.swi_dispatch_guest.specs.MachineState.{MachineState}
 
 abbrev pub is_heap_swi : Option SwiName → Bool
 is_heap_swi (Some swi.Heap) = true

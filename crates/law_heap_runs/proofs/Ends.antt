@@ -1,14 +1,15 @@
 -- How a list of moves ends: at its end, by a move that halts the machine, or by one whose answer
 -- has no room.
-use Rattle.swi_dispatch.specs.Moves.{Move as WrittenMove, machine_after_move, moved_all}
-use Rattle.std.proofs.Common.{ℕ, ◌≡◌, ◌≤◌, ◌<◌, ◌+◌, ◌-◌, ◌++◌, ◌∙◌, Bool, true, List, [], ◌∷◌, length, take, option_map, Some, None, get_or, refl, sym, ap, subst, arith, length-append, if◌then◌else◌}
+use Rattle.swi_dispatch_guest.specs.Moves.{Move as WrittenMove, machine_after_move, moved_all}
+use Rattle.std.proofs.Common.{ℕ, ◌≡◌, ◌≤◌, ◌<◌, ◌+◌, ◌-◌, ◌++◌, ◌∙◌, ◌&&◌, ◌==◌, Bool, true, false, List, [], ◌∷◌, length, take, option_map, Some, None, get_or, refl, sym, ap, subst, arith, length-append, if◌then◌else◌}
 use Rattle.std.proofs.Math.Seq.{take-length}
+use Rattle.std.proofs.lemmas.Bool.Decides.{nat_tests}
 use Rattle.std.proofs.lemmas.List.{length-map}
 use Rattle.profile.specs.declared.stop.Stop.{Stop}
 use Rattle.image_loader.specs.Entries.{Entry}
 use Rattle.law_heap_calls.specs.Turns.{Reply as WrittenReply}
-use Rattle.swi_dispatch.specs.MachineState.{MachineState, stop_of}
-use Rattle.swi_dispatch.specs.Parts.{IsMachine, Parts, state_of}
+use Rattle.swi_dispatch_guest.specs.MachineState.{MachineState, stop_of}
+use Rattle.swi_dispatch.specs.Value.{IsMachine, MachineValue}
 use Rattle.law_heap_alone.specs.Moves.{answers_in, is_own, reply_of_machine}
 use Rattle.law_heap_runs.proofs.Fronts.{IsUnder, answered, answers_more, moved_more, next_front, under_more}
 use Rattle.law_heap_runs.proofs.Halves.{by_itself, still_by_itself}
@@ -17,6 +18,7 @@ use Rattle.law_heap_runs.specs.Moves.{written_reply_of, noted_all, reply_if, wri
 use Rattle.law_heap_runs.specs.declared.moves.End.TheVariants as end
 use Rattle.law_heap_runs.specs.declared.moves.MachineMove.{MachineMove}
 use Rattle.law_heap_runs.specs.declared.moves.Reply.{Reply}
+use Rattle.swi_dispatch_guest.specs.Parts.{state_of}
 
 pub ends_all : (images : List Entry) (start : ℕ) (s t : MachineState) (moves : List WrittenMove) (most count : ℕ) (told : List Reply)
     → StateGoesOn s → IsUnder images start s t moves told → count ≡ length moves → t.halt ≡ None → AreMade images start s t moves most count end.All told
@@ -47,8 +49,8 @@ pub under_first : (images : List Entry) (start : ℕ) (s : MachineState) (moves 
     → IsUnder images start s s (take 0 moves) told
 under_first images start s moves told none = record { machine = refl; goes = tt; answers = none }
 
-pub goes_on : (p : Parts) → IsMachine p → (state_of p).halt ≡ None → StateGoesOn (state_of p)
-goes_on p machine goes = record { state = record { parts = p; is = refl; machine = machine }; goes = goes }
+pub goes_on : (p : MachineValue) → IsMachine p → (state_of p.guest).halt ≡ None → StateGoesOn (state_of p.guest)
+goes_on p machine goes = record { state = record { parts = p.guest; is = refl; machine = machine.guest }; goes = goes }
 
 -- a list whose last move that was made is this one
 pub record IsLast (images : List Entry) (start : ℕ) (s t u : MachineState) (moves : List WrittenMove) (count : ℕ) (m : WrittenMove) (told : List Reply) : Type 0 where
@@ -145,3 +147,12 @@ ends_whole images start s t xs most count told begins under all goes =
     ap (λ (n : ℕ). take n (written_all xs)) (all ∙ sym same) ∙ take-length (written_all xs) in
     ends_all images start s t (written_all xs) most (length xs) told begins
     (subst (λ (ms : List WrittenMove). IsUnder images start s t ms told) whole under) (sym same) goes
+
+-- whether a machine stands as it was made, before its first move and after
+pub fresh_before : (b : Bool) → b ≡ (b && true)
+fresh_before true = refl
+fresh_before false = refl
+
+pub fresh_after : (b new : Bool) (n : ℕ) → new ≡ false → 0 < n → new ≡ (b && (n == 0))
+fresh_after true new n e some = let k : (n == 0) ≡ false = grind (arith, nat_tests, some) in e ∙ sym k
+fresh_after false new n e some = e

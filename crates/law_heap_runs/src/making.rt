@@ -1,11 +1,12 @@
 //! A list of moves on one machine.
 
-ghost use Rattle.swi_dispatch.specs.Moves.{machine_with_words, machine_after_move};
+ghost use Rattle.swi_dispatch_guest.specs.Moves.{machine_with_words, machine_after_move};
 ghost use Rattle.std.specs.Prelude.{◌≡◌, ◌==◌, ◌≤◌, ◌&&◌, ◌++◌, true, false, length};
-ghost use Rattle.swi_dispatch.specs.Parts.{IsMachine, state_of};
+ghost use Rattle.swi_dispatch.specs.Value.{IsMachine};
 ghost use Rattle.law_heap_alone.specs.Moves.{is_own};
 ghost use Rattle.law_heap_runs.specs.Making.{AreMade};
 ghost use Rattle.law_heap_runs.specs.Moves.{reply_if, written_move_of, written_all};
+ghost use Rattle.swi_dispatch_guest.specs.Parts.{state_of};
 
 use crate::moves::{End, MachineMove, MachineMoves, Made, Reply};
 use crate::own_calls::{is_own_call, reply_of};
@@ -17,7 +18,8 @@ use swi_dispatch::Machine;
 /// guest's heap with no anchor and no heap in it stands at `start`, and the moves leave it to
 /// itself, neither forget it nor make a heap in it, then what it answers is what it answers alone.
 pub fn make_moves<const MOST: usize>(machine: &mut Machine, moves: &MachineMoves) -> Made<MOST>
-    ensures made { AreMade moves.now.images.now moves.now.start (state_of machine.old) (state_of machine.new)
+    ensures made { AreMade moves.now.images.now moves.now.start (state_of machine.old.guest)
+        (state_of machine.new.guest)
         (written_all moves.now.list.now) MOST result.count result.end result.answers.items }
     ensures fresh { machine.new.is_fresh ≡ (machine.old.is_fresh && (result.count == 0)) }
     ensures sizes { machine.new.sizes ≡ machine.old.sizes }
@@ -58,9 +60,9 @@ pub fn make_moves<const MOST: usize>(machine: &mut Machine, moves: &MachineMoves
 
 /// Makes one move, and answers whether it is a call on the heap at `start`.
 fn make_move(machine: &mut Machine, images: &Images, start: u32, next: &MachineMove) -> bool
-    ensures state { state_of machine.new ≡ machine_after_move images.now (state_of machine.old)
+    ensures state { state_of machine.new.guest ≡ machine_after_move images.now (state_of machine.old.guest)
         (written_move_of next.now) }
-    ensures own { result ≡ is_own start (state_of machine.old) (written_move_of next.now) }
+    ensures own { result ≡ is_own start (state_of machine.old.guest) (written_move_of next.now) }
     ensures fresh { machine.new.is_fresh ≡ false }
     ensures sizes { machine.new.sizes ≡ machine.old.sizes }
     ensures known { IsMachine machine.new }
@@ -89,7 +91,7 @@ fn note<const MOST: usize>(
     is_own: bool,
 ) -> bool
     ensures noted { result ≡ true → answers.new.items ≡ answers.old.items
-        ++ reply_if is_own (state_of machine.now) }
+        ++ reply_if is_own (state_of machine.now.guest) }
     ensures own { result ≡ false → is_own ≡ true }
     ensures full { result ≡ false → length answers.old.items ≡ MOST }
     ensures same { result ≡ false → answers.new.items ≡ answers.old.items }
@@ -107,7 +109,7 @@ fn note<const MOST: usize>(
 /// Sets R0 and the registers after it.
 fn set_registers(machine: &mut Machine, words: &[u32])
     requires { length words.now ≤ 15 }
-    ensures state { state_of machine.new ≡ machine_with_words (state_of machine.old) words.now }
+    ensures state { state_of machine.new.guest ≡ machine_with_words (state_of machine.old.guest) words.now }
     ensures sizes { machine.new.sizes ≡ machine.old.sizes }
 {
     for (number, word) in words.iter().enumerate() {

@@ -1,11 +1,11 @@
 //! Which store calls from outside are calls on a heap, and what they answer.
 
-ghost use Rattle.swi_dispatch.specs.Moves.{outside_name};
+ghost use Rattle.swi_dispatch_guest.specs.Moves.{outside_name};
 ghost use Rattle.std.specs.Prelude.{◌≡◌, ◌&&◌};
-ghost use Rattle.swi_dispatch.specs.Parts.{state_of};
-ghost use Rattle.swi_dispatch.specs.Step.{without_x};
+ghost use Rattle.swi_dispatch_guest.specs.Step.{without_x};
 ghost use Rattle.law_heap_alone.specs.Moves.{is_swi_to, is_for_heap, is_heap_swi, reply_of_machine};
 ghost use Rattle.law_heap_runs.specs.Moves.{written_reply_of};
+ghost use Rattle.swi_dispatch_guest.specs.Parts.{state_of};
 
 use crate::moves::Reply;
 use profile::word::is_bit_set;
@@ -52,7 +52,7 @@ fn is_for_heap(reason: Option<HeapReason>) -> bool
 
 /// What the machine's last call answers, if it was of OS_Heap.
 pub(crate) fn reply_of(machine: &Machine) -> Reply
-    ensures { result ≡ written_reply_of (reply_of_machine (state_of machine.now)) }
+    ensures { result ≡ written_reply_of (reply_of_machine (state_of machine.now.guest)) }
 {
     if machine.cpu().psr().overflow {
         Reply::Refused(machine.error_number())

@@ -1,10 +1,11 @@
 //! Lists of moves on two machines, in which the same heap is asked the same.
 
 ghost use Rattle.std.specs.Prelude.{◌≡◌};
-ghost use Rattle.swi_dispatch.specs.Parts.{IsMachine, state_of};
+ghost use Rattle.swi_dispatch.specs.Value.{IsMachine};
 ghost use Rattle.law_heap_runs.specs.Making.{AreMade, done_of};
 ghost use Rattle.law_heap_runs.specs.Moves.{written_all};
 ghost use Rattle.law_heap_runs.specs.Pairs.{AreAlike};
+ghost use Rattle.swi_dispatch_guest.specs.Parts.{state_of};
 
 use crate::making::make_moves;
 use crate::moves::{MachineMoves, Made};
@@ -19,22 +20,24 @@ pub fn make_in_two<const MOST: usize>(
     two: &mut Machine,
     others: &MachineMoves,
 ) -> (Made<MOST>, Made<MOST>)
-    ensures one { AreMade moves.now.images.now moves.now.start (state_of one.old) (state_of one.new)
+    ensures one { AreMade moves.now.images.now moves.now.start (state_of one.old.guest)
+        (state_of one.new.guest)
         (written_all moves.now.list.now) MOST result.0.count result.0.end result.0.answers.items }
-    ensures two { AreMade others.now.images.now others.now.start (state_of two.old) (state_of two.new)
+    ensures two { AreMade others.now.images.now others.now.start (state_of two.old.guest)
+        (state_of two.new.guest)
         (written_all others.now.list.now) MOST result.1.count result.1.end result.1.answers.items }
     ensures alike { AreAlike
         (record {
           images = moves.now.images.now;
           start = moves.now.start;
-          state = state_of one.old;
+          state = (state_of one.old.guest);
           moves = done_of result.0.end result.0.count (written_all moves.now.list.now);
           answers = result.0.answers.items;
         })
         (record {
           images = others.now.images.now;
           start = others.now.start;
-          state = state_of two.old;
+          state = (state_of two.old.guest);
           moves = done_of result.1.end result.1.count (written_all others.now.list.now);
           answers = result.1.answers.items;
         }) }

@@ -23,13 +23,13 @@ use Rattle.swi_dispatch_answers.specs.declared.refusal.Refusal.{Refusal}
 use Rattle.swi_dispatch_answers.specs.declared.refusal.Refusal.TheVariants as refusal
 use Rattle.swi_dispatch_flex.specs.Calls.{flex_called, state_in}
 use Rattle.swi_dispatch_store.specs.Areas.{area_called, area_read, with_extent}
-use Rattle.swi_dispatch.specs.declared.halt.Halt.TheVariants as halt
-use Rattle.swi_dispatch.specs.Answers.{Answer, refusal_answer, went_on}
-use Rattle.swi_dispatch.specs.Calls.{call_answer, machine_flex, on_estate, on_flex, printable_at, wrote_text_after, wrote_text_at}
-use Rattle.swi_dispatch.specs.Errors.{with_error}
-use Rattle.swi_dispatch.specs.MachineState.{MachineState, StepOutcome, machine_estate, quiet}
-use Rattle.swi_dispatch.specs.Returns.{outcome_of_halt}
-use Rattle.swi_dispatch.specs.Step.{call_of, call_refused, outcome_of_call, called_by, outcome_of_answer, outcome_of_end, handler_entered, is_exit, outcome_of_module_swi as handler_called}
+use Rattle.swi_dispatch_guest.specs.declared.halt.Halt.TheVariants as halt
+use Rattle.swi_dispatch_guest.specs.Answers.{Answer, refusal_answer, went_on}
+use Rattle.swi_dispatch_guest.specs.Calls.{call_answer, machine_flex, on_estate, on_flex, printable_at, wrote_text_after, wrote_text_at}
+use Rattle.swi_dispatch_guest.specs.Errors.{with_error}
+use Rattle.swi_dispatch_guest.specs.MachineState.{MachineState, StepOutcome, machine_estate, quiet}
+use Rattle.swi_dispatch_guest.specs.Returns.{outcome_of_halt}
+use Rattle.swi_dispatch_guest.specs.Step.{call_of, call_refused, outcome_of_call, called_by, outcome_of_answer, outcome_of_end, handler_entered, is_exit, outcome_of_module_swi as handler_called}
 use Rattle.law_heap_alone.proofs.Rows.{is_flex_call}
 use Rattle.law_heap_alone.specs.ModuleMoves.{is_module_name}
 use Rattle.law_heap_alone.specs.Moves.{is_heap_swi}

@@ -14,10 +14,10 @@ use Rattle.instances_plans.specs.declared.code.Code.{Code}
 use Rattle.instances_plans.specs.declared.given.Given.{Given}
 use Rattle.swi_dispatch_frames.specs.declared.call.Call.{Call}
 use Rattle.swi_dispatch_plans.specs.Trials.{world_carried}
-use Rattle.swi_dispatch.specs.Gates.{call_ended_by, carried_on, come_back, ended_of, entered_if, entered_with, state_after_plan, outcome_of_gate, state_with_code_entered, outcome_left}
-use Rattle.swi_dispatch.specs.MachineState.{MachineState, machine_estate, machine_world}
-use Rattle.swi_dispatch.specs.ModuleStart.{opened_at}
-use Rattle.swi_dispatch.specs.Returns.{gone_back}
+use Rattle.swi_dispatch_guest.specs.Gates.{call_ended_by, carried_on, come_back, ended_of, entered_if, entered_with, state_after_plan, outcome_of_gate, state_with_code_entered, outcome_left}
+use Rattle.swi_dispatch_guest.specs.MachineState.{MachineState, machine_estate, machine_world}
+use Rattle.swi_dispatch_guest.specs.ModuleStart.{opened_at}
+use Rattle.swi_dispatch_guest.specs.Returns.{gone_back}
 use Rattle.law_heap_frame.proofs.BlockPlans.{plans_keep_blocks, text_same}
 use Rattle.law_heap_frame.proofs.Blocks.{AreSame, same_all, same_were, were_both}
 use Rattle.law_heap_frame.proofs.Plans.{plans_fit}

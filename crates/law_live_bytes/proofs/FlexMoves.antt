@@ -35,18 +35,18 @@ use Rattle.instances_plans.specs.Plans.{Plan, plan_after_code}
 use Rattle.swi_dispatch_answers.specs.declared.refusal.Refusal.{Refusal}
 use Rattle.swi_dispatch_answers.specs.declared.refusal.Refusal.TheVariants as refusal
 use Rattle.swi_dispatch_store.specs.Heaps.{heap_called, heap_called_for}
-use Rattle.swi_dispatch.proofs.NextTurn.{awake_step, outside_call}
-use Rattle.swi_dispatch.specs.declared.halt.Halt.{Halt}
-use Rattle.swi_dispatch.specs.declared.halt.Halt.TheVariants as halt
+use Rattle.swi_dispatch_guest.proofs.NextTurn.{awake_step, outside_call}
+use Rattle.swi_dispatch_guest.specs.declared.halt.Halt.{Halt}
+use Rattle.swi_dispatch_guest.specs.declared.halt.Halt.TheVariants as halt
 use Rattle.swi_dispatch_answers.specs.Words.{host_string}
-use Rattle.swi_dispatch.specs.Additions.{Planned, load_planned}
-use Rattle.swi_dispatch.specs.Answers.{went_on}
-use Rattle.swi_dispatch.specs.Calls.{call_answer, on_store}
-use Rattle.swi_dispatch.specs.Errors.{with_error}
-use Rattle.swi_dispatch.specs.Gates.{carried_on, come_back, outcome_of_gate, outcome_left}
-use Rattle.swi_dispatch.specs.MachineState.{MachineState, StepOutcome, machine_estate, machine_world, with_world}
-use Rattle.swi_dispatch.specs.Returns.{gone_back, outcome_of_halt}
-use Rattle.swi_dispatch.specs.Step.{outcome_of_planned as call_begun, outcome_of_call, called_by, outcome_of_answer, result_of_instruction, is_exit, machine_step, os_module_called, store_called, outcome_of_turn, without_x}
+use Rattle.swi_dispatch_guest.specs.Additions.{Planned, load_planned}
+use Rattle.swi_dispatch_guest.specs.Answers.{went_on}
+use Rattle.swi_dispatch_guest.specs.Calls.{call_answer, on_store}
+use Rattle.swi_dispatch_guest.specs.Errors.{with_error}
+use Rattle.swi_dispatch_guest.specs.Gates.{carried_on, come_back, outcome_of_gate, outcome_left}
+use Rattle.swi_dispatch_guest.specs.MachineState.{MachineState, StepOutcome, machine_estate, machine_world, with_world}
+use Rattle.swi_dispatch_guest.specs.Returns.{gone_back, outcome_of_halt}
+use Rattle.swi_dispatch_guest.specs.Step.{outcome_of_planned as call_begun, outcome_of_call, called_by, outcome_of_answer, result_of_instruction, is_exit, machine_step, os_module_called, store_called, outcome_of_turn, without_x}
 use Rattle.law_heap_alone.proofs.HeapAnswers.{Agree, heap_agrees}
 use Rattle.law_heap_alone.proofs.LiveBytes.{byte_done}
 use Rattle.law_heap_alone.proofs.ModuleCalls.{area_call_out}
@@ -56,7 +56,8 @@ use Rattle.law_heap_alone.proofs.PlansMade.{IsFitPlanned, load_made}
 use Rattle.law_heap_alone.proofs.Rows.{is_flex_call}
 use Rattle.law_heap_alone.proofs.States.{IsGiven, given_goes, given_same, given_stays, has_store, sound_store}
 use Rattle.law_heap_alone.specs.ByteLaws.{IsStoredPlain}
-use Rattle.swi_dispatch.specs.Moves.{Call, IsState, Step, machine_with_words, machine_after_move, outside_name, swi_of_turn}
+use Rattle.swi_dispatch_guest.specs.Moves.{Call, Step, machine_with_words, machine_after_move, outside_name, swi_of_turn}
+use Rattle.swi_dispatch_guest.specs.Parts.{IsState}
 use Rattle.law_heap_alone.specs.ModuleMoves.{is_module_name}
 use Rattle.law_heap_alone.specs.Moves.{is_heap_swi}
 use Rattle.law_live_bytes.proofs.Answers.{other_has}

@@ -23,13 +23,14 @@ use Rattle.flex_machine.specs.Ground.{spelled_store}
 use Rattle.law_heap_frame.specs.Fits.{is_module_byte}
 use Rattle.law_sliding.specs.FlexStore.{HasFlexStore, IsFlexRangeSpelled, IsSpelledAt, spelled_blocks}
 use Rattle.swi_dispatch_answers.specs.Words.{host_string}
-use Rattle.swi_dispatch.specs.declared.halt.Halt.{Halt}
-use Rattle.swi_dispatch.specs.Additions.{load_planned}
-use Rattle.swi_dispatch.specs.MachineState.{MachineState, StepOutcome, machine_estate}
-use Rattle.swi_dispatch.specs.Step.{outcome_of_planned, outcome_of_call, result_of_instruction, machine_step, module_loaded, store_called, outcome_of_turn, unless_halted, without_x}
+use Rattle.swi_dispatch_guest.specs.declared.halt.Halt.{Halt}
+use Rattle.swi_dispatch_guest.specs.Additions.{load_planned}
+use Rattle.swi_dispatch_guest.specs.MachineState.{MachineState, StepOutcome, machine_estate}
+use Rattle.swi_dispatch_guest.specs.Step.{outcome_of_planned, outcome_of_call, result_of_instruction, machine_step, module_loaded, store_called, outcome_of_turn, unless_halted, without_x}
 use Rattle.law_heap_alone.proofs.States.{HasStore, IsGiven, given_same, has_store, sound_store}
 use Rattle.law_heap_alone.specs.ByteLaws.{IsStoredPlain}
-use Rattle.swi_dispatch.specs.Moves.{Call, IsState, Move, Step, machine_with_words, machine_after_move, swi_made}
+use Rattle.swi_dispatch_guest.specs.Moves.{Call, Move, Step, machine_with_words, machine_after_move, swi_made}
+use Rattle.swi_dispatch_guest.specs.Parts.{IsState}
 use Rattle.law_live_bytes.proofs.FlexMoves.{flex_bytes_stay, loaded_out}
 use Rattle.law_live_bytes.proofs.FlexStays.{flex_outside}
 use Rattle.law_live_bytes.proofs.FlexTables.{Same, awake_same, called_same, loaded_same, turn_same}

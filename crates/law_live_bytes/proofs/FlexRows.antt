@@ -18,10 +18,10 @@ use Rattle.law_sliding.specs.Turning.{Call, Init, stores_after_flex, stores_afte
 use Rattle.swi_dispatch_answers.specs.Refusals.{or_error}
 use Rattle.swi_dispatch_answers.specs.declared.refusal.Refusal.{Refusal}
 use Rattle.swi_dispatch_flex.specs.Calls.{fit_told, flex_called, memory_after_flex as memory_left}
-use Rattle.swi_dispatch.specs.Answers.{went_on}
-use Rattle.swi_dispatch.specs.Calls.{call_answer, machine_flex, on_flex}
-use Rattle.swi_dispatch.specs.MachineState.{MachineState}
-use Rattle.swi_dispatch.specs.Step.{outcome_of_answer}
+use Rattle.swi_dispatch_guest.specs.Answers.{went_on}
+use Rattle.swi_dispatch_guest.specs.Calls.{call_answer, machine_flex, on_flex}
+use Rattle.swi_dispatch_guest.specs.MachineState.{MachineState}
+use Rattle.swi_dispatch_guest.specs.Step.{outcome_of_answer}
 use Rattle.law_heap_alone.proofs.Rows.{is_flex_call}
 use Rattle.law_heap_alone.proofs.States.{HasStore, stores_in}
 use Rattle.law_live_bytes.proofs.AreaRows.{HasWent}

@@ -48,18 +48,18 @@ use Rattle.swi_dispatch_plans.specs.instances.specs.declared.answers.Start.{Star
 use Rattle.swi_dispatch_plans.specs.instances.specs.Reading.{start_found}
 use Rattle.swi_dispatch_store.specs.Areas.{area_called as area_work, area_read}
 use Rattle.swi_dispatch_store.specs.Heaps.{heap_called}
-use Rattle.swi_dispatch.specs.declared.halt.Halt.{Halt}
-use Rattle.swi_dispatch.specs.declared.halt.Halt.TheVariants as halt
-use Rattle.swi_dispatch.specs.Additions.{Planned, load_planned}
-use Rattle.swi_dispatch.specs.Answers.{Answer, refusal_answer, went_on}
-use Rattle.swi_dispatch.specs.Calls.{call_answer, machine_flex, on_estate, on_flex, on_store, on_world, printable_at, wrote_text_after, wrote_text_at}
-use Rattle.swi_dispatch.specs.Errors.{with_error}
-use Rattle.swi_dispatch.specs.Gates.{call_ended_by, carried_on, come_back, ended_of, entered_if, entered_with, fault_ahead, state_after_plan, frame_closed, frame_left, outcome_of_gate, gated_by, state_with_code_entered, outcome_left, plan_left, unless_fault}
-use Rattle.swi_dispatch.specs.MachineState.{MachineState, StepOutcome, machine_estate, machine_world, quiet, setting_of, with_world}
-use Rattle.swi_dispatch.specs.ModuleStart.{opened_at}
-use Rattle.swi_dispatch.specs.Returns.{outcome_of_error, gone_back, outcome_of_halt}
-use Rattle.swi_dispatch.specs.Step.{outcome_of_planned, call_of, outcome_of_call, called_by, outcome_of_answer, outcome_of_end, handler_entered, is_exit, outcome_of_module_swi as handler_called, module_entered, module_loaded, os_module_called, os_module_called_for, outcome_of_turn, unless_halted, without_x}
-use Rattle.swi_dispatch.specs.Moves.{swi_of_turn}
+use Rattle.swi_dispatch_guest.specs.declared.halt.Halt.{Halt}
+use Rattle.swi_dispatch_guest.specs.declared.halt.Halt.TheVariants as halt
+use Rattle.swi_dispatch_guest.specs.Additions.{Planned, load_planned}
+use Rattle.swi_dispatch_guest.specs.Answers.{Answer, refusal_answer, went_on}
+use Rattle.swi_dispatch_guest.specs.Calls.{call_answer, machine_flex, on_estate, on_flex, on_store, on_world, printable_at, wrote_text_after, wrote_text_at}
+use Rattle.swi_dispatch_guest.specs.Errors.{with_error}
+use Rattle.swi_dispatch_guest.specs.Gates.{call_ended_by, carried_on, come_back, ended_of, entered_if, entered_with, fault_ahead, state_after_plan, frame_closed, frame_left, outcome_of_gate, gated_by, state_with_code_entered, outcome_left, plan_left, unless_fault}
+use Rattle.swi_dispatch_guest.specs.MachineState.{MachineState, StepOutcome, machine_estate, machine_world, quiet, setting_of, with_world}
+use Rattle.swi_dispatch_guest.specs.ModuleStart.{opened_at}
+use Rattle.swi_dispatch_guest.specs.Returns.{outcome_of_error, gone_back, outcome_of_halt}
+use Rattle.swi_dispatch_guest.specs.Step.{outcome_of_planned, call_of, outcome_of_call, called_by, outcome_of_answer, outcome_of_end, handler_entered, is_exit, outcome_of_module_swi as handler_called, module_entered, module_loaded, os_module_called, os_module_called_for, outcome_of_turn, unless_halted, without_x}
+use Rattle.swi_dispatch_guest.specs.Moves.{swi_of_turn}
 use Rattle.law_live_bytes.specs.FlexPlaces.{may_change_flex}
 
 module _ (s : MachineState) where

@@ -15,10 +15,10 @@ use Rattle.swi_dispatch_frames.specs.declared.frame.Frame.{Frame}
 use Rattle.swi_dispatch_frames.specs.declared.frame.FrameKind.{FrameKind}
 use Rattle.swi_dispatch_frames.specs.declared.frame.FrameKind.TheVariants as frame_kind
 use Rattle.swi_dispatch_frames.specs.Frames.{innermost_frame}
-use Rattle.swi_dispatch.specs.declared.halt.Halt.TheVariants as halt
-use Rattle.swi_dispatch.specs.Gates.{carried_on, come_back, fault_ahead, frame_closed, frame_left, outcome_of_gate, gated_by, outcome_left, plan_left, unless_fault}
-use Rattle.swi_dispatch.specs.MachineState.{MachineState, machine_world, quiet}
-use Rattle.swi_dispatch.specs.Returns.{outcome_of_error, outcome_of_halt}
+use Rattle.swi_dispatch_guest.specs.declared.halt.Halt.TheVariants as halt
+use Rattle.swi_dispatch_guest.specs.Gates.{carried_on, come_back, fault_ahead, frame_closed, frame_left, outcome_of_gate, gated_by, outcome_left, plan_left, unless_fault}
+use Rattle.swi_dispatch_guest.specs.MachineState.{MachineState, machine_world, quiet}
+use Rattle.swi_dispatch_guest.specs.Returns.{outcome_of_error, outcome_of_halt}
 use Rattle.law_heap_frame.proofs.Slots.{doable_below}
 use Rattle.law_heap_alone.proofs.Gates.{settled_given}
 use Rattle.law_heap_alone.proofs.ModuleHosts.{HasModules}

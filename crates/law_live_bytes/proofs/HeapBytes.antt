@@ -17,8 +17,8 @@ use Rattle.os_heap.proofs.Stores.{IsOther, are_others}
 use Rattle.os_heap.specs.Nesting.{IsWithin}
 use Rattle.os_heap.specs.Store.{IsSound, Store, find_heap}
 use Rattle.law_heap_calls.specs.Laws.{starts_inside}
-use Rattle.swi_dispatch.specs.MachineState.{MachineState}
-use Rattle.swi_dispatch.specs.Step.{outcome_of_call}
+use Rattle.swi_dispatch_guest.specs.MachineState.{MachineState}
+use Rattle.swi_dispatch_guest.specs.Step.{outcome_of_call}
 use Rattle.law_heap_alone.proofs.Keeping.{off_system}
 use Rattle.law_heap_alone.proofs.LiveBytes.{HeapCallLeaves, heap_call_leaves, payload_inside}
 use Rattle.law_live_bytes.proofs.HeapCalls.{heap_call_leaves_byte}

@@ -17,12 +17,12 @@ use Rattle.law_heap_calls.specs.Turns.{call_on}
 use Rattle.swi_dispatch_answers.specs.declared.refusal.Refusal.{Refusal}
 use Rattle.swi_dispatch_answers.specs.declared.refusal.Refusal.TheVariants as refusal
 use Rattle.swi_dispatch_store.specs.Heaps.{heap_called, heap_called_for}
-use Rattle.swi_dispatch.specs.declared.halt.Halt.TheVariants as halt
-use Rattle.swi_dispatch.specs.Answers.{went_on}
-use Rattle.swi_dispatch.specs.Calls.{call_answer, on_store}
-use Rattle.swi_dispatch.specs.MachineState.{MachineState}
-use Rattle.swi_dispatch.specs.Returns.{outcome_of_halt}
-use Rattle.swi_dispatch.specs.Step.{outcome_of_call, called_by, outcome_of_answer, is_exit}
+use Rattle.swi_dispatch_guest.specs.declared.halt.Halt.TheVariants as halt
+use Rattle.swi_dispatch_guest.specs.Answers.{went_on}
+use Rattle.swi_dispatch_guest.specs.Calls.{call_answer, on_store}
+use Rattle.swi_dispatch_guest.specs.MachineState.{MachineState}
+use Rattle.swi_dispatch_guest.specs.Returns.{outcome_of_halt}
+use Rattle.swi_dispatch_guest.specs.Step.{outcome_of_call, called_by, outcome_of_answer, is_exit}
 use Rattle.law_heap_alone.proofs.HeapAnswers.{Agree, heap_agrees, overflow_back, two_back}
 use Rattle.law_heap_alone.proofs.States.{HasStore, sound_store}
 use Rattle.law_live_bytes.proofs.HeapWrites.{Writes, call_writes}

@@ -16,12 +16,11 @@ use Rattle.os_heap.specs.Calls.{has_own_size}
 use Rattle.os_heap.specs.Store.{StandAreas, Store, find_heap, heap_in, heaps_in, is_module_area, store_of}
 use Rattle.law_heap_frame.specs.BlockLaws.{total_in}
 use Rattle.law_heap_calls.specs.Laws.{IsNotForgotten, KeepsHeap}
-use Rattle.swi_dispatch.specs.MachineState.{MachineState}
-use Rattle.swi_dispatch.specs.Parts.{IsMachine, Parts, state_of}
+use Rattle.swi_dispatch_guest.specs.MachineState.{MachineState}
+use Rattle.swi_dispatch_guest.specs.Parts.{IsGuest, IsState, Parts, state_of}
 use Rattle.law_heap_alone.proofs.LiveBytes.{payload_inside}
 use Rattle.law_heap_alone.proofs.ModuleHosts.{HasModules, IsHost, given_modules, has_modules}
 use Rattle.law_heap_alone.proofs.States.{IsGiven, given_stays, sound_store}
-use Rattle.swi_dispatch.specs.Moves.{IsState}
 use Rattle.law_live_bytes.specs.AreaLaws.{KeepsBoth}
 use Rattle.law_live_bytes.specs.Changes.{IsByteHeld}
 
@@ -63,7 +62,7 @@ pub record HasHeaps (s : MachineState) : Type 0 where
   pub modules : HasModules s
   pub kinds : (start : ℕ) (h : HeapList) → find_heap start s.store.heaps ≡ Some h → (has_own_size h.kind ≡ true) ⊎ (start ≡ module_area_start)
 
-parts_heaps : (p : Parts) → IsMachine p → HasModules (state_of p) → HasHeaps (state_of p)
+parts_heaps : (p : Parts) → IsGuest p → HasModules (state_of p) → HasHeaps (state_of p)
 unfolding store_of
 parts_heaps p machine has = record {
   modules = has;

@@ -21,15 +21,15 @@ use Rattle.swi_dispatch_plans.specs.Openings.{opening_asked}
 use Rattle.swi_dispatch_plans.specs.declared.openings.Opening.{Opening}
 use Rattle.swi_dispatch_plans.specs.ImagePlans.{instantiation_planned}
 use Rattle.swi_dispatch_plans.specs.ModulePlans.{clear_planned, delete_planned, reinit_planned, tidy_planned}
-use Rattle.swi_dispatch.specs.Additions.{Planned, copy_planned, insertion_planned, named_load_planned, plan_alone}
-use Rattle.swi_dispatch.specs.Answers.{refusal_answer, went_on}
-use Rattle.swi_dispatch.specs.Calls.{call_answer, on_world}
-use Rattle.swi_dispatch.specs.Errors.{with_error}
-use Rattle.swi_dispatch.specs.Gates.{carried_on}
-use Rattle.swi_dispatch.specs.MachineState.{MachineState, machine_world, setting_of, with_world}
-use Rattle.swi_dispatch.specs.ModuleStart.{module_opened}
-use Rattle.swi_dispatch.specs.Returns.{gone_back}
-use Rattle.swi_dispatch.specs.Step.{outcome_of_planned, begun_alone, call_of, call_refused, outcome_of_answer, module_entered, os_module_called, os_module_called_for}
+use Rattle.swi_dispatch_guest.specs.Additions.{Planned, copy_planned, insertion_planned, named_load_planned, plan_alone}
+use Rattle.swi_dispatch_guest.specs.Answers.{refusal_answer, went_on}
+use Rattle.swi_dispatch_guest.specs.Calls.{call_answer, on_world}
+use Rattle.swi_dispatch_guest.specs.Errors.{with_error}
+use Rattle.swi_dispatch_guest.specs.Gates.{carried_on}
+use Rattle.swi_dispatch_guest.specs.MachineState.{MachineState, machine_world, setting_of, with_world}
+use Rattle.swi_dispatch_guest.specs.ModuleStart.{module_opened}
+use Rattle.swi_dispatch_guest.specs.Returns.{gone_back}
+use Rattle.swi_dispatch_guest.specs.Step.{outcome_of_planned, begun_alone, call_of, call_refused, outcome_of_answer, module_entered, os_module_called, os_module_called_for}
 use Rattle.law_heap_frame.specs.PlanLaws.{IsFitWorld}
 use Rattle.law_heap_alone.proofs.ModuleHosts.{HasModules, fit_world}
 use Rattle.law_heap_alone.proofs.ModulePlans.{IsFitPlan}

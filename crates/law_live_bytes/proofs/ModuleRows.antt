@@ -31,13 +31,13 @@ use Rattle.swi_dispatch_modules.specs.Calls.{result_of_module_call as area_calle
 use Rattle.swi_dispatch_modules.specs.Naming.{instance_found, instance_preferred, instance_renamed, place_asked, with_told}
 use Rattle.swi_dispatch_plans.specs.ImagePlans.{instantiation_planned}
 use Rattle.swi_dispatch_plans.specs.ModulePlans.{clear_planned, delete_planned, reinit_planned, tidy_planned}
-use Rattle.swi_dispatch.specs.Additions.{load_planned, plan_alone}
-use Rattle.swi_dispatch.specs.Errors.{with_error}
-use Rattle.swi_dispatch.specs.Gates.{carried_on}
-use Rattle.swi_dispatch.specs.MachineState.{MachineState, machine_estate, machine_world, setting_of, with_world}
-use Rattle.swi_dispatch.specs.ModuleStart.{module_opened}
-use Rattle.swi_dispatch.specs.Returns.{gone_back}
-use Rattle.swi_dispatch.specs.Step.{outcome_of_planned, os_module_called}
+use Rattle.swi_dispatch_guest.specs.Additions.{load_planned, plan_alone}
+use Rattle.swi_dispatch_guest.specs.Errors.{with_error}
+use Rattle.swi_dispatch_guest.specs.Gates.{carried_on}
+use Rattle.swi_dispatch_guest.specs.MachineState.{MachineState, machine_estate, machine_world, setting_of, with_world}
+use Rattle.swi_dispatch_guest.specs.ModuleStart.{module_opened}
+use Rattle.swi_dispatch_guest.specs.Returns.{gone_back}
+use Rattle.swi_dispatch_guest.specs.Step.{outcome_of_planned, os_module_called}
 use Rattle.law_heap_frame.proofs.Areas.{heap_same}
 use Rattle.law_heap_frame.proofs.BlockCalls.{block_calls_keep}
 use Rattle.law_heap_frame.proofs.Guests.{estates_fit}

@@ -14,12 +14,12 @@ use Rattle.arm_core.specs.declared.turn.Turn.TheVariants as turn
 use Rattle.image_loader.specs.Entries.{Entry}
 use Rattle.os_heap.proofs.Anchored.{header_outside}
 use Rattle.os_heap.specs.Store.{IsSound, Store, find_heap, is_in_flex_store}
-use Rattle.swi_dispatch.proofs.NextTurn.{awake_step, outside_call}
-use Rattle.swi_dispatch.specs.declared.halt.Halt.{Halt}
-use Rattle.swi_dispatch.specs.declared.halt.Halt.TheVariants as halt
-use Rattle.swi_dispatch.specs.MachineState.{MachineState, StepOutcome, quiet}
-use Rattle.swi_dispatch.specs.Returns.{outcome_of_halt}
-use Rattle.swi_dispatch.specs.Step.{outcome_of_call, called_by, result_of_instruction, is_exit, machine_step, store_called, outcome_of_turn, unless_halted, without_x}
+use Rattle.swi_dispatch_guest.proofs.NextTurn.{awake_step, outside_call}
+use Rattle.swi_dispatch_guest.specs.declared.halt.Halt.{Halt}
+use Rattle.swi_dispatch_guest.specs.declared.halt.Halt.TheVariants as halt
+use Rattle.swi_dispatch_guest.specs.MachineState.{MachineState, StepOutcome, quiet}
+use Rattle.swi_dispatch_guest.specs.Returns.{outcome_of_halt}
+use Rattle.swi_dispatch_guest.specs.Step.{outcome_of_call, called_by, result_of_instruction, is_exit, machine_step, store_called, outcome_of_turn, unless_halted, without_x}
 use Rattle.law_heap_alone.proofs.Gates.{gate_keeps}
 use Rattle.law_heap_alone.proofs.Keeping.{off_system}
 use Rattle.law_heap_alone.proofs.LiveBytes.{byte_done}
@@ -30,7 +30,8 @@ use Rattle.law_heap_alone.proofs.Rows.{is_flex_call}
 use Rattle.law_heap_alone.proofs.States.{IsGiven, given_goes, given_same, given_stays, has_store, sound_store}
 use Rattle.law_heap_alone.specs.ByteLaws.{IsStoredPlain}
 use Rattle.law_heap_alone.specs.ModuleMoves.{is_at_gate, is_module_name}
-use Rattle.swi_dispatch.specs.Moves.{Call, IsState, Step, machine_with_words, machine_after_move, outside_name, swi_of_turn}
+use Rattle.swi_dispatch_guest.specs.Moves.{Call, Step, machine_with_words, machine_after_move, outside_name, swi_of_turn}
+use Rattle.swi_dispatch_guest.specs.Parts.{IsState}
 use Rattle.law_heap_alone.specs.Moves.{is_heap_swi}
 use Rattle.law_live_bytes.proofs.Carried.{gate_were}
 use Rattle.law_live_bytes.proofs.Extending.{were_kept}

@@ -11,15 +11,15 @@ use Rattle.address_map.specs.Items.{is_heap_word}
 use Rattle.address_map.specs.Bytes.{Bytes, in_range, word_start, word_stored}
 use Rattle.os_heap.specs.Store.{Store, is_flex_word, owned_in}
 use Rattle.swi_dispatch_answers.specs.Words.{host_string}
-use Rattle.swi_dispatch.specs.declared.halt.Halt.{Halt}
-use Rattle.swi_dispatch.specs.Additions.{load_planned}
-use Rattle.swi_dispatch.specs.Boot.{machine_after_poke}
-use Rattle.swi_dispatch.specs.MachineState.{MachineState, StepOutcome, with_memory}
-use Rattle.swi_dispatch.specs.Step.{outcome_of_planned, module_loaded, unless_halted}
+use Rattle.swi_dispatch_guest.specs.declared.halt.Halt.{Halt}
+use Rattle.swi_dispatch_guest.specs.Additions.{load_planned}
+use Rattle.swi_dispatch_guest.specs.MachineState.{MachineState, StepOutcome, with_memory}
+use Rattle.swi_dispatch_guest.specs.Step.{outcome_of_planned, module_loaded, unless_halted}
+use Rattle.swi_dispatch_guest.specs.Parts.{IsState}
+use Rattle.swi_dispatch_guest.specs.Writes.{machine_after_poke}
 use Rattle.image_loader.specs.Entries.{Entry}
 use Rattle.law_heap_alone.proofs.ModuleCalls.{loaded_keeps}
 use Rattle.law_heap_alone.proofs.Storing.{word_past}
-use Rattle.swi_dispatch.specs.Moves.{IsState}
 use Rattle.law_live_bytes.proofs.Heaps.{KeepsBlocks, all_kept, has_heaps, held_all}
 use Rattle.law_live_bytes.proofs.ModuleRows.{loaded_both}
 use Rattle.law_live_bytes.proofs.Rows.{all_same}

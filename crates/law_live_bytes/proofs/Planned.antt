@@ -28,8 +28,8 @@ use Rattle.swi_dispatch_answers.specs.Words.{name_part, text_part}
 use Rattle.swi_dispatch_plans.specs.ImagePlans.{copy_asked, insertion_asked, instantiation_planned, load_asked, well_named}
 use Rattle.swi_dispatch_plans.specs.ModulePlans.{clear_planned, delete_planned, may_begin_alone, may_finalise, reinit_planned}
 use Rattle.swi_dispatch_plans.specs.Setting.{Setting, string_asked}
-use Rattle.swi_dispatch.specs.Additions.{Planned, copy_planned, insertion_planned, load_planned, named_load_planned, plan_alone, planned_of}
-use Rattle.swi_dispatch.specs.MachineState.{MachineState, machine_world, setting_of}
+use Rattle.swi_dispatch_guest.specs.Additions.{Planned, copy_planned, insertion_planned, load_planned, named_load_planned, plan_alone, planned_of}
+use Rattle.swi_dispatch_guest.specs.MachineState.{MachineState, machine_world, setting_of}
 use Rattle.law_heap_frame.proofs.BlockCalls.{block_calls_keep}
 use Rattle.law_heap_frame.specs.BlockLaws.{HaveNoSlide, StayLive}
 use Rattle.law_heap_frame.specs.FitEstates.{IsFitEstate}

@@ -13,10 +13,10 @@ use Rattle.law_heap_frame.proofs.Areas.{area_calls_keep}
 use Rattle.law_heap_frame.specs.AreaLaws.{AreaCallKeepsHeap}
 use Rattle.swi_dispatch_answers.specs.declared.refusal.Refusal.{Refusal}
 use Rattle.swi_dispatch_answers.specs.declared.refusal.Refusal.TheVariants as refusal
-use Rattle.swi_dispatch.proofs.Kept.{outside_bytes, outside_word, short_name}
-use Rattle.swi_dispatch.specs.Errors.{with_error}
-use Rattle.swi_dispatch.specs.MachineState.{MachineState, machine_estate}
-use Rattle.swi_dispatch.specs.Step.{outcome_of_call}
+use Rattle.swi_dispatch_guest.proofs.Kept.{outside_bytes, outside_word, short_name}
+use Rattle.swi_dispatch_guest.specs.Errors.{with_error}
+use Rattle.swi_dispatch_guest.specs.MachineState.{MachineState, machine_estate}
+use Rattle.swi_dispatch_guest.specs.Step.{outcome_of_call}
 use Rattle.law_heap_alone.proofs.Keeping.{off_system}
 use Rattle.law_heap_alone.proofs.LiveBytes.{payload_inside}
 use Rattle.law_heap_alone.proofs.ModuleHosts.{IsHost}

@@ -2,11 +2,11 @@
 use Rattle.std.proofs.Common.{ℕ, zero, suc, ◌∙◌, List, [], ◌∷◌, Option, Some, None, refl, inl, inr}
 use Rattle.std.proofs.lemmas.Bool.{cases_Bool}
 use Rattle.image_loader.specs.Entries.{Entry}
-use Rattle.swi_dispatch.specs.declared.halt.Halt.{Halt}
-use Rattle.swi_dispatch.specs.MachineState.{MachineState}
-use Rattle.swi_dispatch.specs.Run.{Run, go_on, is_among, ran, run_unless_halted}
-use Rattle.swi_dispatch.specs.Step.{machine_step}
-use Rattle.swi_dispatch.specs.Moves.{Step, machine_after_move}
+use Rattle.swi_dispatch_guest.specs.declared.halt.Halt.{Halt}
+use Rattle.swi_dispatch_guest.specs.MachineState.{MachineState}
+use Rattle.swi_dispatch_guest.specs.Run.{Run, go_on, is_among, ran, run_unless_halted}
+use Rattle.swi_dispatch_guest.specs.Step.{machine_step}
+use Rattle.swi_dispatch_guest.specs.Moves.{Step, machine_after_move}
 use Rattle.law_live_bytes.proofs.Moves.{live_bytes_stay}
 use Rattle.law_live_bytes.specs.Runs.{IsStepped, LiveBytesStayOver, RunsAreSteps}
 

@@ -21,12 +21,13 @@ use Rattle.os_heap_lists.specs.Lists.{live_total}
 use Rattle.os_heap.specs.Nesting.{IsWithin}
 use Rattle.os_heap.specs.Store.{Store, find_heap, is_in_flex_store, owned_in}
 use Rattle.swi_dispatch_plans.specs.ModulePlans.{tidy_planned}
-use Rattle.swi_dispatch.specs.Boot.{machine_after_poke}
-use Rattle.swi_dispatch.specs.Gates.{outcome_left}
-use Rattle.swi_dispatch.specs.MachineState.{MachineState, setting_of}
-use Rattle.swi_dispatch.specs.Step.{result_of_instruction, module_loaded}
+use Rattle.swi_dispatch_guest.specs.Gates.{outcome_left}
+use Rattle.swi_dispatch_guest.specs.MachineState.{MachineState, setting_of}
+use Rattle.swi_dispatch_guest.specs.Step.{result_of_instruction, module_loaded}
 use Rattle.law_heap_alone.specs.ByteLaws.{IsStoredPlain}
-use Rattle.swi_dispatch.specs.Moves.{Call, IsState, Move, Step, core_of, machine_with_words, machine_after_move, outside_name, swi_made}
+use Rattle.swi_dispatch_guest.specs.Moves.{Call, Move, Step, core_of, machine_with_words, machine_after_move, outside_name, swi_made}
+use Rattle.swi_dispatch_guest.specs.Parts.{IsState}
+use Rattle.swi_dispatch_guest.specs.Writes.{machine_after_poke}
 use Rattle.law_heap_alone.specs.ModuleMoves.{is_at_gate, is_module_name}
 use Rattle.law_live_bytes.specs.FlexLaws.{IsAnchorByte}
 use Rattle.law_live_bytes.specs.HeapWrites.{IsWrittenByCall}

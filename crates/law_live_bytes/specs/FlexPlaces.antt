@@ -8,9 +8,10 @@ use Rattle.image_loader.specs.Entries.{Entry}
 use Rattle.flex_store.specs.Listed.{all_listed}
 use Rattle.flex_store.specs.declared.blocks.FlexBlock.{FlexBlock}
 use Rattle.flex_machine.specs.Ground.{spelled_store}
-use Rattle.swi_dispatch.specs.MachineState.{MachineState}
-use Rattle.swi_dispatch.specs.Step.{module_loaded}
-use Rattle.swi_dispatch.specs.Moves.{IsState, Move, machine_after_move, swi_made}
+use Rattle.swi_dispatch_guest.specs.MachineState.{MachineState}
+use Rattle.swi_dispatch_guest.specs.Step.{module_loaded}
+use Rattle.swi_dispatch_guest.specs.Moves.{Move, machine_after_move, swi_made}
+use Rattle.swi_dispatch_guest.specs.Parts.{IsState}
 use Rattle.law_live_bytes.specs.Changes.{is_flex_name}
 
 -- the flex calls that may change the store, the one that makes it too

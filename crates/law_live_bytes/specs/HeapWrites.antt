@@ -12,7 +12,7 @@ use Rattle.arm_core.specs.State.{State, register_of}
 use Rattle.os_heap_lists.specs.Heap.{HeapList}
 use Rattle.os_heap_lists.specs.Lists.{Claim, changed_by, claim_in_items, live_total, round_up_8}
 use Rattle.os_heap.specs.Store.{Store, find_heap}
-use Rattle.swi_dispatch.specs.MachineState.{MachineState}
+use Rattle.swi_dispatch_guest.specs.MachineState.{MachineState}
 
 -- A byte of a word that the heap at `heap` spells: of its descriptor, of a block's length, or of a
 -- free block's link or length. No block's contents are among them.

@@ -1,9 +1,10 @@
 -- Which bytes of live blocks change over lists of moves, and runs as such lists.
 use Rattle.std.specs.Prelude.{ℕ, zero, suc, ◌≡◌, ◌⊎◌, List, [], ◌∷◌}
 use Rattle.image_loader.specs.Entries.{Entry}
-use Rattle.swi_dispatch.specs.MachineState.{MachineState}
-use Rattle.swi_dispatch.specs.Run.{ran}
-use Rattle.swi_dispatch.specs.Moves.{IsState, Move, Step, machine_after_move, moved_all}
+use Rattle.swi_dispatch_guest.specs.MachineState.{MachineState}
+use Rattle.swi_dispatch_guest.specs.Run.{ran}
+use Rattle.swi_dispatch_guest.specs.Moves.{Move, Step, machine_after_move, moved_all}
+use Rattle.swi_dispatch_guest.specs.Parts.{IsState}
 use Rattle.law_live_bytes.specs.Changes.{IsByteHeld, MayChange}
 
 -- Each move leads to a machine's state, and the byte is held from each state to the next.

@@ -8,9 +8,9 @@ use Rattle.flex_machine.specs.module_world.specs.dynamic_areas.specs.Ground.{Est
 use Rattle.flex_machine.specs.module_world.specs.World.{World}
 use Rattle.swi_dispatch_answers.specs.declared.refusal.Refusal.{Refusal}
 use Rattle.swi_dispatch_flex.specs.Calls.{FlexMemory}
-use Rattle.swi_dispatch.specs.Answers.{went_on}
-use Rattle.swi_dispatch.specs.Calls.{call_answer, on_estate, on_flex, on_store, on_world, wrote_text_after, wrote_text_at}
-use Rattle.swi_dispatch.specs.MachineState.{MachineState, StepOutcome}
+use Rattle.swi_dispatch_guest.specs.Answers.{went_on}
+use Rattle.swi_dispatch_guest.specs.Calls.{call_answer, on_estate, on_flex, on_store, on_world, wrote_text_after, wrote_text_at}
+use Rattle.swi_dispatch_guest.specs.MachineState.{MachineState, StepOutcome}
 
 abbrev pub IsLeft : MachineState → StepOutcome → Type 0
 IsLeft s o = o.now.halt ≡ s.halt

@@ -41,18 +41,18 @@ use Rattle.swi_dispatch_plans.specs.Trials.{world_carried}
 use Rattle.swi_dispatch_plans.specs.declared.openings.Opening.{Opening}
 use Rattle.swi_dispatch_plans.specs.instances.specs.declared.answers.Start.{Start}
 use Rattle.swi_dispatch_plans.specs.instances.specs.Reading.{start_found}
-use Rattle.swi_dispatch.proofs.NextTurn.{awake_step}
-use Rattle.swi_dispatch.specs.declared.halt.Halt.{Halt}
-use Rattle.swi_dispatch.specs.declared.halt.Halt.TheVariants as halt
-use Rattle.swi_dispatch.specs.Additions.{Planned, copy_planned, insertion_planned, load_planned, named_load_planned, plan_alone}
-use Rattle.swi_dispatch.specs.Answers.{Answer, refusal_answer}
-use Rattle.swi_dispatch.specs.Calls.{call_answer}
-use Rattle.swi_dispatch.specs.Errors.{error_number}
-use Rattle.swi_dispatch.specs.Gates.{call_ended_by, carried_on, come_back, ended_of, entered_if, entered_with, fault_ahead, state_after_plan, frame_closed, frame_left, gated_by, state_with_code_entered, outcome_left, plan_left, swi_left, unless_fault}
-use Rattle.swi_dispatch.specs.MachineState.{MachineState, StepOutcome, machine_world, quiet, setting_of, with_world}
-use Rattle.swi_dispatch.specs.ModuleStart.{opened_at}
-use Rattle.swi_dispatch.specs.Returns.{outcome_of_error, error_answered, gone_back, outcome_of_halt}
-use Rattle.swi_dispatch.specs.Step.{outcome_of_planned, begun_alone, call_of, call_refused, outcome_of_call, called_by, outcome_of_answer, outcome_of_end, result_of_instruction, is_exit, machine_step, outcome_of_module_swi, module_entered, module_loaded, os_module_called, os_module_called_for, store_called, outcome_of_turn, unless_halted, without_x}
+use Rattle.swi_dispatch_guest.proofs.NextTurn.{awake_step}
+use Rattle.swi_dispatch_guest.specs.declared.halt.Halt.{Halt}
+use Rattle.swi_dispatch_guest.specs.declared.halt.Halt.TheVariants as halt
+use Rattle.swi_dispatch_guest.specs.Additions.{Planned, copy_planned, insertion_planned, load_planned, named_load_planned, plan_alone}
+use Rattle.swi_dispatch_guest.specs.Answers.{Answer, refusal_answer}
+use Rattle.swi_dispatch_guest.specs.Calls.{call_answer}
+use Rattle.swi_dispatch_guest.specs.Errors.{error_number}
+use Rattle.swi_dispatch_guest.specs.Gates.{call_ended_by, carried_on, come_back, ended_of, entered_if, entered_with, fault_ahead, state_after_plan, frame_closed, frame_left, gated_by, state_with_code_entered, outcome_left, plan_left, swi_left, unless_fault}
+use Rattle.swi_dispatch_guest.specs.MachineState.{MachineState, StepOutcome, machine_world, quiet, setting_of, with_world}
+use Rattle.swi_dispatch_guest.specs.ModuleStart.{opened_at}
+use Rattle.swi_dispatch_guest.specs.Returns.{outcome_of_error, error_answered, gone_back, outcome_of_halt}
+use Rattle.swi_dispatch_guest.specs.Step.{outcome_of_planned, begun_alone, call_of, call_refused, outcome_of_call, called_by, outcome_of_answer, outcome_of_end, result_of_instruction, is_exit, machine_step, outcome_of_module_swi, module_entered, module_loaded, os_module_called, os_module_called_for, store_called, outcome_of_turn, unless_halted, without_x}
 use Rattle.law_machine_halts.proofs.Answering.{answer_left}
 use Rattle.law_machine_halts.specs.Halts.{Exits, ExitsAreCalls, HaltsChangeNothing, NoFaultFromOutside, stopped_as_it_was}
 

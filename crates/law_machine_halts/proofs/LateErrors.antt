@@ -21,12 +21,12 @@ use Rattle.swi_dispatch_answers.specs.declared.refusal.Refusal.TheVariants as re
 use Rattle.swi_dispatch_plans.specs.ImagePlans.{instantiation_planned}
 use Rattle.swi_dispatch_plans.specs.ModulePlans.{clear_planned, delete_planned, reinit_planned, tidy_planned}
 use Rattle.swi_dispatch_plans.specs.swi_dispatch_store.specs.Areas.{area_changed, change_asked, change_left}
-use Rattle.swi_dispatch.specs.declared.halt.Halt.{Halt}
-use Rattle.swi_dispatch.specs.Additions.{Planned, copy_planned, insertion_planned, load_planned, named_load_planned}
-use Rattle.swi_dispatch.specs.Calls.{area_changing, call_answer, with_guest}
-use Rattle.swi_dispatch.specs.MachineState.{MachineState, machine_estate, quiet, setting_of}
-use Rattle.swi_dispatch.specs.Returns.{error_answered}
-use Rattle.swi_dispatch.specs.Step.{outcome_of_planned, begun_alone, outcome_of_call, outcome_of_answer, outcome_of_end, module_loaded, os_module_called, os_module_called_for, unless_halted}
+use Rattle.swi_dispatch_guest.specs.declared.halt.Halt.{Halt}
+use Rattle.swi_dispatch_guest.specs.Additions.{Planned, copy_planned, insertion_planned, load_planned, named_load_planned}
+use Rattle.swi_dispatch_guest.specs.Calls.{area_changing, call_answer, with_guest}
+use Rattle.swi_dispatch_guest.specs.MachineState.{MachineState, machine_estate, quiet, setting_of}
+use Rattle.swi_dispatch_guest.specs.Returns.{error_answered}
+use Rattle.swi_dispatch_guest.specs.Step.{outcome_of_planned, begun_alone, outcome_of_call, outcome_of_answer, outcome_of_end, module_loaded, os_module_called, os_module_called_for, unless_halted}
 use Rattle.law_machine_halts.proofs.Refusing.{refused_as}
 use Rattle.law_machine_halts.specs.LateErrors.{ErringChangesMovePages, RefusedLoadsChangeNothing, RefusedPlansChangeNothing, error_of, plan_error}
 use Rattle.law_machine_halts.specs.Refusals.{IsRefusal}

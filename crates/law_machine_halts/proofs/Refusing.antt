@@ -37,17 +37,17 @@ use Rattle.swi_dispatch_flex.specs.Calls.{FlexMemory}
 use Rattle.swi_dispatch_frames.specs.Entering.{swi_entered}
 use Rattle.swi_dispatch_plans.specs.Openings.{opening_asked}
 use Rattle.swi_dispatch_plans.specs.declared.openings.Opening.{Opening}
-use Rattle.swi_dispatch.proofs.GateReturns.{first_slot}
-use Rattle.swi_dispatch.proofs.Kept.{short_name}
-use Rattle.swi_dispatch.proofs.NextTurn.{awake_step, outside_call}
-use Rattle.swi_dispatch.specs.Answers.{Answer, refusal_answer, went_on}
-use Rattle.swi_dispatch.specs.Calls.{call_answer, generated_refusal, on_estate, on_flex, on_store, on_world, wrote_text_after, wrote_text_at}
-use Rattle.swi_dispatch.specs.MachineState.{MachineState, StepOutcome, quiet, setting_of}
-use Rattle.swi_dispatch.specs.ModuleStart.{opened_at}
-use Rattle.swi_dispatch.specs.Returns.{gone_back}
-use Rattle.swi_dispatch.specs.declared.halt.Halt.{Halt}
-use Rattle.swi_dispatch.specs.declared.halt.Halt.TheVariants as halt
-use Rattle.swi_dispatch.specs.Step.{call_of, call_refused, outcome_of_call, called_by, outcome_of_answer, outcome_of_end, handler_entered, result_of_instruction, machine_step, outcome_of_module_swi, module_entered, os_module_called, os_module_called_for, outcome_of_turn, without_x}
+use Rattle.swi_dispatch_guest.proofs.GateReturns.{first_slot}
+use Rattle.swi_dispatch_guest.proofs.Kept.{short_name}
+use Rattle.swi_dispatch_guest.proofs.NextTurn.{awake_step, outside_call}
+use Rattle.swi_dispatch_guest.specs.Answers.{Answer, refusal_answer, went_on}
+use Rattle.swi_dispatch_guest.specs.Calls.{call_answer, generated_refusal, on_estate, on_flex, on_store, on_world, wrote_text_after, wrote_text_at}
+use Rattle.swi_dispatch_guest.specs.MachineState.{MachineState, StepOutcome, quiet, setting_of}
+use Rattle.swi_dispatch_guest.specs.ModuleStart.{opened_at}
+use Rattle.swi_dispatch_guest.specs.Returns.{gone_back}
+use Rattle.swi_dispatch_guest.specs.declared.halt.Halt.{Halt}
+use Rattle.swi_dispatch_guest.specs.declared.halt.Halt.TheVariants as halt
+use Rattle.swi_dispatch_guest.specs.Step.{call_of, call_refused, outcome_of_call, called_by, outcome_of_answer, outcome_of_end, handler_entered, result_of_instruction, machine_step, outcome_of_module_swi, module_entered, os_module_called, os_module_called_for, outcome_of_turn, without_x}
 use Rattle.law_machine_halts.proofs.Halting.{called_exits, exit_cases}
 use Rattle.law_machine_halts.specs.Refusals.{GoingOnIsDone, IsRefusal, RefusalsChangeNothing, RefusedStepsChangeNothing, RefusedStoreCallsChangeNothing, may_err_late, may_run_code}
 

@@ -4,10 +4,10 @@ use Rattle.profile.specs.declared.swi.SwiName.TheVariants as swi
 use Rattle.profile.specs.SwiNames.{swi_of}
 use Rattle.arm_core.specs.declared.turn.Turn.TheVariants as turn
 use Rattle.image_loader.specs.Entries.{Entry}
-use Rattle.swi_dispatch.specs.declared.halt.Halt.{Halt}
-use Rattle.swi_dispatch.specs.declared.halt.Halt.TheVariants as halt
-use Rattle.swi_dispatch.specs.MachineState.{MachineState, StepOutcome}
-use Rattle.swi_dispatch.specs.Step.{result_of_instruction, machine_step, module_loaded, store_called, without_x}
+use Rattle.swi_dispatch_guest.specs.declared.halt.Halt.{Halt}
+use Rattle.swi_dispatch_guest.specs.declared.halt.Halt.TheVariants as halt
+use Rattle.swi_dispatch_guest.specs.MachineState.{MachineState, StepOutcome}
+use Rattle.swi_dispatch_guest.specs.Step.{result_of_instruction, machine_step, module_loaded, store_called, without_x}
 
 -- the machine as it was, with that halt; and nothing is printed
 abbrev pub stopped_as_it_was : MachineState → Halt → StepOutcome

@@ -16,10 +16,10 @@ use Rattle.swi_dispatch_answers.specs.Words.{host_string}
 use Rattle.swi_dispatch_plans.specs.ImagePlans.{instantiation_planned}
 use Rattle.swi_dispatch_plans.specs.ModulePlans.{clear_planned, delete_planned, reinit_planned, tidy_planned}
 use Rattle.swi_dispatch_plans.specs.swi_dispatch_store.specs.Areas.{area_changed, change_asked}
-use Rattle.swi_dispatch.specs.Additions.{Planned, copy_planned, insertion_planned, load_planned, named_load_planned}
-use Rattle.swi_dispatch.specs.Calls.{with_guest}
-use Rattle.swi_dispatch.specs.MachineState.{MachineState, machine_estate, setting_of}
-use Rattle.swi_dispatch.specs.Step.{outcome_of_call, module_loaded}
+use Rattle.swi_dispatch_guest.specs.Additions.{Planned, copy_planned, insertion_planned, load_planned, named_load_planned}
+use Rattle.swi_dispatch_guest.specs.Calls.{with_guest}
+use Rattle.swi_dispatch_guest.specs.MachineState.{MachineState, machine_estate, setting_of}
+use Rattle.swi_dispatch_guest.specs.Step.{outcome_of_call, module_loaded}
 use Rattle.law_machine_halts.specs.Refusals.{IsRefusal}
 
 abbrev pub error_of : {A : Type 0} → Result A ErrorNumber → Option ErrorNumber

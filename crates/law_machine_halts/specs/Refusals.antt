@@ -15,8 +15,8 @@ use Rattle.arm_core.specs.declared.turn.Turn.TheVariants as turn
 use Rattle.arm_core.specs.State.{register_in, register_of}
 use Rattle.image_loader.specs.Entries.{Entry}
 use Rattle.swi_dispatch_answers.specs.Returns.{return_word}
-use Rattle.swi_dispatch.specs.MachineState.{MachineState}
-use Rattle.swi_dispatch.specs.Step.{outcome_of_call, result_of_instruction, machine_step, store_called, without_x}
+use Rattle.swi_dispatch_guest.specs.MachineState.{MachineState}
+use Rattle.swi_dispatch_guest.specs.Step.{outcome_of_call, result_of_instruction, machine_step, store_called, without_x}
 
 -- All is as it was but for the block of an error, R0, R14 of supervisor mode, V and the program counter: of the core's
 -- 26 registers R0 is the first, and R14 of supervisor mode the last. That has the return address with the caller's

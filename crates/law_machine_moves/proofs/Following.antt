@@ -11,12 +11,12 @@ use Rattle.arm_core.specs.declared.turn.Turn.{Turn as CoreTurn}
 use Rattle.arm_core.specs.declared.turn.Turn.TheVariants as turn
 use Rattle.image_loader.specs.Entries.{Entry}
 use Rattle.instances_plans.specs.Plans.{Plan}
-use Rattle.swi_dispatch.specs.declared.halt.Halt.{Halt}
-use Rattle.swi_dispatch.specs.Boot.{machine_with_register}
-use Rattle.swi_dispatch.specs.MachineState.{MachineState}
-use Rattle.swi_dispatch.specs.Parts.{state_of}
-use Rattle.swi_dispatch.specs.Step.{outcome_of_call, result_of_instruction, machine_step, store_called, outcome_of_turn, unless_halted, without_x}
-use Rattle.swi_dispatch.specs.Moves.{Call, IsState, Move, Step, machine_with_words, machine_after_move, swi_of_turn, with_registers}
+use Rattle.swi_dispatch_guest.specs.declared.halt.Halt.{Halt}
+use Rattle.swi_dispatch_guest.specs.MachineState.{MachineState}
+use Rattle.swi_dispatch_guest.specs.Parts.{IsState, state_of}
+use Rattle.swi_dispatch_guest.specs.Step.{outcome_of_call, result_of_instruction, machine_step, store_called, outcome_of_turn, unless_halted, without_x}
+use Rattle.swi_dispatch_guest.specs.Moves.{Call, Move, Step, machine_with_words, machine_after_move, swi_of_turn, with_registers}
+use Rattle.swi_dispatch_guest.specs.Writes.{machine_with_register}
 use Rattle.law_sliding.specs.Meaning.{AreStores, Meaning, Stores, meaning_of}
 use Rattle.law_sliding.specs.Rules.{IsTurned}
 use Rattle.law_sliding.specs.Turning.{Call as FlexTurn, Init, Slide, StoreTurn, answer_of_turn, anchor_place_of_turn, stores_after_turn as stores_turned}

@@ -11,9 +11,10 @@ use Rattle.image_loader.specs.Entries.{Entry}
 use Rattle.instances_plans.specs.Plans.{Plan}
 use Rattle.swi_dispatch_flex.specs.Calls.{room_word_of}
 use Rattle.swi_dispatch_plans.specs.ModulePlans.{tidy_planned}
-use Rattle.swi_dispatch.specs.MachineState.{MachineState, setting_of}
-use Rattle.swi_dispatch.specs.Step.{result_of_instruction}
-use Rattle.swi_dispatch.specs.Moves.{Call, IsState, Move, Step, core_of, machine_with_words, machine_after_move, swi_made}
+use Rattle.swi_dispatch_guest.specs.MachineState.{MachineState, setting_of}
+use Rattle.swi_dispatch_guest.specs.Step.{result_of_instruction}
+use Rattle.swi_dispatch_guest.specs.Moves.{Call, Move, Step, core_of, machine_with_words, machine_after_move, swi_made}
+use Rattle.swi_dispatch_guest.specs.Parts.{IsState}
 use Rattle.law_sliding.specs.Meaning.{meaning_of}
 use Rattle.law_sliding.specs.Turning.{answer_of_turn, anchor_place_of_turn}
 use Rattle.law_sliding_names.specs.Named.{IsTurnByNames}

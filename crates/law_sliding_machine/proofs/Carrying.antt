@@ -10,10 +10,10 @@ use Rattle.flex_machine.specs.module_world.specs.World.{World}
 use Rattle.swi_dispatch_plans.specs.instances.specs.declared.answers.Start.{Start}
 use Rattle.swi_dispatch_plans.specs.instances.specs.Reading.{start_found}
 use Rattle.swi_dispatch_frames.specs.declared.call.Call.{Call}
-use Rattle.swi_dispatch.specs.Gates.{call_ended_by, entered_if, entered_with, ended_of, state_after_plan, kept_by, state_with_code_entered}
-use Rattle.swi_dispatch.specs.Returns.{gone_back}
-use Rattle.swi_dispatch.specs.MachineState.{MachineState, machine_world}
-use Rattle.swi_dispatch.specs.ModuleStart.{opened_at}
+use Rattle.swi_dispatch_guest.specs.Gates.{call_ended_by, entered_if, entered_with, ended_of, state_after_plan, kept_by, state_with_code_entered}
+use Rattle.swi_dispatch_guest.specs.Returns.{gone_back}
+use Rattle.swi_dispatch_guest.specs.MachineState.{MachineState, machine_world}
+use Rattle.swi_dispatch_guest.specs.ModuleStart.{opened_at}
 use Rattle.law_sliding_machine.proofs.Behind.{IsTexted, text_texted, texted_same}
 
 -- the machine after it

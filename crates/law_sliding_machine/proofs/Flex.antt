@@ -23,13 +23,13 @@ use Rattle.swi_dispatch_answers.specs.Refusals.{or_error}
 use Rattle.swi_dispatch_answers.specs.declared.refusal.Refusal.{Refusal}
 use Rattle.swi_dispatch_answers.specs.declared.refusal.Refusal.TheVariants as refusal
 use Rattle.swi_dispatch_flex.specs.Calls.{FlexMemory, fit_told, flex_called, memory_after_flex as memory_left}
-use Rattle.swi_dispatch.proofs.Kept.{short_name}
-use Rattle.swi_dispatch.specs.declared.halt.Halt.TheVariants as halt
-use Rattle.swi_dispatch.specs.Answers.{went_on}
-use Rattle.swi_dispatch.specs.Calls.{call_answer, machine_flex, on_flex}
-use Rattle.swi_dispatch.specs.MachineState.{MachineState}
-use Rattle.swi_dispatch.specs.Returns.{outcome_of_halt}
-use Rattle.swi_dispatch.specs.Step.{outcome_of_call, called_by, outcome_of_answer, is_exit}
+use Rattle.swi_dispatch_guest.proofs.Kept.{short_name}
+use Rattle.swi_dispatch_guest.specs.declared.halt.Halt.TheVariants as halt
+use Rattle.swi_dispatch_guest.specs.Answers.{went_on}
+use Rattle.swi_dispatch_guest.specs.Calls.{call_answer, machine_flex, on_flex}
+use Rattle.swi_dispatch_guest.specs.MachineState.{MachineState}
+use Rattle.swi_dispatch_guest.specs.Returns.{outcome_of_halt}
+use Rattle.swi_dispatch_guest.specs.Step.{outcome_of_call, called_by, outcome_of_answer, is_exit}
 use Rattle.law_sliding.proofs.Called.{words_said}
 use Rattle.law_sliding.proofs.Turns.{turns_follow}
 use Rattle.law_sliding.specs.Laws.{IsFollowed, module_without_place}

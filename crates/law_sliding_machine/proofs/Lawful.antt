@@ -9,10 +9,10 @@ use Rattle.arm_core.specs.declared.turn.Turn.TheVariants as turn
 use Rattle.image_loader.specs.Entries.{Entry}
 use Rattle.instances_plans.specs.Plans.{Plan}
 use Rattle.swi_dispatch_plans.specs.instances.specs.Turns.{MayGoOn}
-use Rattle.swi_dispatch.specs.declared.halt.Halt.{Halt}
-use Rattle.swi_dispatch.specs.MachineState.{MachineState, StepOutcome}
-use Rattle.swi_dispatch.specs.Parts.{Parts, parts_world, state_of}
-use Rattle.swi_dispatch.specs.Step.{outcome_of_call, result_of_instruction, machine_step, store_called, turn_end, outcome_of_turn, unless_halted, without_x}
+use Rattle.swi_dispatch_guest.specs.declared.halt.Halt.{Halt}
+use Rattle.swi_dispatch_guest.specs.MachineState.{MachineState, StepOutcome}
+use Rattle.swi_dispatch_guest.specs.Parts.{Parts, parts_world, state_of}
+use Rattle.swi_dispatch_guest.specs.Step.{outcome_of_call, result_of_instruction, machine_step, store_called, turn_end, outcome_of_turn, unless_halted, without_x}
 use Rattle.law_sliding_machine.proofs.Flex.{flex_made}
 use Rattle.law_sliding_machine.proofs.States.{states_have}
 use Rattle.law_sliding_machine.proofs.Steps.{IsAtGate, begins, goes}

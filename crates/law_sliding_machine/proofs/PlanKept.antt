@@ -42,15 +42,15 @@ use Rattle.flex_machine.specs.rma.specs.NewImages.{may_be_in_place}
 use Rattle.profile.specs.Word.{bit_of}
 use Rattle.profile.specs.declared.error.ErrorNumber.TheVariants.{BadPointer, BadString, FrameLimit, ImageUnknown, SwiUnknown}
 use Rattle.swi_dispatch_plans.specs.declared.openings.Opening.{Opening}
-use Rattle.swi_dispatch.specs.declared.halt.Halt.{Halt}
-use Rattle.swi_dispatch.specs.declared.halt.Halt.TheVariants as halt
-use Rattle.swi_dispatch.specs.Additions.{Planned, copied_range_planned, copy_planned, image_planned, insertion_planned, load_planned, named_load_planned, plan_alone, range_planned}
-use Rattle.swi_dispatch.specs.Answers.{Answer, went_on}
-use Rattle.swi_dispatch.specs.Calls.{call_answer, on_estate, on_flex, on_store, on_world, wrote_text_after, wrote_text_at}
-use Rattle.swi_dispatch.specs.MachineState.{MachineState, StepOutcome, machine_estate, setting_of}
-use Rattle.swi_dispatch.specs.ModuleStart.{opened_at}
-use Rattle.swi_dispatch.specs.Returns.{gone_back, outcome_of_halt}
-use Rattle.swi_dispatch.specs.Step.{outcome_of_planned, begun_alone, call_refused, outcome_of_call, called_by, outcome_of_answer, outcome_of_end, result_of_instruction, is_exit, machine_step, outcome_of_module_swi, module_entered, module_loaded, os_module_called, os_module_called_for, store_called, outcome_of_turn, unless_halted, without_x}
+use Rattle.swi_dispatch_guest.specs.declared.halt.Halt.{Halt}
+use Rattle.swi_dispatch_guest.specs.declared.halt.Halt.TheVariants as halt
+use Rattle.swi_dispatch_guest.specs.Additions.{Planned, copied_range_planned, copy_planned, image_planned, insertion_planned, load_planned, named_load_planned, plan_alone, range_planned}
+use Rattle.swi_dispatch_guest.specs.Answers.{Answer, went_on}
+use Rattle.swi_dispatch_guest.specs.Calls.{call_answer, on_estate, on_flex, on_store, on_world, wrote_text_after, wrote_text_at}
+use Rattle.swi_dispatch_guest.specs.MachineState.{MachineState, StepOutcome, machine_estate, setting_of}
+use Rattle.swi_dispatch_guest.specs.ModuleStart.{opened_at}
+use Rattle.swi_dispatch_guest.specs.Returns.{gone_back, outcome_of_halt}
+use Rattle.swi_dispatch_guest.specs.Step.{outcome_of_planned, begun_alone, call_refused, outcome_of_call, called_by, outcome_of_answer, outcome_of_end, result_of_instruction, is_exit, machine_step, outcome_of_module_swi, module_entered, module_loaded, os_module_called, os_module_called_for, store_called, outcome_of_turn, unless_halted, without_x}
 use Rattle.law_sliding_machine.specs.Laws.{PlansStay, PlansStayFromOutside}
 
 abbrev Keeps : MachineState → StepOutcome → Type 0

@@ -5,8 +5,8 @@ use Rattle.instances_table.specs.Modules.{AreModules}
 use Rattle.flex_machine.specs.Ground.{HasFlex}
 use Rattle.swi_dispatch_plans.specs.instances.specs.Turns.{MayGoOn}
 use Rattle.swi_dispatch_plans.specs.instances.specs.instances_actions.specs.Pending.{is_pending, pending_of}
-use Rattle.swi_dispatch.proofs.FlexCalls.{pending_one}
-use Rattle.swi_dispatch.specs.Parts.{Parts, parts_world}
+use Rattle.swi_dispatch_guest.proofs.FlexCalls.{pending_one}
+use Rattle.swi_dispatch_guest.specs.Parts.{Parts, parts_world}
 use Rattle.law_sliding.proofs.Turns.{machines_have}
 use Rattle.law_sliding.specs.Meaning.{AreStores}
 use Rattle.law_sliding_machine.specs.MachineStores.{StatesHaveStores, pending_in}

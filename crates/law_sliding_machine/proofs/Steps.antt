@@ -36,11 +36,11 @@ use Rattle.swi_dispatch_frames.specs.declared.frame.Frame.{Frame}
 use Rattle.swi_dispatch_frames.specs.declared.frame.FrameKind.{FrameKind}
 use Rattle.swi_dispatch_frames.specs.declared.frame.FrameKind.TheVariants.{Swi, Entry as EntryFrame}
 use Rattle.swi_dispatch_frames.specs.Frames.{innermost_frame}
-use Rattle.swi_dispatch.specs.declared.halt.Halt.TheVariants as halt
-use Rattle.swi_dispatch.specs.Gates.{carried_on, come_back, fault_ahead, frame_closed, frame_left, outcome_of_gate, gated_by, kept_by, outcome_left, plan_left, unless_fault}
-use Rattle.swi_dispatch.specs.MachineState.{MachineState, machine_world, quiet, setting_of}
-use Rattle.swi_dispatch.specs.Returns.{outcome_of_error, outcome_of_halt}
-use Rattle.swi_dispatch.specs.Step.{outcome_of_planned, begun_alone, call_of, outcome_of_call, called_by, is_exit, os_module_called, os_module_called_for}
+use Rattle.swi_dispatch_guest.specs.declared.halt.Halt.TheVariants as halt
+use Rattle.swi_dispatch_guest.specs.Gates.{carried_on, come_back, fault_ahead, frame_closed, frame_left, outcome_of_gate, gated_by, kept_by, outcome_left, plan_left, unless_fault}
+use Rattle.swi_dispatch_guest.specs.MachineState.{MachineState, machine_world, quiet, setting_of}
+use Rattle.swi_dispatch_guest.specs.Returns.{outcome_of_error, outcome_of_halt}
+use Rattle.swi_dispatch_guest.specs.Step.{outcome_of_planned, begun_alone, call_of, outcome_of_call, called_by, is_exit, os_module_called, os_module_called_for}
 use Rattle.law_sliding.proofs.Turns.{turns_follow}
 use Rattle.law_sliding.specs.Laws.{IsFollowed}
 use Rattle.law_sliding.specs.Meaning.{AreStores, Stores}

@@ -7,11 +7,11 @@ use Rattle.os_heap.specs.Store.{Store}
 use Rattle.flex_machine.specs.Ground.{flex_state}
 use Rattle.flex_machine.specs.flex_store.specs.Calls.{FlexState, flex_after_alloc, flex_after_extend, mid_extended}
 use Rattle.swi_dispatch_flex.specs.Calls.{fit_told, flex_called, memory_after_flex as memory_left, room_word_of}
-use Rattle.swi_dispatch.proofs.ErrorNumbers.{zero_kept, zero_set}
-use Rattle.swi_dispatch.specs.Answers.{went_on}
-use Rattle.swi_dispatch.specs.Calls.{machine_flex, on_flex}
-use Rattle.swi_dispatch.specs.MachineState.{MachineState}
-use Rattle.swi_dispatch.specs.Step.{outcome_of_answer}
+use Rattle.swi_dispatch_guest.proofs.ErrorNumbers.{zero_kept, zero_set}
+use Rattle.swi_dispatch_guest.specs.Answers.{went_on}
+use Rattle.swi_dispatch_guest.specs.Calls.{machine_flex, on_flex}
+use Rattle.swi_dispatch_guest.specs.MachineState.{MachineState}
+use Rattle.swi_dispatch_guest.specs.Step.{outcome_of_answer}
 use Rattle.law_sliding.specs.Turning.{answer_of, answer_of_turn}
 use Rattle.law_sliding_machine.proofs.Flex.{calls_as}
 use Rattle.law_sliding_machine.specs.MachineStores.{stores_of}

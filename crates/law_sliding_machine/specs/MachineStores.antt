@@ -3,8 +3,8 @@ use Rattle.std.specs.Prelude.{Option, Some, None, List, []}
 use Rattle.instances_plans.specs.Plans.{Plan}
 use Rattle.instances_table.specs.declared.parts.Image.{Image}
 use Rattle.swi_dispatch_plans.specs.instances.specs.instances_actions.specs.Pending.{pending_of}
-use Rattle.swi_dispatch.specs.MachineState.{MachineState, machine_world}
-use Rattle.swi_dispatch.specs.Parts.{IsMachine, Parts, state_of}
+use Rattle.swi_dispatch_guest.specs.MachineState.{MachineState, machine_world}
+use Rattle.swi_dispatch_guest.specs.Parts.{IsGuest, Parts, state_of}
 use Rattle.law_sliding.specs.Meaning.{AreStores, Stores}
 
 -- the image that the call under way has recorded and not added to the modules yet, if there is one
@@ -18,4 +18,4 @@ stores_of s = record { world = machine_world s; flex = s.tables.flex; pending = 
 
 -- All that the laws over stores ask for holds of those of every machine.
 abbrev pub StatesHaveStores : Type 0
-StatesHaveStores = (p : Parts) → IsMachine p → AreStores (stores_of (state_of p))
+StatesHaveStores = (p : Parts) → IsGuest p → AreStores (stores_of (state_of p))

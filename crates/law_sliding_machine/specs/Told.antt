@@ -4,8 +4,8 @@ use Rattle.profile.specs.SwiNames.{swi_of}
 use Rattle.arm_core.specs.State.{register_of}
 use Rattle.image_loader.specs.Entries.{Entry}
 use Rattle.swi_dispatch_flex.specs.Calls.{room_word_of}
-use Rattle.swi_dispatch.specs.MachineState.{MachineState}
-use Rattle.swi_dispatch.specs.Step.{outcome_of_call}
+use Rattle.swi_dispatch_guest.specs.MachineState.{MachineState}
+use Rattle.swi_dispatch_guest.specs.Step.{outcome_of_call}
 use Rattle.law_sliding.specs.Turning.{answer_of_turn}
 use Rattle.law_sliding_machine.specs.MachineStores.{stores_of}
 use Rattle.law_sliding_machine.specs.Turns.{Allocated, Extended, FlexSwi, Freed, MadeStore, MidExtended, flex_name, flex_turn}

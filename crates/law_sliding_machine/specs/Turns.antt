@@ -12,7 +12,7 @@ use Rattle.instances_plans.specs.Plans.{Plan}
 use Rattle.instances_table.specs.Changes.{is_slot_held}
 use Rattle.flex_machine.specs.module_world.specs.World.{private_word}
 use Rattle.flex_machine.specs.flex_store.specs.Runs.{Alloc, Extend, MidExtend, Release}
-use Rattle.swi_dispatch.specs.MachineState.{MachineState}
+use Rattle.swi_dispatch_guest.specs.MachineState.{MachineState}
 use Rattle.law_sliding.specs.Laws.{IsFollowed}
 use Rattle.law_sliding.specs.Meaning.{AreStores, Stores, meaning_of, store_in}
 use Rattle.law_sliding.specs.Turning.{Call, Init, Slide, StoreTurn, answer_of_turn, stores_after_turn}

@@ -1,39 +1,52 @@
--- The written machine at its start.
-use Rattle.std.proofs.Common.{inl, ◌≡◌, Bool, false, true, IsSome, [], Option, Some, None, refl, ap}
+-- The written machine at its start, and a run of no step.
+use Rattle.std.proofs.Common.{◌≡◌, ◌&&◌, ◌==◌, Bool, false, true, ℕ, List, IsSome, Option, Some, None, Result, Ok, Err, refl, ap, ◌∙◌, arith}
+use Rattle.std.specs.Prelude.{IfOk, OnErr}
+use Rattle.std.proofs.lemmas.Bool.Decides.{nat_tests}
+use Rattle.image_loader.specs.Entries.{Entry}
+use Rattle.profile.specs.declared.sink.WriteFault.{WriteFault}
+use Rattle.std.specs.Option.{option_map}
+use Rattle.profile.specs.declared.stop.Stop.{Stop}
 use Rattle.profile.specs.Sizes.{Sizes}
-use Rattle.address_map.specs.declared.map.AddressMap.{AddressMap}
-use Rattle.address_map.specs.Memory.{free_pages}
-use Rattle.arm_core.specs.State.{cpu_start_state}
-use Rattle.flex_machine.specs.module_world.specs.Sound.{IsWorld}
-use Rattle.flex_machine.specs.module_world.specs.World.{world_of}
-use Rattle.flex_machine.specs.module_world.proofs.Starting.{start_world}
-use Rattle.os_heap.specs.Store.{Store, store_of}
-use Rattle.dynamic_areas.specs.Areas.{start_land}
-use Rattle.dynamic_areas.specs.Ground.{AreAreas, IsRecorded, pool_of, system_pages_range}
-use Rattle.dynamic_areas.proofs.HeapCalls.{pool_is}
-use Rattle.swi_dispatch.specs.declared.halt.Halt.{Halt}
-use Rattle.swi_dispatch.specs.MachineState.{MachineState, machine_start}
-use Rattle.swi_dispatch.proofs.Kept.{over, with_core}
-use Rattle.dynamic_areas.specs.Start.{start_store}
-
-pub starts : (m : AddressMap) (s : Sizes) → store_of m ≡ start_store s → AreAreas (store_of m) (free_pages m) (start_land s)
-    → over m cpu_start_state (record { land = start_land s; modules = []; frames = []; plan = None; flex = record { extent = None } }) None ≡ machine_start s
-unfolding machine_start
-starts m s e areas =
-    let pool : free_pages m ≡ pool_of (start_land s) = pool_is _ _ _ areas in
-    λ i. with_core cpu_start_state (pool i) (record { land = start_land s; modules = []; frames = []; plan = None; flex = record { extent = None } }) None (e i)
+use Rattle.swi_dispatch_guest.specs.declared.halt.Halt.{Halt}
+use Rattle.swi_dispatch_guest.specs.declared.running.Ran.{Ran}
+use Rattle.swi_dispatch_guest.specs.Ending.{Ends, StandsAfter}
+use Rattle.swi_dispatch_guest.specs.MachineState.{MachineState, machine_start, stop_of}
+use Rattle.swi_dispatch_guest.specs.Run.{Run, ran}
+use Rattle.swi_dispatch_guest.proofs.RunLoop.{ran-halted, ran-none}
 
 -- a machine that stands as it was made isn't halted
-pub fresh_awake : (s : MachineState) (sizes : Sizes) (b : Bool) (o : Option Halt) → (b ≡ true → s ≡ machine_start sizes) → s.halt ≡ o → IsSome o → b ≡ false
+pub fresh_awake : (s : MachineState) (sizes : Sizes) (b : Bool) (r : Option Stop) → (b ≡ true → s ≡ machine_start sizes) → r ≡ option_map stop_of s.halt
+    → IsSome r → b ≡ false
 unfolding machine_start
-fresh_awake s sizes false o start e some = refl
+fresh_awake s sizes false r start e some = refl
 fresh_awake s sizes true None start e some = cc
-fresh_awake s sizes true (Some h) start e some = let k : s.halt ≡ None = ap (λ (t : MachineState). t.halt) (start refl) in cc
+fresh_awake s sizes true (Some x) start e some = let k : s.halt ≡ None = ap (λ (t : MachineState). t.halt) (start refl) in
+    let none : Some x ≡ None = e ∙ ap (option_map stop_of) k in cc
 
-pub system_recorded : (m : AddressMap) (s : Sizes) → store_of m ≡ start_store s → IsRecorded system_pages_range (store_of m).others
-system_recorded m s e = rw e (inl refl)
+-- a run of no step
+both : (a b : Bool) → (a && b) ≡ true → (a ≡ true) × (b ≡ true)
+both true b is = (refl, is)
+both false b is = cc
 
--- and there are no modules yet
-pub start_modules : (m : AddressMap) (s : Sizes) → store_of m ≡ start_store s → AreAreas (store_of m) (free_pages m) (start_land s)
-    → IsWorld (world_of m (start_land s) []) []
-start_modules m s e areas = start_world (world_of m (start_land s) []) areas (ap (λ (t : Store). t.others) e) refl
+still : (images : List Entry) (breaks : List ℕ) (s : MachineState) (o : Option Halt) → s.halt ≡ o → (ran images breaks 0 s).now ≡ s
+still images breaks s None e = ap (λ (r : Run). r.now) (ran-none images breaks s e)
+still images breaks s (Some h) e = ap (λ (r : Run). r.now) (ran-halted images breaks 0 s h e)
+
+none_ran : (images : List Entry) (breaks : List ℕ) (budget : ℕ) (s t : MachineState) (o0 o1 : List ℕ) (c0 c1 : Option (List ℕ))
+    (r : Result Ran WriteFault) → budget ≡ 0
+    → IfOk r (λ (x : Ran). Ends (ran images breaks budget s) t o0 o1 c0 c1 x.taken x.stop)
+    → OnErr r (StandsAfter images breaks budget s t o1 c0 c1) → t ≡ s
+none_ran images breaks budget s t o0 o1 c0 c1 (Ok x) none ends stands =
+    ends.machine ∙ ap (λ (n : ℕ). (ran images breaks n s).now) none ∙ still images breaks s s.halt refl
+none_ran images breaks budget s t o0 o1 c0 c1 (Err e) none ends stands =
+    let within = stands.within in absurd (omega (arith, none, within))
+
+pub start_stays : (images : List Entry) (breaks : List ℕ) (budget : ℕ) (s t start : MachineState) (b : Bool) (o0 o1 : List ℕ) (c0 c1 : Option (List ℕ))
+    (r : Result Ran WriteFault) → (b ≡ true → s ≡ start)
+    → IfOk r (λ (x : Ran). Ends (ran images breaks budget s) t o0 o1 c0 c1 x.taken x.stop)
+    → OnErr r (StandsAfter images breaks budget s t o1 c0 c1) → (b && (budget == 0)) ≡ true → t ≡ start
+start_stays images breaks budget s t start b o0 o1 c0 c1 r was ends stands fresh =
+    let parts = both b (budget == 0) fresh in
+    let zero : (budget == 0) ≡ true = parts.1 in
+    let none : budget ≡ 0 = grind (arith, nat_tests, zero) in
+    none_ran images breaks budget s t o0 o1 c0 c1 r none ends stands ∙ was parts.0

@@ -1,30 +1,16 @@
--- The written machine. Begin with MachineState and Step; Run has many steps, Parts ties it to the
--- real machine.
-pub use Rattle.swi_dispatch_answers
-pub use Rattle.swi_dispatch_breaks
-pub use Rattle.swi_dispatch_flex
-pub use Rattle.swi_dispatch_plans.specs.swi_dispatch_store
-pub use Rattle.swi_dispatch_plans.specs.swi_dispatch_modules
+-- The machine of the debugger and the shell. Begin with Value; the written machine and its steps
+-- are those of swi_dispatch_guest.
+pub use Rattle.swi_dispatch_guest
+pub use Rattle.swi_dispatch_guest.specs.swi_dispatch_answers
+pub use Rattle.swi_dispatch_guest.specs.swi_dispatch_breaks
+pub use Rattle.swi_dispatch_guest.specs.swi_dispatch_flex
 pub use Rattle.arm_core
 pub use Rattle.arm_step
 pub use Rattle.os_heap.specs.os_heap_lists
 pub use Rattle.os_heap
 pub use Rattle.dynamic_areas
-pub use Rattle.flex_machine.specs.flex_store
+pub use Rattle.flex_store
 pub use Rattle.instances_table
-pub mod Additions
-pub mod Answers
 pub mod Boot
 pub mod BootErrors
-pub mod Calls
-pub mod Ending
-pub mod Errors
-pub mod Gates
-pub mod MachineState
-pub mod ModuleStart
-pub mod Moves
-pub mod OpenFrames
-pub mod Parts
-pub mod Returns
-pub mod Run
-pub mod Step
+pub mod Value

@@ -4,13 +4,14 @@ mod areas;
 mod arguments;
 pub(crate) mod cuts;
 mod modules;
+mod outside;
 mod steps;
 mod worlds;
 
 ghost use Rattle.std.specs.Prelude.{◌≤◌};
 
 use assembler::assemble;
-use debugger::arm_step::Mode;
+use debugger::arm_step::{Mode, Psr};
 use debugger::swi_dispatch::swi_dispatch_answers::strings::text_at;
 use debugger::swi_dispatch::{BootError, Breaks, Machine, TextEnd};
 use image_loader::Images;
@@ -37,6 +38,12 @@ pub(crate) enum Line {
     /// As many bytes "x" are booted, or refused.
     BootText(usize, Option<BootError>),
     Set(u32, u32),
+    /// A register, as a mode sees it, is set.
+    SetIn(Mode, u32, u32),
+    /// The program counter is set.
+    GoTo(u32),
+    /// The flags, the interrupt bits and the mode are set.
+    Status(Psr),
     /// R0 to R3 are set.
     Registers(u32, u32, u32, u32),
     /// R4 to R8 are set.
@@ -117,6 +124,9 @@ fn acts(machine: &mut Machine, alloc: Global, line: &Line) -> Result<bool, Alloc
             return Ok(machine.boot(text.as_slice()).err() == refusal);
         }
         Line::Set(number, value) => machine.set_register(number.min(14), value),
+        Line::SetIn(mode, number, value) => machine.set_register_in(mode, number.min(14), value),
+        Line::GoTo(address) => machine.set_pc(address % 0x0400_0000 / 4 * 4),
+        Line::Status(status) => machine.set_psr(status),
         Line::Registers(r0, r1, r2, r3) => set_registers(machine, r0, r1, r2, r3),
         Line::Others(r4, r5, r6, r7, r8) => set_others(machine, [r4, r5, r6, r7, r8]),
         _ => return Ok(takes_steps(machine, line) && pokes(machine, line)),

@@ -5,10 +5,10 @@ use Rattle.profile.proofs.OutputLemmas.{Appends-join, Appends-nothing}
 use Rattle.address_map.specs.Items.{size_of}
 use Rattle.swi_dispatch.specs.os_heap.specs.Store.{Store, store_of}
 use Rattle.swi_dispatch.specs.os_heap.specs.Calls.{items_of}
-use Rattle.swi_dispatch.specs.Parts.{state_of}
 use Rattle.debugger.specs.Heap.{limits_text, heap_items_text, heap_blocks_text}
 use Rattle.debugger.proofs.HeapLemmas.{IsShown, shown, not_shown}
 use Rattle.debugger.proofs.heap.show_blocks.Goals as goal
+use Rattle.swi_dispatch_guest.specs.Parts.{state_of}
 
 pub returns-in_default-clause-found : goal.returns-in_default-clause-found
 returns-in_default-clause-found g c =
@@ -20,7 +20,7 @@ pub returns-in_default-clause-writes : goal.returns-in_default-clause-writes
 returns-in_default-clause-writes g c =
     let a = g.W.Sink.contents c.args.sink.now in
     let none : items_of (store_of c.memory-memory.result.now) c.args.heap ≡ None = sym c.blocks-2.ensures ∙ c.in_default.is in
-    let text : heap_blocks_text (state_of c.args.machine.now).store c.args.heap ≡ None =
+    let text : heap_blocks_text (state_of c.args.machine.now.guest).store c.args.heap ≡ None =
     ap (λ (s : Store). heap_blocks_text s c.args.heap) (sym c.memory-memory.ensures.store)
     ∙ not_shown (store_of c.memory-memory.result.now) c.args.heap none in
     record {
@@ -66,7 +66,7 @@ returns-clause-writes g c =
     let between = g.W.Sink.contents c.show_limits.new.sink in
     let to = g.W.Sink.contents c.show_items.new.sink in
     let is : IsShown m heap items = shown m heap items c.memory-memory.ensures.sound (sym c.blocks-2.ensures ∙ c.in-Some.is) in
-    let text : heap_blocks_text (state_of c.args.machine.now).store heap
+    let text : heap_blocks_text (state_of c.args.machine.now.guest).store heap
     ≡ Some (limits_text heap (16 + size_of is.part.items) is.part.end ++ heap_items_text (heap + 16) items) =
     ap (λ (s : Store). heap_blocks_text s heap) (sym c.memory-memory.ensures.store) ∙ is.text in
     record {

@@ -1,13 +1,13 @@
 use Rattle.std.proofs.Common.{◌≡◌, List, ℕ, subst}
 use Rattle.profile.specs.Output.{Writes}
 use Rattle.address_map.specs.Memory.{bytes_of}
-use Rattle.swi_dispatch.specs.Parts.{state_of}
 use Rattle.debugger.specs.Modules.{modules_text}
 use Rattle.debugger.proofs.modules.show_modules.Goals as goal
+use Rattle.swi_dispatch_guest.specs.Parts.{state_of}
 
 pub returns : goal.returns
 returns g c =
-    let s = state_of c.args.machine.now in
+    let s = state_of c.args.machine.now.guest in
     let same : modules_text (bytes_of c.memory.result.now) c.instances.result.now
     ≡ modules_text s.store.bytes s.tables.modules =
     λ i. modules_text (c.memory.ensures.bytes i) (c.instances.ensures i) in

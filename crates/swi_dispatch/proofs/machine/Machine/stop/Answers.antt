@@ -4,5 +4,4 @@ use Rattle.swi_dispatch.proofs.machine.Machine.stop.Goals as goal
 
 pub returns-clause-stepped : goal.returns-clause-stepped
 returns-clause-stepped c = λ some.
-    let halted : IsSome c.self.inside.halt = rw (← c.map.ensures.variant) some in
-    rw (← c.self.view_is) (fresh_awake _ _ _ _ c.self.invariant.fresh refl halted)
+    rw (← c.self.view_is) (fresh_awake _ _ _ _ c.self.invariant c.stop.ensures some)

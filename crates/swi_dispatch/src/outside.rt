@@ -1,0 +1,85 @@
+//! What a user sets in a machine from outside. The machine can't be booted after that.
+
+ghost use Rattle.std.specs.Prelude.{◌≡◌, ◌≤◌, ◌<◌, ◌%◌, ◌^◌, ◌&&◌, false, is_err};
+ghost use Rattle.profile.specs.Outcome.{Leaves};
+ghost use Rattle.swi_dispatch_guest.specs.Writes.{machine_after_poke, machine_at, machine_with_bank_register};
+ghost use Rattle.swi_dispatch_guest.specs.Writes.{machine_with_register, machine_with_status};
+
+use crate::machine::Machine;
+use arm_core::{Mode, Psr};
+use profile::Fault;
+
+impl Machine {
+    ghost use Rattle.swi_dispatch_guest.specs.Parts.{state_of};
+    ghost use Rattle.swi_dispatch.specs.Value.{IsBesides, IsMachine, IsWritten};
+
+    /// Sets one of R0 to R14 of the present mode.
+    pub fn set_register(&mut self, number: u32, value: u32)
+        requires { number ≤ 14 }
+        ensures written { IsWritten self.old self.new
+            (machine_with_register (state_of self.old.guest) number value) }
+        ensures kept { IsMachine self.new }
+    {
+        self.is_fresh = false;
+        self.guest.set_register(number, value);
+        self.known();
+    }
+
+    /// Sets one of R0 to R14 of a mode, whatever the present one: that of its bank, or the one that
+    /// all modes share.
+    pub fn set_register_in(&mut self, mode: Mode, number: u32, value: u32)
+        requires { number ≤ 14 }
+        ensures written { IsWritten self.old self.new
+            (machine_with_bank_register (state_of self.old.guest) mode number value) }
+        ensures kept { IsMachine self.new }
+    {
+        self.is_fresh = false;
+        self.guest.set_register_in(mode, number, value);
+        self.known();
+    }
+
+    /// Sets the program counter, from which the next step takes its instruction. A halted machine
+    /// stays halted.
+    pub fn set_pc(&mut self, address: u32)
+        requires aligned { address % 4 ≡ 0 }
+        requires inside { address < 2 ^ 26 }
+        ensures written { IsWritten self.old self.new (machine_at (state_of self.old.guest) address) }
+        ensures kept { IsMachine self.new }
+    {
+        self.is_fresh = false;
+        self.guest.set_pc(address);
+        self.known();
+    }
+
+    /// Sets the status: the flags N, Z, C and V, the interrupt bits I and F, and the mode.
+    pub fn set_psr(&mut self, status: Psr)
+        ensures written { IsWritten self.old self.new (machine_with_status (state_of self.old.guest) status) }
+        ensures kept { IsMachine self.new }
+    {
+        self.is_fresh = false;
+        self.guest.set_psr(status);
+        self.known();
+    }
+
+    /// Stores a word as a guest's store instruction would. A refusal changes nothing.
+    ///
+    /// # Errors
+    ///
+    /// `AddressException` from 2^26 on, else `DataUnmapped` where no memory is mapped, else
+    /// `OwnedWord` where the store calls keep their records.
+    pub fn poke(&mut self, at: u32, value: u32) -> Result<(), Fault>
+        requires { at % 4 ≡ 0 }
+        ensures state { Leaves (state_of self.old.guest)
+            (machine_after_poke (state_of self.old.guest) at value) result (state_of self.new.guest) }
+        ensures rest { IsBesides self.old self.new (self.old.is_fresh && is_err result) }
+        ensures kept { IsMachine self.new }
+    {
+        if let Err(fault) = self.guest.poke(at, value) {
+            self.known();
+            return Err(fault);
+        }
+        self.is_fresh = false;
+        self.known();
+        Ok(())
+    }
+}

@@ -1,0 +1,118 @@
+-- The flex calls of the machine: what they ask of it, that it is well-formed after them, and what
+-- they leave of it.
+use Rattle.std.proofs.Common.{◌≡◌, ◌≤◌, ◌<◌, Bool, true, false, List, [], Option, Some, None, Result, Ok, Err}
+use Rattle.std.proofs.Common.{length, lit≤, refl, sym, ◌∙◌, ap, subst}
+use Rattle.profile.specs.Outcome.{Leaves}
+use Rattle.address_map.specs.declared.map.AddressMap.{AddressMap}
+use Rattle.address_map.specs.Memory.{free_pages}
+use Rattle.arm_core.specs.State.{State}
+use Rattle.flex_machine.specs.flex_store.specs.declared.flex.Flex.{Flex}
+use Rattle.flex_machine.specs.module_world.proofs.Worlds.{few_records}
+use Rattle.flex_machine.specs.module_world.specs.Sound.{IsWorld}
+use Rattle.flex_machine.specs.module_world.specs.World.{World, world_of}
+use Rattle.instances_plans.specs.declared.given.Given.{Given}
+use Rattle.instances_plans.specs.Plans.{Plan}
+use Rattle.instances_table.specs.declared.parts.Image.{Image}
+use Rattle.instances_table.specs.Modules.{Module, slots_of}
+use Rattle.swi_dispatch_answers.specs.declared.refusal.Refusal.{Refusal}
+use Rattle.swi_dispatch_flex.specs.Calls.{FlexMemory, memory_of}
+use Rattle.swi_dispatch_flex.specs.Leaving.{CanCallFlex, LeavesFlex}
+use Rattle.swi_dispatch_plans.specs.instances.specs.Turns.{MayGoOn}
+use Rattle.swi_dispatch_plans.specs.instances.specs.instances_actions.specs.Pending.{is_pending, pending_by}
+use Rattle.swi_dispatch_plans.specs.instances.specs.instances_actions.specs.Pending.{pending_of}
+use Rattle.swi_dispatch_plans.specs.instances.specs.instances_actions.specs.Ready.{IsReady}
+use Rattle.swi_dispatch_guest.specs.declared.halt.Halt.{Halt}
+use Rattle.swi_dispatch_guest.specs.Calls.{on_flex}
+use Rattle.swi_dispatch_guest.specs.MachineState.{Tables}
+use Rattle.swi_dispatch_guest.specs.Parts.{IsWellFormed, Parts, parts_world}
+use Rattle.swi_dispatch_guest.proofs.Kept.{over, with_core}
+use Rattle.swi_dispatch_guest.proofs.OpenFrames.{frames_kept}
+use Rattle.swi_dispatch_guest.proofs.StoreCalls.{same_pages}
+
+-- there is room for one record more
+pub pending_one : (b : Bool) (g : Given) → length (pending_by b g []) ≤ 1
+pending_one true g = lit≤ tt
+pending_one false g = lit≤ tt
+
+few_ranges : (w : World) (plan : Option Plan) → MayGoOn w plan → length w.modules ≤ 64
+    → length w.estate.store.others < 68
+few_ranges w None going few = few_records w [] going few (lit≤ tt)
+few_ranges w (Some p) going few =
+    few_records w (pending_of p) going.1.world few (pending_one (is_pending p.actions) p.given)
+
+pub can_call : (p : Parts) → IsWellFormed p → length p.tables.modules ≤ 64 → CanCallFlex p.map p.tables.flex
+can_call p well few = record {
+  flex = well.flex;
+  sound = well.areas.ground.sound;
+  classes = well.classes;
+  few = few_ranges (parts_world p) p.tables.plan well.modules few;
+}
+
+-- a module call that is under way goes on where the world it stands on does
+goes_on : (w v : World) (plan : Option Plan) → v.modules ≡ w.modules
+    → ((pending : List Image) → IsWorld w pending → IsWorld v pending) → MayGoOn w plan → MayGoOn v plan
+goes_on w v None same worlds going = worlds [] going
+goes_on w v (Some p) same worlds going = (
+  going.0,
+  record {
+    world = worlds (pending_of p) going.1.world;
+    ready = subst (λ (ms : List Module). IsReady ms p) (sym same) going.1.ready;
+    code = going.1.code;
+  },
+)
+
+world_there : (w : World) (plan : Option Plan) → MayGoOn w plan → (pending : List Image) × IsWorld w pending
+world_there w None going = ([], going)
+world_there w (Some p) going = (pending_of p, going.1.world)
+
+-- the modules' world after a flex call
+abbrev world_left : Parts → AddressMap → World
+world_left p n = world_of n p.tables.land p.tables.modules
+
+left_going : (p : Parts) (n : AddressMap) (g : Flex) → IsWellFormed p → LeavesFlex p.map n g
+    → MayGoOn (world_left p n) p.tables.plan
+left_going p n g well left =
+    goes_on (parts_world p) (world_left p n) p.tables.plan refl (left.world p.tables.land p.tables.modules) well.modules
+
+pub same_free : (p : Parts) (n : AddressMap) (g : Flex) → IsWellFormed p → LeavesFlex p.map n g
+    → free_pages n ≡ free_pages p.map
+same_free p n g well left =
+    let there = world_there (world_left p n) p.tables.plan (left_going p n g well left) in
+    same_pages p.map n p.tables.land well.areas there.1.estate
+
+-- the parts of the machine then
+pub well_flexed : (old new : Parts) → IsWellFormed old → LeavesFlex old.map new.map new.tables.flex
+    → new.tables ≡ record old.tables { flex = new.tables.flex } → new.sizes ≡ old.sizes → IsWellFormed new
+well_flexed old new well left tables sizes =
+    let land : new.tables.land ≡ old.tables.land = ap (λ (t : Tables). t.land) tables in
+    let modules : new.tables.modules ≡ old.tables.modules = ap (λ (t : Tables). t.modules) tables in
+    let plan : new.tables.plan ≡ old.tables.plan = ap (λ (t : Tables). t.plan) tables in
+    let going : MayGoOn (world_left old new.map) old.tables.plan = left_going old new.map new.tables.flex well left in
+    let there = world_there (world_left old new.map) old.tables.plan going in
+    record {
+      areas = rw land there.1.estate;
+      classes = left.classes;
+      system = there.1.system;
+      modules = rw (plan, land, modules) going;
+      frames =
+          frames_kept old.tables new.tables well.frames (ap (λ (t : Tables). t.frames) tables) plan
+          (ap slots_of modules);
+      flex = left.flex;
+      sized = rw land (well.sized ∙ sym sizes);
+    }
+
+-- the written machine then
+abbrev with_place : Tables → FlexMemory → Tables
+with_place t s = record t { flex = s.flex }
+
+pub flex_left : (m n : AddressMap) (cpu cpu' : State) (tables : Tables) (halt : Option Halt) (g : Flex)
+    (r : Result (State × FlexMemory) Refusal) (x : Result (Unit {0}) Refusal) → free_pages n ≡ free_pages m
+    → Leaves {U = Unit {0}} (cpu, memory_of m tables.flex) r x (cpu', memory_of n g)
+    → Leaves {U = Unit {0}} (over m cpu tables halt) (on_flex (over m cpu tables halt) r) x
+    (over n cpu' (with_place tables (memory_of n g)) halt)
+flex_left m n cpu cpu' tables halt g (Ok q) (Ok u) pool left =
+    λ i. with_core (left i).0 (pool i) (with_place tables (left i).1) halt (left i).1.store
+flex_left m n cpu cpu' tables halt g (Err f) (Err e) pool left =
+    (left.0, λ i. with_core (left.1 i).0 (pool i) (with_place tables (left.1 i).1) halt (left.1 i).1.store)
+flex_left m n cpu cpu' tables halt g (Ok q) (Err e) pool left = absurd left
+flex_left m n cpu cpu' tables halt g (Err f) (Ok u) pool left = absurd left

@@ -1,0 +1,80 @@
+-- Steps that the core does by itself print nothing and halt nothing: so many of them are a run.
+use Rattle.std.proofs.Common.{◌≡◌, ◌≢◌, ℕ, zero, suc, ◌+◌, Option, Some, None, List, [], Result, Ok, Err, refl, sym, ◌∙◌, ap, subst, arith, Bool, if◌then◌else◌}
+use Rattle.profile.specs.declared.stop.Stop.{Stop}
+use Rattle.profile.specs.declared.stop.Stop.TheVariants as stop
+use Rattle.address_map.specs.Bytes.{Bytes}
+use Rattle.arm_core.specs.declared.turn.Turn.{Turn}
+use Rattle.arm_core.specs.declared.turn.Turn.TheVariants as turn
+use Rattle.arm_core.specs.State.{State}
+use Rattle.image_loader.specs.Entries.{Entry}
+use Rattle.swi_dispatch_guest.specs.declared.halt.Halt.{Halt}
+use Rattle.swi_dispatch_guest.specs.MachineState.{MachineState, StepOutcome, quiet}
+use Rattle.swi_dispatch_guest.specs.Step.{outcome_of_turn, Turned, result_of_instruction, unless_halted, machine_step}
+use Rattle.swi_dispatch_guest.specs.Parts.{TakesTurn}
+use Rattle.swi_dispatch_guest.specs.Run.{Run, is_among, ran, then_run, quiet_run, stop_after}
+use Rattle.swi_dispatch_guest.proofs.RunLoop.{one_step, one_run, ran-none, steps_more}
+
+done_by : (images : List Entry) (s : MachineState) (r : Result (State × Bytes) Turn) (s' : MachineState) → Turned s r turn.Done s'
+    → (outcome_of_turn images s r ≡ quiet s') × (s'.halt ≡ s.halt)
+done_by images s (Ok w) s' h = (ap quiet (sym h.1), ap (λ (x : MachineState). x.halt) h.1)
+done_by images s (Err e) s' h = (ap (λ (t : Turn). outcome_of_turn images s (Err t)) (sym h.0) ∙ ap quiet (sym h.1), ap (λ (x : MachineState). x.halt) h.1)
+
+other_by : (s : MachineState) (r : Result (State × Bytes) Turn) (t : Turn) (s' : MachineState) → t ≢ turn.Done → Turned s r t s' → s' ≡ s
+other_by s (Ok w) t s' other h = absurd (other h.0)
+other_by s (Err e) t s' other h = h.1
+
+-- a turn that isn't done changes nothing
+pub other_stays : (s : MachineState) (t : Turn) (s' : MachineState) → t ≢ turn.Done → TakesTurn s t s' → s' ≡ s
+other_stays s t s' other h = other_by s (result_of_instruction s) t s' other h
+
+pub done_awake : (s s' : MachineState) (t : Turn) → t ≡ turn.Done → s.halt ≡ None → TakesTurn s t s' → s'.halt ≡ None
+done_awake s s' t done awake h = (done_by [] s (result_of_instruction s) s' (subst (λ (x : Turn). TakesTurn s x s') done h)).1 ∙ awake
+
+done_step : (images : List Entry) (s s' : MachineState) → s.halt ≡ None → TakesTurn s turn.Done s' → machine_step images s ≡ quiet s'
+unfolding machine_step
+done_step images s s' awake h =
+    ap (λ (o : Option Halt). unless_halted s o (outcome_of_turn images s (result_of_instruction s))) awake ∙ (done_by images s (result_of_instruction s) s' h).0
+
+-- where a run of one such step ends
+pub ends_by : (breaks : List ℕ) (s : MachineState) (b : Bool) → is_among breaks s.cpu.pc ≡ b
+    → stop_after breaks s None ≡ (if b then stop.Break s.cpu.pc else stop.Budget)
+ends_by breaks s b h = ap (λ (c : Bool). if c then stop.Break s.cpu.pc else stop.Budget) h
+
+pub ends_unwatched : (breaks : List ℕ) (s : MachineState) → breaks ≡ [] → stop_after breaks s None ≡ stop.Budget
+unfolding is_among
+ends_unwatched breaks s none = ap (λ (bs : List ℕ). stop_after bs s None) none
+
+quiet_one : (images : List Entry) (breaks : List ℕ) (s s' : MachineState) (x : Stop) → s.halt ≡ None → stop_after breaks s' None ≡ x → TakesTurn s turn.Done s'
+    → ran images breaks 1 s ≡ quiet_run s' 1 x
+quiet_one images breaks s s' x awake end h =
+    one_run images breaks s awake ∙ ap (λ (a : StepOutcome). one_step breaks a a.now.halt) (done_step images s s' awake h)
+    ∙ ap (one_step breaks (quiet s')) (done_awake s s' turn.Done refl awake h) ∙ ap (quiet_run s' 1) end
+
+quiet_goes_on : (s : MachineState) (n : ℕ) → (quiet_run s n stop.Budget).stop ≡ stop.Budget
+quiet_goes_on s zero = refl
+quiet_goes_on s (suc n) = refl
+
+pub quiet_now : (s : MachineState) (n : ℕ) (x : Stop) → (quiet_run s n x).now ≡ s
+quiet_now s zero x = refl
+quiet_now s (suc n) x = refl
+
+quiet_joins : (s s' : MachineState) (n : ℕ) (x : Stop) → then_run (quiet_run s n stop.Budget) (quiet_run s' 1 x) ≡ quiet_run s' (n + 1) x
+quiet_joins s s' zero x = refl
+quiet_joins s s' (suc n) x = let e : suc n + 1 ≡ suc (suc n) = omega arith in
+    ap (λ (k : ℕ). let r : Run = record { now = s'; printed = []; last = Some []; taken = k; stop = x } in r) e
+    ∙ ap (λ (k : ℕ). quiet_run s' k x) (sym e)
+
+-- none, and one more
+pub quiet_start : (images : List Entry) (breaks : List ℕ) (s : MachineState) → s.halt ≡ None → ran images breaks 0 s ≡ quiet_run s 0 stop.Budget
+quiet_start images breaks s awake = ran-none images breaks s awake
+
+pub quiet_more : (images : List Entry) (breaks : List ℕ) (s0 s s' : MachineState) (n : ℕ) (t : Turn) (x : Stop) → t ≡ turn.Done
+    → ran images breaks n s0 ≡ quiet_run s n stop.Budget → s.halt ≡ None → stop_after breaks s' None ≡ x → TakesTurn s t s'
+    → ran images breaks (n + 1) s0 ≡ quiet_run s' (n + 1) x
+quiet_more images breaks s0 s s' n t x done so_far awake end h =
+    steps_more images breaks s0 s n 1 (ap (λ (r : Run). r.stop) so_far ∙ quiet_goes_on s n)
+    (sym (ap (λ (r : Run). r.now) so_far ∙ quiet_now s n stop.Budget))
+    ∙ ap (λ (r : Run). then_run r (ran images breaks 1 s)) so_far
+    ∙ ap (then_run (quiet_run s n stop.Budget))
+    (quiet_one images breaks s s' x awake end (subst (λ (u : Turn). TakesTurn s u s') done h))
+    ∙ quiet_joins s s' n x

@@ -1,0 +1,32 @@
+-- The written machine at its start.
+use Rattle.std.proofs.Common.{inl, ◌≡◌, Bool, false, true, IsSome, [], Option, Some, None, refl, ap}
+use Rattle.profile.specs.Sizes.{Sizes}
+use Rattle.address_map.specs.declared.map.AddressMap.{AddressMap}
+use Rattle.address_map.specs.Memory.{free_pages}
+use Rattle.arm_core.specs.State.{cpu_start_state}
+use Rattle.flex_machine.specs.module_world.specs.Sound.{IsWorld}
+use Rattle.flex_machine.specs.module_world.specs.World.{world_of}
+use Rattle.flex_machine.specs.module_world.proofs.Starting.{start_world}
+use Rattle.os_heap.specs.Store.{Store, store_of}
+use Rattle.dynamic_areas.specs.Areas.{start_land}
+use Rattle.dynamic_areas.specs.Ground.{AreAreas, IsRecorded, pool_of, system_pages_range}
+use Rattle.dynamic_areas.proofs.HeapCalls.{pool_is}
+use Rattle.swi_dispatch_guest.specs.declared.halt.Halt.{Halt}
+use Rattle.swi_dispatch_guest.specs.MachineState.{MachineState, machine_start}
+use Rattle.swi_dispatch_guest.proofs.Kept.{over, with_core}
+use Rattle.dynamic_areas.specs.Start.{start_store}
+
+pub starts : (m : AddressMap) (s : Sizes) → store_of m ≡ start_store s → AreAreas (store_of m) (free_pages m) (start_land s)
+    → over m cpu_start_state (record { land = start_land s; modules = []; frames = []; plan = None; flex = record { extent = None } }) None ≡ machine_start s
+unfolding machine_start
+starts m s e areas =
+    let pool : free_pages m ≡ pool_of (start_land s) = pool_is _ _ _ areas in
+    λ i. with_core cpu_start_state (pool i) (record { land = start_land s; modules = []; frames = []; plan = None; flex = record { extent = None } }) None (e i)
+
+pub system_recorded : (m : AddressMap) (s : Sizes) → store_of m ≡ start_store s → IsRecorded system_pages_range (store_of m).others
+system_recorded m s e = rw e (inl refl)
+
+-- and there are no modules yet
+pub start_modules : (m : AddressMap) (s : Sizes) → store_of m ≡ start_store s → AreAreas (store_of m) (free_pages m) (start_land s)
+    → IsWorld (world_of m (start_land s) []) []
+start_modules m s e areas = start_world (world_of m (start_land s) []) areas (ap (λ (t : Store). t.others) e) refl

@@ -1,0 +1,52 @@
+use Rattle.std.proofs.Common.{refl, subst, sym, ◌∙◌}
+use Rattle.swi_dispatch_plans.specs.instances.proofs.NamedByCalls.{loading_names, named_given}
+use Rattle.module_header.specs.Header.{header_of}
+use Rattle.swi_dispatch_plans.specs.Beginning.{IsFree, SparesTitle}
+use Rattle.swi_dispatch_guest.specs.MachineState.{MachineState, machine_world, setting_of}
+use Rattle.swi_dispatch_guest.specs.Parts.{Parts, state_of}
+use Rattle.swi_dispatch_guest.proofs.Kept.{over}
+use Rattle.swi_dispatch_guest.proofs.GateLemmas.{carried_well, ended_carried, first_carried, refused_well, refused_world}
+use Rattle.swi_dispatch_guest.proofs.GateLemmas.{starts_by, state_opened}
+use Rattle.swi_dispatch_guest.proofs.CarriedFrames.{titled_beneath}
+use Rattle.swi_dispatch_guest.proofs.guest.Guest.place_image.Goals as goal
+
+pub invariant_of-self : goal.invariant_of-self
+invariant_of-self c =
+    let given = c.in_err-plan.ensures in
+    refused_well _ _ c.self.invariant (refused_world _ _ _ _ given.world) refl refl given.classes given.flex refl refl
+
+pub invariant_of-self-2 : goal.invariant_of-self-2
+invariant_of-self-2 c =
+    let before : MachineState = over c.self.inside.memory c.self.inside.cpu
+    (record {
+      land = c.self.inside.areas;
+      modules = c.self.inside.instances;
+      frames = c.self.inside.frames;
+      plan = c.self.inside.plan;
+      flex = c.self.inside.flex;
+    })
+    c.self.inside.halt in
+    let given = c.in_ok-plan.ensures in
+    let free = subst (λ (p : Parts). IsFree (setting_of (state_of p))) (sym c.self.view_is) c.requires.free in
+    let spared = subst (λ (p : Parts). SparesTitle (setting_of (state_of p)) (header_of c.args.image.now)) (sym c.self.view_is) c.requires.spared in
+    let names = named_given _ _ _ _ _ _ (loading_names (machine_world before) c.args.image.now c.args.text.now) given.world given.ready in
+    let beneath = titled_beneath before _ (header_of c.args.image.now) free spared names in
+    carried_well _ _ _ _ _ _ _ _ _ _ c.carry_next-kept.ensures refl beneath c.self.invariant given.flex refl
+    (given.sizes ∙ c.self.invariant.sized)
+
+pub returns : goal.returns
+returns c =
+    let before : MachineState = over c.self.inside.memory c.self.inside.cpu
+    (record {
+      land = c.self.inside.areas;
+      modules = c.self.inside.instances;
+      frames = c.self.inside.frames;
+      plan = c.self.inside.plan;
+      flex = c.self.inside.flex;
+    })
+    c.self.inside.halt in
+    let given = c.in_ok-plan.ensures in
+    let next = c.carry_next-kept.ensures in
+    let first = first_carried _ _ given.rests in
+    rw (← c.self.view_is) (starts_by before _ c.args.call _ _ _ _ _ given.world
+    (state_opened before _ _ _ _ _ _ _ _ _ _ _ next first) (ended_carried _ _ _ _ _ _ _ _ _ _ _ _ next first))

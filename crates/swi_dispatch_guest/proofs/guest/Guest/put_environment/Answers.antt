@@ -1,0 +1,25 @@
+use Rattle.std.proofs.Common.{refl, ap, ◌∙◌}
+use Rattle.os_heap.specs.Store.{store_of}
+use Rattle.os_heap.proofs.Frame.{layout-others}
+use Rattle.dynamic_areas.specs.Ground.{Estate}
+use Rattle.swi_dispatch_guest.specs.MachineState.{Tables, with_estate}
+use Rattle.swi_dispatch_guest.proofs.Kept.{over, well_called}
+use Rattle.swi_dispatch_guest.proofs.SystemRoom.{has_pages}
+use Rattle.swi_dispatch_guest.proofs.guest.Guest.put_environment.Goals as goal
+
+pub invariant_of-self : goal.invariant_of-self
+invariant_of-self c =
+    let well = c.self.invariant in
+    let put = c.put_text.ensures in
+    well_called _ _ well (put.areas c.self.inside.areas well.areas) (put.classes well.classes) (layout-others _ _ put.layout)
+    refl refl refl put.flex refl well.sized
+
+pub returns : goal.returns
+unfolding store_of
+returns c =
+    let tables : Tables = record { land = c.self.inside.areas; modules = c.self.inside.instances; frames = c.self.inside.frames; plan = c.self.inside.plan; flex = c.self.inside.flex } in
+    rw (← c.self.view_is) (ap (λ (e : Estate). with_estate (over c.self.inside.memory c.self.inside.cpu tables c.self.inside.halt) e) (c.put_text.ensures.estate c.self.inside.areas))
+
+pub put_text-requires-clause-system : goal.put_text-requires-clause-system
+unfolding store_of
+put_text-requires-clause-system c = has_pages _ _ c.self.invariant.areas c.self.invariant.system

@@ -1,0 +1,182 @@
+-- Calls on modules whose code runs in between: how such a call begins, is carried on from one entry
+-- of module code to the next, and ends; and the return gate, where module code comes back (RISC OS
+-- 3 Programmer's Reference Manual, "Modules" and "OS_Module"; frames, the gate, and that a call
+-- that gives its caller no error does nothing where there is one, are this project's own).
+use Rattle.std.specs.Prelude.{◌≡◌, ℕ, Bool, true, false, ◌==◌, ◌&&◌, not, ◌++◌, ◌∷◌, [], List, Option, Some, None}
+use Rattle.std.specs.Prelude.{Result, Ok, Err, if◌then◌else◌}
+use Rattle.profile.specs.declared.error.ErrorNumber.{ErrorNumber}
+use Rattle.profile.specs.declared.fault.Fault.TheVariants.{FetchUnmapped, ErrorStop, StackChanged}
+use Rattle.arm_core.specs.declared.psr.Mode.TheVariants.{Supervisor}
+use Rattle.address_map.specs.Bytes.{Bytes}
+use Rattle.arm_core.specs.State.{State, register_in, register_of}
+use Rattle.instances_plans.specs.declared.code.Code.{Code}
+use Rattle.instances_plans.specs.declared.code.Outcome.{Outcome as CodeOutcome}
+use Rattle.instances_plans.specs.declared.code.Outcome.TheVariants.{Well, Refused}
+use Rattle.instances_plans.specs.declared.given.Given.{Given}
+use Rattle.instances_plans.specs.Carrying.{Carried}
+use Rattle.instances_plans.specs.Plans.{Plan, plan_after_code}
+use Rattle.flex_machine.specs.module_world.specs.World.{World}
+use Rattle.swi_dispatch_plans.specs.instances.specs.declared.answers.Start.{Start}
+use Rattle.swi_dispatch_plans.specs.instances.specs.Reading.{start_found}
+use Rattle.swi_dispatch_frames.specs.declared.call.Call.{Call}
+use Rattle.swi_dispatch_frames.specs.declared.frame.Frame.{Frame}
+use Rattle.swi_dispatch_frames.specs.declared.frame.FrameKind.{FrameKind}
+use Rattle.swi_dispatch_frames.specs.declared.frame.FrameKind.TheVariants.{Swi, Entry}
+use Rattle.swi_dispatch_frames.specs.Entering.{code_entered}
+use Rattle.swi_dispatch_frames.specs.Frames.{frames_after_close, frame_of, innermost_frame}
+use Rattle.swi_dispatch_frames.specs.Leaving.{left}
+use Rattle.swi_dispatch_guest.specs.declared.halt.Halt.TheVariants as halt
+use Rattle.swi_dispatch_guest.specs.Answers.{with_answer}
+use Rattle.swi_dispatch_guest.specs.MachineState.{MachineState, StepOutcome, machine_world, quiet, with_world}
+use Rattle.swi_dispatch_guest.specs.ModuleStart.{opened_at}
+use Rattle.swi_dispatch_guest.specs.Returns.{outcome_of_error, gone_back, outcome_of_halt}
+use Rattle.swi_dispatch_answers.specs.Errors.{error_at}
+use Rattle.swi_dispatch_answers.specs.Returns.{state_after_return}
+use Rattle.swi_dispatch_plans.specs.Trials.{error_ahead, world_carried}
+
+-- A module that was loaded to be run is entered with the text of the call, as OS_Module 2 does.
+abbrev pub entered_with : MachineState → List ℕ → Result Start ErrorNumber → MachineState
+entered_with s text (Ok start) = opened_at s text start.slot start.at
+entered_with s text (Err e) = s
+
+abbrev pub loaded_entered : MachineState → Given → MachineState
+loaded_entered s g = entered_with s g.text.items (start_found s.tables.modules g.header.title.items)
+
+-- Where nothing of a call is left it goes back. The error of a module stands in R0 as the module
+-- gave it.
+abbrev pub entered_if : Bool → MachineState → Given → MachineState
+entered_if true s g = loaded_entered s g
+entered_if false s g = s
+
+abbrev pub call_ended_by : MachineState → Call → Given → Option ℕ → MachineState
+call_ended_by s call g (Some r0) = gone_back call.caller (with_answer s 0 r0) true call.next
+call_ended_by s call g None = entered_if call.enters (gone_back call.caller s false call.next) g
+
+abbrev pub call_ended : MachineState → Call → Plan → MachineState
+call_ended s call p = call_ended_by s call p.given p.first
+
+-- What a call that was carried on comes to. Its next code, if any is left, is entered in a frame of
+-- the call, and the plan is kept while that runs; else the plan has ended.
+abbrev pub core_by : State → Option Code → State
+core_by cpu (Some code) = code_entered cpu code
+core_by cpu None = cpu
+
+abbrev pub frames_by : List Frame → State → Call → Option Code → List Frame
+frames_by frames cpu call (Some code) = frames ++ frame_of cpu call (Entry code.kind) code.slot ∷ []
+frames_by frames cpu call None = frames
+
+abbrev pub kept_by : Plan → Option Code → Option Plan
+kept_by p (Some code) = Some p
+kept_by p None = None
+
+abbrev pub plan_unless_code : Plan → Option Code → Option Plan
+plan_unless_code p (Some code) = None
+plan_unless_code p None = Some p
+
+abbrev pub with_code : MachineState → State → List Frame → Option Plan → MachineState
+with_code s cpu frames plan = record s {
+  cpu = cpu;
+  tables = record s.tables
+      { frames = frames; plan = plan };
+}
+
+abbrev pub state_with_code_entered : MachineState → Call → Carried World → MachineState
+state_with_code_entered s call c = with_code (with_world s c.world) (core_by s.cpu c.code)
+    (frames_by s.tables.frames s.cpu call c.code) (kept_by c.rest c.code)
+
+abbrev pub ended_of : Carried World → Option Plan
+ended_of c = plan_unless_code c.rest c.code
+
+-- A call whose plan has ended goes back; one whose code is under way does so when that is done.
+abbrev pub state_after_plan : MachineState → Call → Option Plan → MachineState
+state_after_plan s call (Some p) = call_ended s call p
+state_after_plan s call None = s
+
+-- A call is carried on with what its plan has left to do.
+abbrev pub carried_on : MachineState → Call → Plan → MachineState
+carried_on s call p = (let c = world_carried (machine_world s) p in
+    state_after_plan (state_with_code_entered s call c) call (ended_of c))
+
+-- Module code has come back: the core is the caller's again, but for what a SWI leaves, and the
+-- frame is closed.
+abbrev pub come_back : MachineState → Frame → MachineState
+come_back s f = record s {
+  cpu = left s.cpu f;
+  tables = record s.tables
+      { frames = frames_after_close s.tables.frames };
+}
+
+-- A SWI of a module goes back. Where V is set it was refused: the error is the module's own, which
+-- stands where R0 points.
+abbrev pub returned_from : State → Frame → State
+returned_from cpu f = state_after_return f.call.caller (left cpu f) cpu.psr.overflow f.call.next
+
+abbrev pub frame_closed : MachineState → Frame → MachineState
+frame_closed s f = record s {
+  cpu = returned_from s.cpu f;
+  tables = record s.tables { frames = frames_after_close s.tables.frames };
+}
+
+abbrev pub swi_left : MachineState → Frame → StepOutcome
+swi_left s f =
+    let answered : StepOutcome = quiet (frame_closed s f) in
+    if s.cpu.psr.overflow then outcome_of_error s f.call.is_x answered else answered
+
+-- The two ways in which a SWI of a module can go back: the core is the caller's again, or its
+-- caller takes no error and there is one, of this number.
+pub record GoesBack (cpu : State) (f : Frame) (back : State) : Type 0 where
+  pub taken : (cpu.psr.overflow && not f.call.is_x) ≡ false
+  pub core : back ≡ returned_from cpu f
+
+pub record IsUntaken (cpu : State) (b : Bytes) (f : Frame) (number : ℕ) : Type 0 where
+  pub refused : (cpu.psr.overflow && not f.call.is_x) ≡ true
+  pub error : number ≡ error_at b (register_of (returned_from cpu f) 0)
+
+-- An initialisation or a finalisation with V set has refused, and its error is the R0 that it left.
+abbrev pub outcome_left : State → CodeOutcome
+outcome_left cpu = if cpu.psr.overflow then Refused (register_of cpu 0) else Well
+
+-- The call whose entry it was is carried on. Where its caller takes no error, and there is one, the
+-- step is a fault, and nothing of it is done.
+abbrev pub fault_ahead : Call → World → Plan → Option ℕ
+fault_ahead call w p = if call.is_x then None else error_ahead w p
+
+abbrev pub unless_fault : MachineState → Option ℕ → MachineState → StepOutcome
+unless_fault s None t = quiet t
+unless_fault s (Some number) t = outcome_of_halt s (halt.Fault (ErrorStop number))
+
+abbrev pub entry_left : MachineState → Frame → Plan → StepOutcome
+entry_left s f p = unless_fault s (fault_ahead f.call (machine_world s) p)
+    (carried_on (come_back s f) f.call p)
+
+-- A plan is kept while the code of an entry runs, so the first of these is for no machine; it is as
+-- where no frame is open.
+abbrev pub plan_left : MachineState → Frame → Option Plan → StepOutcome
+plan_left s f None = outcome_of_halt s (halt.Fault FetchUnmapped)
+plan_left s f (Some p) = entry_left s f (plan_after_code p (outcome_left s.cpu))
+
+abbrev pub frame_left : MachineState → Frame → FrameKind → Option Plan → StepOutcome
+frame_left s f Swi kept = swi_left s f
+frame_left s f (Entry kind) kept = plan_left s f kept
+
+-- Module code must have left the stack of supervisor mode as it was.
+abbrev pub gated_by : MachineState → Option Frame → StepOutcome
+gated_by s None = outcome_of_halt s (halt.Fault FetchUnmapped)
+gated_by s (Some f) =
+    if register_in Supervisor s.cpu 13 == f.stack then frame_left s f f.kind s.tables.plan else
+    outcome_of_halt s (halt.Fault StackChanged)
+
+abbrev pub outcome_of_gate : MachineState → StepOutcome
+outcome_of_gate s = gated_by s (innermost_frame s.tables.frames)
+
+-- what a call comes to once its entry came back with an outcome, before it goes back if it has
+-- ended; a plan is kept
+abbrev pub Resumes : MachineState → Frame → CodeOutcome → Option Plan → Option Plan → MachineState → Type 0
+Resumes s f o (Some p) ended t =
+    (let c = world_carried (machine_world s) (plan_after_code p o) in
+    (t ≡ state_with_code_entered (come_back s f) f.call c) × (ended ≡ ended_of c))
+Resumes s f o None ended t = ⊥
+
+abbrev pub fault_kept : Call → World → CodeOutcome → Option Plan → Option ℕ
+fault_kept call w o None = None
+fault_kept call w o (Some p) = fault_ahead call w (plan_after_code p o)

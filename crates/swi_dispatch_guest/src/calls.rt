@@ -1,0 +1,190 @@
+//! Store calls: what each does, and how a guest comes back from one.
+
+ghost use Rattle.std.specs.Prelude.{◌≡◌, ◌<◌, ◌≤◌, ◌^◌, false, [], None, OnErr};
+ghost use Rattle.swi_dispatch_guest.specs.Step.{call_of, is_exit, os_module_called, outcome_of_answer, outcome_of_call};
+
+use crate::guest::Guest;
+use crate::halt::Halt;
+use crate::printing::Output;
+use arm_core::{Mode, Psr};
+use image_loader::Images;
+use profile::{Fault, ModuleReason, SwiName};
+use swi_dispatch_answers::Refusal;
+use swi_dispatch_answers::returns::return_to;
+use swi_dispatch_frames::Call;
+
+impl Guest {
+    ghost use Rattle.swi_dispatch_guest.specs.Answers.{with_answer};
+    ghost use Rattle.swi_dispatch_guest.specs.Calls.{call_answer, machine_in_supervisor, moving_error};
+    ghost use Rattle.swi_dispatch_guest.specs.MachineState.{outcome_with};
+    ghost use Rattle.swi_dispatch_guest.specs.Parts.{Answers, state_of};
+    ghost use Rattle.swi_dispatch_guest.specs.Returns.{gone_back};
+
+    /// A store call as the guest makes it in its present status. `is_x` says whether an error goes
+    /// back to the guest, and `next` where the guest goes on.
+    pub(crate) fn call_of(&self, is_x: bool, next: u32) -> Call
+        ensures { result ≡ call_of (state_of self.now) is_x next false }
+    {
+        Call {
+            is_x,
+            caller: self.cpu().psr(),
+            next,
+            enters: false,
+        }
+    }
+
+    /// A store call by its number without the X bit.
+    #[tactic(auto, unfolding(crate::specs::Step::outcome_of_call))]
+    pub(crate) fn call(&mut self, images: &Images, output: &mut Output, call: Call, number: u32)
+        requires made { call ≡ call_of (state_of self.old) call.is_x call.next false }
+        requires next { call.next < 2 ^ 26 }
+        requires silent { output.old.items ≡ [] }
+        ensures { outcome_with (state_of self.new) output.new.items
+            ≡ outcome_of_call images.now (state_of self.old) call.is_x call.next number }
+    {
+        let name = SwiName::of(number);
+        if is_exit(name) {
+            return self.halt_with(Halt::Exit);
+        }
+        match name {
+            None => self.call_module(call, number),
+            Some(SwiName::Module) => self.call_os_module(images, output, call, number),
+            Some(_) => self.call_system(output, call, number, name),
+        }
+    }
+
+    // OS_Module, by its reason in R0.
+    #[tactic(auto, unfolding(crate::specs::Step::os_module_called))]
+    #[inline(never)]
+    fn call_os_module(&mut self, images: &Images, output: &mut Output, call: Call, number: u32)
+        requires made { call ≡ call_of (state_of self.old) call.is_x call.next false }
+        requires next { call.next < 2 ^ 26 }
+        requires silent { output.old.items ≡ [] }
+        ensures { outcome_with (state_of self.new) output.new.items
+            ≡ os_module_called images.now (state_of self.old) call.is_x call.next number }
+    {
+        match ModuleReason::of(self.cpu().register(0)) {
+            Some(ModuleReason::Run) => self.load_named(
+                images,
+                Call {
+                    enters: true,
+                    ..call
+                },
+            ),
+            Some(ModuleReason::Load) => self.load_named(images, call),
+            Some(ModuleReason::Enter) => self.enter_module(call),
+            Some(ModuleReason::Reinit) => {
+                let planned = self.planner().reinit();
+                self.begin(call, planned)
+            }
+            Some(ModuleReason::Delete) => {
+                let planned = self.planner().delete();
+                self.begin(call, planned)
+            }
+            Some(ModuleReason::Tidy) => {
+                let planned = self.planner().tidy(call.next);
+                self.begin(call, planned)
+            }
+            Some(ModuleReason::Clear) => {
+                let planned = self.planner().clear();
+                self.begin(call, planned)
+            }
+            Some(ModuleReason::Insert) => self.insert_range(call),
+            Some(ModuleReason::InsertCopy) => self.insert_copy(call),
+            Some(ModuleReason::Instantiate) => {
+                let planned = self.planner().instantiation();
+                self.begin(call, planned)
+            }
+            _ => self.call_system(output, call, number, Some(SwiName::Module)),
+        }
+    }
+
+    // A call of the system's own.
+    #[tactic(auto, using(crate::proofs::Answering::ended_done, crate::proofs::Answering::ended_error))]
+    fn call_system(&mut self, output: &mut Output, call: Call, number: u32, name: Option<SwiName>)
+        requires made { call ≡ call_of (state_of self.old) call.is_x call.next false }
+        requires next { call.next < 2 ^ 26 }
+        requires silent { output.old.items ≡ [] }
+        ensures { outcome_with (state_of self.new) output.new.items
+            ≡ outcome_of_answer (state_of self.old) call.is_x
+            (call_answer (state_of self.old) call.next number name) }
+    {
+        if !call.is_x
+            && let Some(error) = self.moving_error(name)
+        {
+            return self.halt_with(Halt::Fault(Fault::ErrorStop(error.number())));
+        }
+        let mut call = call;
+        match self.perform(output, &mut call, number, name) {
+            Ok(()) => self.go_back(call.caller, false, call.next),
+            Err(refusal) => self.end_with_error(call, refusal),
+        }
+    }
+
+    // What the call itself does; it may move the place where the guest goes on.
+    #[tactic(auto, using(crate::proofs::AreaAnswers::errs_moving), unfolding(crate::specs::Calls::call_answer))]
+    fn perform(
+        &mut self,
+        output: &mut Output,
+        call: &mut Call,
+        number: u32,
+        name: Option<SwiName>,
+    ) -> Result<(), Refusal>
+        requires next { call.old.next < 2 ^ 26 }
+        requires silent { output.old.items ≡ [] }
+        ensures done { Answers (call_answer
+            (state_of self.old) call.old.next number name) call.new.next result
+            (outcome_with (state_of self.new) output.new.items) }
+        ensures call { call.new ≡ record call.old { next = call.new.next } }
+        ensures unmoved { OnErr result (moving_error (state_of self.old) name ≡ None
+            → state_of self.new ≡ state_of self.old) }
+        ensures silent { OnErr result (output.new.items ≡ []) }
+    {
+        match name {
+            Some(SwiName::WriteC) => output.push((self.cpu().register(0) % 256) as u8),
+            Some(SwiName::WriteS) => return self.write_text_after(output, call),
+            Some(SwiName::Write0) => return self.write_text(output),
+            Some(SwiName::NewLine) => {
+                output.push(10);
+                output.push(13);
+            }
+            Some(SwiName::EnterOs) => self.enter_supervisor(),
+            Some(SwiName::Heap) => return self.call_heap(),
+            Some(SwiName::Module) => return self.call_module_reason(),
+            Some(SwiName::ChangeDynamicArea) => return self.change_area(),
+            Some(SwiName::ReadDynamicArea) => return self.read_area(),
+            Some(SwiName::DynamicArea) => return self.call_area(),
+            Some(SwiName::GenerateError) => return Err(self.own_error()),
+            Some(SwiName::WriteI) => output.push((number % 256) as u8),
+            _ => return self.call_flex(name),
+        }
+        Ok(())
+    }
+
+    /// Sets a register of the caller's mode to an answer.
+    pub(crate) fn answer(&mut self, number: u32, value: u32)
+        requires { number ≤ 14 }
+        ensures { state_of self.new ≡ with_answer (state_of self.old) number value }
+    {
+        self.cpu.set_register(number, value);
+    }
+
+    fn enter_supervisor(&mut self)
+        ensures { state_of self.new ≡ machine_in_supervisor (state_of self.old) }
+    {
+        self.cpu.set_mode(Mode::Supervisor);
+    }
+
+    /// The guest goes on, with the return address in the link register of supervisor mode.
+    pub(crate) fn go_back(&mut self, caller: Psr, is_refused: bool, next: u32)
+        ensures { state_of self.new ≡ gone_back caller (state_of self.old) is_refused next }
+    {
+        return_to(&mut self.cpu, caller, is_refused, next);
+    }
+}
+
+fn is_exit(name: Option<SwiName>) -> bool
+    ensures { result ≡ is_exit name }
+{
+    matches!(name, Some(SwiName::Exit))
+}

@@ -1,0 +1,70 @@
+//! One step of a guest, and instructions that the core does by itself, one after another.
+
+ghost use Rattle.std.specs.Prelude.{◌≡◌, ◌<◌, ◌≤◌, None, Err, List, [], IfOk, OnOk};
+ghost use Rattle.image_loader.specs.Entries.{Entry};
+ghost use Rattle.swi_dispatch_guest.specs.Parts.{TakesTurn, state_of};
+ghost use Rattle.swi_dispatch_guest.specs.MachineState.{outcome_with};
+ghost use Rattle.swi_dispatch_guest.specs.Run.{ran, quiet_run, quiet_stop};
+ghost use Rattle.swi_dispatch_guest.specs.Step.{machine_step};
+
+use crate::guest::Guest;
+use crate::printing::Output;
+use arm_core::Turn;
+use image_loader::Images;
+use profile::Stop;
+use swi_dispatch_breaks::Breaks;
+
+impl Guest {
+    /// Takes one step of a guest that isn't halted: an instruction or a store call.
+    pub fn step(&mut self, images: &Images, output: &mut Output)
+        requires awake { (state_of self.old).halt ≡ None }
+        requires silent { output.old.items ≡ [] }
+        ensures { outcome_with (state_of self.new) output.new.items
+            ≡ machine_step images.now (state_of self.old) }
+    {
+        let (_, next) = self.take_instructions(&Breaks::new(), 1);
+        match next {
+            Ok(turn) => self.after_turn(images, output, turn),
+            Err(_) => {}
+        }
+    }
+
+    /// Takes up to so many steps, as long as each is an instruction that is done, and no further
+    /// than to a break. Answers how many, and the turn that comes next where that is another, or
+    /// why a run of these steps ends. No other function asks the core, so that its code stands in
+    /// this loop. One count says when to look up from it: after each step where there are breaks,
+    /// else after the last.
+    pub fn take_instructions(&mut self, breaks: &Breaks, most: u64) -> (u64, Result<Turn, Stop>)
+        requires some { 0 < most }
+        requires awake { (state_of self.old).halt ≡ None }
+        ensures ran { (images : List Entry) → ran images breaks.now result.0 (state_of self.old)
+            ≡ quiet_run (state_of self.new) result.0 (quiet_stop result.1) }
+        ensures next { IfOk result.1 (λ turn. TakesTurn (state_of self.new) turn (state_of self.new)) }
+        ensures fewer { OnOk result.1 (result.0 < most) }
+        ensures all { result.1 ≡ Err Stop.Budget → result.0 ≡ most }
+        ensures awake { (state_of self.new).halt ≡ None }
+        ensures most { result.0 ≤ most }
+    {
+        let stride = if breaks.is_empty() { most } else { 1 };
+        let mut rest = most;
+        let mut left = stride;
+        loop {
+            match self.instruction() {
+                Turn::Done => {}
+                turn => return (most - rest + (stride - left), Ok(turn)),
+            }
+            left -= 1;
+            if left == 0 {
+                let at = self.cpu().pc();
+                if breaks.has(at) {
+                    return (most - rest + stride, Err(Stop::Break(at)));
+                }
+                rest -= stride;
+                if rest == 0 {
+                    return (most, Err(Stop::Budget));
+                }
+                left = stride;
+            }
+        }
+    }
+}

@@ -1,0 +1,181 @@
+//! The guest: how it is made, one instruction of it, and what a turn of its core leaves to do.
+
+ghost use Rattle.std.specs.Prelude.{◌≡◌, ◌≤◌, ◌*◌, [], IfOk, IfSome, length};
+ghost use Rattle.swi_dispatch_guest.specs.Step.{swi_called, turn_end, without_x};
+
+use crate::halt::Halt;
+use crate::printing::Output;
+use address_map::AddressMap;
+use arm_core::{Cpu, Turn};
+use arm_step::step;
+use dynamic_areas::{Areas, start_memory};
+use flex_machine::flex_store::Flex;
+use image_loader::Images;
+use instances_plans::Plan;
+use os_heap::Heaps;
+use profile::Config;
+use profile::memory_map::{ADDRESS_LIMIT, APPLICATION_START};
+use profile::word::is_bit_set;
+use std::alloc::{AllocError, Global};
+use std::marker::Model;
+use swi_dispatch_frames::Frames;
+use swi_dispatch_plans::Spare;
+use swi_dispatch_plans::instances::Instances;
+
+/// The bit of a call's number that asks for errors to be returned.
+const X_BIT: u32 = 1 << 17;
+
+/// A core, its memory and what stands on that, the module code that is under way, and what keeps
+/// the core from further steps.
+#[derive(Drop)]
+pub struct Guest {
+    pub(crate) cpu: Cpu,
+    pub(crate) memory: AddressMap,
+    pub(crate) heaps: Heaps,
+    pub(crate) areas: Areas,
+    pub(crate) instances: Instances,
+    pub(crate) frames: Frames,
+    pub(crate) plan: Option<Plan>,
+    pub(crate) flex: Flex,
+    pub(crate) halt: Option<Halt>,
+    /// What a call is tried on whose caller takes no error. It is no part of the guest's state.
+    pub(crate) spare: Spare,
+}
+
+impl Model for Guest {
+    ghost use Rattle.swi_dispatch_guest.specs.Parts.{Parts, IsWellFormed};
+
+    ghost Value = { Parts };
+
+    ghost view = { λ g. record {
+      cpu = g.cpu;
+      map = g.memory;
+      tables = record { land = g.areas; modules = g.instances; frames = g.frames; plan = g.plan; flex = g.flex };
+      halt = g.halt;
+      sizes = g.spare;
+    } };
+
+    ghost invariant = { λ g. IsWellFormed
+        (record {
+          cpu = g.cpu;
+          map = g.memory;
+          tables = record { land = g.areas; modules = g.instances; frames = g.frames; plan = g.plan; flex = g.flex };
+          halt = g.halt;
+          sizes = g.spare;
+        }) };
+}
+
+impl Guest {
+    ghost use Rattle.swi_dispatch_guest.specs.MachineState.{machine_start, outcome_with, quiet};
+    ghost use Rattle.swi_dispatch_guest.specs.Parts.{IsGuest, TakesTurn, state_of};
+    ghost use Rattle.swi_dispatch_guest.specs.Returns.{outcome_of_halt};
+    ghost use Rattle.swi_dispatch_guest.specs.Writes.{with_program};
+
+    /// A guest of these sizes at its start: user mode at &8000, each register 0 but the stack
+    /// pointer of supervisor mode, all mapped memory 0 but the descriptor of the module area's
+    /// heap.
+    ///
+    /// # Errors
+    ///
+    /// Where memory is missing.
+    pub fn new(alloc: Global, config: Config) -> Result<Guest, AllocError>
+        ensures { IfOk result (λ guest. state_of guest ≡ machine_start config) }
+    {
+        let memory = start_memory(alloc, config)?;
+        Ok(Guest {
+            cpu: Cpu::new(),
+            memory,
+            heaps: Heaps::new(),
+            areas: Areas::new(config),
+            instances: Instances::new(),
+            frames: Frames::new(),
+            plan: None,
+            flex: Flex::new(),
+            halt: None,
+            spare: Spare::new(alloc, config)?,
+        })
+    }
+
+    /// Copies a program to the start of the application space of a guest that stands as it was
+    /// made.
+    pub fn put_program(&mut self, config: Config, program: &[u8])
+        requires start { state_of self.old ≡ machine_start config }
+        requires fits { length program.now ≤ 4096 * config.app }
+        ensures { state_of self.new ≡ with_program (state_of self.old) program.now }
+    {
+        config.app();
+        self.memory.put_bytes(APPLICATION_START, program);
+    }
+
+    /// What holds of every guest, whatever it does. The call does nothing but say so.
+    pub fn known(&self)
+        ensures { IsGuest self.now }
+    {
+        self.cpu.known();
+        self.areas.list();
+        self.instances.known();
+        self.frames.len();
+        self.text_of_plan();
+        let _memory = &self.memory;
+    }
+
+    // The text of a call that is under way has at most 255 bytes.
+    fn text_of_plan(&self) -> &[u8]
+        ensures { IfSome (state_of self.now).tables.plan (λ plan. length plan.given.text.items ≤ 255) }
+    {
+        match &self.plan {
+            Some(plan) => plan.given().text.as_slice(),
+            None => &[],
+        }
+    }
+
+    /// One instruction, as far as the core does it by itself; the answer is what it leaves to do.
+    #[inline(always)]
+    pub fn instruction(&mut self) -> Turn
+        ensures { TakesTurn (state_of self.old) result (state_of self.new) }
+    {
+        step(&mut self.cpu, &mut self.memory)
+    }
+
+    /// What a turn of the core leaves to do, and prints.
+    pub fn after_turn(&mut self, images: &Images, output: &mut Output, turn: Turn)
+        requires silent { output.old.items ≡ [] }
+        ensures { outcome_with (state_of self.new) output.new.items
+            ≡ turn_end images.now (state_of self.old) turn }
+    {
+        match turn {
+            Turn::Done => {}
+            Turn::Swi(number) => self.call_by_instruction(images, output, number),
+            Turn::Gate => self.pass_gate(),
+            Turn::Fault(fault) => self.halt_with(Halt::Fault(fault)),
+        }
+    }
+
+    // A call by an instruction; the guest goes on after it.
+    fn call_by_instruction(&mut self, images: &Images, output: &mut Output, number: u32)
+        requires silent { output.old.items ≡ [] }
+        ensures { outcome_with (state_of self.new) output.new.items
+            ≡ swi_called images.now (state_of self.old) number }
+    {
+        let next = (self.cpu().pc() + 4) % ADDRESS_LIMIT;
+        let call = self.call_of(is_bit_set(number, 17), next);
+        self.call(images, output, call, without_x_bit(number));
+    }
+
+    pub(crate) fn halt_with(&mut self, halt: Halt)
+        ensures { quiet (state_of self.new) ≡ outcome_of_halt (state_of self.old) halt }
+    {
+        self.halt = Some(halt);
+    }
+}
+
+/// The number of a call without the bit that asks for errors to be returned.
+pub(crate) fn without_x_bit(number: u32) -> u32
+    ensures { result ≡ without_x number }
+{
+    if is_bit_set(number, 17) {
+        number - X_BIT
+    } else {
+        number
+    }
+}

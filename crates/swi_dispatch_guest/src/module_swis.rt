@@ -1,0 +1,56 @@
+//! SWIs of modules: the module whose chunk has the number handles it, in a frame.
+
+ghost use Rattle.std.specs.Prelude.{◌≡◌, ◌<◌, ◌^◌, false, true, length};
+ghost use Rattle.instances_plans.specs.Doable.{is_used};
+
+use crate::guest::Guest;
+use profile::ErrorNumber;
+use swi_dispatch_answers::Refusal;
+use swi_dispatch_frames::{Call, Frame, FrameKind, MOST_FRAMES, enter_swi};
+use swi_dispatch_plans::instances::Handler;
+
+impl Guest {
+    ghost use Rattle.swi_dispatch_guest.specs.Parts.{state_of};
+    ghost use Rattle.instances_table.specs.Lookup.{handler_of};
+    ghost use Rattle.instances_table.specs.Modules.{slots_of};
+    ghost use Rattle.swi_dispatch_guest.specs.MachineState.{quiet};
+    ghost use Rattle.swi_dispatch_guest.specs.Step.{call_of, call_refused, handler_entered, outcome_of_module_swi};
+
+    /// A call that isn't the system's own.
+    #[inline(never)]
+    pub(crate) fn call_module(&mut self, call: Call, number: u32)
+        requires made { call ≡ call_of (state_of self.old) call.is_x call.next false }
+        requires next { call.next < 2 ^ 26 }
+        ensures { quiet (state_of self.new)
+            ≡ outcome_of_module_swi (state_of self.old) call.is_x call.next number
+            (handler_of number (state_of self.old).tables.modules) }
+    {
+        let Some(handler) = self.instances.handler_of(number) else {
+            return self.refuse_call(call, ErrorNumber::SwiUnknown);
+        };
+        if self.frames() == MOST_FRAMES {
+            return self.refuse_call(call, ErrorNumber::FrameLimit);
+        }
+        self.enter_handler(call, number, handler);
+    }
+
+    /// A call that is refused before it did anything.
+    pub(crate) fn refuse_call(&mut self, call: Call, error: ErrorNumber)
+        requires made { call ≡ call_of (state_of self.old) call.is_x call.next call.enters }
+        ensures { quiet (state_of self.new) ≡ call_refused (state_of self.old) call.is_x call.next error }
+    {
+        self.end_with_error(call, Refusal::System(error));
+    }
+
+    // The handler of a module is entered.
+    fn enter_handler(&mut self, call: Call, number: u32, handler: Handler)
+        requires room { length (state_of self.old).tables.frames < 32 }
+        requires slot { handler.slot < 64 }
+        requires held { is_used handler.slot (slots_of (state_of self.old).tables.modules) ≡ true }
+        ensures { state_of self.new ≡ handler_entered (state_of self.old) call number handler }
+    {
+        self.frames
+            .open(Frame::of(&self.cpu, call, FrameKind::Swi, handler.slot));
+        enter_swi(&mut self.cpu, handler.at, number, handler.slot);
+    }
+}
