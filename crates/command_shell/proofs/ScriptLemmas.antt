@@ -5,14 +5,14 @@ use Rattle.std.proofs.lemmas.List.{append-nil}
 use Rattle.std.specs.Prelude.{if◌then◌else◌, IfSome}
 use Rattle.std.specs.Str.Lines.{lines}
 use Rattle.profile.specs.Sizes.{Sizes}
-use Rattle.profile.specs.declared.stop.Stop.{Stop}
+use Rattle.command_shell_lines.specs.text_lines.specs.Lines.{ReadingPlace}
 use Rattle.command_shell_lines.specs.Blocks.{block_lines, after_block, lines_in_block, lines_after, lines_taken}
 use Rattle.command_shell_lines.specs.Requests.{Request, Nothing, Hex, Asm, Boot, Run, Regs, Set, Poke, Call, Load, Step}
 use Rattle.command_shell_lines.specs.Requests.{Break, Unbreak, Mem, Code, Heap, Areas, Modules, Flex, Unknown}
 use Rattle.command_shell_lines.specs.Requests.{opens_block, request_of, is_end_of_block}
 use Rattle.image_loader.specs.Entries.{Entry}
-use Rattle.debugger.specs.swi_dispatch.specs.MachineState.{machine_start}
-use Rattle.debugger.specs.swi_dispatch.specs.Parts.{Parts, state_of}
+use Rattle.swi_dispatch_guest.specs.MachineState.{machine_start}
+use Rattle.debugger.specs.swi_dispatch.specs.Value.{MachineValue}
 use Rattle.command_shell.specs.declared.session.Session.{Session}
 use Rattle.command_shell.specs.Session.{script_state, state_on}
 use Rattle.command_shell.specs.Script.{OpenBlock, request_told, on_opened, on_request, in_block, lines_told}
@@ -21,6 +21,7 @@ use Rattle.command_shell.specs.State.{ScriptState, Answered, answer, then_answer
 use Rattle.profile.proofs.OutputLemmas.{AddsAllBut-start, Appends-from_all_but}
 use Rattle.command_shell.proofs.FrontLemmas.{AddsFront-from_all_but}
 use Rattle.command_shell.proofs.FrontLemmas.{AddsFront-start, IsFront-same}
+use Rattle.swi_dispatch_guest.specs.Parts.{state_of}
 
 -- an answer, and then the lines that are left
 after_told : Answered → ℕ → List (List ℕ) → Answered
@@ -76,7 +77,7 @@ no_lines_more : (first : Answered) (number : ℕ) (left : List (List ℕ))
 no_lines_more first number left = ap (λ (n : ℕ). after_told first n left) (sym (add-zero number))
 
 -- what is answered at once doesn't depend on the lines that follow
-at_once : (number : ℕ) (w : ScriptState) (r : Request) (block : List (List ℕ)) → opens_block r ≡ false
+pub at_once : (number : ℕ) (w : ScriptState) (r : Request) (block : List (List ℕ)) → opens_block r ≡ false
     → request_told w number r [] ≡ request_told w number r block
 at_once number w (Hex name) block e = absurd (cc)
 at_once number w (Asm name origin) block e = absurd (cc)
@@ -175,12 +176,33 @@ pub fewer_left : (line : List ℕ) (all rest left : List (List ℕ)) (r : Reques
 fewer_left line all rest left r first stays =
     rw (first, stays) (omega (arith, lines_after-shorter (opens_block r) rest))
 
+-- a request and its block take the lines that are not left
+block_and_after : (rest : List (List ℕ)) → lines_in_block rest + length (after_block rest) ≡ length rest
+unfolding lines_in_block after_block
+block_and_after [] = refl
+block_and_after (line ∷ rest) =
+    elim (is_end_of_block line) as (λ b. (if b then 1 else 1 + lines_in_block rest)
+    + length (if b then rest else after_block rest) ≡ length (line ∷ rest))
+    [ true ↦ omega arith | false ↦ omega (arith, block_and_after rest) ]
+
+taken_and_after : (b : Bool) (rest : List (List ℕ)) → lines_taken b rest + length (lines_after b rest) ≡ length rest
+taken_and_after false rest = omega arith
+taken_and_after true rest = block_and_after rest
+
+-- lines that are left come to be lines that were answered
+pub number_step : (number here next total : ℕ) (line : List ℕ) (all rest left : List (List ℕ)) (r : Request)
+    → number + length all ≡ total → all ≡ line ∷ rest → here ≡ number + 1
+    → next ≡ here + lines_taken (opens_block r) rest → left ≡ lines_after (opens_block r) rest
+    → next + length left ≡ total
+number_step number here next total line all rest left r before first at counted stays =
+    omega (arith, before, ap length first, at, counted, ap length stays, taken_and_after (opens_block r) rest)
+
 -- the images of a session's state
 pub state_images : (session : Session) (images : List Entry) → (script_state session images).images ≡ images
 state_images session images = refl
 
 -- the state on a machine that was just made
-state_on_start : (machine : Parts) (sizes : Sizes) (images : List Entry) (budget : ℕ) → state_of machine ≡ machine_start sizes
+pub state_on_start : (machine : MachineValue) (sizes : Sizes) (images : List Entry) (budget : ℕ) → state_of machine.guest ≡ machine_start sizes
     → machine.sizes ≡ sizes → machine.is_fresh ≡ true → state_on machine images budget ≡ script_start_state sizes images budget
 unfolding script_start_state
 state_on_start machine sizes images budget start same fresh = λ i. record {
@@ -196,30 +218,33 @@ state_on_start machine sizes images budget start same fresh = λ i. record {
 -- What is so of what the lines of a script that was read are told, on a machine that was just made,
 -- is so of what the script is told.
 pub told_of : (P : Answered → Type 0) (o : Option (List ℕ)) (sizes : Sizes) (images : List Entry) (budget : ℕ)
-    (read text : List ℕ) (session : Session) (machine : Parts)
+    (read text : List ℕ) (session : Session) (machine : MachineValue) (place : ReadingPlace)
     → IfSome o (λ script. read ≡ script) → text ≡ read
     → script_state session images ≡ state_on machine images budget
-    → state_of machine ≡ machine_start sizes → machine.sizes ≡ sizes → machine.is_fresh ≡ true
-    → P (lines_told 0 (script_state session images) None (lines text))
+    → state_of machine.guest ≡ machine_start sizes → machine.sizes ≡ sizes → machine.is_fresh ≡ true
+    → place ≡ record { left = lines text; number = 0 }
+    → P (lines_told place.number (script_state session images) None place.left)
     → IfSome o (λ script. P (script_told sizes images budget script))
 unfolding script_told
-told_of P None sizes images budget read text session machine is same stands start sized fresh so = tt
-told_of P (Some script) sizes images budget read text session machine is same stands start sized fresh so =
+told_of P None sizes images budget read text session machine place is same stands start sized fresh at so = tt
+told_of P (Some script) sizes images budget read text session machine place is same stands start sized fresh at so =
+    let from_first = subst (λ (p : ReadingPlace). P (lines_told p.number (script_state session images) None p.left)) at so in
     let from_start = subst (λ (w : ScriptState). P (lines_told 0 w None (lines text)))
-    (stands ∙ state_on_start machine sizes images budget start sized fresh) so in
+    (stands ∙ state_on_start machine sizes images budget start sized fresh) from_first in
     subst (λ (xs : List ℕ). P (lines_told 0 (script_start_state sizes images budget) None (lines xs))) (same ∙ is) from_start
 
 -- and a part of the state that they leave
 pub part_told : {A : Type 0} (part : ScriptState → A) (told : A) (now : ScriptState) (o : Option (List ℕ)) (sizes : Sizes)
-    (images : List Entry) (budget : ℕ) (read text : List ℕ) (session : Session) (machine : Parts)
+    (images : List Entry) (budget : ℕ) (read text : List ℕ) (session : Session) (machine : MachineValue) (place : ReadingPlace)
     → IfSome o (λ script. read ≡ script) → text ≡ read
     → script_state session images ≡ state_on machine images budget
-    → state_of machine ≡ machine_start sizes → machine.sizes ≡ sizes → machine.is_fresh ≡ true
-    → now ≡ (lines_told 0 (script_state session images) None (lines text)).state → told ≡ part now
+    → state_of machine.guest ≡ machine_start sizes → machine.sizes ≡ sizes → machine.is_fresh ≡ true
+    → place ≡ record { left = lines text; number = 0 }
+    → now ≡ (lines_told place.number (script_state session images) None place.left).state → told ≡ part now
     → IfSome o (λ script. told ≡ part (script_told sizes images budget script).state)
-part_told part told now o sizes images budget read text session machine is same stands start sized fresh after ends =
-    told_of (λ (t : Answered). told ≡ part t.state) o sizes images budget read text session machine is same stands start
-    sized fresh (ends ∙ ap part after)
+part_told part told now o sizes images budget read text session machine place is same stands start sized fresh at after ends =
+    told_of (λ (t : Answered). told ≡ part t.state) o sizes images budget read text session machine place is same stands
+    start sized fresh at (ends ∙ ap part after)
 
 pub ruleset line_steps = (
   AddsAllBut-start,

@@ -2,8 +2,8 @@
 use Rattle.std.specs.Prelude.{ℕ, false, [], Result, Ok, Err}
 use Rattle.profile.specs.FaultNames.{fault_name}
 use Rattle.profile.specs.declared.fault.Fault.{Fault}
-use Rattle.debugger.specs.swi_dispatch.specs.MachineState.{MachineState}
-use Rattle.debugger.specs.swi_dispatch.specs.Boot.{machine_with_register, machine_after_poke}
+use Rattle.swi_dispatch_guest.specs.MachineState.{MachineState}
+use Rattle.swi_dispatch_guest.specs.Writes.{machine_after_poke, machine_with_register}
 use Rattle.command_shell.specs.Answers.{refused_text}
 use Rattle.command_shell.specs.State.{ScriptState, Answered, answer}
 

@@ -1,13 +1,14 @@
 -- The state of a script, as the code holds it: the session and the images.
 use Rattle.std.specs.Prelude.{ℕ, List, [], None}
 use Rattle.image_loader.specs.Entries.{Entry}
-use Rattle.debugger.specs.swi_dispatch.specs.Parts.{Parts, state_of}
+use Rattle.debugger.specs.swi_dispatch.specs.Value.{MachineValue}
 use Rattle.command_shell.specs.declared.session.Session.{Session}
 use Rattle.command_shell.specs.State.{ScriptState}
+use Rattle.swi_dispatch_guest.specs.Parts.{state_of}
 
 abbrev pub script_state : Session → List Entry → ScriptState
 script_state s images = record {
-  machine = state_of s.machine;
+  machine = (state_of s.machine.guest);
   is_fresh = s.machine.is_fresh;
   sizes = s.machine.sizes;
   images = images;
@@ -17,9 +18,9 @@ script_state s images = record {
 }
 
 -- the state before the first line, on a machine
-abbrev pub state_on : Parts → List Entry → ℕ → ScriptState
+abbrev pub state_on : MachineValue → List Entry → ℕ → ScriptState
 state_on machine images budget = record {
-  machine = state_of machine;
+  machine = (state_of machine.guest);
   is_fresh = machine.is_fresh;
   sizes = machine.sizes;
   images = images;

@@ -5,9 +5,10 @@ ghost use Rattle.std.specs.Prelude.{◌≡◌, ◌≤◌, ◌<◌, ◌+◌, true
 ghost use Rattle.std.specs.Option.{option_map};
 ghost use Rattle.std.specs.Io.KnownBytes.{Appends};
 ghost use Rattle.profile.specs.Output.{Writes};
-ghost use Rattle.debugger.specs.swi_dispatch.specs.declared.halt.Halt.{Halt};
-ghost use Rattle.debugger.specs.swi_dispatch.specs.MachineState.{stop_of};
-ghost use Rattle.debugger.specs.swi_dispatch.specs.Run.{count_after};
+ghost use Rattle.swi_dispatch_guest.specs.declared.halt.Halt.{Halt};
+ghost use Rattle.swi_dispatch_guest.specs.MachineState.{stop_of};
+ghost use Rattle.swi_dispatch_guest.specs.Run.{count_after};
+ghost use Rattle.swi_dispatch_guest.specs.Parts.{state_of};
 
 use crate::answers::{tell_error, tell_ok, tell_stop};
 use crate::session::Session;
@@ -25,15 +26,14 @@ pub(crate) enum OutsideCall<'a> {
 }
 
 impl OutsideCall<'_> {
-    ghost use Rattle.debugger.specs.swi_dispatch.specs.Parts.{outcome_of, state_of};
+    ghost use Rattle.debugger.specs.swi_dispatch.specs.Value.{IsAfterStep};
     ghost use Rattle.command_shell.specs.Calls.{outside_called};
 
     // Takes the first step.
     fn begin(self, machine: &mut Machine, images: &Images) -> Option<Stop>
-        ensures after { outcome_of machine.new ≡ outside_called images.now (state_of machine.old) self.entry }
-        ensures stop { result ≡ option_map stop_of (state_of machine.new).halt }
-        ensures fresh { machine.new.is_fresh ≡ false }
-        ensures sizes { machine.new.sizes ≡ machine.old.sizes }
+        ensures after { IsAfterStep machine.old machine.new
+            (outside_called images.now (state_of machine.old.guest) self.entry) }
+        ensures stop { result ≡ option_map stop_of (state_of machine.new.guest).halt }
     {
         match self {
             OutsideCall::Swi(number) => machine.store_call(images, number),
@@ -53,8 +53,7 @@ pub(crate) enum CallEnd {
 
 impl Session {
     ghost use Rattle.image_loader.specs.Entries.{Entry};
-    ghost use Rattle.debugger.specs.swi_dispatch.specs.Parts.{state_of};
-    ghost use Rattle.debugger.specs.swi_dispatch.specs.Step.{machine_step};
+    ghost use Rattle.swi_dispatch_guest.specs.Step.{machine_step};
     ghost use Rattle.command_shell.specs.Calls.{call_made, call_done, call_end, call_text, end_told, answer_after_steps};
     ghost use Rattle.command_shell.specs.Calls.{first_step, step_made, stop_told, stop_before_step};
     ghost use Rattle.command_shell.specs.Session.{script_state};
@@ -221,10 +220,10 @@ impl Session {
     // Counts the step that the machine has just taken, and writes what it printed.
     fn count_step<W: Sink>(&mut self, sink: &mut W, halt: Option<Stop>) -> Result<(), WriteFault>
         requires left { 0 < self.old.left }
-        requires halt { halt ≡ option_map stop_of (state_of self.old.machine).halt }
+        requires halt { halt ≡ option_map stop_of (state_of self.old.machine.guest).halt }
         ensures machine { self.new.machine ≡ self.old.machine }
         ensures breaks { self.new.breaks ≡ self.old.breaks }
-        ensures left { self.new.left + count_after (state_of self.old.machine).halt ≡ self.old.left }
+        ensures left { self.new.left + count_after (state_of self.old.machine.guest).halt ≡ self.old.left }
         ensures last { self.new.last ≡ self.old.last }
         ensures text { OnOk result (Appends (W.contents sink.old)
             (W.contents sink.new) self.old.machine.printed) }
@@ -238,7 +237,7 @@ impl Session {
     // How a call ended that came back.
     fn tell_call<W: Sink>(&self, sink: &mut W) -> Result<(), WriteFault>
         ensures { Writes W.contents W.has_failed sink.old sink.new result
-            (call_text (state_of self.now.machine)) }
+            (call_text (state_of self.now.machine.guest)) }
     {
         if self.machine.cpu().psr().overflow {
             tell_error(sink, self.machine.error_number())

@@ -5,6 +5,7 @@
 mod answers;
 mod calls;
 mod error;
+mod fresh_session;
 mod images;
 mod memory;
 mod script;
@@ -14,3 +15,4 @@ mod views;
 
 pub use error::RunError;
 pub use script::{Summary, run_script};
+pub use session::Session;

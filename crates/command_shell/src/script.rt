@@ -1,15 +1,12 @@
 //! A script read whole and answered line by line on a fresh machine.
 
-ghost use Rattle.std.specs.Prelude.{◌≡◌, ◌≤◌, ◌<◌, true, false, None, length, IfOk, IfErr, IfSome, IsErr, OnOk, OnErr};
-ghost use Rattle.std.specs.Str.Lines.{lines};
+ghost use Rattle.std.specs.Prelude.{◌≡◌, ◌+◌, ◌<◌, true, false, [], None, length, IfOk, IfErr, IfSome, IsErr, OnOk, OnErr};
 ghost use Rattle.std.specs.Io.KnownBytes.{Appends};
 ghost use Rattle.profile.specs.Pulls.{PullsAtMost};
 ghost use Rattle.command_shell.specs.Error.{IsLineError};
 ghost use Rattle.profile.specs.Output.{AddsFront};
 ghost use Rattle.command_shell.specs.Fronts.{HasSome};
-ghost use Rattle.command_shell.specs.Script.{lines_told, script_told};
-ghost use Rattle.command_shell.specs.Session.{script_state};
-ghost use Rattle.command_shell.specs.State.{IsAnswered};
+ghost use Rattle.command_shell.specs.Script.{script_told};
 
 use crate::error::RunError;
 use crate::session::Session;
@@ -78,38 +75,51 @@ pub fn run_script<R: Source, W: Sink>(
         return Err(RunError::Memory);
     };
     let mut session = Session::new(alloc, machine, budget);
-    run_lines(&mut session, images, writer, script.as_slice())?;
+    let mut lines = Lines::new(script.as_slice());
+    session.answer_lines(images, writer, &mut lines)?;
     Ok(Summary {
         last: session.last(),
         left: session.left(),
     })
 }
 
-#[tactic(auto, using(crate::proofs::ScriptLemmas::line_steps))]
-fn run_lines<W: Sink>(
-    session: &mut Session,
-    images: &mut Images,
-    sink: &mut W,
-    script: &[u8],
-) -> Result<(), RunError>
-    requires { length script.now ≤ 1048576 }
-    ensures told { OnOk result (IsAnswered (W.contents sink.old) (W.contents sink.new)
-        (script_state session.new images.new)
-        (lines_told 0 (script_state session.old images.old) None (lines script.now))) }
-    ensures memory { result ≡ Err RunError.Memory → AddsFront (W.contents sink.old) (W.contents sink.new)
-        (lines_told 0 (script_state session.old images.old) None (lines script.now)).text }
-    ensures write_fault { result ≡ Err RunError.WriteFault → W.has_failed sink.new ≡ true }
-    ensures write_told { W.has_failed sink.old ≡ false → W.has_failed sink.new ≡ true
-        → result ≡ Err RunError.WriteFault }
-    ensures added { OnErr result (HasSome images.old
-        (lines_told 0 (script_state session.old images.old) None
-        (lines script.now)).state.images images.new) }
-    ensures errors { IfErr result IsLineError }
-    ensures same_flag { OnOk result (W.has_failed sink.new ≡ W.has_failed sink.old) }
-{
-    let mut place = Lines::new(script);
-    while let Some(line) = place.next_line() {
-        session.answer(images, sink, command_of(line), &mut place)?;
+impl Session {
+    ghost use Rattle.command_shell.specs.Script.{lines_told};
+    ghost use Rattle.command_shell.specs.Session.{script_state};
+    ghost use Rattle.command_shell.specs.State.{IsAnswered};
+
+    /// Answers the requests of all lines that are left, one after another.
+    ///
+    /// # Errors
+    ///
+    /// `Memory` and `WriteFault`, when a part of the answers may stand written; the images are then
+    /// those of before and some of those that the lines add, in order.
+    #[tactic(auto, using(crate::proofs::ScriptLemmas::line_steps))]
+    pub fn answer_lines<W: Sink>(
+        &mut self,
+        images: &mut Images,
+        sink: &mut W,
+        script: &mut Lines,
+    ) -> Result<(), RunError>
+        ensures told { OnOk result (IsAnswered (W.contents sink.old) (W.contents sink.new)
+            (script_state self.new images.new)
+            (lines_told script.old.number (script_state self.old images.old) None script.old.left)) }
+        ensures left { OnOk result (script.new.left ≡ []) }
+        ensures number { OnOk result (script.new.number ≡ script.old.number + length script.old.left) }
+        ensures memory { result ≡ Err RunError.Memory → AddsFront (W.contents sink.old) (W.contents sink.new)
+            (lines_told script.old.number (script_state self.old images.old) None script.old.left).text }
+        ensures write_fault { result ≡ Err RunError.WriteFault → W.has_failed sink.new ≡ true }
+        ensures write_told { W.has_failed sink.old ≡ false → W.has_failed sink.new ≡ true
+            → result ≡ Err RunError.WriteFault }
+        ensures added { OnErr result (HasSome images.old
+            (lines_told script.old.number (script_state self.old images.old) None
+            script.old.left).state.images images.new) }
+        ensures errors { IfErr result IsLineError }
+        ensures same_flag { OnOk result (W.has_failed sink.new ≡ W.has_failed sink.old) }
+    {
+        while let Some(line) = script.next_line() {
+            self.answer(images, sink, command_of(line), script)?;
+        }
+        Ok(())
     }
-    Ok(())
 }

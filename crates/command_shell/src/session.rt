@@ -8,8 +8,8 @@ ghost use Rattle.command_shell.specs.Fronts.{AreOldOrTold};
 use crate::answers::tell_unknown;
 use crate::calls::OutsideCall;
 use crate::error::RunError;
-use command_shell_lines::ScriptCommand;
 use command_shell_lines::text_lines::Lines;
+use command_shell_lines::{ScriptCommand, command_of};
 use debugger::swi_dispatch::{Breaks, Machine};
 use image_loader::Images;
 use profile::{Sink, Stop};
@@ -28,7 +28,7 @@ pub struct Session {
 
 impl Session {
     ghost use Rattle.image_loader.specs.Entries.{Entry};
-    ghost use Rattle.command_shell_lines.specs.Requests.{opens_block, request_of_command};
+    ghost use Rattle.command_shell_lines.specs.Requests.{opens_block, request_of, request_of_command};
     ghost use Rattle.command_shell.specs.Script.{request_told, takes_memory};
     ghost use Rattle.command_shell.specs.Session.{script_state, state_on};
     ghost use Rattle.command_shell.specs.State.{IsAnswered};
@@ -58,6 +58,55 @@ impl Session {
         ensures { (images : List Entry) → result ≡ (script_state self.now images).left }
     {
         self.left
+    }
+
+    /// The machine, as the lines that were answered left it.
+    pub fn machine(&self) -> &Machine
+        ensures { result.now ≡ self.now.machine }
+    {
+        &self.machine
+    }
+
+    /// The addresses at which runs stop.
+    pub fn breaks(&self) -> &Breaks
+        ensures { result.now ≡ self.now.breaks }
+    {
+        &self.breaks
+    }
+
+    /// Answers a line; of a HEX or an ASM line, reads its block from the lines that follow.
+    ///
+    /// # Errors
+    ///
+    /// As [`answer`].
+    ///
+    /// [`answer`]: Session::answer
+    pub fn answer_line<W: Sink>(
+        &mut self,
+        images: &mut Images,
+        sink: &mut W,
+        line: &[u8],
+        script: &mut Lines,
+    ) -> Result<(), RunError>
+        ensures told { OnOk result (IsAnswered (W.contents sink.old) (W.contents sink.new)
+            (script_state self.new images.new)
+            (request_told (script_state self.old images.old) script.old.number
+            (request_of line.now) (block_lines script.old.left))) }
+        ensures left { OnOk result (script.new.left
+            ≡ lines_after (opens_block (request_of line.now)) script.old.left) }
+        ensures number { OnOk result (script.new.number
+            ≡ script.old.number + lines_taken (opens_block (request_of line.now)) script.old.left) }
+        ensures memory { result ≡ Err RunError.Memory → sink.new ≡ sink.old }
+        ensures taking { result ≡ Err RunError.Memory
+            → takes_memory images.old (request_of line.now) ≡ true }
+        ensures write_fault { result ≡ Err RunError.WriteFault → W.has_failed sink.new ≡ true }
+        ensures images { OnErr result (AreOldOrTold images.old images.new
+            (request_told (script_state self.old images.old) script.old.number
+            (request_of line.now) (block_lines script.old.left))) }
+        ensures errors { IfErr result IsLineError }
+        ensures same_flag { OnOk result (W.has_failed sink.new ≡ W.has_failed sink.old) }
+    {
+        self.answer(images, sink, command_of(line), script)
     }
 
     /// Answers a request; of a HEX or an ASM line, reads its block from the lines that follow.

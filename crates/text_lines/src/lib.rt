@@ -3,4 +3,4 @@
 
 pub mod lines;
 
-pub use lines::{Lines, cut};
+pub use lines::{Lines, cut, cut_line};

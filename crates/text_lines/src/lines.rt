@@ -1,9 +1,10 @@
 //! Where the reading of a text stands, its next line, and a text cut at a separator.
 
-ghost use Rattle.std.specs.Prelude.{◌≡◌, ◌<◌, ◌+◌, ◌==◌, ◌∷◌, [], length, map, IfSome, IfNone};
+ghost use Rattle.std.specs.Prelude.{◌≡◌, ◌<◌, ◌+◌, ◌-◌, ◌^◌, ◌==◌, ◌∷◌, [], length, take, drop, map, IfSome, IfNone};
 ghost use Rattle.std.specs.Option.{option_map_or};
 ghost use Rattle.std.specs.List.{slice_split, position};
 ghost use Rattle.std.specs.Str.Lines.{lines, strip_carriage_return};
+ghost use Rattle.text_lines.specs.WholeLines.{whole_lines, unended_line};
 
 use std::marker::Model;
 
@@ -36,6 +37,14 @@ impl<'a> Lines<'a> {
             rest: text,
             number: 0,
         }
+    }
+
+    /// At the first line of a text before which so many lines stood.
+    pub fn after(text: &'a [u8], number: usize) -> Lines<'a>
+        requires { number + length text.now < 2 ^ 64 }
+        ensures { result ≡ record { left = lines text.now; number = number } }
+    {
+        Lines { rest: text, number }
     }
 
     /// How many lines were read.
@@ -97,6 +106,26 @@ pub fn cut<'a>(bytes: &'a [u8], separator: u8) -> (&'a [u8], Option<&'a [u8]>)
     match place_of(bytes, separator) {
         Some(place) => (&bytes[..place], Some(&bytes[place + 1..])),
         None => (bytes, None),
+    }
+}
+
+/// The first line and the bytes after its end, where it has one: LF or CR LF.
+pub fn cut_line(text: &[u8]) -> Option<(&[u8], &[u8])>
+    ensures lines { whole_lines text.now
+        ≡ option_map_or (λ cut. cut.0.now ∷ whole_lines cut.1.now) result [] }
+    ensures unended { unended_line text.now
+        ≡ option_map_or (λ cut. unended_line cut.1.now) result text.now }
+    ensures shorter { IfSome result (λ cut. length cut.1.now < length text.now) }
+    ensures after { IfSome result
+        (λ cut. cut.1.now ≡ drop (length text.now - length cut.1.now) text.now) }
+    ensures one { IfSome result
+        (λ cut. whole_lines (take (length text.now - length cut.1.now) text.now) ≡ cut.0.now ∷ []) }
+    ensures ends { IfSome result
+        (λ cut. unended_line (take (length text.now - length cut.1.now) text.now) ≡ []) }
+{
+    match place_of(text, b'\n') {
+        Some(place) => Some((without_return(&text[..place]), &text[place + 1..])),
+        None => None,
     }
 }
 

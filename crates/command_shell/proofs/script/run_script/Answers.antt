@@ -12,41 +12,41 @@ pub returns-clause-text : goal.returns-clause-text
 returns-clause-text g c =
     let images = c.args.images.now in
     let made = c.in-Ok.ensures in
-    told_of (λ (t : Answered). Appends (g.W.Sink.contents c.args.writer.now) (g.W.Sink.contents c.run_lines.new.sink) t.text)
+    told_of (λ (t : Answered). Appends (g.W.Sink.contents c.args.writer.now) (g.W.Sink.contents c.answer_lines.new.sink) t.text)
     (g.R.Source.remaining c.args.reader.now) c.args.config images c.args.budget c.in_ok-script.script.items
-    c.as_slice.result.now c.new-session.result c.in-Ok.machine c.in_ok-script.ensures.bytes c.as_slice.ensures.value
-    (c.new-session.ensures images) made.start made.sizes made.fresh
-    c.in_ok-run_lines.ensures.told.text
+    c.as_slice.result.now c.new-session.result c.in-Ok.machine c.new-lines.result c.in_ok-script.ensures.bytes c.as_slice.ensures.value
+    (c.new-session.ensures images) made.start made.sizes made.fresh c.new-lines.ensures
+    c.in_ok-answer_lines.ensures.told.text
 
 pub returns-clause-last : goal.returns-clause-last
 returns-clause-last g c =
     let images = c.args.images.now in
     let made = c.in-Ok.ensures in
-    part_told (λ (s : ScriptState). s.last) c.last.result (script_state c.run_lines.new.session c.run_lines.new.images)
+    part_told (λ (s : ScriptState). s.last) c.last.result (script_state c.answer_lines.new.self c.answer_lines.new.images)
     (g.R.Source.remaining c.args.reader.now) c.args.config images c.args.budget c.in_ok-script.script.items
-    c.as_slice.result.now c.new-session.result c.in-Ok.machine c.in_ok-script.ensures.bytes c.as_slice.ensures.value
-    (c.new-session.ensures images) made.start made.sizes made.fresh
-    c.in_ok-run_lines.ensures.told.state (c.last.ensures c.run_lines.new.images)
+    c.as_slice.result.now c.new-session.result c.in-Ok.machine c.new-lines.result c.in_ok-script.ensures.bytes c.as_slice.ensures.value
+    (c.new-session.ensures images) made.start made.sizes made.fresh c.new-lines.ensures
+    c.in_ok-answer_lines.ensures.told.state (c.last.ensures c.answer_lines.new.images)
 
 pub returns-clause-left : goal.returns-clause-left
 returns-clause-left g c =
     let images = c.args.images.now in
     let made = c.in-Ok.ensures in
-    part_told (λ (s : ScriptState). s.left) c.left.result (script_state c.run_lines.new.session c.run_lines.new.images)
+    part_told (λ (s : ScriptState). s.left) c.left.result (script_state c.answer_lines.new.self c.answer_lines.new.images)
     (g.R.Source.remaining c.args.reader.now) c.args.config images c.args.budget c.in_ok-script.script.items
-    c.as_slice.result.now c.new-session.result c.in-Ok.machine c.in_ok-script.ensures.bytes c.as_slice.ensures.value
-    (c.new-session.ensures images) made.start made.sizes made.fresh
-    c.in_ok-run_lines.ensures.told.state (c.left.ensures c.run_lines.new.images)
+    c.as_slice.result.now c.new-session.result c.in-Ok.machine c.new-lines.result c.in_ok-script.ensures.bytes c.as_slice.ensures.value
+    (c.new-session.ensures images) made.start made.sizes made.fresh c.new-lines.ensures
+    c.in_ok-answer_lines.ensures.told.state (c.left.ensures c.answer_lines.new.images)
 
 pub returns-clause-images : goal.returns-clause-images
 returns-clause-images g c =
     let images = c.args.images.now in
     let made = c.in-Ok.ensures in
-    part_told (λ (s : ScriptState). s.images) c.run_lines.new.images (script_state c.run_lines.new.session c.run_lines.new.images)
+    part_told (λ (s : ScriptState). s.images) c.answer_lines.new.images (script_state c.answer_lines.new.self c.answer_lines.new.images)
     (g.R.Source.remaining c.args.reader.now) c.args.config images c.args.budget c.in_ok-script.script.items
-    c.as_slice.result.now c.new-session.result c.in-Ok.machine c.in_ok-script.ensures.bytes c.as_slice.ensures.value
-    (c.new-session.ensures images) made.start made.sizes made.fresh
-    c.in_ok-run_lines.ensures.told.state refl
+    c.as_slice.result.now c.new-session.result c.in-Ok.machine c.new-lines.result c.in_ok-script.ensures.bytes c.as_slice.ensures.value
+    (c.new-session.ensures images) made.start made.sizes made.fresh c.new-lines.ensures
+    c.in_ok-answer_lines.ensures.told.state refl
 
 pub returns-in_err-script-clause-added : goal.returns-in_err-script-clause-added
 returns-in_err-script-clause-added g c =
@@ -56,24 +56,24 @@ pub returns-in_default-clause-added : goal.returns-in_default-clause-added
 returns-in_default-clause-added g c =
     none_added (g.R.Source.remaining c.args.reader.now) c.args.config c.args.images.now c.args.budget
 
-pub returns-in_err-run_lines-clause-added : goal.returns-in_err-run_lines-clause-added
-returns-in_err-run_lines-clause-added g c =
+pub returns-in_err-answer_lines-clause-added : goal.returns-in_err-answer_lines-clause-added
+returns-in_err-answer_lines-clause-added g c =
     let images = c.args.images.now in
     let made = c.in-Ok.ensures in
     at_err _ _
-    (told_of (λ (t : Answered). HasSome images t.state.images c.run_lines.new.images)
+    (told_of (λ (t : Answered). HasSome images t.state.images c.answer_lines.new.images)
     (g.R.Source.remaining c.args.reader.now) c.args.config images c.args.budget c.in_ok-script.script.items
-    c.as_slice.result.now c.new-session.result c.in-Ok.machine c.in_ok-script.ensures.bytes c.as_slice.ensures.value
-    (c.new-session.ensures images) made.start made.sizes made.fresh
-    c.in_err-run_lines.ensures.added)
+    c.as_slice.result.now c.new-session.result c.in-Ok.machine c.new-lines.result c.in_ok-script.ensures.bytes c.as_slice.ensures.value
+    (c.new-session.ensures images) made.start made.sizes made.fresh c.new-lines.ensures
+    c.in_err-answer_lines.ensures.added)
 
-pub returns-in_err-run_lines-clause-memory : goal.returns-in_err-run_lines-clause-memory
-returns-in_err-run_lines-clause-memory g c =
+pub returns-in_err-answer_lines-clause-memory : goal.returns-in_err-answer_lines-clause-memory
+returns-in_err-answer_lines-clause-memory g c =
     let images = c.args.images.now in
     let made = c.in-Ok.ensures in
     λ is.
-    told_of (λ (t : Answered). AddsFront (g.W.Sink.contents c.args.writer.now) (g.W.Sink.contents c.run_lines.new.sink) t.text)
+    told_of (λ (t : Answered). AddsFront (g.W.Sink.contents c.args.writer.now) (g.W.Sink.contents c.answer_lines.new.sink) t.text)
     (g.R.Source.remaining c.args.reader.now) c.args.config images c.args.budget c.in_ok-script.script.items
-    c.as_slice.result.now c.new-session.result c.in-Ok.machine c.in_ok-script.ensures.bytes c.as_slice.ensures.value
-    (c.new-session.ensures images) made.start made.sizes made.fresh
-    (c.in_err-run_lines.ensures.memory (search rules))
+    c.as_slice.result.now c.new-session.result c.in-Ok.machine c.new-lines.result c.in_ok-script.ensures.bytes c.as_slice.ensures.value
+    (c.new-session.ensures images) made.start made.sizes made.fresh c.new-lines.ensures
+    (c.in_err-answer_lines.ensures.memory (search rules))

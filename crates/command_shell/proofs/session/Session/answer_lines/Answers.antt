@@ -1,5 +1,4 @@
 use Rattle.std.proofs.Common.{◌∙◌, List, ℕ, None, ap, sym}
-use Rattle.std.specs.Str.Lines.{lines}
 use Rattle.command_shell_lines.specs.Blocks.{block_lines}
 use Rattle.command_shell_lines.specs.Requests.{request_of_command}
 use Rattle.command_shell.specs.Script.{lines_told, request_told}
@@ -7,29 +6,29 @@ use Rattle.command_shell.specs.Session.{script_state}
 use Rattle.command_shell.specs.State.{ScriptState}
 use Rattle.profile.proofs.OutputLemmas.{AddsAllBut-more}
 use Rattle.command_shell.proofs.ImageLemmas.{at_err, front_more, line_keeps, stops_at}
-use Rattle.command_shell.proofs.ScriptLemmas.{fewer_left, state_step, text_step}
-use Rattle.command_shell.proofs.script.run_lines.Goals as goal
+use Rattle.command_shell.proofs.ScriptLemmas.{fewer_left, number_step, state_step, text_step}
+use Rattle.command_shell.proofs.session.Session.answer_lines.Goals as goal
 
 pub returns-in_err-answer-clause-added : goal.returns-in_err-answer-clause-added
 returns-in_err-answer-clause-added g c =
-    let before = script_state c.loop-line.session c.loop-line.images in
-    let start = script_state c.args.session.now c.args.images.now in
+    let before = script_state c.loop-line.self c.loop-line.images in
+    let start = script_state c.args.self.now c.args.images.now in
     at_err _ _
-    (stops_at c.args.images.now c.answer.new.images c.loop-line.place.number c.next_line.new.self.number before
-    c.in-Some.line.now c.loop-line.place.left c.next_line.new.self.left (request_of_command c.command_of.result)
-    (lines_told 0 start None (lines c.args.script.now))
+    (stops_at c.args.images.now c.answer.new.images c.loop-line.script.number c.next_line.new.self.number before
+    c.in-Some.line.now c.loop-line.script.left c.next_line.new.self.left (request_of_command c.command_of.result)
+    (lines_told c.args.script.now.number start None c.args.script.now.left)
     c.in-Some.ensures.line c.in-Some.ensures.number c.command_of.ensures c.loop-line.invariant.state
     c.loop-line.invariant.images c.in_err-answer.ensures.images)
 
 pub loop-line-preserved : goal.loop-line-preserved
 loop-line-preserved g c =
-    let before = script_state c.loop-line.session c.loop-line.images in
+    let before = script_state c.loop-line.self c.loop-line.images in
     let after = script_state c.answer.new.self c.answer.new.images in
-    let number = c.loop-line.place.number in
+    let number = c.loop-line.script.number in
     let here = c.next_line.new.self.number in
     let next = c.answer.new.script.number in
     let line = c.in-Some.line.now in
-    let all = c.loop-line.place.left in
+    let all = c.loop-line.script.left in
     let rest = c.next_line.new.self.left in
     let left = c.answer.new.script.left in
     let r = request_of_command c.command_of.result in
@@ -48,11 +47,13 @@ loop-line-preserved g c =
       state = sym state ∙ c.loop-line.invariant.state;
       images = front_more c.args.images.now c.answer.new.images before first c.loop-line.invariant.images
           (line_keeps before here r (block_lines rest)) (ap (λ (w : ScriptState). w.images) told.state);
+      number = number_step number here next _ line all rest left r c.loop-line.invariant.number c.in-Some.ensures.line
+          c.in-Some.ensures.number c.in_ok-answer.ensures.number c.in_ok-answer.ensures.left;
       same_flag = c.in_ok-answer.ensures.same_flag ∙ c.loop-line.invariant.same_flag;
     }
 
 pub loop-line-smaller : goal.loop-line-smaller
 loop-line-smaller g c =
-    fewer_left c.in-Some.line.now c.loop-line.place.left c.next_line.new.self.left c.answer.new.script.left
+    fewer_left c.in-Some.line.now c.loop-line.script.left c.next_line.new.self.left c.answer.new.script.left
     (request_of_command c.command_of.result)
     c.in-Some.ensures.line c.in_ok-answer.ensures.left
