@@ -6,7 +6,6 @@ use Rattle.std.specs.List.{list_all}
 use Rattle.std.proofs.lemmas.Bool.{agree_below_at, eqb-true, ltb-true}
 use Rattle.std.proofs.lemmas.List.Folds.{list_all-append}
 use Rattle.profile.specs.Digits.{hex_digit}
-use Rattle.profile.proofs.OutputLemmas.{AddsAllBut-start, AddsAllBut-more, AddsAllBut-same, Appends-from_all_but}
 use Rattle.page_markup.specs.Escape.{are_bytes, escaped_bytes, escaped_byte, has_no_tag, hex_value, is_markup, mark}
 use Rattle.page_markup.specs.Escape.{reference, unescaped_bytes, shown_in}
 use Rattle.view_pictures.specs.Spelt.{is_shown}
@@ -86,4 +85,4 @@ escaped_has_no_tag (b ∷ rest) are =
     (byte_has_no_tag b (ltb-true b 256 (first_of_all (nat_lt b 256) (are_bytes rest) are)))
     (escaped_has_no_tag rest (others_of_all (nat_lt b 256) (are_bytes rest) are))
 
-pub ruleset escape_steps = (AddsAllBut-start, AddsAllBut-more, AddsAllBut-same, Appends-from_all_but, escaped_back, escaped_has_no_tag)
+pub ruleset escape_steps = (escaped_back, escaped_has_no_tag)

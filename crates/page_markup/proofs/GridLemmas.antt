@@ -1,6 +1,5 @@
 -- The cells of a row one after another.
 use Rattle.std.proofs.Common.{◌≡◌, ◌≤◌, ◌<◌, ◌+◌, ◌-◌, ℕ, suc, List, [], ◌++◌, refl, arith}
-use Rattle.profile.proofs.OutputLemmas.{AddsAllBut-start, AddsAllBut-more, AddsAllBut-same, Appends-from_all_but}
 use Rattle.page_markup.specs.Grid.{cells}
 
 cells_next : (left : ℕ) (text : ℕ → List ℕ) (number : ℕ) → cells (suc left) text number ≡ text number ++ cells left text (number + 1)
@@ -17,4 +16,4 @@ pub cells_end : (text : ℕ → List ℕ) (number : ℕ) → 16 ≤ number → c
 unfolding cells
 cells_end text number all = let none : 16 - number ≡ 0 = omega (arith, all) in rw none refl
 
-pub ruleset cell_steps = (AddsAllBut-start, AddsAllBut-more, AddsAllBut-same, Appends-from_all_but, cells_more, cells_end)
+pub ruleset cell_steps = (cells_more, cells_end)

@@ -1,3 +1,4 @@
 pub mod EscapeLemmas
 pub mod GridLemmas
 pub mod SvgLemmas
+pub mod ToldLemmas

@@ -1,18 +1,22 @@
 -- What a picture begins with, and a size, written piece by piece.
-use Rattle.std.proofs.Common.{ℕ, List, ◌++◌, Option, Result, Ok, Err, ◌≡◌, subst}
+use Rattle.std.proofs.Common.{ℕ, List, [], ◌++◌, Option, Result, Ok, Err, ◌≡◌, subst}
 use Rattle.std.specs.Prelude.{codes, OnOk}
 use Rattle.std.specs.Fmt.{decimal}
 use Rattle.std.specs.Io.KnownBytes.{Appends}
 use Rattle.profile.proofs.OutputLemmas.{Appends-join}
 use Rattle.page_markup.specs.Markup.{text_opening}
-use Rattle.page_markup.specs.Svg.{size_svg, svg_head}
+use Rattle.page_markup.specs.Svg.{size_svg, stack_head, stack_height, svg_head}
+use Rattle.page_markup.specs.ToldSvg.{picture_name}
+use Rattle.view_pictures.specs.Told.{told_lines}
+use Rattle.view_pictures.specs.declared.layout.Drawn.{Drawn}
+use Rattle.view_pictures.specs.declared.layout.Layout.{Layout}
 
 pub head_written : (a b c d e f : Option (List ℕ)) (height : ℕ) → Appends a b (codes "<svg role=\"img\" height=\"")
     → Appends b c (decimal height) → Appends c d (codes "\" viewBox=\"0 0 380 ") → Appends d e (decimal height)
-    → Appends e f (codes "\"><title>as told</title>\n") → Appends a f (svg_head height)
+    → Appends e f (codes "\"><title>") → Appends a f (svg_head height)
 unfolding svg_head
 head_written a b c d e f height front first middle second back =
-    let title : List ℕ = codes "\"><title>as told</title>\n" in
+    let title : List ℕ = codes "\"><title>" in
     let box : List ℕ = codes "\" viewBox=\"0 0 380 " in
     let third = Appends-join d e f (decimal height) title second back in
     let two = Appends-join c d f box (decimal height ++ title) middle third in
@@ -28,3 +32,20 @@ size_written (Ok done) a b c d told size base same front middle back =
     Appends-join a b d (text_opening (codes "size") 168 base) (decimal size ++ codes " bytes</text>") front
     (Appends-join b c d (decimal size) (codes " bytes</text>") number back)
 size_written (Err fault) a b c d told size base same front middle back = back
+
+-- the size, the name and the description, written piece by piece
+pub stack_head_written : (a b c d e f : Option (List ℕ)) (layout : Layout) (height : ℕ) (boxes : List Drawn)
+    → height ≡ stack_height layout → boxes ≡ layout.boxes.items
+    → Appends a b (svg_head height) → Appends b c (picture_name boxes) → Appends c d (codes "</title><desc>")
+    → Appends d e (told_lines [] layout) → Appends e f (codes "</desc>\n") → Appends a f (stack_head layout)
+stack_head_written a b c d e f layout height boxes same all front title middle told back =
+    let close : List ℕ = codes "</desc>\n" in
+    let open_told : List ℕ = codes "</title><desc>" in
+    let lines : List ℕ = told_lines [] layout in
+    let name : List ℕ = picture_name layout.boxes.items in
+    let head = subst (λ (n : ℕ). Appends a b (svg_head n)) same front in
+    let named = subst (λ (ds : List Drawn). Appends b c (picture_name ds)) all title in
+    let third = Appends-join d e f lines close told back in
+    let two = Appends-join c d f open_told (lines ++ close) middle third in
+    let one = Appends-join b c f name (open_told ++ (lines ++ close)) named two in
+    Appends-join a b f (svg_head (stack_height layout)) (name ++ (open_told ++ (lines ++ close))) head one

@@ -1,9 +1,11 @@
 -- A view of memory as SVG: a grid of bytes.
-use Rattle.std.specs.Prelude.{ℕ, suc, zero, ◌+◌, ◌*◌, Bool, true, false, List, [], ◌++◌, length, Option, Some, None, codes, if◌then◌else◌}
+use Rattle.std.specs.Prelude.{ℕ, suc, zero, ◌+◌, ◌*◌, Bool, true, false, List, [], ◌∷◌, ◌++◌, length, Option, Some, None, codes, if◌then◌else◌}
 use Rattle.std.specs.List.{flat_map}
 use Rattle.std.specs.Str.{bytes_eq}
+use Rattle.profile.specs.Digits.{hex_word}
 use Rattle.page_markup.specs.Markup.{rectangle, svg_text}
 use Rattle.page_markup.specs.Svg.{address_svg, svg_head}
+use Rattle.view_pictures.specs.RowMarks.{has_changed_byte}
 use Rattle.view_pictures.specs.Rows.{is_changed, shown_byte, top_of}
 use Rattle.view_pictures.specs.declared.rows.GridRow.{GridRow}
 
@@ -35,5 +37,20 @@ cells (suc left) text number = text number ++ cells left text (number + 1)
 abbrev pub row_svg : GridRow → List ℕ
 row_svg r = address_svg r.address (r.top + 16) ++ (cells 16 (cell_svg r) 0 ++ codes "\n")
 
+-- what the picture is of
+abbrev pub grid_name : List GridRow → List ℕ
+grid_name [] = codes "memory"
+grid_name (r ∷ rest) = codes "memory " ++ hex_word r.address
+
+-- a row that has a byte which has changed
+abbrev pub changed_row : GridRow → List ℕ
+changed_row r = if has_changed_byte r then hex_word r.address ++ codes " changed\n" else []
+
+-- the size, the name and the description
+abbrev pub grid_head : List GridRow → List ℕ
+grid_head rows =
+    svg_head (top_of (length rows) + 8) ++ (grid_name rows ++ (codes "</title><desc>"
+    ++ (flat_map changed_row rows ++ codes "</desc>\n")))
+
 abbrev pub grid_svg : List GridRow → List ℕ
-grid_svg rows = svg_head (top_of (length rows) + 8) ++ (flat_map row_svg rows ++ codes "</svg>")
+grid_svg rows = grid_head rows ++ (flat_map row_svg rows ++ codes "</svg>")

@@ -1,20 +1,25 @@
 -- A picture as SVG: boxes with their addresses, words and changes.
-use Rattle.std.specs.Prelude.{ℕ, ◌+◌, ◌-◌, ◌/◌, ◌==◌, Bool, true, false, List, [], ◌++◌, length, take, Option, Some, None, codes, if◌then◌else◌}
+use Rattle.std.specs.Prelude.{ℕ, ◌+◌, ◌-◌, ◌/◌, ◌^◌, min, Bool, true, false, List, [], ◌++◌, length, take, Option, Some, None, codes, if◌then◌else◌}
 use Rattle.std.specs.List.{flat_map}
 use Rattle.std.specs.Fmt.{decimal}
 use Rattle.profile.specs.Digits.{hex_word}
-use Rattle.view_pictures.specs.Layout.{has_second_line, kind_word}
+use Rattle.view_items.specs.Kinds.{has_second_line, kind_word}
+use Rattle.view_pictures.specs.Told.{has_changed, told_lines}
 use Rattle.page_markup.specs.Markup.{rectangle, svg_text, text_opening}
-use Rattle.view_pictures.specs.declared.boxes.BoxKind.{BoxKind}
-use Rattle.view_pictures.specs.declared.boxes.BoxKind.TheVariants as kind
-use Rattle.view_pictures.specs.declared.boxes.PictureBox.{PictureBox}
+use Rattle.page_markup.specs.ToldSvg.{height_with, picture_name, told_count, told_svg}
+use Rattle.view_items.specs.declared.kinds.BoxKind.{BoxKind}
+use Rattle.view_items.specs.declared.kinds.BoxKind.TheVariants as kind
+use Rattle.view_items.specs.declared.boxes.PictureBox.{PictureBox}
+use Rattle.view_changes.specs.declared.changes.BoxChange.{BoxChange}
+use Rattle.view_changes.specs.declared.changes.BoxChange.TheVariants as change
+use Rattle.view_items.specs.declared.items.Holder.{Holder}
 use Rattle.view_pictures.specs.declared.layout.Drawn.{Drawn}
 use Rattle.view_pictures.specs.declared.layout.Layout.{Layout}
 
 unfoldable pub svg_head : ℕ → List ℕ
 svg_head height =
     codes "<svg role=\"img\" height=\"" ++ (decimal height ++ (codes "\" viewBox=\"0 0 380 "
-    ++ (decimal height ++ codes "\"><title>as told</title>\n")))
+    ++ (decimal height ++ codes "\"><title>")))
 
 abbrev pub address_svg : ℕ → ℕ → List ℕ
 address_svg address base = svg_text (codes "address") 68 base (hex_word address)
@@ -38,11 +43,11 @@ abbrev pub anchor_words : ℕ → List ℕ
 anchor_words anchor = codes "anchor " ++ hex_word anchor
 
 -- the block whose bytes have the anchor, if one has
-abbrev pub holder_words : Option ℕ → List ℕ
+abbrev pub holder_words : Option Holder → List ℕ
 holder_words None = []
-holder_words (Some address) = codes " in " ++ hex_word address
+holder_words (Some h) = codes " in " ++ hex_word h.address
 
-abbrev pub block_line : ℕ → Option ℕ → ℕ → List ℕ
+abbrev pub block_line : ℕ → Option Holder → ℕ → List ℕ
 block_line anchor holder base =
     text_opening (codes "size") 82 base ++ (anchor_words anchor ++ (holder_words holder ++ codes "</text>"))
 
@@ -65,12 +70,37 @@ words_svg d =
     ++ (size_svg d.own.size (base_line_of d)
     ++ second_line d.own.kind d.own (base_line_of d + 16))
 
+-- what has become of a box, in a word that has room beside it
+abbrev pub short_change : BoxChange → List ℕ
+short_change change.Same = []
+short_change change.New = codes "new"
+short_change change.Changed = codes "changed"
+short_change change.Resized = codes "resized"
+short_change change.Slid = codes "slid"
+short_change (change.MovedFrom address) = codes "moved"
+short_change change.Replaced = codes "replaced"
+short_change change.Freed = codes "freed"
+short_change change.Joined = codes "joined"
+short_change change.Cut = codes "cut"
+short_change change.Left = codes "left"
+short_change change.Grown = codes "grown"
+short_change change.Shrunk = codes "shrunk"
+
 -- a second edge, and a word beside it
 abbrev pub change_svg : Drawn → List ℕ
 change_svg d =
-    if length d.change.now == 0 then [] else
+    if has_changed d then
     rectangle (codes "change") 76 (d.top + 2) 224 (d.height - 4)
-    ++ svg_text (codes "change") 308 (base_line_of d) d.change.now
+    ++ (text_opening (codes "change") 308 (base_line_of d) ++ (short_change d.change ++ codes "</text>")) else []
+
+abbrev pub zigzag : ℕ → List ℕ
+zigzag middle =
+    codes "<path class=\"break\" d=\"M 302 " ++ (decimal (middle - 6)
+    ++ codes " l 4 3 l -8 3 l 8 3 l -4 3\"/>")
+
+-- a zigzag in the right edge of a box that is higher than its share
+abbrev pub break_svg : Drawn → List ℕ
+break_svg d = if d.is_raised then zigzag (d.top + d.height / 2) else []
 
 -- the arrow of the free chain that leads to it
 abbrev pub link_svg : Option ℕ → ℕ → List ℕ
@@ -85,14 +115,25 @@ box_itself d = rectangle (kind_word d.own.kind) 74 d.top 228 d.height
     ++ (box_address d.own (d.top + 12) ++ words_svg d)
 
 abbrev pub box_svg : Drawn → List ℕ
-box_svg d = box_itself d ++ (change_svg d ++ (link_svg d.link (d.top + d.height / 2) ++ codes "\n"))
+box_svg d =
+    box_itself d ++ (break_svg d ++ (change_svg d ++ (link_svg d.link (d.top + d.height / 2) ++ codes "\n")))
 
 abbrev pub end_svg : Option ℕ → ℕ → List ℕ
 end_svg None base = []
 end_svg (Some end) base = address_svg end base
 
+-- a line under the boxes for each that has changed or is no more
+abbrev pub stack_height : Layout → ℕ
+stack_height layout =
+    height_with layout.bottom (min (told_count layout.boxes.items + length layout.gone.items) (2 ^ 64 - 1))
+
+-- the size, the name and the description
+abbrev pub stack_head : Layout → List ℕ
+stack_head layout =
+    svg_head (stack_height layout)
+    ++ (picture_name layout.boxes.items ++ (codes "</title><desc>" ++ (told_lines [] layout ++ codes "</desc>\n")))
+
 abbrev pub stack_svg : Layout → List ℕ
 stack_svg layout =
-    svg_head (layout.bottom + 32) ++ (flat_map box_svg layout.boxes.items
-    ++ (end_svg layout.end (layout.bottom + 12)
-    ++ codes "</svg>"))
+    stack_head layout ++ (flat_map box_svg layout.boxes.items
+    ++ (end_svg layout.end (layout.bottom + 12) ++ (told_svg layout ++ codes "</svg>")))

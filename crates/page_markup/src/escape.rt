@@ -10,7 +10,6 @@ use view_pictures::digit;
 /// Writes bytes so that HTML shows them and takes nothing in them for its own. `<`, `>`, `&` and
 /// `"` become references by their number; an unprintable byte, its two digits in
 /// hexadecimal between `⟨` and `⟩`. Line feeds stay.
-#[tactic(auto, using(crate::proofs::EscapeLemmas::escape_steps))]
 pub fn push_escaped<W: Sink>(sink: &mut W, bytes: &[u8]) -> Result<(), WriteFault>
     ensures writes { Writes W.contents W.has_failed sink.old sink.new result (escaped_bytes bytes.now) }
     ensures no_tag { are_bytes bytes.now ≡ true → has_no_tag (escaped_bytes bytes.now) ≡ true }

@@ -4,9 +4,12 @@
 
 pub mod escape;
 pub mod grid;
+mod legend;
 pub mod markup;
 pub mod svg;
+mod told;
 
 pub use escape::push_escaped;
 pub use grid::push_grid;
+pub use legend::push_legend;
 pub use svg::push_svg;

@@ -5,14 +5,19 @@ ghost use Rattle.std.specs.Prelude.{◌≡◌, ◌<◌, ◌^◌, take};
 ghost use Rattle.profile.specs.Digits.{hex_word};
 ghost use Rattle.profile.specs.Output.{Writes};
 ghost use Rattle.std.specs.List.{flat_map};
-ghost use Rattle.page_markup.specs.Svg.{address_svg, anchor_words, base_line_of, block_line, box_address, box_itself, box_svg, change_svg};
-ghost use Rattle.page_markup.specs.Svg.{end_svg, holder_words, link_svg, name_line, second_line, size_svg, stack_svg};
+ghost use Rattle.page_markup.specs.Svg.{address_svg, anchor_words, base_line_of, block_line, box_address, box_itself, box_svg, break_svg};
+ghost use Rattle.page_markup.specs.Svg.{change_svg, short_change, stack_head, stack_height};
+ghost use Rattle.page_markup.specs.Svg.{end_svg, holder_words, link_svg, name_line, second_line, size_svg, stack_svg, zigzag};
 ghost use Rattle.page_markup.specs.Svg.{svg_head, words_svg};
 
 use crate::markup::{open_text, push_decimal, push_rectangle, push_text};
+use crate::told::{height_with, push_title, push_told_svg, told_count};
 use itoa::Buffer;
 use profile::{HexText, Sink, WriteFault, push_all, push_parts};
-use view_pictures::{BoxKind, Drawn, Layout, PictureBox};
+use view_changes::BoxChange;
+use view_items::items::Holder;
+use view_items::{BoxKind, PictureBox};
+use view_pictures::{Drawn, Layout, has_changed, push_told};
 
 // The right edge of the addresses, and the left one of the boxes and of what stands in and beside
 // them.
@@ -33,14 +38,37 @@ const LONG_NAME: usize = 28;
 
 const SHORT_NAME: usize = 16;
 
-/// Writes a picture of boxes.
+/// Writes a picture of boxes. Its name says what it is of, and its description, as lines under the
+/// boxes do, what has become of them and which of the picture before are no more. A box that is
+/// higher than its share has a zigzag in its right edge.
 pub fn push_svg<W: Sink>(sink: &mut W, layout: &Layout<'_>) -> Result<(), WriteFault>
     ensures { Writes W.contents W.has_failed sink.old sink.new result (stack_svg layout.now) }
 {
-    push_head(sink, u64::from(layout.bottom) + 32)?;
+    push_stack_head(sink, layout)?;
     push_boxes(sink, layout.boxes.as_slice())?;
     push_end(sink, layout.end, u64::from(layout.bottom) + 12)?;
+    push_told_svg(sink, layout)?;
     push_all(sink, b"</svg>")
+}
+
+// The size, the name and the description.
+fn push_stack_head<W: Sink>(sink: &mut W, layout: &Layout<'_>) -> Result<(), WriteFault>
+    ensures { Writes W.contents W.has_failed sink.old sink.new result (stack_head layout.now) }
+{
+    push_head(sink, stack_height(layout))?;
+    push_title(sink, layout.boxes.as_slice())?;
+    push_all(sink, b"</title><desc>")?;
+    push_told(sink, b"", layout)?;
+    push_all(sink, b"</desc>\n")?;
+    Ok(())
+}
+
+// A line under the boxes for each that has changed or is no more.
+fn stack_height(layout: &Layout<'_>) -> u64
+    ensures { result ≡ stack_height layout.now }
+{
+    let lines = told_count(layout.boxes.as_slice()).saturating_add(layout.gone.len() as u64);
+    height_with(layout.bottom, lines)
 }
 
 /// Writes what a picture of that height begins with.
@@ -51,11 +79,10 @@ pub fn push_head<W: Sink>(sink: &mut W, height: u64) -> Result<(), WriteFault>
     push_decimal(sink, height)?;
     push_all(sink, b"\" viewBox=\"0 0 380 ")?;
     push_decimal(sink, height)?;
-    push_all(sink, b"\"><title>as told</title>\n")?;
+    push_all(sink, b"\"><title>")?;
     Ok(())
 }
 
-#[tactic(auto, using(crate::proofs::EscapeLemmas::escape_steps))]
 fn push_boxes<W: Sink>(sink: &mut W, boxes: &[Drawn<'_>]) -> Result<(), WriteFault>
     ensures { Writes W.contents W.has_failed sink.old sink.new result (flat_map box_svg boxes.now) }
 {
@@ -91,6 +118,7 @@ fn push_box<W: Sink>(sink: &mut W, drawn: &Drawn<'_>) -> Result<(), WriteFault>
     ensures { Writes W.contents W.has_failed sink.old sink.new result (box_svg drawn.now) }
 {
     push_box_itself(sink, drawn)?;
+    push_break(sink, drawn)?;
     push_change(sink, drawn)?;
     push_link(
         sink,
@@ -182,7 +210,7 @@ fn push_second_line<W: Sink>(
 fn push_block_line<W: Sink>(
     sink: &mut W,
     anchor: u32,
-    holder: Option<u32>,
+    holder: Option<Holder>,
     base: u64,
 ) -> Result<(), WriteFault>
     ensures { Writes W.contents W.has_failed sink.old sink.new result (block_line anchor holder base) }
@@ -202,15 +230,15 @@ fn push_anchor<W: Sink>(sink: &mut W, anchor: u32) -> Result<(), WriteFault>
     )
 }
 
-fn push_holder<W: Sink>(sink: &mut W, holder: Option<u32>) -> Result<(), WriteFault>
+fn push_holder<W: Sink>(sink: &mut W, holder: Option<Holder>) -> Result<(), WriteFault>
     ensures { Writes W.contents W.has_failed sink.old sink.new result (holder_words holder) }
 {
-    let Some(address) = holder else {
+    let Some(own) = holder else {
         return Ok(());
     };
     push_parts(
         sink,
-        &[b" in ".as_slice(), HexText::word(address).as_slice()],
+        &[b" in ".as_slice(), HexText::word(own.address).as_slice()],
     )
 }
 
@@ -230,12 +258,59 @@ fn front_of(text: &[u8], most: usize) -> &[u8]
 fn push_change<W: Sink>(sink: &mut W, drawn: &Drawn<'_>) -> Result<(), WriteFault>
     ensures { Writes W.contents W.has_failed sink.old sink.new result (change_svg drawn.now) }
 {
-    if drawn.change.is_empty() {
+    if !has_changed(drawn) {
         return Ok(());
     }
     let inner = u64::from(drawn.height).saturating_sub(4);
     push_rectangle(sink, b"change", 76, u64::from(drawn.top) + 2, 224, inner)?;
-    push_text(sink, b"change", CHANGE_LEFT, base_of(drawn), drawn.change)
+    open_text(sink, b"change", CHANGE_LEFT, base_of(drawn))?;
+    push_all(sink, short_change(drawn.change))?;
+    push_all(sink, b"</text>")
+}
+
+// What has become of a box, in a word that has room beside it.
+fn short_change(change: BoxChange) -> &'static [u8]
+    ensures { result.now ≡ short_change change }
+{
+    match change {
+        BoxChange::Same => b"",
+        BoxChange::New => b"new",
+        BoxChange::Changed => b"changed",
+        BoxChange::Resized => b"resized",
+        BoxChange::Slid => b"slid",
+        BoxChange::MovedFrom(_) => b"moved",
+        BoxChange::Replaced => b"replaced",
+        BoxChange::Freed => b"freed",
+        BoxChange::Joined => b"joined",
+        BoxChange::Cut => b"cut",
+        BoxChange::Left => b"left",
+        BoxChange::Grown => b"grown",
+        BoxChange::Shrunk => b"shrunk",
+    }
+}
+
+// A zigzag in the right edge of a box that is higher than its share.
+fn push_break<W: Sink>(sink: &mut W, drawn: &Drawn<'_>) -> Result<(), WriteFault>
+    ensures { Writes W.contents W.has_failed sink.old sink.new result (break_svg drawn.now) }
+{
+    if !drawn.is_raised {
+        return Ok(());
+    }
+    push_zigzag(sink, u64::from(drawn.top) + u64::from(drawn.height) / 2)
+}
+
+fn push_zigzag<W: Sink>(sink: &mut W, middle: u64) -> Result<(), WriteFault>
+    ensures { Writes W.contents W.has_failed sink.old sink.new result (zigzag middle) }
+{
+    let mut start = Buffer::new();
+    push_parts(
+        sink,
+        &[
+            b"<path class=\"break\" d=\"M 302 ".as_slice(),
+            start.format(middle.saturating_sub(6)).as_bytes(),
+            b" l 4 3 l -8 3 l 8 3 l -4 3\"/>".as_slice(),
+        ],
+    )
 }
 
 fn push_link<W: Sink>(sink: &mut W, link: Option<u32>, middle: u64) -> Result<(), WriteFault>

@@ -1,13 +1,15 @@
--- How the boxes of a picture go on below one another, and the marks of a bar under them.
-use Rattle.std.proofs.Common.{◌≡◌, ◌≤◌, ◌<◌, ◌+◌, ◌-◌, ◌^◌, ℕ, List, [], ◌∷◌, ◌++◌, length, get_or, drop, Option}
-use Rattle.std.specs.Prelude.{min}
+-- How the boxes of a picture go on below one another, and in the rows of a bar.
+use Rattle.std.proofs.Common.{◌≡◌, ◌≤◌, ◌<◌, ◌+◌, ◌-◌, ◌^◌, ℕ, suc, zero, List, [], ◌∷◌, ◌++◌, length, length-drop, get_or, drop, take}
+use Rattle.std.proofs.Common.{Option, ap, arith, refl, if◌then◌else◌}
+use Rattle.std.specs.Prelude.{min, nat_le}
 use Rattle.std.proofs.lemmas.List.{at_drop_more, at_drop_all}
-use Rattle.profile.proofs.OutputLemmas.{AddsAllBut-start, AddsAllBut-more, AddsAllBut-same, Appends-from_all_but}
 use Rattle.profile.specs.Digits.{hex_number}
-use Rattle.view_pictures.specs.Bars.{addresses, blanks_after_box, digits_at, end_digits, place_further, has_changed, has_room, box_mark, box_marks}
-use Rattle.view_pictures.specs.Bars.{written_with}
+use Rattle.view_items.specs.declared.boxes.PictureBox.{PictureBox}
+use Rattle.view_pictures.specs.Bars.{addresses, bar_row, bar_rows, blanks_after_box, box_mark, box_marks, digits_at, end_digits, end_of_row}
+use Rattle.view_pictures.specs.Bars.{has_room, place_further, row_count, row_length, written_with}
+use Rattle.view_pictures.specs.Chain.{chain_link, chain_links, links_after}
 use Rattle.view_pictures.specs.Layout.{height_of, spot, spots_from}
-use Rattle.view_pictures.specs.declared.boxes.PictureBox.{PictureBox}
+use Rattle.view_pictures.specs.Told.{has_changed}
 use Rattle.view_pictures.specs.declared.layout.Drawn.{Drawn}
 
 pub spots_more : (total top : ℕ) (boxes : List PictureBox) (place : ℕ) (d : PictureBox) → place < length boxes
@@ -41,8 +43,63 @@ pub addresses_end : (end : Option ℕ) (written place : ℕ) (boxes : List Drawn
     → addresses end written place (drop n boxes) ≡ end_digits end written place
 addresses_end end written place boxes n all = at_drop_all (addresses end written place) boxes n all
 
-pub ruleset address_steps = (AddsAllBut-start, AddsAllBut-more, AddsAllBut-same, Appends-from_all_but, addresses_more, addresses_end)
+pub row_count_more : (left : ℕ) (boxes : List Drawn) (place : ℕ) (d : Drawn) → place < length boxes
+    → row_count left (drop place boxes)
+    ≡ (if nat_le left (get_or boxes place d).width then 0
+    else suc (row_count (left - ((get_or boxes place d).width + 1)) (drop (place + 1) boxes)))
+row_count_more left boxes place d within = at_drop_more (row_count left) boxes place d within
 
-pub ruleset mark_steps = (AddsAllBut-start, AddsAllBut-more, AddsAllBut-same, Appends-from_all_but, marks_more, marks_end)
+pub row_count_end : (left : ℕ) (boxes : List Drawn) (place : ℕ) → length boxes ≤ place → row_count left (drop place boxes) ≡ 0
+row_count_end left boxes place all = at_drop_all (row_count left) boxes place all
+
+pub links_more : (front : List ℕ) (most count : ℕ) (boxes : List Drawn) (place : ℕ) (d : Drawn) → place < length boxes
+    → chain_links front most count (drop place boxes)
+    ≡ chain_link front most count (get_or boxes place d)
+    ++ chain_links front most (links_after most count (get_or boxes place d)) (drop (place + 1) boxes)
+links_more front most count boxes place d within = at_drop_more (chain_links front most count) boxes place d within
+
+pub links_end : (front : List ℕ) (most count : ℕ) (boxes : List Drawn) (place : ℕ) → length boxes ≤ place
+    → chain_links front most count (drop place boxes) ≡ []
+links_end front most count boxes place all = at_drop_all (chain_links front most count) boxes place all
+
+fewer : (n : ℕ) (d : Drawn) (rest : List Drawn) → 0 < n → length (drop n (d ∷ rest)) ≤ length rest
+fewer zero d rest some = absurd (omega arith)
+fewer (suc n) d rest some = omega (arith, length-drop n rest)
+
+-- rows are the same with each number of rows that is enough
+rows_enough : (one other : ℕ) (front : List ℕ) (room : ℕ) (end : Option ℕ) (boxes : List Drawn)
+    → length boxes ≤ one → length boxes ≤ other → bar_rows one front room end boxes ≡ bar_rows other front room end boxes
+rows_enough zero zero front room end boxes first second = refl
+rows_enough zero (suc other) front room end [] first second = refl
+rows_enough zero (suc other) front room end (d ∷ rest) first second = absurd (omega arith)
+rows_enough (suc one) zero front room end [] first second = refl
+rows_enough (suc one) zero front room end (d ∷ rest) first second = absurd (omega arith)
+rows_enough (suc one) (suc other) front room end [] first second = refl
+rows_enough (suc one) (suc other) front room end (d ∷ rest) first second =
+    let less = fewer (row_length room (d ∷ rest)) d rest (omega arith) in
+    ap (λ (more : List ℕ). bar_row front (end_of_row end (drop (row_length room (d ∷ rest)) (d ∷ rest)))
+    (take (row_length room (d ∷ rest)) (d ∷ rest)) ++ more)
+    (rows_enough one other front room end (drop (row_length room (d ∷ rest)) (d ∷ rest)) (omega (arith, less)) (omega (arith, less)))
+
+pub rows_more : (front : List ℕ) (room : ℕ) (end : Option ℕ) (boxes : List Drawn) → 0 < length boxes
+    → bar_rows (length boxes) front room end boxes
+    ≡ bar_row front (end_of_row end (drop (row_length room boxes) boxes)) (take (row_length room boxes) boxes)
+    ++ bar_rows (length (drop (row_length room boxes) boxes)) front room end (drop (row_length room boxes) boxes)
+rows_more front room end [] some = absurd (omega arith)
+rows_more front room end (d ∷ rest) some =
+    let less = fewer (row_length room (d ∷ rest)) d rest (omega arith) in
+    ap (λ (more : List ℕ). bar_row front (end_of_row end (drop (row_length room (d ∷ rest)) (d ∷ rest)))
+    (take (row_length room (d ∷ rest)) (d ∷ rest)) ++ more)
+    (rows_enough (length rest) (length (drop (row_length room (d ∷ rest)) (d ∷ rest))) front room end
+    (drop (row_length room (d ∷ rest)) (d ∷ rest)) less (omega arith))
+
+pub rows_end : (front : List ℕ) (room : ℕ) (end : Option ℕ) (boxes : List Drawn) → length boxes ≤ 0
+    → bar_rows (length boxes) front room end boxes ≡ []
+rows_end front room end [] none = refl
+rows_end front room end (d ∷ rest) none = absurd (omega arith)
+
+pub ruleset bar_steps = (marks_more, marks_end, addresses_more, addresses_end, row_count_more, row_count_end, rows_more, rows_end)
+
+pub ruleset chain_steps = (links_more, links_end)
 
 pub ruleset layout_steps = (spots_more, spots_end)

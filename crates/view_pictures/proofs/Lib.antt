@@ -1,3 +1,2 @@
 pub mod LayoutLemmas
 pub mod RowLemmas
-pub mod TextLemmas

@@ -2,7 +2,6 @@
 use Rattle.std.proofs.Common.{◌≡◌, ◌≤◌, ◌<◌, ◌+◌, ◌-◌, ℕ, suc, zero, Bool, false, [], ◌∷◌, ◌++◌, replicate}
 use Rattle.std.proofs.Common.{refl, ap, arith}
 use Rattle.std.specs.Prelude.{◌||◌}
-use Rattle.profile.proofs.OutputLemmas.{AddsAllBut-start, AddsAllBut-more, AddsAllBut-same, Appends-from_all_but}
 use Rattle.view_pictures.specs.RowMarks.{any_from, blanks_after_byte, byte_mark, byte_marks}
 use Rattle.view_pictures.specs.Rows.{is_changed}
 use Rattle.view_pictures.specs.declared.rows.GridRow.{GridRow}
@@ -50,8 +49,4 @@ pub many_end : (left byte : ℕ) → left ≤ 0 → replicate left byte ≡ []
 many_end zero byte none = refl
 many_end (suc left) byte none = absurd (omega arith)
 
-pub ruleset any_steps = (any_more, any_end)
-
-pub ruleset mark_steps = (AddsAllBut-start, AddsAllBut-more, AddsAllBut-same, Appends-from_all_but, marks_more, marks_end)
-
-pub ruleset many_steps = (AddsAllBut-start, AddsAllBut-more, AddsAllBut-same, Appends-from_all_but, many_more, many_end)
+pub ruleset row_steps = (any_more, any_end, marks_more, marks_end, many_more, many_end)

@@ -1,23 +1,26 @@
--- A picture for a terminal: a bar of characters, marks under what has changed, and the free chain.
-use Rattle.std.specs.Prelude.{ℕ, ◌+◌, ◌-◌, ◌^◌, ◌==◌, ◌&&◌, min, nat_lt, Bool, true, false, not, List, [], ◌∷◌, ◌++◌, length, replicate}
-use Rattle.std.specs.Prelude.{Option, Some, None, codes, if◌then◌else◌}
+-- A picture for a terminal: rows of a bar of characters, with marks under what has changed.
+use Rattle.std.specs.Prelude.{ℕ, suc, zero, ◌+◌, ◌-◌, ◌^◌, ◌&&◌, min, max, nat_le, nat_lt, Bool, true, false, not, List, [], ◌∷◌, ◌++◌}
+use Rattle.std.specs.Prelude.{length, take, drop, replicate, Option, Some, None, codes, if◌then◌else◌}
 use Rattle.std.specs.List.{flat_map, list_any}
-use Rattle.profile.specs.Digits.{hex_number, hex_word}
-use Rattle.view_pictures.specs.Layout.{is_free, is_pool, kind_sign, kind_word}
-use Rattle.view_pictures.specs.declared.boxes.PictureBox.{PictureBox}
+use Rattle.profile.specs.Digits.{hex_number}
+use Rattle.view_items.specs.Kinds.{is_pool, kind_sign}
+use Rattle.view_pictures.specs.Chain.{chain}
+use Rattle.view_pictures.specs.Told.{has_changed, told_lines}
+use Rattle.view_items.specs.declared.boxes.PictureBox.{PictureBox}
 use Rattle.view_pictures.specs.declared.layout.Drawn.{Drawn}
 use Rattle.view_pictures.specs.declared.layout.Layout.{Layout}
 
+-- the right edge of a box: another where it is wider than its share
+abbrev pub bar_edge : Drawn → List ℕ
+bar_edge d = if d.is_widened then codes "/" else codes "|"
+
 -- a box in a bar, and its right edge
 abbrev pub bar_box : Drawn → List ℕ
-bar_box d = replicate d.width (kind_sign d.own.kind) ++ codes "|"
+bar_box d = replicate d.width (kind_sign d.own.kind) ++ bar_edge d
 
 -- `|d|####|...|    |`
 abbrev pub bar : List Drawn → List ℕ
 bar boxes = codes "|" ++ (flat_map bar_box boxes ++ codes "\n")
-
-abbrev pub has_changed : Drawn → Bool
-has_changed d = not (length d.change.now == 0)
 
 -- the marks under a box, after so many blanks
 abbrev pub box_mark : Bool → ℕ → ℕ → List ℕ
@@ -71,39 +74,55 @@ addresses end written place (d ∷ rest) =
     ++ addresses end (written_with (has_room written place d.own) written place (hex_number d.own.address))
     (place_further (place_further place d.width) 1) rest
 
-abbrev pub address_line : List ℕ → Layout → List ℕ
-address_line front layout = front ++ (addresses layout.end 0 1 layout.boxes.items ++ codes "\n")
+abbrev pub address_line : List ℕ → Option ℕ → List Drawn → List ℕ
+address_line front end boxes = front ++ (addresses end 0 1 boxes ++ codes "\n")
 
--- the page pool is at no address
-abbrev pub address_before : PictureBox → List ℕ
-address_before b = if is_pool b.kind then [] else hex_word b.address ++ codes " "
+-- a row of the bar, the marks under it, and the addresses
+abbrev pub bar_row : List ℕ → Option ℕ → List Drawn → List ℕ
+bar_row front end boxes = front ++ (bar boxes ++ (mark_line front boxes ++ address_line front end boxes))
 
--- `00009010 free freed`
-abbrev pub box_line : List ℕ → PictureBox → List ℕ → List ℕ
-box_line front b words =
-    front ++ (address_before b ++ (kind_word b.kind ++ (codes " " ++ (words ++ codes "\n"))))
+-- How many characters the boxes of a row have with their edges, at most: an address has room after
+-- them.
+abbrev pub row_room : List ℕ → ℕ → ℕ
+row_room front width = width - length front - 8
 
-abbrev pub change_line : List ℕ → Drawn → List ℕ
-change_line front d = if has_changed d then box_line front d.own d.change.now else []
+-- how many boxes have room, one after another
+abbrev pub row_count : ℕ → List Drawn → ℕ
+row_count left [] = 0
+row_count left (d ∷ rest) = if nat_le left d.width then 0 else suc (row_count (left - (d.width + 1)) rest)
 
-abbrev pub gone_line : List ℕ → PictureBox → List ℕ
-gone_line front b = box_line front b (codes "gone")
+-- how many boxes a row takes: as many as have room after its left edge, and one at least
+abbrev pub row_length : ℕ → List Drawn → ℕ
+row_length room boxes = max (row_count (room - 1) boxes) 1
 
-abbrev pub free_address : Drawn → List ℕ
-free_address d = if is_free d.own.kind then codes " " ++ (hex_word d.own.address ++ codes " ->") else []
+-- the address after the boxes of a row, which stands there if no row comes after it
+abbrev pub end_of_row : Option ℕ → List Drawn → Option ℕ
+end_of_row end [] = end
+end_of_row end (d ∷ rest) = None
 
--- `free chain 00009010 -> 00009040 -> end`
-abbrev pub chain : List ℕ → List Drawn → List ℕ
-chain front boxes =
-    if list_any (λ d. is_free d.own.kind) boxes
-    then front ++ (codes "free chain" ++ (flat_map free_address boxes ++ codes " end\n")) else []
+-- so many rows at most
+abbrev pub bar_rows : ℕ → List ℕ → ℕ → Option ℕ → List Drawn → List ℕ
+bar_rows zero front room end boxes = []
+bar_rows (suc more) front room end [] = []
+bar_rows (suc more) front room end (d ∷ rest) =
+    bar_row front (end_of_row end (drop (row_length room (d ∷ rest)) (d ∷ rest)))
+    (take (row_length room (d ∷ rest)) (d ∷ rest))
+    ++ bar_rows more front room end (drop (row_length room (d ∷ rest)) (d ∷ rest))
 
--- the addresses, what has changed, what is gone, and the free chain
-unfoldable pub below_bar : List ℕ → Layout → List ℕ
-below_bar front layout =
-    address_line front layout ++ (flat_map (change_line front) layout.boxes.items
-    ++ (flat_map (gone_line front) layout.gone.items ++ chain front layout.boxes.items))
+-- the rows, what has changed, what is gone, and the free chain
+abbrev pub bar_lines : List ℕ → ℕ → Layout → List ℕ
+bar_lines front width layout =
+    bar_rows (length layout.boxes.items) front (row_room front width) layout.end layout.boxes.items
+    ++ (told_lines front layout ++ chain front width layout.boxes.items)
 
-abbrev pub bar_lines : List ℕ → Layout → List ℕ
-bar_lines front layout =
-    front ++ (bar layout.boxes.items ++ (mark_line front layout.boxes.items ++ below_bar front layout))
+abbrev pub sign_line : List ℕ → List ℕ
+sign_line front =
+    front ++ codes "signs: d descriptor, # block, area or module, . free, p page pool, w private word,\n"
+
+abbrev pub scale_line : List ℕ → List ℕ
+scale_line front =
+    front ++ codes "~ what an area may grow by, / ends a box that is not to scale, ^ under what has changed\n"
+
+-- what the signs mean
+abbrev pub bar_legend : List ℕ → List ℕ
+bar_legend front = sign_line front ++ scale_line front

@@ -1,51 +1,10 @@
 -- Where the boxes of a picture stand, by what they are and how many bytes they have.
-use Rattle.std.specs.Prelude.{ℕ, ◌+◌, ◌-◌, ◌*◌, ◌/◌, ◌^◌, min, max, Bool, true, false, List, [], ◌∷◌, fold, codes, if◌then◌else◌}
-use Rattle.view_pictures.specs.declared.boxes.BoxKind.{BoxKind}
-use Rattle.view_pictures.specs.declared.boxes.BoxKind.TheVariants as kind
-use Rattle.view_pictures.specs.declared.boxes.PictureBox.{PictureBox}
+use Rattle.std.specs.Prelude.{ℕ, ◌+◌, ◌-◌, ◌*◌, ◌/◌, ◌^◌, min, max, nat_lt, Bool, List, [], ◌∷◌, fold, if◌then◌else◌}
+use Rattle.view_items.specs.Kinds.{has_second_line}
+use Rattle.view_items.specs.declared.kinds.BoxKind.{BoxKind}
+use Rattle.view_items.specs.declared.kinds.BoxKind.TheVariants as kind
+use Rattle.view_items.specs.declared.boxes.PictureBox.{PictureBox}
 use Rattle.view_pictures.specs.declared.layout.Drawn.{Drawn}
-
--- the word that stands in a box
-abbrev pub kind_word : BoxKind → List ℕ
-kind_word kind.Descriptor = codes "descriptor"
-kind_word kind.Live = codes "live"
-kind_word kind.Free = codes "free"
-kind_word kind.Room = codes "room"
-kind_word kind.Block = codes "block"
-kind_word kind.Area = codes "area"
-kind_word kind.Unused = codes "unused"
-kind_word kind.Pool = codes "pool"
-kind_word kind.Module = codes "module"
-kind_word kind.Word = codes "word"
-
--- the character that fills it in a bar
-abbrev pub kind_sign : BoxKind → ℕ
-kind_sign kind.Descriptor = 100
-kind_sign kind.Live = 35
-kind_sign kind.Free = 46
-kind_sign kind.Room = 32
-kind_sign kind.Block = 35
-kind_sign kind.Area = 35
-kind_sign kind.Unused = 126
-kind_sign kind.Pool = 112
-kind_sign kind.Module = 35
-kind_sign kind.Word = 119
-
--- whether it has a second line, for a name, an anchor or a word's value
-abbrev pub has_second_line : BoxKind → Bool
-has_second_line kind.Block = true
-has_second_line kind.Area = true
-has_second_line kind.Module = true
-has_second_line kind.Word = true
-has_second_line other = false
-
-abbrev pub is_free : BoxKind → Bool
-is_free kind.Free = true
-is_free other = false
-
-abbrev pub is_pool : BoxKind → Bool
-is_pool kind.Pool = true
-is_pool other = false
 
 -- What a box counts for its scale: what an area may grow by is no memory yet, and counts nothing.
 abbrev pub scaled_by : BoxKind → ℕ → ℕ
@@ -64,9 +23,13 @@ total_box_size boxes = max (fold (λ total (b : PictureBox). min (total + scaled
 abbrev pub share_of : ℕ → ℕ → ℕ → ℕ
 share_of total size all = min (size * all / total) all
 
+-- room for a line of words, or for two
+abbrev pub least_height : BoxKind → ℕ
+least_height k = if has_second_line k then 40 else 24
+
 -- to scale, but with room for its words
 abbrev pub height_of : ℕ → PictureBox → ℕ
-height_of total b = max (share_of total (scaled_size b) 200) (if has_second_line b.kind then 40 else 24)
+height_of total b = max (share_of total (scaled_size b) 200) (least_height b.kind)
 
 -- a character at least, and always four for what an area may grow by
 abbrev pub least_width : BoxKind → ℕ
@@ -75,6 +38,25 @@ least_width other = 1
 
 abbrev pub width_of : ℕ → PictureBox → ℕ
 width_of total b = max (share_of total (scaled_size b) 60) (least_width b.kind)
+
+-- whether a box is higher than its share
+abbrev pub is_raised : ℕ → PictureBox → Bool
+is_raised total b = nat_lt (share_of total (scaled_size b) 200) (least_height b.kind)
+
+-- whether a box is wider in a bar than its share
+abbrev pub is_widened : ℕ → PictureBox → Bool
+is_widened total b = nat_lt (share_of total (scaled_size b) 60) (least_width b.kind)
+
+-- where a box is not to scale
+pub record Breaks : Type 0 where
+  pub raised : Bool
+  pub widened : Bool
+
+abbrev pub breaks_of : Drawn → Breaks
+breaks_of d = record { raised = d.is_raised; widened = d.is_widened }
+
+abbrev pub breaks_told : ℕ → PictureBox → Breaks
+breaks_told total b = record { raised = is_raised total b; widened = is_widened total b }
 
 -- the upper edge of a box, and its height
 pub record Spot : Type 0 where

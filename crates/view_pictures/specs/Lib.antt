@@ -1,10 +1,8 @@
--- The pictures of views. Begin with Items and Boxes, then Bars.
+-- The pictures of views. Begin with Layout, then Bars.
 pub mod Bars
-pub mod Boxes
-pub mod Gone
-pub mod Items
+pub mod Chain
 pub mod Layout
 pub mod RowMarks
 pub mod Rows
 pub mod Spelt
-pub mod TextSink
+pub mod Told

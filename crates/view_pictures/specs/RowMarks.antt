@@ -32,6 +32,10 @@ row_text_with_marks front r true =
     ++ (byte_marks 16 r 0 1 ++ codes "\n")))))))
 row_text_with_marks front r false = []
 
+-- whether a byte of a row is shown otherwise than before
+abbrev pub has_changed_byte : GridRow → Bool
+has_changed_byte r = any_from 16 (λ number. is_changed number r) 0
+
 -- a row that has a byte which has changed, and marks under those bytes
 abbrev pub mark_lines : List ℕ → GridRow → List ℕ
-mark_lines front r = row_text_with_marks front r (any_from 16 (λ number. is_changed number r) 0)
+mark_lines front r = row_text_with_marks front r (has_changed_byte r)

@@ -4,8 +4,8 @@ use Rattle.std.specs.Prelude.{take, drop, Option, Some, None, if◌then◌else�
 use Rattle.std.specs.List.{flat_map}
 use Rattle.std.specs.Str.{bytes_eq}
 use Rattle.view_pictures.specs.declared.rows.GridRow.{GridRow}
-use Rattle.view_pictures.specs.declared.items.PictureItem.{PictureItem}
-use Rattle.view_pictures.specs.declared.items.PictureItem.TheVariants as item
+use Rattle.view_items.specs.declared.items.PictureItem.{PictureItem}
+use Rattle.view_items.specs.declared.items.PictureItem.TheVariants as item
 
 -- an address, and the bytes that are shown there
 pub record RowBytes : Type 0 where

@@ -1,45 +1,166 @@
-//! A picture for a terminal: a bar of characters, and below it a mark under each box that has
-//! changed, the addresses of the boxes, and lines that tell what has become of some.
+//! A picture for a terminal: rows of a bar of characters, each with a mark under each box that has
+//! changed and the addresses of the boxes.
 
-ghost use Rattle.std.specs.Prelude.{◌≡◌};
+ghost use Rattle.std.specs.Prelude.{◌≡◌, ◌<◌, ◌≤◌, drop, length, take};
 ghost use Rattle.std.specs.List.{flat_map, list_any};
 ghost use Rattle.profile.specs.Output.{Writes};
-ghost use Rattle.view_pictures.specs.Bars.{address_before, address_line, addresses, bar, bar_box, bar_lines, below_bar};
-ghost use Rattle.view_pictures.specs.Bars.{blanks_after_box, box_line, chain, change_line, digits_at, end_digits, free_address};
-ghost use Rattle.view_pictures.specs.Bars.{place_further, gone_line, has_changed, has_room, mark_line, box_mark, box_marks};
-ghost use Rattle.view_pictures.specs.Bars.{written_with};
-ghost use Rattle.view_pictures.specs.Layout.{is_free};
+ghost use Rattle.view_pictures.specs.Bars.{address_line, addresses, bar, bar_box, bar_edge, bar_legend, bar_lines, bar_row, bar_rows};
+ghost use Rattle.view_pictures.specs.Bars.{blanks_after_box, box_mark, box_marks, digits_at, end_digits, end_of_row};
+ghost use Rattle.view_pictures.specs.Bars.{has_room, mark_line, place_further, row_count, row_length, row_room, scale_line, sign_line, written_with};
+ghost use Rattle.view_pictures.specs.Told.{has_changed};
 
-use crate::boxes::PictureBox;
+use crate::chain::push_chain;
 use crate::layout::{Drawn, Layout};
 use crate::signs::push_many;
-use profile::{HexText, Sink, WriteFault, push_all, push_parts};
+use crate::told::{has_changed, push_told};
+use profile::{HexText, Sink, WriteFault, push_all};
+use view_items::PictureBox;
 
-/// Writes a picture of boxes. Each of its lines begins with these bytes.
-pub fn push_bars<W: Sink>(sink: &mut W, front: &[u8], layout: &Layout<'_>) -> Result<(), WriteFault>
-    ensures { Writes W.contents W.has_failed sink.old sink.new result (bar_lines front.now layout.now) }
+/// How wide lines of pictures are, where nothing else is asked.
+pub const LINE_WIDTH: usize = 100;
+
+// The most digits of an address, for which there is room after the last box of a row.
+const ADDRESS_DIGITS: usize = 8;
+
+/// Writes a picture of boxes. Each of its lines begins with these bytes, and has at most that many
+/// characters, those with them, where one box has room beside them: that is 60 for the box, 2 for
+/// its edges and 8 for an address after it. What doesn't fit in one row goes on in another.
+pub fn push_bars<W: Sink>(
+    sink: &mut W,
+    front: &[u8],
+    width: usize,
+    layout: &Layout<'_>,
+) -> Result<(), WriteFault>
+    ensures { Writes W.contents W.has_failed sink.old sink.new result
+        (bar_lines front.now width layout.now) }
 {
     let boxes = layout.boxes.as_slice();
+    let room = row_room(front, width);
+    push_rows(sink, front, room, layout.end, boxes)?;
+    push_told(sink, front, layout)?;
+    push_chain(sink, front, width, boxes)
+}
+
+/// Writes what the signs of these pictures mean. Each line begins with these bytes.
+pub fn push_bar_legend<W: Sink>(sink: &mut W, front: &[u8]) -> Result<(), WriteFault>
+    ensures { Writes W.contents W.has_failed sink.old sink.new result (bar_legend front.now) }
+{
+    push_sign_line(sink, front)?;
+    push_scale_line(sink, front)
+}
+
+fn push_sign_line<W: Sink>(sink: &mut W, front: &[u8]) -> Result<(), WriteFault>
+    ensures { Writes W.contents W.has_failed sink.old sink.new result (sign_line front.now) }
+{
+    push_all(sink, front)?;
+    push_all(
+        sink,
+        b"signs: d descriptor, # block, area or module, . free, p page pool, w private word,\n",
+    )
+}
+
+fn push_scale_line<W: Sink>(sink: &mut W, front: &[u8]) -> Result<(), WriteFault>
+    ensures { Writes W.contents W.has_failed sink.old sink.new result (scale_line front.now) }
+{
+    push_all(sink, front)?;
+    push_all(
+        sink,
+        b"~ what an area may grow by, / ends a box that is not to scale, ^ under what has changed\n",
+    )
+}
+
+// How many characters the boxes of a row have with their edges, at most.
+fn row_room(front: &[u8], width: usize) -> usize
+    ensures { result ≡ row_room front.now width }
+{
+    width
+        .saturating_sub(front.len())
+        .saturating_sub(ADDRESS_DIGITS)
+}
+
+#[tactic(auto, using(crate::proofs::LayoutLemmas::rows_more, crate::proofs::LayoutLemmas::rows_end, view_items::proofs::TextLemmas::text_steps))]
+fn push_rows<W: Sink>(
+    sink: &mut W,
+    front: &[u8],
+    room: usize,
+    end: Option<u32>,
+    boxes: &[Drawn<'_>],
+) -> Result<(), WriteFault>
+    ensures { Writes W.contents W.has_failed sink.old sink.new result
+        (bar_rows (length boxes.now) front.now room end boxes.now) }
+{
+    let mut rest = boxes;
+    'rows: while !rest.is_empty() {
+        let count = row_length(room, rest);
+        let last = end_of_row(end, boxes_after(rest, count));
+        push_row(sink, front, last, boxes_before(rest, count))?;
+        rest = boxes_after(rest, count);
+    }
+    Ok(())
+}
+
+fn boxes_before<'a, 'b>(boxes: &'b [Drawn<'a>], count: usize) -> &'b [Drawn<'a>]
+    requires { count ≤ length boxes.now }
+    ensures { result.now ≡ take count boxes.now }
+{
+    let (front, _) = boxes.split_at(count);
+    front
+}
+
+fn boxes_after<'a, 'b>(boxes: &'b [Drawn<'a>], count: usize) -> &'b [Drawn<'a>]
+    requires { count ≤ length boxes.now }
+    ensures { result.now ≡ drop count boxes.now }
+{
+    let (_, behind) = boxes.split_at(count);
+    behind
+}
+
+// How many boxes a row takes: as many as have room, and one at least.
+fn row_length(room: usize, boxes: &[Drawn<'_>]) -> usize
+    requires { 0 < length boxes.now }
+    ensures value { result ≡ row_length room boxes.now }
+    ensures some { 0 < result }
+    ensures within { result ≤ length boxes.now }
+{
+    row_count(room.saturating_sub(1), boxes).max(1)
+}
+
+// How many boxes have room, one after another.
+fn row_count(room: usize, boxes: &[Drawn<'_>]) -> usize
+    ensures value { result ≡ row_count room boxes.now }
+    ensures within { result ≤ length boxes.now }
+{
+    let mut left = room;
+    for place in 0..boxes.len() {
+        let width = boxes[place].width as usize;
+        if left <= width {
+            return place;
+        }
+        left -= width + 1;
+    }
+    boxes.len()
+}
+
+// The address after the boxes of a row, which stands there if no row comes after it.
+fn end_of_row(end: Option<u32>, behind: &[Drawn<'_>]) -> Option<u32>
+    ensures { result ≡ end_of_row end behind.now }
+{
+    if behind.is_empty() { end } else { None }
+}
+
+// A row of the bar, the marks under it, and the addresses.
+fn push_row<W: Sink>(
+    sink: &mut W,
+    front: &[u8],
+    end: Option<u32>,
+    boxes: &[Drawn<'_>],
+) -> Result<(), WriteFault>
+    ensures { Writes W.contents W.has_failed sink.old sink.new result (bar_row front.now end boxes.now) }
+{
     push_all(sink, front)?;
     push_bar(sink, boxes)?;
     push_mark_line(sink, front, boxes)?;
-    push_below_bar(sink, front, layout)
-}
-
-// The addresses, what has changed, what is gone, and the free chain.
-#[tactic(auto, unfolding(crate::specs::Bars::below_bar))]
-fn push_below_bar<W: Sink>(
-    sink: &mut W,
-    front: &[u8],
-    layout: &Layout<'_>,
-) -> Result<(), WriteFault>
-    ensures { Writes W.contents W.has_failed sink.old sink.new result (below_bar front.now layout.now) }
-{
-    let boxes = layout.boxes.as_slice();
-    push_address_line(sink, front, layout)?;
-    push_changes(sink, front, boxes)?;
-    push_gone(sink, front, layout.gone.as_slice())?;
-    push_chain(sink, front, boxes)
+    push_address_line(sink, front, end, boxes)
 }
 
 fn push_bar<W: Sink>(sink: &mut W, boxes: &[Drawn<'_>]) -> Result<(), WriteFault>
@@ -50,7 +171,6 @@ fn push_bar<W: Sink>(sink: &mut W, boxes: &[Drawn<'_>]) -> Result<(), WriteFault
     push_all(sink, b"\n")
 }
 
-#[tactic(auto, using(crate::proofs::TextLemmas::text_steps))]
 fn push_bar_boxes<W: Sink>(sink: &mut W, boxes: &[Drawn<'_>]) -> Result<(), WriteFault>
     ensures { Writes W.contents W.has_failed sink.old sink.new result (flat_map bar_box boxes.now) }
 {
@@ -64,25 +184,20 @@ fn push_bar_box<W: Sink>(sink: &mut W, drawn: &Drawn<'_>) -> Result<(), WriteFau
     ensures { Writes W.contents W.has_failed sink.old sink.new result (bar_box drawn.now) }
 {
     push_many(sink, drawn.own.kind.sign(), drawn.width)?;
-    push_all(sink, b"|")
+    push_all(sink, bar_edge(drawn))
 }
 
-fn has_changed(drawn: &Drawn<'_>) -> bool
-    ensures { result ≡ has_changed drawn.now }
+// The right edge of a box: another where it is wider than its share.
+fn bar_edge(drawn: &Drawn<'_>) -> &'static [u8]
+    ensures { result.now ≡ bar_edge drawn.now }
 {
-    !drawn.change.is_empty()
+    if drawn.is_widened { b"/" } else { b"|" }
 }
 
 fn is_any_changed(boxes: &[Drawn<'_>]) -> bool
     ensures { result ≡ list_any has_changed boxes.now }
 {
     boxes.iter().any(|drawn| has_changed(drawn))
-}
-
-fn is_any_free(boxes: &[Drawn<'_>]) -> bool
-    ensures { result ≡ list_any (λ d. is_free d.own.kind) boxes.now }
-{
-    boxes.iter().any(|drawn| drawn.own.kind.is_free())
 }
 
 // Marks under the boxes that have changed.
@@ -102,7 +217,6 @@ fn push_mark_line<W: Sink>(
 }
 
 // Blanks are written only before a mark, so that none ends the line.
-#[tactic(auto, using(crate::proofs::LayoutLemmas::mark_steps))]
 fn push_marks<W: Sink>(sink: &mut W, boxes: &[Drawn<'_>]) -> Result<(), WriteFault>
     ensures { Writes W.contents W.has_failed sink.old sink.new result (box_marks 1 boxes.now) }
 {
@@ -136,79 +250,21 @@ fn blanks_after(drawn: &Drawn<'_>, blanks: u32) -> u32
     }
 }
 
-#[tactic(auto, using(crate::proofs::TextLemmas::text_steps))]
-fn push_changes<W: Sink>(sink: &mut W, front: &[u8], boxes: &[Drawn<'_>]) -> Result<(), WriteFault>
-    ensures { Writes W.contents W.has_failed sink.old sink.new result
-        (flat_map (change_line front.now) boxes.now) }
-{
-    for drawn in boxes {
-        push_change(sink, front, drawn)?;
-    }
-    Ok(())
-}
-
-fn push_change<W: Sink>(sink: &mut W, front: &[u8], drawn: &Drawn<'_>) -> Result<(), WriteFault>
-    ensures { Writes W.contents W.has_failed sink.old sink.new result (change_line front.now drawn.now) }
-{
-    if !has_changed(drawn) {
-        return Ok(());
-    }
-    push_box_line(sink, front, &drawn.own, drawn.change)
-}
-
-#[tactic(auto, using(crate::proofs::TextLemmas::text_steps))]
-fn push_gone<W: Sink>(sink: &mut W, front: &[u8], gone: &[PictureBox<'_>]) -> Result<(), WriteFault>
-    ensures { Writes W.contents W.has_failed sink.old sink.new result
-        (flat_map (gone_line front.now) gone.now) }
-{
-    for own in gone {
-        push_box_line(sink, front, own, b"gone")?;
-    }
-    Ok(())
-}
-
-// The address of a box, what it is, and words on it.
-fn push_box_line<W: Sink>(
-    sink: &mut W,
-    front: &[u8],
-    own: &PictureBox<'_>,
-    words: &[u8],
-) -> Result<(), WriteFault>
-    ensures { Writes W.contents W.has_failed sink.old sink.new result (box_line front.now own.now words.now) }
-{
-    push_all(sink, front)?;
-    push_address_before(sink, own)?;
-    push_all(sink, own.kind.word())?;
-    push_all(sink, b" ")?;
-    push_all(sink, words)?;
-    push_all(sink, b"\n")
-}
-
-// The page pool is at no address.
-fn push_address_before<W: Sink>(sink: &mut W, own: &PictureBox<'_>) -> Result<(), WriteFault>
-    ensures { Writes W.contents W.has_failed sink.old sink.new result (address_before own.now) }
-{
-    if own.kind.is_pool() {
-        return Ok(());
-    }
-    push_all(sink, HexText::word(own.address).as_slice())?;
-    push_all(sink, b" ")
-}
-
 fn push_address_line<W: Sink>(
     sink: &mut W,
     front: &[u8],
-    layout: &Layout<'_>,
+    end: Option<u32>,
+    boxes: &[Drawn<'_>],
 ) -> Result<(), WriteFault>
-    ensures { Writes W.contents W.has_failed sink.old sink.new result (address_line front.now layout.now) }
+    ensures { Writes W.contents W.has_failed sink.old sink.new result
+        (address_line front.now end boxes.now) }
 {
     push_all(sink, front)?;
-    push_addresses(sink, layout.end, layout.boxes.as_slice())?;
+    push_addresses(sink, end, boxes)?;
     push_all(sink, b"\n")
 }
 
 // The addresses of the boxes, each under the first character of its box if there is room for it.
-#[tactic(auto, using(crate::proofs::LayoutLemmas::address_steps))]
 fn push_addresses<W: Sink>(
     sink: &mut W,
     end: Option<u32>,
@@ -287,43 +343,5 @@ fn push_end<W: Sink>(
             HexText::number(address).as_slice(),
         ),
         None => Ok(()),
-    }
-}
-
-fn push_chain<W: Sink>(sink: &mut W, front: &[u8], boxes: &[Drawn<'_>]) -> Result<(), WriteFault>
-    ensures { Writes W.contents W.has_failed sink.old sink.new result (chain front.now boxes.now) }
-{
-    if !is_any_free(boxes) {
-        return Ok(());
-    }
-    push_parts(sink, &[front, b"free chain".as_slice()])?;
-    push_free_addresses(sink, boxes)?;
-    push_all(sink, b" end\n")
-}
-
-#[tactic(auto, using(crate::proofs::TextLemmas::text_steps))]
-fn push_free_addresses<W: Sink>(sink: &mut W, boxes: &[Drawn<'_>]) -> Result<(), WriteFault>
-    ensures { Writes W.contents W.has_failed sink.old sink.new result (flat_map free_address boxes.now) }
-{
-    for drawn in boxes {
-        push_free_address(sink, drawn)?;
-    }
-    Ok(())
-}
-
-fn push_free_address<W: Sink>(sink: &mut W, drawn: &Drawn<'_>) -> Result<(), WriteFault>
-    ensures { Writes W.contents W.has_failed sink.old sink.new result (free_address drawn.now) }
-{
-    if drawn.own.kind.is_free() {
-        push_parts(
-            sink,
-            &[
-                b" ".as_slice(),
-                HexText::word(drawn.own.address).as_slice(),
-                b" ->".as_slice(),
-            ],
-        )
-    } else {
-        Ok(())
     }
 }

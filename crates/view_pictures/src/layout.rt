@@ -1,15 +1,14 @@
 //! Where the boxes of a picture stand: from low addresses to high, their sizes to scale.
 
 ghost use Rattle.std.specs.Prelude.{◌≡◌, ◌<◌, IfOk, map, option_map};
-ghost use Rattle.view_pictures.specs.Gone.{gone_from};
-ghost use Rattle.view_pictures.specs.Layout.{height_of, least_width, scaled_size, share_of, spot_of, spots_from};
-ghost use Rattle.view_pictures.specs.Layout.{total_box_size, width_of};
+ghost use Rattle.view_changes.specs.Changes.{histories_told};
+ghost use Rattle.view_changes.specs.Gone.{gone_from};
+ghost use Rattle.view_pictures.specs.Layout.{breaks_of, breaks_told, height_of, is_raised, is_widened, least_height, least_width};
+ghost use Rattle.view_pictures.specs.Layout.{scaled_size, share_of, spot, spot_of, spots_from, total_box_size, width_of};
 
-use crate::boxes::{BoxKind, PictureBox};
-use crate::changes::change_of;
-use crate::gone::gone_of;
-use crate::views::PictureView;
 use std::alloc::{AllocError, Global};
+use view_changes::{BoxChange, gone_of, histories_of};
+use view_items::{BoxKind, PictureBox, PictureView};
 
 // What all boxes share by their sizes: the height of a picture, and the characters of a bar.
 const SHARED_HEIGHT: u64 = 200;
@@ -32,10 +31,14 @@ pub struct Drawn<'a> {
     pub top: u32,
     /// Its height.
     pub height: u32,
+    /// Whether that is more than its share, since it has to have room for its words.
+    pub is_raised: bool,
     /// How many characters it has in a bar.
     pub width: u32,
-    /// What has become of it, in a word; empty where nothing has.
-    pub change: &'static [u8],
+    /// Whether these are more than its share, since it has to be seen.
+    pub is_widened: bool,
+    /// What has become of it.
+    pub change: BoxChange,
     /// Where the arrow of the free chain that leads to it begins.
     pub link: Option<u32>,
 }
@@ -49,7 +52,7 @@ pub struct Layout<'a> {
     pub bottom: u32,
     /// The address after the last, where they lie one after another up to it.
     pub end: Option<u32>,
-    /// The boxes of the view from before that none of these stands for.
+    /// The boxes of the view from before that are no more.
     pub gone: Vec<PictureBox<'a>>,
 }
 
@@ -58,7 +61,6 @@ pub struct Layout<'a> {
 /// # Errors
 ///
 /// Memory ran out.
-#[tactic(auto, using(crate::proofs::LayoutLemmas::layout_steps))]
 pub fn layout_of<'a>(
     alloc: Global,
     boxes: &[PictureBox<'a>],
@@ -69,38 +71,65 @@ pub fn layout_of<'a>(
         ≡ spots_from (total_box_size boxes.entry.now) 8 boxes.entry.now) }
     ensures widths { IfOk result (λ layout. map (λ d. d.width) layout.boxes.items
         ≡ map (width_of (total_box_size boxes.entry.now)) boxes.entry.now) }
+    ensures breaks { IfOk result (λ layout. map breaks_of layout.boxes.items
+        ≡ map (breaks_told (total_box_size boxes.entry.now)) boxes.entry.now) }
+    ensures changes { IfOk result (λ layout. map (λ d. d.change) layout.boxes.items
+        ≡ map (λ h. h.change) (histories_told (option_map (λ view. view.now) before.entry) boxes.entry.now)) }
     ensures gone { IfOk result (λ layout. layout.gone.items
         ≡ gone_from (option_map (λ view. view.now) before.entry) boxes.entry.now) }
 {
     let total = total_of(boxes);
+    let histories = histories_of(alloc, boxes, before)?;
     let mut all = Vec::new(alloc);
     let mut top = MARGIN;
     let mut chain = None;
-    for own in boxes {
-        let height = height_of(total, own);
-        all.push(Drawn {
-            own: *own,
-            top,
-            height,
-            width: width_of(total, own),
-            change: change_of(own, before).unwrap_or(b""),
-            link: if own.kind == BoxKind::Free {
-                chain
-            } else {
-                None
-            },
-        })?;
-        if let BoxKind::Descriptor | BoxKind::Free = own.kind {
-            chain = Some(top.saturating_add(height / 2));
-        }
-        top = top.saturating_add(height);
+    for place in 0..boxes.len() {
+        let drawn = drawn_at(total, &boxes[place], top, histories[place].change, chain);
+        all.push(drawn)?;
+        chain = chain_after(&drawn, chain);
+        top = top.saturating_add(drawn.height);
     }
     Ok(Layout {
         boxes: all,
         bottom: top,
         end: end_of(boxes),
-        gone: gone_of(alloc, boxes, before)?,
+        gone: gone_of(alloc, histories.as_slice(), boxes, before)?,
     })
+}
+
+// A box with its upper edge there, where the free chain comes from there.
+fn drawn_at<'a>(
+    total: u64,
+    own: &PictureBox<'a>,
+    top: u32,
+    change: BoxChange,
+    chain: Option<u32>,
+) -> Drawn<'a>
+    requires { 0 < total }
+    ensures own { result.own ≡ own.entry.now }
+    ensures spot { spot_of result ≡ spot top (height_of total own.entry.now) }
+    ensures width { result.width ≡ width_of total own.entry.now }
+    ensures breaks { breaks_of result ≡ breaks_told total own.entry.now }
+    ensures change { result.change ≡ change }
+{
+    Drawn {
+        own: *own,
+        top,
+        height: height_of(total, own),
+        is_raised: is_raised(total, own),
+        width: width_of(total, own),
+        is_widened: is_widened(total, own),
+        change,
+        link: if own.kind.is_free() { chain } else { None },
+    }
+}
+
+// Where the free chain comes from below a box.
+fn chain_after(drawn: &Drawn<'_>, chain: Option<u32>) -> Option<u32> {
+    match drawn.own.kind {
+        BoxKind::Descriptor | BoxKind::Free => Some(drawn.top.saturating_add(drawn.height / 2)),
+        _ => chain,
+    }
 }
 
 // What a box counts for its scale: what an area may grow by is no memory yet, and counts nothing.
@@ -129,12 +158,25 @@ fn height_of(total: u64, own: &PictureBox<'_>) -> u32
     requires { 0 < total }
     ensures { result ≡ height_of total own.now }
 {
-    let least = if own.kind.has_second_line() {
+    share(total, scaled_size(own), SHARED_HEIGHT).max(least_height(own.kind))
+}
+
+fn is_raised(total: u64, own: &PictureBox<'_>) -> bool
+    requires { 0 < total }
+    ensures { result ≡ is_raised total own.now }
+{
+    share(total, scaled_size(own), SHARED_HEIGHT) < least_height(own.kind)
+}
+
+// Room for a line of words, or for two.
+fn least_height(kind: BoxKind) -> u32
+    ensures { result ≡ least_height kind }
+{
+    if kind.has_second_line() {
         TWO_LINES
     } else {
         LINE_HEIGHT
-    };
-    share(total, scaled_size(own), SHARED_HEIGHT).max(least)
+    }
 }
 
 fn width_of(total: u64, own: &PictureBox<'_>) -> u32
@@ -142,6 +184,13 @@ fn width_of(total: u64, own: &PictureBox<'_>) -> u32
     ensures { result ≡ width_of total own.now }
 {
     share(total, scaled_size(own), SHARED_WIDTH).max(least_width(own.kind))
+}
+
+fn is_widened(total: u64, own: &PictureBox<'_>) -> bool
+    requires { 0 < total }
+    ensures { result ≡ is_widened total own.now }
+{
+    share(total, scaled_size(own), SHARED_WIDTH) < least_width(own.kind)
 }
 
 // A character at least, and always four for what an area may grow by.

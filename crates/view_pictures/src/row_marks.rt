@@ -3,8 +3,7 @@
 ghost use Rattle.std.specs.Prelude.{◌≡◌};
 ghost use Rattle.std.specs.List.{flat_map};
 ghost use Rattle.profile.specs.Output.{Writes};
-ghost use Rattle.view_pictures.specs.RowMarks.{any_from, blanks_after_byte, mark_lines, byte_mark, byte_marks};
-ghost use Rattle.view_pictures.specs.Rows.{is_changed};
+ghost use Rattle.view_pictures.specs.RowMarks.{blanks_after_byte, byte_mark, byte_marks, has_changed_byte, mark_lines};
 
 use crate::rows::{GridRow, is_changed};
 use crate::signs::push_many;
@@ -12,7 +11,6 @@ use profile::{HexText, Sink, WriteFault, push_all, push_parts};
 
 /// Writes each row that has a byte which has changed, and marks under those bytes. Each line begins
 /// with these bytes.
-#[tactic(auto, using(crate::proofs::TextLemmas::text_steps))]
 pub fn push_marks<W: Sink>(
     sink: &mut W,
     front: &[u8],
@@ -30,7 +28,7 @@ pub fn push_marks<W: Sink>(
 fn push_mark_lines<W: Sink>(sink: &mut W, front: &[u8], row: &GridRow<'_>) -> Result<(), WriteFault>
     ensures { Writes W.contents W.has_failed sink.old sink.new result (mark_lines front.now row.now) }
 {
-    if !has_changed(row) {
+    if !has_changed_byte(row) {
         return Ok(());
     }
     push_parts(
@@ -48,9 +46,10 @@ fn push_mark_lines<W: Sink>(sink: &mut W, front: &[u8], row: &GridRow<'_>) -> Re
     push_all(sink, b"\n")
 }
 
-#[tactic(auto, using(crate::proofs::RowLemmas::any_steps))]
-fn has_changed(row: &GridRow<'_>) -> bool
-    ensures { result ≡ any_from 16 (λ number. is_changed number row.now) 0 }
+/// Whether a byte of a row is shown otherwise than before.
+#[tactic(auto, using(crate::proofs::RowLemmas::any_more, crate::proofs::RowLemmas::any_end))]
+pub fn has_changed_byte(row: &GridRow<'_>) -> bool
+    ensures { result ≡ has_changed_byte row.now }
 {
     for number in 0..16usize {
         if is_changed(number, row) {
@@ -62,7 +61,7 @@ fn has_changed(row: &GridRow<'_>) -> bool
 
 // `^^` under each byte that has changed. Blanks are written only before a mark, so that none ends
 // the line.
-#[tactic(auto, using(crate::proofs::RowLemmas::mark_steps))]
+#[tactic(auto, using(crate::proofs::RowLemmas::marks_more, crate::proofs::RowLemmas::marks_end, view_items::proofs::TextLemmas::text_steps))]
 fn push_row_marks<W: Sink>(sink: &mut W, row: &GridRow<'_>) -> Result<(), WriteFault>
     ensures { Writes W.contents W.has_failed sink.old sink.new result (byte_marks 16 row.now 0 1) }
 {

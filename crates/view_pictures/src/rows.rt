@@ -3,9 +3,8 @@
 ghost use Rattle.std.specs.Prelude.{◌≡◌, ◌<◌, ◌++◌, IfOk, OnOk, map, option_map};
 ghost use Rattle.view_pictures.specs.Rows.{bytes_of_row, is_changed, row_told, rows_told, shown_byte, top_of};
 
-use crate::items::PictureItem;
-use crate::views::PictureView;
 use std::alloc::{AllocError, Global};
+use view_items::{PictureItem, PictureView};
 
 const ROW_HEIGHT: u32 = 24;
 

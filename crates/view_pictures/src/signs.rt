@@ -6,7 +6,6 @@ ghost use Rattle.profile.specs.Output.{Writes};
 use profile::{Sink, WriteFault, push_all};
 
 /// Writes so many bytes that are all this one.
-#[tactic(auto, using(crate::proofs::RowLemmas::many_steps))]
 pub fn push_many<W: Sink>(sink: &mut W, byte: u8, count: u32) -> Result<(), WriteFault>
     ensures { Writes W.contents W.has_failed sink.old sink.new result (replicate count byte) }
 {

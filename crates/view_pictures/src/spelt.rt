@@ -9,7 +9,6 @@ use profile::{Sink, WriteFault, push_all};
 
 /// Writes bytes as a transcript spells them: `\\`, `\r`, `\t`, and `\x1B` for an unprintable byte.
 /// Line feeds stay.
-#[tactic(auto, using(crate::proofs::TextLemmas::text_steps))]
 pub fn push_spelt<W: Sink>(sink: &mut W, bytes: &[u8]) -> Result<(), WriteFault>
     ensures { Writes W.contents W.has_failed sink.old sink.new result (spelt bytes.now) }
 {

@@ -1,0 +1,12 @@
+use Rattle.std.proofs.Common.{◌≡◌, drop}
+use Rattle.std.specs.List.{flat_map}
+use Rattle.profile.specs.Output.{AddsAllBut}
+use Rattle.page_markup.specs.Grid.{changed_row}
+use Rattle.page_markup.proofs.grid.push_changed_rows.Given as goal
+
+-- what stands written, and what is left, is all
+abbrev pub invariant-loop-row : goal.invariant-loop-row
+invariant-loop-row g l = record {
+  text : AddsAllBut (g.W.Sink.contents l.fn.sink) (g.W.Sink.contents l.sink) (flat_map changed_row (drop l.row-index l.rows)) (flat_map changed_row l.fn.rows);
+  same_flag : g.W.Sink.has_failed l.sink ≡ g.W.Sink.has_failed l.fn.sink;
+}

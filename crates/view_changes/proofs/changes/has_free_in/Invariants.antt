@@ -1,0 +1,10 @@
+use Rattle.std.proofs.Common.{◌≡◌, false, take}
+use Rattle.std.specs.Prelude.{◌&&◌}
+use Rattle.std.specs.List.{list_any}
+use Rattle.view_changes.specs.Changes.{is_within}
+use Rattle.view_items.specs.Kinds.{is_free}
+use Rattle.view_changes.proofs.changes.has_free_in.Given as goal
+
+-- none so far lies within
+abbrev pub invariant-loop-old : goal.invariant-loop-old
+invariant-loop-old l = list_any (λ o. is_free o.kind && is_within o l.own) (take l.old-index l.olds) ≡ false
