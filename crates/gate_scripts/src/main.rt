@@ -2,8 +2,8 @@
 //!
 //! `gate_scripts FILE... [--malformed FILE...]`
 //!
-//! The script of a transcript after `--malformed` is cut off after each of its bytes, too, and
-//! changed.
+//! Each script is run whole, and typed in pieces of 1, 2, 3 and 7 bytes. That of a transcript after
+//! `--malformed` is cut off after each of its bytes, too, and changed.
 #![tactic(auto)]
 
 mod difference;
@@ -28,6 +28,9 @@ const DIFFERS: u8 = 1;
 const NOT_RUN: u8 = 2;
 
 const MALFORMED: &str = "--malformed";
+
+/// The sizes of the pieces in which each script is typed, too.
+const PIECES: [usize; 4] = [1, 2, 3, 7];
 
 fn main(rt: HostRuntime) -> ExitCode {
     match run_files(&rt) {
@@ -96,9 +99,18 @@ fn answer_of(
 ) -> Result<Option<String>, TranscriptError> {
     let transcript = Transcript::read(alloc, text)?;
     let runs = Runs::of(&transcript.settings)?;
-    let complaint = complaint_of(alloc, transcript)?;
-    if complaint.is_none() && is_malformed {
+    let complaint = complaint_of(alloc, transcript, None)?;
+    if complaint.is_some() {
+        return Ok(complaint);
+    }
+    for size in PIECES {
+        let transcript = Transcript::read(alloc, text)?;
+        if let Some(told) = complaint_of(alloc, transcript, Some(size))? {
+            return Ok(Some(format!(in alloc; "{told}, in pieces of {size}")?));
+        }
+    }
+    if is_malformed {
         return malformed::complaint_of(alloc, text, &runs);
     }
-    Ok(complaint)
+    Ok(None)
 }

@@ -5,11 +5,11 @@ ghost use Rattle.std.specs.Prelude.{◌≡◌, IfOk, None};
 use crate::difference::TranscriptDifference;
 use crate::error::TranscriptError;
 use crate::transcript::Transcript;
-use gate_outcomes::{ScriptOutcome, outcome_of};
+use gate_outcomes::{ScriptOutcome, outcome_of, typed_outcome_of};
 use std::alloc::{AllocError, Global};
 
 /// What is wrong with a transcript, or `None` where all is as it says. One that is wrong on purpose
-/// says which complaint it must get.
+/// says which complaint it must get. Its script is run whole, or typed in pieces of so many bytes.
 ///
 /// # Errors
 ///
@@ -17,8 +17,9 @@ use std::alloc::{AllocError, Global};
 pub fn complaint_of(
     alloc: Global,
     mut transcript: Transcript,
+    pieces: Option<usize>,
 ) -> Result<Option<String>, TranscriptError> {
-    let outcome = run(alloc, &mut transcript)?;
+    let outcome = run(alloc, &mut transcript, pieces)?;
     let told = match difference(alloc, &transcript, &outcome)? {
         Some(difference) => Some(format!(in alloc; "{difference}")?),
         None => None,
@@ -46,14 +47,22 @@ fn unless_told(
     Ok(Some(text))
 }
 
-fn run(alloc: Global, transcript: &mut Transcript) -> Result<ScriptOutcome, TranscriptError> {
+fn run(
+    alloc: Global,
+    transcript: &mut Transcript,
+    pieces: Option<usize>,
+) -> Result<ScriptOutcome, TranscriptError> {
     let settings = &mut transcript.settings;
     let config = match settings.config() {
         Ok(config) => config,
         Err(error) => return Err(TranscriptError::at(1, error)),
     };
+    let (images, budget) = (&mut settings.images, settings.budget);
     let script = transcript.script.as_slice();
-    let outcome = outcome_of(alloc, script, &mut settings.images, config, settings.budget)?;
+    let outcome = match pieces {
+        Some(size) if size > 0 => typed_outcome_of(alloc, script, size, images, config, budget)?,
+        _ => outcome_of(alloc, script, images, config, budget)?,
+    };
     Ok(outcome)
 }
 

@@ -1,0 +1,1 @@
+-- The proofs of how a script is typed stand in the folder of the function's name.
