@@ -11,7 +11,7 @@ fn main(rt: HostRuntime) -> ExitCode {
     let mut errors = Device::new(rt.stderr());
     match read_settings(&rt) {
         Ok(settings) => {
-            let ending = run_on_standard_streams(&rt, &settings);
+            let ending = run_on_standard_streams(&rt, &settings, &mut errors);
             exit_code(rt.alloc(), &mut errors, ending)
         }
         Err(refusal) => exit_code(rt.alloc(), &mut errors, Err(refusal)),

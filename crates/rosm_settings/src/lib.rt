@@ -6,6 +6,7 @@ pub mod answering;
 pub mod image_files;
 pub mod process;
 pub mod refusal;
+pub mod watched;
 
 pub use answering::{answer_script, run, run_to_stream};
 pub use command_line;
@@ -13,3 +14,4 @@ pub use command_line::{Files, Settings, SettingsError, settings, stop_status};
 pub use command_shell::RunError;
 pub use process::{exit_code, read_settings, run_on_standard_streams};
 pub use refusal::SettingsRefusal;
+pub use watched::Watched;

@@ -10,6 +10,7 @@ ghost use Rattle.rosm_settings.specs.Texts.{refusal_text};
 
 use crate::answering::run_to_stream;
 use crate::refusal::SettingsRefusal;
+use crate::watched::Watched;
 use command_line::{Settings, SettingsError, line_reason, settings, sizes_reason, stop_status};
 use profile::{Device, Sink, Stop, WriteFault, push_parts};
 use std::alloc::{AllocError, Global};
@@ -17,6 +18,10 @@ use std::env::Env;
 use std::io::ErrorKind;
 use std::process::ExitCode;
 use std::{env, fs, io};
+
+// What is said where the script is empty.
+const EMPTY_SCRIPT: &str =
+    "the script is standard input, which was empty; each FILE is an image for it";
 
 /// What the words of this process ask for.
 ///
@@ -74,26 +79,34 @@ fn texts_of<'a>(alloc: Global, words: &'a [String]) -> Result<Vec<&'a str>, Allo
 }
 
 /// Runs the script of the standard input, and writes its answers to the standard output in large
-/// pieces.
+/// pieces. Where that is empty and files are named, one of which may have been meant for the script,
+/// one line on standard error, `errors`, says what they are.
 ///
 /// # Errors
 ///
 /// As [`run_to_stream`].
-pub fn run_on_standard_streams<'a, R>(
+pub fn run_on_standard_streams<'a, R, W>(
     rt: &R,
     settings: &'a Settings,
+    errors: &mut W,
 ) -> Result<Option<Stop>, SettingsRefusal<'a>>
 where
     R: AllocGlobal + fs::Files + Input + Print,
+    W: Sink,
     ensures stop { IfOk result
         (StopsWithScript R.File.Read.remaining R.Reader.Read.remaining settings.entry.now) }
     ensures refused { IfErr result (λ e. refusal_status e ≡ 4) }
     ensures files { IfErr result (TellsOfFile R.File.Read.remaining settings.entry.now.files) }
     ensures too_long { result ≡ Err (SettingsRefusal.Script ScriptTooLong) → TellsTooMuch
         R.Reader.Read.remaining }
+    ensures quiet { OnErr result (errors.new ≡ errors.old) }
 {
-    let mut input = Device::new(rt.reader());
+    let mut input = Watched::new(Device::new(rt.reader()));
     let (last, _) = run_to_stream(rt, settings, &mut input, io::writer(rt))?;
+    if !input.has_given() && settings.files.len() > 0 {
+        // A line that can't be written leaves nothing to tell it by.
+        let _ = tell_line(errors, EMPTY_SCRIPT.as_bytes());
+    }
     Ok(last)
 }
 

@@ -1,7 +1,7 @@
 -- What words ask for, why they are refused, and the exit status: 2 for a command line that can't
 -- be, 4 for anything else that keeps a page from being written whole, and else that of the script's
 -- last stop.
-use Rattle.std.specs.Prelude.{◌≡◌, ℕ, false, List, Option, Some, None, Result, Ok, Err}
+use Rattle.std.specs.Prelude.{◌≡◌, ℕ, Bool, true, false, List, Option, Some, None, Result, Ok, Err}
 use Rattle.std.specs.declared.io.ErrorKind.{ErrorKind}
 use Rattle.std.specs.declared.io.ErrorKind.TheVariants.{OutOfMemory}
 use Rattle.profile.specs.declared.stop.Stop.{Stop}
@@ -10,6 +10,8 @@ use Rattle.command_line.specs.Status.{status_after}
 use Rattle.command_line.specs.declared.options.Settings.{Settings}
 use Rattle.command_line.specs.declared.options.SettingsError.{SettingsError}
 use Rattle.command_line.specs.declared.options.SettingsError.TheVariants as refused
+use Rattle.command_shell.specs.declared.error.RunError.{RunError}
+use Rattle.command_shell.specs.declared.error.RunError.TheVariants.{WriteFault}
 use Rattle.script_page.specs.declared.form.PageForm.{PageForm}
 use Rattle.rosm_show.specs.Words.{page_form_of, forms_from, others_from}
 use Rattle.rosm_show.specs.declared.refusal.ShowRefusal.{ShowRefusal}
@@ -43,6 +45,17 @@ IsShowRefusalOf words told = IsRefusalBy (page_form_of (forms_from false words))
 abbrev pub show_words_refused : ErrorKind → ShowRefusal
 show_words_refused OutOfMemory = refusal.Memory
 show_words_refused _ = refusal.NotText
+
+-- refusals that come while the files are taken in
+abbrev pub is_of_files : ShowRefusal → Bool
+is_of_files refusal.Memory = true
+is_of_files (refusal.File path error) = true
+is_of_files _ = false
+
+-- errors that can come while the script is read
+abbrev pub is_of_reading : RunError → Bool
+is_of_reading WriteFault = false
+is_of_reading _ = true
 
 abbrev pub show_refusal_status : ShowRefusal → ℕ
 show_refusal_status refusal.Memory = 4

@@ -4,7 +4,7 @@ use Rattle.profile.specs.declared.stop.Stop.{Stop}
 use Rattle.rosm_settings.specs.ImageFiles.{names_for}
 use Rattle.script_page.specs.Page.{HasSteps, IsPage, left_behind}
 use Rattle.script_page.specs.Setting.{script_answer_in}
-use Rattle.script_page.specs.Writing.{IsPageWritten}
+use Rattle.script_page.specs.Writing.{BeginsPage, IsPageWritten}
 use Rattle.script_page.specs.declared.entry.Entry.{Entry}
 use Rattle.script_page.specs.declared.setting.NamedImage.{NamedImage}
 use Rattle.script_page.specs.declared.setting.Setting.{Setting}
@@ -28,3 +28,13 @@ pub record ShowsPage (front back : List ℕ) (wanted : WantedPage) (script befor
   pub steps : HasSteps (left_behind setting) entries
   pub written : IsPageWritten front back wanted.form entries before after
   pub stop : IfSome script (λ bytes. last ≡ (script_answer_in setting bytes).state.last)
+
+-- With the files' images there from the start, the page of the script was begun in that form: the
+-- entries of its first lines were appended to what was written before, and nothing more.
+pub record ShowsFirstLines (front : List ℕ) (wanted : WantedPage) (script before after : Option (List ℕ)) :
+    Type 0 where
+  pub setting : Setting
+  pub sizes : setting.config ≡ wanted.settings.config
+  pub budget : setting.budget ≡ wanted.settings.budget
+  pub named : names_in setting.images.now ≡ names_for wanted.settings.files
+  pub begun : IfSome script (λ bytes. BeginsPage front setting wanted.form bytes before after)

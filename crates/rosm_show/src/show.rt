@@ -1,10 +1,11 @@
 //! The page of a script: from a reader to a writer.
 
-ghost use Rattle.std.specs.Prelude.{◌≡◌, ◌<◌, false, true, Err, Some, IfOk, IfSome, OnOk, map};
+ghost use Rattle.std.specs.Prelude.{◌≡◌, ◌⊎◌, false, true, Err, Some, IfErr, IfOk, IfSome, OnOk};
 ghost use Rattle.std.specs.Path.{path_file_name};
 ghost use Rattle.profile.specs.Devices.{device_failed, device_inner};
 ghost use Rattle.rosm_settings.specs.ImageFiles.{names_for};
-ghost use Rattle.rosm_show.specs.Showing.{names_in, ShowsPage};
+ghost use Rattle.rosm_show.specs.Endings.{is_of_files, is_of_reading};
+ghost use Rattle.rosm_show.specs.Showing.{names_in, ShowsFirstLines, ShowsPage};
 
 use crate::refusal::ShowRefusal;
 use crate::words::WantedPage;
@@ -15,7 +16,7 @@ use image_loader::Images;
 use profile::{Device, Source, Stop};
 use rosm_settings::image_files::{FileError, add_files};
 use script_page::style::{BACK, FRONT};
-use script_page::{NamedImage, Setting, page_of, push_page};
+use script_page::{NamedImage, Setting, push_page};
 use std::alloc::Global;
 use std::fs;
 use std::io::{BufWriter, Write};
@@ -26,7 +27,8 @@ use std::path::Path;
 ///
 /// # Errors
 ///
-/// As for the program `rosm`; nothing is written before the last line is answered.
+/// As for the program `rosm`. Where memory runs out, the entries of the first lines may stand
+/// written, each whole; before the first line nothing is written.
 pub fn show<'a, F, R, W>(
     files: &F,
     wanted: &'a WantedPage,
@@ -40,6 +42,11 @@ where
     ensures page { IfOk result (ShowsPage FRONT.now BACK.now wanted.entry.now (R.remaining reader.old)
         (W.contents (device_inner writer.old)) (W.contents (device_inner writer.new))) }
     ensures well { OnOk result (device_failed writer.new ≡ false) }
+    ensures memory { result ≡ Err (ShowRefusal.Script RunError.Memory) → (writer.new ≡ writer.old)
+        ⊎ ShowsFirstLines FRONT.now wanted.entry.now (R.remaining reader.old)
+        (W.contents (device_inner writer.old)) (W.contents (device_inner writer.new)) }
+    ensures write_fault { result ≡ Err (ShowRefusal.Script RunError.WriteFault)
+        → device_failed writer.new ≡ true }
 {
     let alloc = files.alloc();
     let mut images = Images::new();
@@ -51,10 +58,9 @@ where
         budget: wanted.settings.budget,
     };
     let script = script_of(alloc, reader)?;
-    let page = page_of(alloc, script.as_slice(), &setting)?;
-    push_page(alloc, writer, page.entries.as_slice(), wanted.form)?;
+    let last = push_page(alloc, writer, script.as_slice(), &setting, wanted.form)?;
     match writer.flush() {
-        Ok(()) => Ok(page.last),
+        Ok(()) => Ok(last),
         Err(_) => Err(ShowRefusal::Script(RunError::WriteFault)),
     }
 }
@@ -91,8 +97,10 @@ where
 }
 
 // The script, read whole.
+#[tactic(auto, using(crate::proofs::ShowLemmas::reading_ends))]
 fn script_of<R: Source>(alloc: Global, reader: &mut R) -> Result<Vec<u8>, RunError>
-    ensures { IfOk result (λ script. IfSome (R.remaining reader.old) (λ told. script.items ≡ told)) }
+    ensures bytes { IfOk result (λ script. IfSome (R.remaining reader.old) (λ told. script.items ≡ told)) }
+    ensures errors { IfErr result (λ e. is_of_reading e ≡ true) }
 {
     Ok(read_script(alloc, reader)?)
 }
@@ -104,6 +112,7 @@ fn take_files<'a, F>(
 ) -> Result<(), ShowRefusal<'a>>
 where
     F: AllocGlobal + fs::Files,
+    ensures errors { IfErr result (λ e. is_of_files e ≡ true) }
 {
     match add_files(files, &wanted.settings.files, images) {
         Ok(()) => Ok(()),
@@ -120,7 +129,8 @@ fn named_images<'a, 'f: 'a>(
     files: &'f Files,
     images: &'a Images,
 ) -> Result<Vec<NamedImage<'a>>, ShowRefusal<'f>>
-    ensures { IfOk result (λ named. names_in named.items ≡ names_for files.entry.now) }
+    ensures names { IfOk result (λ named. names_in named.items ≡ names_for files.entry.now) }
+    ensures errors { IfErr result (λ e. is_of_files e ≡ true) }
 {
     let mut named = Vec::new(alloc);
     for n in 0..files.len() {
@@ -137,7 +147,8 @@ fn image_of<'a, 'f: 'a>(
     path: &'f str,
     images: &'a Images,
 ) -> Result<NamedImage<'a>, ShowRefusal<'f>>
-    ensures { IfOk result (λ image. path_file_name path.entry.now ≡ Some image.name.now) }
+    ensures name { IfOk result (λ image. path_file_name path.entry.now ≡ Some image.name.now) }
+    ensures errors { IfErr result (λ e. is_of_files e ≡ true) }
 {
     let Some(file_name) = Path::new(path).file_name() else {
         return Err(ShowRefusal::File(path, FileError::Nameless));

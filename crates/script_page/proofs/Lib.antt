@@ -1,4 +1,8 @@
+pub mod AnsweringLemmas
+pub mod BlockCutLemmas
+pub mod FrontLineLemmas
 pub mod HtmlLemmas
+pub mod LeadingLemmas
 pub mod PageLemmas
 pub mod PictureLemmas
 pub mod TextLemmas

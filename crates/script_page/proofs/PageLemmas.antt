@@ -1,21 +1,38 @@
--- How a page goes on, and what its first line stands on.
-use Rattle.std.proofs.Common.{◌≡◌, ◌≤◌, ◌<◌, ◌+◌, ◌-◌, ℕ, ◌⊎◌, zero, suc, List, [], ◌∷◌, ◌++◌, length, map, take, drop, get_or, true, false, Option, Some, None, eqb}
-use Rattle.std.proofs.Common.{refl, ap, sym, ◌∙◌, subst, arith, length-append, length-drop, inl, inr}
-use Rattle.std.proofs.lemmas.List.{append_assoc, append-nil, map-append, take-append-drop, take-append-le, take_all, at_drop_more, at_drop_all}
-use denote.Ref.{Bor}
+-- How a page goes on, entry by entry, and what its first and its last line stand on.
+use Rattle.std.proofs.Common.{◌≡◌, ◌≤◌, ◌<◌, ◌+◌, ◌-◌, ℕ, suc, Bool, true, false, ◌⊎◌, List, [], ◌∷◌, ◌++◌, length, map, take, All, Option, Some, None}
+use Rattle.std.proofs.Common.{refl, ap, sym, ◌∙◌, subst, arith, length-append, inl, inr}
+use Rattle.std.proofs.lemmas.List.{append_assoc, append-nil, map-append, take-append-le, take_all}
+use Rattle.std.proofs.lemmas.List.Elements.{All-nil, All-push}
 use Rattle.std.proofs.lemmas.Bool.{cases_lt}
-use Rattle.std.proofs.lemmas.Bool.Decides.{Decides-eqb}
-use Rattle.std.proofs.lemmas.Slice.Eq.{strip_prefix_is}
 use Rattle.std.proofs.lemmas.Grind.{flat_map-append}
-use Rattle.std.specs.Prelude.{IfSome, MatchOption}
-use Rattle.std.specs.Cmp.Lexicographic.{pointwise}
+use Rattle.std.specs.Prelude.{◌||◌, IfNone, IfSome}
+use Rattle.std.specs.Io.KnownBytes.{Appends}
+use Rattle.std.specs.List.{flat_map, list_any}
 use Rattle.std.specs.Str.Lines.{lines}
+use Rattle.profile.proofs.OutputLemmas.{Appends-join}
+use Rattle.command_shell.proofs.ScriptLemmas.{fewer_left}
 use Rattle.command_shell.specs.Script.{lines_told, script_told}
-use Rattle.script_page.specs.Page.{answers_of, left_behind, lines_of, number_after, numbers_from, steps_behind}
-use Rattle.script_page.specs.Page.{AddsSteps, PageGoesOn, HasSteps, IsPageBy, IsPage, OneMore}
-use Rattle.script_page.specs.Setting.{script_answer_in}
+use Rattle.command_shell.specs.State.{ScriptState}
+use Rattle.command_shell_lines.specs.Requests.{request_of}
+use Rattle.script_page.proofs.FrontLineLemmas.{both_end, no_lines, nothing_ends}
+use Rattle.script_page.proofs.LeadingLemmas.{leads_from_start, leads_on, state_so_far, text_so_far, LeadsTo}
+use Rattle.script_page.proofs.PictureLemmas.{shows}
+use Rattle.script_page.specs.Answering.{count_of_block, line_told, state_of_answering, EndsItsLines, IsNextEntry, IsOneRequest}
+use Rattle.script_page.specs.Page.{answers_of, left_behind, lines_of, number_after, numbers_from, steps_behind, steps_text}
+use Rattle.script_page.specs.Page.{AreShown, HasSteps, IsPageBy, IsPage, ShowsItsAnswer}
+use Rattle.script_page.specs.Pictures.{IsPicture}
+use Rattle.script_page.specs.Setting.{script_answer_in, start_state_in}
+use Rattle.script_page.specs.TextPage.{has_picture, text_entry}
+use Rattle.script_page.specs.HtmlPage.{entry_html}
+use Rattle.script_page.specs.Transcript.{transcript_entry}
+use Rattle.script_page.specs.Writing.{page_back, page_begun, page_entries, page_entry, page_front}
+use Rattle.script_page.specs.Writing.{WritesPage}
+use Rattle.script_page.specs.declared.answering.Answering.{Answering}
 use Rattle.script_page.specs.declared.entry.Entry.{Entry}
+use Rattle.script_page.specs.declared.form.PageForm.{PageForm}
+use Rattle.script_page.specs.declared.form.PageForm.TheVariants as form
 use Rattle.script_page.specs.declared.setting.Setting.{Setting}
+use Rattle.script_page.specs.declared.shown.Shown.{Shown}
 
 lines_more : (entries : List Entry) (e : Entry) → lines_of (entries ++ e ∷ []) ≡ lines_of entries ++ e.lines.now
 lines_more entries e =
@@ -56,46 +73,6 @@ one_more text old e front lines split told page =
       answers = λ count. taken text old e count page.answers all (either count (length old) (cases_lt (length old) count));
     }
 
-pub pushed : (old new : List Entry) (e : Entry) (lines answer : List ℕ) → new ≡ old ++ e ∷ [] → e.lines.now ≡ lines
-    → e.answer.items ≡ answer → (steps : ℕ) → e.steps ≡ steps → OneMore old new lines answer steps
-pushed old new e lines answer whole own told steps is =
-    record { entry = e; whole = whole; own_lines = own; own_answer = told; own_steps = is }
-
-page_more : (text : List ℕ → List ℕ) (old new : List Entry) (front rest lines before after answer : List ℕ) (steps : ℕ)
-    → OneMore old new rest answer steps → lines ≡ front ++ rest → after ≡ before ++ answer
-    → IsPageBy text front old → before ≡ text front → after ≡ text lines → IsPageBy text lines new
-page_more text old new front rest lines before after answer steps one split more page is now =
-    let P : List Entry → Type 0 = λ es. IsPageBy text lines es in
-    subst P (sym one.whole)
-    (one_more text old one.entry front lines (split ∙ ap (λ (xs : List ℕ). front ++ xs) (sym one.own_lines))
-    (sym now ∙ more ∙ ap (λ (xs : List ℕ). xs ++ answer) is ∙ ap (λ (xs : List ℕ). text front ++ xs) (sym one.own_answer)) page)
-
-behind_place : (end : ℕ) (lines : List ℕ) → take (length lines - end) (drop end lines) ≡ drop end lines
-behind_place end lines = take_all (length lines - end) (drop end lines) (omega (arith, length-drop end lines))
-
--- the lines after a place, and what is answered to them
-pub goes_by_one : (old new : List Entry) (end : ℕ) (lines before after answer : List ℕ) (steps : ℕ)
-    → OneMore old new (take (length lines - end) (drop end lines)) answer steps → after ≡ before ++ answer
-    → PageGoesOn old new (take end lines) lines before after
-unfolding PageGoesOn
-goes_by_one old new end lines before after answer steps one more =
-    let rest = take (length lines - end) (drop end lines) in
-    let split : lines ≡ take end lines ++ rest =
-    sym (take-append-drop end lines) ∙ ap (λ (xs : List ℕ). take end lines ++ xs) (sym (behind_place end lines)) in
-    λ text page is now. page_more text old new (take end lines) rest lines before after answer steps one split more page is now
-
--- all of it in one
-pub goes_at_once : (old empty new : List Entry) (front lines before after : List ℕ) (steps : ℕ)
-    → OneMore empty new lines after steps → empty ≡ [] → PageGoesOn old new front lines before after
-unfolding PageGoesOn
-goes_at_once old empty new front lines before after steps one none =
-    λ text page is now.
-    let nothing : [] ≡ text [] = page.answers 0 in
-    let first : IsPageBy text [] [] =
-    record { lines = refl; answers = λ count. rw (take_all {A = Entry} count [] (omega arith)) nothing } in
-    let P : List Entry → Type 0 = λ es. IsPageBy text [] es in
-    page_more text empty new [] lines lines [] after after steps one refl refl (subst P (sym none) first) nothing now
-
 -- the steps of one entry more
 steps_more : (left : List ℕ → ℕ) (front : List ℕ) (old : List Entry) (e : Entry)
     → steps_behind left front (old ++ e ∷ [])
@@ -111,117 +88,260 @@ steps_mapped : (old : List Entry) (e : Entry)
     → map (λ (x : Entry). x.steps) (old ++ e ∷ []) ≡ map (λ (x : Entry). x.steps) old ++ e.steps ∷ []
 steps_mapped old e = map-append (λ (x : Entry). x.steps) old (e ∷ [])
 
-has_more : (left : List ℕ → ℕ) (old new : List Entry) (rest answer : List ℕ) (steps : ℕ) → OneMore old new rest answer steps
-    → HasSteps left old → steps ≡ left (lines_of old) - left (lines_of old ++ rest) → HasSteps left new
-has_more left old new rest answer steps one has is =
-    let P : List Entry → Type 0 = HasSteps left in
-    let own : one.entry.steps ≡ left (lines_of old) - left (lines_of old ++ one.entry.lines.now) =
-    one.own_steps ∙ is ∙ ap (λ (xs : List ℕ). left (lines_of old) - left (lines_of old ++ xs)) (sym one.own_lines) in
-    subst P (sym one.whole)
-    (steps_mapped old one.entry ∙ (λ i. has i ++ own i ∷ []) ∙ sym (steps_more left [] old one.entry))
+steps_on : (left : List ℕ → ℕ) (old : List Entry) (e : Entry) → HasSteps left old
+    → e.steps ≡ left (lines_of old) - left (lines_of old ++ e.lines.now) → HasSteps left (old ++ e ∷ [])
+steps_on left old e has is = steps_mapped old e ∙ (λ i. has i ++ is i ∷ []) ∙ sym (steps_more left [] old e)
 
--- of the lines after a place
-pub steps_by_one : (old new : List Entry) (end : ℕ) (lines answer : List ℕ) (most before after steps : ℕ)
-    → OneMore old new (take (length lines - end) (drop end lines)) answer steps → steps ≡ before - after
-    → AddsSteps old new (take end lines) lines most before after
-unfolding AddsSteps
-steps_by_one old new end lines answer most before after steps one is =
-    λ left has front whole now then.
-    let rest = take (length lines - end) (drop end lines) in
-    let all : lines ≡ lines_of old ++ rest =
-    sym (take-append-drop end lines) ∙ ap (λ (xs : List ℕ). take end lines ++ xs) (sym (behind_place end lines))
-    ∙ ap (λ (xs : List ℕ). xs ++ rest) (sym front) in
-    has_more left old new rest answer steps one has
-    (is ∙ (λ i. (now ∙ ap left (sym front)) i - (then ∙ ap left all) i))
+-- the number of the line after some entries
+pub number_at_end : ℕ → List Entry → ℕ
+number_at_end number [] = number
+number_at_end number (e ∷ rest) = number_at_end (number_after number (length (lines e.lines.now))) rest
 
--- of all in one
-pub steps_at_once : (old empty new : List Entry) (front lines answer : List ℕ) (most before after steps : ℕ)
-    → OneMore empty new lines answer steps → empty ≡ [] → steps ≡ most - after → AddsSteps old new front lines most before after
-unfolding AddsSteps
-steps_at_once old empty new front lines answer most before after steps one none is =
-    λ left has first whole now then.
-    let P : List Entry → Type 0 = λ es. HasSteps left es in
-    let Q : List Entry → Type 0 = λ es. steps ≡ left (lines_of es) - left (lines_of es ++ lines) in
-    has_more left empty new lines answer steps one (subst P (sym none) refl)
-    (subst Q (sym none) (is ∙ (λ i. whole i - then i)))
+numbers_on : (number : ℕ) (old : List Entry) (e : Entry)
+    → numbers_from number (old ++ e ∷ []) ≡ numbers_from number old ++ number_at_end number old ∷ []
+unfolding number_at_end
+numbers_on number [] e = refl
+numbers_on number (x ∷ old) e =
+    ap (λ (ns : List ℕ). number ∷ ns) (numbers_on (number_after number (length (lines x.lines.now))) old e)
 
--- what follows a front
-pub front_taken : (s p : List ℕ) (r : Option (Bor (List ℕ)))
-    → MatchOption r (pointwise eqb (take (length p) s) p ≡ false)
-    (λ x. (pointwise eqb (take (length p) s) p ≡ true) × (x.now ≡ drop (length p) s) × (length x.now + length p ≡ length s))
-    → IfSome r (λ x. s ≡ p ++ x.now)
-front_taken s p None h = tt
-front_taken s p (Some x) h = strip_prefix_is Decides-eqb s p (Some x) h
+number_on : (number : ℕ) (old : List Entry) (e : Entry)
+    → number_at_end number (old ++ e ∷ []) ≡ number_after (number_at_end number old) (length (lines e.lines.now))
+unfolding number_at_end
+number_on number [] e = refl
+number_on number (x ∷ old) e = number_on (number_after number (length (lines x.lines.now))) old e
+
+-- what is shown of an entry, after so many lines
+pub record IsShownOf (f : PageForm) (first : ℕ) (e : Entry) (s : Shown) : Type 0 where
+  pub number : s.number ≡ first
+  pub lines : s.lines.now ≡ e.lines.now
+  pub answer : s.printed.now ++ s.answer.now ≡ e.answer.items
+  pub steps : s.steps.items ≡ steps_text e.kind e.steps
+  pub picture : IsPicture f e.answer.items s.picture.items
+
+shown_on : (f : PageForm) (entries : List Entry) (shown : List Shown) (e : Entry) (s : Shown) → AreShown f entries shown
+    → IsShownOf f (number_at_end 1 entries) e s → AreShown f (entries ++ e ∷ []) (shown ++ s ∷ [])
+shown_on f entries shown e s are is = record {
+  numbers = map-append (λ (x : Shown). x.number) shown (s ∷ []) ∙ (λ i. are.numbers i ++ is.number i ∷ [])
+      ∙ sym (numbers_on 1 entries e);
+  lines = map-append (λ (x : Shown). x.lines.now) shown (s ∷ []) ∙ (λ i. are.lines i ++ is.lines i ∷ [])
+      ∙ sym (map-append (λ (x : Entry). x.lines.now) entries (e ∷ []));
+  answers = map-append (λ (x : Shown). x.printed.now ++ x.answer.now) shown (s ∷ []) ∙ (λ i. are.answers i ++ is.answer i ∷ [])
+      ∙ sym (map-append (λ (x : Entry). x.answer.items) entries (e ∷ []));
+  steps = map-append (λ (x : Shown). x.steps.items) shown (s ∷ []) ∙ (λ i. are.steps i ++ is.steps i ∷ [])
+      ∙ sym (map-append (λ (x : Entry). steps_text x.kind x.steps) entries (e ∷ []));
+  pictures = All-push (ShowsItsAnswer f) shown s are.pictures
+      (shows f s e.answer.items s.picture.items is.picture is.answer refl);
+}
+
+drawn_on : (shown : List Shown) (s : Shown) → list_any has_picture (shown ++ s ∷ []) ≡ (list_any has_picture shown || has_picture s)
+drawn_on [] s = elim (has_picture s) as (λ b. (b || false) ≡ (false || b)) [ true ↦ refl | false ↦ refl ]
+drawn_on (x ∷ shown) s =
+    ap (λ (b : Bool). has_picture x || b) (drawn_on shown s)
+    ∙ elim (has_picture x) as (λ b. (b || (list_any has_picture shown || has_picture s)) ≡ ((b || list_any has_picture shown) || has_picture s))
+    [ true ↦ refl | false ↦ refl ]
+
+more_of : {A : Type 0} (f : A → List ℕ) (xs : List A) (x : A) → flat_map f (xs ++ x ∷ []) ≡ flat_map f xs ++ f x
+more_of f xs x = flat_map-append f xs (x ∷ []) ∙ ap (λ (t : List ℕ). flat_map f xs ++ t) (append-nil (f x))
+
+entries_on : (f : PageForm) (entries : List Entry) (shown : List Shown) (e : Entry) (s : Shown)
+    → page_entries f (entries ++ e ∷ []) (shown ++ s ∷ []) ≡ page_entries f entries shown ++ page_entry f e s
+entries_on form.Text entries shown e s = more_of text_entry shown s
+entries_on form.Html entries shown e s = more_of entry_html shown s
+entries_on form.Transcript entries shown e s = more_of transcript_entry entries e
+
+written_on : (front : List ℕ) (f : PageForm) (entries : List Entry) (shown : List Shown) (e : Entry) (s : Shown)
+    (before between after : Option (List ℕ)) → Appends before between (page_begun front f entries shown)
+    → Appends between after (page_entry f e s) → Appends before after (page_begun front f (entries ++ e ∷ []) (shown ++ s ∷ []))
+written_on front f entries shown e s before between after first next =
+    let begun = page_front front f in
+    let same : page_begun front f entries shown ++ page_entry f e s ≡ page_begun front f (entries ++ e ∷ []) (shown ++ s ∷ []) =
+    append_assoc begun (page_entries f entries shown) (page_entry f e s)
+    ∙ ap (λ (xs : List ℕ). begun ++ xs) (sym (entries_on f entries shown e s)) in
+    subst (λ (xs : List ℕ). Appends before after xs) same
+    (Appends-join before between after (page_begun front f entries shown) (page_entry f e s) first next)
+
+one_request : (old new : Answering) (e : Entry) → IsNextEntry old new e → IsOneRequest e
+one_request old new e one =
+    let size = count_of_block one.line one.behind in
+    record {
+      line = one.line;
+      behind = one.behind;
+      own = one.taken ∙ ap (take (1 + size)) one.first
+          ∙ ap (λ (n : ℕ). take n (one.line ∷ one.behind)) (let e : 1 + size ≡ suc size = omega arith in e);
+    }
+
+-- The lines of a script that were answered are a page, which stands written.
+pub record PageSoFar (front : List ℕ) (setting : Setting) (f : PageForm) (script : List ℕ) (a : Answering) (number : ℕ)
+    (is_drawn : Bool) (before after : Option (List ℕ)) : Type 0 where
+  pub entries : List Entry
+  pub shown : List Shown
+  pub first : lines_of entries ++ a.rest.now ≡ script
+  pub ended : (a.rest.now ≡ []) ⊎ EndsItsLines (lines_of entries)
+  pub leads : LeadsTo setting (lines (lines_of entries)) a.place.left a.place.number (state_of_answering a) (answers_of entries)
+  pub page : IsPage setting (lines_of entries) entries
+  pub requests : All IsOneRequest entries
+  pub steps : HasSteps (left_behind setting) entries
+  pub of_entries : AreShown f entries shown
+  pub counted : number ≡ number_at_end 1 entries
+  pub drawn : is_drawn ≡ list_any has_picture shown
+  pub text : Appends before after (page_begun front f entries shown)
 
 -- no line is answered with nothing
 nothing_told : (setting : Setting) → (script_answer_in setting []).text ≡ []
 unfolding script_told lines_told
 nothing_told setting = refl
 
-none_at_all : (setting : Setting) → IsPage setting [] []
+page_of_none : (setting : Setting) → IsPage setting [] []
 unfolding IsPage
-none_at_all setting = record {
+page_of_none setting = record {
   lines = refl;
   answers = λ count. rw (take_all {A = Entry} count [] (omega arith)) (sym (nothing_told setting));
 }
 
-pub page_of_none : (setting : Setting) (front : List ℕ) (entries : List Entry) → front ≡ [] → entries ≡ []
-    → IsPage setting front entries
-page_of_none setting front entries no_lines none =
-    let P : List ℕ → Type 0 = λ xs. IsPage setting xs entries in
-    let Q : List Entry → Type 0 = λ es. IsPage setting [] es in
-    subst P (sym no_lines) (subst Q (sym none) (none_at_all setting))
+front_alone : (front : List ℕ) (f : PageForm) → page_begun front f [] [] ≡ page_front front f
+front_alone front form.Text = refl
+front_alone front form.Html = append-nil front
+front_alone front form.Transcript = refl
 
-pub told_none : (setting : Setting) (front : List ℕ) → front ≡ [] → (script_answer_in setting front).text ≡ []
-told_none setting front none = ap (λ (xs : List ℕ). (script_answer_in setting xs).text) none ∙ nothing_told setting
+pub page_starts : (front : List ℕ) (setting : Setting) (f : PageForm) (script : List ℕ) (a : Answering) (before after : Option (List ℕ))
+    → state_of_answering a ≡ start_state_in setting → a.place.number ≡ 0 → a.rest.now ≡ script
+    → Appends before after (page_front front f) → PageSoFar front setting f script a 1 false before after
+unfolding number_at_end
+page_starts front setting f script a before after start none whole written = record {
+  entries = [];
+  shown = [];
+  first = whole;
+  ended = inr nothing_ends;
+  leads = subst (λ (n : ℕ). LeadsTo setting [] a.place.left n (state_of_answering a) []) (sym none)
+      (leads_from_start setting a.place.left (state_of_answering a) start);
+  page = page_of_none setting;
+  requests = All-nil IsOneRequest;
+  steps = refl;
+  of_entries = record { numbers = refl; lines = refl; answers = refl; steps = refl; pictures = All-nil (ShowsItsAnswer f) };
+  counted = refl;
+  drawn = refl;
+  text = subst (λ (xs : List ℕ). Appends before after xs) (sym (front_alone front f)) written;
+}
 
--- the page of all lines
-pub page_whole : (setting : Setting) (script : List ℕ) (end : ℕ) (entries : List Entry) → length script ≤ end
-    → IsPage setting (take end script) entries → IsPage setting script entries
-page_whole setting script end entries all page =
-    let P : List ℕ → Type 0 = λ xs. IsPage setting xs entries in
-    subst P (take_all end script all) page
+still_ended : (a : Answering) (entries : List Entry) (line : List ℕ) (behind : List (List ℕ)) → lines a.rest.now ≡ a.place.left
+    → a.place.left ≡ line ∷ behind → (a.rest.now ≡ []) ⊎ EndsItsLines (lines_of entries) → EndsItsLines (lines_of entries)
+still_ended a entries line behind rest first (inl none) =
+    absurd (let e : lines [] ≡ line ∷ behind = ap lines (sym none) ∙ rest ∙ first in cc)
+still_ended a entries line behind rest first (inr ends) = ends
 
-take_take : (end next : ℕ) (script : List ℕ) → end ≤ next → take end (take next script) ≡ take end script
-take_take zero next script most = refl
-take_take (suc end) zero script most = absurd (omega arith)
-take_take (suc end) (suc next) [] most = refl
-take_take (suc end) (suc next) (byte ∷ script) most =
-    ap (λ (xs : List ℕ). byte ∷ xs) (take_take end next script (omega arith))
+ends_on : (rest front own : List ℕ) → EndsItsLines front → (rest ≡ []) ⊎ EndsItsLines own → (rest ≡ []) ⊎ EndsItsLines (front ++ own)
+ends_on rest front own ends (inl none) = inl none
+ends_on rest front own ends (inr own_ends) = inr (both_end front own ends own_ends)
 
--- the page of the lines up to one place, by that of those up to one before it
-pub goes_on : (setting : Setting) (old new : List Entry) (end next : ℕ) (script before after : List ℕ)
-    → PageGoesOn old new (take end (take next script)) (take next script) before after → end ≤ next
-    → IsPage setting (take end script) old → before ≡ (script_answer_in setting (take end script)).text
-    → after ≡ (script_answer_in setting (take next script)).text → IsPage setting (take next script) new
-unfolding IsPage PageGoesOn
-goes_on setting old new end next script before after goes most page is now =
-    goes (λ lines. (script_answer_in setting lines).text) (rw (take_take end next script most) page)
-    (rw (take_take end next script most) is) now
+-- and with the next entry
+pub page_goes_on : (front : List ℕ) (setting : Setting) (f : PageForm) (script : List ℕ) (old new : Answering) (number next : ℕ)
+    (was_drawn is_drawn : Bool) (e : Entry) (s : Shown) (before between after : Option (List ℕ))
+    → PageSoFar front setting f script old number was_drawn before between → lines old.rest.now ≡ old.place.left
+    → IsNextEntry old new e → IsShownOf f number e s → Appends between after (page_entry f e s)
+    → next ≡ number_after number (length (lines e.lines.now)) → is_drawn ≡ (was_drawn || has_picture s)
+    → PageSoFar front setting f script new next is_drawn before after
+unfolding IsPage
+page_goes_on front setting f script old new number next was_drawn is_drawn e s before between after so rest one is written counted drawn =
+    let entries = so.entries in
+    let bytes = lines_of entries in
+    let all : lines_of (entries ++ e ∷ []) ≡ bytes ++ e.lines.now = lines_more entries e in
+    let ends = still_ended old entries one.line one.behind rest one.first so.ended in
+    let here = line_told (state_of_answering old) old.place.number one.line one.behind in
+    let told : answers_of (entries ++ e ∷ []) ≡ answers_of entries ++ here.text =
+    answers_more entries e ∙ ap (λ (xs : List ℕ). answers_of entries ++ xs) one.answer in
+    let own : lines bytes ++ take (1 + count_of_block one.line one.behind) old.place.left ≡ lines (lines_of (entries ++ e ∷ [])) =
+    ap (λ (ls : List (List ℕ)). lines bytes ++ ls) (sym one.taken) ∙ sym (ends e.lines.now) ∙ ap lines (sym all) in
+    let leads : LeadsTo setting (lines (lines_of (entries ++ e ∷ []))) new.place.left new.place.number (state_of_answering new)
+    (answers_of (entries ++ e ∷ [])) =
+    subst (λ (xs : List ℕ). LeadsTo setting (lines (lines_of (entries ++ e ∷ []))) new.place.left new.place.number
+    (state_of_answering new) xs) (sym told)
+    (subst (λ (ls : List (List ℕ)). LeadsTo setting ls new.place.left new.place.number (state_of_answering new)
+    (answers_of entries ++ here.text)) own
+    (leads_on setting (lines bytes) old.place.left one.behind new.place.left old.place.number new.place.number
+    (state_of_answering old) (state_of_answering new) (answers_of entries) one.line so.leads one.first one.state one.number one.left)) in
+    let before_it = text_so_far setting bytes (answers_of entries) old.place.left old.place.number (state_of_answering old) so.leads in
+    let after_it = text_so_far setting (lines_of (entries ++ e ∷ [])) (answers_of (entries ++ e ∷ [])) new.place.left new.place.number
+    (state_of_answering new) leads in
+    let left_before : left_behind setting bytes ≡ (state_of_answering old).left =
+    ap (λ (w : ScriptState). w.left)
+    (state_so_far setting bytes (answers_of entries) old.place.left old.place.number (state_of_answering old) so.leads) in
+    let left_after : left_behind setting (bytes ++ e.lines.now) ≡ (state_of_answering new).left =
+    ap (left_behind setting) (sym all) ∙ ap (λ (w : ScriptState). w.left)
+    (state_so_far setting (lines_of (entries ++ e ∷ [])) (answers_of (entries ++ e ∷ [])) new.place.left new.place.number
+    (state_of_answering new) leads) in
+    record {
+      entries = entries ++ e ∷ [];
+      shown = so.shown ++ s ∷ [];
+      first = ap (λ (xs : List ℕ). xs ++ new.rest.now) all ∙ append_assoc bytes e.lines.now new.rest.now
+          ∙ ap (λ (xs : List ℕ). bytes ++ xs) one.whole ∙ so.first;
+      ended = subst (λ (xs : List ℕ). (new.rest.now ≡ []) ⊎ EndsItsLines xs) (sym all)
+          (ends_on new.rest.now bytes e.lines.now ends one.ended);
+      leads = leads;
+      page = one_more (λ ls. (script_answer_in setting ls).text) entries e bytes (lines_of (entries ++ e ∷ [])) all
+          (after_it ∙ answers_more entries e ∙ ap (λ (xs : List ℕ). xs ++ e.answer.items) (sym before_it)) so.page;
+      requests = All-push IsOneRequest entries e so.requests (one_request old new e one);
+      steps = steps_on (left_behind setting) entries e so.steps
+          (one.steps ∙ (λ i. sym left_before i - sym left_after i));
+      of_entries = shown_on f entries so.shown e s so.of_entries
+          (subst (λ (n : ℕ). IsShownOf f n e s) so.counted is);
+      counted = counted ∙ ap (λ (n : ℕ). number_after n (length (lines e.lines.now))) so.counted ∙ sym (number_on 1 entries e);
+      drawn = drawn ∙ ap (λ (b : Bool). b || has_picture s) so.drawn ∙ sym (drawn_on so.shown s);
+      text = written_on front f entries so.shown e s before between after so.text written;
+    }
 
--- and their steps
-pub steps_on : (setting : Setting) (old new : List Entry) (end next : ℕ) (script : List ℕ) (most before after : ℕ)
-    → AddsSteps old new (take end (take next script)) (take next script) most before after → end ≤ next
-    → IsPage setting (take end script) old → HasSteps (left_behind setting) old → most ≡ left_behind setting []
-    → before ≡ left_behind setting (take end script) → after ≡ left_behind setting (take next script)
-    → HasSteps (left_behind setting) new
-unfolding IsPage AddsSteps
-steps_on setting old new end next script most before after adds within page has whole now then =
-    adds (left_behind setting) has (page.lines ∙ sym (take_take end next script within)) whole
-    (now ∙ ap (left_behind setting) (sym (take_take end next script within))) then
+pub fewer_lines : (old new : Answering) (e : Entry) → IsNextEntry old new e → length new.place.left < length old.place.left
+fewer_lines old new e one =
+    fewer_left one.line old.place.left one.behind new.place.left (request_of one.line) one.first one.left
 
--- the numbers of the entries that are left
-pub numbers_more : (number : ℕ) (entries : List Entry) (place : ℕ) (d : Entry) → place < length entries
-    → numbers_from number (drop place entries)
-    ≡ number ∷ numbers_from (number_after number (length (lines (get_or entries place d).lines.now))) (drop (place + 1) entries)
-numbers_more number entries place d within = at_drop_more (numbers_from number) entries place d within
+-- the next entry, where there is one
+pub next_is : (next : Option Entry) (e : Entry) (old new : Answering) → IfSome next (λ (x : Entry). IsNextEntry old new x)
+    → next ≡ Some e → IsNextEntry old new e
+next_is next e old new some is =
+    let P : Option Entry → Type 0 = λ o. IfSome o (λ (x : Entry). IsNextEntry old new x) in
+    subst P is some
 
-pub numbers_end : (number : ℕ) (entries : List Entry) (place : ℕ) → length entries ≤ place
-    → numbers_from number (drop place entries) ≡ []
-numbers_end number entries place all = at_drop_all (numbers_from number) entries place all
+pub none_next : (next : Option Entry) (old new : Answering) → IfNone next ((old.place.left ≡ []) × (new ≡ old)) → next ≡ None
+    → (old.place.left ≡ []) × (new ≡ old)
+none_next next old new none is =
+    let P : Option Entry → Type 0 = λ o. IfNone o ((old.place.left ≡ []) × (new ≡ old)) in
+    subst P is none
 
-pub ruleset entry_steps = (goes_at_once, steps_at_once)
+pub drawn_before : (was here now : Bool) → was ≡ true → now ≡ true → now ≡ (was || here)
+drawn_before was here now was_so is = is ∙ ap (λ (b : Bool). b || here) (sym was_so)
 
-pub ruleset page_steps = (page_of_none, goes_on, page_whole, steps_on)
+pub drawn_here : (was here now : Bool) → was ≡ false → now ≡ here → now ≡ (was || here)
+drawn_here was here now not_so is = is ∙ ap (λ (b : Bool). b || here) (sym not_so)
 
-pub ruleset number_steps = (numbers_more, numbers_end)
+none_left : (a : Answering) (entries : List Entry) (script : List ℕ) → lines_of entries ++ a.rest.now ≡ script
+    → lines a.rest.now ≡ a.place.left → a.place.left ≡ [] → lines_of entries ≡ script
+none_left a entries script first rest none =
+    sym (append-nil (lines_of entries))
+    ∙ ap (λ (xs : List ℕ). lines_of entries ++ xs) (sym (no_lines a.rest.now (rest ∙ none))) ∙ first
+
+-- where no line is left
+pub page_ends : (front back : List ℕ) (setting : Setting) (f : PageForm) (script : List ℕ) (a : Answering) (number : ℕ) (is_drawn : Bool)
+    (before between after : Option (List ℕ)) → PageSoFar front setting f script a number is_drawn before between
+    → lines a.rest.now ≡ a.place.left → a.place.left ≡ [] → Appends between after (page_back back f is_drawn)
+    → WritesPage front back setting f script before after
+page_ends front back setting f script a number is_drawn before between after so rest none written = record {
+  entries = so.entries;
+  page = subst (λ (xs : List ℕ). IsPage setting xs so.entries) (none_left a so.entries script so.first rest none) so.page;
+  requests = so.requests;
+  steps = so.steps;
+  written = record {
+    shown = so.shown;
+    of_entries = so.of_entries;
+    text = Appends-join before between after (page_begun front f so.entries so.shown)
+        (page_back back f (list_any has_picture so.shown)) so.text
+        (subst (λ (b : Bool). Appends between after (page_back back f b)) so.drawn written);
+  };
+}
+
+pub page_stops : (front : List ℕ) (setting : Setting) (f : PageForm) (script : List ℕ) (a : Answering) (number : ℕ) (is_drawn : Bool)
+    (before after : Option (List ℕ)) → PageSoFar front setting f script a number is_drawn before after
+    → lines a.rest.now ≡ a.place.left → a.place.left ≡ []
+    → (state_of_answering a).last ≡ (script_answer_in setting script).state.last
+page_stops front setting f script a number is_drawn before after so rest none =
+    ap (λ (w : ScriptState). w.last)
+    (sym (state_so_far setting (lines_of so.entries) (answers_of so.entries) a.place.left a.place.number (state_of_answering a) so.leads))
+    ∙ ap (λ (xs : List ℕ). (script_answer_in setting xs).state.last) (none_left a so.entries script so.first rest none)

@@ -1,19 +1,16 @@
 -- A picture of what an answer tells.
-use Rattle.std.proofs.Common.{◌≡◌, ◌++◌, ℕ, List, [], map, inl, inr, sym, subst, Option}
-use Rattle.std.specs.Io.KnownBytes.{Appends}
-use Rattle.view_pictures.specs.Boxes.{place_of_box, places_told}
-use Rattle.view_pictures.specs.Items.{picture_items_text}
+use Rattle.std.proofs.Common.{◌≡◌, ◌++◌, ℕ, List, [], map, inl, inr, sym, subst}
+use Rattle.view_items.specs.Boxes.{AreBoxesOf}
+use Rattle.view_items.specs.Items.{picture_items_text}
 use Rattle.view_pictures.specs.Layout.{spot_of, spots_from, total_box_size, width_of}
 use Rattle.view_pictures.specs.Rows.{bytes_of_row, rows_told}
-use Rattle.view_pictures.specs.declared.boxes.PictureBox.{PictureBox}
-use Rattle.view_pictures.specs.declared.items.PictureItem.{PictureItem}
+use Rattle.view_items.specs.declared.boxes.PictureBox.{PictureBox}
+use Rattle.view_items.specs.declared.items.PictureItem.{PictureItem}
 use Rattle.view_pictures.specs.declared.layout.Drawn.{Drawn}
 use Rattle.view_pictures.specs.declared.layout.Layout.{Layout}
 use Rattle.view_pictures.specs.declared.rows.GridRow.{GridRow}
 use Rattle.script_page.specs.Pictures.{boxes_text, rows_text, IsPicture}
-use Rattle.script_page.specs.Page.{AreShown, ShowsItsAnswer}
-use Rattle.script_page.specs.Writing.{page_text, IsPageWritten}
-use Rattle.script_page.specs.declared.entry.Entry.{Entry}
+use Rattle.script_page.specs.Page.{ShowsItsAnswer}
 use Rattle.script_page.specs.declared.form.PageForm.{PageForm}
 use Rattle.script_page.specs.declared.shown.Shown.{Shown}
 
@@ -22,7 +19,7 @@ unfolding IsPicture
 of_none form answer picture none = inl none
 
 pub of_boxes : (form : PageForm) (answer picture : List ℕ) (items : List PictureItem) (boxes : List PictureBox) (layout : Layout)
-    → picture_items_text items ≡ answer → map place_of_box boxes ≡ places_told items
+    → picture_items_text items ≡ answer → AreBoxesOf items boxes
     → map (λ (d : Drawn). d.own) layout.boxes.items ≡ boxes
     → map spot_of layout.boxes.items ≡ spots_from (total_box_size boxes) 8 boxes
     → map (λ (d : Drawn). d.width) layout.boxes.items ≡ map (width_of (total_box_size boxes)) boxes
@@ -65,8 +62,3 @@ shows form s answer picture shown whole is =
     let P : List ℕ → Type 0 = λ a. IsPicture form a s.picture.items in
     let Q : List ℕ → Type 0 = λ p. IsPicture form answer p in
     subst P (sym whole) (subst Q (sym is) shown)
-
-pub is_written : (front back : List ℕ) (form : PageForm) (entries : List Entry) (shown : List Shown) (before after : Option (List ℕ))
-    → AreShown form entries shown → Appends before after (page_text front back form entries shown)
-    → IsPageWritten front back form entries before after
-is_written front back form entries shown before after are text = record { shown = shown; of_entries = are; text = text }

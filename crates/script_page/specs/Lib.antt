@@ -1,4 +1,5 @@
 -- What a page is and how it is written. Begin with Page, then Writing.
+pub mod Answering
 pub mod HtmlPage
 pub mod Page
 pub mod Pictures

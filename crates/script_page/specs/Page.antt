@@ -43,29 +43,6 @@ steps_behind left front (e ∷ rest) = (left front - left (front ++ e.lines.now)
 abbrev pub HasSteps : (List ℕ → ℕ) → List Entry → Type 0
 HasSteps left entries = map (λ (e : Entry). e.steps) entries ≡ steps_behind left [] entries
 
--- From entries up to a place to those of all lines, where so many steps are left before the first
--- line, before these lines and after them.
-unfoldable pub AddsSteps : List Entry → List Entry → List ℕ → List ℕ → ℕ → ℕ → ℕ → Type 0
-AddsSteps old new front lines most before after =
-    (left : List ℕ → ℕ) → HasSteps left old → lines_of old ≡ front → most ≡ left [] → before ≡ left front →
-    after ≡ left lines
-    → HasSteps left new
-
--- one entry more, of these lines, with this answer and so many steps
-pub record OneMore (old new : List Entry) (lines answer : List ℕ) (steps : ℕ) : Type 0 where
-  pub entry : Entry
-  pub whole : new ≡ old ++ entry ∷ []
-  pub own_lines : entry.lines.now ≡ lines
-  pub own_answer : entry.answer.items ≡ answer
-  pub own_steps : entry.steps ≡ steps
-
--- From a page of the lines up to a place to one of all lines, where both are answered so, by
--- whatever rule.
-unfoldable pub PageGoesOn : List Entry → List Entry → List ℕ → List ℕ → List ℕ → List ℕ → Type 0
-PageGoesOn old new front lines before after =
-    (text : List ℕ → List ℕ) → IsPageBy text front old → before ≡ text front → after ≡ text lines →
-    IsPageBy text lines new
-
 -- the number of a line so many lines after another
 abbrev pub number_after : ℕ → ℕ → ℕ
 number_after number count = min (number + count) (2 ^ 64 - 1)

@@ -3,7 +3,7 @@ use Rattle.std.specs.Prelude.{ℕ, List, [], length, Option, Some, None, fold}
 use Rattle.image_loader.specs.Entries.{Entry, refusal_for, with_entry}
 use Rattle.image_loader.specs.declared.error.ImageError.{ImageError}
 use Rattle.command_shell.specs.Script.{script_told}
-use Rattle.command_shell.specs.State.{Answered}
+use Rattle.command_shell.specs.State.{Answered, ScriptState, script_start_state}
 use Rattle.script_page.specs.declared.setting.NamedImage.{NamedImage}
 use Rattle.script_page.specs.declared.setting.Setting.{Setting}
 
@@ -23,3 +23,7 @@ images_told images = fold table_with_image [] images
 abbrev pub script_answer_in : Setting → List ℕ → Answered
 script_answer_in setting script = script_told setting.config
     (images_told setting.images.now) setting.budget script
+
+-- the state before its first line
+abbrev pub start_state_in : Setting → ScriptState
+start_state_in setting = script_start_state setting.config (images_told setting.images.now) setting.budget

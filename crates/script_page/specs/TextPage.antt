@@ -1,8 +1,9 @@
 -- A page as text for a terminal.
-use Rattle.std.specs.Prelude.{ℕ, ◌==◌, min, Bool, not, List, [], ◌∷◌, ◌++◌, length, drop, codes, if◌then◌else◌}
-use Rattle.std.specs.List.{flat_map, list_any}
+use Rattle.std.specs.Prelude.{ℕ, ◌==◌, min, Bool, not, List, [], ◌∷◌, ◌++◌, length, drop, codes}
+use Rattle.std.specs.List.{flat_map}
 use Rattle.std.specs.Fmt.{decimal}
 use Rattle.std.specs.Str.Lines.{lines}
+use Rattle.view_pictures.specs.Bars.{bar_legend}
 use Rattle.view_pictures.specs.Spelt.{spelt}
 use Rattle.script_page.specs.Page.{number_after}
 use Rattle.script_page.specs.declared.shown.Shown.{Shown}
@@ -47,14 +48,5 @@ abbrev pub has_picture : Shown → Bool
 has_picture s = not (length s.picture.items == 0)
 
 -- what the signs of pictures mean
-unfoldable pub legend : List ℕ
-legend =
-    codes "\n       signs: d descriptor, # block, area or module, . free, ~ what an area may grow by, not to scale,\n"
-    ++ codes "       p page pool, w private word, ^ under what has changed\n"
-
--- it stands once, at the end, where there is a picture
-abbrev pub legend_below : List Shown → List ℕ
-legend_below shown = if list_any has_picture shown then legend else []
-
-abbrev pub text_page : List Shown → List ℕ
-text_page shown = text_entries shown ++ legend_below shown
+abbrev pub legend : List ℕ
+legend = codes "\n" ++ bar_legend (codes "       ")

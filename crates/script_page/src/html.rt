@@ -1,10 +1,8 @@
-//! The page as HTML, in one file that needs no other.
-#![tactic(auto, using(crate::proofs::TextLemmas::text_steps))]
+//! An entry of a page as HTML.
 
-ghost use Rattle.std.specs.Prelude.{◌++◌};
 ghost use Rattle.std.specs.Str.Lines.{lines};
 ghost use Rattle.profile.specs.Output.{Writes};
-ghost use Rattle.script_page.specs.HtmlPage.{answer_part, answers_html, entries_html, entry_html};
+ghost use Rattle.script_page.specs.HtmlPage.{answer_part, answers_html, entry_html};
 ghost use Rattle.script_page.specs.HtmlPage.{figure, figure_html, opening, part_html, typed_line, typed_lines};
 
 use crate::shown::Shown;
@@ -13,33 +11,9 @@ use page_markup::markup::push_decimal;
 use page_markup::push_escaped;
 use profile::{Sink, WriteFault, push_all};
 
-/// Writes the page between what it begins and ends with: each line with its number, its answer,
-/// what the guest printed apart, and beside each view its picture. Nothing of a script or of a
-/// guest is taken for HTML's own.
-pub fn push_html<W: Sink>(
-    sink: &mut W,
-    front: &[u8],
-    shown: &[Shown<'_>],
-    back: &[u8],
-) -> Result<(), WriteFault>
-    ensures { Writes W.contents W.has_failed sink.old sink.new result
-        (front.now ++ (entries_html shown.now ++ back.now)) }
-{
-    push_all(sink, front)?;
-    push_entries(sink, shown)?;
-    push_all(sink, back)
-}
-
-fn push_entries<W: Sink>(sink: &mut W, shown: &[Shown<'_>]) -> Result<(), WriteFault>
-    ensures { Writes W.contents W.has_failed sink.old sink.new result (entries_html shown.now) }
-{
-    for entry in shown {
-        push_entry(sink, entry)?;
-    }
-    Ok(())
-}
-
-fn push_entry<W: Sink>(sink: &mut W, shown: &Shown<'_>) -> Result<(), WriteFault>
+/// Writes an entry: each line with its number, its answer, what the guest printed apart, and beside
+/// a view its picture. Nothing of a script or of a guest is taken for HTML's own.
+pub fn push_entry<W: Sink>(sink: &mut W, shown: &Shown<'_>) -> Result<(), WriteFault>
     ensures { Writes W.contents W.has_failed sink.old sink.new result (entry_html shown.now) }
 {
     push_opening(sink, shown.number)?;
@@ -62,6 +36,7 @@ fn push_opening<W: Sink>(sink: &mut W, number: usize) -> Result<(), WriteFault>
     Ok(())
 }
 
+#[tactic(auto, using(crate::proofs::TextLemmas::text_steps))]
 fn push_typed<W: Sink>(sink: &mut W, text: &[u8]) -> Result<(), WriteFault>
     ensures { Writes W.contents W.has_failed sink.old sink.new result (typed_lines (lines text.now)) }
 {

@@ -3,25 +3,20 @@
 //! transcript that can be run again.
 #![tactic(auto)]
 
-pub mod answers;
-pub mod entry;
-pub mod form;
-pub mod html;
-pub mod page;
-pub mod pictures;
-pub mod setting;
-pub mod shown;
+mod answering;
+mod answers;
+mod entry;
+mod form;
+mod front_lines;
+mod html;
+mod page;
+mod pictures;
+mod setting;
+mod shown;
 pub mod style;
-pub mod text;
-pub mod transcript;
-pub mod writing;
+mod text;
+mod transcript;
 
-pub use entry::{Entry, LineKind};
 pub use form::PageForm;
-pub use html::push_html;
-pub use page::{Page, page_of};
-pub use setting::{NamedImage, ScriptTold, Setting};
-pub use shown::{Shown, shown_of};
-pub use text::push_text_page;
-pub use transcript::push_transcript;
-pub use writing::push_page;
+pub use page::push_page;
+pub use setting::{NamedImage, Setting};

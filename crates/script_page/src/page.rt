@@ -1,116 +1,119 @@
-//! The page as data.
-ghost use Rattle.std.specs.Prelude.{◌≡◌, ◌≤◌, ◌++◌, length, take, IfOk, IfSome, OnOk};
-ghost use Rattle.script_page.specs.Page.{AddsSteps, PageGoesOn, HasSteps, IsPage, OneMore, left_behind};
+//! The page of a script, written as its lines are answered.
+
+ghost use Rattle.std.specs.Prelude.{◌≡◌, ◌⊎◌, true, Err, IfOk, OnOk, IfErr};
+ghost use Rattle.profile.specs.Output.{Writes};
+ghost use Rattle.command_shell.specs.Error.{IsLineError};
 ghost use Rattle.script_page.specs.Setting.{script_answer_in};
+ghost use Rattle.script_page.specs.Writing.{page_back, page_entry, page_front, BeginsPage, WritesPage};
 
-use crate::entry::{Entry, size_of_request};
-use crate::setting::{ScriptTold, Setting};
+use crate::entry::Entry;
+use crate::form::PageForm;
+use crate::pictures::LastViews;
+use crate::setting::Setting;
+use crate::shown::{Shown, has_picture, number_behind, shown_of};
+use crate::style::{BACK, FRONT};
+use crate::{html, text, transcript};
 use command_shell::RunError;
-use profile::Stop;
-use std::alloc::{AllocError, Global};
+use profile::{Sink, Stop, WriteFault, push_all};
+use std::alloc::Global;
 
-/// A script and its answers.
-#[derive(Drop)]
-pub struct Page<'a> {
-    /// Line by line.
-    pub entries: Vec<Entry<'a>>,
-    /// The last stop that a line was answered with.
-    pub last: Option<Stop>,
-}
-
-/// The page of a script: each line with what it is answered. The lines up to each are answered from
-/// the first on, as a script of their own.
+/// Answers the lines of a script one after another, each once, on a fresh machine, and writes the
+/// page of them in that form; gives the last stop that a line was answered with. Each line is
+/// written as soon as it is answered. Memory is taken for the machine, for the entry at hand, and
+/// for the last view of each thing that was looked at.
 ///
 /// # Errors
 ///
-/// As [`run_script`].
-///
-/// [`run_script`]: command_shell::run_script
-#[tactic(auto, using(crate::proofs::PageLemmas::page_steps))]
-pub fn page_of<'a>(
+/// `Memory`, when the entries of the first lines may stand written; `WriteFault`.
+pub fn push_page<W: Sink>(
     alloc: Global,
-    script: &'a [u8],
+    sink: &mut W,
+    script: &[u8],
     setting: &Setting<'_>,
-) -> Result<Page<'a>, RunError>
-    ensures page { IfOk result (λ page. IsPage setting.now script.entry.now page.entries.items) }
-    ensures steps { IfOk result (λ page. HasSteps (left_behind setting.now) page.entries.items) }
-    ensures last { IfOk result (λ page. page.last ≡ (script_answer_in setting.now
-        script.entry.now).state.last) }
+    form: PageForm,
+) -> Result<Option<Stop>, RunError>
+    ensures page { OnOk result (WritesPage FRONT.now BACK.now setting.now form script.now
+        (W.contents sink.old) (W.contents sink.new)) }
+    ensures last { IfOk result (λ last. last ≡ (script_answer_in setting.now script.now).state.last) }
+    ensures memory { result ≡ Err RunError.Memory → (sink.new ≡ sink.old)
+        ⊎ BeginsPage FRONT.now setting.now form script.now (W.contents sink.old) (W.contents sink.new) }
+    ensures write_fault { result ≡ Err RunError.WriteFault → W.has_failed sink.new ≡ true }
+    ensures errors { IfErr result IsLineError }
+    ensures same_flag { OnOk result (W.has_failed sink.new ≡ W.has_failed sink.old) }
 {
-    let mut entries = Vec::new(alloc);
-    let mut told = setting.told(alloc, b"")?;
-    let most = told.left;
-    let mut end = 0;
-    while end < script.len() {
-        let next = end + size_of_request(&script[end..]);
-        let after = setting.told(alloc, &script[..next])?;
-        add_entry(
-            alloc,
-            &mut entries,
-            &script[..next],
-            end,
-            most,
-            &told,
-            &after,
-        )?;
-        told = after;
-        end = next;
-    }
-    Ok(Page {
-        entries,
-        last: told.last,
-    })
+    push_between(alloc, sink, script, setting, form, FRONT, BACK)
 }
 
-// Adds the lines after those that end there, by what both are answered. What a line is answered
-// never changes what those before it are; if it did, all of them would stand together. Before the
-// first line `most` steps are left.
-#[tactic(auto, using(crate::proofs::PageLemmas::entry_steps))]
-fn add_entry<'a>(
+// The same, where HTML stands between these two texts.
+fn push_between<W: Sink>(
     alloc: Global,
-    entries: &mut Vec<Entry<'a>>,
-    lines: &'a [u8],
-    end: usize,
-    most: u64,
-    before: &ScriptTold,
-    after: &ScriptTold,
-) -> Result<(), AllocError>
-    requires { end ≤ length lines.now }
-    ensures answers { OnOk result (PageGoesOn entries.old.items entries.new.items (take end lines.entry.now)
-        lines.entry.now before.now.text.items after.now.text.items) }
-    ensures steps { OnOk result (AddsSteps entries.old.items entries.new.items (take end lines.entry.now)
-        lines.entry.now most before.now.left after.now.left) }
+    sink: &mut W,
+    script: &[u8],
+    setting: &Setting<'_>,
+    form: PageForm,
+    front: &[u8],
+    back: &[u8],
+) -> Result<Option<Stop>, RunError>
+    ensures page { OnOk result (WritesPage front.now back.now setting.now form script.now
+        (W.contents sink.old) (W.contents sink.new)) }
+    ensures last { IfOk result (λ last. last ≡ (script_answer_in setting.now script.now).state.last) }
+    ensures memory { result ≡ Err RunError.Memory → (sink.new ≡ sink.old)
+        ⊎ BeginsPage front.now setting.now form script.now (W.contents sink.old) (W.contents sink.new) }
+    ensures write_fault { result ≡ Err RunError.WriteFault → W.has_failed sink.new ≡ true }
+    ensures errors { IfErr result IsLineError }
+    ensures same_flag { OnOk result (W.has_failed sink.new ≡ W.has_failed sink.old) }
 {
-    match behind_front(after.text.as_slice(), before.text.as_slice()) {
-        Some(answer) => {
-            let steps = before.left.saturating_sub(after.left);
-            push_entry(alloc, entries, &lines[end..], answer, steps)
-        }
-        None => {
-            entries.clear();
-            let steps = most.saturating_sub(after.left);
-            push_entry(alloc, entries, lines, after.text.as_slice(), steps)
-        }
+    let mut answering = setting.start(alloc, script)?;
+    let mut views = LastViews::new(alloc);
+    let mut number = 1;
+    let mut is_drawn = false;
+    push_front(sink, front, form)?;
+    while let Some(entry) = answering.next_entry(alloc)? {
+        let picture = views.picture_of(alloc, &entry, form)?;
+        let shown = shown_of(alloc, number, &entry, picture)?;
+        push_entry(sink, &entry, &shown, form)?;
+        number = number_behind(number, &entry);
+        is_drawn = is_drawn || has_picture(&shown);
+    }
+    push_back(sink, back, form, is_drawn)?;
+    Ok(answering.last())
+}
+
+fn push_front<W: Sink>(sink: &mut W, front: &[u8], form: PageForm) -> Result<(), WriteFault>
+    ensures { Writes W.contents W.has_failed sink.old sink.new result (page_front front.now form) }
+{
+    match form {
+        PageForm::Html => push_all(sink, front),
+        PageForm::Text | PageForm::Transcript => Ok(()),
     }
 }
 
-// What follows a front of a text, if it begins so.
-fn behind_front<'a>(text: &'a [u8], front: &[u8]) -> Option<&'a [u8]>
-    ensures { IfSome result (λ rest. text.entry.now ≡ front.now ++ rest.now) }
+fn push_entry<W: Sink>(
+    sink: &mut W,
+    entry: &Entry<'_>,
+    shown: &Shown<'_>,
+    form: PageForm,
+) -> Result<(), WriteFault>
+    ensures { Writes W.contents W.has_failed sink.old sink.new result (page_entry form entry.now shown.now) }
 {
-    text.strip_prefix(front)
+    match form {
+        PageForm::Text => text::push_entry(sink, shown),
+        PageForm::Html => html::push_entry(sink, shown),
+        PageForm::Transcript => transcript::push_entry(sink, entry),
+    }
 }
 
-fn push_entry<'a>(
-    alloc: Global,
-    entries: &mut Vec<Entry<'a>>,
-    lines: &'a [u8],
-    answer: &[u8],
-    steps: u64,
-) -> Result<(), AllocError>
-    ensures { OnOk result (OneMore entries.old.items entries.new.items lines.entry.now answer.now steps) }
+fn push_back<W: Sink>(
+    sink: &mut W,
+    back: &[u8],
+    form: PageForm,
+    is_drawn: bool,
+) -> Result<(), WriteFault>
+    ensures { Writes W.contents W.has_failed sink.old sink.new result (page_back back.now form is_drawn) }
 {
-    let entry = Entry::new(alloc, lines, answer, steps)?;
-    entries.push(entry)?;
-    Ok(())
+    match (form, is_drawn) {
+        (PageForm::Text, true) => text::push_legend(sink),
+        (PageForm::Html, _) => push_all(sink, back),
+        (PageForm::Text, false) | (PageForm::Transcript, _) => Ok(()),
+    }
 }

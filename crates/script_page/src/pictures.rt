@@ -1,74 +1,150 @@
 //! The picture under a view: of what its answer tells, and what has changed since the last one.
 
-ghost use Rattle.std.specs.Prelude.{◌≡◌, [], IfOk, IfSome, map};
+ghost use Rattle.std.specs.Prelude.{◌≡◌, IfOk};
 ghost use Rattle.profile.specs.Output.{Writes};
-ghost use Rattle.view_pictures.specs.Boxes.{place_of_box, places_told};
-ghost use Rattle.view_pictures.specs.Items.{picture_items_text};
+ghost use Rattle.view_items.specs.Boxes.{AreBoxesOf};
+ghost use Rattle.view_items.specs.Items.{picture_items_text};
 ghost use Rattle.script_page.specs.Pictures.{boxes_text, rows_text, IsPicture};
 
 use crate::entry::{Entry, LineKind};
 use crate::form::PageForm;
+use command_shell_lines::text_lines::cut;
 use page_markup::{push_grid, push_svg};
 use profile::{Sink, WriteFault};
 use std::alloc::{AllocError, Global};
-use view_pictures::{
-    GridRow, Layout, PictureView, TextSink, layout_of, push_bars, push_marks, rows_of, view_of,
-};
+use view_items::{PictureView, TextSink, view_of};
+use view_pictures::{GridRow, LINE_WIDTH, Layout, layout_of, push_bars, push_marks, rows_of};
 
 // What stands before each line of a picture in a text.
 const FRONT: &[u8] = b"       ";
 
-/// The picture of an entry, in a page of that form, after these entries; empty where its line asks
-/// for no view, or its answer isn't a view's.
-///
-/// # Errors
-///
-/// Memory ran out.
-#[tactic(auto, using(crate::proofs::PictureLemmas::picture_steps))]
-pub fn picture_of(
-    alloc: Global,
-    entry: &Entry<'_>,
-    earlier: &[Entry<'_>],
-    form: PageForm,
-) -> Result<Vec<u8>, AllocError>
-    ensures { IfOk result (λ picture. IsPicture form entry.now.answer.items picture.items) }
-{
-    match view_in(alloc, entry)? {
-        Some(view) => {
-            let before = view_before(alloc, earlier, &view)?;
-            picture_of_view(alloc, &view, before.as_ref(), form)
+/// The views that pictures were drawn of, as their answers: of each thing the last, in the order of
+/// these things' names.
+#[derive(Drop)]
+pub struct LastViews {
+    answers: Vec<Vec<u8>>,
+}
+
+impl LastViews {
+    /// No view yet.
+    pub fn new(alloc: Global) -> LastViews {
+        LastViews {
+            answers: Vec::new(alloc),
         }
-        None => Ok(Vec::new(alloc)),
     }
-}
 
-// What the answer of an entry shows, where its line asks for a view and the answer is one.
-fn view_in<'a>(alloc: Global, entry: &'a Entry<'_>) -> Result<Option<PictureView<'a>>, AllocError>
-    ensures text { IfOk result (λ found. IfSome found (λ view.
-        picture_items_text view.items.items ≡ entry.entry.now.answer.items)) }
-    ensures boxes { IfOk result (λ found. IfSome found (λ view.
-        map place_of_box view.boxes.items ≡ places_told view.items.items)) }
-{
-    match entry.kind {
-        LineKind::View => view_of(alloc, entry.answer.as_slice()),
-        _ => Ok(None),
+    /// The picture of the next entry, in a page of that form; empty where its line asks for no view,
+    /// or its answer isn't a view's.
+    ///
+    /// # Errors
+    ///
+    /// Memory ran out.
+    pub fn picture_of(
+        &mut self,
+        alloc: Global,
+        entry: &Entry<'_>,
+        form: PageForm,
+    ) -> Result<Vec<u8>, AllocError>
+        ensures { IfOk result (λ picture. IsPicture form entry.now.answer.items picture.items) }
+    {
+        match (form, entry.kind) {
+            (PageForm::Text | PageForm::Html, LineKind::View) => {
+                self.picture_of_answer(alloc, entry.answer.as_slice(), form)
+            }
+            _ => Ok(Vec::new(alloc)),
+        }
     }
-}
 
-// The last view of the same thing among earlier entries.
-fn view_before<'a>(
-    alloc: Global,
-    earlier: &'a [Entry<'_>],
-    view: &PictureView<'_>,
-) -> Result<Option<PictureView<'a>>, AllocError> {
-    for entry in earlier.iter().rev() {
-        if let Some(old) = view_in(alloc, entry)? {
-            if old.is_of(view) {
-                return Ok(Some(old));
+    // The picture of an answer, if it is a view's, which is kept then.
+    fn picture_of_answer(
+        &mut self,
+        alloc: Global,
+        answer: &[u8],
+        form: PageForm,
+    ) -> Result<Vec<u8>, AllocError>
+        ensures { IfOk result (λ picture. IsPicture form answer.now picture.items) }
+    {
+        let Some(view) = view_of(alloc, answer)? else {
+            return Ok(Vec::new(alloc));
+        };
+        let place = self.place_of(answer);
+        let picture = self.picture_after(alloc, &view, place, form)?;
+        self.keep(alloc, place, answer)?;
+        Ok(picture)
+    }
+
+    // The picture of a view after the one that is kept there.
+    fn picture_after(
+        &self,
+        alloc: Global,
+        view: &PictureView<'_>,
+        place: Result<usize, usize>,
+        form: PageForm,
+    ) -> Result<Vec<u8>, AllocError>
+        requires { AreBoxesOf view.now.items.items view.now.boxes.items }
+        ensures { IfOk result (λ picture. IsPicture form (picture_items_text view.now.items.items)
+            picture.items) }
+    {
+        match self.view_at(alloc, place)? {
+            Some(before) if before.is_of(view) => {
+                picture_of_view(alloc, view, Some(&before), form)
+            }
+            _ => picture_of_view(alloc, view, None, form),
+        }
+    }
+
+    fn view_at(
+        &self,
+        alloc: Global,
+        place: Result<usize, usize>,
+    ) -> Result<Option<PictureView<'_>>, AllocError> {
+        match place {
+            Ok(place) => match self.answers.get(place) {
+                Some(answer) => view_of(alloc, answer.as_slice()),
+                None => Ok(None),
+            },
+            Err(_) => Ok(None),
+        }
+    }
+
+    // Where the last view of the same thing is kept, or where there is none, where it is to stand.
+    fn place_of(&self, answer: &[u8]) -> Result<usize, usize> {
+        let thing = thing_of(answer);
+        self.answers
+            .binary_search_by(|kept| thing_of(kept.as_slice()).cmp(thing))
+    }
+
+    // Keeps an answer there.
+    fn keep(
+        &mut self,
+        alloc: Global,
+        place: Result<usize, usize>,
+        answer: &[u8],
+    ) -> Result<(), AllocError> {
+        let answer = Vec::from_slice(alloc, answer)?;
+        match place {
+            Ok(place) => {
+                if let Some(kept) = self.answers.get_mut(place) {
+                    *kept = answer;
+                }
+                Ok(())
+            }
+            Err(place) => {
+                let place = place.min(self.answers.len());
+                self.answers.insert(place, answer)?;
+                Ok(())
             }
         }
     }
-    Ok(None)
+}
+
+// What a view is of, as it begins: the address of a heap, or that of memory and a colon, or the kind
+// of the view.
+fn thing_of(answer: &[u8]) -> &[u8] {
+    match cut(answer, b' ') {
+        (b"heap", Some(rest)) => cut(rest, b' ').0,
+        (word, _) => word,
+    }
 }
 
 fn picture_of_view(
@@ -77,7 +153,7 @@ fn picture_of_view(
     before: Option<&PictureView<'_>>,
     form: PageForm,
 ) -> Result<Vec<u8>, AllocError>
-    requires { map place_of_box view.now.boxes.items ≡ places_told view.now.items.items }
+    requires { AreBoxesOf view.now.items.items view.now.boxes.items }
     ensures { IfOk result (λ picture. IsPicture form (picture_items_text view.now.items.items)
         picture.items) }
 {
@@ -113,7 +189,7 @@ fn picture_of_boxes(
     before: Option<&PictureView<'_>>,
     form: PageForm,
 ) -> Result<Vec<u8>, AllocError>
-    requires { map place_of_box view.now.boxes.items ≡ places_told view.now.items.items }
+    requires { AreBoxesOf view.now.items.items view.now.boxes.items }
     ensures { IfOk result (λ picture. IsPicture form (picture_items_text view.now.items.items)
         picture.items) }
 {
@@ -139,7 +215,7 @@ fn push_boxes<W: Sink>(sink: &mut W, form: PageForm, layout: &Layout<'_>) -> Res
     ensures { Writes W.contents W.has_failed sink.old sink.new result (boxes_text form layout.now) }
 {
     match form {
-        PageForm::Text => push_bars(sink, FRONT, layout),
+        PageForm::Text => push_bars(sink, FRONT, LINE_WIDTH, layout),
         PageForm::Html => push_svg(sink, layout),
         PageForm::Transcript => Ok(()),
     }

@@ -1,12 +1,14 @@
-//! What a script is answered on, and what it is answered.
+//! What a script is answered on.
 ghost use Rattle.std.specs.Prelude.{◌≡◌, IfOk, OnOk};
-ghost use Rattle.script_page.specs.Setting.{images_told, script_answer_in, table_with_image};
+ghost use Rattle.std.specs.Str.Lines.{lines};
+ghost use Rattle.script_page.specs.Answering.{state_of_answering};
+ghost use Rattle.script_page.specs.Setting.{images_told, start_state_in, table_with_image};
 
-use command_shell::{RunError, run_script};
+use crate::answering::Answering;
+use command_shell::Session;
 use image_loader::{ImageError, Images};
-use profile::{Config, Device, Stop};
-use std::alloc::Global;
-use view_pictures::TextSink;
+use profile::Config;
+use std::alloc::{AllocError, Global};
 
 /// An image that is there before the script.
 #[derive(Clone, Copy, Debug)]
@@ -29,48 +31,24 @@ pub struct Setting<'a> {
     pub budget: u64,
 }
 
-/// What a script is answered.
-#[derive(Drop)]
-pub struct ScriptTold {
-    /// All of its answers.
-    pub text: Vec<u8>,
-    /// The last stop that a line was answered with.
-    pub last: Option<Stop>,
-    /// How many steps are left of the budget.
-    pub left: u64,
-}
-
 impl Setting<'_> {
-    /// What a script is answered on a fresh machine, as [`run_script`] answers it.
+    /// A script on a fresh machine, with the images there, before its first line.
     ///
     /// # Errors
     ///
-    /// As [`run_script`].
-    pub fn told(&self, alloc: Global, script: &[u8]) -> Result<ScriptTold, RunError>
-        ensures text { IfOk result (λ told. told.text.items ≡ (script_answer_in self.now script.now).text) }
-        ensures last { IfOk result (λ told. told.last ≡ (script_answer_in self.now script.now).state.last) }
-        ensures left { IfOk result (λ told. told.left ≡ (script_answer_in self.now script.now).state.left) }
+    /// Memory ran out.
+    pub fn start<'s>(&self, alloc: Global, script: &'s [u8]) -> Result<Answering<'s>, AllocError>
+        ensures state { IfOk result (λ a. state_of_answering a ≡ start_state_in self.now) }
+        ensures place { IfOk result (λ a. a.place ≡ record { left = lines script.entry.now; number = 0 }) }
+        ensures rest { IfOk result (λ a. a.rest.now ≡ script.entry.now) }
     {
-        let mut images = images_of(alloc, self.images)?;
-        let mut answers = TextSink::new(alloc);
-        let mut reader = Device::new(script);
-        let summary = run_script(
-            alloc,
-            &mut reader,
-            &mut images,
-            &mut answers,
-            self.config,
-            self.budget,
-        )?;
-        Ok(ScriptTold {
-            text: answers.into_bytes(),
-            last: summary.last,
-            left: summary.left,
-        })
+        let images = images_of(alloc, self.images)?;
+        let session = Session::on_fresh_machine(alloc, self.config, self.budget)?;
+        Ok(Answering::new(session, images, script))
     }
 }
 
-fn images_of(alloc: Global, named: &[NamedImage<'_>]) -> Result<Images, RunError>
+fn images_of(alloc: Global, named: &[NamedImage<'_>]) -> Result<Images, AllocError>
     ensures { IfOk result (λ images. images ≡ images_told named.now) }
 {
     let mut images = Images::new();
@@ -80,11 +58,11 @@ fn images_of(alloc: Global, named: &[NamedImage<'_>]) -> Result<Images, RunError
     Ok(images)
 }
 
-fn add_image(alloc: Global, images: &mut Images, image: &NamedImage<'_>) -> Result<(), RunError>
+fn add_image(alloc: Global, images: &mut Images, image: &NamedImage<'_>) -> Result<(), AllocError>
     ensures { OnOk result (images.new ≡ table_with_image images.old image.now) }
 {
     match images.add(alloc, image.name, image.bytes) {
-        Err(ImageError::Memory) => Err(RunError::Memory),
+        Err(ImageError::Memory) => Err(AllocError),
         _ => Ok(()),
     }
 }

@@ -1,12 +1,11 @@
 //! What a page shows of each entry: its parts, and its picture.
 ghost use Rattle.std.specs.Prelude.{◌≡◌, ◌++◌, IfOk, length};
 ghost use Rattle.std.specs.Str.Lines.{lines};
-ghost use Rattle.script_page.specs.Page.{AreShown, ShowsItsAnswer, number_after, steps_text};
+ghost use Rattle.script_page.specs.Page.{number_after, steps_text};
+ghost use Rattle.script_page.specs.TextPage.{has_picture};
 
 use crate::answers::parts_of;
 use crate::entry::{Entry, LineKind};
-use crate::form::PageForm;
-use crate::pictures::picture_of;
 use command_shell_lines::text_lines::Lines;
 use itoa::Buffer;
 use std::alloc::{AllocError, Global};
@@ -28,53 +27,24 @@ pub struct Shown<'a> {
     pub picture: Vec<u8>,
 }
 
-/// What a page of that form shows of the entries, one after another.
+/// What a page shows of an entry, with its picture, where its first line has that number.
 ///
 /// # Errors
 ///
 /// Memory ran out.
-#[tactic(auto, using(crate::proofs::PageLemmas::number_steps))]
 pub fn shown_of<'a>(
-    alloc: Global,
-    entries: &'a [Entry<'_>],
-    form: PageForm,
-) -> Result<Vec<Shown<'a>>, AllocError>
-    ensures { IfOk result (λ shown. AreShown form entries.entry.now shown.items) }
-{
-    let mut all = Vec::new(alloc);
-    let mut number = 1;
-    for place in 0..entries.len() {
-        let entry = &entries[place];
-        all.push(shown_entry(alloc, number, entry, &entries[..place], form)?)?;
-        number = number_behind(number, entry);
-    }
-    Ok(all)
-}
-
-// The number of the line after an entry.
-fn number_behind(number: usize, entry: &Entry<'_>) -> usize
-    ensures { result ≡ number_after number (length (lines entry.now.lines.now)) }
-{
-    number.saturating_add(Lines::new(entry.lines).count())
-}
-
-// What is shown of an entry after these.
-#[tactic(auto, using(crate::proofs::PictureLemmas::shows))]
-fn shown_entry<'a>(
     alloc: Global,
     number: usize,
     entry: &'a Entry<'_>,
-    earlier: &[Entry<'_>],
-    form: PageForm,
+    picture: Vec<u8>,
 ) -> Result<Shown<'a>, AllocError>
     ensures number { IfOk result (λ s. s.number ≡ number) }
     ensures lines { IfOk result (λ s. s.lines.now ≡ entry.entry.now.lines.now) }
     ensures answer { IfOk result (λ s. s.printed.now ++ s.answer.now ≡ entry.entry.now.answer.items) }
     ensures steps { IfOk result (λ s. s.steps.items ≡ steps_text entry.entry.now.kind entry.entry.now.steps) }
-    ensures picture { IfOk result (λ s. ShowsItsAnswer form s) }
+    ensures picture { IfOk result (λ s. s.picture ≡ picture) }
 {
     let steps = steps_of(alloc, entry)?;
-    let picture = picture_of(alloc, entry, earlier, form)?;
     let (printed, answer) = parts_of_answer(entry);
     Ok(Shown {
         number,
@@ -84,6 +54,20 @@ fn shown_entry<'a>(
         steps,
         picture,
     })
+}
+
+/// Whether an entry has a picture.
+pub fn has_picture(shown: &Shown<'_>) -> bool
+    ensures { result ≡ has_picture shown.now }
+{
+    !shown.picture.is_empty()
+}
+
+/// The number of the line after an entry.
+pub fn number_behind(number: usize, entry: &Entry<'_>) -> usize
+    ensures { result ≡ number_after number (length (lines entry.now.lines.now)) }
+{
+    number.saturating_add(Lines::new(entry.lines).count())
 }
 
 fn steps_of(alloc: Global, entry: &Entry<'_>) -> Result<Vec<u8>, AllocError>

@@ -52,6 +52,7 @@ svg rect.free, svg rect.unmapped { fill: url(#hatch); }
 svg rect.room, svg rect.unused, svg rect.pool { stroke-dasharray: 4 3; }
 svg rect.byte { stroke: var(--line); }
 svg rect.change { fill: none; stroke: var(--change); stroke-width: 2; }
+.break { fill: none; stroke: var(--edge); stroke-width: 1.5; }
 .chain { fill: none; stroke: var(--edge); stroke-width: 1.5; marker-end: url(#arrow); }
 .hatch-back { fill: var(--paper); stroke: none; }
 .hatch-line { stroke: var(--hatch); stroke-width: 1.5; }

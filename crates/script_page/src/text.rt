@@ -1,18 +1,16 @@
-//! The page as text for a terminal.
-#![tactic(auto, using(crate::proofs::TextLemmas::text_steps))]
+//! An entry of a page as text for a terminal.
 
 ghost use Rattle.std.specs.Prelude.{◌≡◌, length};
-ghost use Rattle.std.specs.List.{list_any};
 ghost use Rattle.std.specs.Str.Lines.{lines};
 ghost use Rattle.profile.specs.Output.{Writes};
 ghost use Rattle.script_page.specs.TextPage.{lines_behind, blanks_before, column, shown_line_behind, numbered_lines};
-ghost use Rattle.script_page.specs.TextPage.{has_picture, legend, numbered_line, text_entries, text_entry, text_page, whole_line};
+ghost use Rattle.script_page.specs.TextPage.{legend, numbered_line, text_entry, whole_line};
 
 use crate::shown::Shown;
 use command_shell_lines::text_lines::Lines;
 use itoa::Buffer;
 use profile::{Sink, WriteFault, push_all};
-use view_pictures::push_spelt;
+use view_pictures::{push_bar_legend, push_spelt};
 
 // What stands before what isn't typed: an answer, and what the guest printed.
 const ANSWER: &[u8] = b"       ";
@@ -21,55 +19,18 @@ const GUEST: &[u8] = b"     : ";
 
 const STEPS: &[u8] = b"     = ";
 
-/// Writes the page: each line under its number, its answer under it, what the guest printed after a
-/// colon, and after an equals sign how many steps it took, if more than one. Unprintable bytes
-/// stand as `\x1B`. Where there is a picture, the page ends with what the signs of pictures mean.
-pub fn push_text_page<W: Sink>(sink: &mut W, shown: &[Shown<'_>]) -> Result<(), WriteFault>
-    ensures { Writes W.contents W.has_failed sink.old sink.new result (text_page shown.now) }
-{
-    push_entries(sink, shown)?;
-    if is_any_drawn(shown) {
-        push_legend(sink)?;
-    }
-    Ok(())
-}
-
-fn push_entries<W: Sink>(sink: &mut W, shown: &[Shown<'_>]) -> Result<(), WriteFault>
-    ensures { Writes W.contents W.has_failed sink.old sink.new result (text_entries shown.now) }
-{
-    for entry in shown {
-        push_entry(sink, entry)?;
-    }
-    Ok(())
-}
-
-fn is_any_drawn(shown: &[Shown<'_>]) -> bool
-    ensures { result ≡ list_any has_picture shown.now }
-{
-    shown.iter().any(|entry| has_picture(entry))
-}
-
-fn has_picture(shown: &Shown<'_>) -> bool
-    ensures { result ≡ has_picture shown.now }
-{
-    !shown.picture.is_empty()
-}
-
-fn push_legend<W: Sink>(sink: &mut W) -> Result<(), WriteFault>
+/// Writes what the signs of pictures mean.
+pub fn push_legend<W: Sink>(sink: &mut W) -> Result<(), WriteFault>
     ensures { Writes W.contents W.has_failed sink.old sink.new result legend }
 {
-    push_all(
-        sink,
-        b"\n       signs: d descriptor, # block, area or module, . free, ~ what an area may grow by, not to scale,\n",
-    )?;
-    push_all(
-        sink,
-        b"       p page pool, w private word, ^ under what has changed\n",
-    )?;
-    Ok(())
+    push_all(sink, b"\n")?;
+    push_bar_legend(sink, ANSWER)
 }
 
-fn push_entry<W: Sink>(sink: &mut W, shown: &Shown<'_>) -> Result<(), WriteFault>
+/// Writes an entry: each line under its number, its answer under it, what the guest printed after a
+/// colon, and after an equals sign how many steps it took, if more than one. Unprintable bytes
+/// stand as `\x1B`.
+pub fn push_entry<W: Sink>(sink: &mut W, shown: &Shown<'_>) -> Result<(), WriteFault>
     ensures { Writes W.contents W.has_failed sink.old sink.new result (text_entry shown.now) }
 {
     push_numbered(sink, shown.number, shown.lines)?;
@@ -80,6 +41,7 @@ fn push_entry<W: Sink>(sink: &mut W, shown: &Shown<'_>) -> Result<(), WriteFault
 }
 
 // The lines of a text, each under its number.
+#[tactic(auto, using(crate::proofs::TextLemmas::text_steps))]
 fn push_numbered<W: Sink>(sink: &mut W, first: usize, text: &[u8]) -> Result<(), WriteFault>
     ensures { Writes W.contents W.has_failed sink.old sink.new result
         (numbered_lines first (lines text.now)) }
@@ -127,6 +89,7 @@ fn blanks_before(digits: &[u8]) -> &'static [u8]
 }
 
 // The lines of a text, each after these signs.
+#[tactic(auto, using(crate::proofs::TextLemmas::text_steps))]
 fn push_behind<W: Sink>(sink: &mut W, front: &[u8], text: &[u8]) -> Result<(), WriteFault>
     ensures { Writes W.contents W.has_failed sink.old sink.new result
         (lines_behind front.now (lines text.now)) }

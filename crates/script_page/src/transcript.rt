@@ -1,9 +1,9 @@
-//! The page as a transcript: each line that is typed, and the answers below it, so that a program
-//! can run it again and compare.
+//! An entry of a page as a part of a transcript: the lines that are typed, and the answers below
+//! them, so that a program can run it again and compare.
 
 ghost use Rattle.std.specs.Prelude.{◌≡◌, true};
 ghost use Rattle.profile.specs.Output.{Writes};
-ghost use Rattle.script_page.specs.Transcript.{end_text, sign_of, spelt_from, spelt_in, transcript, transcript_entry};
+ghost use Rattle.script_page.specs.Transcript.{end_text, sign_of, spelt_from, spelt_in, transcript_entry};
 
 use crate::entry::Entry;
 use profile::{Sink, WriteFault, push_all};
@@ -18,19 +18,9 @@ pub enum Side {
     Told,
 }
 
-/// Writes the entries as a transcript: `> ` before what is typed, answers as they are, and
+/// Writes an entry as a part of a transcript: `> ` before what is typed, answers as they are, and
 /// unprintable bytes as `\x1B`. A line without an end has `\` after it.
-#[tactic(auto, using(crate::proofs::TextLemmas::text_steps))]
-pub fn push_transcript<W: Sink>(sink: &mut W, entries: &[Entry<'_>]) -> Result<(), WriteFault>
-    ensures { Writes W.contents W.has_failed sink.old sink.new result (transcript entries.now) }
-{
-    for entry in entries {
-        push_entry(sink, entry)?;
-    }
-    Ok(())
-}
-
-fn push_entry<W: Sink>(sink: &mut W, entry: &Entry<'_>) -> Result<(), WriteFault>
+pub fn push_entry<W: Sink>(sink: &mut W, entry: &Entry<'_>) -> Result<(), WriteFault>
     ensures { Writes W.contents W.has_failed sink.old sink.new result (transcript_entry entry.now) }
 {
     push_side(sink, Side::Typed, entry.lines)?;

@@ -2,21 +2,21 @@
 //! hand.
 
 use profile::Config;
-use script_page::{PageForm, Setting, page_of, push_page};
+use script_page::{PageForm, Setting, push_page};
 use std::process::Abort;
 use std::test::Fail;
-use view_pictures::{TextSink, view_of};
+use view_items::{TextSink, view_of};
 
 /// Of 774,144 bytes, 65,536 have 5 characters of 60, and the 173 pages of the pool have 54; what
 /// the area may grow by has 4 always. No room is left for the address of that after the area's own.
 const AREAS_PAGE: &str = "    1  AREAS
        area 1 base 01800000 size 65536 max 4194304 RMA
        pool 173 pages
-       |#####|~~~~|pppppppppppppppppppppppppppppppppppppppppppppppppppppp|
+       |#####|~~~~/pppppppppppppppppppppppppppppppppppppppppppppppppppppp|
         1800000
 
-       signs: d descriptor, # block, area or module, . free, ~ what an area may grow by, not to scale,
-       p page pool, w private word, ^ under what has changed
+       signs: d descriptor, # block, area or module, . free, p page pool, w private word,
+       ~ what an area may grow by, / ends a box that is not to scale, ^ under what has changed
 ";
 
 /// A byte that has changed since the last look at the same address is marked.
@@ -29,8 +29,8 @@ const MEM_PAGE: &str = "    1  POKE &9000 &12345678
        00009000: 78 56 00 12
        changed         ^^
 
-       signs: d descriptor, # block, area or module, . free, ~ what an area may grow by, not to scale,
-       p page pool, w private word, ^ under what has changed
+       signs: d descriptor, # block, area or module, . free, p page pool, w private word,
+       ~ what an area may grow by, / ends a box that is not to scale, ^ under what has changed
 ";
 
 /// Of 112 bytes, 20 have 10 characters of 60, 12 have 6, and the room after them 42; then of 120
@@ -81,8 +81,8 @@ const FLEX_PAGE: &str = "    1  SET R0 &A000
        0000A014 room grown
        0000A008 block gone
 
-       signs: d descriptor, # block, area or module, . free, ~ what an area may grow by, not to scale,
-       p page pool, w private word, ^ under what has changed
+       signs: d descriptor, # block, area or module, . free, p page pool, w private word,
+       ~ what an area may grow by, / ends a box that is not to scale, ^ under what has changed
 ";
 
 /// The second block has its anchor in the last four bytes of the first.
@@ -113,8 +113,8 @@ const MODULES_PAGE: &str = "    1  ASM w 0
        |####################################################|wwwwwww|
         1800014                                              1C02000
 
-       signs: d descriptor, # block, area or module, . free, ~ what an area may grow by, not to scale,
-       p page pool, w private word, ^ under what has changed
+       signs: d descriptor, # block, area or module, . free, p page pool, w private word,
+       ~ what an area may grow by, / ends a box that is not to scale, ^ under what has changed
 ";
 
 /// The program prints A and ends; nothing stands after what it prints.
@@ -140,9 +140,8 @@ fn page(rt: &(impl AllocGlobal + Abort), script: &str, form: PageForm) -> TextSi
         config: Config::new(256, 64, 16).expect(rt, "sizes that a machine can have"),
         budget: 1000,
     };
-    let page = page_of(rt.alloc(), script.as_bytes(), &setting).expect(rt, "memory");
     let mut sink = TextSink::new(rt.alloc());
-    push_page(rt.alloc(), &mut sink, page.entries.as_slice(), form).expect(rt, "memory");
+    push_page(rt.alloc(), &mut sink, script.as_bytes(), &setting, form).expect(rt, "memory");
     sink
 }
 

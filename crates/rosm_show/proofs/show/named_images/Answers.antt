@@ -12,4 +12,4 @@ loop-n-preserved c =
     named_more c.args.files.now c.loop-n.n c.get.result.now image.name.now (names_in old) (names_in c.push.new.self.items)
     c.loop-n.invariant
     (ap names_in c.in-Ok.ensures.items ∙ map-append (λ (i : NamedImage). Some i.name.now) old (image ∷ []))
-    c.in_ok-image.ensures c.get.ensures
+    c.in_ok-image.ensures.name c.get.ensures

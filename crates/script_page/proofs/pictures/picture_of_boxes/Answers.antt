@@ -1,0 +1,8 @@
+use Rattle.std.proofs.Common.{rules}
+use Rattle.script_page.proofs.PictureLemmas.{of_boxes}
+use Rattle.script_page.proofs.pictures.picture_of_boxes.Goals as goal
+
+-- the boxes are the items'
+pub returns-in-Ok : goal.returns-in-Ok
+returns-in-Ok c =
+    of_boxes _ _ _ _ _ c.in_ok-layout.layout (search rules) c.requires (search rules) (search rules) (search rules) (search rules)
