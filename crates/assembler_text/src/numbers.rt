@@ -1,7 +1,7 @@
 //! Numbers and immediate operands.
 
-ghost use Rattle.std.specs.Prelude.{◌≡◌, ◌≤◌, ◌<◌, true, IfSome, OnOk, OnErr};
-ghost use Rattle.std.specs.Io.KnownBytes.{Appends};
+ghost use Rattle.std.specs.Prelude.{◌≡◌, ◌≤◌, ◌<◌, true, IfSome};
+ghost use Rattle.arm_decode.specs.profile.specs.Output.{Writes};
 ghost use Rattle.assembler_text.specs.Numbers.{gives, immediate_text, is_field, least_rotation, rotated_back};
 
 use arm_decode::profile::shift::rotate_right;
@@ -15,10 +15,7 @@ pub(crate) fn push_immediate<W: Sink>(
     sink: &mut W,
 ) -> Result<(), WriteFault>
     requires { rotation < 16 }
-    ensures text { OnOk result (Appends (W.contents sink.old) (W.contents sink.new)
-        (immediate_text rotation byte)) }
-    ensures flag { OnErr result (W.has_failed sink.new ≡ true) }
-    ensures same_flag { OnOk result (W.has_failed sink.new ≡ W.has_failed sink.old) }
+    ensures { Writes W.contents W.has_failed sink.old sink.new result (immediate_text rotation byte) }
 {
     let value = rotate_right(u32::from(byte), 2 * rotation);
     if is_field(least_rotation(value), rotation) {

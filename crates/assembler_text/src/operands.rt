@@ -1,7 +1,7 @@
 //! The operands of data processing.
 
-ghost use Rattle.std.specs.Prelude.{◌≡◌, ◌≤◌, true, OnOk, OnErr};
-ghost use Rattle.std.specs.Io.KnownBytes.{Appends};
+ghost use Rattle.std.specs.Prelude.{◌≡◌, ◌≤◌, true};
+ghost use Rattle.arm_decode.specs.profile.specs.Output.{Writes};
 ghost use Rattle.assembler_text.specs.Operands.{amount_text, by_register_text, operand_text, shifted_text, shifting_text};
 
 use crate::names::{RegisterName, shift_text};
@@ -12,9 +12,7 @@ use itoa::Buffer;
 
 /// Writes the second operand of data processing.
 pub(crate) fn push_operand<W: Sink>(operand: Operand, sink: &mut W) -> Result<(), WriteFault>
-    ensures text { OnOk result (Appends (W.contents sink.old) (W.contents sink.new) (operand_text operand)) }
-    ensures flag { OnErr result (W.has_failed sink.new ≡ true) }
-    ensures same_flag { OnOk result (W.has_failed sink.new ≡ W.has_failed sink.old) }
+    ensures { Writes W.contents W.has_failed sink.old sink.new result (operand_text operand) }
 {
     match operand {
         Operand::Immediate { rotation, byte } => push_immediate(rotation.number(), byte, sink),
@@ -28,9 +26,7 @@ pub(crate) fn push_shifted<W: Sink>(
     shifted: ShiftedRegister,
     sink: &mut W,
 ) -> Result<(), WriteFault>
-    ensures text { OnOk result (Appends (W.contents sink.old) (W.contents sink.new) (shifted_text shifted)) }
-    ensures flag { OnErr result (W.has_failed sink.new ≡ true) }
-    ensures same_flag { OnOk result (W.has_failed sink.new ≡ W.has_failed sink.old) }
+    ensures { Writes W.contents W.has_failed sink.old sink.new result (shifted_text shifted) }
 {
     let ShiftedRegister { rm, shift, amount } = shifted;
     push_all(sink, RegisterName::of(rm).as_slice())?;
@@ -39,10 +35,7 @@ pub(crate) fn push_shifted<W: Sink>(
 
 // What follows a register that is shifted by the number in the instruction.
 fn push_shifting<W: Sink>(shift: Shift, amount: u32, sink: &mut W) -> Result<(), WriteFault>
-    ensures text { OnOk result (Appends (W.contents sink.old) (W.contents sink.new)
-        (shifting_text shift amount)) }
-    ensures flag { OnErr result (W.has_failed sink.new ≡ true) }
-    ensures same_flag { OnOk result (W.has_failed sink.new ≡ W.has_failed sink.old) }
+    ensures { Writes W.contents W.has_failed sink.old sink.new result (shifting_text shift amount) }
 {
     match shift {
         Shift::LogicalLeft if amount == 0 => Ok(()),
@@ -54,10 +47,7 @@ fn push_shifting<W: Sink>(shift: Shift, amount: u32, sink: &mut W) -> Result<(),
 
 // `,LSL #n`
 fn push_amount<W: Sink>(shift: Shift, amount: u32, sink: &mut W) -> Result<(), WriteFault>
-    ensures text { OnOk result (Appends (W.contents sink.old) (W.contents sink.new)
-        (amount_text shift amount)) }
-    ensures flag { OnErr result (W.has_failed sink.new ≡ true) }
-    ensures same_flag { OnOk result (W.has_failed sink.new ≡ W.has_failed sink.old) }
+    ensures { Writes W.contents W.has_failed sink.old sink.new result (amount_text shift amount) }
 {
     let mut digits = Buffer::new();
     push_parts(
@@ -78,10 +68,7 @@ fn push_by_register<W: Sink>(
     rs: Register,
     sink: &mut W,
 ) -> Result<(), WriteFault>
-    ensures text { OnOk result (Appends (W.contents sink.old) (W.contents sink.new)
-        (by_register_text rm shift rs)) }
-    ensures flag { OnErr result (W.has_failed sink.new ≡ true) }
-    ensures same_flag { OnOk result (W.has_failed sink.new ≡ W.has_failed sink.old) }
+    ensures { Writes W.contents W.has_failed sink.old sink.new result (by_register_text rm shift rs) }
 {
     push_parts(
         sink,

@@ -1,7 +1,7 @@
 //! The one text of each word.
 
-ghost use Rattle.std.specs.Prelude.{◌≡◌, ◌<◌, ◌^◌, true, OnOk, OnErr};
-ghost use Rattle.std.specs.Io.KnownBytes.{Appends};
+ghost use Rattle.std.specs.Prelude.{◌≡◌, ◌<◌, ◌^◌, true};
+ghost use Rattle.arm_decode.specs.profile.specs.Output.{Writes};
 ghost use Rattle.assembler_text.specs.Printing.{action_text, branch_target, branch_text, data_text, flags_text, swi_text, multiply_head, multiply_operands, multiply_text, operate_head, operate_text, print, operate_registers_text};
 
 use crate::names::{RegisterName, choose_text, condition_text, operation_text, text_if};
@@ -13,9 +13,7 @@ use arm_decode::{Action, Condition, Multiply, Operate, Operation, decode};
 /// Writes the text of a word at its address: its instruction, or, where it is no instruction,
 /// `DCD &` and eight digits.
 pub fn disassemble<W: Sink>(word: u32, address: u32, sink: &mut W) -> Result<(), WriteFault>
-    ensures text { OnOk result (Appends (W.contents sink.old) (W.contents sink.new) (print word address)) }
-    ensures flag { OnErr result (W.has_failed sink.new ≡ true) }
-    ensures same_flag { OnOk result (W.has_failed sink.new ≡ W.has_failed sink.old) }
+    ensures { Writes W.contents W.has_failed sink.old sink.new result (print word address) }
 {
     match decode(word) {
         Ok(instr) => push_action(address, instr.condition(), instr.action(), sink),
@@ -24,9 +22,7 @@ pub fn disassemble<W: Sink>(word: u32, address: u32, sink: &mut W) -> Result<(),
 }
 
 fn push_data<W: Sink>(word: u32, sink: &mut W) -> Result<(), WriteFault>
-    ensures text { OnOk result (Appends (W.contents sink.old) (W.contents sink.new) (data_text word)) }
-    ensures flag { OnErr result (W.has_failed sink.new ≡ true) }
-    ensures same_flag { OnOk result (W.has_failed sink.new ≡ W.has_failed sink.old) }
+    ensures { Writes W.contents W.has_failed sink.old sink.new result (data_text word) }
 {
     push_parts(sink, &[b"DCD &".as_slice(), HexText::word(word).as_slice()])
 }
@@ -37,10 +33,8 @@ fn push_action<W: Sink>(
     action: Action,
     sink: &mut W,
 ) -> Result<(), WriteFault>
-    ensures text { OnOk result (Appends (W.contents sink.old) (W.contents sink.new)
-        (action_text address condition action)) }
-    ensures flag { OnErr result (W.has_failed sink.new ≡ true) }
-    ensures same_flag { OnOk result (W.has_failed sink.new ≡ W.has_failed sink.old) }
+    ensures { Writes W.contents W.has_failed sink.old sink.new result
+        (action_text address condition action) }
 {
     match action {
         Action::Operate(operate) => push_operate(condition, &operate, sink),
@@ -60,10 +54,7 @@ fn push_operate<W: Sink>(
     operate: &Operate,
     sink: &mut W,
 ) -> Result<(), WriteFault>
-    ensures text { OnOk result (Appends (W.contents sink.old) (W.contents sink.new)
-        (operate_text condition operate.now)) }
-    ensures flag { OnErr result (W.has_failed sink.new ≡ true) }
-    ensures same_flag { OnOk result (W.has_failed sink.new ≡ W.has_failed sink.old) }
+    ensures { Writes W.contents W.has_failed sink.old sink.new result (operate_text condition operate.now) }
 {
     push_operate_head(condition, operate, sink)?;
     push_registers(operate, sink)?;
@@ -76,10 +67,7 @@ fn push_operate_head<W: Sink>(
     operate: &Operate,
     sink: &mut W,
 ) -> Result<(), WriteFault>
-    ensures text { OnOk result (Appends (W.contents sink.old) (W.contents sink.new)
-        (operate_head condition operate.now)) }
-    ensures flag { OnErr result (W.has_failed sink.new ≡ true) }
-    ensures same_flag { OnOk result (W.has_failed sink.new ≡ W.has_failed sink.old) }
+    ensures { Writes W.contents W.has_failed sink.old sink.new result (operate_head condition operate.now) }
 {
     push_parts(
         sink,
@@ -104,10 +92,7 @@ fn flags_text(operate: &Operate) -> &'static [u8]
 
 // `Rn,` of a test, `Rd,` of MOV and MVN, else `Rd,Rn,`
 fn push_registers<W: Sink>(operate: &Operate, sink: &mut W) -> Result<(), WriteFault>
-    ensures text { OnOk result (Appends (W.contents sink.old) (W.contents sink.new)
-        (operate_registers_text operate.now)) }
-    ensures flag { OnErr result (W.has_failed sink.new ≡ true) }
-    ensures same_flag { OnOk result (W.has_failed sink.new ≡ W.has_failed sink.old) }
+    ensures { Writes W.contents W.has_failed sink.old sink.new result (operate_registers_text operate.now) }
 {
     let rd = RegisterName::of(operate.rd);
     let rn = RegisterName::of(operate.rn);
@@ -133,10 +118,8 @@ fn push_multiply<W: Sink>(
     multiply: &Multiply,
     sink: &mut W,
 ) -> Result<(), WriteFault>
-    ensures text { OnOk result (Appends (W.contents sink.old) (W.contents sink.new)
-        (multiply_text condition multiply.now)) }
-    ensures flag { OnErr result (W.has_failed sink.new ≡ true) }
-    ensures same_flag { OnOk result (W.has_failed sink.new ≡ W.has_failed sink.old) }
+    ensures { Writes W.contents W.has_failed sink.old sink.new result
+        (multiply_text condition multiply.now) }
 {
     push_multiply_head(condition, multiply, sink)?;
     push_multiply_operands(multiply, sink)
@@ -148,10 +131,8 @@ fn push_multiply_head<W: Sink>(
     multiply: &Multiply,
     sink: &mut W,
 ) -> Result<(), WriteFault>
-    ensures text { OnOk result (Appends (W.contents sink.old) (W.contents sink.new)
-        (multiply_head condition multiply.now)) }
-    ensures flag { OnErr result (W.has_failed sink.new ≡ true) }
-    ensures same_flag { OnOk result (W.has_failed sink.new ≡ W.has_failed sink.old) }
+    ensures { Writes W.contents W.has_failed sink.old sink.new result
+        (multiply_head condition multiply.now) }
 {
     push_parts(
         sink,
@@ -166,10 +147,7 @@ fn push_multiply_head<W: Sink>(
 
 // `Rd,Rm,Rs`, and of MLA `,Rn`
 fn push_multiply_operands<W: Sink>(multiply: &Multiply, sink: &mut W) -> Result<(), WriteFault>
-    ensures text { OnOk result (Appends (W.contents sink.old) (W.contents sink.new)
-        (multiply_operands multiply.now)) }
-    ensures flag { OnErr result (W.has_failed sink.new ≡ true) }
-    ensures same_flag { OnOk result (W.has_failed sink.new ≡ W.has_failed sink.old) }
+    ensures { Writes W.contents W.has_failed sink.old sink.new result (multiply_operands multiply.now) }
 {
     let rn = RegisterName::of(multiply.rn);
     push_parts(
@@ -192,10 +170,7 @@ fn push_branch<W: Sink>(
     target: u32,
     sink: &mut W,
 ) -> Result<(), WriteFault>
-    ensures text { OnOk result (Appends (W.contents sink.old) (W.contents sink.new)
-        (branch_text condition links target)) }
-    ensures flag { OnErr result (W.has_failed sink.new ≡ true) }
-    ensures same_flag { OnOk result (W.has_failed sink.new ≡ W.has_failed sink.old) }
+    ensures { Writes W.contents W.has_failed sink.old sink.new result (branch_text condition links target) }
 {
     push_parts(
         sink,
@@ -217,10 +192,7 @@ fn branch_target(address: u32, distance: u32) -> u32
 }
 
 fn push_swi<W: Sink>(condition: Condition, number: u32, sink: &mut W) -> Result<(), WriteFault>
-    ensures text { OnOk result (Appends (W.contents sink.old) (W.contents sink.new)
-        (swi_text condition number)) }
-    ensures flag { OnErr result (W.has_failed sink.new ≡ true) }
-    ensures same_flag { OnOk result (W.has_failed sink.new ≡ W.has_failed sink.old) }
+    ensures { Writes W.contents W.has_failed sink.old sink.new result (swi_text condition number) }
 {
     push_parts(
         sink,

@@ -1,7 +1,7 @@
 //! Single and block data transfers.
 
-ghost use Rattle.std.specs.Prelude.{◌≡◌, ◌≤◌, ◌<◌, ◌&&◌, true, not, IfOk, OnOk, OnErr};
-ghost use Rattle.std.specs.Io.KnownBytes.{Appends};
+ghost use Rattle.std.specs.Prelude.{◌≡◌, ◌≤◌, ◌<◌, ◌&&◌, true, not, IfOk};
+ghost use Rattle.arm_decode.specs.profile.specs.Output.{Writes};
 ghost use Rattle.arm_decode.specs.profile.specs.Word.{bit_of};
 ghost use Rattle.assembler_text.specs.Transfers.{operand_address_text, after_text, base_text, before_text, block_head, block_transfer_text, braces_text, close_text, is_nothing, listed_piece, listed_text, offset_text, sign_text, transfer_head, transfer_text, is_user};
 
@@ -19,10 +19,8 @@ pub(crate) fn push_transfer<W: Sink>(
     transfer: &Transfer,
     sink: &mut W,
 ) -> Result<(), WriteFault>
-    ensures text { OnOk result (Appends (W.contents sink.old) (W.contents sink.new)
-        (transfer_text condition transfer.now)) }
-    ensures flag { OnErr result (W.has_failed sink.new ≡ true) }
-    ensures same_flag { OnOk result (W.has_failed sink.new ≡ W.has_failed sink.old) }
+    ensures { Writes W.contents W.has_failed sink.old sink.new result
+        (transfer_text condition transfer.now) }
 {
     push_transfer_head(condition, transfer, sink)?;
     push_address(&transfer.address, sink)
@@ -34,10 +32,8 @@ fn push_transfer_head<W: Sink>(
     transfer: &Transfer,
     sink: &mut W,
 ) -> Result<(), WriteFault>
-    ensures text { OnOk result (Appends (W.contents sink.old) (W.contents sink.new)
-        (transfer_head condition transfer.now)) }
-    ensures flag { OnErr result (W.has_failed sink.new ≡ true) }
-    ensures same_flag { OnOk result (W.has_failed sink.new ≡ W.has_failed sink.old) }
+    ensures { Writes W.contents W.has_failed sink.old sink.new result
+        (transfer_head condition transfer.now) }
 {
     push_parts(
         sink,
@@ -63,10 +59,7 @@ fn is_user(indexing: Indexing) -> bool
 }
 
 fn push_address<W: Sink>(address: &Address, sink: &mut W) -> Result<(), WriteFault>
-    ensures text { OnOk result (Appends (W.contents sink.old) (W.contents sink.new)
-        (operand_address_text address.now)) }
-    ensures flag { OnErr result (W.has_failed sink.new ≡ true) }
-    ensures same_flag { OnOk result (W.has_failed sink.new ≡ W.has_failed sink.old) }
+    ensures { Writes W.contents W.has_failed sink.old sink.new result (operand_address_text address.now) }
 {
     match address.indexing {
         Indexing::Pre { writes_back } => push_before(writes_back, address, sink),
@@ -80,10 +73,8 @@ fn push_before<W: Sink>(
     address: &Address,
     sink: &mut W,
 ) -> Result<(), WriteFault>
-    ensures text { OnOk result (Appends (W.contents sink.old) (W.contents sink.new)
-        (before_text writes_back address.now)) }
-    ensures flag { OnErr result (W.has_failed sink.new ≡ true) }
-    ensures same_flag { OnOk result (W.has_failed sink.new ≡ W.has_failed sink.old) }
+    ensures { Writes W.contents W.has_failed sink.old sink.new result
+        (before_text writes_back address.now) }
 {
     if !writes_back && is_nothing(address.direction, address.offset) {
         return push_base(address.rn, b"]", sink);
@@ -95,10 +86,7 @@ fn push_before<W: Sink>(
 
 // `[Rn],offset`
 fn push_after<W: Sink>(address: &Address, sink: &mut W) -> Result<(), WriteFault>
-    ensures text { OnOk result (Appends (W.contents sink.old) (W.contents sink.new)
-        (after_text address.now)) }
-    ensures flag { OnErr result (W.has_failed sink.new ≡ true) }
-    ensures same_flag { OnOk result (W.has_failed sink.new ≡ W.has_failed sink.old) }
+    ensures { Writes W.contents W.has_failed sink.old sink.new result (after_text address.now) }
 {
     push_base(address.rn, b"],", sink)?;
     push_offset(address.direction, address.offset, sink)
@@ -106,10 +94,7 @@ fn push_after<W: Sink>(address: &Address, sink: &mut W) -> Result<(), WriteFault
 
 // `[Rn` and what follows it
 fn push_base<W: Sink>(rn: Register, after: &[u8], sink: &mut W) -> Result<(), WriteFault>
-    ensures text { OnOk result (Appends (W.contents sink.old) (W.contents sink.new)
-        (base_text rn after.now)) }
-    ensures flag { OnErr result (W.has_failed sink.new ≡ true) }
-    ensures same_flag { OnOk result (W.has_failed sink.new ≡ W.has_failed sink.old) }
+    ensures { Writes W.contents W.has_failed sink.old sink.new result (base_text rn after.now) }
 {
     push_parts(
         sink,
@@ -118,10 +103,7 @@ fn push_base<W: Sink>(rn: Register, after: &[u8], sink: &mut W) -> Result<(), Wr
 }
 
 fn push_close<W: Sink>(writes_back: bool, sink: &mut W) -> Result<(), WriteFault>
-    ensures text { OnOk result (Appends (W.contents sink.old) (W.contents sink.new)
-        (close_text writes_back)) }
-    ensures flag { OnErr result (W.has_failed sink.new ≡ true) }
-    ensures same_flag { OnOk result (W.has_failed sink.new ≡ W.has_failed sink.old) }
+    ensures { Writes W.contents W.has_failed sink.old sink.new result (close_text writes_back) }
 {
     push_parts(sink, &[b"]".as_slice(), text_if(writes_back, b"!")])
 }
@@ -142,10 +124,7 @@ fn push_offset<W: Sink>(
     offset: Offset,
     sink: &mut W,
 ) -> Result<(), WriteFault>
-    ensures text { OnOk result (Appends (W.contents sink.old) (W.contents sink.new)
-        (offset_text direction offset)) }
-    ensures flag { OnErr result (W.has_failed sink.new ≡ true) }
-    ensures same_flag { OnOk result (W.has_failed sink.new ≡ W.has_failed sink.old) }
+    ensures { Writes W.contents W.has_failed sink.old sink.new result (offset_text direction offset) }
 {
     match offset {
         Offset::Immediate(number) => {
@@ -181,10 +160,8 @@ pub(crate) fn push_block<W: Sink>(
     block: &BlockTransfer,
     sink: &mut W,
 ) -> Result<(), WriteFault>
-    ensures text { OnOk result (Appends (W.contents sink.old) (W.contents sink.new)
-        (block_transfer_text condition block.now)) }
-    ensures flag { OnErr result (W.has_failed sink.new ≡ true) }
-    ensures same_flag { OnOk result (W.has_failed sink.new ≡ W.has_failed sink.old) }
+    ensures { Writes W.contents W.has_failed sink.old sink.new result
+        (block_transfer_text condition block.now) }
 {
     push_block_head(condition, block, sink)?;
     push_braces(block, sink)
@@ -196,10 +173,7 @@ fn push_block_head<W: Sink>(
     block: &BlockTransfer,
     sink: &mut W,
 ) -> Result<(), WriteFault>
-    ensures text { OnOk result (Appends (W.contents sink.old) (W.contents sink.new)
-        (block_head condition block.now)) }
-    ensures flag { OnErr result (W.has_failed sink.new ≡ true) }
-    ensures same_flag { OnOk result (W.has_failed sink.new ≡ W.has_failed sink.old) }
+    ensures { Writes W.contents W.has_failed sink.old sink.new result (block_head condition block.now) }
 {
     push_parts(
         sink,
@@ -217,9 +191,7 @@ fn push_block_head<W: Sink>(
 
 // `{R0,R1}^`
 fn push_braces<W: Sink>(block: &BlockTransfer, sink: &mut W) -> Result<(), WriteFault>
-    ensures text { OnOk result (Appends (W.contents sink.old) (W.contents sink.new) (braces_text block.now)) }
-    ensures flag { OnErr result (W.has_failed sink.new ≡ true) }
-    ensures same_flag { OnOk result (W.has_failed sink.new ≡ W.has_failed sink.old) }
+    ensures { Writes W.contents W.has_failed sink.old sink.new result (braces_text block.now) }
 {
     push_all(sink, b"{")?;
     push_listed(block.list, sink)?;
@@ -228,9 +200,7 @@ fn push_braces<W: Sink>(block: &BlockTransfer, sink: &mut W) -> Result<(), Write
 
 // The registers of a list, with commas between them.
 fn push_listed<W: Sink>(list: RegisterList, sink: &mut W) -> Result<(), WriteFault>
-    ensures text { OnOk result (Appends (W.contents sink.old) (W.contents sink.new) (listed_text list)) }
-    ensures flag { OnErr result (W.has_failed sink.new ≡ true) }
-    ensures same_flag { OnOk result (W.has_failed sink.new ≡ W.has_failed sink.old) }
+    ensures { Writes W.contents W.has_failed sink.old sink.new result (listed_text list) }
 {
     let mut is_first = true;
     for number in 0..16u8 {
@@ -248,11 +218,9 @@ fn push_register<W: Sink>(
     sink: &mut W,
 ) -> Result<bool, WriteFault>
     requires { number < 16 }
-    ensures text { OnOk result (Appends (W.contents sink.old) (W.contents sink.new)
-        (listed_piece list number is_first)) }
+    ensures writes { Writes W.contents W.has_failed sink.old sink.new result
+        (listed_piece list number is_first) }
     ensures is_first { IfOk result (λ b. b ≡ (is_first && not (bit_of list number))) }
-    ensures flag { OnErr result (W.has_failed sink.new ≡ true) }
-    ensures same_flag { OnOk result (W.has_failed sink.new ≡ W.has_failed sink.old) }
 {
     let register = Register::new(number);
     if !list.contains(register) {

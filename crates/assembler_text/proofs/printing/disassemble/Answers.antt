@@ -3,10 +3,10 @@ use Rattle.std.proofs.Common.{rules}
 use Rattle.assembler_text.specs.Printing.{print}
 use Rattle.assembler_text.proofs.printing.disassemble.Goals as goal
 
-pub returns-in-Ok-clause-text : goal.returns-in-Ok-clause-text
+pub returns-in-Ok : goal.returns-in-Ok
 unfolding print
-returns-in-Ok-clause-text g c = search rules
+returns-in-Ok g c = search rules
 
-pub returns-in-Err-clause-text : goal.returns-in-Err-clause-text
+pub returns-in-Err : goal.returns-in-Err
 unfolding print
-returns-in-Err-clause-text g c = search rules
+returns-in-Err g c = search rules

@@ -9,5 +9,5 @@ loop-number-init g c = grind (arith, listed_steps)
 pub loop-number-preserved : goal.loop-number-preserved
 loop-number-preserved g c = grind (arith, listed_steps)
 
-pub returns-clause-text : goal.returns-clause-text
-returns-clause-text g c = grind (arith, listed_steps)
+pub returns : goal.returns
+returns g c = grind (arith, listed_steps)
