@@ -39,7 +39,8 @@ use Rattle.command_shell.specs.Stepping.{breaks_changed}
 use Rattle.command_shell.specs.Views.{flex_told, heap_told, shown_or}
 use Rattle.command_shell.specs.declared.calls.CallEnd.{CallEnd}
 use Rattle.command_shell.specs.declared.calls.CallEnd.TheVariants as end
-use Rattle.command_shell.proofs.FrontLemmas.{IsFront-same, IsFront-is, IsFront-then}
+use Rattle.profile.specs.Output.{AddsFront}
+use Rattle.command_shell.proofs.FrontLemmas.{AddsFront-start, IsFront-same, IsFront-is, IsFront-then}
 use Rattle.command_shell.proofs.ScriptLemmas.{state_step}
 
 -- an answer after which all the images of before are there
@@ -277,3 +278,9 @@ pub none_added : (o : Option (List ℕ)) (sizes : Sizes) (images : List Entry) (
 none_added None sizes images budget = tt
 none_added (Some script) sizes images budget =
     record { keeps = IsFront-same images; in_order = script_keeps sizes images budget script }
+
+-- nothing is written yet
+pub none_written : (held : Option (List ℕ)) (o : Option (List ℕ)) (sizes : Sizes) (images : List Entry) (budget : ℕ)
+    → IfSome o (λ script. AddsFront held held (script_told sizes images budget script).text)
+none_written held None sizes images budget = tt
+none_written held (Some script) sizes images budget = AddsFront-start held (script_told sizes images budget script).text

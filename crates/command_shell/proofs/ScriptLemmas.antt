@@ -166,7 +166,7 @@ after_block-shorter (line ∷ rest) =
     elim (is_end_of_block line) as (λ b. length (if b then rest else after_block rest) ≤ length (line ∷ rest))
     [ true ↦ omega arith | false ↦ omega (arith, after_block-shorter rest) ]
 
-lines_after-shorter : (b : Bool) (rest : List (List ℕ)) → length (lines_after b rest) ≤ length rest
+pub lines_after-shorter : (b : Bool) (rest : List (List ℕ)) → length (lines_after b rest) ≤ length rest
 lines_after-shorter false rest = omega arith
 lines_after-shorter true rest = after_block-shorter rest
 

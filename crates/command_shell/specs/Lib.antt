@@ -10,3 +10,4 @@ pub mod Session
 pub mod State
 pub mod Stepping
 pub mod Views
+pub mod Whole

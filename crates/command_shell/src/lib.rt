@@ -4,6 +4,7 @@
 
 mod answers;
 mod calls;
+mod changing;
 mod error;
 mod fresh_session;
 mod images;
@@ -13,6 +14,7 @@ mod session;
 mod stepping;
 mod views;
 
+pub use answers::tell_unknown;
 pub use error::RunError;
 pub use script::{Summary, run_script};
 pub use session::Session;

@@ -1,12 +1,11 @@
 //! A script read whole and answered line by line on a fresh machine.
 
-ghost use Rattle.std.specs.Prelude.{◌≡◌, ◌+◌, ◌<◌, true, false, [], None, length, IfOk, IfErr, IfSome, IsErr, OnOk, OnErr};
-ghost use Rattle.std.specs.Io.KnownBytes.{Appends};
-ghost use Rattle.profile.specs.Pulls.{PullsAtMost};
+ghost use Rattle.std.specs.Prelude.{◌≡◌, ◌+◌, true, false, [], None, length, IfOk, IfErr, IfSome, OnOk, OnErr};
 ghost use Rattle.command_shell.specs.Error.{IsLineError};
 ghost use Rattle.profile.specs.Output.{AddsFront};
 ghost use Rattle.command_shell.specs.Fronts.{HasSome};
 ghost use Rattle.command_shell.specs.Script.{script_told};
+ghost use Rattle.command_shell.specs.Whole.{AnswersWhole};
 
 use crate::error::RunError;
 use crate::session::Session;
@@ -43,32 +42,13 @@ pub fn run_script<R: Source, W: Sink>(
     config: Config,
     budget: u64,
 ) -> Result<Summary, RunError>
-    ensures text { OnOk result (IfSome (R.remaining reader.old) (λ script.
-        Appends (W.contents writer.old) (W.contents writer.new)
-        (script_told config images.old budget script).text)) }
+    ensures answers { AnswersWhole R.remaining R.has_failed R.pulls W.contents W.has_failed
+        reader.old reader.new writer.old writer.new images.old images.new result
+        (script_told config images.old budget) }
     ensures last { IfOk result (λ summary. IfSome (R.remaining reader.old) (λ script.
         summary.last ≡ (script_told config images.old budget script).state.last)) }
     ensures left { IfOk result (λ summary. IfSome (R.remaining reader.old) (λ script.
         summary.left ≡ (script_told config images.old budget script).state.left)) }
-    ensures images { IfOk result (λ _. IfSome (R.remaining reader.old) (λ script.
-        images.new ≡ (script_told config images.old budget script).state.images)) }
-    ensures added { OnErr result (IfSome (R.remaining reader.old) (λ script.
-        HasSome images.old (script_told config images.old budget script).state.images images.new)) }
-    ensures memory { result ≡ Err RunError.Memory → IfSome (R.remaining reader.old) (λ script.
-        AddsFront (W.contents writer.old) (W.contents writer.new)
-        (script_told config images.old budget script).text) }
-    ensures told { R.has_failed reader.new ≡ true → result ≡ Err RunError.ReadFault }
-    ensures read_fault { result ≡ Err RunError.ReadFault
-        → (R.has_failed reader.new ≡ true) × (writer.new ≡ writer.old) × (images.new ≡ images.old) }
-    ensures write_told { W.has_failed writer.old ≡ false → W.has_failed writer.new ≡ true
-        → result ≡ Err RunError.WriteFault }
-    ensures write_fault { result ≡ Err RunError.WriteFault → W.has_failed writer.new ≡ true }
-    ensures too_long { result ≡ Err RunError.ScriptTooLong
-        → (writer.new ≡ writer.old) × (images.new ≡ images.old)
-        × IfSome (R.remaining reader.old) (λ script. 1048576 < length script) }
-    ensures never_long { IfSome (R.remaining reader.old) (λ script. 1048576 < length script → IsErr result) }
-    ensures same_flag { OnOk result (W.has_failed writer.new ≡ W.has_failed writer.old) }
-    ensures pulls { PullsAtMost (R.pulls reader.old) (R.pulls reader.new) 1048577 }
 {
     let script = read_script(alloc, reader)?;
     let Ok(machine) = Machine::new(alloc, config) else {

@@ -18,7 +18,7 @@ pub fn append_spelled(bytes: &mut Vec<u8>, line: &[u8]) -> Result<bool, AllocErr
             let Some((second, others)) = rest.split_first() else {
                 return Ok(false);
             };
-            let Some(byte) = pair(*first, *second) else {
+            let Some(byte) = hex_pair(*first, *second) else {
                 return Ok(false);
             };
             bytes.push(byte)?;
@@ -28,7 +28,8 @@ pub fn append_spelled(bytes: &mut Vec<u8>, line: &[u8]) -> Result<bool, AllocErr
     Ok(true)
 }
 
-fn pair(high: u8, low: u8) -> Option<u8>
+/// The byte that two hexadecimal digits spell, in either case.
+pub fn hex_pair(high: u8, low: u8) -> Option<u8>
     ensures { result ≡ pair_value high low }
 {
     let high = (high as char).to_digit(16)?;

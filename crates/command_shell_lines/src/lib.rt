@@ -12,8 +12,10 @@ mod whole_requests;
 
 pub use blocks::{Block, read_block, skip_block};
 pub use error::ReadingError;
-pub use operands::{Origin, RegisterNumber, WordAddress};
+pub use hex_pairs::hex_pair;
+pub use numbers::number_of;
+pub use operands::{Origin, RegisterNumber, WordAddress, count_up_to};
 pub use reading::read_script;
-pub use requests::{ScriptCommand, command_of};
+pub use requests::{ScriptCommand, command_of, is_block_end};
 pub use text_lines;
 pub use whole_requests::whole_request_bytes;

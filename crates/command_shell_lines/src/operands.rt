@@ -24,6 +24,14 @@ impl Model for RegisterNumber {
 }
 
 impl RegisterNumber {
+    /// The register of a number from 0 to 14.
+    pub fn new(number: u32) -> RegisterNumber
+        requires { number ≤ 14 }
+        ensures { result ≡ number }
+    {
+        RegisterNumber { number }
+    }
+
     /// The register of that name, `R0` to `R14`.
     pub fn named(word: &[u8]) -> Option<RegisterNumber>
         ensures { result ≡ cpu_register_named word.now }

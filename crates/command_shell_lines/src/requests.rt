@@ -72,7 +72,7 @@ impl ScriptCommand<'_> {
     ghost use Rattle.command_shell_lines.specs.Requests.{opens_block, request_of_command};
 
     /// Whether the lines that follow are a block of the line's own.
-    pub(crate) fn opens_block(&self) -> bool
+    pub fn opens_block(&self) -> bool
         ensures { result ≡ opens_block (request_of_command self.now) }
     {
         matches!(self, ScriptCommand::Hex(_) | ScriptCommand::Asm(_, _))

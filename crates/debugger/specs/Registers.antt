@@ -37,9 +37,14 @@ flag_letters p = flag_letter p.negative 78 ∷ flag_letter p.zero 90 ∷ flag_le
     ∷ flag_letter p.overflow 86
     ∷ flag_letter p.interrupts_off 73 ∷ flag_letter p.fast_interrupts_off 70 ∷ []
 
-unfoldable pub status_text : Psr → List ℕ
-status_text p = codes "PSR " ++ (flag_letters p ++ (codes " " ++ (mode_text p.mode ++ codes "\n")))
+-- `nzCvif USR`
+unfoldable pub flags_and_mode_text : Psr → List ℕ
+flags_and_mode_text p = flag_letters p ++ (codes " " ++ mode_text p.mode)
+
+-- `PSR nzCvif USR`
+abbrev pub status_text : Psr → List ℕ
+status_text p = codes "PSR " ++ flags_and_mode_text p
 
 abbrev pub cpu_registers_text : State → List ℕ
 cpu_registers_text s = row_text s 0 ++ (row_text s 4 ++ (row_text s 8
-    ++ (row_text s 12 ++ status_text s.psr)))
+    ++ (row_text s 12 ++ (status_text s.psr ++ codes "\n"))))

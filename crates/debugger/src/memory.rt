@@ -5,7 +5,7 @@ ghost use Rattle.address_map.specs.Bytes.{byte_loaded};
 ghost use Rattle.address_map.specs.Memory.{bytes_of};
 ghost use Rattle.profile.specs.Digits.{hex_digit};
 ghost use Rattle.profile.specs.Output.{Writes};
-ghost use Rattle.debugger.specs.Memory.{loaded_text, byte_text, bytes_text, line_text, memory_text};
+ghost use Rattle.debugger.specs.Memory.{hex_byte, loaded_text, byte_text, bytes_text, line_text, memory_text};
 ghost use Rattle.swi_dispatch_guest.specs.Parts.{state_of};
 
 use address_map::AddressMap;
@@ -83,9 +83,16 @@ fn digits_at(map: &AddressMap, address: u32) -> [u8; 2]
     ensures { result ≡ loaded_text (byte_loaded (bytes_of map.now) address) }
 {
     match map.load_byte(address) {
-        Ok(byte) => [digit(byte / 16), digit(byte % 16)],
+        Ok(byte) => hex_byte(byte),
         Err(_) => *b"--",
     }
+}
+
+/// The two digits of a byte in hexadecimal, in capitals.
+pub fn hex_byte(byte: u8) -> [u8; 2]
+    ensures { result ≡ hex_byte byte }
+{
+    [digit(byte / 16), digit(byte % 16)]
 }
 
 fn digit(value: u8) -> u8

@@ -1,11 +1,11 @@
 //! The view REGS: the registers of the present mode and the status.
 
-ghost use Rattle.std.specs.Prelude.{◌≡◌, ◌≤◌};
+ghost use Rattle.std.specs.Prelude.{◌≡◌, ◌≤◌, ◌++◌, codes};
 ghost use Rattle.profile.specs.Output.{Writes};
-ghost use Rattle.debugger.specs.Registers.{register_label, row_text, status_text, cpu_registers_text, flag_letter, flag_letters, mode_text};
+ghost use Rattle.debugger.specs.Registers.{register_label, row_text, flags_and_mode_text, status_text, cpu_registers_text, flag_letter, flag_letters, mode_text};
 ghost use Rattle.swi_dispatch_guest.specs.Parts.{state_of};
 
-use profile::{HexText, Sink, WriteFault, push_parts};
+use profile::{HexText, Sink, WriteFault, push_all, push_parts};
 use swi_dispatch::Machine;
 use swi_dispatch::arm_step::{Cpu, Mode, Psr};
 
@@ -53,16 +53,31 @@ fn show_row<W: Sink>(cpu: &Cpu, first: u32, sink: &mut W) -> Result<(), WriteFau
 }
 
 fn show_status<W: Sink>(psr: Psr, sink: &mut W) -> Result<(), WriteFault>
-    ensures { Writes W.contents W.has_failed sink.old sink.new result (status_text psr) }
+    ensures { Writes W.contents W.has_failed sink.old sink.new result (status_text psr ++ codes "\n") }
+{
+    push_status(sink, psr)?;
+    push_all(sink, b"\n")
+}
+
+/// Writes a status without a line end, `PSR nzCvif USR`: the flags and the mode, a set flag in
+/// capitals.
+pub fn push_status<W: Sink>(sink: &mut W, psr: Psr) -> Result<(), WriteFault>
+    ensures writes { Writes W.contents W.has_failed sink.old sink.new result (status_text psr) }
+{
+    push_all(sink, b"PSR ")?;
+    push_flags(sink, psr)
+}
+
+/// Writes the flags and the mode of a status, `nzCvif USR`, a set flag in capitals.
+pub fn push_flags<W: Sink>(sink: &mut W, psr: Psr) -> Result<(), WriteFault>
+    ensures writes { Writes W.contents W.has_failed sink.old sink.new result (flags_and_mode_text psr) }
 {
     push_parts(
         sink,
         &[
-            b"PSR ".as_slice(),
             letters(psr).as_slice(),
             b" ".as_slice(),
             mode_name(psr.mode).as_slice(),
-            b"\n".as_slice(),
         ],
     )
 }
@@ -99,7 +114,8 @@ fn letter(is_set: bool, capital: u8) -> u8
     if is_set { capital } else { capital + 32 }
 }
 
-fn mode_name(mode: Mode) -> [u8; 3]
+/// The mode's name: `USR`, `FIQ`, `IRQ` or `SVC`.
+pub fn mode_name(mode: Mode) -> [u8; 3]
     ensures { result ≡ mode_text mode }
 {
     match mode {

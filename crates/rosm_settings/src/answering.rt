@@ -1,11 +1,8 @@
 //! The program's run between its settings and its exit status: files, script, answers.
 
 ghost use Rattle.std.specs.Prelude.{◌≡◌, ◌<◌, false, true, length, Err, IfErr, IfOk, IfSome, IsErr, OnErr, OnOk};
-ghost use Rattle.std.specs.Io.KnownBytes.{Appends};
 ghost use Rattle.profile.specs.Devices.{device_failed, device_inner};
-ghost use Rattle.profile.specs.Pulls.{PullsAtMost};
-ghost use Rattle.profile.specs.Output.{AddsFront};
-ghost use Rattle.command_shell.specs.Fronts.{HasSome};
+ghost use Rattle.command_shell.specs.Whole.{AnswersWhole};
 ghost use Rattle.rosm_settings.specs.Answering.{AnswersScript, EndsWithin, RefusesFiles, TellsOfFile, answers_to, is_of_run};
 ghost use Rattle.rosm_settings.specs.Endings.{refusal_status};
 
@@ -118,31 +115,11 @@ pub fn answer_script<R: Source, W: Sink>(
     reader: &mut R,
     writer: &mut W,
 ) -> Result<Option<Stop>, RunError>
-    ensures text { OnOk result (IfSome (R.remaining reader.old) (λ script.
-        Appends (W.contents writer.old) (W.contents writer.new)
-        (answers_to settings.now images.old script).text)) }
+    ensures answers { AnswersWhole R.remaining R.has_failed R.pulls W.contents W.has_failed
+        reader.old reader.new writer.old writer.new images.old images.new result
+        (answers_to settings.now images.old) }
     ensures last { IfOk result (λ last. IfSome (R.remaining reader.old) (λ script.
         last ≡ (answers_to settings.now images.old script).state.last)) }
-    ensures images { OnOk result (IfSome (R.remaining reader.old) (λ script.
-        images.new ≡ (answers_to settings.now images.old script).state.images)) }
-    ensures added { OnErr result (IfSome (R.remaining reader.old) (λ script.
-        HasSome images.old (answers_to settings.now images.old script).state.images images.new)) }
-    ensures memory { result ≡ Err RunError.Memory → IfSome (R.remaining reader.old) (λ script.
-        AddsFront (W.contents writer.old) (W.contents writer.new)
-        (answers_to settings.now images.old script).text) }
-    ensures told { R.has_failed reader.new ≡ true → result ≡ Err RunError.ReadFault }
-    ensures read_fault { result ≡ Err RunError.ReadFault
-        → (R.has_failed reader.new ≡ true) × (writer.new ≡ writer.old) × (images.new ≡ images.old) }
-    ensures write_told { W.has_failed writer.old ≡ false → W.has_failed writer.new ≡ true
-        → result ≡ Err RunError.WriteFault }
-    ensures write_fault { result ≡ Err RunError.WriteFault → W.has_failed writer.new ≡ true }
-    ensures too_long { result ≡ Err RunError.ScriptTooLong
-        → (writer.new ≡ writer.old) × (images.new ≡ images.old)
-        × IfSome (R.remaining reader.old) (λ script. 1048576 < length script) }
-    ensures never_long { IfSome (R.remaining reader.old) (λ script.
-        1048576 < length script → IsErr result) }
-    ensures same_flag { OnOk result (W.has_failed writer.new ≡ W.has_failed writer.old) }
-    ensures pulls { PullsAtMost (R.pulls reader.old) (R.pulls reader.new) 1048577 }
 {
     let summary = run_script(
         alloc,
