@@ -1,33 +1,34 @@
 -- A view of memory as SVG: a grid of bytes.
-use Rattle.std.specs.Prelude.{ℕ, suc, zero, ◌+◌, ◌*◌, Bool, true, false, List, [], ◌∷◌, ◌++◌, length, Option, Some, None, codes, if◌then◌else◌}
+use Rattle.std.specs.Prelude.{ℕ, suc, zero, ◌+◌, ◌*◌, Bool, true, false, List, [], ◌∷◌, ◌++◌, length, Option, Some, None, codes, slice_get, if◌then◌else◌}
 use Rattle.std.specs.List.{flat_map}
-use Rattle.std.specs.Str.{bytes_eq}
 use Rattle.profile.specs.Digits.{hex_word}
 use Rattle.page_markup.specs.Markup.{rectangle, svg_text}
 use Rattle.page_markup.specs.Svg.{address_svg, svg_head}
 use Rattle.view_pictures.specs.RowMarks.{has_changed_byte}
-use Rattle.view_pictures.specs.Rows.{is_changed, shown_byte, top_of}
+use Rattle.view_items.specs.Items.{byte_digits}
+use Rattle.view_pictures.specs.Rows.{is_changed, top_of}
 use Rattle.view_pictures.specs.declared.rows.GridRow.{GridRow}
 
-abbrev pub cell_class : List ℕ → List ℕ
-cell_class byte = if bytes_eq byte (codes "--") then codes "unmapped" else codes "byte"
+abbrev pub cell_class : Option ℕ → List ℕ
+cell_class (Some byte) = codes "byte"
+cell_class None = codes "unmapped"
 
 abbrev pub change_of_cell : Bool → ℕ → ℕ → List ℕ
 change_of_cell true left top = rectangle (codes "change") (left + 2) (top + 2) 15 20
 change_of_cell false left top = []
 
-abbrev pub shown_svg : GridRow → ℕ → List ℕ → List ℕ
+abbrev pub shown_svg : GridRow → ℕ → Option ℕ → List ℕ
 shown_svg r number byte =
     rectangle (cell_class byte) (74 + 19 * number) r.top 19 24
-    ++ (svg_text (codes "byte") (74 + 19 * number + 9) (r.top + 16) byte
+    ++ (svg_text (codes "byte") (74 + 19 * number + 9) (r.top + 16) (byte_digits byte)
     ++ change_of_cell (is_changed number r) (74 + 19 * number) r.top)
 
-abbrev pub cell_by : GridRow → ℕ → Option (List ℕ) → List ℕ
+abbrev pub cell_by : GridRow → ℕ → Option (Option ℕ) → List ℕ
 cell_by r number None = []
 cell_by r number (Some byte) = shown_svg r number byte
 
 abbrev pub cell_svg : GridRow → ℕ → List ℕ
-cell_svg r number = cell_by r number (shown_byte number r.bytes.now)
+cell_svg r number = cell_by r number (slice_get r.bytes.now number)
 
 -- so many texts, by their numbers
 unfoldable pub cells : ℕ → (ℕ → List ℕ) → ℕ → List ℕ

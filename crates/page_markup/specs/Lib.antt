@@ -1,4 +1,5 @@
 -- HTML and SVG as bytes. Begin with Escape and Svg.
+pub mod Anchors
 pub mod Escape
 pub mod Grid
 pub mod Legend

@@ -5,6 +5,7 @@ use Rattle.std.specs.Fmt.{decimal}
 use Rattle.profile.specs.Digits.{hex_word}
 use Rattle.view_items.specs.Kinds.{has_second_line, kind_word}
 use Rattle.view_pictures.specs.Told.{has_changed, told_lines}
+use Rattle.page_markup.specs.Anchors.{anchor_place}
 use Rattle.page_markup.specs.Markup.{rectangle, svg_text, text_opening}
 use Rattle.page_markup.specs.ToldSvg.{height_with, picture_name, told_count, told_svg}
 use Rattle.view_items.specs.declared.kinds.BoxKind.{BoxKind}
@@ -91,7 +92,7 @@ abbrev pub change_svg : Drawn → List ℕ
 change_svg d =
     if has_changed d then
     rectangle (codes "change") 76 (d.top + 2) 224 (d.height - 4)
-    ++ (text_opening (codes "change") 308 (base_line_of d) ++ (short_change d.change ++ codes "</text>")) else []
+    ++ (text_opening (codes "change") 312 (base_line_of d) ++ (short_change d.change ++ codes "</text>")) else []
 
 abbrev pub zigzag : ℕ → List ℕ
 zigzag middle =
@@ -102,7 +103,7 @@ zigzag middle =
 abbrev pub break_svg : Drawn → List ℕ
 break_svg d = if d.is_raised then zigzag (d.top + d.height / 2) else []
 
--- the arrow of the free chain that leads to it
+-- the arrow that leads to it, of the free chain or from its anchor
 abbrev pub link_svg : Option ℕ → ℕ → List ℕ
 link_svg None middle = []
 link_svg (Some from) middle =
@@ -117,6 +118,17 @@ box_itself d = rectangle (kind_word d.own.kind) 74 d.top 228 d.height
 abbrev pub box_svg : Drawn → List ℕ
 box_svg d =
     box_itself d ++ (break_svg d ++ (change_svg d ++ (link_svg d.link (d.top + d.height / 2) ++ codes "\n")))
+
+abbrev pub anchor_by : List Drawn → ℕ → Option Holder → List ℕ
+anchor_by boxes middle None = []
+anchor_by boxes middle (Some h) = link_svg (anchor_place h boxes) middle
+
+-- the arrow from the anchor of a block, if that lies in one of these, to the block
+abbrev pub anchor_svg : List Drawn → Drawn → List ℕ
+anchor_svg boxes d = anchor_by boxes (d.top + d.height / 2) d.own.holder
+
+abbrev pub anchors_svg : List Drawn → List ℕ
+anchors_svg boxes = flat_map (anchor_svg boxes) boxes
 
 abbrev pub end_svg : Option ℕ → ℕ → List ℕ
 end_svg None base = []
@@ -136,4 +148,5 @@ stack_head layout =
 abbrev pub stack_svg : Layout → List ℕ
 stack_svg layout =
     stack_head layout ++ (flat_map box_svg layout.boxes.items
-    ++ (end_svg layout.end (layout.bottom + 12) ++ (told_svg layout ++ codes "</svg>")))
+    ++ (anchors_svg layout.boxes.items
+    ++ (end_svg layout.end (layout.bottom + 12) ++ (told_svg layout ++ codes "</svg>"))))

@@ -8,7 +8,8 @@ ghost use Rattle.page_markup.specs.Grid.{cell_class, cell_svg, cells, changed_ro
 use crate::markup::{push_rectangle, push_text};
 use crate::svg::{push_address, push_head};
 use profile::{HexText, Sink, WriteFault, push_all, push_parts};
-use view_pictures::{GridRow, has_changed_byte, is_changed, shown_byte, top_of};
+use view_items::byte_digits;
+use view_pictures::{GridRow, has_changed_byte, is_changed, row_byte, top_of};
 
 const CELL_WIDTH: u64 = 19;
 
@@ -104,7 +105,7 @@ fn push_cell<W: Sink>(sink: &mut W, row: &GridRow<'_>, number: usize) -> Result<
     requires { number < 16 }
     ensures { Writes W.contents W.has_failed sink.old sink.new result (cell_svg row.now number) }
 {
-    match shown_byte(number, row.bytes) {
+    match row_byte(number, row.bytes) {
         Some(byte) => push_shown(sink, row, number, byte),
         None => Ok(()),
     }
@@ -114,27 +115,32 @@ fn push_shown<W: Sink>(
     sink: &mut W,
     row: &GridRow<'_>,
     number: usize,
-    byte: &[u8],
+    byte: Option<u8>,
 ) -> Result<(), WriteFault>
     requires { number < 16 }
-    ensures { Writes W.contents W.has_failed sink.old sink.new result (shown_svg row.now number byte.now) }
+    ensures { Writes W.contents W.has_failed sink.old sink.new result (shown_svg row.now number byte) }
 {
     let left = 74 + CELL_WIDTH * number as u64;
     let top = u64::from(row.top);
     push_rectangle(sink, cell_class(byte), left, top, CELL_WIDTH, 24)?;
-    push_text(sink, b"byte", left + 9, top + 16, byte)?;
+    push_text(
+        sink,
+        b"byte",
+        left + 9,
+        top + 16,
+        byte_digits(byte).as_slice(),
+    )?;
     if is_changed(number, row) {
         push_rectangle(sink, b"change", left + 2, top + 2, 15, 20)?;
     }
     Ok(())
 }
 
-fn cell_class(byte: &[u8]) -> &'static [u8]
-    ensures { result.now ≡ cell_class byte.now }
+fn cell_class(byte: Option<u8>) -> &'static [u8]
+    ensures { result.now ≡ cell_class byte }
 {
-    if byte == b"--".as_slice() {
-        b"unmapped"
-    } else {
-        b"byte"
+    match byte {
+        Some(_) => b"byte",
+        None => b"unmapped",
     }
 }

@@ -1,16 +1,32 @@
 //! What the signs of pictures mean.
 
 ghost use Rattle.profile.specs.Output.{Writes};
-ghost use Rattle.page_markup.specs.Legend.{picture_legend};
+ghost use Rattle.page_markup.specs.Legend.{edge_legend, picture_legend, sign_legend};
 
 use profile::{Sink, WriteFault, push_all};
 
-/// Writes what the signs of pictures mean, as a paragraph of the class `legend`.
+/// Writes what the signs of pictures mean, as paragraphs of the class `legend`.
 pub fn push_legend<W: Sink>(sink: &mut W) -> Result<(), WriteFault>
     ensures { Writes W.contents W.has_failed sink.old sink.new result picture_legend }
+{
+    push_sign_legend(sink)?;
+    push_edge_legend(sink)
+}
+
+fn push_sign_legend<W: Sink>(sink: &mut W) -> Result<(), WriteFault>
+    ensures { Writes W.contents W.has_failed sink.old sink.new result sign_legend }
 {
     push_all(
         sink,
         b"<p class=\"legend\">Zigzag: not to scale. Second edge: changed. Hatched: free, or no memory.</p>\n",
+    )
+}
+
+fn push_edge_legend<W: Sink>(sink: &mut W) -> Result<(), WriteFault>
+    ensures { Writes W.contents W.has_failed sink.old sink.new result edge_legend }
+{
+    push_all(
+        sink,
+        b"<p class=\"legend\">Arrow: the free chain. Broken edge: not in use, or the page pool.</p>\n",
     )
 }

@@ -2,6 +2,7 @@
 //! SVG.
 #![tactic(auto)]
 
+mod anchors;
 pub mod escape;
 pub mod grid;
 mod legend;

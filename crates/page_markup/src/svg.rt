@@ -8,8 +8,9 @@ ghost use Rattle.std.specs.List.{flat_map};
 ghost use Rattle.page_markup.specs.Svg.{address_svg, anchor_words, base_line_of, block_line, box_address, box_itself, box_svg, break_svg};
 ghost use Rattle.page_markup.specs.Svg.{change_svg, short_change, stack_head, stack_height};
 ghost use Rattle.page_markup.specs.Svg.{end_svg, holder_words, link_svg, name_line, second_line, size_svg, stack_svg, zigzag};
-ghost use Rattle.page_markup.specs.Svg.{svg_head, words_svg};
+ghost use Rattle.page_markup.specs.Svg.{anchor_svg, anchors_svg, svg_head, words_svg};
 
+use crate::anchors::anchor_place;
 use crate::markup::{open_text, push_decimal, push_rectangle, push_text};
 use crate::told::{height_with, push_title, push_told_svg, told_count};
 use itoa::Buffer;
@@ -31,7 +32,7 @@ const WORD_LEFT: u64 = 82;
 
 const SIZE_LEFT: u64 = 168;
 
-const CHANGE_LEFT: u64 = 308;
+const CHANGE_LEFT: u64 = 312;
 
 // The most characters of a name that has a line of its own, and of one that shares it.
 const LONG_NAME: usize = 28;
@@ -46,6 +47,7 @@ pub fn push_svg<W: Sink>(sink: &mut W, layout: &Layout<'_>) -> Result<(), WriteF
 {
     push_stack_head(sink, layout)?;
     push_boxes(sink, layout.boxes.as_slice())?;
+    push_anchors(sink, layout.boxes.as_slice())?;
     push_end(sink, layout.end, u64::from(layout.bottom) + 12)?;
     push_told_svg(sink, layout)?;
     push_all(sink, b"</svg>")
@@ -331,4 +333,28 @@ fn push_link<W: Sink>(sink: &mut W, link: Option<u32>, middle: u64) -> Result<()
             b"\"/>".as_slice(),
         ],
     )
+}
+
+// An arrow to each block whose anchor lies in the bytes of a block, from where that is.
+fn push_anchors<W: Sink>(sink: &mut W, boxes: &[Drawn<'_>]) -> Result<(), WriteFault>
+    ensures { Writes W.contents W.has_failed sink.old sink.new result (anchors_svg boxes.now) }
+{
+    for drawn in boxes {
+        push_arrow(sink, boxes, drawn)?;
+    }
+    Ok(())
+}
+
+fn push_arrow<W: Sink>(
+    sink: &mut W,
+    boxes: &[Drawn<'_>],
+    drawn: &Drawn<'_>,
+) -> Result<(), WriteFault>
+    ensures { Writes W.contents W.has_failed sink.old sink.new result (anchor_svg boxes.now drawn.now) }
+{
+    let Some(holder) = drawn.own.holder else {
+        return Ok(());
+    };
+    let middle = u64::from(drawn.top) + u64::from(drawn.height) / 2;
+    push_link(sink, anchor_place(holder, boxes), middle)
 }

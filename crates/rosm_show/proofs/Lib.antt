@@ -1,2 +1,3 @@
 pub mod ShowLemmas
+pub mod WidthLemmas
 pub mod WordLemmas

@@ -64,9 +64,10 @@ appends_kept (Some a) None c xs h k = absurd h
 appends_kept (Some a) (Some b) None xs h k = absurd k
 appends_kept (Some a) (Some b) (Some c) xs h k = k ∙ h
 
-pub written_kept : (front back : List ℕ) (form : PageForm) (entries : List Entry) (before between after : Option (List ℕ))
-    → IsPageWritten front back form entries before between → Keeps between after → IsPageWritten front back form entries before after
-written_kept front back form entries before between after written kept = record {
+pub written_kept : (front back : List ℕ) (setting : Setting) (form : PageForm) (entries : List Entry)
+    (before between after : Option (List ℕ)) → IsPageWritten front back setting form entries before between → Keeps between after
+    → IsPageWritten front back setting form entries before after
+written_kept front back setting form entries before between after written kept = record {
   shown = written.shown;
   of_entries = written.of_entries;
   text = appends_kept before between after (page_text front back form entries written.shown) written.text kept;
@@ -105,7 +106,7 @@ pub shows_page : (front back : List ℕ) (wanted : WantedPage) (script before af
     (setting : Setting) (bytes : List ℕ) (entries : List Entry)
     → setting.config ≡ wanted.settings.config → setting.budget ≡ wanted.settings.budget
     → names_in setting.images.now ≡ names_for wanted.settings.files → IfSome script (λ told. bytes ≡ told)
-    → IsPage setting bytes entries → HasSteps (left_behind setting) entries → IsPageWritten front back wanted.form entries before after
+    → IsPage setting bytes entries → HasSteps (left_behind setting) entries → IsPageWritten front back setting wanted.form entries before after
     → last ≡ (script_answer_in setting bytes).state.last → ShowsPage front back wanted script before after last
 shows_page front back wanted script before after last setting bytes entries sizes budget named read page steps written stop =
     record {

@@ -13,15 +13,30 @@ use Rattle.command_line.specs.declared.options.SettingsError.TheVariants as refu
 use Rattle.command_shell.specs.declared.error.RunError.{RunError}
 use Rattle.command_shell.specs.declared.error.RunError.TheVariants.{WriteFault}
 use Rattle.script_page.specs.declared.form.PageForm.{PageForm}
+use Rattle.rosm_show.specs.Width.{form_if_in_width, widths_from, words_left_from}
 use Rattle.rosm_show.specs.Words.{page_form_of, forms_from, others_from}
+use Rattle.rosm_show.specs.declared.width.Expected.TheVariants as expected
 use Rattle.rosm_show.specs.declared.refusal.ShowRefusal.{ShowRefusal}
 use Rattle.rosm_show.specs.declared.refusal.ShowRefusal.TheVariants as refusal
 use Rattle.rosm_show.specs.declared.words.WantedPage.{WantedPage}
 
--- What the words ask for: one form at most, and the rest are words of `rosm`.
+-- the words that ask for no form
+abbrev pub formless_words : List (List ℕ) → List (List ℕ)
+formless_words words = others_from false words
+
+-- the form that the words ask for, in its width
+abbrev pub form_wanted : List (List ℕ) → Option PageForm
+form_wanted words =
+    form_if_in_width (page_form_of (forms_from false words)) (widths_from expected.Option (formless_words words))
+
+-- what the words ask for that are those of `rosm`
+abbrev pub settings_wanted : List (List ℕ) → Result Settings SettingsError
+settings_wanted words = settings_for (words_left_from expected.Option (formless_words words))
+
+-- What the words ask for: one form at most and one width at most, and the rest are words of `rosm`.
 pub record Asks (words : List (List ℕ)) (wanted : WantedPage) : Type 0 where
-  pub form : page_form_of (forms_from false words) ≡ Some wanted.form
-  pub settings : settings_for (others_from false words) ≡ Ok wanted.settings
+  pub form : form_wanted words ≡ Some wanted.form
+  pub settings : settings_wanted words ≡ Ok wanted.settings
 
 -- The refusal is this one of the words of `rosm`; memory may run out at any point.
 abbrev pub IsRefusedBy : Result Settings SettingsError → ShowRefusal → Type 0
@@ -30,7 +45,8 @@ IsRefusedBy answer (refusal.Line reason) = answer ≡ Err refused.Line
 IsRefusedBy answer (refusal.Sizes reason) = answer ≡ Err refused.Sizes
 IsRefusedBy answer _ = ⊥
 
--- More than one form is a line that can't be; else the refusal is that of the other words.
+-- A line can't be where there is more than one form or width, or the width can't be; else the
+-- refusal is that of the other words.
 abbrev pub IsRefusalBy : Option PageForm → Result Settings SettingsError → ShowRefusal → Type 0
 IsRefusalBy None answer refusal.Memory = Unit {0}
 IsRefusalBy None answer (refusal.Line reason) = Unit {0}
@@ -38,8 +54,7 @@ IsRefusalBy None answer _ = ⊥
 IsRefusalBy (Some form) answer told = IsRefusedBy answer told
 
 abbrev pub IsShowRefusalOf : List (List ℕ) → ShowRefusal → Type 0
-IsShowRefusalOf words told = IsRefusalBy (page_form_of (forms_from false words))
-    (settings_for (others_from false words)) told
+IsShowRefusalOf words told = IsRefusalBy (form_wanted words) (settings_wanted words) told
 
 -- what the program is refused with where the host doesn't hand over its words
 abbrev pub show_words_refused : ErrorKind → ShowRefusal

@@ -26,7 +26,7 @@ pub record ShowsPage (front back : List ℕ) (wanted : WantedPage) (script befor
   pub named : names_in setting.images.now ≡ names_for wanted.settings.files
   pub page : IfSome script (λ bytes. IsPage setting bytes entries)
   pub steps : HasSteps (left_behind setting) entries
-  pub written : IsPageWritten front back wanted.form entries before after
+  pub written : IsPageWritten front back setting wanted.form entries before after
   pub stop : IfSome script (λ bytes. last ≡ (script_answer_in setting bytes).state.last)
 
 -- With the files' images there from the start, the page of the script was begun in that form: the

@@ -5,10 +5,10 @@ use Rattle.std.specs.Str.{bytes_eq}
 use Rattle.script_page.specs.declared.form.PageForm.{PageForm}
 use Rattle.script_page.specs.declared.form.PageForm.TheVariants as form
 
--- the form that a word asks for
+-- the form that a word asks for; a text has lines of 100 characters where nothing else is asked
 abbrev pub form_asked : List ℕ → Option PageForm
 form_asked word =
-    if bytes_eq word (codes "--text") then Some form.Text else (
+    if bytes_eq word (codes "--text") then Some (form.Text 100) else (
     if bytes_eq word (codes "--html") then Some form.Html else (
     if bytes_eq word (codes "--transcript") then Some form.Transcript else None))
 
@@ -44,6 +44,6 @@ others_from are_files (word ∷ rest) =
 
 -- the form of the page: text where no word asks for one, and none where more than one does
 abbrev pub page_form_of : List PageForm → Option PageForm
-page_form_of [] = Some form.Text
+page_form_of [] = Some (form.Text 100)
 page_form_of (asked ∷ []) = Some asked
 page_form_of (asked ∷ again ∷ more) = None

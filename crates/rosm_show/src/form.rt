@@ -7,6 +7,7 @@ ghost use Rattle.rosm_show.specs.Words.{page_form_of as form_told};
 
 use script_page::PageForm;
 use std::alloc::{AllocError, Global};
+use view_pictures::LINE_WIDTH;
 
 /// The words of a command line in two lists, each in order.
 #[derive(Drop)]
@@ -46,7 +47,7 @@ pub fn form_of(forms: &[PageForm]) -> Option<PageForm>
     ensures { result ≡ form_told forms.now }
 {
     match forms {
-        [] => Some(PageForm::Text),
+        [] => Some(PageForm::Text(LINE_WIDTH)),
         [form] => Some(*form),
         _ => None,
     }
@@ -70,7 +71,7 @@ fn form_asked(word: &str) -> Option<PageForm>
 {
     let word = word.as_bytes();
     if word == b"--text".as_slice() {
-        Some(PageForm::Text)
+        Some(PageForm::Text(LINE_WIDTH))
     } else if word == b"--html".as_slice() {
         Some(PageForm::Html)
     } else if word == b"--transcript".as_slice() {

@@ -1,7 +1,7 @@
 //! The program `rosm_show`: a script from standard input and its answers, as a page on standard
 //! output.
 //!
-//! `rosm_show [--text | --html | --transcript] [--pages N] [--app N] [--rma N] [--budget N]
+//! `rosm_show [--text | --html | --transcript] [--width N] [--pages N] [--app N] [--rma N] [--budget N]
 //! [FILE...] <SCRIPT`
 #![tactic(auto)]
 
@@ -9,6 +9,7 @@ mod form;
 mod process;
 mod refusal;
 mod show;
+mod width;
 mod words;
 
 use crate::process::{exit_code, show_on_standard_streams};

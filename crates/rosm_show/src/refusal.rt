@@ -10,7 +10,7 @@ use thiserror::Error;
 
 /// The form of a command line, in one line.
 pub const USAGE: &str = "usage: rosm_show [--text | --html | --transcript] \
-[--pages N] [--app N] [--rma N] [--budget N] [FILE...] <SCRIPT";
+[--width N] [--pages N] [--app N] [--rma N] [--budget N] [FILE...] <SCRIPT";
 
 /// Why the program ends without a page. The text is one line.
 #[derive(Debug, PartialEq, Eq, Drop, Error)]

@@ -6,12 +6,16 @@ ghost use Rattle.rosm_show.specs.Endings.{Asks, IsRefusalBy, IsShowRefusalOf, Is
 
 use crate::form::{form_of, part_words};
 use crate::refusal::ShowRefusal;
+use crate::width::{form_in_width, part_widths};
 use command_line::{Settings, SettingsError, line_reason, settings, sizes_reason};
 use script_page::PageForm;
 use std::alloc::{AllocError, Global};
 use std::env;
 use std::env::Env;
 use std::io::ErrorKind;
+
+// What is wrong with a width.
+const WIDTH_REASON: &str = "--width takes a number N from 40 to 400, once, for a page of text";
 
 /// What the words ask for.
 #[derive(Drop)]
@@ -26,7 +30,8 @@ pub struct WantedPage {
 ///
 /// # Errors
 ///
-/// `NotText`, `Line`, `Sizes` and `Memory`, as for the program `rosm`; a second form is `Line` too.
+/// `NotText`, `Line`, `Sizes` and `Memory`, as for the program `rosm`; a second form or width, a width
+/// that can't be, and one for a page that is no text are `Line` too.
 pub fn read_words<R: Env + AllocGlobal>(rt: &R) -> Result<WantedPage, ShowRefusal<'static>> {
     let alloc = rt.alloc();
     let args = match env::args(rt) {
@@ -65,7 +70,11 @@ fn wanted_of(alloc: Global, words: &[String]) -> Result<WantedPage, ShowRefusal<
     let Some(form) = form_of(parted.forms.as_slice()) else {
         return Err(refused_line(alloc, "one form of the page at most"));
     };
-    let settings = settings_of(alloc, parted.others.as_slice())?;
+    let sized = part_widths(alloc, parted.others.as_slice())?;
+    let Some(form) = form_in_width(form, sized.widths.as_slice()) else {
+        return Err(refused_line(alloc, WIDTH_REASON));
+    };
+    let settings = settings_of(alloc, sized.left.as_slice())?;
     Ok(WantedPage { form, settings })
 }
 

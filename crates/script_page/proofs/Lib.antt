@@ -1,6 +1,7 @@
 pub mod AnsweringLemmas
 pub mod BlockCutLemmas
 pub mod FrontLineLemmas
+pub mod GuestTextLemmas
 pub mod HtmlLemmas
 pub mod LeadingLemmas
 pub mod PageLemmas

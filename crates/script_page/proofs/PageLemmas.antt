@@ -16,12 +16,15 @@ use Rattle.command_shell.specs.State.{ScriptState}
 use Rattle.command_shell_lines.specs.Requests.{request_of}
 use Rattle.script_page.proofs.FrontLineLemmas.{both_end, no_lines, nothing_ends}
 use Rattle.script_page.proofs.LeadingLemmas.{leads_from_start, leads_on, state_so_far, text_so_far, LeadsTo}
-use Rattle.script_page.proofs.PictureLemmas.{shows}
 use Rattle.script_page.specs.Answering.{count_of_block, line_told, state_of_answering, EndsItsLines, IsNextEntry, IsOneRequest}
-use Rattle.script_page.specs.Page.{answers_of, left_behind, lines_of, number_after, numbers_from, steps_behind, steps_text}
-use Rattle.script_page.specs.Page.{AreShown, HasSteps, IsPageBy, IsPage, ShowsItsAnswer}
+use Rattle.view_reading.specs.swi_dispatch_guest.specs.MachineState.{MachineState}
+use Rattle.script_page.specs.Page.{answers_of, left_behind, lines_of, machine_behind, number_after, numbers_from, steps_behind, steps_text}
+use Rattle.script_page.specs.Page.{views_behind, AreShown, HasSteps, IsPageBy, IsPage, ShowViews}
+use Rattle.script_page.specs.Views.{view_asked}
 use Rattle.script_page.specs.Pictures.{IsPicture}
 use Rattle.script_page.specs.Setting.{script_answer_in, start_state_in}
+use Rattle.script_page.specs.GuestText.{guest_text}
+use Rattle.script_page.specs.PictureIndex.{entry_link, index_links, link_if_drawn, links_html}
 use Rattle.script_page.specs.TextPage.{has_picture, text_entry}
 use Rattle.script_page.specs.HtmlPage.{entry_html}
 use Rattle.script_page.specs.Transcript.{transcript_entry}
@@ -30,6 +33,7 @@ use Rattle.script_page.specs.Writing.{WritesPage}
 use Rattle.script_page.specs.declared.answering.Answering.{Answering}
 use Rattle.script_page.specs.declared.entry.Entry.{Entry}
 use Rattle.script_page.specs.declared.form.PageForm.{PageForm}
+use Rattle.script_page.specs.declared.index.PictureLink.{PictureLink}
 use Rattle.script_page.specs.declared.form.PageForm.TheVariants as form
 use Rattle.script_page.specs.declared.setting.Setting.{Setting}
 use Rattle.script_page.specs.declared.shown.Shown.{Shown}
@@ -92,6 +96,25 @@ steps_on : (left : List ℕ → ℕ) (old : List Entry) (e : Entry) → HasSteps
     → e.steps ≡ left (lines_of old) - left (lines_of old ++ e.lines.now) → HasSteps left (old ++ e ∷ [])
 steps_on left old e has is = steps_mapped old e ∙ (λ i. has i ++ is i ∷ []) ∙ sym (steps_more left [] old e)
 
+-- the view of one entry more
+views_more : (machine : List ℕ → MachineState) (front : List ℕ) (old : List Entry) (e : Entry)
+    → views_behind machine front (old ++ e ∷ [])
+    ≡ views_behind machine front old ++ (view_asked (machine ((front ++ lines_of old) ++ e.lines.now)) e.lines.now ∷ [])
+views_more machine front [] e = rw (append-nil front) refl
+views_more machine front (x ∷ old) e =
+    let later = views_more machine (front ++ x.lines.now) old e in
+    let same : (front ++ x.lines.now) ++ lines_of old ≡ front ++ lines_of (x ∷ old) = append_assoc front x.lines.now (lines_of old) in
+    ap (λ (xs : List (List ℕ)). view_asked (machine (front ++ x.lines.now)) x.lines.now ∷ xs)
+    (later ∙ ap (λ (xs : List ℕ). views_behind machine (front ++ x.lines.now) old
+    ++ (view_asked (machine (xs ++ e.lines.now)) e.lines.now ∷ [])) same)
+
+show_more : (f : PageForm) (views : List (List ℕ)) (shown : List Shown) (view : List ℕ) (s : Shown) → ShowViews f views shown
+    → IsPicture f view s.picture.items → ShowViews f (views ++ view ∷ []) (shown ++ s ∷ [])
+show_more f [] [] view s all is = (is, tt)
+show_more f [] (x ∷ shown) view s all is = absurd all
+show_more f (v ∷ views) [] view s all is = absurd all
+show_more f (v ∷ views) (x ∷ shown) view s all is = (all.0, show_more f views shown view s all.1 is)
+
 -- the number of the line after some entries
 pub number_at_end : ℕ → List Entry → ℕ
 number_at_end number [] = number
@@ -110,27 +133,33 @@ unfolding number_at_end
 number_on number [] e = refl
 number_on number (x ∷ old) e = number_on (number_after number (length (lines x.lines.now))) old e
 
--- what is shown of an entry, after so many lines
-pub record IsShownOf (f : PageForm) (first : ℕ) (e : Entry) (s : Shown) : Type 0 where
+-- what is shown of an entry, after so many lines, where the machine stands so behind it
+pub record IsShownOf (f : PageForm) (machine : MachineState) (first : ℕ) (e : Entry) (s : Shown) : Type 0 where
   pub number : s.number ≡ first
   pub lines : s.lines.now ≡ e.lines.now
   pub answer : s.printed.now ++ s.answer.now ≡ e.answer.items
+  pub guest : s.guest.items ≡ guest_text s.printed.now
   pub steps : s.steps.items ≡ steps_text e.kind e.steps
-  pub picture : IsPicture f e.answer.items s.picture.items
+  pub picture : IsPicture f (view_asked machine e.lines.now) s.picture.items
 
-shown_on : (f : PageForm) (entries : List Entry) (shown : List Shown) (e : Entry) (s : Shown) → AreShown f entries shown
-    → IsShownOf f (number_at_end 1 entries) e s → AreShown f (entries ++ e ∷ []) (shown ++ s ∷ [])
-shown_on f entries shown e s are is = record {
+shown_on : (setting : Setting) (f : PageForm) (machine : MachineState) (entries : List Entry) (shown : List Shown) (e : Entry) (s : Shown)
+    → AreShown setting f entries shown → machine_behind setting (lines_of entries ++ e.lines.now) ≡ machine
+    → IsShownOf f machine (number_at_end 1 entries) e s → AreShown setting f (entries ++ e ∷ []) (shown ++ s ∷ [])
+shown_on setting f machine entries shown e s are there is = record {
   numbers = map-append (λ (x : Shown). x.number) shown (s ∷ []) ∙ (λ i. are.numbers i ++ is.number i ∷ [])
       ∙ sym (numbers_on 1 entries e);
   lines = map-append (λ (x : Shown). x.lines.now) shown (s ∷ []) ∙ (λ i. are.lines i ++ is.lines i ∷ [])
       ∙ sym (map-append (λ (x : Entry). x.lines.now) entries (e ∷ []));
   answers = map-append (λ (x : Shown). x.printed.now ++ x.answer.now) shown (s ∷ []) ∙ (λ i. are.answers i ++ is.answer i ∷ [])
       ∙ sym (map-append (λ (x : Entry). x.answer.items) entries (e ∷ []));
+  guests = map-append (λ (x : Shown). x.guest.items) shown (s ∷ []) ∙ (λ i. are.guests i ++ is.guest i ∷ [])
+      ∙ sym (map-append (λ (x : Shown). guest_text x.printed.now) shown (s ∷ []));
   steps = map-append (λ (x : Shown). x.steps.items) shown (s ∷ []) ∙ (λ i. are.steps i ++ is.steps i ∷ [])
       ∙ sym (map-append (λ (x : Entry). steps_text x.kind x.steps) entries (e ∷ []));
-  pictures = All-push (ShowsItsAnswer f) shown s are.pictures
-      (shows f s e.answer.items s.picture.items is.picture is.answer refl);
+  pictures = subst (λ (views : List (List ℕ)). ShowViews f views (shown ++ s ∷ [])) (sym (views_more (machine_behind setting) [] entries e))
+      (show_more f (views_behind (machine_behind setting) [] entries) shown
+      (view_asked (machine_behind setting (lines_of entries ++ e.lines.now)) e.lines.now) s are.pictures
+      (subst (λ (m : MachineState). IsPicture f (view_asked m e.lines.now) s.picture.items) (sym there) is.picture));
 }
 
 drawn_on : (shown : List Shown) (s : Shown) → list_any has_picture (shown ++ s ∷ []) ≡ (list_any has_picture shown || has_picture s)
@@ -145,7 +174,7 @@ more_of f xs x = flat_map-append f xs (x ∷ []) ∙ ap (λ (t : List ℕ). flat
 
 entries_on : (f : PageForm) (entries : List Entry) (shown : List Shown) (e : Entry) (s : Shown)
     → page_entries f (entries ++ e ∷ []) (shown ++ s ∷ []) ≡ page_entries f entries shown ++ page_entry f e s
-entries_on form.Text entries shown e s = more_of text_entry shown s
+entries_on (form.Text width) entries shown e s = more_of text_entry shown s
 entries_on form.Html entries shown e s = more_of entry_html shown s
 entries_on form.Transcript entries shown e s = more_of transcript_entry entries e
 
@@ -172,7 +201,7 @@ one_request old new e one =
 
 -- The lines of a script that were answered are a page, which stands written.
 pub record PageSoFar (front : List ℕ) (setting : Setting) (f : PageForm) (script : List ℕ) (a : Answering) (number : ℕ)
-    (is_drawn : Bool) (before after : Option (List ℕ)) : Type 0 where
+    (is_drawn : Bool) (links : List PictureLink) (before after : Option (List ℕ)) : Type 0 where
   pub entries : List Entry
   pub shown : List Shown
   pub first : lines_of entries ++ a.rest.now ≡ script
@@ -181,9 +210,10 @@ pub record PageSoFar (front : List ℕ) (setting : Setting) (f : PageForm) (scri
   pub page : IsPage setting (lines_of entries) entries
   pub requests : All IsOneRequest entries
   pub steps : HasSteps (left_behind setting) entries
-  pub of_entries : AreShown f entries shown
+  pub of_entries : AreShown setting f entries shown
   pub counted : number ≡ number_at_end 1 entries
   pub drawn : is_drawn ≡ list_any has_picture shown
+  pub index : links_html links ≡ index_links shown
   pub text : Appends before after (page_begun front f entries shown)
 
 -- no line is answered with nothing
@@ -199,15 +229,15 @@ page_of_none setting = record {
 }
 
 front_alone : (front : List ℕ) (f : PageForm) → page_begun front f [] [] ≡ page_front front f
-front_alone front form.Text = refl
+front_alone front (form.Text width) = refl
 front_alone front form.Html = append-nil front
 front_alone front form.Transcript = refl
 
-pub page_starts : (front : List ℕ) (setting : Setting) (f : PageForm) (script : List ℕ) (a : Answering) (before after : Option (List ℕ))
-    → state_of_answering a ≡ start_state_in setting → a.place.number ≡ 0 → a.rest.now ≡ script
-    → Appends before after (page_front front f) → PageSoFar front setting f script a 1 false before after
+pub page_starts : (front : List ℕ) (setting : Setting) (f : PageForm) (script : List ℕ) (a : Answering) (links : List PictureLink)
+    (before after : Option (List ℕ)) → links ≡ [] → state_of_answering a ≡ start_state_in setting → a.place.number ≡ 0 → a.rest.now ≡ script
+    → Appends before after (page_front front f) → PageSoFar front setting f script a 1 false links before after
 unfolding number_at_end
-page_starts front setting f script a before after start none whole written = record {
+page_starts front setting f script a links before after no_link start none whole written = record {
   entries = [];
   shown = [];
   first = whole;
@@ -217,9 +247,10 @@ page_starts front setting f script a before after start none whole written = rec
   page = page_of_none setting;
   requests = All-nil IsOneRequest;
   steps = refl;
-  of_entries = record { numbers = refl; lines = refl; answers = refl; steps = refl; pictures = All-nil (ShowsItsAnswer f) };
+  of_entries = record { numbers = refl; lines = refl; answers = refl; guests = refl; steps = refl; pictures = tt };
   counted = refl;
   drawn = refl;
+  index = ap links_html no_link;
   text = subst (λ (xs : List ℕ). Appends before after xs) (sym (front_alone front f)) written;
 }
 
@@ -235,13 +266,14 @@ ends_on rest front own ends (inr own_ends) = inr (both_end front own ends own_en
 
 -- and with the next entry
 pub page_goes_on : (front : List ℕ) (setting : Setting) (f : PageForm) (script : List ℕ) (old new : Answering) (number next : ℕ)
-    (was_drawn is_drawn : Bool) (e : Entry) (s : Shown) (before between after : Option (List ℕ))
-    → PageSoFar front setting f script old number was_drawn before between → lines old.rest.now ≡ old.place.left
-    → IsNextEntry old new e → IsShownOf f number e s → Appends between after (page_entry f e s)
+    (was_drawn is_drawn : Bool) (links more_links : List PictureLink) (e : Entry) (s : Shown) (before between after : Option (List ℕ))
+    → PageSoFar front setting f script old number was_drawn links before between → lines old.rest.now ≡ old.place.left
+    → IsNextEntry old new e → IsShownOf f (state_of_answering new).machine number e s → Appends between after (page_entry f e s)
     → next ≡ number_after number (length (lines e.lines.now)) → is_drawn ≡ (was_drawn || has_picture s)
-    → PageSoFar front setting f script new next is_drawn before after
+    → links_html more_links ≡ links_html links ++ entry_link s
+    → PageSoFar front setting f script new next is_drawn more_links before after
 unfolding IsPage
-page_goes_on front setting f script old new number next was_drawn is_drawn e s before between after so rest one is written counted drawn =
+page_goes_on front setting f script old new number next was_drawn is_drawn links more_links e s before between after so rest one is written counted drawn linked =
     let entries = so.entries in
     let bytes = lines_of entries in
     let all : lines_of (entries ++ e ∷ []) ≡ bytes ++ e.lines.now = lines_more entries e in
@@ -265,10 +297,12 @@ page_goes_on front setting f script old new number next was_drawn is_drawn e s b
     let left_before : left_behind setting bytes ≡ (state_of_answering old).left =
     ap (λ (w : ScriptState). w.left)
     (state_so_far setting bytes (answers_of entries) old.place.left old.place.number (state_of_answering old) so.leads) in
+    let stands_after : (script_answer_in setting (bytes ++ e.lines.now)).state ≡ state_of_answering new =
+    ap (λ (xs : List ℕ). (script_answer_in setting xs).state) (sym all)
+    ∙ state_so_far setting (lines_of (entries ++ e ∷ [])) (answers_of (entries ++ e ∷ [])) new.place.left new.place.number
+    (state_of_answering new) leads in
     let left_after : left_behind setting (bytes ++ e.lines.now) ≡ (state_of_answering new).left =
-    ap (left_behind setting) (sym all) ∙ ap (λ (w : ScriptState). w.left)
-    (state_so_far setting (lines_of (entries ++ e ∷ [])) (answers_of (entries ++ e ∷ [])) new.place.left new.place.number
-    (state_of_answering new) leads) in
+    ap (λ (w : ScriptState). w.left) stands_after in
     record {
       entries = entries ++ e ∷ [];
       shown = so.shown ++ s ∷ [];
@@ -282,10 +316,12 @@ page_goes_on front setting f script old new number next was_drawn is_drawn e s b
       requests = All-push IsOneRequest entries e so.requests (one_request old new e one);
       steps = steps_on (left_behind setting) entries e so.steps
           (one.steps ∙ (λ i. sym left_before i - sym left_after i));
-      of_entries = shown_on f entries so.shown e s so.of_entries
-          (subst (λ (n : ℕ). IsShownOf f n e s) so.counted is);
+      of_entries = shown_on setting f (state_of_answering new).machine entries so.shown e s so.of_entries
+          (ap (λ (w : ScriptState). w.machine) stands_after)
+          (subst (λ (n : ℕ). IsShownOf f (state_of_answering new).machine n e s) so.counted is);
       counted = counted ∙ ap (λ (n : ℕ). number_after n (length (lines e.lines.now))) so.counted ∙ sym (number_on 1 entries e);
       drawn = drawn ∙ ap (λ (b : Bool). b || has_picture s) so.drawn ∙ sym (drawn_on so.shown s);
+      index = linked ∙ ap (λ (xs : List ℕ). xs ++ entry_link s) so.index ∙ sym (more_of entry_link so.shown s);
       text = written_on front f entries so.shown e s before between after so.text written;
     }
 
@@ -312,6 +348,13 @@ drawn_before was here now was_so is = is ∙ ap (λ (b : Bool). b || here) (sym 
 pub drawn_here : (was here now : Bool) → was ≡ false → now ≡ here → now ≡ (was || here)
 drawn_here was here now not_so is = is ∙ ap (λ (b : Bool). b || here) (sym not_so)
 
+-- the link of an entry that has a picture is kept
+pub link_kept : (e : Entry) (s : Shown) (number : ℕ) (links more_links : List PictureLink) (is_drawn : Bool)
+    → links_html more_links ≡ links_html links ++ link_if_drawn is_drawn number e.lines.now → is_drawn ≡ has_picture s
+    → s.number ≡ number → s.lines.now ≡ e.lines.now → links_html more_links ≡ links_html links ++ entry_link s
+link_kept e s number links more_links is_drawn kept drawn same_number same_lines =
+    kept ∙ (λ i. links_html links ++ link_if_drawn (drawn i) (sym same_number i) (sym same_lines i))
+
 none_left : (a : Answering) (entries : List Entry) (script : List ℕ) → lines_of entries ++ a.rest.now ≡ script
     → lines a.rest.now ≡ a.place.left → a.place.left ≡ [] → lines_of entries ≡ script
 none_left a entries script first rest none =
@@ -320,10 +363,11 @@ none_left a entries script first rest none =
 
 -- where no line is left
 pub page_ends : (front back : List ℕ) (setting : Setting) (f : PageForm) (script : List ℕ) (a : Answering) (number : ℕ) (is_drawn : Bool)
-    (before between after : Option (List ℕ)) → PageSoFar front setting f script a number is_drawn before between
-    → lines a.rest.now ≡ a.place.left → a.place.left ≡ [] → Appends between after (page_back back f is_drawn)
+    (links lent : List PictureLink) (before between after : Option (List ℕ)) → lent ≡ links
+    → PageSoFar front setting f script a number is_drawn links before between
+    → lines a.rest.now ≡ a.place.left → a.place.left ≡ [] → Appends between after (page_back back f is_drawn (links_html lent))
     → WritesPage front back setting f script before after
-page_ends front back setting f script a number is_drawn before between after so rest none written = record {
+page_ends front back setting f script a number is_drawn links lent before between after same so rest none written = record {
   entries = so.entries;
   page = subst (λ (xs : List ℕ). IsPage setting xs so.entries) (none_left a so.entries script so.first rest none) so.page;
   requests = so.requests;
@@ -332,16 +376,18 @@ page_ends front back setting f script a number is_drawn before between after so 
     shown = so.shown;
     of_entries = so.of_entries;
     text = Appends-join before between after (page_begun front f so.entries so.shown)
-        (page_back back f (list_any has_picture so.shown)) so.text
-        (subst (λ (b : Bool). Appends between after (page_back back f b)) so.drawn written);
+        (page_back back f (list_any has_picture so.shown) (index_links so.shown)) so.text
+        (subst (λ (b : Bool). Appends between after (page_back back f b (index_links so.shown))) so.drawn
+        (subst (λ (xs : List ℕ). Appends between after (page_back back f is_drawn xs))
+        (ap links_html same ∙ so.index) written));
   };
 }
 
 pub page_stops : (front : List ℕ) (setting : Setting) (f : PageForm) (script : List ℕ) (a : Answering) (number : ℕ) (is_drawn : Bool)
-    (before after : Option (List ℕ)) → PageSoFar front setting f script a number is_drawn before after
+    (links : List PictureLink) (before after : Option (List ℕ)) → PageSoFar front setting f script a number is_drawn links before after
     → lines a.rest.now ≡ a.place.left → a.place.left ≡ []
     → (state_of_answering a).last ≡ (script_answer_in setting script).state.last
-page_stops front setting f script a number is_drawn before after so rest none =
+page_stops front setting f script a number is_drawn links before after so rest none =
     ap (λ (w : ScriptState). w.last)
     (sym (state_so_far setting (lines_of so.entries) (answers_of so.entries) a.place.left a.place.number (state_of_answering a) so.leads))
     ∙ ap (λ (xs : List ℕ). (script_answer_in setting xs).state.last) (none_left a so.entries script so.first rest none)

@@ -27,6 +27,13 @@ part_html class part = codes "<pre class=\"" ++ (class ++ (codes "\">\n"
 abbrev pub answer_part : List ℕ → List ℕ → List ℕ
 answer_part class part = if length part == 0 then [] else part_html class part
 
+-- what the guest printed, line by line
+unfoldable pub guest_html : List ℕ → List ℕ
+guest_html guest = codes "<pre class=\"guest\">\n" ++ (typed_lines (lines guest) ++ codes "</pre>")
+
+abbrev pub guest_part : List ℕ → List ℕ
+guest_part guest = if length guest == 0 then [] else guest_html guest
+
 -- what the guest printed, the answer after that, and the steps
 unfoldable pub told_html : List ℕ → List ℕ → List ℕ → List ℕ
 told_html guest answer steps = codes "<div class=\"told\">"
@@ -34,7 +41,7 @@ told_html guest answer steps = codes "<div class=\"told\">"
 
 abbrev pub answers_html : Shown → List ℕ
 answers_html s =
-    told_html (answer_part (codes "guest") s.printed.now) (answer_part (codes "answer") s.answer.now)
+    told_html (guest_part s.guest.items) (answer_part (codes "answer") s.answer.now)
     (answer_part (codes "steps") s.steps.items)
 
 unfoldable pub figure_html : List ℕ → List ℕ

@@ -1,9 +1,12 @@
 -- What a page is and how it is written. Begin with Page, then Writing.
 pub mod Answering
+pub mod GuestText
 pub mod HtmlPage
 pub mod Page
+pub mod PictureIndex
 pub mod Pictures
 pub mod Setting
 pub mod TextPage
 pub mod Transcript
+pub mod Views
 pub mod Writing

@@ -37,7 +37,7 @@ lines_behind front lines = flat_map (shown_line_behind front) lines
 
 abbrev pub text_entry : Shown → List ℕ
 text_entry s =
-    numbered_lines s.number (lines s.lines.now) ++ (lines_behind (codes "     : ") (lines s.printed.now)
+    numbered_lines s.number (lines s.lines.now) ++ (lines_behind (codes "     : ") (lines s.guest.items)
     ++ (lines_behind (codes "       ") (lines s.answer.now)
     ++ (lines_behind (codes "     = ") (lines s.steps.items) ++ s.picture.items)))
 
@@ -47,6 +47,6 @@ text_entries shown = flat_map text_entry shown
 abbrev pub has_picture : Shown → Bool
 has_picture s = not (length s.picture.items == 0)
 
--- what the signs of pictures mean
-abbrev pub legend : List ℕ
-legend = codes "\n" ++ bar_legend (codes "       ")
+-- what the signs of pictures mean, in lines of so many characters
+abbrev pub legend : ℕ → List ℕ
+legend width = codes "\n" ++ bar_legend (codes "       ") width

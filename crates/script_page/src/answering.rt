@@ -6,6 +6,7 @@ ghost use Rattle.command_shell.specs.Script.{request_told};
 ghost use Rattle.command_shell_lines.specs.Blocks.{block_lines, lines_after};
 ghost use Rattle.command_shell_lines.specs.Requests.{opens_block, request_of};
 ghost use Rattle.command_shell.specs.State.{IsAnswered};
+ghost use Rattle.view_reading.specs.swi_dispatch_guest.specs.Parts.{state_of};
 ghost use Rattle.script_page.specs.Answering.{count_of_block, state_of_answering, IsNextEntry};
 
 use crate::entry::Entry;
@@ -16,6 +17,7 @@ use image_loader::Images;
 use profile::Stop;
 use std::alloc::{AllocError, Global};
 use view_items::TextSink;
+use view_reading::Machine;
 
 /// A script under way: what its lines work on, and those that are left, as lines and as they stand.
 #[derive(Drop)]
@@ -47,6 +49,13 @@ impl<'a> Answering<'a> {
         ensures { result ≡ (state_of_answering self.now).last }
     {
         self.session.last()
+    }
+
+    /// The machine, as the lines that were answered left it.
+    pub fn machine(&self) -> &Machine
+        ensures { state_of result.now.guest ≡ (state_of_answering self.now).machine }
+    {
+        self.session.machine()
     }
 
     /// The next line, or where it is HEX or ASM its block too, and what it is answered; `None`

@@ -9,8 +9,6 @@ use command_shell_lines::{ScriptCommand, command_of};
 pub enum LineKind {
     /// RUN, STEP, CALL or LOAD: it takes steps.
     Steps,
-    /// HEAP, FLEX, AREAS, MODULES or MEM: its answer has a picture.
-    View,
     /// Any other.
     Other,
 }
@@ -57,11 +55,6 @@ fn kind_of_command(command: &ScriptCommand<'_>) -> LineKind {
         | ScriptCommand::Step(_)
         | ScriptCommand::Call(_)
         | ScriptCommand::Load(_) => LineKind::Steps,
-        ScriptCommand::Heap(_)
-        | ScriptCommand::Flex
-        | ScriptCommand::Areas
-        | ScriptCommand::Modules
-        | ScriptCommand::Mem(_, _) => LineKind::View,
         _ => LineKind::Other,
     }
 }

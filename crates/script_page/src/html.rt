@@ -3,7 +3,7 @@
 ghost use Rattle.std.specs.Str.Lines.{lines};
 ghost use Rattle.profile.specs.Output.{Writes};
 ghost use Rattle.script_page.specs.HtmlPage.{answer_part, answers_html, entry_html};
-ghost use Rattle.script_page.specs.HtmlPage.{figure, figure_html, opening, part_html, typed_line, typed_lines};
+ghost use Rattle.script_page.specs.HtmlPage.{figure, figure_html, guest_html, guest_part, opening, part_html, typed_line, typed_lines};
 
 use crate::shown::Shown;
 use command_shell_lines::text_lines::Lines;
@@ -36,8 +36,9 @@ fn push_opening<W: Sink>(sink: &mut W, number: usize) -> Result<(), WriteFault>
     Ok(())
 }
 
+/// Writes the lines of a text, each with an end.
 #[tactic(auto, using(crate::proofs::TextLemmas::text_steps))]
-fn push_typed<W: Sink>(sink: &mut W, text: &[u8]) -> Result<(), WriteFault>
+pub fn push_typed<W: Sink>(sink: &mut W, text: &[u8]) -> Result<(), WriteFault>
     ensures { Writes W.contents W.has_failed sink.old sink.new result (typed_lines (lines text.now)) }
 {
     let mut lines = Lines::new(text);
@@ -58,10 +59,29 @@ fn push_answers<W: Sink>(sink: &mut W, shown: &Shown<'_>) -> Result<(), WriteFau
     ensures { Writes W.contents W.has_failed sink.old sink.new result (answers_html shown.now) }
 {
     push_all(sink, b"<div class=\"told\">")?;
-    push_part(sink, b"guest", shown.printed)?;
+    push_guest(sink, shown.guest.as_slice())?;
     push_part(sink, b"answer", shown.answer)?;
     push_part(sink, b"steps", shown.steps.as_slice())?;
     push_all(sink, b"</div>")?;
+    Ok(())
+}
+
+fn push_guest<W: Sink>(sink: &mut W, guest: &[u8]) -> Result<(), WriteFault>
+    ensures { Writes W.contents W.has_failed sink.old sink.new result (guest_part guest.now) }
+{
+    if guest.is_empty() {
+        return Ok(());
+    }
+    push_printed(sink, guest)
+}
+
+// What the guest printed, line by line.
+fn push_printed<W: Sink>(sink: &mut W, guest: &[u8]) -> Result<(), WriteFault>
+    ensures { Writes W.contents W.has_failed sink.old sink.new result (guest_html guest.now) }
+{
+    push_all(sink, b"<pre class=\"guest\">\n")?;
+    push_typed(sink, guest)?;
+    push_all(sink, b"</pre>")?;
     Ok(())
 }
 

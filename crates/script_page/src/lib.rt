@@ -8,7 +8,9 @@ mod answers;
 mod entry;
 mod form;
 mod front_lines;
+mod guest_text;
 mod html;
+mod index;
 mod page;
 mod pictures;
 mod setting;
@@ -16,6 +18,7 @@ mod shown;
 pub mod style;
 mod text;
 mod transcript;
+mod views;
 
 pub use form::PageForm;
 pub use page::push_page;

@@ -3,11 +3,13 @@
 ghost use Rattle.std.specs.Prelude.{◌≡◌, ◌⊎◌, true, Err, IfOk, OnOk, IfErr};
 ghost use Rattle.profile.specs.Output.{Writes};
 ghost use Rattle.command_shell.specs.Error.{IsLineError};
+ghost use Rattle.script_page.specs.PictureIndex.{links_html};
 ghost use Rattle.script_page.specs.Setting.{script_answer_in};
 ghost use Rattle.script_page.specs.Writing.{page_back, page_entry, page_front, BeginsPage, WritesPage};
 
 use crate::entry::Entry;
 use crate::form::PageForm;
+use crate::index::{PictureLink, keep_link, push_html_back};
 use crate::pictures::LastViews;
 use crate::setting::Setting;
 use crate::shown::{Shown, has_picture, number_behind, shown_of};
@@ -19,8 +21,8 @@ use std::alloc::Global;
 
 /// Answers the lines of a script one after another, each once, on a fresh machine, and writes the
 /// page of them in that form; gives the last stop that a line was answered with. Each line is
-/// written as soon as it is answered. Memory is taken for the machine, for the entry at hand, and
-/// for the last view of each thing that was looked at.
+/// written as soon as it is answered. Memory is taken for the machine, for the entry at hand, for
+/// the last view of each thing that was looked at, and for the place of each picture.
 ///
 /// # Errors
 ///
@@ -65,17 +67,19 @@ fn push_between<W: Sink>(
 {
     let mut answering = setting.start(alloc, script)?;
     let mut views = LastViews::new(alloc);
+    let mut links = Vec::new(alloc);
     let mut number = 1;
     let mut is_drawn = false;
     push_front(sink, front, form)?;
     while let Some(entry) = answering.next_entry(alloc)? {
-        let picture = views.picture_of(alloc, &entry, form)?;
+        let picture = views.picture_of(alloc, answering.machine(), &entry, form)?;
         let shown = shown_of(alloc, number, &entry, picture)?;
+        keep_link(&mut links, has_picture(&shown), number, entry.lines)?;
         push_entry(sink, &entry, &shown, form)?;
         number = number_behind(number, &entry);
         is_drawn = is_drawn || has_picture(&shown);
     }
-    push_back(sink, back, form, is_drawn)?;
+    push_back(sink, back, form, is_drawn, links.as_slice())?;
     Ok(answering.last())
 }
 
@@ -84,7 +88,7 @@ fn push_front<W: Sink>(sink: &mut W, front: &[u8], form: PageForm) -> Result<(),
 {
     match form {
         PageForm::Html => push_all(sink, front),
-        PageForm::Text | PageForm::Transcript => Ok(()),
+        PageForm::Text(_) | PageForm::Transcript => Ok(()),
     }
 }
 
@@ -97,7 +101,7 @@ fn push_entry<W: Sink>(
     ensures { Writes W.contents W.has_failed sink.old sink.new result (page_entry form entry.now shown.now) }
 {
     match form {
-        PageForm::Text => text::push_entry(sink, shown),
+        PageForm::Text(_) => text::push_entry(sink, shown),
         PageForm::Html => html::push_entry(sink, shown),
         PageForm::Transcript => transcript::push_entry(sink, entry),
     }
@@ -108,12 +112,14 @@ fn push_back<W: Sink>(
     back: &[u8],
     form: PageForm,
     is_drawn: bool,
+    links: &[PictureLink<'_>],
 ) -> Result<(), WriteFault>
-    ensures { Writes W.contents W.has_failed sink.old sink.new result (page_back back.now form is_drawn) }
+    ensures { Writes W.contents W.has_failed sink.old sink.new result
+        (page_back back.now form is_drawn (links_html links.now)) }
 {
     match (form, is_drawn) {
-        (PageForm::Text, true) => text::push_legend(sink),
-        (PageForm::Html, _) => push_all(sink, back),
-        (PageForm::Text, false) | (PageForm::Transcript, _) => Ok(()),
+        (PageForm::Text(width), true) => text::push_legend(sink, width),
+        (PageForm::Html, _) => push_html_back(sink, back, is_drawn, links),
+        (PageForm::Text(_), false) | (PageForm::Transcript, _) => Ok(()),
     }
 }

@@ -1,75 +1,79 @@
-//! The picture under a view: of what its answer tells, and what has changed since the last one.
+//! The picture under a view: of what it tells, and what has changed since the last one.
 
-ghost use Rattle.std.specs.Prelude.{◌≡◌, IfOk};
+ghost use Rattle.std.specs.Prelude.{◌≡◌, ◌⊎◌, true, false, IfOk};
 ghost use Rattle.profile.specs.Output.{Writes};
+ghost use Rattle.view_reading.specs.swi_dispatch_guest.specs.Parts.{state_of};
 ghost use Rattle.view_items.specs.Boxes.{AreBoxesOf};
-ghost use Rattle.view_items.specs.Items.{picture_items_text};
-ghost use Rattle.script_page.specs.Pictures.{boxes_text, rows_text, IsPicture};
+ghost use Rattle.view_items.specs.Items.{are_of_memory, picture_items_text};
+ghost use Rattle.script_page.specs.Pictures.{boxes_text, line_width, rows_text, view_drawn, IsDrawn};
+ghost use Rattle.script_page.specs.Pictures.{IsOfBoxes, IsOfRows, IsPicture};
+ghost use Rattle.script_page.specs.Views.{view_asked};
 
-use crate::entry::{Entry, LineKind};
+use crate::entry::Entry;
 use crate::form::PageForm;
-use command_shell_lines::text_lines::cut;
+use crate::views::items_for_lines;
 use page_markup::{push_grid, push_svg};
 use profile::{Sink, WriteFault};
 use std::alloc::{AllocError, Global};
-use view_items::{PictureView, TextSink, view_of};
+use view_items::{PictureItem, PictureView, TextSink};
 use view_pictures::{GridRow, LINE_WIDTH, Layout, layout_of, push_bars, push_marks, rows_of};
+use view_reading::Machine;
 
 // What stands before each line of a picture in a text.
 const FRONT: &[u8] = b"       ";
 
-/// The views that pictures were drawn of, as their answers: of each thing the last, in the order of
-/// these things' names.
+/// The views that pictures were drawn of, as their items: of each thing the last, in the order of
+/// these things.
 #[derive(Drop)]
 pub struct LastViews {
-    answers: Vec<Vec<u8>>,
+    views: Vec<Vec<PictureItem>>,
 }
 
 impl LastViews {
     /// No view yet.
     pub fn new(alloc: Global) -> LastViews {
         LastViews {
-            answers: Vec::new(alloc),
+            views: Vec::new(alloc),
         }
     }
 
-    /// The picture of the next entry, in a page of that form; empty where its line asks for no view,
-    /// or its answer isn't a view's.
+    /// The picture of an entry in a page of that form, of the view that its line asks for, as the
+    /// machine stands after it; empty where it asks for none, or there is nothing to be seen.
     ///
     /// # Errors
     ///
     /// Memory ran out.
+    #[tactic(auto, using(crate::proofs::PictureLemmas::picture_of_view))]
     pub fn picture_of(
         &mut self,
         alloc: Global,
+        machine: &Machine,
         entry: &Entry<'_>,
         form: PageForm,
     ) -> Result<Vec<u8>, AllocError>
-        ensures { IfOk result (λ picture. IsPicture form entry.now.answer.items picture.items) }
+        ensures { IfOk result (λ picture. IsPicture form
+            (view_asked (state_of machine.now.guest) entry.now.lines.now) picture.items) }
     {
-        match (form, entry.kind) {
-            (PageForm::Text | PageForm::Html, LineKind::View) => {
-                self.picture_of_answer(alloc, entry.answer.as_slice(), form)
-            }
-            _ => Ok(Vec::new(alloc)),
-        }
+        let items = items_drawn(alloc, machine, entry, form)?;
+        self.picture_of_items(alloc, items, form)
     }
 
-    // The picture of an answer, if it is a view's, which is kept then.
-    fn picture_of_answer(
+    // The picture of a view, which is kept then.
+    #[tactic(auto, using(crate::proofs::PictureLemmas::drawn_of_some, crate::proofs::PictureLemmas::drawn_of_none))]
+    fn picture_of_items(
         &mut self,
         alloc: Global,
-        answer: &[u8],
+        items: Vec<PictureItem>,
         form: PageForm,
     ) -> Result<Vec<u8>, AllocError>
-        ensures { IfOk result (λ picture. IsPicture form answer.now picture.items) }
+        ensures { IfOk result (λ picture. IsDrawn form (picture_items_text items.items) picture.items) }
     {
-        let Some(view) = view_of(alloc, answer)? else {
+        if items.is_empty() {
             return Ok(Vec::new(alloc));
-        };
-        let place = self.place_of(answer);
-        let picture = self.picture_after(alloc, &view, place, form)?;
-        self.keep(alloc, place, answer)?;
+        }
+        let place = self.place_of(items.as_slice());
+        let picture = self.picture_after(alloc, items.as_slice(), place, form)?;
+        self.keep(place, items)?;
         Ok(picture)
     }
 
@@ -77,19 +81,19 @@ impl LastViews {
     fn picture_after(
         &self,
         alloc: Global,
-        view: &PictureView<'_>,
+        items: &[PictureItem],
         place: Result<usize, usize>,
         form: PageForm,
     ) -> Result<Vec<u8>, AllocError>
-        requires { AreBoxesOf view.now.items.items view.now.boxes.items }
-        ensures { IfOk result (λ picture. IsPicture form (picture_items_text view.now.items.items)
-            picture.items) }
+        ensures { IfOk result (λ picture. IsOfBoxes form (picture_items_text items.now) picture.items
+            ⊎ IsOfRows form (picture_items_text items.now) picture.items) }
     {
+        let view = PictureView::of(alloc, items)?;
         match self.view_at(alloc, place)? {
-            Some(before) if before.is_of(view) => {
-                picture_of_view(alloc, view, Some(&before), form)
+            Some(before) if before.is_of(&view) => {
+                picture_of_view(alloc, &view, Some(&before), form)
             }
-            _ => picture_of_view(alloc, view, None, form),
+            _ => picture_of_view(alloc, &view, None, form),
         }
     }
 
@@ -99,8 +103,8 @@ impl LastViews {
         place: Result<usize, usize>,
     ) -> Result<Option<PictureView<'_>>, AllocError> {
         match place {
-            Ok(place) => match self.answers.get(place) {
-                Some(answer) => view_of(alloc, answer.as_slice()),
+            Ok(place) => match self.views.get(place) {
+                Some(items) => Ok(Some(PictureView::of(alloc, items.as_slice())?)),
                 None => Ok(None),
             },
             Err(_) => Ok(None),
@@ -108,42 +112,59 @@ impl LastViews {
     }
 
     // Where the last view of the same thing is kept, or where there is none, where it is to stand.
-    fn place_of(&self, answer: &[u8]) -> Result<usize, usize> {
-        let thing = thing_of(answer);
-        self.answers
-            .binary_search_by(|kept| thing_of(kept.as_slice()).cmp(thing))
+    fn place_of(&self, items: &[PictureItem]) -> Result<usize, usize> {
+        let thing = thing_of(items);
+        self.views
+            .binary_search_by(|kept| thing_of(kept.as_slice()).cmp(&thing))
     }
 
-    // Keeps an answer there.
+    // Keeps a view there.
     fn keep(
         &mut self,
-        alloc: Global,
         place: Result<usize, usize>,
-        answer: &[u8],
+        items: Vec<PictureItem>,
     ) -> Result<(), AllocError> {
-        let answer = Vec::from_slice(alloc, answer)?;
         match place {
             Ok(place) => {
-                if let Some(kept) = self.answers.get_mut(place) {
-                    *kept = answer;
+                if let Some(kept) = self.views.get_mut(place) {
+                    *kept = items;
                 }
                 Ok(())
             }
             Err(place) => {
-                let place = place.min(self.answers.len());
-                self.answers.insert(place, answer)?;
+                let place = place.min(self.views.len());
+                self.views.insert(place, items)?;
                 Ok(())
             }
         }
     }
 }
 
-// What a view is of, as it begins: the address of a heap, or that of memory and a colon, or the kind
-// of the view.
-fn thing_of(answer: &[u8]) -> &[u8] {
-    match cut(answer, b' ') {
-        (b"heap", Some(rest)) => cut(rest, b' ').0,
-        (word, _) => word,
+// The items of what a page of that form draws of an entry.
+fn items_drawn(
+    alloc: Global,
+    machine: &Machine,
+    entry: &Entry<'_>,
+    form: PageForm,
+) -> Result<Vec<PictureItem>, AllocError>
+    ensures { IfOk result (λ items. picture_items_text items.items ≡ view_drawn form
+        (view_asked (state_of machine.now.guest) entry.now.lines.now)) }
+{
+    match form {
+        PageForm::Text(_) | PageForm::Html => items_for_lines(alloc, machine, entry.lines),
+        PageForm::Transcript => Ok(Vec::new(alloc)),
+    }
+}
+
+// What a view is of, as its first item tells: the kind of the view, and the address of a heap or of
+// memory.
+fn thing_of(items: &[PictureItem]) -> (u8, u32) {
+    match items {
+        [PictureItem::Heap(start, _, _), ..] => (0, *start),
+        [PictureItem::Row(address, _), ..] => (1, *address),
+        [PictureItem::Flex(_, _, _), ..] => (2, 0),
+        [PictureItem::Module(_, _, _), ..] => (3, 0),
+        _ => (4, 0),
     }
 }
 
@@ -153,9 +174,10 @@ fn picture_of_view(
     before: Option<&PictureView<'_>>,
     form: PageForm,
 ) -> Result<Vec<u8>, AllocError>
-    requires { AreBoxesOf view.now.items.items view.now.boxes.items }
-    ensures { IfOk result (λ picture. IsPicture form (picture_items_text view.now.items.items)
-        picture.items) }
+    requires { AreBoxesOf view.now.items.now view.now.boxes.items }
+    ensures { IfOk result (λ picture.
+        IsOfBoxes form (picture_items_text view.now.items.now) picture.items
+        ⊎ IsOfRows form (picture_items_text view.now.items.now) picture.items) }
 {
     if view.is_memory() {
         picture_of_rows(alloc, view, before, form)
@@ -171,10 +193,11 @@ fn picture_of_rows(
     before: Option<&PictureView<'_>>,
     form: PageForm,
 ) -> Result<Vec<u8>, AllocError>
-    ensures { IfOk result (λ picture. IsPicture form (picture_items_text view.now.items.items)
-        picture.items) }
+    requires { are_of_memory view.now.items.now ≡ true }
+    ensures { IfOk result (λ picture.
+        IsOfRows form (picture_items_text view.now.items.now) picture.items) }
 {
-    let rows = rows_of(alloc, view.items.as_slice(), before)?;
+    let rows = rows_of(alloc, view.items, before)?;
     let mut picture = TextSink::new(alloc);
     match push_rows(&mut picture, form, rows.as_slice()) {
         Ok(()) => Ok(picture.into_bytes()),
@@ -189,11 +212,12 @@ fn picture_of_boxes(
     before: Option<&PictureView<'_>>,
     form: PageForm,
 ) -> Result<Vec<u8>, AllocError>
-    requires { AreBoxesOf view.now.items.items view.now.boxes.items }
-    ensures { IfOk result (λ picture. IsPicture form (picture_items_text view.now.items.items)
-        picture.items) }
+    requires no_memory { are_of_memory view.now.items.now ≡ false }
+    requires boxes { AreBoxesOf view.now.items.now view.now.boxes.items }
+    ensures { IfOk result (λ picture.
+        IsOfBoxes form (picture_items_text view.now.items.now) picture.items) }
 {
-    let layout = layout_of(alloc, view.boxes.as_slice(), before)?;
+    let layout = layout_of(alloc, view.boxes.as_slice(), before, line_width(form))?;
     let mut picture = TextSink::new(alloc);
     match push_boxes(&mut picture, form, &layout) {
         Ok(()) => Ok(picture.into_bytes()),
@@ -201,11 +225,21 @@ fn picture_of_boxes(
     }
 }
 
+// For how wide a line the boxes of a bar are laid out.
+fn line_width(form: PageForm) -> usize
+    ensures { result ≡ line_width form }
+{
+    match form {
+        PageForm::Text(width) => width,
+        PageForm::Html | PageForm::Transcript => LINE_WIDTH,
+    }
+}
+
 fn push_rows<W: Sink>(sink: &mut W, form: PageForm, rows: &[GridRow<'_>]) -> Result<(), WriteFault>
     ensures { Writes W.contents W.has_failed sink.old sink.new result (rows_text form rows.now) }
 {
     match form {
-        PageForm::Text => push_marks(sink, FRONT, rows),
+        PageForm::Text(width) => push_marks(sink, FRONT, width, rows),
         PageForm::Html => push_grid(sink, rows),
         PageForm::Transcript => Ok(()),
     }
@@ -215,7 +249,7 @@ fn push_boxes<W: Sink>(sink: &mut W, form: PageForm, layout: &Layout<'_>) -> Res
     ensures { Writes W.contents W.has_failed sink.old sink.new result (boxes_text form layout.now) }
 {
     match form {
-        PageForm::Text => push_bars(sink, FRONT, LINE_WIDTH, layout),
+        PageForm::Text(width) => push_bars(sink, FRONT, width, layout),
         PageForm::Html => push_svg(sink, layout),
         PageForm::Transcript => Ok(()),
     }

@@ -1,11 +1,13 @@
 //! What a page shows of each entry: its parts, and its picture.
 ghost use Rattle.std.specs.Prelude.{◌≡◌, ◌++◌, IfOk, length};
 ghost use Rattle.std.specs.Str.Lines.{lines};
+ghost use Rattle.script_page.specs.GuestText.{guest_text};
 ghost use Rattle.script_page.specs.Page.{number_after, steps_text};
 ghost use Rattle.script_page.specs.TextPage.{has_picture};
 
 use crate::answers::parts_of;
 use crate::entry::{Entry, LineKind};
+use crate::guest_text::guest_text;
 use command_shell_lines::text_lines::Lines;
 use itoa::Buffer;
 use std::alloc::{AllocError, Global};
@@ -19,6 +21,8 @@ pub struct Shown<'a> {
     pub lines: &'a [u8],
     /// What the guest printed.
     pub printed: &'a [u8],
+    /// The same as a page shows it: no return stands behind a line feed.
+    pub guest: Vec<u8>,
     /// The answer after that.
     pub answer: &'a [u8],
     /// How many steps it took, as `12 steps`, where it took more than one.
@@ -41,15 +45,18 @@ pub fn shown_of<'a>(
     ensures number { IfOk result (λ s. s.number ≡ number) }
     ensures lines { IfOk result (λ s. s.lines.now ≡ entry.entry.now.lines.now) }
     ensures answer { IfOk result (λ s. s.printed.now ++ s.answer.now ≡ entry.entry.now.answer.items) }
+    ensures guest { IfOk result (λ s. s.guest.items ≡ guest_text s.printed.now) }
     ensures steps { IfOk result (λ s. s.steps.items ≡ steps_text entry.entry.now.kind entry.entry.now.steps) }
     ensures picture { IfOk result (λ s. s.picture ≡ picture) }
 {
     let steps = steps_of(alloc, entry)?;
     let (printed, answer) = parts_of_answer(entry);
+    let guest = guest_text(alloc, printed)?;
     Ok(Shown {
         number,
         lines: entry.lines,
         printed,
+        guest,
         answer,
         steps,
         picture,

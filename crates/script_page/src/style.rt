@@ -24,9 +24,16 @@ pub const FRONT: &[u8] = br##"<!DOCTYPE html>
 body { margin: 0; background: var(--paper); color: var(--ink);
   font: 15px/1.5 ui-monospace, "DejaVu Sans Mono", Menlo, Consolas, monospace; }
 main { max-width: 74rem; margin: 0 auto; padding: 1rem 0.75rem 3rem; }
+h1, h2 { font-size: 1.2em; margin: 0.4em 0; }
+h2 { margin-top: 1.4em; }
+a { color: inherit; }
+.hint { margin: 0 0 0.8rem; color: var(--soft); }
+.legend { color: var(--soft); margin: 0.3em 0; }
 ol { list-style: none; margin: 0; padding: 0; }
-li { display: grid; grid-template-columns: 2.6rem minmax(0, 1fr); border-top: 1px solid var(--line);
+.entries li { display: grid; grid-template-columns: minmax(2.6rem, auto) minmax(0, 1fr); border-top: 1px solid var(--line);
   padding: 0.2rem 0; }
+.entries li:target { outline: 2px solid var(--edge); }
+.index li { overflow-wrap: anywhere; }
 .number { color: var(--soft); text-align: right; padding-right: 0.7rem; user-select: none; }
 .typed { margin: 0; font: inherit; font-weight: 600; white-space: pre; overflow-x: auto; }
 .answers { display: flex; flex-wrap: wrap; gap: 0.5rem 1.5rem; align-items: flex-start; }
@@ -57,6 +64,19 @@ svg rect.change { fill: none; stroke: var(--change); stroke-width: 2; }
 .hatch-back { fill: var(--paper); stroke: none; }
 .hatch-line { stroke: var(--hatch); stroke-width: 1.5; }
 .arrow-head { fill: var(--edge); }
+@media print {
+  :root { --paper: #fff; --ink: #000; --soft: #333; --line: #999; --panel: #fff; --live: #fff; --head: #fff;
+    --edge: #000; --hatch: #666; --change: #000; --guest: #000; }
+  body { font-size: 9pt; }
+  main { max-width: none; padding: 0; }
+  .hint { display: none; }
+  a { text-decoration: none; }
+  .entries li, figure { break-inside: avoid; }
+  h2, .typed { break-after: avoid; }
+  .typed, pre.answer { white-space: pre-wrap; overflow-wrap: anywhere; }
+  pre.answer, pre.steps { padding-left: 1rem; }
+  .legend { break-before: avoid; }
+}
 </style>
 </head>
 <body>
@@ -69,8 +89,10 @@ svg rect.change { fill: none; stroke: var(--change); stroke-width: 2; }
 </marker>
 </defs></svg>
 <main>
-<ol>
+<h1>A script and its answers</h1>
+<p class="hint"><a href="#pictures">Pictures, and what their signs mean</a></p>
+<ol class="entries">
 "##;
 
-/// After the last line of the script.
-pub const BACK: &[u8] = b"</ol>\n</main>\n</body>\n</html>\n";
+/// After the list of pictures.
+pub const BACK: &[u8] = b"</main>\n</body>\n</html>\n";

@@ -19,12 +19,12 @@ const GUEST: &[u8] = b"     : ";
 
 const STEPS: &[u8] = b"     = ";
 
-/// Writes what the signs of pictures mean.
-pub fn push_legend<W: Sink>(sink: &mut W) -> Result<(), WriteFault>
-    ensures { Writes W.contents W.has_failed sink.old sink.new result legend }
+/// Writes what the signs of pictures mean, in lines of at most so many characters.
+pub fn push_legend<W: Sink>(sink: &mut W, width: usize) -> Result<(), WriteFault>
+    ensures { Writes W.contents W.has_failed sink.old sink.new result (legend width) }
 {
     push_all(sink, b"\n")?;
-    push_bar_legend(sink, ANSWER)
+    push_bar_legend(sink, ANSWER, width)
 }
 
 /// Writes an entry: each line under its number, its answer under it, what the guest printed after a
@@ -34,7 +34,7 @@ pub fn push_entry<W: Sink>(sink: &mut W, shown: &Shown<'_>) -> Result<(), WriteF
     ensures { Writes W.contents W.has_failed sink.old sink.new result (text_entry shown.now) }
 {
     push_numbered(sink, shown.number, shown.lines)?;
-    push_behind(sink, GUEST, shown.printed)?;
+    push_behind(sink, GUEST, shown.guest.as_slice())?;
     push_behind(sink, ANSWER, shown.answer)?;
     push_behind(sink, STEPS, shown.steps.as_slice())?;
     push_all(sink, shown.picture.as_slice())

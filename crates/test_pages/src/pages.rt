@@ -5,7 +5,9 @@ use profile::Config;
 use script_page::{PageForm, Setting, push_page};
 use std::process::Abort;
 use std::test::Fail;
-use view_items::{TextSink, view_of};
+use view_items::TextSink;
+
+const TEXT: PageForm = PageForm::Text(100);
 
 /// Of 774,144 bytes, 65,536 have 5 characters of 60, and the 173 pages of the pool have 54; what
 /// the area may grow by has 4 always. No room is left for the address of that after the area's own.
@@ -130,6 +132,44 @@ const GUEST_PAGE: &str = "    1  HEX p
      = 3 steps
 ";
 
+/// The program prints A, a new line by OS_NewLine, B, a return and a line feed, and a line feed and a
+/// return, each once as a line's end; then a return, and C. A return before a line feed, or behind
+/// one, is a part of that line's end; the last isn't.
+const ENDS_PAGE: &str = "    1  HEX p
+    2  41 00 A0 E3 00 00 00 EF 03 00 00 EF 42 00 A0 E3 00 00 00 EF
+    3  0D 00 A0 E3 00 00 00 EF 0A 00 A0 E3 00 00 00 EF
+    4  0A 00 A0 E3 00 00 00 EF 0D 00 A0 E3 00 00 00 EF
+    5  00 00 00 EF 43 00 A0 E3 00 00 00 EF 11 00 00 EF
+    6  END
+       hex p: 68 bytes
+    7  BOOT p
+       boot p
+    8  RUN
+     : A
+     : B
+     : 
+     : \\rC
+       stop Exit
+     = 17 steps
+";
+
+/// In lines of 40 characters, 8 bytes stand above their marks, and what the signs mean in six lines.
+const NARROW_PAGE: &str = "    1  MEM &9000 16
+       00009000: 00 00 00 00 00 00 00 00 00 00 00 00 00 00 00 00
+    2  POKE &9008 &12345678
+    3  MEM &9000 16
+       00009000: 00 00 00 00 00 00 00 00 78 56 34 12 00 00 00 00
+       00009008: 78 56 34 12 00 00 00 00
+       changed   ^^ ^^ ^^ ^^
+
+       signs: d descriptor, . free,
+       # block, area or module,
+       p page pool, w private word,
+       ~ what an area may grow by,
+       / ends a box not to scale,
+       ^ under what has changed
+";
+
 const REFUSED_PAGE: &str = "    1  HEAP &9000
        refused NoHeap
 ";
@@ -145,31 +185,26 @@ fn page(rt: &(impl AllocGlobal + Abort), script: &str, form: PageForm) -> TextSi
     sink
 }
 
-fn is_view(rt: &(impl AllocGlobal + Abort), text: &str) -> bool {
-    let found = view_of(rt.alloc(), text.as_bytes()).expect(rt, "memory");
-    found.is_some()
-}
-
 fn has(text: &[u8], part: &[u8]) -> bool {
     (0..text.len()).any(|place| text[place..].starts_with(part))
 }
 
 #[test]
 fn areas_to_scale(rt: HostRuntime) {
-    let written = page(&rt, "AREAS\n", PageForm::Text);
+    let written = page(&rt, "AREAS\n", TEXT);
     assert!(rt; written.bytes() == AREAS_PAGE.as_bytes());
 }
 
 #[test]
 fn a_changed_byte_is_marked(rt: HostRuntime) {
     let script = "POKE &9000 &12345678\nMEM &9000 4\nPOKE &9000 &12005678\nMEM &9000 4\n";
-    let written = page(&rt, script, PageForm::Text);
+    let written = page(&rt, script, TEXT);
     assert!(rt; written.bytes() == MEM_PAGE.as_bytes());
 }
 
 #[test]
 fn flex_blocks_slide(rt: HostRuntime) {
-    let written = page(&rt, FLEX_SCRIPT, PageForm::Text);
+    let written = page(&rt, FLEX_SCRIPT, TEXT);
     assert!(rt; written.bytes() == FLEX_PAGE.as_bytes());
 }
 
@@ -188,33 +223,10 @@ fn a_block_tells_which_block_holds_its_anchor(rt: HostRuntime) {
 }
 
 #[test]
-fn a_line_is_a_view_as_it_is_written_only(rt: HostRuntime) {
-    assert!(rt; is_view(&rt, "block anchor 0000A00C at 0000A018 size 4\n"));
-    assert!(rt;
-        is_view(
-            &rt,
-            "block anchor 0000A00C at 0000A018 size 4 in 0000A008 offset 4\n"
-        )
-    );
-    assert!(rt;
-        !is_view(
-            &rt,
-            "block anchor 0000A00C at 0000A018 size 4 in 0000A008 offset 04\n"
-        )
-    );
-    assert!(rt;
-        !is_view(
-            &rt,
-            "block anchor 0000A00C at 0000A018 size 4 in 0000A008\n"
-        )
-    );
-}
-
-#[test]
 fn a_module_and_its_word(rt: HostRuntime) {
     let script =
         "ASM w 0\n        DCD     0,0,0,0,title,0,0\ntitle   DCB     \"W\",0\nEND\nLOAD w\nMODULES\n";
-    let written = page(&rt, script, PageForm::Text);
+    let written = page(&rt, script, TEXT);
     assert!(rt; written.bytes() == MODULES_PAGE.as_bytes());
 }
 
@@ -222,7 +234,7 @@ fn a_module_and_its_word(rt: HostRuntime) {
 fn a_module_of_another_length_was_replaced(rt: HostRuntime) {
     let script =
         "ASM w 0\n        DCD     0,0,0,0,title,0,0\ntitle   DCB     \"W\",0\nEND\nASM v 0\n        DCD     0,0,0,0,title,0,0,0\ntitle   DCB     \"W\",0\nEND\nLOAD w\nMODULES\nLOAD v\nMODULES\n";
-    let written = page(&rt, script, PageForm::Text);
+    let written = page(&rt, script, TEXT);
     assert!(rt;
         has(
             written.bytes(),
@@ -235,8 +247,44 @@ fn a_module_of_another_length_was_replaced(rt: HostRuntime) {
 #[test]
 fn what_the_guest_prints_stands_apart(rt: HostRuntime) {
     let script = "HEX p\n41 00 A0 E3 00 00 00 EF 11 00 00 EF\nEND\nBOOT p\nRUN\n";
-    let written = page(&rt, script, PageForm::Text);
+    let written = page(&rt, script, TEXT);
     assert!(rt; written.bytes() == GUEST_PAGE.as_bytes());
+}
+
+#[test]
+fn a_return_beside_a_line_feed_is_part_of_a_lines_end(rt: HostRuntime) {
+    let script = "HEX p
+41 00 A0 E3 00 00 00 EF 03 00 00 EF 42 00 A0 E3 00 00 00 EF
+0D 00 A0 E3 00 00 00 EF 0A 00 A0 E3 00 00 00 EF
+0A 00 A0 E3 00 00 00 EF 0D 00 A0 E3 00 00 00 EF
+00 00 00 EF 43 00 A0 E3 00 00 00 EF 11 00 00 EF
+END
+BOOT p
+RUN
+";
+    let written = page(&rt, script, TEXT);
+    assert!(rt; written.bytes() == ENDS_PAGE.as_bytes());
+    let shown = page(&rt, script, PageForm::Html);
+    let told = b"<pre class=\"guest\">\nA\nB\n\n&lang;0D&rang;C\n</pre>";
+    assert!(rt; has(shown.bytes(), told.as_slice()));
+}
+
+#[test]
+fn narrow_lines_have_fewer_bytes(rt: HostRuntime) {
+    let script = "MEM &9000 16\nPOKE &9008 &12345678\nMEM &9000 16\n";
+    let written = page(&rt, script, PageForm::Text(40));
+    assert!(rt; written.bytes() == NARROW_PAGE.as_bytes());
+}
+
+#[test]
+fn html_ends_with_links_to_its_pictures(rt: HostRuntime) {
+    let written = page(&rt, "MEM &9000 4\nSTEP 0\nAREAS\n", PageForm::Html);
+    let links =
+        b"<li><a href=\"#line-1\">1 MEM &#x26;9000 4\n</a></li>\n<li><a href=\"#line-3\">3 AREAS\n</a></li>\n</ol>";
+    assert!(rt; has(written.bytes(), links.as_slice()));
+    let none = page(&rt, "STEP 0\n", PageForm::Html);
+    assert!(rt; has(none.bytes(), b"<p>No line here has one.</p>".as_slice()));
+    assert!(rt; !has(none.bytes(), b"class=\"legend\"".as_slice()));
 }
 
 #[test]
@@ -250,15 +298,24 @@ fn html_tells_steps_apart(rt: HostRuntime) {
 
 #[test]
 fn one_step_is_not_told(rt: HostRuntime) {
-    let written = page(&rt, "STEP 1\nSTEP 2\n", PageForm::Text);
+    let written = page(&rt, "STEP 1\nSTEP 2\n", TEXT);
     let wanted = "    1  STEP 1\n       at &8004\n    2  STEP 2\n       at &800C\n     = 2 steps\n";
     assert!(rt; written.bytes() == wanted.as_bytes());
 }
 
 #[test]
 fn a_refused_view_has_no_picture(rt: HostRuntime) {
-    let written = page(&rt, "HEAP &9000\n", PageForm::Text);
+    let written = page(&rt, "HEAP &9000\n", TEXT);
     assert!(rt; written.bytes() == REFUSED_PAGE.as_bytes());
+}
+
+/// There is no module, and the last line isn't one that asks for a view.
+#[test]
+fn what_tells_nothing_has_no_picture(rt: HostRuntime) {
+    let written = page(&rt, "MODULES\nFLEX\nHEAP\n", TEXT);
+    let wanted =
+        "    1  MODULES\n    2  FLEX\n       refused NoFlex\n    3  HEAP\n       ? line 3\n";
+    assert!(rt; written.bytes() == wanted.as_bytes());
 }
 
 #[test]

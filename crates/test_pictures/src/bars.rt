@@ -1,11 +1,18 @@
 //! Bars for a terminal: their order, their scale, and how they are wrapped. They are worked out by
 //! hand.
 
-use crate::seen::{Seen, written_picture};
+use crate::seen::{Seen, instance, module, written_picture};
 use std::process::Abort;
 use std::test::Fail;
+use view_items::PictureItem;
+use view_items::PictureItem::{Free, Heap, Live};
 
-fn is_drawn(rt: &(impl AllocGlobal + Abort), view: &str, width: usize, drawn: &str) -> bool {
+fn is_drawn(
+    rt: &(impl AllocGlobal + Abort),
+    view: &[PictureItem],
+    width: usize,
+    drawn: &str,
+) -> bool {
     written_picture(rt, view, view, Seen::Bars(width)).bytes() == drawn.as_bytes()
 }
 
@@ -13,75 +20,99 @@ fn is_drawn(rt: &(impl AllocGlobal + Abort), view: &str, width: usize, drawn: &s
 /// and each word 3.
 #[test]
 fn modules_stand_from_low_addresses_to_high(rt: HostRuntime) {
-    let view = "module B at 01800100 length 40
-  Base word 01C02000 00000000 preferred
-module A at 01800014 length 30
-  Base word 01C02004 00000000 preferred
-";
+    let view = [
+        module(&rt, "B", 0x1800100, 40),
+        instance(&rt, "Base", 0x1C02000, 0x0),
+        module(&rt, "A", 0x1800014, 30),
+        instance(&rt, "Base", 0x1C02004, 0x0),
+    ];
     let drawn = "|#######################|##############################|www|www|
  1800014                 1800100                        1C02000
 ";
-    assert!(rt; is_drawn(&rt, view, 100, drawn));
+    assert!(rt; is_drawn(&rt, &view, 100, drawn));
 }
 
 /// Of 65,536 bytes the descriptor and a block of 80 have less than one character of 60.
 #[test]
 fn what_is_not_to_scale_has_another_edge(rt: HostRuntime) {
-    let view = "heap 01800000 base 26312 end 65536
-free 01800010 12008
-live 01802EF8 80
-live 01802F48 8200
-live 01804F50 6008
-";
+    let view = [
+        Heap(0x1800000, 26312, 65536),
+        Free(0x1800010, 12008),
+        Live(0x1802EF8, 80),
+        Live(0x1802F48, 8200),
+        Live(0x1804F50, 6008),
+    ];
     let drawn = "|d/..........|#/#######|#####|                                   |
  1800000      1802EF8   1804F50                                   1810000
 free chain 01800010 -> end
 ";
-    assert!(rt; is_drawn(&rt, view, 100, drawn));
+    assert!(rt; is_drawn(&rt, &view, 100, drawn));
 }
 
-/// Of 256 bytes the descriptor has 3 characters of 60, each block 5 and the room 11. In lines of 40
-/// the boxes have 32, so that an address of 8 digits has room after them.
+/// In lines of 40 the boxes share 15 characters. Of 512 bytes the descriptor and each block of 16
+/// have less than one, and the room after the last block has 5. A row has 32 characters for boxes
+/// and edges, so that an address of 8 digits has room after them: 15 boxes.
 #[test]
 fn bars_are_wrapped(rt: HostRuntime) {
-    let view = "heap 00009000 base 208 end 256
-live 00009010 24
-live 00009028 24
-live 00009040 24
-live 00009058 24
-live 00009070 24
-live 00009088 24
-live 000090A0 24
-live 000090B8 24
+    let view = [
+        Heap(0x9000, 336, 512),
+        Live(0x9010, 16),
+        Live(0x9020, 16),
+        Live(0x9030, 16),
+        Live(0x9040, 16),
+        Live(0x9050, 16),
+        Live(0x9060, 16),
+        Live(0x9070, 16),
+        Live(0x9080, 16),
+        Live(0x9090, 16),
+        Live(0x90A0, 16),
+        Live(0x90B0, 16),
+        Live(0x90C0, 16),
+        Live(0x90D0, 16),
+        Live(0x90E0, 16),
+        Live(0x90F0, 16),
+        Live(0x9100, 16),
+        Live(0x9110, 16),
+        Live(0x9120, 16),
+        Live(0x9130, 16),
+        Live(0x9140, 16),
+    ];
+    let drawn = "|d/#/#/#/#/#/#/#/#/#/#/#/#/#/#/
+ 9000  9030  9060  9090  90C0
+|#/#/#/#/#/#/     |
+ 90F0  9120  9150  9200
 ";
-    let drawn = "|ddd|#####|#####|#####|#####|
- 9000      9028  9040  9058
-|#####|#####|#####|#####|
- 9070  9088  90A0  90B8
-|           |
- 90D0        9100
-";
-    assert!(rt; is_drawn(&rt, view, 40, drawn));
+    assert!(rt; is_drawn(&rt, &view, 40, drawn));
 }
 
+/// In lines of 120 the boxes share 75 characters: of 256 bytes 16 have 4, and 240 have 70.
+#[test]
+fn wide_lines_have_wide_bars(rt: HostRuntime) {
+    let view = [Heap(0x9000, 256, 256), Live(0x9010, 240)];
+    let drawn = "|dddd|######################################################################|
+ 9000 9010                                                                   9100
+";
+    assert!(rt; is_drawn(&rt, &view, 120, drawn));
+}
+
+/// In lines of 50 the boxes share 22 characters: of 256 bytes 16 have 1, 32 have 2 and 64 have 5.
 #[test]
 fn chains_are_wrapped(rt: HostRuntime) {
-    let view = "heap 00009000 base 256 end 256
-free 00009010 32
-live 00009030 16
-free 00009040 32
-live 00009060 16
-free 00009070 32
-live 00009090 16
-free 000090A0 32
-live 000090C0 64
-";
-    let drawn = "|ddd|.......|###|.......|###|.......|###|
- 9000        9030        9060        9090
-|.......|###############|
- 90A0    90C0            9100
+    let view = [
+        Heap(0x9000, 256, 256),
+        Free(0x9010, 32),
+        Live(0x9030, 16),
+        Free(0x9040, 32),
+        Live(0x9060, 16),
+        Free(0x9070, 32),
+        Live(0x9090, 16),
+        Free(0x90A0, 32),
+        Live(0x90C0, 64),
+    ];
+    let drawn = "|d|..|#|..|#|..|#|..|#####|
+ 9000 9030 9060 9090 90C0  9100
 free chain 00009010 -> 00009040 -> 00009070 ->
            000090A0 -> end
 ";
-    assert!(rt; is_drawn(&rt, view, 50, drawn));
+    assert!(rt; is_drawn(&rt, &view, 50, drawn));
 }

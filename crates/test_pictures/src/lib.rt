@@ -1,4 +1,4 @@
-//! Tests: pictures of views given as text, what has become of their boxes, and bars that are wrapped.
+//! Tests: pictures of views given as items, what has become of their boxes, and bars that are wrapped.
 //!
 //! These tests stand apart from the crates that they test, since a crate with tests is proved once
 //! more with them.

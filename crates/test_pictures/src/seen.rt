@@ -3,8 +3,9 @@
 use page_markup::push_svg;
 use std::process::Abort;
 use std::test::Fail;
-use view_items::{PictureView, TextSink, view_of};
-use view_pictures::{layout_of, push_bars, push_told};
+use view_items::items::Holder;
+use view_items::{PictureItem, PictureView, TextSink};
+use view_pictures::{LINE_WIDTH, layout_of, push_bars, push_told};
 
 /// What is drawn of a view.
 #[derive(Clone, Copy, Debug)]
@@ -17,21 +18,54 @@ pub enum Seen {
     Svg,
 }
 
-fn view<'a>(rt: &(impl AllocGlobal + Abort), text: &'a str) -> PictureView<'a> {
-    let found = view_of(rt.alloc(), text.as_bytes()).expect(rt, "memory");
-    found.expect(rt, "the text of a view")
+impl Seen {
+    // For how wide a line the boxes are laid out.
+    fn width(self) -> usize {
+        match self {
+            Seen::Bars(width) => width,
+            Seen::Told | Seen::Svg => LINE_WIDTH,
+        }
+    }
+}
+
+/// The item of a module.
+pub fn module(
+    rt: &(impl AllocGlobal + Abort),
+    title: &str,
+    address: u32,
+    size: u32,
+) -> PictureItem {
+    let title = Vec::from_slice(rt.alloc(), title.as_bytes()).expect(rt, "memory");
+    PictureItem::Module(title, address, size)
+}
+
+/// The item of a preferred instance.
+pub fn instance(rt: &(impl AllocGlobal + Abort), name: &str, word: u32, value: u32) -> PictureItem {
+    let name = Vec::from_slice(rt.alloc(), name.as_bytes()).expect(rt, "memory");
+    PictureItem::Instance(name, word, value, true)
+}
+
+/// That an anchor lies so far in the bytes of the block with that address.
+pub fn inside(address: u32, offset: u32) -> Option<Holder> {
+    Some(Holder { address, offset })
 }
 
 /// What is drawn of the new view, after the old one.
 pub fn written_picture(
     rt: &(impl AllocGlobal + Abort),
-    old: &str,
-    new: &str,
+    old: &[PictureItem],
+    new: &[PictureItem],
     what: Seen,
 ) -> TextSink {
-    let before = view(rt, old);
-    let now = view(rt, new);
-    let layout = layout_of(rt.alloc(), now.boxes.as_slice(), Some(&before)).expect(rt, "memory");
+    let before = PictureView::of(rt.alloc(), old).expect(rt, "memory");
+    let now = PictureView::of(rt.alloc(), new).expect(rt, "memory");
+    let layout = layout_of(
+        rt.alloc(),
+        now.boxes.as_slice(),
+        Some(&before),
+        what.width(),
+    )
+    .expect(rt, "memory");
     let mut sink = TextSink::new(rt.alloc());
     let written = match what {
         Seen::Told => push_told(&mut sink, b"", &layout),

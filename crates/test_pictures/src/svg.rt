@@ -1,17 +1,18 @@
 //! Pictures as SVG: what they say of themselves, and what is not to scale.
 
-use crate::seen::{Seen, written_picture};
+use crate::seen::{Seen, inside, written_picture};
 use std::process::Abort;
 use std::test::Fail;
+use view_items::PictureItem;
+use view_items::PictureItem::{Block, Flex, Heap, Live};
 
-const OLD: &str = "heap 00009000 base 88 end 128
-live 00009010 24
-live 00009028 48
-";
+fn old() -> [PictureItem; 3] {
+    [Heap(0x9000, 88, 128), Live(0x9010, 24), Live(0x9028, 48)]
+}
 
-const NEW: &str = "heap 00009000 base 40 end 128
-live 00009010 24
-";
+fn new() -> [PictureItem; 2] {
+    [Heap(0x9000, 40, 128), Live(0x9010, 24)]
+}
 
 fn has(text: &[u8], part: &[u8]) -> bool {
     (0..text.len()).any(|place| text[place..].starts_with(part))
@@ -19,7 +20,7 @@ fn has(text: &[u8], part: &[u8]) -> bool {
 
 #[test]
 fn a_picture_says_what_it_shows(rt: HostRuntime) {
-    let drawn = written_picture(&rt, OLD, NEW, Seen::Svg);
+    let drawn = written_picture(&rt, &old(), &new(), Seen::Svg);
     let head = b"<title>heap 00009000</title><desc>00009028 room grown
 00009028 live gone
 </desc>
@@ -31,7 +32,7 @@ fn a_picture_says_what_it_shows(rt: HostRuntime) {
 /// block of 24 bytes, with 37, to 70, and the room of 88 bytes, with 137, to 207.
 #[test]
 fn what_is_gone_is_told_under_the_boxes(rt: HostRuntime) {
-    let drawn = written_picture(&rt, OLD, NEW, Seen::Svg);
+    let drawn = written_picture(&rt, &old(), &new(), Seen::Svg);
     let line = b"<text class=\"told\" x=\"8\" y=\"251\">00009028 live gone</text>\n</svg>";
     assert!(rt; has(drawn.bytes(), line.as_slice()));
     assert!(rt; has(drawn.bytes(), b"viewBox=\"0 0 380 271\"".as_slice()));
@@ -40,16 +41,31 @@ fn what_is_gone_is_told_under_the_boxes(rt: HostRuntime) {
 /// A block of 24 bytes of 65,536 would have no height.
 #[test]
 fn a_box_that_is_higher_than_its_share_has_a_zigzag(rt: HostRuntime) {
-    let view = "heap 00009000 base 40 end 65536
-live 00009010 24
-";
-    let drawn = written_picture(&rt, view, view, Seen::Svg);
+    let view = [Heap(0x9000, 40, 65536), Live(0x9010, 24)];
+    let drawn = written_picture(&rt, &view, &view, Seen::Svg);
     assert!(rt;
         has(
             drawn.bytes(),
             b"<path class=\"break\" d=\"M 302 38 l".as_slice()
         )
     );
-    let plain = written_picture(&rt, OLD, OLD, Seen::Svg);
+    let plain = written_picture(&rt, &old(), &old(), Seen::Svg);
     assert!(rt; !has(plain.bytes(), b"class=\"break\"".as_slice()));
+}
+
+/// Of 104 bytes, 8 and 4 would have less than 40 of 200, so the blocks stand from 8, 48 and 88 on;
+/// 24 have 46. The anchor of the second is at the upper edge of the first, and that of the third at
+/// its middle; the arrows lead to the middles of these blocks, 68 and 111, but for 2.
+#[test]
+fn an_arrow_leads_from_an_anchor_to_its_block(rt: HostRuntime) {
+    let view = [
+        Flex(0xA000, 0xA080, 60),
+        Block(0x9000, 0xA008, 8, None),
+        Block(0xA008, 0xA018, 4, inside(0xA008, 0)),
+        Block(0xA00C, 0xA024, 24, inside(0xA008, 4)),
+    ];
+    let drawn = written_picture(&rt, &view, &view, Seen::Svg);
+    let arrows =
+        b"<path class=\"chain\" d=\"M 286 8 V 66\"/><path class=\"chain\" d=\"M 286 28 V 109\"/>";
+    assert!(rt; has(drawn.bytes(), arrows.as_slice()));
 }

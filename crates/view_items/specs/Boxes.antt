@@ -46,12 +46,13 @@ own_place (item.Free address size) = Some (plain_place kind.Free address size)
 own_place (item.Flex start end used) = None
 own_place (item.Block anchor address size holder) =
     Some (box_place kind.Block address size [] anchor holder)
-own_place (item.Area number base size max name) = Some (named_place kind.Area base size name.now)
+own_place (item.Area number base pages max name) = if nat_lt (pages * 4096) (2 ^ 32) then
+    Some (named_place kind.Area base (pages * 4096) name.items) else None
 own_place (item.Pool pages) = if nat_lt (pages * 4096) (2 ^ 32) then
     Some (plain_place kind.Pool 0 (pages * 4096)) else None
-own_place (item.Module title address size) = Some (named_place kind.Module address size title.now)
+own_place (item.Module title address size) = Some (named_place kind.Module address size title.items)
 own_place (item.Instance name word value is_preferred) =
-    Some (box_place kind.Word word 4 name.now value None)
+    Some (box_place kind.Word word 4 name.items value None)
 own_place (item.Row address bytes) = None
 
 -- bytes from one address up to another, where there are some
@@ -60,7 +61,8 @@ between k from to = if nat_lt from to && nat_lt to (2 ^ 32) then Some (plain_pla
 
 -- what an area may grow by
 abbrev pub growth_place : PictureItem → Option BoxPlace
-growth_place (item.Area number base size max name) = between kind.Unused (base + size) (base + max)
+growth_place (item.Area number base pages max name) =
+    between kind.Unused (base + pages * 4096) (base + max)
 growth_place other = None
 
 abbrev pub item_places : PictureItem → List BoxPlace

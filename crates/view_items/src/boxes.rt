@@ -69,7 +69,7 @@ impl<'a> PictureBox<'a> {
 /// Memory ran out.
 pub fn boxes_of<'a>(
     alloc: Global,
-    items: &[PictureItem<'a>],
+    items: &'a [PictureItem],
 ) -> Result<Vec<PictureBox<'a>>, AllocError>
     ensures { IfOk result (λ boxes. AreBoxesOf items.entry.now boxes.items) }
 {
@@ -81,7 +81,7 @@ pub fn boxes_of<'a>(
 // The boxes in the order of the items, and the room last.
 fn boxes_as_told<'a>(
     alloc: Global,
-    items: &[PictureItem<'a>],
+    items: &'a [PictureItem],
 ) -> Result<Vec<PictureBox<'a>>, AllocError>
     ensures { IfOk result (λ boxes. map place_of_box boxes.items ≡ places_told items.entry.now) }
 {
@@ -107,7 +107,7 @@ fn push_found<'a>(
     Ok(())
 }
 
-fn room_of_all<'a>(items: &[PictureItem<'a>]) -> Option<PictureBox<'a>>
+fn room_of_all<'a>(items: &[PictureItem]) -> Option<PictureBox<'a>>
     ensures { option_to_list (option_map place_of_box result) ≡ room_places items.entry.now }
 {
     match items {
@@ -117,21 +117,21 @@ fn room_of_all<'a>(items: &[PictureItem<'a>]) -> Option<PictureBox<'a>>
 }
 
 // The box of an item's own.
-fn box_of<'a>(item: &PictureItem<'a>) -> Option<PictureBox<'a>>
+fn box_of<'a>(item: &'a PictureItem) -> Option<PictureBox<'a>>
     ensures { option_map place_of_box result ≡ own_place item.entry.now }
 {
-    match *item {
-        PictureItem::Heap(start, _, _) => Some(PictureBox::plain(BoxKind::Descriptor, start, 16)),
-        PictureItem::Live(address, size) => Some(PictureBox::plain(BoxKind::Live, address, size)),
-        PictureItem::Free(address, size) => Some(PictureBox::plain(BoxKind::Free, address, size)),
+    match item {
+        PictureItem::Heap(start, _, _) => Some(PictureBox::plain(BoxKind::Descriptor, *start, 16)),
+        PictureItem::Live(address, size) => Some(PictureBox::plain(BoxKind::Live, *address, *size)),
+        PictureItem::Free(address, size) => Some(PictureBox::plain(BoxKind::Free, *address, *size)),
         PictureItem::Block(anchor, address, size, holder) => Some(PictureBox {
-            detail: anchor,
-            holder,
-            ..PictureBox::plain(BoxKind::Block, address, size)
+            detail: *anchor,
+            holder: *holder,
+            ..PictureBox::plain(BoxKind::Block, *address, *size)
         }),
-        PictureItem::Area(_, base, size, _, name) => Some(PictureBox {
-            name,
-            ..PictureBox::plain(BoxKind::Area, base, size)
+        PictureItem::Area(_, base, pages, _, name) => Some(PictureBox {
+            name: name.as_slice(),
+            ..PictureBox::plain(BoxKind::Area, *base, pages.checked_mul(4096)?)
         }),
         PictureItem::Pool(pages) => Some(PictureBox::plain(
             BoxKind::Pool,
@@ -139,13 +139,13 @@ fn box_of<'a>(item: &PictureItem<'a>) -> Option<PictureBox<'a>>
             pages.checked_mul(4096)?,
         )),
         PictureItem::Module(name, address, size) => Some(PictureBox {
-            name,
-            ..PictureBox::plain(BoxKind::Module, address, size)
+            name: name.as_slice(),
+            ..PictureBox::plain(BoxKind::Module, *address, *size)
         }),
         PictureItem::Instance(name, word, value, _) => Some(PictureBox {
-            name,
-            detail: value,
-            ..PictureBox::plain(BoxKind::Word, word, 4)
+            name: name.as_slice(),
+            detail: *value,
+            ..PictureBox::plain(BoxKind::Word, *word, 4)
         }),
         PictureItem::Flex(_, _, _) | PictureItem::Row(_, _) => None,
     }
@@ -163,33 +163,33 @@ fn between<'a>(kind: BoxKind, from: u64, to: u64) -> Option<PictureBox<'a>>
 }
 
 // What an area may grow by.
-fn growth_of<'a>(item: &PictureItem<'a>) -> Option<PictureBox<'a>>
+fn growth_of<'a>(item: &PictureItem) -> Option<PictureBox<'a>>
     ensures { option_map place_of_box result ≡ growth_place item.entry.now }
 {
-    match *item {
-        PictureItem::Area(_, base, size, max, _) => between(
+    match item {
+        PictureItem::Area(_, base, pages, max, _) => between(
             BoxKind::Unused,
-            behind(base, size),
-            behind(base, max),
+            u64::from(*base) + u64::from(*pages) * 4096,
+            behind(*base, *max),
         ),
         _ => None,
     }
 }
 
 // The room after the last used byte of what begins a view.
-fn room_of<'a>(item: &PictureItem<'a>) -> Option<PictureBox<'a>>
+fn room_of<'a>(item: &PictureItem) -> Option<PictureBox<'a>>
     ensures { option_map place_of_box result ≡ room_place item.entry.now }
 {
-    match *item {
+    match item {
         PictureItem::Heap(start, base, end) => between(
             BoxKind::Room,
-            behind(start, base),
-            behind(start, end),
+            behind(*start, *base),
+            behind(*start, *end),
         ),
         PictureItem::Flex(start, end, used) => between(
             BoxKind::Room,
-            behind(start, used),
-            u64::from(end),
+            behind(*start, *used),
+            u64::from(*end),
         ),
         _ => None,
     }

@@ -1,4 +1,4 @@
--- Numbers from 0 to 15 one after another, and bytes that are all alike.
+-- The bytes of a row one after another, and bytes that are all alike.
 use Rattle.std.proofs.Common.{◌≡◌, ◌≤◌, ◌<◌, ◌+◌, ◌-◌, ℕ, suc, zero, Bool, false, [], ◌∷◌, ◌++◌, replicate}
 use Rattle.std.proofs.Common.{refl, ap, arith}
 use Rattle.std.specs.Prelude.{◌||◌}
@@ -10,15 +10,15 @@ any_next : (left : ℕ) (is : ℕ → Bool) (number : ℕ) → any_from (suc lef
 unfolding any_from
 any_next left is number = refl
 
-pub any_more : (is : ℕ → Bool) (number : ℕ) → number < 16
-    → any_from (16 - number) is number ≡ (is number || any_from (16 - (number + 1)) is (number + 1))
-any_more is number below =
-    let next : 16 - number ≡ suc (16 - (number + 1)) = omega (arith, below) in
-    rw next (any_next (16 - (number + 1)) is number)
+pub any_more : (is : ℕ → Bool) (end number : ℕ) → number < end
+    → any_from (end - number) is number ≡ (is number || any_from (end - (number + 1)) is (number + 1))
+any_more is end number below =
+    let next : end - number ≡ suc (end - (number + 1)) = omega (arith, below) in
+    rw next (any_next (end - (number + 1)) is number)
 
-pub any_end : (is : ℕ → Bool) (number : ℕ) → 16 ≤ number → any_from (16 - number) is number ≡ false
+pub any_end : (is : ℕ → Bool) (end number : ℕ) → end ≤ number → any_from (end - number) is number ≡ false
 unfolding any_from
-any_end is number all = let none : 16 - number ≡ 0 = omega (arith, all) in rw none refl
+any_end is end number all = let none : end - number ≡ 0 = omega (arith, all) in rw none refl
 
 marks_next : (left : ℕ) (r : GridRow) (number blanks : ℕ)
     → byte_marks (suc left) r number blanks
@@ -26,17 +26,17 @@ marks_next : (left : ℕ) (r : GridRow) (number blanks : ℕ)
 unfolding byte_marks
 marks_next left r number blanks = refl
 
-pub marks_more : (r : GridRow) (number blanks : ℕ) → number < 16
-    → byte_marks (16 - number) r number blanks
+pub marks_more : (r : GridRow) (end number blanks : ℕ) → number < end
+    → byte_marks (end - number) r number blanks
     ≡ byte_mark (is_changed number r) blanks
-    ++ byte_marks (16 - (number + 1)) r (number + 1) (blanks_after_byte (is_changed number r) blanks)
-marks_more r number blanks below =
-    let next : 16 - number ≡ suc (16 - (number + 1)) = omega (arith, below) in
-    rw next (marks_next (16 - (number + 1)) r number blanks)
+    ++ byte_marks (end - (number + 1)) r (number + 1) (blanks_after_byte (is_changed number r) blanks)
+marks_more r end number blanks below =
+    let next : end - number ≡ suc (end - (number + 1)) = omega (arith, below) in
+    rw next (marks_next (end - (number + 1)) r number blanks)
 
-pub marks_end : (r : GridRow) (number blanks : ℕ) → 16 ≤ number → byte_marks (16 - number) r number blanks ≡ []
+pub marks_end : (r : GridRow) (end number blanks : ℕ) → end ≤ number → byte_marks (end - number) r number blanks ≡ []
 unfolding byte_marks
-marks_end r number blanks all = let none : 16 - number ≡ 0 = omega (arith, all) in rw none refl
+marks_end r end number blanks all = let none : end - number ≡ 0 = omega (arith, all) in rw none refl
 
 many_next : (left : ℕ) (byte : ℕ) → replicate (suc left) byte ≡ byte ∷ replicate left byte
 many_next left byte = refl

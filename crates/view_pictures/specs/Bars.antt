@@ -123,6 +123,24 @@ abbrev pub scale_line : List ℕ → List ℕ
 scale_line front =
     front ++ codes "~ what an area may grow by, / ends a box that is not to scale, ^ under what has changed\n"
 
--- what the signs mean
-abbrev pub bar_legend : List ℕ → List ℕ
-bar_legend front = sign_line front ++ scale_line front
+abbrev pub wide_legend : List ℕ → List ℕ
+wide_legend front = sign_line front ++ scale_line front
+
+unfoldable pub legend_line : List ℕ → List ℕ → List ℕ
+legend_line front words = front ++ (words ++ codes "\n")
+
+-- the same in lines of at most 28 characters after their first
+abbrev pub narrow_signs : List ℕ → List ℕ
+narrow_signs front =
+    legend_line front (codes "signs: d descriptor, . free,") ++ (legend_line front (codes "# block, area or module,")
+    ++ (legend_line front (codes "p page pool, w private word,")))
+
+abbrev pub narrow_scales : List ℕ → List ℕ
+narrow_scales front =
+    legend_line front (codes "~ what an area may grow by,") ++ (legend_line front (codes "/ ends a box not to scale,")
+    ++ (legend_line front (codes "^ under what has changed")))
+
+-- what the signs mean, in lines of so many characters
+abbrev pub bar_legend : List ℕ → ℕ → List ℕ
+bar_legend front width =
+    if nat_lt width (length front + 87) then narrow_signs front ++ narrow_scales front else wide_legend front

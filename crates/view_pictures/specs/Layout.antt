@@ -36,16 +36,21 @@ abbrev pub least_width : BoxKind → ℕ
 least_width kind.Unused = 4
 least_width other = 1
 
-abbrev pub width_of : ℕ → PictureBox → ℕ
-width_of total b = max (share_of total (scaled_size b) 60) (least_width b.kind)
+-- the characters that the boxes of a bar share, in a line of so many: three quarters of those beyond
+-- 20, up to 999
+abbrev pub shared_width : ℕ → ℕ
+shared_width width = (min width 1352 - 20) * 3 / 4
+
+abbrev pub width_of : ℕ → ℕ → PictureBox → ℕ
+width_of shared total b = max (share_of total (scaled_size b) shared) (least_width b.kind)
 
 -- whether a box is higher than its share
 abbrev pub is_raised : ℕ → PictureBox → Bool
 is_raised total b = nat_lt (share_of total (scaled_size b) 200) (least_height b.kind)
 
 -- whether a box is wider in a bar than its share
-abbrev pub is_widened : ℕ → PictureBox → Bool
-is_widened total b = nat_lt (share_of total (scaled_size b) 60) (least_width b.kind)
+abbrev pub is_widened : ℕ → ℕ → PictureBox → Bool
+is_widened shared total b = nat_lt (share_of total (scaled_size b) shared) (least_width b.kind)
 
 -- where a box is not to scale
 pub record Breaks : Type 0 where
@@ -55,8 +60,8 @@ pub record Breaks : Type 0 where
 abbrev pub breaks_of : Drawn → Breaks
 breaks_of d = record { raised = d.is_raised; widened = d.is_widened }
 
-abbrev pub breaks_told : ℕ → PictureBox → Breaks
-breaks_told total b = record { raised = is_raised total b; widened = is_widened total b }
+abbrev pub breaks_told : ℕ → ℕ → PictureBox → Breaks
+breaks_told shared total b = record { raised = is_raised total b; widened = is_widened shared total b }
 
 -- the upper edge of a box, and its height
 pub record Spot : Type 0 where

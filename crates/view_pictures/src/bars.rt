@@ -6,6 +6,7 @@ ghost use Rattle.std.specs.List.{flat_map, list_any};
 ghost use Rattle.profile.specs.Output.{Writes};
 ghost use Rattle.view_pictures.specs.Bars.{address_line, addresses, bar, bar_box, bar_edge, bar_legend, bar_lines, bar_row, bar_rows};
 ghost use Rattle.view_pictures.specs.Bars.{blanks_after_box, box_mark, box_marks, digits_at, end_digits, end_of_row};
+ghost use Rattle.view_pictures.specs.Bars.{legend_line, narrow_scales, narrow_signs};
 ghost use Rattle.view_pictures.specs.Bars.{has_room, mark_line, place_further, row_count, row_length, row_room, scale_line, sign_line, written_with};
 ghost use Rattle.view_pictures.specs.Told.{has_changed};
 
@@ -13,7 +14,7 @@ use crate::chain::push_chain;
 use crate::layout::{Drawn, Layout};
 use crate::signs::push_many;
 use crate::told::{has_changed, push_told};
-use profile::{HexText, Sink, WriteFault, push_all};
+use profile::{HexText, Sink, WriteFault, push_all, push_parts};
 use view_items::PictureBox;
 
 /// How wide lines of pictures are, where nothing else is asked.
@@ -22,9 +23,13 @@ pub const LINE_WIDTH: usize = 100;
 // The most digits of an address, for which there is room after the last box of a row.
 const ADDRESS_DIGITS: usize = 8;
 
-/// Writes a picture of boxes. Each of its lines begins with these bytes, and has at most that many
-/// characters, those with them, where one box has room beside them: that is 60 for the box, 2 for
-/// its edges and 8 for an address after it. What doesn't fit in one row goes on in another.
+// The characters of the longer of two lines that tell what the signs mean.
+const LEGEND_WIDTH: usize = 87;
+
+/// Writes a picture of boxes that were laid out for lines of that width. Each row of its bar, the
+/// marks and the addresses under it and the free chain begin with these bytes, and have at most that
+/// many characters, those with them, where one box has room beside them, with 2 for its edges and 8
+/// for an address after it. What doesn't fit in one row goes on in another.
 pub fn push_bars<W: Sink>(
     sink: &mut W,
     front: &[u8],
@@ -41,12 +46,43 @@ pub fn push_bars<W: Sink>(
     push_chain(sink, front, width, boxes)
 }
 
-/// Writes what the signs of these pictures mean. Each line begins with these bytes.
-pub fn push_bar_legend<W: Sink>(sink: &mut W, front: &[u8]) -> Result<(), WriteFault>
-    ensures { Writes W.contents W.has_failed sink.old sink.new result (bar_legend front.now) }
+/// Writes what the signs of these pictures mean. Each line begins with these bytes, and has at most
+/// that many characters, those with them, where 28 have room beside them.
+pub fn push_bar_legend<W: Sink>(sink: &mut W, front: &[u8], width: usize) -> Result<(), WriteFault>
+    ensures { Writes W.contents W.has_failed sink.old sink.new result (bar_legend front.now width) }
 {
-    push_sign_line(sink, front)?;
-    push_scale_line(sink, front)
+    if width < front.len().saturating_add(LEGEND_WIDTH) {
+        push_narrow_signs(sink, front)?;
+        push_narrow_scales(sink, front)
+    } else {
+        push_sign_line(sink, front)?;
+        push_scale_line(sink, front)
+    }
+}
+
+fn push_narrow_signs<W: Sink>(sink: &mut W, front: &[u8]) -> Result<(), WriteFault>
+    ensures { Writes W.contents W.has_failed sink.old sink.new result (narrow_signs front.now) }
+{
+    push_legend_line(sink, front, b"signs: d descriptor, . free,")?;
+    push_legend_line(sink, front, b"# block, area or module,")?;
+    push_legend_line(sink, front, b"p page pool, w private word,")?;
+    Ok(())
+}
+
+fn push_narrow_scales<W: Sink>(sink: &mut W, front: &[u8]) -> Result<(), WriteFault>
+    ensures { Writes W.contents W.has_failed sink.old sink.new result (narrow_scales front.now) }
+{
+    push_legend_line(sink, front, b"~ what an area may grow by,")?;
+    push_legend_line(sink, front, b"/ ends a box not to scale,")?;
+    push_legend_line(sink, front, b"^ under what has changed")?;
+    Ok(())
+}
+
+#[tactic(auto, unfolding(crate::specs::Bars::legend_line))]
+fn push_legend_line<W: Sink>(sink: &mut W, front: &[u8], words: &[u8]) -> Result<(), WriteFault>
+    ensures { Writes W.contents W.has_failed sink.old sink.new result (legend_line front.now words.now) }
+{
+    push_parts(sink, &[front, words, b"\n".as_slice()])
 }
 
 fn push_sign_line<W: Sink>(sink: &mut W, front: &[u8]) -> Result<(), WriteFault>

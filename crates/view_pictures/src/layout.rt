@@ -4,16 +4,17 @@ ghost use Rattle.std.specs.Prelude.{◌≡◌, ◌<◌, IfOk, map, option_map};
 ghost use Rattle.view_changes.specs.Changes.{histories_told};
 ghost use Rattle.view_changes.specs.Gone.{gone_from};
 ghost use Rattle.view_pictures.specs.Layout.{breaks_of, breaks_told, height_of, is_raised, is_widened, least_height, least_width};
-ghost use Rattle.view_pictures.specs.Layout.{scaled_size, share_of, spot, spot_of, spots_from, total_box_size, width_of};
+ghost use Rattle.view_pictures.specs.Layout.{scaled_size, share_of, shared_width, spot, spot_of, spots_from, total_box_size, width_of};
 
 use std::alloc::{AllocError, Global};
 use view_changes::{BoxChange, gone_of, histories_of};
 use view_items::{BoxKind, PictureBox, PictureView};
 
-// What all boxes share by their sizes: the height of a picture, and the characters of a bar.
+// What all boxes share by their sizes: the height of a picture.
 const SHARED_HEIGHT: u64 = 200;
 
-const SHARED_WIDTH: u64 = 60;
+// The most characters of a line of which a bar has a part.
+const MOST_WIDTH: usize = 1352;
 
 // The least height, for a line of words, and for two.
 const LINE_HEIGHT: u32 = 24;
@@ -56,7 +57,8 @@ pub struct Layout<'a> {
     pub gone: Vec<PictureBox<'a>>,
 }
 
-/// Where the boxes stand, with what has changed since a view of the same thing.
+/// Where the boxes stand, with what has changed since a view of the same thing. In a bar, the boxes
+/// share three quarters of the characters beyond 20 of a line of that width, up to 999.
 ///
 /// # Errors
 ///
@@ -65,26 +67,35 @@ pub fn layout_of<'a>(
     alloc: Global,
     boxes: &[PictureBox<'a>],
     before: Option<&PictureView<'a>>,
+    width: usize,
 ) -> Result<Layout<'a>, AllocError>
     ensures boxes { IfOk result (λ layout. map (λ d. d.own) layout.boxes.items ≡ boxes.entry.now) }
     ensures spots { IfOk result (λ layout. map spot_of layout.boxes.items
         ≡ spots_from (total_box_size boxes.entry.now) 8 boxes.entry.now) }
     ensures widths { IfOk result (λ layout. map (λ d. d.width) layout.boxes.items
-        ≡ map (width_of (total_box_size boxes.entry.now)) boxes.entry.now) }
+        ≡ map (width_of (shared_width width) (total_box_size boxes.entry.now)) boxes.entry.now) }
     ensures breaks { IfOk result (λ layout. map breaks_of layout.boxes.items
-        ≡ map (breaks_told (total_box_size boxes.entry.now)) boxes.entry.now) }
+        ≡ map (breaks_told (shared_width width) (total_box_size boxes.entry.now)) boxes.entry.now) }
     ensures changes { IfOk result (λ layout. map (λ d. d.change) layout.boxes.items
         ≡ map (λ h. h.change) (histories_told (option_map (λ view. view.now) before.entry) boxes.entry.now)) }
     ensures gone { IfOk result (λ layout. layout.gone.items
         ≡ gone_from (option_map (λ view. view.now) before.entry) boxes.entry.now) }
 {
+    let shared = shared_width(width);
     let total = total_of(boxes);
     let histories = histories_of(alloc, boxes, before)?;
     let mut all = Vec::new(alloc);
     let mut top = MARGIN;
     let mut chain = None;
     for place in 0..boxes.len() {
-        let drawn = drawn_at(total, &boxes[place], top, histories[place].change, chain);
+        let drawn = drawn_at(
+            shared,
+            total,
+            &boxes[place],
+            top,
+            histories[place].change,
+            chain,
+        );
         all.push(drawn)?;
         chain = chain_after(&drawn, chain);
         top = top.saturating_add(drawn.height);
@@ -99,17 +110,19 @@ pub fn layout_of<'a>(
 
 // A box with its upper edge there, where the free chain comes from there.
 fn drawn_at<'a>(
+    shared: u64,
     total: u64,
     own: &PictureBox<'a>,
     top: u32,
     change: BoxChange,
     chain: Option<u32>,
 ) -> Drawn<'a>
-    requires { 0 < total }
+    requires some { 0 < total }
+    requires few { shared < 1000 }
     ensures own { result.own ≡ own.entry.now }
     ensures spot { spot_of result ≡ spot top (height_of total own.entry.now) }
-    ensures width { result.width ≡ width_of total own.entry.now }
-    ensures breaks { breaks_of result ≡ breaks_told total own.entry.now }
+    ensures width { result.width ≡ width_of shared total own.entry.now }
+    ensures breaks { breaks_of result ≡ breaks_told shared total own.entry.now }
     ensures change { result.change ≡ change }
 {
     Drawn {
@@ -117,8 +130,8 @@ fn drawn_at<'a>(
         top,
         height: height_of(total, own),
         is_raised: is_raised(total, own),
-        width: width_of(total, own),
-        is_widened: is_widened(total, own),
+        width: width_of(shared, total, own),
+        is_widened: is_widened(shared, total, own),
         change,
         link: if own.kind.is_free() { chain } else { None },
     }
@@ -179,18 +192,28 @@ fn least_height(kind: BoxKind) -> u32
     }
 }
 
-fn width_of(total: u64, own: &PictureBox<'_>) -> u32
-    requires { 0 < total }
-    ensures { result ≡ width_of total own.now }
+// How many characters the boxes of a bar share.
+fn shared_width(width: usize) -> u64
+    ensures value { result ≡ shared_width width }
+    ensures few { result < 1000 }
 {
-    share(total, scaled_size(own), SHARED_WIDTH).max(least_width(own.kind))
+    (width.min(MOST_WIDTH).saturating_sub(20) * 3 / 4) as u64
 }
 
-fn is_widened(total: u64, own: &PictureBox<'_>) -> bool
-    requires { 0 < total }
-    ensures { result ≡ is_widened total own.now }
+fn width_of(shared: u64, total: u64, own: &PictureBox<'_>) -> u32
+    requires some { 0 < total }
+    requires few { shared < 1000 }
+    ensures { result ≡ width_of shared total own.now }
 {
-    share(total, scaled_size(own), SHARED_WIDTH) < least_width(own.kind)
+    share(total, scaled_size(own), shared).max(least_width(own.kind))
+}
+
+fn is_widened(shared: u64, total: u64, own: &PictureBox<'_>) -> bool
+    requires some { 0 < total }
+    requires few { shared < 1000 }
+    ensures { result ≡ is_widened shared total own.now }
+{
+    share(total, scaled_size(own), shared) < least_width(own.kind)
 }
 
 // A character at least, and always four for what an area may grow by.

@@ -14,6 +14,6 @@ pub mod told;
 pub use bars::{LINE_WIDTH, push_bar_legend, push_bars};
 pub use layout::{Drawn, Layout, layout_of};
 pub use row_marks::{has_changed_byte, push_marks};
-pub use rows::{GridRow, is_changed, rows_of, shown_byte, top_of};
+pub use rows::{GridRow, is_changed, row_byte, rows_of, top_of};
 pub use spelt::{digit, push_spelt};
 pub use told::{has_changed, push_change, push_gone_box, push_told};

@@ -1,7 +1,7 @@
 //! A view of memory as rows of bytes.
 
-ghost use Rattle.std.specs.Prelude.{◌≡◌, ◌<◌, ◌++◌, IfOk, OnOk, map, option_map};
-ghost use Rattle.view_pictures.specs.Rows.{bytes_of_row, is_changed, row_told, rows_told, shown_byte, top_of};
+ghost use Rattle.std.specs.Prelude.{◌≡◌, ◌++◌, IfOk, OnOk, map, slice_get};
+ghost use Rattle.view_pictures.specs.Rows.{bytes_of_row, is_changed, is_same_byte, row_told, rows_told, top_of};
 
 use std::alloc::{AllocError, Global};
 use view_items::{PictureItem, PictureView};
@@ -17,10 +17,10 @@ pub struct GridRow<'a> {
     pub top: u32,
     /// The address of its first byte.
     pub address: u32,
-    /// The bytes as they are shown.
-    pub bytes: &'a [u8],
+    /// The bytes; `None` where no memory is mapped.
+    pub bytes: &'a [Option<u8>],
     /// Those that a view from before has; none where there is no such view.
-    pub before: &'a [u8],
+    pub before: &'a [Option<u8>],
 }
 
 /// The rows of a view of memory.
@@ -30,7 +30,7 @@ pub struct GridRow<'a> {
 /// Memory ran out.
 pub fn rows_of<'a>(
     alloc: Global,
-    items: &[PictureItem<'a>],
+    items: &'a [PictureItem],
     before: Option<&PictureView<'a>>,
 ) -> Result<Vec<GridRow<'a>>, AllocError>
     ensures { IfOk result (λ rows. map bytes_of_row rows.items ≡ rows_told items.entry.now) }
@@ -44,18 +44,18 @@ pub fn rows_of<'a>(
 
 fn push_row_of<'a>(
     rows: &mut Vec<GridRow<'a>>,
-    item: &PictureItem<'a>,
+    item: &'a PictureItem,
     before: Option<&PictureView<'a>>,
 ) -> Result<(), AllocError>
     ensures { OnOk result (map bytes_of_row rows.new.items ≡ map bytes_of_row rows.old.items ++ row_told
         item.now) }
 {
-    if let PictureItem::Row(address, bytes) = *item {
+    if let PictureItem::Row(address, bytes) = item {
         rows.push(GridRow {
             top: top_of(rows.len()),
-            address,
-            bytes,
-            before: row_before(address, before),
+            address: *address,
+            bytes: bytes.as_slice(),
+            before: row_before(*address, before),
         })?;
     }
     Ok(())
@@ -70,12 +70,12 @@ pub fn top_of(count: usize) -> u32
 }
 
 // The bytes that were shown at an address.
-fn row_before<'a>(address: u32, before: Option<&PictureView<'a>>) -> &'a [u8] {
+fn row_before<'a>(address: u32, before: Option<&PictureView<'a>>) -> &'a [Option<u8>] {
     if let Some(view) = before {
-        for item in view.items.iter() {
-            if let PictureItem::Row(start, bytes) = *item {
-                if start == address {
-                    return bytes;
+        for item in view.items {
+            if let PictureItem::Row(start, bytes) = item {
+                if *start == address {
+                    return bytes.as_slice();
                 }
             }
         }
@@ -83,29 +83,29 @@ fn row_before<'a>(address: u32, before: Option<&PictureView<'a>>) -> &'a [u8] {
     &[]
 }
 
-/// The two characters of a byte of a row, if there are so many.
-pub fn shown_byte(number: usize, bytes: &[u8]) -> Option<&[u8]>
-    requires { number < 16 }
-    ensures { option_map (λ byte. byte.now) result ≡ shown_byte number bytes.now }
+/// A byte of a row by its number, if there are so many.
+pub fn row_byte(number: usize, bytes: &[Option<u8>]) -> Option<Option<u8>>
+    ensures { result ≡ slice_get bytes.now number }
 {
-    let place = 3 * number;
-    if place + 1 < bytes.len() {
-        Some(&bytes[place..place + 2])
-    } else {
-        None
-    }
+    bytes.get(number).copied()
 }
 
 /// Whether a byte is shown otherwise than before; not where it wasn't shown.
 pub fn is_changed(number: usize, row: &GridRow<'_>) -> bool
-    requires { number < 16 }
     ensures { result ≡ is_changed number row.now }
 {
-    match (
-        shown_byte(number, row.bytes),
-        shown_byte(number, row.before),
-    ) {
-        (Some(new), Some(old)) => new != old,
+    match (row_byte(number, row.bytes), row_byte(number, row.before)) {
+        (Some(new), Some(old)) => !is_same_byte(new, old),
+        _ => false,
+    }
+}
+
+fn is_same_byte(one: Option<u8>, other: Option<u8>) -> bool
+    ensures { result ≡ is_same_byte one other }
+{
+    match (one, other) {
+        (Some(one), Some(other)) => one == other,
+        (None, None) => true,
         _ => false,
     }
 }

@@ -17,7 +17,7 @@ returns-in-Ok-clause-page g c =
     c.in_ok-script.ensures.bytes
     (subst (λ (bytes : List ℕ). IsPage setting bytes written.entries) c.as_slice-2.ensures.value written.page)
     written.steps
-    (written_kept _ _ wanted.form written.entries _ _ _ written.written c.in-Ok.ensures.bytes)
+    (written_kept _ _ _ wanted.form written.entries _ _ _ written.written c.in-Ok.ensures.bytes)
     (c.in_ok-last.ensures.last ∙ ap (λ (bytes : List ℕ). (script_answer_in setting bytes).state.last) c.as_slice-2.ensures.value)
 
 pub returns-in_err-last-clause-memory : goal.returns-in_err-last-clause-memory

@@ -7,6 +7,6 @@ use Rattle.view_pictures.proofs.row_marks.push_marks.Given as goal
 -- what stands written, and what is left, is all
 abbrev pub invariant-loop-row : goal.invariant-loop-row
 invariant-loop-row g l = record {
-  text : AddsAllBut (g.W.Sink.contents l.fn.sink) (g.W.Sink.contents l.sink) (flat_map (mark_lines l.front) (drop l.row-index l.rows)) (flat_map (mark_lines l.front) l.fn.rows);
+  text : AddsAllBut (g.W.Sink.contents l.fn.sink) (g.W.Sink.contents l.sink) (flat_map (mark_lines l.front l.width) (drop l.row-index l.rows)) (flat_map (mark_lines l.front l.width) l.fn.rows);
   same_flag : g.W.Sink.has_failed l.sink ≡ g.W.Sink.has_failed l.fn.sink;
 }

@@ -6,6 +6,6 @@ use Rattle.view_pictures.proofs.row_marks.push_row_marks.Given as goal
 -- what stands written, and what is left, is all
 abbrev pub invariant-loop-number : goal.invariant-loop-number
 invariant-loop-number g l = record {
-  text : AddsAllBut (g.W.Sink.contents l.fn.sink) (g.W.Sink.contents l.sink) (byte_marks (16 - l.number) l.row l.number l.blanks) (byte_marks 16 l.row 0 1);
+  text : AddsAllBut (g.W.Sink.contents l.fn.sink) (g.W.Sink.contents l.sink) (byte_marks (l.end - l.number) l.row l.number l.blanks) (byte_marks (l.end - l.first) l.row l.first 1);
   same_flag : g.W.Sink.has_failed l.sink ≡ g.W.Sink.has_failed l.fn.sink;
 }
