@@ -1,0 +1,3 @@
+pub mod OwnRequestLemmas
+pub mod WholeDebugRequestLemmas
+pub mod WordLemmas

@@ -1,0 +1,141 @@
+-- What a line of a debugging script asks for. A line is first read as a line of a script; only what is
+-- none is made tidy and looked at further. Command words may be in upper or lower case.
+use Rattle.std.specs.Prelude.{ℕ, Bool, true, false, ◌==◌, List, [], ◌∷◌, codes, Option, Some, None, if◌then◌else◌}
+use Rattle.command_shell_lines.specs.Operands.{word_address, origin_of, count_up_to}
+use Rattle.command_shell_lines.specs.Requests.{Request, Unknown, opens_block, request_of, request_of_command, is_same_word, words}
+use Rattle.debug_lines.specs.declared.status.StatusPattern.{StatusPattern}
+use Rattle.debug_lines.specs.declared.requests.DebugCommand.{DebugCommand}
+use Rattle.debug_lines.specs.declared.requests.DebugCommand.TheVariants as command
+use Rattle.debug_lines.specs.Expectations.{ExpectRequest, expect_request, expect_request_of, text_behind}
+use Rattle.debug_lines.specs.Status.{status_of_word, status_of_two}
+use Rattle.debug_lines.specs.Tidy.{tidied_line}
+
+pub data DebugRequest : Type 0 where
+  -- what a line of a script asks for
+  Script : Request → DebugRequest
+  Remark : DebugRequest
+  Words : ℕ → ℕ → DebugRequest
+  Where : DebugRequest
+  Banks : DebugRequest
+  Stack : ℕ → DebugRequest
+  SetPc : ℕ → DebugRequest
+  SetPsr : StatusPattern → DebugRequest
+  Reset : DebugRequest
+  Help : DebugRequest
+  Quit : DebugRequest
+  Expect : ExpectRequest → DebugRequest
+  NotKnown : DebugRequest
+
+-- whether a script has a line that asks for that
+abbrev pub is_script_request : Request → Bool
+is_script_request Unknown = false
+is_script_request _ = true
+
+-- a line without a word, or one that begins with `#` (35)
+abbrev pub is_remark : List ℕ → Bool
+is_remark [] = true
+is_remark (first ∷ rest) = first == 35
+
+-- a line of one word
+abbrev pub own_request_of_word : List ℕ → DebugRequest
+own_request_of_word word =
+    if is_same_word word (codes "WHERE") then Where else (
+    if is_same_word word (codes "BANKS") then Banks else (
+    if is_same_word word (codes "STACK") then Stack 8 else (
+    if is_same_word word (codes "RESET") then Reset else (
+    if is_same_word word (codes "HELP") then Help else (
+    if is_same_word word (codes "QUIT") then Quit else
+    NotKnown)))))
+
+abbrev pub stack_of : Option ℕ → DebugRequest
+stack_of (Some count) = Stack count
+stack_of None = NotKnown
+
+-- a line of two words
+abbrev pub own_request_of_two : List ℕ → List ℕ → DebugRequest
+own_request_of_two word other =
+    if is_same_word word (codes "STACK") then stack_of (count_up_to 1024 other) else NotKnown
+
+abbrev pub words_at : Option ℕ → Option ℕ → DebugRequest
+words_at (Some address) (Some count) = Words address count
+words_at (Some address) None = NotKnown
+words_at None count = NotKnown
+
+abbrev pub set_pc_to : Option ℕ → DebugRequest
+set_pc_to (Some address) = SetPc address
+set_pc_to None = NotKnown
+
+abbrev pub set_psr_to : Option StatusPattern → DebugRequest
+set_psr_to (Some pattern) = SetPsr pattern
+set_psr_to None = NotKnown
+
+abbrev pub set_request : List ℕ → List ℕ → DebugRequest
+set_request what value =
+    if is_same_word what (codes "PC") then set_pc_to (origin_of value) else (
+    if is_same_word what (codes "PSR") then set_psr_to (status_of_word value) else
+    NotKnown)
+
+-- a line of three words
+abbrev pub own_request_of_three : List ℕ → List ℕ → List ℕ → DebugRequest
+own_request_of_three word first second =
+    if is_same_word word (codes "WORDS") then words_at (word_address first) (count_up_to 1024 second) else (
+    if is_same_word word (codes "SET") then set_request first second else
+    NotKnown)
+
+abbrev pub set_psr_of_two : List ℕ → List ℕ → List ℕ → DebugRequest
+set_psr_of_two what letters mode =
+    if is_same_word what (codes "PSR") then set_psr_to (status_of_two letters mode) else NotKnown
+
+-- a line of four words
+abbrev pub own_request_of_four : List ℕ → List ℕ → List ℕ → List ℕ → DebugRequest
+own_request_of_four word first second third =
+    if is_same_word word (codes "SET") then set_psr_of_two first second third else NotKnown
+
+abbrev pub own_request_of_words : List (List ℕ) → DebugRequest
+own_request_of_words (word ∷ []) = own_request_of_word word
+own_request_of_words (word ∷ other ∷ []) = own_request_of_two word other
+own_request_of_words (word ∷ first ∷ second ∷ []) = own_request_of_three word first second
+own_request_of_words (word ∷ first ∷ second ∷ third ∷ []) = own_request_of_four word first second third
+own_request_of_words _ = NotKnown
+
+abbrev pub expect_line : Option ExpectRequest → DebugRequest
+expect_line (Some expected) = Expect expected
+expect_line None = NotKnown
+
+-- EXPECT reads what follows for itself.
+abbrev pub own_request_behind : Option (List ℕ) → List ℕ → DebugRequest
+own_request_behind (Some expected) line = expect_line (expect_request expected)
+own_request_behind None line = own_request_of_words (words line)
+
+-- what a tidy line asks for
+unfoldable pub own_request : List ℕ → DebugRequest
+own_request line =
+    if is_remark line then Remark else (
+    if is_script_request (request_of line) then Script (request_of line) else
+    own_request_behind (text_behind (codes "EXPECT ") line) line)
+
+-- what a line asks for
+abbrev pub debug_request : List ℕ → DebugRequest
+debug_request line = if is_script_request (request_of line) then Script (request_of line)
+    else own_request (tidied_line line)
+
+-- whether the lines that follow are a block of the line's own
+abbrev pub debug_opens_block : DebugRequest → Bool
+debug_opens_block (Script request) = opens_block request
+debug_opens_block _ = false
+
+-- the lines that the code tells apart, as the requests that they stand for
+abbrev pub debug_request_of_command : DebugCommand → DebugRequest
+debug_request_of_command (command.Script known) = Script (request_of_command known)
+debug_request_of_command command.Remark = Remark
+debug_request_of_command (command.Words address count) = Words address count
+debug_request_of_command command.Where = Where
+debug_request_of_command command.Banks = Banks
+debug_request_of_command (command.Stack count) = Stack count
+debug_request_of_command (command.SetPc address) = SetPc address
+debug_request_of_command (command.SetPsr pattern) = SetPsr pattern
+debug_request_of_command command.Reset = Reset
+debug_request_of_command command.Help = Help
+debug_request_of_command command.Quit = Quit
+debug_request_of_command (command.Expect expected) = Expect (expect_request_of expected)
+debug_request_of_command command.Unknown = NotKnown

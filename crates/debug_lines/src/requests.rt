@@ -1,0 +1,232 @@
+//! What each line of a debugging script asks for.
+
+ghost use Rattle.std.specs.Prelude.{◌≡◌};
+ghost use Rattle.command_shell_lines.specs.Operands.{word_address, count_up_to};
+ghost use Rattle.command_shell_lines.specs.Requests.{request_of, request_of_command, words};
+ghost use Rattle.debug_lines.specs.DebugRequests.{is_script_request, is_remark, own_request, expect_line, own_request_of_words, debug_opens_block};
+ghost use Rattle.debug_lines.specs.DebugRequests.{own_request_of_word, own_request_of_two, own_request_of_three, own_request_of_four};
+ghost use Rattle.debug_lines.specs.DebugRequests.{words_at, set_request, set_psr_to, debug_request_of_command};
+ghost use Rattle.debug_lines.specs.Expectations.{expect_request};
+
+use crate::expectations::{Expectation, expectation_of, text_behind};
+use crate::few_words::{FewWords, few_words, has_letters};
+use crate::status::StatusPattern;
+use command_shell_lines::{Origin, ScriptCommand, WordAddress, command_of, count_up_to};
+
+/// The most words that a line shows.
+const MAX_WORDS_SHOWN: u32 = 1024;
+
+/// So many words of the stack are shown where a line tells no number.
+const STACK_WORDS: u32 = 8;
+
+/// What a line of a debugging script asks for.
+#[derive(Clone, Copy, Debug)]
+pub enum DebugCommand<'a> {
+    /// A line of a script, as it stands or made tidy.
+    Script(ScriptCommand<'a>),
+    /// An empty line, or one that begins with `#`.
+    Remark,
+    /// `WORDS a n`, of 1 to 1024 words.
+    Words(WordAddress, u32),
+    /// `WHERE`.
+    Where,
+    /// `BANKS`.
+    Banks,
+    /// `STACK n`, of 1 to 1024 words; `STACK` is of 8.
+    Stack(u32),
+    /// `SET PC a`, with a multiple of 4 below 2^26.
+    SetPc(Origin),
+    /// `SET PSR letters mode`, `SET PSR letters` or `SET PSR mode`.
+    SetPsr(StatusPattern),
+    /// `RESET`.
+    Reset,
+    /// `HELP`.
+    Help,
+    /// `QUIT`.
+    Quit,
+    /// `EXPECT ..`.
+    Expect(Expectation<'a>),
+    /// Any other line.
+    Unknown,
+}
+
+impl DebugCommand<'_> {
+    ghost use Rattle.debug_lines.specs.DebugRequests.{debug_opens_block, debug_request_of_command};
+
+    /// Whether the lines that follow are a block of the line's own.
+    pub fn opens_block(&self) -> bool
+        ensures { result ≡ debug_opens_block (debug_request_of_command self.now) }
+    {
+        match self {
+            DebugCommand::Script(command) => command.opens_block(),
+            _ => false,
+        }
+    }
+}
+
+/// Whether a line is one of a script as it stands. What it asks for is `command_of` then, and else
+/// `own_command` of the line made tidy.
+pub fn is_script_line(line: &[u8]) -> bool
+    ensures { result ≡ is_script_request (request_of line.now) }
+{
+    is_known(&command_of(line))
+}
+
+/// What a tidy line asks for.
+#[tactic(auto, unfolding(crate::specs::DebugRequests::own_request))]
+pub fn own_command(tidied: &[u8]) -> DebugCommand<'_>
+    ensures { debug_request_of_command result ≡ own_request tidied.now }
+{
+    if is_remark(tidied) {
+        return DebugCommand::Remark;
+    }
+    let command = command_of(tidied);
+    if is_known(&command) {
+        return DebugCommand::Script(command);
+    }
+    match text_behind(b"EXPECT ", tidied) {
+        Some(text) => expect_command(text),
+        None => command_of_words(tidied),
+    }
+}
+
+/// Whether the lines that follow a tidy line are a block of its own.
+pub(crate) fn opens_own_block(tidied: &[u8]) -> bool
+    ensures { result ≡ debug_opens_block (own_request tidied.now) }
+{
+    match own_command(tidied) {
+        DebugCommand::Script(known) => known.opens_block(),
+        _ => false,
+    }
+}
+
+fn is_known(command: &ScriptCommand) -> bool
+    ensures { result ≡ is_script_request (request_of_command command.now) }
+{
+    !matches!(command, ScriptCommand::Unknown)
+}
+
+fn is_remark(line: &[u8]) -> bool
+    ensures { result ≡ is_remark line.now }
+{
+    match line {
+        [] => true,
+        [first, ..] => *first == b'#',
+    }
+}
+
+// A line EXPECT, by what follows that word.
+fn expect_command(text: &[u8]) -> DebugCommand<'_>
+    ensures { debug_request_of_command result ≡ expect_line (expect_request text.now) }
+{
+    match expectation_of(text) {
+        Some(expectation) => DebugCommand::Expect(expectation),
+        None => DebugCommand::Unknown,
+    }
+}
+
+fn command_of_words(line: &[u8]) -> DebugCommand<'static>
+    ensures { debug_request_of_command result ≡ own_request_of_words (words line.now) }
+{
+    match few_words(line) {
+        FewWords::One(word) => command_of_word(word),
+        FewWords::Two(word, other) => command_of_two(word, other),
+        FewWords::Three(word, first, second) => command_of_three(word, first, second),
+        FewWords::Four(word, first, second, third) => {
+            command_of_four(word, first, second, third)
+        }
+        FewWords::More => DebugCommand::Unknown,
+    }
+}
+
+fn command_of_word(word: &[u8]) -> DebugCommand<'static>
+    ensures { debug_request_of_command result ≡ own_request_of_word word.now }
+{
+    if has_letters(word, b"WHERE") {
+        DebugCommand::Where
+    } else if has_letters(word, b"BANKS") {
+        DebugCommand::Banks
+    } else if has_letters(word, b"STACK") {
+        DebugCommand::Stack(STACK_WORDS)
+    } else if has_letters(word, b"RESET") {
+        DebugCommand::Reset
+    } else if has_letters(word, b"HELP") {
+        DebugCommand::Help
+    } else if has_letters(word, b"QUIT") {
+        DebugCommand::Quit
+    } else {
+        DebugCommand::Unknown
+    }
+}
+
+fn command_of_two(word: &[u8], other: &[u8]) -> DebugCommand<'static>
+    ensures { debug_request_of_command result ≡ own_request_of_two word.now other.now }
+{
+    if !has_letters(word, b"STACK") {
+        return DebugCommand::Unknown;
+    }
+    match count_up_to(MAX_WORDS_SHOWN, other) {
+        Some(count) => DebugCommand::Stack(count),
+        None => DebugCommand::Unknown,
+    }
+}
+
+fn command_of_three(word: &[u8], first: &[u8], second: &[u8]) -> DebugCommand<'static>
+    ensures { debug_request_of_command result ≡ own_request_of_three word.now first.now second.now }
+{
+    if has_letters(word, b"WORDS") {
+        words_command(first, second)
+    } else if has_letters(word, b"SET") {
+        set_command(first, second)
+    } else {
+        DebugCommand::Unknown
+    }
+}
+
+fn words_command(address: &[u8], count: &[u8]) -> DebugCommand<'static>
+    ensures { debug_request_of_command result
+        ≡ words_at (word_address address.now) (count_up_to 1024 count.now) }
+{
+    match (
+        WordAddress::spelled(address),
+        count_up_to(MAX_WORDS_SHOWN, count),
+    ) {
+        (Some(address), Some(count)) => DebugCommand::Words(address, count),
+        _ => DebugCommand::Unknown,
+    }
+}
+
+fn set_command(what: &[u8], value: &[u8]) -> DebugCommand<'static>
+    ensures { debug_request_of_command result ≡ set_request what.now value.now }
+{
+    if has_letters(what, b"PC") {
+        match Origin::spelled(value) {
+            Some(address) => DebugCommand::SetPc(address),
+            None => DebugCommand::Unknown,
+        }
+    } else if has_letters(what, b"PSR") {
+        set_psr_command(StatusPattern::of_word(value))
+    } else {
+        DebugCommand::Unknown
+    }
+}
+
+fn command_of_four(word: &[u8], what: &[u8], letters: &[u8], mode: &[u8]) -> DebugCommand<'static>
+    ensures { debug_request_of_command result
+        ≡ own_request_of_four word.now what.now letters.now mode.now }
+{
+    if has_letters(word, b"SET") && has_letters(what, b"PSR") {
+        set_psr_command(StatusPattern::of_two(letters, mode))
+    } else {
+        DebugCommand::Unknown
+    }
+}
+
+fn set_psr_command(pattern: Option<StatusPattern>) -> DebugCommand<'static>
+    ensures { debug_request_of_command result ≡ set_psr_to pattern }
+{
+    match pattern {
+        Some(pattern) => DebugCommand::SetPsr(pattern),
+        None => DebugCommand::Unknown,
+    }
+}
