@@ -1,0 +1,14 @@
+//! What a line EXPECT of a debugging script finds, for `debug_session`: whether what should be so is
+//! so, and what is so instead.
+#![tactic(auto)]
+
+pub mod answers;
+pub mod checks;
+pub mod endings;
+pub mod reasons;
+pub mod status;
+
+pub use checks::{Mismatch, SeenMachine, check};
+pub use endings::output_of;
+pub use reasons::push_reason;
+pub use status::status_with;

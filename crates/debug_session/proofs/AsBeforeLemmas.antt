@@ -1,0 +1,197 @@
+-- Lines of a script in a debugging session, beside the same in a script.
+use Rattle.std.proofs.Common.{◌≡◌, ◌≤◌, ◌<◌, ℕ, zero, suc, ◌+◌, Bool, true, false, List, [], ◌∷◌, ◌++◌, length, Option, None, Some, ◌⊎◌, inl, inr, ap, sym, subst, ◌∙◌, refl, arith}
+use Rattle.std.specs.Prelude.{◌&&◌, if◌then◌else◌}
+use Rattle.std.proofs.lemmas.Bool.{cases_Bool}
+use Rattle.command_shell.specs.Memory.{script_with_budget}
+use Rattle.command_shell.specs.Script.{lines_told, request_told}
+use Rattle.command_shell.specs.State.{Answered, ScriptState}
+use Rattle.command_shell.proofs.ScriptLemmas.{lines_after-shorter, text_end, text_step}
+use Rattle.command_shell_lines.specs.Blocks.{block_lines, lines_after, lines_taken}
+use Rattle.command_shell_lines.specs.Requests.{Request, opens_block, request_of}
+use Rattle.debug_lines.specs.DebugRequests.{is_script_request}
+use Rattle.debug_session.specs.AsBefore.{LookingLeavesTheMachine, ScriptAsBefore, are_script_lines, stepping_lines}
+use Rattle.debug_checks.specs.Checks.{check_told}
+use Rattle.debug_session.specs.DebugScript.{checked_told, asks_nothing, is_refused_block, state_after_line, state_with_answer, script_line_told, seen_of, some_lines_told, takes_steps}
+use Rattle.debug_session.specs.DebugScript.{told_or_refused}
+use Rattle.debug_session.specs.DebugState.{DebugAnswered, DebugState, then_debugged}
+use Rattle.debug_session.specs.declared.reports.ReportForm.TheVariants.{Answers}
+use Rattle.debug_session.specs.declared.session.DebugSetting.{DebugSetting}
+use Rattle.debug_session.proofs.UnreadLemmas.{IsUnread, budget_unread}
+
+-- what is told of a line, refused or not
+told_text : (c : DebugSetting) (d after : DebugState) (number : ℕ) (refused : Bool) (text : List ℕ) → c.form ≡ Answers
+    → (told_or_refused c d number refused after text).text ≡ text
+told_text c d after number true text form = rw (form) refl
+told_text c d after number false text form = rw (form) refl
+
+told_script : (c : DebugSetting) (d after : DebugState) (number : ℕ) (refused : Bool) (text : List ℕ)
+    → (told_or_refused c d number refused after text).state.script ≡ after.script
+told_script c d after number true text = refl
+told_script c d after number false text = refl
+
+told_quit : (c : DebugSetting) (d after : DebugState) (number : ℕ) (refused : Bool) (text : List ℕ)
+    → (told_or_refused c d number refused after text).state.has_quit ≡ after.has_quit
+told_quit c d after number true text = refl
+told_quit c d after number false text = refl
+
+noted_by_if : (c : DebugSetting) (d : DebugState) (r : Request) (told : Answered) (nothing : Bool)
+    → (if nothing then record d { script = told.state } else state_with_answer c d r told).script ≡ told.state
+noted_by_if c d r told true = refl
+noted_by_if c d r told false = refl
+
+quit_by_if : (c : DebugSetting) (d : DebugState) (r : Request) (told : Answered) (nothing : Bool)
+    → (if nothing then record d { script = told.state } else state_with_answer c d r told).has_quit ≡ d.has_quit
+quit_by_if c d r told true = refl
+quit_by_if c d r told false = refl
+
+-- two scripts that differ in their budgets alone, if at all
+SameBut : ℕ → ScriptState → ScriptState → Type 0
+SameBut b s t = script_with_budget s b ≡ script_with_budget t b
+
+-- a line of a script, told in a session and in a script that differs in the budget alone
+record IsTold (c : DebugSetting) (d : DebugState) (told : Answered) (first : DebugAnswered) : Type 0 where
+  text : first.text ≡ told.text
+  script : SameBut c.budget first.state.script told.state
+  quit : first.state.has_quit ≡ d.has_quit
+
+with_own_budget : (s : ScriptState) (b : ℕ) → s.left ≡ b → script_with_budget s b ≡ s
+with_own_budget s b own = ap (λ (n : ℕ). script_with_budget s n) (sym own)
+
+-- one that takes steps, where the budgets are the same
+told_stepping : (c : DebugSetting) (d : DebugState) (s : ScriptState) (number : ℕ) (r : Request) (block : List (List ℕ))
+    → c.form ≡ Answers → SameBut c.budget d.script s → s.left ≡ c.budget
+    → IsTold c d (request_told s number r block) (script_line_told c d number r block)
+unfolding SameBut
+told_stepping c d s number r block form same whole =
+    let with_budget : ScriptState = script_with_budget d.script c.budget in
+    let told : Answered = request_told with_budget number r block in
+    let refused : Bool = is_refused_block d.script.images told.state.images r in
+    let is : with_budget ≡ s = same ∙ with_own_budget s c.budget whole in
+    let answers : told ≡ request_told s number r block = ap (λ (t : ScriptState). request_told t number r block) is in
+    record {
+      text = told_text c d (state_after_line c d r told) number refused told.text form ∙ ap (λ (a : Answered). a.text) answers;
+      script = ap (λ (t : ScriptState). script_with_budget t c.budget)
+          (told_script c d (state_after_line c d r told) number refused told.text ∙ noted_by_if c d r told (asks_nothing r)
+          ∙ ap (λ (a : Answered). a.state) answers);
+      quit = told_quit c d (state_after_line c d r told) number refused told.text ∙ quit_by_if c d r told (asks_nothing r);
+    }
+
+-- one that takes none
+told_still : (c : DebugSetting) (d : DebugState) (s : ScriptState) (number : ℕ) (r : Request) (block : List (List ℕ))
+    → c.form ≡ Answers → SameBut c.budget d.script s → takes_steps r ≡ false
+    → IsTold c d (request_told s number r block) (script_line_told c d number r block)
+unfolding SameBut
+told_still c d s number r block form same none =
+    let told : Answered = request_told (script_with_budget d.script c.budget) number r block in
+    let refused : Bool = is_refused_block d.script.images told.state.images r in
+    let other : Answered = request_told (script_with_budget s c.budget) number r block in
+    let answers : told ≡ other = ap (λ (t : ScriptState). request_told t number r block) same in
+    let unread : IsUnread s c.budget (request_told s number r block) other = budget_unread s c.budget number r block none in
+    record {
+      text = told_text c d (state_after_line c d r told) number refused told.text form
+          ∙ ap (λ (a : Answered). a.text) answers ∙ unread.text;
+      script = ap (λ (t : ScriptState). script_with_budget t c.budget)
+          (told_script c d (state_after_line c d r told) number refused told.text ∙ noted_by_if c d r told (asks_nothing r)
+          ∙ ap (λ (a : Answered). a.state) answers ∙ unread.state);
+      quit = told_quit c d (state_after_line c d r told) number refused told.text ∙ quit_by_if c d r told (asks_nothing r);
+    }
+
+-- the first line of some, and the others
+one_line : (n : ℕ) (c : DebugSetting) (number : ℕ) (d : DebugState) (line : List ℕ) (rest : List (List ℕ))
+    → d.has_quit ≡ false → is_script_request (request_of line) ≡ true
+    → some_lines_told (suc n) c number d (line ∷ rest)
+    ≡ then_debugged (script_line_told c d (number + 1) (request_of line) (block_lines rest))
+    (λ after. some_lines_told n c (number + 1 + lines_taken (opens_block (request_of line)) rest) after
+    (lines_after (opens_block (request_of line)) rest))
+unfolding some_lines_told
+one_line n c number d line rest quit is = rw (quit, is) refl
+
+-- Where a script and a session stand: they differ in the budget alone, and no line that is left takes
+-- steps, or the script has its whole budget, and one line at most takes steps.
+Stands : DebugSetting → DebugState → ScriptState → ℕ → Type 0
+Stands c d s count = SameBut c.budget d.script s × ((count ≡ 0) ⊎ ((s.left ≡ c.budget) × (count ≤ 1)))
+
+-- one line more
+stands_after : (c : DebugSetting) (d : DebugState) (s : ScriptState) (number more : ℕ) (r : Request) (block : List (List ℕ))
+    → c.form ≡ Answers → Stands c d s ((if takes_steps r then 1 else 0) + more)
+    → IsTold c d (request_told s number r block) (script_line_told c d number r block)
+    × Stands c (script_line_told c d number r block).state (request_told s number r block).state more
+unfolding Stands
+stands_after c d s number more r block form stands = elim (cases_Bool (takes_steps r)) [
+  | inl steps ↦ elim stands.1 [
+    | inl none ↦ absurd (grind (arith, none, steps))
+    | inr whole ↦
+        let told = told_stepping c d s number r block form stands.0 whole.0 in
+        (told, (told.script, inl (grind (arith, whole.1, steps))))
+  ]
+  | inr still ↦
+      let told = told_still c d s number r block form stands.0 still in
+      let unread = budget_unread s c.budget number r block still in (
+        told,
+        (
+          told.script,
+          elim stands.1 [
+            | inl none ↦ inl (grind (arith, none, still))
+            | inr whole ↦ inr (unread.left ∙ whole.0, grind (arith, whole.1, still))
+          ],
+        ),
+      )
+]
+
+first_of : (a b : Bool) → a && b ≡ true → a ≡ true
+first_of true b is = refl
+first_of false b is = absurd (cc)
+
+second_of : (a b : Bool) → a && b ≡ true → b ≡ true
+second_of true b is = is
+second_of false b is = absurd (cc)
+
+nothing_left : (n : ℕ) (c : DebugSetting) (number : ℕ) (d : DebugState) → (some_lines_told n c number d []).text ≡ []
+unfolding some_lines_told
+nothing_left zero c number d = refl
+nothing_left (suc n) c number d = refl
+
+as_before : (n : ℕ) (c : DebugSetting) (number : ℕ) (d : DebugState) (s : ScriptState) (left : List (List ℕ))
+    → c.form ≡ Answers → d.has_quit ≡ false → length left ≤ n → are_script_lines n left ≡ true
+    → Stands c d s (stepping_lines n left)
+    → (some_lines_told n c number d left).text ≡ (lines_told number s None left).text
+unfolding are_script_lines stepping_lines
+as_before n c number d s [] form quit enough are stands =
+    nothing_left n c number d ∙ sym (text_end number s)
+as_before zero c number d s (line ∷ rest) form quit enough are stands = absurd (omega (arith, enough))
+as_before (suc n) c number d s (line ∷ rest) form quit enough are stands =
+    let r : Request = request_of line in
+    let next : ℕ = number + 1 + lines_taken (opens_block r) rest in
+    let after : List (List ℕ) = lines_after (opens_block r) rest in
+    let is : is_script_request r ≡ true = first_of (is_script_request r) (are_script_lines n after) are in
+    let first : DebugAnswered = script_line_told c d (number + 1) r (block_lines rest) in
+    let told : Answered = request_told s (number + 1) r (block_lines rest) in
+    let step = stands_after c d s (number + 1) (stepping_lines n after) r (block_lines rest) form stands in
+    let others : (some_lines_told n c next first.state after).text ≡ (lines_told next told.state None after).text =
+    as_before n c next first.state told.state after form (step.0.quit ∙ quit)
+    (omega (arith, enough, lines_after-shorter (opens_block r) rest))
+    (second_of (is_script_request r) (are_script_lines n after) are) step.1 in
+    ap (λ (a : DebugAnswered). a.text) (one_line n c number d line rest quit is)
+    ∙ ap (λ (xs : List ℕ). xs ++ (some_lines_told n c next first.state after).text) step.0.text
+    ∙ ap (λ (xs : List ℕ). told.text ++ xs) others
+    ∙ sym (text_step number (number + 1) next s told.state line rest after r refl refl refl refl refl)
+
+pub script_as_before : ScriptAsBefore
+unfolding Stands SameBut
+script_as_before c number d left form quit whole are few =
+    as_before (length left) c number d d.script left form quit (omega arith) are (refl, inr (whole, few))
+
+checked : (c : DebugSetting) (d : DebugState) (number : ℕ) (words : List ℕ) (reason : Option (List ℕ))
+    → (checked_told c d number words reason).state.script ≡ d.script
+checked c d number words None = refl
+checked c d number words (Some reason) = refl
+
+pub looking_leaves_the_machine : LookingLeavesTheMachine
+looking_leaves_the_machine c d number words block = record {
+  words_shown = λ address count. record { script = refl };
+  place_shown = record { script = refl };
+  banks_shown = record { script = refl };
+  stack_shown = λ count. record { script = refl };
+  help_shown = record { script = refl };
+  expected = λ e. record { script = checked c d number words (check_told (seen_of d) e) };
+}

@@ -1,0 +1,4 @@
+pub mod AsBeforeLemmas
+pub mod LineLemmas
+pub mod OwnLemmas
+pub mod UnreadLemmas

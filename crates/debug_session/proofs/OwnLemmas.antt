@@ -1,0 +1,218 @@
+-- What calls leave of a debugging session, by what those that they make leave.
+use Rattle.std.proofs.Common.{◌≡◌, ℕ, ◌-◌, Bool, true, false, List, [], Option, None, Some, Result, ap, refl, subst, sym, ◌∙◌}
+use Rattle.std.specs.Prelude.{◌&&◌, ◌||◌, not, if◌then◌else◌, OnOk}
+use Rattle.std.specs.Io.KnownBytes.{Appends}
+use Rattle.profile.proofs.OutputLemmas.{Appends-nothing}
+use Rattle.debug_lines.specs.DebugRequests.{DebugRequest}
+use Rattle.profile.specs.declared.stop.Stop.{Stop}
+use Rattle.command_line.specs.Status.{status_after}
+use Rattle.command_shell.specs.Script.{request_told}
+use Rattle.command_shell.specs.State.{Answered, IsAnswered, ScriptState}
+use Rattle.command_shell.specs.Memory.{script_with_budget}
+use Rattle.command_shell_lines.specs.Requests.{Request, Nothing, Hex, Asm, Boot, Run, Regs, Set, Poke, Call, Load, Step}
+use Rattle.command_shell_lines.specs.Requests.{Break, Unbreak, Mem, Code, Heap, Areas, Modules, Flex, Unknown, opens_block}
+use Rattle.debug_checks.specs.Endings.{output_of}
+use Rattle.debug_session.specs.DebugScript.{machine_change_told, checked_told, debug_request_told, is_named_image, asks_nothing, is_refused_block, state_after_line, state_with_answer, script_line_told, script_line_told_by, takes_steps, told_or_refused, view_told}
+use Rattle.image_loader.specs.Entries.{Entry}
+use Rattle.command_shell.specs.Session.{script_state}
+use Rattle.debug_session.specs.DebugState.{DebugAnswered, DebugState, IsDebugged}
+use Rattle.debug_session.specs.Session.{debug_state}
+use Rattle.debug_session.specs.declared.reports.CheckTally.{CheckTally}
+use Rattle.debug_session.specs.declared.session.DebugSession.{DebugSession}
+use Rattle.debug_session.specs.Reports.{answer_in, debug_status, is_untested}
+use Rattle.debug_session.specs.declared.reports.ReportForm.{ReportForm}
+use Rattle.debug_session.specs.declared.reports.ReportForm.TheVariants.{Answers, Tap}
+use Rattle.debug_session.specs.declared.session.DebugSetting.{DebugSetting}
+
+pub untested_status : (d : DebugState) (untested : Bool) (last : Option Stop) (status : ℕ)
+    → untested ≡ is_untested d.tally → untested ≡ true → last ≡ d.script.last → status ≡ status_after last
+    → status ≡ debug_status d
+untested_status d untested last status is none same told = rw (sym is ∙ none) (told ∙ ap status_after same)
+
+-- another script, and no answer
+pub changed_script : (d : DebugState) (s t : ScriptState) (answer : List ℕ) → s ≡ t → answer ≡ []
+    → record d { script = s; answer = answer } ≡ record d { script = t; answer = [] }
+changed_script d s t answer same none = rw (same, none) refl
+
+-- an answer that was gathered in memory
+pub gathered : (held text bytes : List ℕ) (now s t : ScriptState) (number : ℕ) (r : Request) (block : List (List ℕ))
+    → held ≡ [] → bytes ≡ text → s ≡ t
+    → IsAnswered (Some held) (Some text) now (request_told s number r block)
+    → IsAnswered (Some []) (Some bytes) now (request_told t number r block)
+gathered held text bytes now s t number r block none same with_budget told =
+    subst (λ (x : ScriptState). IsAnswered (Some []) (Some bytes) now (request_told x number r block)) with_budget
+    (subst (λ (xs : List ℕ). IsAnswered (Some []) (Some xs) now (request_told s number r block)) (sym same)
+    (subst (λ (xs : List ℕ). IsAnswered (Some xs) (Some text) now (request_told s number r block)) none told))
+
+-- the tally and the form alone count of the state before
+by_refusal : (c : DebugSetting) (d : DebugState) (number : ℕ) (r : Request) (told : Answered) (refused : Bool)
+    → told_or_refused c (state_with_answer c d r told) number refused (state_with_answer c d r told) told.text
+    ≡ told_or_refused c d number refused (state_with_answer c d r told) told.text
+by_refusal c d number r told true = refl
+by_refusal c d number r told false = refl
+
+noted_is : (c : DebugSetting) (d : DebugState) (r : Request) (told : Answered) (nothing : Bool)
+    → nothing ≡ asks_nothing r → nothing ≡ false → state_with_answer c d r told ≡ state_after_line c d r told
+noted_is c d r told nothing asks some = rw (sym asks ∙ some) refl
+
+pub line_told : (before after : Option (List ℕ)) (c : DebugSetting) (d at_tell now : DebugState) (number : ℕ)
+    (r : Request) (told : Answered) (refused nothing : Bool)
+    → at_tell ≡ state_with_answer c d r told → nothing ≡ asks_nothing r → nothing ≡ false
+    → refused ≡ is_refused_block d.script.images told.state.images r
+    → IsDebugged before after now (told_or_refused c at_tell number refused at_tell at_tell.answer)
+    → IsDebugged before after now (script_line_told_by c d number r told)
+line_told before after c d at_tell now number r told refused nothing note asks some is written =
+    subst (λ (x : DebugAnswered). IsDebugged before after now x)
+    (ap (λ (x : DebugState). told_or_refused c x number refused x x.answer) note
+    ∙ by_refusal c d number r told refused
+    ∙ ap (λ (b : Bool). told_or_refused c d number b (state_with_answer c d r told) told.text) is
+    ∙ ap (λ (x : DebugState). told_or_refused c d number (is_refused_block d.script.images told.state.images r) x told.text)
+    (noted_is c d r told nothing asks some))
+    written
+
+-- the same by other names of the setting and the line
+pub told_with : (before after : Option (List ℕ)) (now at_tell : DebugState) (c e : DebugSetting) (line number : ℕ) (refused : Bool)
+    → c ≡ e → line ≡ number
+    → IsDebugged before after now (told_or_refused c at_tell line refused at_tell at_tell.answer)
+    → IsDebugged before after now (told_or_refused e at_tell number refused at_tell at_tell.answer)
+told_with before after now at_tell c e line number refused setting at told =
+    subst (λ (x : DebugSetting). IsDebugged before after now (told_or_refused x at_tell number refused at_tell at_tell.answer)) setting
+    (subst (λ (n : ℕ). IsDebugged before after now (told_or_refused c at_tell n refused at_tell at_tell.answer)) at told)
+
+-- a state by its parts
+made : ScriptState → List ℕ → List ℕ → ℕ → CheckTally → Bool → DebugState
+made script answer output steps tally quit = record {
+  script = script;
+  answer = answer;
+  output = output;
+  steps = steps;
+  tally = tally;
+  has_quit = quit;
+}
+
+made_same : (s s' : ScriptState) (a a' o o' : List ℕ) (n n' : ℕ) (t t' : CheckTally) (q q' : Bool)
+    → s ≡ s' → a ≡ a' → o ≡ o' → n ≡ n' → t ≡ t' → q ≡ q' → made s a o n t q ≡ made s' a' o' n' t' q'
+made_same s s' a a' o o' n n' t t' q q' script answer output steps tally quit = cc
+
+by_takes : {A : Type 0} (takes other : Bool) (x x' y y' : A) → takes ≡ other → x ≡ x' → y ≡ y'
+    → (if takes then x else y) ≡ (if other then x' else y')
+by_takes takes other x x' y y' is first rest = rw (is, first, rest) refl
+
+-- what a session keeps of an answer
+pub session_noted : (old mid new : DebugSession) (images after : List Entry) (answer : List ℕ) (takes : Bool)
+    (r : Request) (told : Answered)
+    → mid ≡ record old { session = mid.session }
+    → new ≡ record mid { answer = new.answer; output = new.output; steps = new.steps }
+    → new.answer.items ≡ answer
+    → new.output.items ≡ (if takes then output_of answer else mid.output.items)
+    → new.steps ≡ (if takes then mid.setting.budget - mid.session.left else mid.steps)
+    → takes ≡ takes_steps r → script_state mid.session after ≡ told.state → answer ≡ told.text
+    → debug_state new after ≡ state_with_answer old.setting (debug_state old images) r told
+unfolding made
+session_noted old mid new images after answer takes r told first next kept printed counted is state text =
+    ap (λ (s : DebugSession). debug_state s after) next
+    ∙ made_same (script_state mid.session after) told.state new.answer.items told.text new.output.items
+    (if takes_steps r then output_of told.text else old.output.items) new.steps
+    (if takes_steps r then old.setting.budget - told.state.left else old.steps) mid.tally old.tally mid.has_quit old.has_quit
+    state (kept ∙ text)
+    (printed ∙ by_takes takes (takes_steps r) (output_of answer) (output_of told.text) mid.output.items old.output.items is
+    (ap output_of text) (ap (λ (s : DebugSession). s.output.items) first))
+    (counted ∙ by_takes takes (takes_steps r) (mid.setting.budget - mid.session.left) (old.setting.budget - told.state.left)
+    mid.steps old.steps is
+    (ap (λ (s : DebugSession). s.setting.budget - mid.session.left) first
+    ∙ ap (λ (s : ScriptState). old.setting.budget - s.left) state)
+    (ap (λ (s : DebugSession). s.steps) first))
+    (ap (λ (s : DebugSession). s.tally) first) (ap (λ (s : DebugSession). s.has_quit) first)
+
+-- a session whose script alone is another
+pub session_moved : (old mid : DebugSession) (images after : List Entry) (to : ScriptState)
+    → mid ≡ record old { session = mid.session } → script_state mid.session after ≡ to
+    → debug_state mid after ≡ record (debug_state old images) { script = to }
+session_moved old mid images after to first state =
+    ap (λ (s : DebugSession). debug_state s after) first
+    ∙ ap (λ (t : ScriptState). let moved : DebugState = record (debug_state old images) { script = t } in moved) state
+
+-- whether a block is refused, as the code tests it
+pub refused_as_told : (refused there : Bool) (before after images : List Entry) (r : Request)
+    → refused ≡ (opens_block r && (there || not (is_named_image after r))) → there ≡ is_named_image before r
+    → after ≡ images → refused ≡ is_refused_block before images r
+refused_as_told refused there before after images r is was same = is
+    ∙ ap (λ (b : Bool). opens_block r && (b || not (is_named_image after r))) was
+    ∙ ap (λ (es : List Entry). opens_block r && (is_named_image before r || not (is_named_image es r))) same
+
+empty_in : (form : ReportForm) → answer_in form [] ≡ []
+empty_in Answers = refl
+empty_in Tap = refl
+
+-- a line that asks for nothing
+pub nothing_told : (c : DebugSetting) (d now : DebugState) (number : ℕ) (r : Request) (block : List (List ℕ))
+    (held : Option (List ℕ)) (nothing : Bool) → nothing ≡ asks_nothing r → nothing ≡ true
+    → now ≡ record d { script = (request_told (script_with_budget d.script c.budget) number r block).state }
+    → IsDebugged held held now (script_line_told c d number r block)
+nothing_told c d now number Nothing block held nothing asks none state = record {
+  text = subst (λ (xs : List ℕ). Appends held held xs) (sym (empty_in c.form)) (Appends-nothing held);
+  state = state;
+}
+nothing_told c d now number (Hex name) block held nothing asks none state = absurd (cc)
+nothing_told c d now number (Asm name origin) block held nothing asks none state = absurd (cc)
+nothing_told c d now number (Boot name) block held nothing asks none state = absurd (cc)
+nothing_told c d now number Run block held nothing asks none state = absurd (cc)
+nothing_told c d now number Regs block held nothing asks none state = absurd (cc)
+nothing_told c d now number (Set register value) block held nothing asks none state = absurd (cc)
+nothing_told c d now number (Poke address value) block held nothing asks none state = absurd (cc)
+nothing_told c d now number (Call called) block held nothing asks none state = absurd (cc)
+nothing_told c d now number (Load text) block held nothing asks none state = absurd (cc)
+nothing_told c d now number (Step count) block held nothing asks none state = absurd (cc)
+nothing_told c d now number (Break address) block held nothing asks none state = absurd (cc)
+nothing_told c d now number (Unbreak address) block held nothing asks none state = absurd (cc)
+nothing_told c d now number (Mem address count) block held nothing asks none state = absurd (cc)
+nothing_told c d now number (Code address count) block held nothing asks none state = absurd (cc)
+nothing_told c d now number (Heap address) block held nothing asks none state = absurd (cc)
+nothing_told c d now number Areas block held nothing asks none state = absurd (cc)
+nothing_told c d now number Modules block held nothing asks none state = absurd (cc)
+nothing_told c d now number Flex block held nothing asks none state = absurd (cc)
+nothing_told c d now number Unknown block held nothing asks none state = absurd (cc)
+
+-- a view by its text
+pub view_of_text : (before after : Option (List ℕ)) (now d : DebugState) (c : DebugSetting) (text shown : List ℕ)
+    → text ≡ shown → IsDebugged before after now (view_told c d text) → IsDebugged before after now (view_told c d shown)
+view_of_text before after now d c text shown same told =
+    subst (λ (xs : List ℕ). IsDebugged before after now (view_told c d xs)) same told
+
+-- what is told of a request, told of a line that asks for it
+pub asked : (before after : Option (List ℕ)) (now d : DebugState) (c : DebugSetting) (number : ℕ) (words : List ℕ)
+    (block : List (List ℕ)) (r asks : DebugRequest)
+    → r ≡ asks → IsDebugged before after now (debug_request_told c d number words r block)
+    → IsDebugged before after now (debug_request_told c d number words asks block)
+asked before after now d c number words block r asks is told =
+    subst (λ (x : DebugRequest). IsDebugged before after now (debug_request_told c d number words x block)) is told
+
+pub asked_if : {A E : Type 0} (result : Result A E) (before after : Option (List ℕ)) (now d : DebugState) (c : DebugSetting)
+    (number : ℕ) (words : List ℕ) (block : List (List ℕ)) (r asks : DebugRequest)
+    → r ≡ asks → OnOk result (IsDebugged before after now (debug_request_told c d number words r block))
+    → OnOk result (IsDebugged before after now (debug_request_told c d number words asks block))
+asked_if result before after now d c number words block r asks is told =
+    subst (λ (x : DebugRequest). OnOk result (IsDebugged before after now (debug_request_told c d number words x block))) is told
+
+-- an expectation by its reason
+pub checked_by : {A E : Type 0} (result : Result A E) (before after : Option (List ℕ)) (now d : DebugState) (c : DebugSetting)
+    (line number : ℕ) (words : List ℕ) (reason told : Option (List ℕ))
+    → line ≡ number → reason ≡ told → OnOk result (IsDebugged before after now (checked_told c d line words reason))
+    → OnOk result (IsDebugged before after now (checked_told c d number words told))
+checked_by result before after now d c line number words reason told at is written =
+    subst (λ (x : Option (List ℕ)). OnOk result (IsDebugged before after now (checked_told c d number words x))) is
+    (subst (λ (n : ℕ). OnOk result (IsDebugged before after now (checked_told c d n words reason))) at written)
+
+-- a change that writes nothing
+pub changed_quietly : (held : Option (List ℕ)) (now d : DebugState) (script : ScriptState)
+    → now ≡ (machine_change_told d script).state → IsDebugged held held now (machine_change_told d script)
+changed_quietly held now d script is = record { text = Appends-nothing held; state = is }
+
+-- a view of another state
+pub view_after : (before after : Option (List ℕ)) (now d e : DebugState) (c f : DebugSetting) (text shown : List ℕ)
+    → c ≡ f → d ≡ e → text ≡ shown → IsDebugged before after now (view_told c d text)
+    → IsDebugged before after now (view_told f e shown)
+view_after before after now d e c f text shown setting state same told =
+    subst (λ (x : DebugSetting). IsDebugged before after now (view_told x e shown)) setting
+    (subst (λ (x : DebugState). IsDebugged before after now (view_told c x shown)) state
+    (view_of_text before after now d c text shown same told))

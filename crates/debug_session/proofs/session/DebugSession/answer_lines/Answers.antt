@@ -1,0 +1,64 @@
+use Rattle.std.proofs.Common.{◌∙◌, ap, length, sym}
+use Rattle.command_shell_lines.specs.Blocks.{block_lines}
+use Rattle.debug_session.specs.DebugScript.{debug_line_told, debug_lines_told}
+use Rattle.debug_session.specs.DebugState.{DebugAnswered}
+use Rattle.debug_session.specs.Session.{debug_state}
+use Rattle.profile.proofs.OutputLemmas.{AddsAllBut-more, Appends-from_all_but}
+use Rattle.debug_session.proofs.LineLemmas.{fewer, none_left, none_told, step_state, step_text}
+use Rattle.debug_session.proofs.session.DebugSession.answer_lines.Goals as goal
+
+pub returns-in_default-clause-told : goal.returns-in_default-clause-told
+returns-in_default-clause-told g c =
+    let now = debug_state c.loop-self.self c.loop-self.images in
+    let none = none_left c.args.self.now.setting c.loop-self.script.number now c.loop-self.script.left c.in_default.ensures.line in
+    record {
+      text = Appends-from_all_but (g.W.Sink.contents c.args.sink.now) (g.W.Sink.contents c.loop-self.sink) _ _
+          c.loop-self.invariant.text (ap (λ (a : DebugAnswered). a.text) none);
+      state = sym (ap (λ (a : DebugAnswered). a.state) none) ∙ c.loop-self.invariant.state;
+    }
+
+pub loop-self-smaller : goal.loop-self-smaller
+loop-self-smaller g c =
+    fewer c.in-Some.line.now c.loop-self.script.left c.next_line.new.self.left c.answer_line.new.script.left
+    c.in-Some.ensures.line c.in_ok-answer_line.ensures.left
+
+pub loop-self-preserved : goal.loop-self-preserved
+loop-self-preserved g c =
+    let before = debug_state c.loop-self.self c.loop-self.images in
+    let after = debug_state c.answer_line.new.self c.answer_line.new.images in
+    let number = c.loop-self.script.number in
+    let here = c.next_line.new.self.number in
+    let next = c.answer_line.new.script.number in
+    let line = c.in-Some.line.now in
+    let all = c.loop-self.script.left in
+    let rest = c.next_line.new.self.left in
+    let left = c.answer_line.new.script.left in
+    let setting = c.args.self.now.setting in
+    let own = c.loop-self.self.setting in
+    let told = c.in_ok-answer_line.ensures.told in
+    let first = debug_line_told own before here line (block_lines rest) in
+    let text = step_text setting own number here next before after line all rest left c.loop-self-test.true
+    (sym c.loop-self.invariant.setting) c.in-Some.ensures.line c.in-Some.ensures.number told.state
+    c.in_ok-answer_line.ensures.number c.in_ok-answer_line.ensures.left in
+    let state = step_state setting own number here next before after line all rest left c.loop-self-test.true
+    (sym c.loop-self.invariant.setting) c.in-Some.ensures.line c.in-Some.ensures.number told.state
+    c.in_ok-answer_line.ensures.number c.in_ok-answer_line.ensures.left in
+    record {
+      text = AddsAllBut-more (g.W.Sink.contents c.args.sink.now) (g.W.Sink.contents c.loop-self.sink)
+          (g.W.Sink.contents c.answer_line.new.sink) (debug_lines_told setting number before all).text first.text
+          (debug_lines_told setting next after left).text _ c.loop-self.invariant.text told.text text;
+      state = sym state ∙ c.loop-self.invariant.state;
+      setting = c.in_ok-answer_line.ensures.setting ∙ c.loop-self.invariant.setting;
+      same_flag = c.in_ok-answer_line.ensures.same_flag ∙ c.loop-self.invariant.same_flag;
+    }
+
+pub returns-clause-told : goal.returns-clause-told
+returns-clause-told g c =
+    let left = c.loop-self.script.left in
+    let now = debug_state c.loop-self.self c.loop-self.images in
+    let quit = none_told (length left) c.args.self.now.setting c.loop-self.script.number now left c.loop-self-test.false in
+    record {
+      text = Appends-from_all_but (g.W.Sink.contents c.args.sink.now) (g.W.Sink.contents c.loop-self.sink) _ _
+          c.loop-self.invariant.text (ap (λ (a : DebugAnswered). a.text) quit);
+      state = sym (ap (λ (a : DebugAnswered). a.state) quit) ∙ c.loop-self.invariant.state;
+    }

@@ -1,0 +1,21 @@
+use Rattle.std.proofs.Common.{◌∙◌, ap}
+use Rattle.command_shell.specs.Memory.{script_with_status}
+use Rattle.command_shell.specs.Session.{script_state}
+use Rattle.debug_checks.specs.Checks.{status_after_pattern}
+use Rattle.debugger.specs.swi_dispatch.specs.Value.{MachineValue}
+use Rattle.debugger.specs.swi_dispatch.specs.arm_core.specs.State.{State}
+use Rattle.swi_dispatch_guest.specs.Parts.{state_of}
+use Rattle.debug_session.specs.Session.{debug_state}
+use Rattle.debug_session.proofs.OwnLemmas.{changed_script}
+use Rattle.debug_session.proofs.session.DebugSession.set_psr.Goals as goal
+
+pub returns-clause-told : goal.returns-clause-told
+returns-clause-told c images =
+    let s = script_state c.args.self.now.session images in
+    changed_script (debug_state c.args.self.now images) (script_state c.set_psr.new.self images)
+    (script_with_status s (status_after_pattern c.args.pattern s.machine.cpu.psr)) c.new.result.items
+    (c.set_psr.ensures images
+    ∙ ap (script_with_status s) (c.status_with-status.ensures
+    ∙ ap (status_after_pattern c.args.pattern) (c.psr.ensures ∙ ap (λ (cpu : State). cpu.psr)
+    (c.cpu.ensures ∙ ap (λ (m : MachineValue). (state_of m.guest).cpu) c.machine.ensures))))
+    c.new.ensures.items

@@ -1,0 +1,53 @@
+-- A script is answered by a debugging session as a script is, byte for byte; and looking and
+-- expecting change nothing.
+use Rattle.std.specs.Prelude.{◌≡◌, ◌≤◌, ℕ, zero, suc, ◌+◌, ◌&&◌, Bool, true, false, not, List, [], ◌∷◌, length, None, if◌then◌else◌}
+use Rattle.command_shell.specs.Script.{lines_told}
+use Rattle.command_shell.specs.State.{ScriptState}
+use Rattle.command_shell_lines.specs.Blocks.{block_lines, lines_after}
+use Rattle.command_shell_lines.specs.Requests.{Request, opens_block, request_of}
+use Rattle.debug_lines.specs.DebugRequests.{DebugRequest, Words, Where, Banks, Stack, Help, Expect, is_script_request}
+use Rattle.debug_lines.specs.Expectations.{ExpectRequest}
+use Rattle.debug_session.specs.DebugScript.{debug_lines_told, debug_request_told, takes_steps}
+use Rattle.debug_session.specs.DebugState.{DebugState}
+use Rattle.debug_session.specs.declared.reports.ReportForm.TheVariants.{Answers}
+use Rattle.debug_session.specs.declared.session.DebugSetting.{DebugSetting}
+
+-- Whether at most so many lines, and blocks between them, are those of a script; and of these, how
+-- many lines take steps.
+unfoldable pub are_script_lines : ℕ → List (List ℕ) → Bool
+are_script_lines zero left = true
+are_script_lines (suc more) [] = true
+are_script_lines (suc more) (line ∷ rest) = is_script_request (request_of line)
+    && are_script_lines more (lines_after (opens_block (request_of line)) rest)
+
+unfoldable pub stepping_lines : ℕ → List (List ℕ) → ℕ
+stepping_lines zero left = 0
+stepping_lines (suc more) [] = 0
+stepping_lines (suc more) (line ∷ rest) = (if takes_steps (request_of line) then 1 else 0)
+    + stepping_lines more (lines_after (opens_block (request_of line)) rest)
+
+-- With lines of a script alone, of which one at most takes steps, the answers are the script's. (Each
+-- line may take the whole budget, where all lines of a script have one budget together.)
+abbrev pub ScriptAsBefore : Type 0
+ScriptAsBefore = (c : DebugSetting) (number : ℕ) (d : DebugState) (left : List (List ℕ))
+    → c.form ≡ Answers → d.has_quit ≡ false → d.script.left ≡ c.budget
+    → are_script_lines (length left) left ≡ true → stepping_lines (length left) left ≤ 1
+    → (debug_lines_told c number d left).text ≡ (lines_told number d.script None left).text
+
+-- Views and EXPECT leave all that a script works on as it is.
+pub record LooksOnly (c : DebugSetting) (d : DebugState) (number : ℕ) (words : List ℕ)
+    (block : List (List ℕ)) (request : DebugRequest) : Type 0 where
+  pub script : (debug_request_told c d number words request block).state.script ≡ d.script
+
+pub record LookingChangesNothing (c : DebugSetting) (d : DebugState) (number : ℕ) (words : List ℕ)
+    (block : List (List ℕ)) : Type 0 where
+  pub words_shown : (address count : ℕ) → LooksOnly c d number words block (Words address count)
+  pub place_shown : LooksOnly c d number words block Where
+  pub banks_shown : LooksOnly c d number words block Banks
+  pub stack_shown : (count : ℕ) → LooksOnly c d number words block (Stack count)
+  pub help_shown : LooksOnly c d number words block Help
+  pub expected : (e : ExpectRequest) → LooksOnly c d number words block (Expect e)
+
+abbrev pub LookingLeavesTheMachine : Type 0
+LookingLeavesTheMachine = (c : DebugSetting) (d : DebugState) (number : ℕ) (words : List ℕ)
+    (block : List (List ℕ)) → LookingChangesNothing c d number words block

@@ -1,0 +1,171 @@
+-- What a debugging script does and what it is answered, line by line, over the written machine. A
+-- line of a script is answered as in a script, but that each line may take the whole budget.
+use Rattle.std.specs.Prelude.{ℕ, zero, suc, ◌+◌, ◌-◌, ◌&&◌, ◌||◌, Bool, true, false, not, List, [], ◌∷◌, ◌++◌, length, codes, Option, Some, None, is_some, if◌then◌else◌}
+use Rattle.std.specs.Str.Lines.{lines}
+use Rattle.image_loader.specs.Entries.{Entry, bytes_of_image}
+use Rattle.command_shell.specs.Answers.{at_text, unknown_text}
+use Rattle.command_shell.specs.Memory.{script_at, script_started_anew, script_with_budget, script_with_status}
+use Rattle.command_shell.specs.Script.{request_told}
+use Rattle.command_shell.specs.State.{Answered, ScriptState}
+use Rattle.command_shell_lines.specs.Blocks.{block_lines, lines_after, lines_taken}
+use Rattle.command_shell_lines.specs.Requests.{Request, Nothing, Hex, Asm, Run, Call, Load, Step, opens_block}
+use Rattle.debug_checks.specs.Checks.{Seen, check_told, status_after_pattern}
+use Rattle.debug_checks.specs.Endings.{output_of}
+use Rattle.debug_lines.specs.DebugRequests.{DebugRequest, Script, Remark, Words, Where, Banks, Stack, SetPc, SetPsr, Reset, Help, Quit, Expect, NotKnown, debug_opens_block, debug_request, is_script_request}
+use Rattle.command_shell_lines.specs.Requests.{request_of}
+use Rattle.debug_lines.specs.Expectations.{ExpectRequest}
+use Rattle.debug_lines.specs.Tidy.{tidied_line}
+use Rattle.debug_views.specs.Banks.{banks_text}
+use Rattle.debug_views.specs.Stack.{stack_words_text}
+use Rattle.debug_views.specs.Words.{memory_words_text}
+use Rattle.debug_session.specs.DebugState.{DebugAnswered, DebugState, debug_answer, debug_start_state, then_debugged}
+use Rattle.debug_session.specs.declared.help.TheConstants.{HELP}
+use Rattle.debug_session.specs.declared.session.DebugSetting.{DebugSetting}
+use Rattle.debug_session.specs.Reports.{answer_in, fail_text, pass_text, report_of_refusal, summary_text, with_fail, with_pass, with_refusal}
+use Rattle.debug_session.specs.declared.reports.ReportForm.{ReportForm}
+
+-- LINES OF A SCRIPT
+
+abbrev pub takes_steps : Request → Bool
+takes_steps Run = true
+takes_steps (Step count) = true
+takes_steps (Call number) = true
+takes_steps (Load text) = true
+takes_steps request = false
+
+-- whether the image of a line that opens a block is among these
+abbrev pub is_named_image : List Entry → Request → Bool
+is_named_image images (Hex name) = is_some (bytes_of_image images name)
+is_named_image images (Asm name origin) = is_some (bytes_of_image images name)
+is_named_image images request = false
+
+-- A block is refused where its image was there before, or isn't there after it.
+abbrev pub is_refused_block : List Entry → List Entry → Request → Bool
+is_refused_block before after request =
+    opens_block request && (is_named_image before request || not (is_named_image after request))
+
+abbrev pub asks_nothing : Request → Bool
+asks_nothing Nothing = true
+asks_nothing request = false
+
+-- what is kept of an answer
+abbrev pub state_with_answer : DebugSetting → DebugState → Request → Answered → DebugState
+state_with_answer c d request told = record d {
+  script = told.state;
+  answer = told.text;
+  output = if takes_steps request then output_of told.text else d.output;
+  steps = if takes_steps request then c.budget - told.state.left else d.steps;
+}
+
+-- The state after the answer to a line of a script. After an empty line the last answer is the one
+-- before it.
+abbrev pub state_after_line : DebugSetting → DebugState → Request → Answered → DebugState
+state_after_line c d request told = if asks_nothing request then record d { script = told.state }
+    else state_with_answer c d request told
+
+abbrev pub told_or_refused : DebugSetting → DebugState → ℕ → Bool → DebugState → List ℕ → DebugAnswered
+told_or_refused c d number true after text = debug_answer (record after { tally = with_refusal d.tally })
+    (report_of_refusal c.form d.tally number text)
+told_or_refused c d number false after text = debug_answer after (answer_in c.form text)
+
+abbrev pub script_line_told_by : DebugSetting → DebugState → ℕ → Request → Answered → DebugAnswered
+script_line_told_by c d number request told =
+    told_or_refused c d number (is_refused_block d.script.images told.state.images request)
+    (state_after_line c d request told) told.text
+
+-- A line of a script may take the whole budget.
+abbrev pub script_line_told : DebugSetting → DebugState → ℕ → Request → List (List ℕ) → DebugAnswered
+script_line_told c d number request block =
+    script_line_told_by c d number request
+    (request_told (script_with_budget d.script c.budget) number request block)
+
+-- LINES OF ITS OWN
+
+-- a view: its text is the answer
+abbrev pub view_told : DebugSetting → DebugState → List ℕ → DebugAnswered
+view_told c d text = debug_answer (record d { answer = text }) (answer_in c.form text)
+
+-- a change of the machine, which is answered nothing
+abbrev pub machine_change_told : DebugState → ScriptState → DebugAnswered
+machine_change_told d script = debug_answer (record d { script = script; answer = [] }) []
+
+abbrev pub reset_told : DebugSetting → DebugState → DebugAnswered
+reset_told c d = view_told c (record d { script = script_started_anew d.script c.config c.budget })
+    (codes "reset\n")
+
+abbrev pub seen_of : DebugState → Seen
+seen_of d = record {
+  cpu = d.script.machine.cpu;
+  bytes = d.script.machine.store.bytes;
+  answer = d.answer;
+  output = d.output;
+  steps = d.steps;
+}
+
+-- an expectation that is met, or why it isn't
+abbrev pub checked_told : DebugSetting → DebugState → ℕ → List ℕ → Option (List ℕ) → DebugAnswered
+checked_told c d number words None = debug_answer (record d { tally = with_pass d.tally })
+    (pass_text c.form d.tally number words)
+checked_told c d number words (Some reason) = debug_answer (record d { tally = with_fail d.tally })
+    (fail_text c.form d.tally number words reason)
+
+abbrev pub unknown_told : DebugSetting → DebugState → ℕ → DebugAnswered
+unknown_told c d number = debug_answer (record d { answer = unknown_text number; tally = with_refusal d.tally })
+    (report_of_refusal c.form d.tally number (unknown_text number))
+
+-- A line at that number: its words, made tidy, what it asks for, and the lines of its block.
+abbrev pub debug_request_told : DebugSetting → DebugState → ℕ → List ℕ → DebugRequest → List (List ℕ)
+    → DebugAnswered
+debug_request_told c d number words (Script request) block = script_line_told c d number request block
+debug_request_told c d number words Remark block = debug_answer d []
+debug_request_told c d number words (Words address count) block =
+    view_told c d (memory_words_text d.script.machine.store.bytes address count)
+debug_request_told c d number words Where block = view_told c d (at_text d.script.machine.cpu.pc)
+debug_request_told c d number words Banks block = view_told c d (banks_text d.script.machine.cpu)
+debug_request_told c d number words (Stack count) block =
+    view_told c d (stack_words_text d.script.machine.cpu d.script.machine.store.bytes count)
+debug_request_told c d number words (SetPc address) block = machine_change_told d (script_at d.script address)
+debug_request_told c d number words (SetPsr pattern) block = machine_change_told d
+    (script_with_status d.script (status_after_pattern pattern d.script.machine.cpu.psr))
+debug_request_told c d number words Reset block = reset_told c d
+debug_request_told c d number words Help block = view_told c d HELP.now
+debug_request_told c d number words Quit block = debug_answer (record d { has_quit = true }) []
+debug_request_told c d number words (Expect expected) block =
+    checked_told c d number words (check_told (seen_of d) expected)
+debug_request_told c d number words NotKnown block = unknown_told c d number
+
+-- a line as it stands
+abbrev pub debug_line_told : DebugSetting → DebugState → ℕ → List ℕ → List (List ℕ) → DebugAnswered
+debug_line_told c d number line block =
+    debug_request_told c d number (tidied_line line) (debug_request line) block
+
+-- THE SCRIPT
+
+-- nothing is answered after QUIT
+abbrev pub unless_quit : DebugState → DebugAnswered → DebugAnswered
+unless_quit d told = if d.has_quit then debug_answer d [] else told
+
+abbrev pub line_opens : List ℕ → Bool
+line_opens line = debug_opens_block (debug_request line)
+
+-- At most so many lines and blocks of a text, where so many lines came before.
+unfoldable pub some_lines_told : ℕ → DebugSetting → ℕ → DebugState → List (List ℕ) → DebugAnswered
+some_lines_told zero c number d left = debug_answer d []
+some_lines_told (suc more) c number d [] = debug_answer d []
+some_lines_told (suc more) c number d (line ∷ rest) = unless_quit d
+    (then_debugged (debug_line_told c d (number + 1) line (block_lines rest))
+    (λ after. some_lines_told more c (number + 1 + lines_taken (line_opens line) rest) after
+    (lines_after (line_opens line) rest)))
+
+-- all of them
+abbrev pub debug_lines_told : DebugSetting → ℕ → DebugState → List (List ℕ) → DebugAnswered
+debug_lines_told c number d left = some_lines_told (length left) c number d left
+
+-- what stands after the last of them
+abbrev pub then_summary : DebugSetting → DebugAnswered → DebugAnswered
+then_summary c told = debug_answer told.state (told.text ++ summary_text c.form told.state.tally)
+
+-- a whole script
+unfoldable pub debug_script_told : DebugSetting → List Entry → List ℕ → DebugAnswered
+debug_script_told c images script =
+    then_summary c (debug_lines_told c 0 (debug_start_state c images) (lines script))

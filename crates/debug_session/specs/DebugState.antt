@@ -1,0 +1,65 @@
+-- What a debugging script works on, and what a line of it is answered.
+use Rattle.std.specs.Prelude.{◌≡◌, ℕ, ◌+◌, ◌-◌, ◌^◌, min, Bool, false, List, [], ◌++◌, Option}
+use Rattle.std.specs.Io.KnownBytes.{Appends}
+use Rattle.image_loader.specs.Entries.{Entry}
+use Rattle.command_shell.specs.State.{ScriptState, script_start_state}
+use Rattle.command_shell.specs.declared.error.RunError.{RunError}
+use Rattle.command_shell.specs.declared.error.RunError.TheVariants.{Memory, ReadFault, WriteFault, ScriptTooLong}
+use Rattle.debug_session.specs.declared.reports.CheckTally.{CheckTally}
+use Rattle.debug_session.specs.declared.session.DebugSetting.{DebugSetting}
+
+-- A count, up to 2^64 - 1.
+abbrev pub one_more : ℕ → ℕ
+one_more n = min (n + 1) (2 ^ 64 - 1)
+
+abbrev pub no_tally : CheckTally
+no_tally = record { passed = 0; failed = 0; refused = 0 }
+
+-- What a debugging script works on: what a script does, the last answer of a line that is no EXPECT,
+-- what the guest printed in the last line that takes steps, how many steps that took, the tally, and
+-- whether QUIT was among the lines.
+pub record DebugState : Type 0 where
+  pub script : ScriptState
+  pub answer : List ℕ
+  pub output : List ℕ
+  pub steps : ℕ
+  pub tally : CheckTally
+  pub has_quit : Bool
+
+pub record DebugAnswered : Type 0 where
+  pub state : DebugState
+  pub text : List ℕ
+
+abbrev pub debug_answer : DebugState → List ℕ → DebugAnswered
+debug_answer d text = record { state = d; text = text }
+
+-- A writer and a debugging script after an answer: what was written is its text, and the script
+-- stands in its state.
+pub record IsDebugged (before after : Option (List ℕ)) (now : DebugState) (told : DebugAnswered) : Type 0 where
+  pub text : Appends before after told.text
+  pub state : now ≡ told.state
+
+-- an answer, and then those of the lines that follow
+abbrev pub then_debugged : DebugAnswered → (DebugState → DebugAnswered) → DebugAnswered
+then_debugged first next = record {
+  state = (next first.state).state;
+  text = first.text ++ (next first.state).text;
+}
+
+-- where a debugging script begins
+abbrev pub debug_start_state : DebugSetting → List Entry → DebugState
+debug_start_state setting images = record {
+  script = script_start_state setting.config images setting.budget;
+  answer = [];
+  output = [];
+  steps = 0;
+  tally = no_tally;
+  has_quit = false;
+}
+
+-- while what is typed is answered
+abbrev pub IsDebugTypingError : RunError → Type 0
+IsDebugTypingError Memory = Unit {0}
+IsDebugTypingError ReadFault = ⊥
+IsDebugTypingError WriteFault = Unit {0}
+IsDebugTypingError ScriptTooLong = Unit {0}

@@ -1,0 +1,7 @@
+-- What the lines of a debugging script are answered. Begin with DebugScript.
+pub mod AsBefore
+pub mod DebugScript
+pub mod DebugState
+pub mod Reports
+pub mod Session
+pub mod Typing

@@ -1,0 +1,16 @@
+-- The state of a debugging script, as the code holds it: the session and the images.
+use Rattle.std.specs.Prelude.{ℕ, List}
+use Rattle.image_loader.specs.Entries.{Entry}
+use Rattle.command_shell.specs.Session.{script_state}
+use Rattle.debug_session.specs.DebugState.{DebugState}
+use Rattle.debug_session.specs.declared.session.DebugSession.{DebugSession}
+
+abbrev pub debug_state : DebugSession → List Entry → DebugState
+debug_state s images = record {
+  script = script_state s.session images;
+  answer = s.answer.items;
+  output = s.output.items;
+  steps = s.steps;
+  tally = s.tally;
+  has_quit = s.has_quit;
+}

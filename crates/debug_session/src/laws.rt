@@ -1,0 +1,14 @@
+//! A script is answered as it was before; and looking changes nothing.
+
+ghost use Rattle.debug_session.specs.AsBefore.{LookingLeavesTheMachine, ScriptAsBefore};
+
+/// Lines of a script alone, of which one at most takes steps, are answered as a script is, byte for
+/// byte.
+pub fn script_as_before()
+    ensures { ScriptAsBefore }
+{}
+
+/// Views and lines that expect something leave the machine, the images, the breaks and the budget.
+pub fn looking_leaves_the_machine()
+    ensures { LookingLeavesTheMachine }
+{}

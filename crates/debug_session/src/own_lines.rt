@@ -1,0 +1,248 @@
+//! The lines of its own that a debugging script has.
+
+ghost use Rattle.std.specs.Prelude.{◌≡◌, ◌%◌, ◌<◌, ◌^◌, true, List, IfOk, IfErr, OnOk, OnErr};
+ghost use Rattle.std.specs.Option.{option_map};
+ghost use Rattle.command_shell.specs.Error.{IsLineError};
+ghost use Rattle.debug_checks.specs.Reasons.{reason_text};
+
+use crate::help::HELP;
+use crate::reports::{push_answer, push_fail, push_pass, push_refusal};
+use crate::session::DebugSession;
+use command_shell::{RunError, tell_unknown};
+use command_shell_lines::{Origin, WordAddress};
+use debug_checks::{Mismatch, SeenMachine, check, push_reason, status_with};
+use debug_lines::{Expectation, StatusPattern};
+use debug_views::{show_banks, show_stack, show_where, show_words};
+use profile::{Sink, WriteFault};
+use std::alloc::{AllocError, Global};
+use view_items::TextSink;
+
+impl DebugSession {
+    ghost use Rattle.image_loader.specs.Entries.{Entry};
+    ghost use Rattle.command_shell.specs.Answers.{at_text};
+    ghost use Rattle.command_shell.specs.Memory.{script_at, script_started_anew, script_with_status};
+    ghost use Rattle.debug_checks.specs.Checks.{check_told, status_after_pattern};
+    ghost use Rattle.debug_lines.specs.Expectations.{expect_request_of};
+    ghost use Rattle.debug_views.specs.Banks.{banks_text};
+    ghost use Rattle.debug_views.specs.Stack.{stack_words_text};
+    ghost use Rattle.debug_views.specs.Words.{memory_words_text};
+    ghost use Rattle.debug_session.specs.DebugScript.{checked_told, machine_change_told, reset_told, seen_of, unknown_told, view_told};
+    ghost use Rattle.debug_session.specs.DebugState.{IsDebugged};
+    ghost use Rattle.debug_session.specs.Session.{debug_state};
+    ghost use Rattle.debug_session.specs.declared.help.TheConstants.{HELP};
+    ghost use Rattle.swi_dispatch_guest.specs.Parts.{state_of};
+
+    // Words of memory.
+    pub(crate) fn words_shown(
+        &self,
+        address: WordAddress,
+        count: u32,
+    ) -> Result<Vec<u8>, AllocError>
+        ensures { IfOk result (λ text. text.items
+            ≡ memory_words_text (state_of self.now.session.machine.guest).store.bytes address count) }
+    {
+        let mut text = TextSink::new(self.alloc);
+        match show_words(self.session.machine(), address.address(), count, &mut text) {
+            Ok(()) => Ok(text.into_bytes()),
+            Err(_) => Err(AllocError),
+        }
+    }
+
+    // Where the machine stands.
+    pub(crate) fn place_shown(&self) -> Result<Vec<u8>, AllocError>
+        ensures { IfOk result (λ text. text.items
+            ≡ at_text (state_of self.now.session.machine.guest).cpu.pc) }
+    {
+        let mut text = TextSink::new(self.alloc);
+        match show_where(self.session.machine(), &mut text) {
+            Ok(()) => Ok(text.into_bytes()),
+            Err(_) => Err(AllocError),
+        }
+    }
+
+    // The registers that each mode has of its own.
+    pub(crate) fn banks_shown(&self) -> Result<Vec<u8>, AllocError>
+        ensures { IfOk result (λ text. text.items
+            ≡ banks_text (state_of self.now.session.machine.guest).cpu) }
+    {
+        let mut text = TextSink::new(self.alloc);
+        match show_banks(self.session.machine(), &mut text) {
+            Ok(()) => Ok(text.into_bytes()),
+            Err(_) => Err(AllocError),
+        }
+    }
+
+    // The words at the stack pointer.
+    pub(crate) fn stack_shown(&self, count: u32) -> Result<Vec<u8>, AllocError>
+        ensures { let s = state_of self.now.session.machine.guest in
+            IfOk result (λ text. text.items ≡ stack_words_text s.cpu s.store.bytes count) }
+    {
+        let mut text = TextSink::new(self.alloc);
+        match show_stack(self.session.machine(), count, &mut text) {
+            Ok(()) => Ok(text.into_bytes()),
+            Err(_) => Err(AllocError),
+        }
+    }
+
+    // Begins anew on a fresh machine; images and breaks stay.
+    pub(crate) fn start_anew(&mut self) -> Result<(), AllocError>
+        ensures made { OnOk result ((images : List Entry) → debug_state self.new images
+            ≡ record (debug_state self.old images) {
+              script = script_started_anew
+                  (debug_state self.old images).script self.old.setting.config self.old.setting.budget;
+            }) }
+        ensures setting { self.new.setting ≡ self.old.setting }
+    {
+        self.session
+            .start_anew(self.setting.config, self.setting.budget)
+    }
+
+    /// Begins anew on a fresh machine; images and breaks stay.
+    pub(crate) fn reset<W: Sink>(&mut self, sink: &mut W) -> Result<(), RunError>
+        ensures told { (images : List Entry) → OnOk result
+            (IsDebugged (W.contents sink.old) (W.contents sink.new) (debug_state self.new images)
+            (reset_told self.old.setting (debug_state self.old images))) }
+        ensures setting { self.new.setting ≡ self.old.setting }
+        ensures errors { IfErr result IsLineError }
+        ensures same_flag { OnOk result (W.has_failed sink.new ≡ W.has_failed sink.old) }
+    {
+        let text = Vec::from_slice(self.alloc, b"reset\n")?;
+        self.start_anew()?;
+        Ok(self.view(sink, text)?)
+    }
+
+    /// Tells what lines there are.
+    pub(crate) fn help<W: Sink>(&mut self, sink: &mut W) -> Result<(), RunError>
+        ensures told { (images : List Entry) → OnOk result
+            (IsDebugged (W.contents sink.old) (W.contents sink.new) (debug_state self.new images)
+            (view_told self.old.setting (debug_state self.old images) HELP.now)) }
+        ensures setting { self.new.setting ≡ self.old.setting }
+        ensures errors { IfErr result IsLineError }
+        ensures same_flag { OnOk result (W.has_failed sink.new ≡ W.has_failed sink.old) }
+    {
+        let text = Vec::from_slice(self.alloc, HELP)?;
+        Ok(self.view(sink, text)?)
+    }
+
+    /// Writes a view, which is the last answer then.
+    pub(crate) fn view<W: Sink>(&mut self, sink: &mut W, text: Vec<u8>) -> Result<(), WriteFault>
+        ensures told { (images : List Entry) → OnOk result
+            (IsDebugged (W.contents sink.old) (W.contents sink.new) (debug_state self.new images)
+            (view_told self.old.setting (debug_state self.old images) text.items)) }
+        ensures setting { self.new.setting ≡ self.old.setting }
+        ensures same_flag { OnOk result (W.has_failed sink.new ≡ W.has_failed sink.old) }
+    {
+        push_answer(sink, self.setting.form, text.as_slice())?;
+        self.answer = text;
+        Ok(())
+    }
+
+    /// Sets the program counter.
+    pub(crate) fn set_pc(&mut self, address: Origin)
+        ensures told { (images : List Entry) → debug_state self.new images
+            ≡ (machine_change_told (debug_state self.old images)
+            (script_at (debug_state self.old images).script address)).state }
+        ensures setting { self.new.setting ≡ self.old.setting }
+    {
+        self.session.set_pc(address.address());
+        self.answer = Vec::new(self.alloc);
+    }
+
+    /// Sets what a pattern tells of the status.
+    pub(crate) fn set_psr(&mut self, pattern: StatusPattern)
+        ensures told { (images : List Entry) → debug_state self.new images
+            ≡ (machine_change_told (debug_state self.old images)
+            (script_with_status (debug_state self.old images).script (status_after_pattern pattern
+            (debug_state self.old images).script.machine.cpu.psr))).state }
+        ensures setting { self.new.setting ≡ self.old.setting }
+    {
+        let status = status_with(&pattern, self.session.machine().cpu().psr());
+        self.session.set_psr(status);
+        self.answer = Vec::new(self.alloc);
+    }
+
+    /// Tells whether what should be so is so; `reason` tells why it isn't, and `words` are the line,
+    /// made tidy.
+    pub(crate) fn tell_check<W: Sink>(
+        &mut self,
+        sink: &mut W,
+        reason: Option<Vec<u8>>,
+        words: &[u8],
+        number: usize,
+    ) -> Result<(), RunError>
+        ensures told { (images : List Entry) → OnOk result
+            (IsDebugged (W.contents sink.old) (W.contents sink.new) (debug_state self.new images)
+            (checked_told self.old.setting (debug_state self.old images) number words.now
+            (option_map (λ text. text.items) reason))) }
+        ensures setting { self.new.setting ≡ self.old.setting }
+        ensures errors { IfErr result IsLineError }
+        ensures same_flag { OnOk result (W.has_failed sink.new ≡ W.has_failed sink.old) }
+    {
+        let form = self.setting.form;
+        match reason {
+            None => {
+                push_pass(sink, form, self.tally, number, words)?;
+                self.tally = self.tally.with_pass();
+            }
+            Some(reason) => {
+                push_fail(sink, form, self.tally, number, words, reason.as_slice())?;
+                self.tally = self.tally.with_fail();
+            }
+        }
+        Ok(())
+    }
+
+    /// Why what should be so isn't, as text; `None` where it is so.
+    ///
+    /// # Errors
+    ///
+    /// Memory ran out.
+    pub(crate) fn reason_against(
+        &self,
+        expected: &Expectation<'_>,
+    ) -> Result<Option<Vec<u8>>, AllocError>
+        ensures { (images : List Entry) → IfOk result (λ reason. option_map (λ text. text.items) reason
+            ≡ check_told (seen_of (debug_state self.now images)) (expect_request_of expected.now)) }
+    {
+        let seen = SeenMachine {
+            machine: self.session.machine(),
+            answer: self.answer.as_slice(),
+            output: self.output.as_slice(),
+            steps: self.steps,
+        };
+        match check(self.alloc, seen, expected)? {
+            None => Ok(None),
+            Some(reason) => Ok(Some(text_of(self.alloc, &reason)?)),
+        }
+    }
+
+    /// Tells that a line is none of the language.
+    pub(crate) fn refuse<W: Sink>(&mut self, sink: &mut W, number: usize) -> Result<(), RunError>
+        ensures told { (images : List Entry) → OnOk result
+            (IsDebugged (W.contents sink.old) (W.contents sink.new) (debug_state self.new images)
+            (unknown_told self.old.setting (debug_state self.old images) number)) }
+        ensures setting { self.new.setting ≡ self.old.setting }
+        ensures errors { IfErr result IsLineError }
+        ensures same_flag { OnOk result (W.has_failed sink.new ≡ W.has_failed sink.old) }
+    {
+        let mut text = TextSink::new(self.alloc);
+        if tell_unknown(&mut text, number).is_err() {
+            return Err(RunError::Memory);
+        }
+        let text = text.into_bytes();
+        push_refusal(sink, self.setting.form, self.tally, number, text.as_slice())?;
+        self.answer = text;
+        self.tally = self.tally.with_refusal();
+        Ok(())
+    }
+}
+
+fn text_of(alloc: Global, reason: &Mismatch) -> Result<Vec<u8>, AllocError>
+    ensures { IfOk result (λ text. text.items ≡ reason_text reason.now) }
+{
+    let mut text = TextSink::new(alloc);
+    match push_reason(&mut text, reason) {
+        Ok(()) => Ok(text.into_bytes()),
+        Err(_) => Err(AllocError),
+    }
+}

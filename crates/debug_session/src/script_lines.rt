@@ -1,0 +1,189 @@
+//! Lines of a script within a debugging script: each may take the whole budget, and what it is
+//! answered is kept for the lines that expect something of it.
+
+ghost use Rattle.std.specs.Prelude.{◌≡◌, ◌+◌, ◌-◌, ◌&&◌, ◌||◌, not, true, List, Some, [], IfOk, IfErr, OnOk, OnErr, if◌then◌else◌};
+ghost use Rattle.command_shell.specs.Error.{IsLineError};
+ghost use Rattle.command_shell.specs.Script.{request_told};
+ghost use Rattle.command_shell_lines.specs.Blocks.{block_lines, lines_after, lines_taken};
+ghost use Rattle.debug_checks.specs.Endings.{output_of};
+ghost use Rattle.command_shell_lines.specs.Requests.{opens_block, request_of};
+ghost use Rattle.debug_session.specs.DebugScript.{is_named_image, asks_nothing, takes_steps};
+
+use crate::reports::{push_answer, push_refusal};
+use crate::session::DebugSession;
+use command_shell::RunError;
+use command_shell_lines::text_lines::Lines;
+use command_shell_lines::{ScriptCommand, command_of};
+use debug_checks::output_of;
+use image_loader::Images;
+use profile::{Sink, WriteFault};
+use std::alloc::AllocError;
+use view_items::TextSink;
+
+impl DebugSession {
+    ghost use Rattle.command_shell.specs.Memory.{script_with_budget};
+    ghost use Rattle.command_shell.specs.Session.{script_state};
+    ghost use Rattle.command_shell.specs.State.{IsAnswered};
+    ghost use Rattle.image_loader.specs.Entries.{Entry};
+    ghost use Rattle.debug_session.specs.DebugScript.{script_line_told, told_or_refused};
+    ghost use Rattle.debug_session.specs.DebugState.{IsDebugged};
+    ghost use Rattle.debug_session.specs.Session.{debug_state};
+
+    /// Answers a line of a script.
+    pub(crate) fn script_line<W: Sink>(
+        &mut self,
+        images: &mut Images,
+        sink: &mut W,
+        line: &[u8],
+        script: &mut Lines,
+    ) -> Result<(), RunError>
+        ensures told { OnOk result (IsDebugged (W.contents sink.old) (W.contents sink.new)
+            (debug_state self.new images.new)
+            (script_line_told self.old.setting (debug_state self.old images.old) script.old.number
+            (request_of line.now) (block_lines script.old.left))) }
+        ensures left { OnOk result (script.new.left
+            ≡ lines_after (opens_block (request_of line.now)) script.old.left) }
+        ensures number { OnOk result (script.new.number ≡ script.old.number
+            + lines_taken (opens_block (request_of line.now)) script.old.left) }
+        ensures setting { self.new.setting ≡ self.old.setting }
+        ensures errors { IfErr result IsLineError }
+        ensures same_flag { OnOk result (W.has_failed sink.new ≡ W.has_failed sink.old) }
+    {
+        let number = script.number();
+        let was_there = is_named_image(images, line);
+        let answer = self.answer_to(images, line, script)?;
+        if asks_nothing(line) {
+            return Ok(());
+        }
+        self.note(takes_steps(line), answer)?;
+        let is_refused = is_refused_block(was_there, images, line);
+        Ok(self.tell(sink, number, is_refused)?)
+    }
+
+    // What a line of a script is answered, with the whole budget for its steps.
+    fn answer_to(
+        &mut self,
+        images: &mut Images,
+        line: &[u8],
+        script: &mut Lines,
+    ) -> Result<Vec<u8>, RunError>
+        ensures told { IfOk result (λ answer. IsAnswered (Some []) (Some answer.items)
+            (script_state self.new.session images.new)
+            (request_told (script_with_budget (script_state self.old.session images.old)
+            self.old.setting.budget) script.old.number (request_of line.now)
+            (block_lines script.old.left))) }
+        ensures left { OnOk result (script.new.left
+            ≡ lines_after (opens_block (request_of line.now)) script.old.left) }
+        ensures number { OnOk result (script.new.number ≡ script.old.number
+            + lines_taken (opens_block (request_of line.now)) script.old.left) }
+        ensures rest { self.new ≡ record self.old { session = self.new.session } }
+        ensures errors { IfErr result IsLineError }
+    {
+        self.session.set_budget(self.setting.budget);
+        let mut answer = TextSink::new(self.alloc);
+        match self.session.answer_line(images, &mut answer, line, script) {
+            Ok(()) => Ok(answer.into_bytes()),
+            Err(_) => Err(RunError::Memory),
+        }
+    }
+
+    // Keeps an answer for the lines that expect something; and of one to a line that takes steps, what
+    // the guest printed, and how many steps those were.
+    fn note(&mut self, takes_steps: bool, answer: Vec<u8>) -> Result<(), AllocError>
+        ensures answer { OnOk result (self.new.answer.items ≡ answer.items) }
+        ensures output { OnOk result (self.new.output.items
+            ≡ (if takes_steps then output_of answer.items else self.old.output.items)) }
+        ensures steps { OnOk result (self.new.steps
+            ≡ (if takes_steps then self.old.setting.budget - self.old.session.left else self.old.steps)) }
+        ensures rest { OnOk result (self.new ≡ record self.old {
+          answer = self.new.answer;
+          output = self.new.output;
+          steps = self.new.steps;
+        }) }
+        ensures setting { self.new.setting ≡ self.old.setting }
+    {
+        if takes_steps {
+            self.output = Vec::from_slice(self.alloc, output_of(answer.as_slice()))?;
+            self.steps = self.steps_taken();
+        }
+        self.answer = answer;
+        Ok(())
+    }
+
+    // How many steps the last line took.
+    fn steps_taken(&self) -> u64
+        ensures { result ≡ self.now.setting.budget - self.now.session.left }
+    {
+        self.setting.budget.saturating_sub(self.session.left())
+    }
+
+    // Writes the last answer, or that of a block that is refused.
+    fn tell<W: Sink>(
+        &mut self,
+        sink: &mut W,
+        number: usize,
+        is_refused: bool,
+    ) -> Result<(), WriteFault>
+        ensures told { (images : List Entry) → OnOk result (IsDebugged (W.contents sink.old)
+            (W.contents sink.new) (debug_state self.new images)
+            (told_or_refused self.old.setting (debug_state self.old images) number is_refused
+            (debug_state self.old images) self.old.answer.items)) }
+        ensures setting { self.new.setting ≡ self.old.setting }
+        ensures flag { OnErr result (W.has_failed sink.new ≡ true) }
+        ensures same_flag { OnOk result (W.has_failed sink.new ≡ W.has_failed sink.old) }
+    {
+        let form = self.setting.form;
+        if !is_refused {
+            return push_answer(sink, form, self.answer.as_slice());
+        }
+        push_refusal(sink, form, self.tally, number, self.answer.as_slice())?;
+        self.tally = self.tally.with_refusal();
+        Ok(())
+    }
+}
+
+// Whether a line asks for nothing.
+fn asks_nothing(line: &[u8]) -> bool
+    ensures { result ≡ asks_nothing (request_of line.now) }
+{
+    matches!(command_of(line), ScriptCommand::Nothing)
+}
+
+fn takes_steps(line: &[u8]) -> bool
+    ensures { result ≡ takes_steps (request_of line.now) }
+{
+    matches!(
+        command_of(line),
+        ScriptCommand::Run
+            | ScriptCommand::Step(_)
+            | ScriptCommand::Call(_)
+            | ScriptCommand::Load(_)
+    )
+}
+
+fn opens_block(line: &[u8]) -> bool
+    ensures { result ≡ opens_block (request_of line.now) }
+{
+    matches!(
+        command_of(line),
+        ScriptCommand::Hex(_) | ScriptCommand::Asm(_, _)
+    )
+}
+
+// Whether a line opens a block that is refused, by whether its image was there before.
+fn is_refused_block(was_there: bool, images: &Images, line: &[u8]) -> bool
+    ensures { result ≡ (opens_block (request_of line.now)
+        && (was_there || not (is_named_image images.now (request_of line.now)))) }
+{
+    opens_block(line) && (was_there || !is_named_image(images, line))
+}
+
+// Whether the image of a line that opens a block is there.
+fn is_named_image(images: &Images, line: &[u8]) -> bool
+    ensures { result ≡ is_named_image images.now (request_of line.now) }
+{
+    match command_of(line) {
+        ScriptCommand::Hex(name) | ScriptCommand::Asm(name, _) => images.get(name).is_some(),
+        _ => false,
+    }
+}

@@ -1,0 +1,124 @@
+//! What a debugging script works on, and how its lines are answered, one after another.
+
+ghost use Rattle.std.specs.Prelude.{◌≡◌, ◌+◌, List, [], IfOk, IfErr, OnOk, length};
+ghost use Rattle.command_shell.specs.Error.{IsLineError};
+ghost use Rattle.profile.specs.Output.{Writes};
+
+use crate::reports::{CheckTally, ReportForm, push_summary};
+use command_line::stop_status;
+use command_shell::{RunError, Session};
+use command_shell_lines::text_lines::Lines;
+use image_loader::Images;
+use profile::{Config, Sink, WriteFault};
+use std::alloc::{AllocError, Global};
+
+/// What a debugging script is answered on.
+#[derive(Clone, Copy, Debug)]
+pub struct DebugSetting {
+    /// The sizes of its machines.
+    pub config: Config,
+    /// How many steps each of its lines may take.
+    pub budget: u64,
+    /// The form of its answers.
+    pub form: ReportForm,
+}
+
+/// What a debugging script works on beside the images.
+#[derive(Drop)]
+pub struct DebugSession {
+    pub(crate) alloc: Global,
+    pub(crate) setting: DebugSetting,
+    pub(crate) session: Session,
+    pub(crate) answer: Vec<u8>,
+    pub(crate) output: Vec<u8>,
+    pub(crate) steps: u64,
+    pub(crate) tally: CheckTally,
+    pub(crate) has_quit: bool,
+}
+
+impl DebugSession {
+    ghost use Rattle.image_loader.specs.Entries.{Entry};
+    ghost use Rattle.debug_session.specs.DebugScript.{debug_lines_told};
+    ghost use Rattle.debug_session.specs.DebugState.{IsDebugged, debug_start_state};
+    ghost use Rattle.debug_session.specs.Reports.{debug_status, summary_text};
+    ghost use Rattle.debug_session.specs.Session.{debug_state};
+
+    /// A session on a fresh machine, before the first line.
+    ///
+    /// # Errors
+    ///
+    /// Memory ran out.
+    pub fn new(alloc: Global, setting: DebugSetting) -> Result<DebugSession, AllocError>
+        ensures state { IfOk result (λ session. (images : List Entry)
+            → debug_state session images ≡ debug_start_state setting images) }
+        ensures setting { IfOk result (λ session. session.setting ≡ setting) }
+    {
+        Ok(DebugSession {
+            alloc,
+            setting,
+            session: Session::on_fresh_machine(alloc, setting.config, setting.budget)?,
+            answer: Vec::new(alloc),
+            output: Vec::new(alloc),
+            steps: 0,
+            tally: CheckTally::new(),
+            has_quit: false,
+        })
+    }
+
+    /// Whether QUIT was among the lines: those that follow are not answered.
+    pub fn has_quit(&self) -> bool
+        ensures { (images : List Entry) → result ≡ (debug_state self.now images).has_quit }
+    {
+        self.has_quit
+    }
+
+    /// The exit status of a program whose lines these were: without EXPECT lines that of the last
+    /// stop, 0, 1 or 3; with some 0 where all of them passed and nothing was refused, else 5.
+    pub fn status(&self) -> u8
+        ensures { (images : List Entry) → result ≡ debug_status (debug_state self.now images) }
+    {
+        if self.tally.is_untested() {
+            stop_status(self.session.last())
+        } else if self.tally.failed == 0 && self.tally.refused == 0 {
+            0
+        } else {
+            5
+        }
+    }
+
+    /// Writes what stands after the last line.
+    pub fn tell_summary<W: Sink>(&self, sink: &mut W) -> Result<(), WriteFault>
+        ensures { (images : List Entry) → Writes W.contents W.has_failed sink.old sink.new result
+            (summary_text self.now.setting.form (debug_state self.now images).tally) }
+    {
+        push_summary(sink, self.setting.form, self.tally)
+    }
+
+    /// Answers all lines that are left, up to a line QUIT.
+    ///
+    /// # Errors
+    ///
+    /// `Memory` and `WriteFault`, when a part of the answers may stand written.
+    pub fn answer_lines<W: Sink>(
+        &mut self,
+        images: &mut Images,
+        sink: &mut W,
+        script: &mut Lines,
+    ) -> Result<(), RunError>
+        ensures told { OnOk result (IsDebugged (W.contents sink.old) (W.contents sink.new)
+            (debug_state self.new images.new)
+            (debug_lines_told self.old.setting script.old.number (debug_state self.old images.old)
+            script.old.left)) }
+        ensures setting { self.new.setting ≡ self.old.setting }
+        ensures errors { IfErr result IsLineError }
+        ensures same_flag { OnOk result (W.has_failed sink.new ≡ W.has_failed sink.old) }
+    {
+        while !self.has_quit {
+            let Some(line) = script.next_line() else {
+                return Ok(());
+            };
+            self.answer_line(images, sink, line, script)?;
+        }
+        Ok(())
+    }
+}

@@ -1,0 +1,142 @@
+//! A debugging script as it is typed: bytes that come in pieces, and each line answered as soon as it
+//! is whole.
+
+ghost use Rattle.std.specs.Prelude.{◌≡◌, ◌++◌, ◌+◌, ◌<◌, ◌^◌, List, [], IfOk, IfErr, OnOk, OnErr, length};
+ghost use Rattle.std.specs.Str.Lines.{lines};
+ghost use Rattle.debug_session.specs.DebugState.{IsDebugTypingError};
+
+use crate::session::{DebugSession, DebugSetting};
+use command_shell::RunError;
+use command_shell_lines::text_lines::{Lines, cut_line};
+use debug_lines::whole_debug_request_bytes;
+use image_loader::Images;
+use profile::Sink;
+use std::alloc::{AllocError, Global};
+
+// The most bytes that may wait for the end of a request, as many as a script may have.
+const MOST_BYTES: usize = 1_048_576;
+
+/// A debugging session whose lines are typed.
+#[derive(Drop)]
+pub struct DebugTyping {
+    alloc: Global,
+    session: DebugSession,
+    // The bytes of a request that isn't whole.
+    pending: Vec<u8>,
+    // How many lines came before those that wait.
+    number: usize,
+    ghost numbered: { number + length pending.items < 2 ^ 64 },
+}
+
+impl DebugTyping {
+    ghost use Rattle.image_loader.specs.Entries.{Entry};
+    ghost use Rattle.debug_session.specs.DebugScript.{debug_lines_told};
+    ghost use Rattle.debug_session.specs.DebugState.{IsDebugged, debug_start_state};
+    ghost use Rattle.debug_session.specs.Session.{debug_state};
+    ghost use Rattle.debug_session.specs.Typing.{IsTaken};
+
+    /// A session on a fresh machine, before anything is typed.
+    ///
+    /// # Errors
+    ///
+    /// Memory ran out.
+    pub fn new(alloc: Global, setting: DebugSetting) -> Result<DebugTyping, AllocError>
+        ensures state { IfOk result (λ typing. (images : List Entry)
+            → debug_state typing.session images ≡ debug_start_state setting images) }
+        ensures setting { IfOk result (λ typing. typing.session.setting ≡ setting) }
+        ensures pending { IfOk result (λ typing. typing.pending.items ≡ []) }
+        ensures number { IfOk result (λ typing. typing.number ≡ 0) }
+    {
+        Ok(DebugTyping {
+            alloc,
+            session: DebugSession::new(alloc, setting)?,
+            pending: Vec::new(alloc),
+            number: 0,
+        })
+    }
+
+    /// The session, as the requests that were whole left it.
+    pub fn session(&self) -> &DebugSession
+        ensures { result.now ≡ self.now.session }
+    {
+        &self.session
+    }
+
+    /// Whether a block is open before the next line.
+    pub fn is_in_block(&self) -> bool {
+        cut_line(self.pending.as_slice()).is_some()
+    }
+
+    /// Takes a piece of what is typed, and answers each request that is whole then, one after
+    /// another: a line, or a line that opens a block with its block. The rest waits for the next
+    /// piece.
+    ///
+    /// # Errors
+    ///
+    /// `ScriptTooLong` where what waits would have more than 1,048,576 bytes, and nothing is
+    /// answered then; `Memory` and `WriteFault`, when a part of the answers may stand written, and
+    /// the session ends there.
+    pub fn take<W: Sink>(
+        &mut self,
+        images: &mut Images,
+        sink: &mut W,
+        piece: &[u8],
+    ) -> Result<(), RunError>
+        ensures taken { OnOk result (IsTaken self.old self.new images.old images.new
+            (W.contents sink.old) (W.contents sink.new) (self.old.pending.items ++ piece.now)) }
+        ensures setting { self.new.session.setting ≡ self.old.session.setting }
+        ensures errors { IfErr result IsDebugTypingError }
+        ensures same_flag { OnOk result (W.has_failed sink.new ≡ W.has_failed sink.old) }
+    {
+        let text = joined(self.alloc, self.pending.as_slice(), piece)?;
+        let all = text.as_slice();
+        let (requests, waiting) = all.split_at(whole_debug_request_bytes(self.alloc, all)?);
+        if waiting.len() > MOST_BYTES {
+            return Err(RunError::ScriptTooLong);
+        }
+        if self.number.checked_add(all.len()).is_none() {
+            return Err(RunError::ScriptTooLong);
+        }
+        let mut lines = Lines::after(requests, self.number);
+        let Some(number) = self.number.checked_add(lines.count()) else {
+            return Err(RunError::ScriptTooLong);
+        };
+        if number.checked_add(waiting.len()).is_none() {
+            return Err(RunError::ScriptTooLong);
+        }
+        let waiting = Vec::from_slice(self.alloc, waiting)?;
+        self.session.answer_lines(images, sink, &mut lines)?;
+        self.number = number;
+        self.pending = waiting;
+        Ok(())
+    }
+
+    /// Nothing more is typed: answers what waits, a line without its end or a block without its
+    /// last line, and gives the session back.
+    ///
+    /// # Errors
+    ///
+    /// `Memory` and `WriteFault`, when a part of the answer may stand written.
+    pub fn end<W: Sink>(self, images: &mut Images, sink: &mut W) -> Result<DebugSession, RunError>
+        ensures told { IfOk result (λ session. IsDebugged (W.contents sink.old) (W.contents sink.new)
+            (debug_state session images.new)
+            (debug_lines_told self.session.setting self.number (debug_state self.session images.old)
+            (lines self.pending.items))) }
+        ensures setting { IfOk result (λ session. session.setting ≡ self.session.setting) }
+        ensures errors { IfErr result IsDebugTypingError }
+        ensures same_flag { OnOk result (W.has_failed sink.new ≡ W.has_failed sink.old) }
+    {
+        let mut session = self.session;
+        let mut lines = Lines::after(self.pending.as_slice(), self.number);
+        session.answer_lines(images, sink, &mut lines)?;
+        Ok(session)
+    }
+}
+
+fn joined(alloc: Global, front: &[u8], rest: &[u8]) -> Result<Vec<u8>, AllocError>
+    ensures { IfOk result (λ all. all.items ≡ front.now ++ rest.now) }
+{
+    let mut all = Vec::from_slice(alloc, front)?;
+    all.extend_from_slice(rest)?;
+    Ok(all)
+}
