@@ -18,7 +18,7 @@ use std::alloc::Global;
 use typed_session::Typed;
 
 /// The most bytes that the answers of a script may have.
-const MOST_ANSWER_BYTES: usize = 65536;
+pub const MOST_ANSWER_BYTES: usize = 65536;
 
 /// What came of a script.
 #[derive(Drop)]

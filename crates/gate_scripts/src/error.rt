@@ -22,7 +22,7 @@ pub enum LineError {
     #[error("no line begins so")]
     Unknown,
     /// A word is no `NAME=VALUE`, or its value is no number or no bytes.
-    #[error("a word is --pages=N, --app=N, --rma=N, --budget=N, NAME=HEX or NAME=HEX*COUNT")]
+    #[error("a word is --debug, --tap after it, --pages=N, --app=N, --rma=N, --budget=N, NAME=HEX or NAME=HEX*COUNT")]
     Word,
     /// No machine has these sizes.
     #[error("no machine has these sizes")]

@@ -3,9 +3,13 @@
 //! `gate_scripts FILE... [--malformed FILE...]`
 //!
 //! Each script is run whole, and typed in pieces of 1, 2, 3 and 7 bytes. That of a transcript after
-//! `--malformed` is cut off after each of its bytes, too, and changed.
+//! `--malformed` is cut off after each of its bytes, too, and changed. A debugging script has `--debug`
+//! among its words; any other is answered once more by a debugging session, where that answers it as
+//! `rosm` does (`as_before`).
 #![tactic(auto)]
 
+mod as_before;
+mod debug_outcomes;
 mod difference;
 mod error;
 mod escapes;
@@ -17,7 +21,7 @@ mod transcript;
 
 use crate::error::TranscriptError;
 use crate::malformed::Runs;
-use crate::run::complaint_of;
+use crate::run::{Course, complaint_of};
 use crate::transcript::Transcript;
 use std::alloc::{AllocError, Global};
 use std::process::ExitCode;
@@ -99,14 +103,21 @@ fn answer_of(
 ) -> Result<Option<String>, TranscriptError> {
     let transcript = Transcript::read(alloc, text)?;
     let runs = Runs::of(&transcript.settings)?;
-    let complaint = complaint_of(alloc, transcript, None)?;
+    let is_as_before = transcript.is_answered_as_before(alloc)?;
+    let complaint = complaint_of(alloc, transcript, Course::Whole)?;
     if complaint.is_some() {
         return Ok(complaint);
     }
     for size in PIECES {
         let transcript = Transcript::read(alloc, text)?;
-        if let Some(told) = complaint_of(alloc, transcript, Some(size))? {
+        if let Some(told) = complaint_of(alloc, transcript, Course::Pieces(size))? {
             return Ok(Some(format!(in alloc; "{told}, in pieces of {size}")?));
+        }
+    }
+    if is_as_before {
+        let transcript = Transcript::read(alloc, text)?;
+        if let Some(told) = complaint_of(alloc, transcript, Course::Debugging)? {
+            return Ok(Some(format!(in alloc; "{told}, by a debugging session")?));
         }
     }
     if is_malformed {

@@ -2,14 +2,26 @@
 
 ghost use Rattle.std.specs.Prelude.{◌≡◌, IfOk, None};
 
+use crate::debug_outcomes::{debug_outcome_of, typed_debug_outcome_of};
 use crate::difference::TranscriptDifference;
 use crate::error::TranscriptError;
 use crate::transcript::Transcript;
 use gate_outcomes::{ScriptOutcome, outcome_of, typed_outcome_of};
 use std::alloc::{AllocError, Global};
 
+/// How a script is run.
+#[derive(Clone, Copy, Debug)]
+pub enum Course {
+    /// Whole.
+    Whole,
+    /// Typed in pieces of so many bytes.
+    Pieces(usize),
+    /// Whole, by a debugging session.
+    Debugging,
+}
+
 /// What is wrong with a transcript, or `None` where all is as it says. One that is wrong on purpose
-/// says which complaint it must get. Its script is run whole, or typed in pieces of so many bytes.
+/// says which complaint it must get.
 ///
 /// # Errors
 ///
@@ -17,9 +29,9 @@ use std::alloc::{AllocError, Global};
 pub fn complaint_of(
     alloc: Global,
     mut transcript: Transcript,
-    pieces: Option<usize>,
+    course: Course,
 ) -> Result<Option<String>, TranscriptError> {
-    let outcome = run(alloc, &mut transcript, pieces)?;
+    let outcome = run(alloc, &mut transcript, course)?;
     let told = match difference(alloc, &transcript, &outcome)? {
         Some(difference) => Some(format!(in alloc; "{difference}")?),
         None => None,
@@ -50,18 +62,26 @@ fn unless_told(
 fn run(
     alloc: Global,
     transcript: &mut Transcript,
-    pieces: Option<usize>,
+    course: Course,
 ) -> Result<ScriptOutcome, TranscriptError> {
     let settings = &mut transcript.settings;
-    let config = match settings.config() {
-        Ok(config) => config,
+    let setting = match settings.debug_setting() {
+        Ok(setting) => setting,
         Err(error) => return Err(TranscriptError::at(1, error)),
     };
-    let (images, budget) = (&mut settings.images, settings.budget);
+    let (config, budget) = (setting.config, setting.budget);
+    let is_debugging = settings.is_debugging();
+    let images = &mut settings.images;
     let script = transcript.script.as_slice();
-    let outcome = match pieces {
-        Some(size) if size > 0 => typed_outcome_of(alloc, script, size, images, config, budget)?,
-        _ => outcome_of(alloc, script, images, config, budget)?,
+    let outcome = match course {
+        Course::Pieces(size) if size > 0 && is_debugging => {
+            typed_debug_outcome_of(alloc, script, size, images, setting)?
+        }
+        Course::Pieces(size) if size > 0 => {
+            typed_outcome_of(alloc, script, size, images, config, budget)?
+        }
+        Course::Whole if !is_debugging => outcome_of(alloc, script, images, config, budget)?,
+        _ => debug_outcome_of(alloc, script, images, setting)?,
     };
     Ok(outcome)
 }

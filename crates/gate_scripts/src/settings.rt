@@ -2,6 +2,7 @@
 
 use crate::error::LineError;
 use crate::escapes::digit;
+use debug_session::{DebugSetting, ReportForm};
 use image_loader::Images;
 use profile::Config;
 use std::alloc::Global;
@@ -16,6 +17,9 @@ pub struct TranscriptSettings {
     pub budget: u64,
     /// The images that are handed in.
     pub images: Images,
+    // Whether it is a debugging script, and the form of its answers.
+    is_debugging: bool,
+    form: ReportForm,
 }
 
 impl TranscriptSettings {
@@ -27,10 +31,13 @@ impl TranscriptSettings {
             rma: 16,
             budget: 1_000_000,
             images: Images::new(),
+            is_debugging: false,
+            form: ReportForm::Answers,
         }
     }
 
-    /// Takes in words `--pages=N`, `--app=N`, `--rma=N`, `--budget=N`, and `NAME=BYTES` for images.
+    /// Takes in words `--pages=N`, `--app=N`, `--rma=N`, `--budget=N`, `NAME=BYTES` for images, and
+    /// `--debug` and `--tap` for a debugging script and the form of its answers.
     pub fn take_words(&mut self, alloc: Global, words: &str) -> Result<(), LineError> {
         for word in words.split_ascii_whitespace() {
             self.take_word(alloc, word)?;
@@ -39,6 +46,20 @@ impl TranscriptSettings {
     }
 
     fn take_word(&mut self, alloc: Global, word: &str) -> Result<(), LineError> {
+        match word {
+            "--debug" => {
+                self.is_debugging = true;
+                Ok(())
+            }
+            "--tap" if self.is_debugging => {
+                self.form = ReportForm::Tap;
+                Ok(())
+            }
+            other => self.take_value(alloc, other),
+        }
+    }
+
+    fn take_value(&mut self, alloc: Global, word: &str) -> Result<(), LineError> {
         let (name, value) = word.rsplit_once('=').ok_or(LineError::Word)?;
         match name {
             "--pages" => self.pages = value.parse().map_err(|_| LineError::Word)?,
@@ -56,6 +77,24 @@ impl TranscriptSettings {
     /// The sizes of the machine.
     pub fn config(&self) -> Result<Config, LineError> {
         Config::new(self.pages, self.app, self.rma).ok_or(LineError::Sizes)
+    }
+
+    /// Whether it is a debugging script.
+    pub fn is_debugging(&self) -> bool {
+        self.is_debugging
+    }
+
+    /// What a debugging session runs it with.
+    ///
+    /// # Errors
+    ///
+    /// `Sizes` where no machine has the sizes.
+    pub fn debug_setting(&self) -> Result<DebugSetting, LineError> {
+        Ok(DebugSetting {
+            config: self.config()?,
+            budget: self.budget,
+            form: self.form,
+        })
     }
 }
 

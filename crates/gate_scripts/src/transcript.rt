@@ -1,10 +1,11 @@
 //! A transcript read from its text: the script as typed, its answer and its exit status.
 
+use crate::as_before::is_answered_as_before;
 use crate::error::{LineError, TranscriptError};
 use crate::escapes::line_bytes;
 use crate::lines::{Line, Part};
 use crate::settings::TranscriptSettings;
-use std::alloc::Global;
+use std::alloc::{AllocError, Global};
 
 /// A script as it is typed, and what it answers.
 #[derive(Drop)]
@@ -46,6 +47,14 @@ impl Transcript {
             return Err(TranscriptError::at(number, LineError::NoStatus));
         }
         Ok(transcript)
+    }
+
+    /// Whether it is of a script of `rosm` that a debugging session answers as it says.
+    pub fn is_answered_as_before(&self, alloc: Global) -> Result<bool, AllocError> {
+        if self.settings.is_debugging() || self.wrong.is_some() {
+            return Ok(false);
+        }
+        is_answered_as_before(alloc, self.script.as_slice(), self.answer.as_slice())
     }
 
     fn empty(alloc: Global) -> Transcript {

@@ -1,0 +1,60 @@
+-- The words of the program: its own, `--tap` and `--script` with the path that follows it, and all
+-- others, which are the words of `rosm`.
+use Rattle.std.specs.Prelude.{ℕ, ◌||◌, ◌&&◌, Bool, true, false, List, [], ◌∷◌, Option, Some, None, codes, if◌then◌else◌}
+use Rattle.std.specs.Str.{bytes_eq}
+use Rattle.debug_session.specs.declared.reports.ReportForm.{ReportForm}
+use Rattle.debug_session.specs.declared.reports.ReportForm.TheVariants as form
+use Rattle.rosm_debug.specs.declared.options.WordKind.{WordKind}
+use Rattle.rosm_debug.specs.declared.options.WordKind.TheVariants as kind
+
+-- whether all words after one are files
+abbrev pub is_dashes : List ℕ → Bool
+is_dashes word = bytes_eq word (codes "--")
+
+abbrev pub kind_of_word : List ℕ → WordKind
+kind_of_word word =
+    if bytes_eq word (codes "--tap") then kind.Tap else (
+    if bytes_eq word (codes "--script") then kind.Script else kind.Other)
+
+-- what a word is, by whether `--` came before it, and whether the word before it was `--script`
+abbrev pub kind_at : Bool → Bool → List ℕ → WordKind
+kind_at are_files true word = kind.Path
+kind_at are_files false word = if are_files then kind.Other else kind_of_word word
+
+-- words by what they are, each list in order; whether a path is missing after the last
+pub record DebugWords : Type 0 where
+  pub taps : List (List ℕ)
+  pub paths : List (List ℕ)
+  pub others : List (List ℕ)
+  pub lacks_path : Bool
+
+abbrev pub is_script_word : WordKind → Bool
+is_script_word kind.Script = true
+is_script_word _ = false
+
+abbrev pub are_files_after : Bool → WordKind → List ℕ → Bool
+are_files_after are_files kind.Other word = are_files || is_dashes word
+are_files_after are_files _ word = are_files
+
+abbrev pub with_debug_word : WordKind → List ℕ → DebugWords → DebugWords
+with_debug_word kind.Tap word more = record more { taps = word ∷ more.taps }
+with_debug_word kind.Script word more = more
+with_debug_word kind.Path word more = record more { paths = word ∷ more.paths }
+with_debug_word kind.Other word more = record more { others = word ∷ more.others }
+
+unfoldable pub words_from : Bool → Bool → List (List ℕ) → DebugWords
+words_from are_files after_script [] =
+    record { taps = []; paths = []; others = []; lacks_path = after_script }
+words_from are_files after_script (word ∷ rest) =
+    with_debug_word (kind_at are_files after_script word) word
+    (words_from (are_files_after are_files (kind_at are_files after_script word) word)
+    (is_script_word (kind_at are_files after_script word)) rest)
+
+abbrev pub words_told : List (List ℕ) → DebugWords
+words_told words = words_from false false words
+
+-- the form of the answers: `--tap` at most once
+abbrev pub form_of_taps : List (List ℕ) → Option ReportForm
+form_of_taps [] = Some form.Answers
+form_of_taps (tap ∷ []) = Some form.Tap
+form_of_taps (tap ∷ again ∷ more) = None

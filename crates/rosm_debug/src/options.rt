@@ -1,0 +1,94 @@
+//! The words that are the program's own: `--tap`, and `--script` with the path that follows it.
+
+ghost use Rattle.std.specs.Prelude.{◌≡◌, [], false, map, IfOk};
+ghost use Rattle.rosm_debug.specs.Options.{is_dashes, kind_at, kind_of_word, words_told, DebugWords};
+
+use std::alloc::{AllocError, Global};
+
+/// What a word is.
+#[derive(Clone, Copy, Debug, PartialEq, Eq)]
+pub enum WordKind {
+    /// `--tap`.
+    Tap,
+    /// `--script`, which a path follows.
+    Script,
+    /// The path of a script.
+    Path,
+    /// A word of `rosm`.
+    Other,
+}
+
+/// The words of a command line by what they are, each list in order.
+#[derive(Drop)]
+pub struct PartedDebugWords<'a> {
+    /// Words `--tap`.
+    pub taps: Vec<&'a str>,
+    /// The paths of scripts.
+    pub paths: Vec<&'a str>,
+    /// Words of `rosm`.
+    pub others: Vec<&'a str>,
+    /// Whether a path is missing after the last word.
+    pub lacks_path: bool,
+}
+
+/// Separates the program's own words from all others; after a word `--` all are `rosm`'s.
+///
+/// # Errors
+///
+/// Memory ran out.
+pub fn part_words<'a>(
+    alloc: Global,
+    words: &[&'a str],
+) -> Result<PartedDebugWords<'a>, AllocError> {
+    let mut parted = PartedDebugWords {
+        taps: Vec::new(alloc),
+        paths: Vec::new(alloc),
+        others: Vec::new(alloc),
+        lacks_path: false,
+    };
+    let mut are_files = false;
+    for word in words {
+        let kind = kind_at(are_files, parted.lacks_path, word);
+        are_files = are_files || (kind == WordKind::Other && is_dashes(word));
+        parted.lacks_path = kind == WordKind::Script;
+        match kind {
+            WordKind::Tap => parted.taps.push(*word)?,
+            WordKind::Script => {}
+            WordKind::Path => parted.paths.push(*word)?,
+            WordKind::Other => parted.others.push(*word)?,
+        }
+    }
+    Ok(parted)
+}
+
+// What a word is, by whether `--` came before it, and whether the word before it was `--script`.
+fn kind_at(are_files: bool, after_script: bool, word: &str) -> WordKind
+    ensures { result ≡ kind_at are_files after_script word.now }
+{
+    if after_script {
+        WordKind::Path
+    } else if are_files {
+        WordKind::Other
+    } else {
+        kind_of_word(word)
+    }
+}
+
+fn kind_of_word(word: &str) -> WordKind
+    ensures { result ≡ kind_of_word word.now }
+{
+    let word = word.as_bytes();
+    if word == b"--tap".as_slice() {
+        WordKind::Tap
+    } else if word == b"--script".as_slice() {
+        WordKind::Script
+    } else {
+        WordKind::Other
+    }
+}
+
+fn is_dashes(word: &str) -> bool
+    ensures { result ≡ is_dashes word.now }
+{
+    word.as_bytes() == b"--".as_slice()
+}

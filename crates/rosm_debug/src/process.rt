@@ -1,0 +1,100 @@
+//! The program's standard streams and its exit status.
+
+ghost use Rattle.std.specs.Prelude.{◌≡◌};
+ghost use Rattle.std.specs.Process.{exit_status};
+ghost use Rattle.rosm_debug.specs.Endings.{ending_status};
+
+use crate::refusal::DebugRefusal;
+use crate::talk::talk;
+use crate::words::WantedSession;
+use debug_session::{DebugSetting, DebugTyping};
+use image_loader::Images;
+use profile::{Device, Source};
+use rosm_settings::SettingsRefusal;
+use rosm_settings::image_files::{FileError, add_files};
+use std::fs::File;
+use std::io::BufWriter;
+use std::process::ExitCode;
+use std::{fs, io};
+
+/// Answers the lines of the script that is asked for, or of standard input, which may be a terminal,
+/// on standard output, and gives the exit status that they end with.
+///
+/// # Errors
+///
+/// The first file that gives no image, or the script's file that can't be read, before any line is
+/// answered; else as [`talk`].
+pub fn debug_on_standard_streams<'a, R>(
+    rt: &R,
+    wanted: &'a WantedSession,
+    is_terminal: bool,
+) -> Result<u8, DebugRefusal<'a>>
+where
+    R: AllocGlobal + fs::Files + Input + Print,
+{
+    let mut images = Images::new();
+    take_files(rt, wanted, &mut images)?;
+    match &wanted.script {
+        None => {
+            let mut input = Device::new(rt.reader());
+            answer(rt, wanted, &mut images, &mut input, is_terminal)
+        }
+        Some(path) => match File::open(rt, path.as_str()) {
+            Ok(file) => answer(rt, wanted, &mut images, &mut Device::new(file), false),
+            Err(error) => Err(DebugRefusal::File(path.as_str(), FileError::from(error))),
+        },
+    }
+}
+
+fn take_files<'a, R>(
+    rt: &R,
+    wanted: &'a WantedSession,
+    images: &mut Images,
+) -> Result<(), DebugRefusal<'a>>
+where
+    R: AllocGlobal + fs::Files,
+{
+    match add_files(rt, &wanted.settings.files, images) {
+        Ok(()) => Ok(()),
+        Err(SettingsRefusal::File(path, error)) => Err(DebugRefusal::File(path, error)),
+        Err(_) => Err(DebugRefusal::Memory),
+    }
+}
+
+fn answer<'a, R, S>(
+    rt: &R,
+    wanted: &'a WantedSession,
+    images: &mut Images,
+    reader: &mut S,
+    is_terminal: bool,
+) -> Result<u8, DebugRefusal<'a>>
+where
+    R: AllocGlobal + Print,
+    S: Source,
+{
+    let alloc = rt.alloc();
+    let setting = DebugSetting {
+        config: wanted.settings.config,
+        budget: wanted.settings.budget,
+        form: wanted.form,
+    };
+    let typing = DebugTyping::new(alloc, setting)?;
+    let Ok(buffered) = BufWriter::new(alloc, io::writer(rt)) else {
+        return Err(DebugRefusal::Memory);
+    };
+    let mut writer = Device::new(buffered);
+    Ok(talk(typing, images, reader, &mut writer, is_terminal)?)
+}
+
+/// The exit status, with one line on standard error where the program is refused.
+pub fn exit_code<R: Eprint>(rt: &R, ending: Result<u8, DebugRefusal<'_>>) -> ExitCode
+    ensures { exit_status result ≡ ending_status ending.entry }
+{
+    match ending {
+        Ok(status) => ExitCode::from(status),
+        Err(refusal) => {
+            let _ = eprintln!(rt; "rosm_debug: {refusal}");
+            ExitCode::from(refusal.status())
+        }
+    }
+}

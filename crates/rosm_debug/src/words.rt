@@ -1,0 +1,106 @@
+//! The words of the program: its own, and those that `rosm` takes too.
+
+ghost use Rattle.std.specs.Prelude.{◌≡◌, map, string_bytes, IfOk};
+ghost use Rattle.rosm_debug.specs.Options.{form_of_taps};
+
+use crate::options::part_words;
+use crate::refusal::DebugRefusal;
+use command_line::{Settings, SettingsError, line_reason, settings, sizes_reason};
+use debug_session::ReportForm;
+use std::alloc::{AllocError, Global};
+use std::env;
+use std::env::Env;
+use std::io::ErrorKind;
+
+/// What the words ask for.
+#[derive(Drop)]
+pub struct WantedSession {
+    /// The form of the answers.
+    pub form: ReportForm,
+    /// The file of the script, if it isn't standard input.
+    pub script: Option<String>,
+    /// The machine, what each line may take, and the files.
+    pub settings: Settings,
+}
+
+/// What the words of this process ask for.
+///
+/// # Errors
+///
+/// `NotText`, `Line`, `Sizes` and `Memory`, as for the program `rosm`; a second `--tap` or script,
+/// or a script without a path, is `Line` too.
+pub fn read_words<R: Env + AllocGlobal>(rt: &R) -> Result<WantedSession, DebugRefusal<'static>> {
+    let alloc = rt.alloc();
+    let args = match env::args(rt) {
+        Ok(args) => args,
+        Err(error) => return Err(words_refusal(error.kind())),
+    };
+    let words: Vec<String> = args.collect(alloc)?;
+    wanted_of(alloc, words.as_slice())
+}
+
+fn words_refusal(kind: ErrorKind) -> DebugRefusal<'static> {
+    match kind {
+        ErrorKind::OutOfMemory => DebugRefusal::Memory,
+        _ => DebugRefusal::NotText,
+    }
+}
+
+fn refused_line(alloc: Global, reason: &str) -> DebugRefusal<'static> {
+    match String::from_str(alloc, reason) {
+        Ok(reason) => DebugRefusal::Line(reason),
+        Err(_) => DebugRefusal::Memory,
+    }
+}
+
+fn wanted_of(alloc: Global, words: &[String]) -> Result<WantedSession, DebugRefusal<'static>> {
+    let texts = texts_of(alloc, words)?;
+    let parted = part_words(alloc, texts.as_slice())?;
+    let Some(form) = form_of(parted.taps.as_slice()) else {
+        return Err(refused_line(alloc, "--tap once at most"));
+    };
+    if parted.lacks_path {
+        return Err(refused_line(alloc, "--script takes the path of a file"));
+    }
+    let script = match parted.paths.as_slice() {
+        [] => None,
+        [path] => Some(String::from_str(alloc, path)?),
+        _ => return Err(refused_line(alloc, "one script at most")),
+    };
+    let settings = settings_of(alloc, parted.others.as_slice())?;
+    Ok(WantedSession {
+        form,
+        script,
+        settings,
+    })
+}
+
+// The form of the answers; `None` where it is asked for more than once.
+fn form_of(taps: &[&str]) -> Option<ReportForm>
+    ensures { result ≡ form_of_taps (map (λ w. w.now) taps.now) }
+{
+    match taps {
+        [] => Some(ReportForm::Answers),
+        [_tap] => Some(ReportForm::Tap),
+        _ => None,
+    }
+}
+
+fn settings_of(alloc: Global, words: &[&str]) -> Result<Settings, DebugRefusal<'static>> {
+    match settings(alloc, words) {
+        Ok(settings) => Ok(settings),
+        Err(SettingsError::Memory) => Err(DebugRefusal::Memory),
+        Err(SettingsError::Line) => Err(DebugRefusal::Line(line_reason(alloc, words)?)),
+        Err(SettingsError::Sizes) => Err(DebugRefusal::Sizes(sizes_reason(alloc, words)?)),
+    }
+}
+
+fn texts_of<'a>(alloc: Global, words: &'a [String]) -> Result<Vec<&'a str>, AllocError>
+    ensures { IfOk result (λ texts. map (λ t. t.now) texts.items ≡ map string_bytes words.entry.now) }
+{
+    let mut texts = Vec::new(alloc);
+    for word in words {
+        texts.push(word.as_str())?;
+    }
+    Ok(texts)
+}
