@@ -19,6 +19,11 @@ bytes_of_image (e ∷ es) name = if bytes_eq e.name name then Some e.bytes else 
 abbrev pub with_entry : List Entry → List ℕ → List ℕ → List Entry
 with_entry entries name bytes = entries ++ record { name = name; bytes = bytes } ∷ []
 
+-- the list without the image of that name: the others stay in their order
+abbrev pub without_entry : List Entry → List ℕ → List Entry
+without_entry [] name = []
+without_entry (e ∷ es) name = if bytes_eq e.name name then es else e ∷ without_entry es name
+
 -- the bytes that may stand in a name: printing ASCII characters other than the space
 abbrev pub is_image_name_byte : ℕ → Bool
 is_image_name_byte byte = nat_le 33 byte && nat_le byte 126

@@ -1,8 +1,9 @@
 //! The images of a machine by name: added, looked up and refused.
 
-ghost use Rattle.std.specs.Prelude.{◌≡◌, ◌≤◌, [], length, MatchOption, IfOk, OnOk, OnErr, IsOkUnless, option_map};
-ghost use Rattle.std.specs.List.{list_all};
-ghost use Rattle.image_loader.specs.Entries.{bytes_of_image, can_name_image, is_image_name_byte, refusal_for, with_entry, IsImageTable};
+ghost use Rattle.std.specs.Prelude.{◌≡◌, ◌≤◌, ◌<◌, [], length, MatchOption, IfOk, IfSome, OnOk, OnErr, IsOkUnless, is_some, option_map};
+ghost use Rattle.std.specs.List.{list_all, position};
+ghost use Rattle.std.specs.Str.{bytes_eq};
+ghost use Rattle.image_loader.specs.Entries.{bytes_of_image, can_name_image, is_image_name_byte, refusal_for, with_entry, without_entry, IsImageTable};
 ghost use Rattle.image_loader.specs.Table.{entries_of};
 
 use crate::error::ImageError;
@@ -92,6 +93,19 @@ impl Images {
         self.list.push(image);
         Ok(())
     }
+
+    /// Takes the image of that name out, if there is one, and answers whether there was. The others
+    /// stay in their order.
+    pub fn remove(&mut self, name: &[u8]) -> bool
+        ensures was_there { result ≡ is_some (bytes_of_image self.old name.now) }
+        ensures left { self.new ≡ without_entry self.old name.now }
+    {
+        let Some(place) = place_of(self.list.as_slice(), name) else {
+            return false;
+        };
+        self.list.remove(place);
+        true
+    }
 }
 
 /// Whether a text can name an image.
@@ -105,6 +119,16 @@ fn are_name_bytes(name: &[u8]) -> bool
     ensures { result ≡ list_all is_image_name_byte name.now }
 {
     name.iter().all(|byte| byte.is_ascii_graphic())
+}
+
+// The place of the image of that name.
+fn place_of(images: &[Image], name: &[u8]) -> Option<usize>
+    ensures place { result ≡ position (λ image. bytes_eq image.name.items name.now) images.now }
+    ensures within { IfSome result (λ i. i < length images.now) }
+{
+    images
+        .iter()
+        .position(|image| image.name.as_slice() == name)
 }
 
 fn find<'a>(images: &'a [Image], name: &[u8]) -> Option<&'a [u8]>
