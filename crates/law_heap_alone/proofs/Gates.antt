@@ -81,7 +81,7 @@ module _ (s : MachineState) (h : HeapList) (host : IsHost s h) where
   left_keeps f true false = same
 
   frame_keeps : (f : Frame) (kind : FrameKind) → KeepsRecorded h s.store (frame_left s f kind s.tables.plan).now.store
-  frame_keeps f frame_kind.Swi = left_keeps f s.cpu.psr.overflow f.call.is_x
+  frame_keeps f (frame_kind.Swi number) = left_keeps f s.cpu.psr.overflow f.call.is_x
   frame_keeps f (frame_kind.Entry kind) = plan_keeps f s.tables.plan host.modules.going host.modules.text
 
   stack_keeps : (f : Frame) (well : Bool)

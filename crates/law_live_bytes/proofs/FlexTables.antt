@@ -261,7 +261,7 @@ module _ (s : MachineState) where
   swi_same f true false = refl
 
   frame_same : (f : Frame) (kind : FrameKind) → Same s (frame_left s f kind s.tables.plan).now
-  frame_same f frame_kind.Swi = swi_same f s.cpu.psr.overflow f.call.is_x
+  frame_same f (frame_kind.Swi number) = swi_same f s.cpu.psr.overflow f.call.is_x
   frame_same f (frame_kind.Entry kind) = plan_same f s.tables.plan
 
   stack_same : (f : Frame) (well : Bool) → Same s (if well then frame_left s f f.kind s.tables.plan else outcome_of_halt s (halt.Fault StackChanged)).now

@@ -61,7 +61,7 @@ module _ (s : MachineState) (has : HasModules s) (P : Store → Type 0) (same : 
 
   module _ (goes : Goes s.tables.plan) where
     frame_has : (f : Frame) (kind : FrameKind) → P (frame_left s f kind s.tables.plan).now.store
-    frame_has f frame_kind.Swi = left_has f s.cpu.psr.overflow f.call.is_x
+    frame_has f (frame_kind.Swi number) = left_has f s.cpu.psr.overflow f.call.is_x
     frame_has f (frame_kind.Entry kind) = plan_has f s.tables.plan has.going has.text goes
 
     stack_has : (f : Frame) (well : Bool) → P (if well then frame_left s f f.kind s.tables.plan else outcome_of_halt s (halt.Fault StackChanged)).now.store

@@ -233,7 +233,7 @@ plan_goes s f (Some p) =
     fault_goes s (fault_ahead f.call (machine_world s) q) (carried_on (come_back s f) f.call q) (carried_kept (come_back s f) f.call q)
 
 frame_goes : (s : MachineState) (f : Frame) (kind : FrameKind) (kept : Option Plan) → Goes false s (frame_left s f kind kept)
-frame_goes s f frame.Swi kept = swi_left_goes s f
+frame_goes s f (frame.Swi number) kept = swi_left_goes s f
 frame_goes s f (frame.Entry kind) kept = plan_goes s f kept
 
 gate_goes : (s : MachineState) (o : Option Frame) → Goes false s (gated_by s o)

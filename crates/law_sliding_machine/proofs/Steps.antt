@@ -206,7 +206,7 @@ module _ (s : MachineState) (p : Plan) (kept : s.tables.plan ≡ Some p)
   swi_left_by f false is_x = record { world = refl; plan = refl; flex = refl }
 
   kind_left : (f : Frame) (k : FrameKind) → Left (frame_left s f k s.tables.plan).now
-  kind_left f Swi = inl (swi_left_by f s.cpu.psr.overflow f.call.is_x)
+  kind_left f (Swi number) = inl (swi_left_by f s.cpu.psr.overflow f.call.is_x)
   kind_left f (EntryFrame kind) =
       subst (λ (o : Option Plan). Left (plan_left s f o).now) (sym kept)
       (fault_left f (fault_ahead f.call (machine_world s) (plan_after_code p (outcome_left s.cpu))))

@@ -18,6 +18,7 @@ use swi_dispatch_guest::dynamic_areas::Areas;
 use swi_dispatch_guest::flex_store::Flex;
 use swi_dispatch_guest::instances::Instances;
 use swi_dispatch_guest::os_heap::Heaps;
+use swi_dispatch_guest::swi_dispatch_frames::Frame;
 
 impl Machine {
     /// The bytes that the last step or store call printed; none before the first.
@@ -79,6 +80,13 @@ impl Machine {
         ensures most { result ≤ 32 }
     {
         self.guest.frames()
+    }
+
+    /// The frames of module code that are open, the innermost last.
+    pub fn open_frames(&self) -> &[Frame]
+        ensures { result.now ≡ (state_of self.now.guest).tables.frames }
+    {
+        self.guest.open_frames()
     }
 
     /// Why the machine is halted, if it is.

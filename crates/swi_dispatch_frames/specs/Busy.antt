@@ -6,7 +6,7 @@ use Rattle.swi_dispatch_frames.specs.declared.frame.FrameKind.{FrameKind}
 use Rattle.swi_dispatch_frames.specs.declared.frame.FrameKind.TheVariants.{Swi, Entry}
 
 abbrev pub is_swi : FrameKind → Bool
-is_swi Swi = true
+is_swi (Swi number) = true
 is_swi (Entry kind) = false
 
 -- a SWI of an instance in one of these slots is under way

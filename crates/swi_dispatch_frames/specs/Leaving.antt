@@ -18,11 +18,11 @@ state_with_saved_words n (suc count) saved cpu = state_with_saved_words (n + 1) 
 
 -- the first register that gets its old word
 abbrev pub first_restored : FrameKind → ℕ
-first_restored Swi = 10
+first_restored (Swi number) = 10
 first_restored (Entry kind) = 0
 
 abbrev pub status_left : FrameKind → Psr → Psr → Psr
-status_left Swi now caller = record caller {
+status_left (Swi number) now caller = record caller {
   negative = now.negative;
   zero = now.zero;
   carry = now.carry;

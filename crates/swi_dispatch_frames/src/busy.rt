@@ -28,7 +28,7 @@ fn is_swi(kind: FrameKind) -> bool
     ensures { result ≡ is_swi kind }
 {
     match kind {
-        FrameKind::Swi => true,
+        FrameKind::Swi(_) => true,
         FrameKind::Entry(_) => false,
     }
 }

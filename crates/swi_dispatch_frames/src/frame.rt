@@ -15,8 +15,8 @@ pub const SAVED_REGISTERS: usize = 13;
 /// What module code a frame was opened for.
 #[derive(Clone, Copy, Debug, PartialEq, Eq)]
 pub enum FrameKind {
-    /// A SWI of the module.
-    Swi,
+    /// A SWI of the module, by its number without the X bit.
+    Swi(u32),
     /// An entry of the module that a call on modules runs.
     Entry(CodeKind),
 }
@@ -39,7 +39,7 @@ impl Default for Frame {
     fn default() -> Frame {
         Frame {
             call: Call::default(),
-            kind: FrameKind::Swi,
+            kind: FrameKind::Swi(0),
             slot: 0,
             saved: [0; SAVED_REGISTERS],
             stack: 0,

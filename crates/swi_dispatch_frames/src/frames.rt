@@ -45,7 +45,8 @@ impl Frames {
         self.table.len()
     }
 
-    pub(crate) fn as_slice(&self) -> &[Frame]
+    /// The frames as they were opened.
+    pub fn as_slice(&self) -> &[Frame]
         ensures { result.now ≡ self.now }
     {
         self.table.as_slice()

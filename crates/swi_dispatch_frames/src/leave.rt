@@ -25,7 +25,7 @@ fn first_restored(kind: FrameKind) -> usize
     ensures most { result ≤ 13 }
 {
     match kind {
-        FrameKind::Swi => 10,
+        FrameKind::Swi(_) => 10,
         FrameKind::Entry(_) => 0,
     }
 }
@@ -35,7 +35,7 @@ fn status_left(kind: FrameKind, now: Psr, caller: Psr) -> Psr
     ensures { result ≡ status_left kind now caller }
 {
     match kind {
-        FrameKind::Swi => Psr {
+        FrameKind::Swi(_) => Psr {
             negative: now.negative,
             zero: now.zero,
             carry: now.carry,

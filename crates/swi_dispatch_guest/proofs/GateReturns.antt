@@ -35,7 +35,7 @@ first_word (x ∷ file) a b c d = refl
 r0_kept_by : (kind : FrameKind) (cpu : State) (f : Frame) → f.kind ≡ kind → is_swi kind ≡ true
     → register_of (returned_from cpu f) 0 ≡ register_of cpu 0
 unfolding state_after_return left
-r0_kept_by Swi cpu f is swi =
+r0_kept_by (Swi number) cpu f is swi =
     rw (is, first_slot f.call.caller.mode, first_slot cpu.psr.mode) (first_word cpu.file _ _ _ _)
 r0_kept_by (Entry kind) cpu f is swi = cc
 
@@ -58,12 +58,12 @@ if_untaken false is_x s o answered untaken is = cc
 -- what a step at the gate leaves then
 back_by : (s : MachineState) (f : Frame) (kind : FrameKind) (kept : Option Plan) (o : StepOutcome) → is_swi kind ≡ true
     → (s.cpu.psr.overflow && not f.call.is_x) ≡ false → o ≡ quiet (frame_closed s f) → o ≡ frame_left s f kind kept
-back_by s f Swi kept o swi taken is = if_taken s.cpu.psr.overflow f.call.is_x s o (quiet (frame_closed s f)) taken is
+back_by s f (Swi number) kept o swi taken is = if_taken s.cpu.psr.overflow f.call.is_x s o (quiet (frame_closed s f)) taken is
 back_by s f (Entry kind) kept o swi taken is = cc
 
 halts_by : (s : MachineState) (f : Frame) (kind : FrameKind) (kept : Option Plan) (o : StepOutcome) (number : ℕ) → is_swi kind ≡ true
     → IsUntaken s.cpu s.store.bytes f number → o ≡ outcome_of_halt s (halt.Fault (ErrorStop number)) → o ≡ frame_left s f kind kept
-halts_by s f Swi kept o number swi untaken is =
+halts_by s f (Swi called) kept o number swi untaken is =
     if_untaken s.cpu.psr.overflow f.call.is_x s o (quiet (frame_closed s f)) untaken.refused
     (is ∙ ap (λ (n : ℕ). outcome_of_halt s (halt.Fault (ErrorStop n))) untaken.error)
 halts_by s f (Entry kind) kept o number swi untaken is = cc
@@ -82,5 +82,5 @@ swi_stops s f o number last stack swi untaken is =
     (halts_by s f f.kind s.tables.plan o number swi untaken is)
 
 pub swi_else : (kind : FrameKind) → ((k : CodeKind) → kind ≡ Entry k → ⊥) → is_swi kind ≡ true
-swi_else Swi never = refl
+swi_else (Swi number) never = refl
 swi_else (Entry k) never = absurd (never k refl)

@@ -57,7 +57,7 @@ idle_spared slots fs idle below above f is entry = absurd (no_entry below above 
 
 -- nor any of another entry than a plan's first action calls
 swi_called : (entry : Option (CodeKind × ℕ)) (kind : FrameKind) (slot : ℕ) → is_swi kind ≡ true → IsFrameOfCode entry kind slot
-swi_called entry Swi slot swi = tt
+swi_called entry (Swi number) slot swi = tt
 swi_called entry (Entry kind) slot swi = absurd (false≢true swi)
 
 idle_called : (plan : Option Plan) (fs : List Frame) → entries fs ≡ 0 → AreCalled plan fs

@@ -156,7 +156,7 @@ plan_left s f None = outcome_of_halt s (halt.Fault FetchUnmapped)
 plan_left s f (Some p) = entry_left s f (plan_after_code p (outcome_left s.cpu))
 
 abbrev pub frame_left : MachineState → Frame → FrameKind → Option Plan → StepOutcome
-frame_left s f Swi kept = swi_left s f
+frame_left s f (Swi number) kept = swi_left s f
 frame_left s f (Entry kind) kept = plan_left s f kept
 
 -- Module code must have left the stack of supervisor mode as it was.

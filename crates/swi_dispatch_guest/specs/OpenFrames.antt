@@ -33,7 +33,7 @@ entry_kept None = None
 entry_kept (Some p) = entry_called (first_action p.actions)
 
 abbrev pub IsFrameOfCode : Option (CodeKind × ℕ) → FrameKind → ℕ → Type 0
-IsFrameOfCode entry Swi slot = Unit {0}
+IsFrameOfCode entry (Swi number) slot = Unit {0}
 IsFrameOfCode entry (Entry kind) slot = entry ≡ Some (kind, slot)
 
 abbrev pub AreCalled : Option Plan → List Frame → Type 0

@@ -69,7 +69,7 @@ is_exit _ = false
 abbrev pub handler_entered : MachineState → Call → ℕ → Handler → MachineState
 handler_entered s call number h = record s {
   cpu = swi_entered s.cpu h.at number h.slot;
-  tables = record s.tables { frames = s.tables.frames ++ frame_of s.cpu call Swi h.slot ∷ [] };
+  tables = record s.tables { frames = s.tables.frames ++ frame_of s.cpu call (Swi number) h.slot ∷ [] };
 }
 
 -- what the end of a call needs to know of its start; `enters` says whether a module that it loads

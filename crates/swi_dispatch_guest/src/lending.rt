@@ -17,6 +17,7 @@ use dynamic_areas::Areas;
 use flex_machine::flex_store::Flex;
 use os_heap::Heaps;
 use profile::Stop;
+use swi_dispatch_frames::Frame;
 use swi_dispatch_plans::Planner;
 use swi_dispatch_plans::instances::Instances;
 
@@ -75,6 +76,13 @@ impl Guest {
         ensures most { result ≤ 32 }
     {
         self.frames.len()
+    }
+
+    /// The frames of module code that are open, the innermost last.
+    pub fn open_frames(&self) -> &[Frame]
+        ensures { result.now ≡ (state_of self.now).tables.frames }
+    {
+        self.frames.as_slice()
     }
 
     // What the plans of calls on modules are made from.

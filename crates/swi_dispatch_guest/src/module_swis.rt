@@ -50,7 +50,7 @@ impl Guest {
         ensures { state_of self.new ≡ handler_entered (state_of self.old) call number handler }
     {
         self.frames
-            .open(Frame::of(&self.cpu, call, FrameKind::Swi, handler.slot));
+            .open(Frame::of(&self.cpu, call, FrameKind::Swi(number), handler.slot));
         enter_swi(&mut self.cpu, handler.at, number, handler.slot);
     }
 }
