@@ -14,11 +14,11 @@ use crate::machine::Machine;
 use address_map::AddressMap;
 use arm_core::Cpu;
 use profile::Stop;
+use swi_dispatch_guest::Frame;
 use swi_dispatch_guest::dynamic_areas::Areas;
 use swi_dispatch_guest::flex_store::Flex;
 use swi_dispatch_guest::instances::Instances;
 use swi_dispatch_guest::os_heap::Heaps;
-use swi_dispatch_guest::swi_dispatch_frames::Frame;
 
 impl Machine {
     /// The bytes that the last step or store call printed; none before the first.

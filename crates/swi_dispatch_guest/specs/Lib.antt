@@ -3,6 +3,7 @@
 pub use Rattle.swi_dispatch_answers
 pub use Rattle.swi_dispatch_breaks
 pub use Rattle.swi_dispatch_flex
+pub use Rattle.swi_dispatch_frames
 pub use Rattle.swi_dispatch_plans.specs.swi_dispatch_store
 pub use Rattle.swi_dispatch_plans.specs.swi_dispatch_modules
 pub use Rattle.arm_core

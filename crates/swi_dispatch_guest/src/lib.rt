@@ -32,5 +32,5 @@ pub use running::Ran;
 pub use swi_dispatch_answers;
 pub use swi_dispatch_answers::{Refusal, TextEnd};
 pub use swi_dispatch_breaks::{BreakError, Breaks};
-pub use swi_dispatch_frames;
+pub use swi_dispatch_frames::{Frame, FrameKind};
 pub use swi_dispatch_plans::instances;

@@ -49,8 +49,7 @@ impl Guest {
         requires held { is_used handler.slot (slots_of (state_of self.old).tables.modules) ≡ true }
         ensures { state_of self.new ≡ handler_entered (state_of self.old) call number handler }
     {
-        self.frames
-            .open(Frame::of(&self.cpu, call, FrameKind::Swi(number), handler.slot));
+        self.frames.open(Frame::of(&self.cpu, call, FrameKind::Swi(number), handler.slot));
         enter_swi(&mut self.cpu, handler.at, number, handler.slot);
     }
 }
