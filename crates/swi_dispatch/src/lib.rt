@@ -10,6 +10,7 @@ pub mod outside;
 pub use boot_error::BootError;
 pub use machine::Machine;
 pub use swi_dispatch_guest::{
-    BreakError, Breaks, Frame, FrameKind, Halt, Ran, Refusal, TextEnd, arm_step, dynamic_areas,
-    flex_store, instances, instances_table, module_header, os_heap, swi_dispatch_answers,
+    BreakError, Breaks, CodeKind, Frame, FrameKind, Halt, Ran, Refusal, TextEnd, arm_step,
+    dynamic_areas, flex_store, instances, instances_table, module_header, os_heap,
+    swi_dispatch_answers, without_x_bit,
 };

@@ -1,4 +1,5 @@
 -- Module code that is under way. Begin with Frames, then Entering and Leaving.
+pub use Rattle.instances_plans
 pub mod Busy
 pub mod Entering
 pub mod Frames

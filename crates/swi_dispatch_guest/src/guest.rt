@@ -170,7 +170,7 @@ impl Guest {
 }
 
 /// The number of a call without the bit that asks for errors to be returned.
-pub(crate) fn without_x_bit(number: u32) -> u32
+pub fn without_x_bit(number: u32) -> u32
     ensures { result ≡ without_x number }
 {
     if is_bit_set(number, 17) {
