@@ -56,6 +56,11 @@ first_pass origin number m (text ∷ others) =
     error_with_line number (measured_with_line origin m (line (address_of []) origin m.program text))
     (λ next. first_pass origin (number + 1) next others)
 
+-- The labels of a source's lines with their addresses, in their order, or the first line that the
+-- first pass refuses and why.
+abbrev pub labels_of_lines : List (List ℕ) → ℕ → Result Entries AsmError
+labels_of_lines texts origin = first_pass origin 1 (record { entries = []; program = [] }) texts
+
 abbrev pub ok_unless_reason : {A : Type 0} → Option Reason → A → Result A Reason
 ok_unless_reason None a = Ok a
 ok_unless_reason (Some reason) a = Err reason
@@ -74,7 +79,7 @@ second_pass labels origin number program (text ∷ others) =
     (λ more. second_pass labels origin (number + 1) more others)
 
 unfoldable pub means_lines : List (List ℕ) → ℕ → Result (List ℕ) AsmError
-means_lines texts origin = bind (first_pass origin 1 (record { entries = []; program = [] }) texts)
+means_lines texts origin = bind (labels_of_lines texts origin)
     (λ entries. second_pass (address_of entries) origin 1 [] texts)
 
 -- The program of a source, or the line and the reason; lines end in LF or CR LF, and the last may

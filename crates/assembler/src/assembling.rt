@@ -3,7 +3,7 @@
 ghost use Rattle.std.specs.Prelude.{◌≡◌, ◌≢◌, ◌≤◌, ◌<◌, ◌%◌, ◌^◌, [], Err, length, take, IfOk, OnOk};
 ghost use Rattle.assembler_names.specs.Labels.{address_of};
 ghost use Rattle.assembler.specs.Line.{line};
-ghost use Rattle.assembler.specs.Passes.{bytes_of_line, first_pass, leaving, means, means_lines, measured_with_line, second_pass};
+ghost use Rattle.assembler.specs.Passes.{bytes_of_line, labels_of_lines, leaving, means, means_lines, measured_with_line, second_pass};
 
 use crate::error::AsmError;
 use crate::line::put_line;
@@ -54,6 +54,33 @@ pub fn assemble_lines(
     }
 }
 
+/// The labels of the next lines of a text, at most `count`, with the addresses at which they stand
+/// in the program that [`assemble_lines`] makes of them. Lines that have a program have labels.
+///
+/// # Errors
+///
+/// The line that is refused, and why: what the first pass finds, which is `Syntax`, `LabelTwice`
+/// and `TooLong`; or, where the host has no memory left, line 0 and `Memory`.
+pub fn labels_of_lines<'s>(
+    alloc: Global,
+    lines: &Lines<'s>,
+    count: usize,
+    origin: u32,
+) -> Result<Labels<'s>, AsmError>
+    ensures below { origin < 2 ^ 26 → result ≢ Err (record { line = 0; reason = Reason.Memory })
+        → result ≡ labels_of_lines (take count lines.now.left) origin }
+    ensures modulo { result ≢ Err (record { line = 0; reason = Reason.Memory })
+        → result ≡ labels_of_lines (take count lines.now.left) (origin % 2 ^ 26) }
+{
+    match labels_of(alloc, lines, count, origin % ADDRESS_LIMIT) {
+        Ok(answer) => answer,
+        Err(AllocError) => Err(AsmError {
+            line: 0,
+            reason: Reason::Memory,
+        }),
+    }
+}
+
 fn both_passes(
     alloc: Global,
     lines: &Lines,
@@ -77,8 +104,7 @@ fn labels_of<'s>(
     origin: u32,
 ) -> Result<Result<Labels<'s>, AsmError>, AllocError>
     requires { origin < 2 ^ 26 }
-    ensures { IfOk result (λ answer. answer
-        ≡ first_pass origin 1 (record { entries = []; program = [] }) (take count source.now.left)) }
+    ensures { IfOk result (λ answer. answer ≡ labels_of_lines (take count source.now.left) origin) }
 {
     let none = Labels::new(alloc);
     let mut labels = Labels::new(alloc);

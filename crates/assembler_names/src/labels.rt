@@ -1,6 +1,6 @@
 //! Labels and their addresses.
 
-ghost use Rattle.std.specs.Prelude.{◌≡◌, ◌++◌, ◌∷◌, [], None, IfErr, OnOk, OnErr};
+ghost use Rattle.std.specs.Prelude.{◌≡◌, ◌++◌, ◌∷◌, [], None, length, slice_get, option_map, IfErr, OnOk, OnErr};
 ghost use Rattle.assembler_names.specs.Labels.{address_of, begins_with_digit, is_label};
 
 use crate::names::register_named;
@@ -40,6 +40,21 @@ impl<'a> Labels<'a> {
         ensures { result ≡ address_of self.now name.now }
     {
         self.map.get(name).copied()
+    }
+
+    /// How many labels there are.
+    pub fn count(&self) -> usize
+        ensures { result ≡ length self.now }
+    {
+        self.map.len()
+    }
+
+    /// A label and its address, by its place in the order in which they were put.
+    pub fn entry(&self, place: usize) -> Option<(&'a [u8], u32)>
+        ensures { option_map (λ entry. (entry.0.now, entry.1)) result ≡ slice_get self.now place }
+    {
+        let (name, address) = self.map.get_index(place)?;
+        Some((*name, *address))
     }
 
     /// Puts a label that isn't there yet.
