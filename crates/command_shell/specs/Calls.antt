@@ -10,6 +10,7 @@ use Rattle.swi_dispatch_guest.specs.MachineState.{MachineState, StepOutcome, sto
 use Rattle.swi_dispatch_guest.specs.Run.{count_after, is_among}
 use Rattle.swi_dispatch_guest.specs.Step.{machine_step, module_loaded, store_called}
 use Rattle.command_shell.specs.Answers.{ok_text, call_error_text, stop_text}
+use Rattle.command_shell.specs.Memory.{script_with_last}
 use Rattle.command_shell.specs.State.{ScriptState, Answered, answer, then_answered}
 use Rattle.command_shell.specs.declared.calls.CallEnd.{CallEnd}
 use Rattle.command_shell.specs.declared.calls.CallEnd.TheVariants as end
@@ -30,7 +31,7 @@ call_text s = if s.cpu.psr.overflow then call_error_text (error_number s) else o
 
 -- a stop line, which is the last one then
 abbrev pub stop_told : ScriptState → Stop → Answered
-stop_told s stop = answer (record s { last = Some stop }) (stop_text stop s.machine.cpu.pc)
+stop_told s stop = answer (script_with_last s stop) (stop_text stop s.machine.cpu.pc)
 
 -- Why a call goes no further after a step, if so many frames were open before it. It is tested in
 -- this order: the machine is halted; the call has come back; the program counter is among the

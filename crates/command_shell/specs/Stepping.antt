@@ -1,6 +1,9 @@
 -- The lines that take steps, RUN and STEP, and those that set the breaks at which steps stop: BREAK
 -- and UNBREAK.
-use Rattle.std.specs.Prelude.{ℕ, ◌-◌, ◌==◌, ◌&&◌, nat_le, min, List, ◌++◌, codes, Some, Result, Ok, Err}
+use Rattle.std.specs.Prelude.{◌≡◌, ℕ, ◌-◌, ◌==◌, ◌&&◌, nat_le, min, List, ◌++◌, codes, Option, Some, Result, Ok, Err}
+use Rattle.std.specs.Io.KnownBytes.{Appends}
+use Rattle.profile.specs.Outcome.{bind}
+use Rattle.profile.specs.declared.stop.Stop.{Stop}
 use Rattle.debugger.specs.swi_dispatch.specs.swi_dispatch_breaks.specs.declared.breaks.BreakError.{BreakError}
 use Rattle.debugger.specs.swi_dispatch.specs.swi_dispatch_breaks.specs.declared.breaks.BreakError.TheVariants as break
 use Rattle.debugger.specs.swi_dispatch.specs.swi_dispatch_breaks.specs.Breaks.{with_break, without_break}
@@ -8,34 +11,52 @@ use Rattle.swi_dispatch_guest.specs.Run as machine
 use Rattle.command_shell.specs.Answers.{break_text, unbreak_text, refused_text, stop_text, stepped_text}
 use Rattle.command_shell.specs.State.{ScriptState, Answered, answer}
 
+-- a run of so many steps at most
+abbrev pub script_run : ScriptState → ℕ → machine.Run
+script_run s most = machine.ran s.images s.breaks most s.machine
+
+-- the state after such a run: its stop is the last one
+abbrev pub script_after_run : ScriptState → ℕ → machine.Run → ScriptState
+script_after_run s most r = record s {
+  machine = r.now;
+  is_fresh = s.is_fresh && (most == 0);
+  left = s.left - r.taken;
+  last = Some r.stop;
+}
+
+-- What a run of so many steps at most leaves: the state, what the guest printed, written, how many
+-- steps count and why they ended.
+pub record IsAfterRun (s : ScriptState) (most : ℕ) (now : ScriptState) (before after : Option (List ℕ)) (taken : ℕ)
+    (end : Stop) : Type 0 where
+  pub state : now ≡ script_after_run s most (script_run s most)
+  pub text : Appends before after (script_run s most).printed
+  pub count : taken ≡ (script_run s most).taken
+  pub stop : end ≡ (script_run s most).stop
+
 -- RUN: all that is left of the budget may be used. What the guest prints comes first, then the stop
 -- line.
 abbrev pub run_done : ScriptState → machine.Run → Answered
-run_done s r =
-    answer (record s {
-      machine = r.now;
-      is_fresh = s.is_fresh && (s.left == 0);
-      left = s.left - r.taken;
-      last = Some r.stop;
-    })
-    (r.printed ++ stop_text r.stop r.now.cpu.pc)
+run_done s r = answer (script_after_run s s.left r) (r.printed ++ stop_text r.stop r.now.cpu.pc)
 
 abbrev pub run_told : ScriptState → Answered
-run_told s = run_done s (machine.ran s.images s.breaks s.left s.machine)
+run_told s = run_done s (script_run s s.left)
 
 -- STEP takes so many steps, or as many as are left.
 abbrev pub step_done : ScriptState → ℕ → machine.Run → Answered
 step_done s count r =
-    answer (record s {
-      machine = r.now;
-      is_fresh = s.is_fresh && (min count s.left == 0);
-      left = s.left - r.taken;
-      last = Some r.stop;
-    })
+    answer (script_after_run s (min count s.left) r)
     (r.printed ++ stepped_text (nat_le count s.left) r.stop r.now.cpu.pc)
 
 abbrev pub step_told : ScriptState → ℕ → Answered
-step_told s count = step_done s count (machine.ran s.images s.breaks (min count s.left) s.machine)
+step_told s count = step_done s count (script_run s (min count s.left))
+
+-- one break more, or one less, or why they stay as they are
+abbrev pub script_with_break : ScriptState → ℕ → Result ScriptState BreakError
+script_with_break s address = bind (with_break s.breaks address) (λ breaks. Ok (record s { breaks = breaks }))
+
+abbrev pub script_without_break : ScriptState → ℕ → Result ScriptState BreakError
+script_without_break s address =
+    bind (without_break s.breaks address) (λ breaks. Ok (record s { breaks = breaks }))
 
 -- BREAK and UNBREAK: what the breaks are then, or why they stay as they are.
 abbrev pub break_refusal_name : BreakError → List ℕ

@@ -1,7 +1,7 @@
 //! The lines CALL and LOAD: a store call or the loading of a module, and the steps of the module
-//! code that it enters.
+//! code that it enters; a debugger may take them one by one.
 
-ghost use Rattle.std.specs.Prelude.{◌≡◌, ◌≤◌, ◌<◌, ◌+◌, true, false, List, Option, OnOk, OnErr};
+ghost use Rattle.std.specs.Prelude.{◌≡◌, ◌≤◌, ◌<◌, ◌+◌, true, false, List, Option, IfOk, OnOk, OnErr};
 ghost use Rattle.std.specs.Option.{option_map};
 ghost use Rattle.std.specs.Io.KnownBytes.{Appends};
 ghost use Rattle.profile.specs.Output.{Writes};
@@ -18,7 +18,7 @@ use profile::{Sink, Stop, WriteFault, push_all};
 
 /// A call that a script makes from outside the machine.
 #[derive(Clone, Copy, Debug)]
-pub(crate) enum OutsideCall<'a> {
+pub enum OutsideCall<'a> {
     /// CALL: a SWI by its number.
     Swi(u32),
     /// LOAD: a module is loaded, by the name of an image and a text.
@@ -44,7 +44,7 @@ impl OutsideCall<'_> {
 
 /// Why such a call goes no further.
 #[derive(Clone, Copy, Debug, PartialEq, Eq)]
-pub(crate) enum CallEnd {
+pub enum CallEnd {
     /// As many frames are open as before it.
     Returned,
     /// The machine is halted, a break was reached, or the budget is used up.
@@ -81,8 +81,8 @@ impl Session {
         }
     }
 
-    // Why no step can be taken, if none can.
-    fn stop_before_step(&self) -> Option<Stop>
+    /// Why no step can be taken, if none can: the machine is halted, or no budget is left.
+    pub fn stop_before_step(&self) -> Option<Stop>
         ensures { (images : List Entry) → result ≡ stop_before_step (script_state self.now images) }
     {
         match self.machine.stop() {
@@ -124,14 +124,21 @@ impl Session {
         self.finish(images, sink, frames)
     }
 
-    // The first step of a call.
-    fn begin_call<W: Sink>(
+    /// Takes the first step of a call, writes what it prints, and answers why the machine is
+    /// halted, if it is.
+    ///
+    /// # Errors
+    ///
+    /// `WriteFault` where the sink failed.
+    pub fn begin_call<W: Sink>(
         &mut self,
         images: &Images,
         sink: &mut W,
         call: OutsideCall,
-    ) -> Result<(), WriteFault>
-        requires { 0 < self.old.left }
+    ) -> Result<Option<Stop>, WriteFault>
+        requires { 0 < (script_state self.old images.now).left }
+        ensures halt { IfOk result (λ halt.
+            halt ≡ option_map stop_of (script_state self.new images.now).machine.halt) }
         ensures state { OnOk result (script_state self.new images.now
             ≡ step_made (script_state self.old images.now)
             (first_step (script_state self.old images.now) call.entry)) }
@@ -141,12 +148,18 @@ impl Session {
         ensures same_flag { OnOk result (W.has_failed sink.new ≡ W.has_failed sink.old) }
     {
         let halt = call.begin(&mut self.machine, images);
-        self.count_step(sink, halt)
+        self.count_step(sink, halt)?;
+        Ok(halt)
     }
 
-    // Takes the steps of a call that is under way, until it ends, and tells how.
+    /// Takes the steps of a call that is under way, until it ends, and tells how. So many frames
+    /// were open before it.
+    ///
+    /// # Errors
+    ///
+    /// `WriteFault` where the sink failed.
     #[tactic(auto, using(crate::proofs::CallLemmas::call_steps))]
-    fn finish<W: Sink>(
+    pub fn finish<W: Sink>(
         &mut self,
         images: &Images,
         sink: &mut W,
@@ -162,15 +175,17 @@ impl Session {
         loop {
             match self.call_end(frames) {
                 Some(end) => return self.tell_end(sink, end),
-                None => self.take_step(images, sink)?,
+                None => {
+                    self.take_step(images, sink)?;
+                }
             }
         }
     }
 
-    // Why a call that is under way goes no further, if it does not. So many frames were open before
-    // it.
+    /// Why a call that is under way goes no further, if it does not. So many frames were open
+    /// before it.
     #[tactic(auto, unfolding(crate::specs::Calls::call_end))]
-    fn call_end(&self, frames: usize) -> Option<CallEnd>
+    pub fn call_end(&self, frames: usize) -> Option<CallEnd>
         ensures { (images : List Entry) → result ≡ call_end (script_state self.now images) frames }
     {
         if let Some(stop) = self.machine.stop() {
@@ -188,7 +203,12 @@ impl Session {
         }
     }
 
-    fn tell_end<W: Sink>(&mut self, sink: &mut W, end: CallEnd) -> Result<(), WriteFault>
+    /// Tells how a call ended; where it was stopped, that is the last stop then.
+    ///
+    /// # Errors
+    ///
+    /// `WriteFault` where the sink failed.
+    pub fn tell_end<W: Sink>(&mut self, sink: &mut W, end: CallEnd) -> Result<(), WriteFault>
         ensures told { (images : List Entry) → OnOk result
             (IsAnswered (W.contents sink.old) (W.contents sink.new)
             (script_state self.new images)
@@ -202,9 +222,20 @@ impl Session {
         }
     }
 
-    // A step of a call that is under way.
-    fn take_step<W: Sink>(&mut self, images: &Images, sink: &mut W) -> Result<(), WriteFault>
-        requires { 0 < self.old.left }
+    /// Takes a step, writes what it prints, and answers why the machine is halted, if it is. Neither
+    /// breaks nor the last stop have to do with it.
+    ///
+    /// # Errors
+    ///
+    /// `WriteFault` where the sink failed.
+    pub fn take_step<W: Sink>(
+        &mut self,
+        images: &Images,
+        sink: &mut W,
+    ) -> Result<Option<Stop>, WriteFault>
+        requires { 0 < (script_state self.old images.now).left }
+        ensures halt { IfOk result (λ halt.
+            halt ≡ option_map stop_of (script_state self.new images.now).machine.halt) }
         ensures state { OnOk result (script_state self.new images.now
             ≡ step_made (script_state self.old images.now)
             (machine_step images.now (script_state self.old images.now).machine)) }
@@ -214,7 +245,8 @@ impl Session {
         ensures same_flag { OnOk result (W.has_failed sink.new ≡ W.has_failed sink.old) }
     {
         let halt = self.machine.step(images);
-        self.count_step(sink, halt)
+        self.count_step(sink, halt)?;
+        Ok(halt)
     }
 
     // Counts the step that the machine has just taken, and writes what it printed.

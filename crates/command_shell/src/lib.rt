@@ -14,7 +14,8 @@ mod session;
 mod stepping;
 mod views;
 
-pub use answers::tell_unknown;
+pub use answers::{tell_stepped, tell_stop, tell_unknown};
+pub use calls::{CallEnd, OutsideCall};
 pub use error::RunError;
 pub use script::{Summary, run_script};
 pub use session::Session;

@@ -1,11 +1,11 @@
-//! The lines that take steps, RUN and STEP, and those that set breaks: BREAK and UNBREAK.
+//! Steps, the lines that take them, RUN and STEP, and those that set breaks: BREAK and UNBREAK.
 
-ghost use Rattle.std.specs.Prelude.{◌≡◌, true, List, OnOk, OnErr};
+ghost use Rattle.std.specs.Prelude.{◌≡◌, ◌≤◌, min, true, List, IfOk, OnOk, OnErr};
 ghost use Rattle.command_shell.specs.Stepping.{break_refusal_name};
 
 use crate::answers::{tell_break, tell_refused, tell_stepped, tell_stop, tell_unbreak};
 use crate::session::Session;
-use debugger::swi_dispatch::BreakError;
+use debugger::swi_dispatch::{BreakError, Ran};
 use image_loader::Images;
 use profile::{Sink, WriteFault};
 
@@ -13,7 +13,48 @@ impl Session {
     ghost use Rattle.image_loader.specs.Entries.{Entry};
     ghost use Rattle.command_shell.specs.Session.{script_state};
     ghost use Rattle.command_shell.specs.State.{IsAnswered};
-    ghost use Rattle.command_shell.specs.Stepping.{run_told, step_told, break_told, unbreak_told};
+    ghost use Rattle.command_shell.specs.Stepping.{run_told, step_told, break_told, unbreak_told, IsAfterRun};
+
+    /// Takes so many steps, or as many as are left of the budget; fewer where the machine is halted
+    /// or a break is reached. What the guest prints is written, and why the steps ended is the last
+    /// stop then.
+    ///
+    /// # Errors
+    ///
+    /// `WriteFault` where the sink failed.
+    pub fn take_steps<W: Sink>(
+        &mut self,
+        images: &Images,
+        sink: &mut W,
+        count: u64,
+    ) -> Result<Ran, WriteFault>
+        ensures ran { let s = script_state self.old images.now in
+            IfOk result (λ ran. IsAfterRun s (min count s.left) (script_state self.new images.now)
+            (W.contents sink.old) (W.contents sink.new) ran.taken ran.stop) }
+        ensures flag { OnErr result (W.has_failed sink.new ≡ true) }
+        ensures same_flag { OnOk result (W.has_failed sink.new ≡ W.has_failed sink.old) }
+    {
+        self.run_within(images, sink, count.min(self.left))
+    }
+
+    // Takes so many steps of those that are left.
+    fn run_within<W: Sink>(
+        &mut self,
+        images: &Images,
+        sink: &mut W,
+        most: u64,
+    ) -> Result<Ran, WriteFault>
+        requires { most ≤ self.old.left }
+        ensures ran { IfOk result (λ ran. IsAfterRun (script_state self.old images.now) most
+            (script_state self.new images.now) (W.contents sink.old) (W.contents sink.new) ran.taken ran.stop) }
+        ensures flag { OnErr result (W.has_failed sink.new ≡ true) }
+        ensures same_flag { OnOk result (W.has_failed sink.new ≡ W.has_failed sink.old) }
+    {
+        let ran = self.machine.run(images, &self.breaks, sink, most)?;
+        self.left -= ran.taken;
+        self.last = Some(ran.stop);
+        Ok(ran)
+    }
 
     /// Takes all the steps that are left, and tells the stop.
     pub(crate) fn run<W: Sink>(&mut self, images: &Images, sink: &mut W) -> Result<(), WriteFault>
@@ -23,9 +64,7 @@ impl Session {
         ensures flag { OnErr result (W.has_failed sink.new ≡ true) }
         ensures same_flag { OnOk result (W.has_failed sink.new ≡ W.has_failed sink.old) }
     {
-        let ran = self.machine.run(images, &self.breaks, sink, self.left)?;
-        self.left -= ran.taken;
-        self.last = Some(ran.stop);
+        let ran = self.run_within(images, sink, self.left)?;
         tell_stop(sink, ran.stop, self.machine.cpu().pc())
     }
 
@@ -42,20 +81,14 @@ impl Session {
         ensures flag { OnErr result (W.has_failed sink.new ≡ true) }
         ensures same_flag { OnOk result (W.has_failed sink.new ≡ W.has_failed sink.old) }
     {
-        let could_all = u64::from(count) <= self.left;
-        let most = u64::from(count).min(self.left);
-        let ran = self.machine.run(images, &self.breaks, sink, most)?;
-        self.left -= ran.taken;
-        self.last = Some(ran.stop);
+        let count = u64::from(count);
+        let could_all = count <= self.left;
+        let ran = self.take_steps(images, sink, count)?;
         tell_stepped(sink, could_all, ran.stop, self.machine.cpu().pc())
     }
 
     /// Adds a break.
-    pub(crate) fn add_break<W: Sink>(
-        &mut self,
-        sink: &mut W,
-        address: u32,
-    ) -> Result<(), WriteFault>
+    pub(crate) fn break_at<W: Sink>(&mut self, sink: &mut W, address: u32) -> Result<(), WriteFault>
         ensures told { (images : List Entry) → OnOk result
             (IsAnswered (W.contents sink.old) (W.contents sink.new)
             (script_state self.new images)
@@ -70,7 +103,7 @@ impl Session {
     }
 
     /// Takes a break away.
-    pub(crate) fn remove_break<W: Sink>(
+    pub(crate) fn unbreak_at<W: Sink>(
         &mut self,
         sink: &mut W,
         address: u32,
