@@ -1,0 +1,265 @@
+//! The view FRAMES: the frames of module code that are open.
+
+ghost use Rattle.std.specs.Prelude.{◌≡◌, length, slice_get};
+ghost use Rattle.address_map.specs.Memory.{bytes_of};
+ghost use Rattle.profile.specs.Output.{Writes};
+ghost use Rattle.debugger.specs.Modules.{one_text};
+ghost use Rattle.debug_views.specs.Frames.{caller_address, caller_of_frame, caller_text, calls_entered, entry_text};
+ghost use Rattle.debug_views.specs.Frames.{frame_kind_text, frame_line, frame_lines, frame_number_text, frame_numbered};
+ghost use Rattle.debug_views.specs.Frames.{frame_text, frames_text, full_name_at, full_name_of_slot, full_name_text};
+ghost use Rattle.debug_views.specs.Frames.{full_name_within, is_call_entered, is_called_by_instruction};
+ghost use Rattle.swi_dispatch_guest.specs.Parts.{state_of};
+
+use crate::standing::show_where;
+use address_map::AddressMap;
+use debugger::mode_name;
+use debugger::swi_dispatch::instances::{InstanceInfo, Instances, ModuleInfo};
+use debugger::swi_dispatch::{CodeKind, Frame, FrameKind, Machine, without_x_bit};
+use itoa::Buffer;
+use profile::{Fault, HexText, Sink, SwiName, WriteFault, push_all, push_parts};
+
+/// Writes where the machine stands, and a line for each open frame, the innermost first, as
+/// [`show_frame`] does without a label.
+pub fn show_frames<W: Sink>(machine: &Machine, sink: &mut W) -> Result<(), WriteFault>
+    ensures writes { Writes W.contents W.has_failed sink.old sink.new result
+        (frames_text (state_of machine.now.guest)) }
+{
+    show_where(machine, sink)?;
+    show_open(machine, sink)
+}
+
+fn show_open<W: Sink>(machine: &Machine, sink: &mut W) -> Result<(), WriteFault>
+    ensures { let s = state_of machine.now.guest in
+        Writes W.contents W.has_failed sink.old sink.new result (frame_lines s (length s.tables.frames)) }
+{
+    let mut number = machine.frames();
+    while number > 0 {
+        show_frame(machine, number, b"", sink)?;
+        number -= 1;
+    }
+    Ok(())
+}
+
+/// Writes the line of an open frame, which are numbered from 1 on, the outermost first: what its
+/// code was entered for, the instance whose code it is, where the call was made, in which mode, and
+/// R13 of SVC as it was on entry,
+/// `frame 2 SWI &40000 Low%Base called at &1800074 in SVC, R13_svc 01C01FFC`. The label stands
+/// behind the address of the call. A call that no instruction made there is
+/// `called from outside`. Where no frame has that number nothing is written.
+pub fn show_frame<W: Sink>(
+    machine: &Machine,
+    number: usize,
+    label: &[u8],
+    sink: &mut W,
+) -> Result<(), WriteFault>
+    ensures writes { Writes W.contents W.has_failed sink.old sink.new result
+        (frame_text (state_of machine.now.guest) number label.now) }
+{
+    match frame_numbered(machine.open_frames(), number) {
+        Some(frame) => show_line(
+            machine.instances(),
+            machine.memory(),
+            number,
+            label,
+            &frame,
+            sink,
+        ),
+        None => Ok(()),
+    }
+}
+
+/// Where the call was made for which a frame was opened, if an instruction made it: the address
+/// that its line names.
+pub fn caller_of(machine: &Machine, number: usize) -> Option<u32>
+    ensures { let s = state_of machine.now.guest in
+        result ≡ caller_of_frame s.store.bytes (frame_numbered number s.tables.frames) }
+{
+    let frame = frame_numbered(machine.open_frames(), number)?;
+    is_called_by_instruction(machine.memory(), &frame).then_some(caller_address(&frame))
+}
+
+fn frame_numbered(frames: &[Frame], number: usize) -> Option<Frame>
+    ensures { result ≡ frame_numbered number frames.now }
+{
+    if number == 0 {
+        return None;
+    }
+    frames.get(number - 1).copied()
+}
+
+fn show_line<W: Sink>(
+    modules: &Instances,
+    memory: &AddressMap,
+    number: usize,
+    label: &[u8],
+    frame: &Frame,
+    sink: &mut W,
+) -> Result<(), WriteFault>
+    ensures { Writes W.contents W.has_failed sink.old sink.new result
+        (frame_line modules.now (bytes_of memory.now) number label.now frame.now) }
+{
+    show_number(number, sink)?;
+    show_kind(frame.kind, sink)?;
+    show_name(modules, frame.slot, sink)?;
+    show_caller(memory, frame, label, sink)?;
+    show_entry(frame, sink)
+}
+
+// `frame 2 `
+fn show_number<W: Sink>(number: usize, sink: &mut W) -> Result<(), WriteFault>
+    ensures { Writes W.contents W.has_failed sink.old sink.new result (frame_number_text number) }
+{
+    let mut digits = Buffer::new();
+    push_parts(
+        sink,
+        &[
+            b"frame ".as_slice(),
+            digits.format(number).as_bytes(),
+            b" ".as_slice(),
+        ],
+    )
+}
+
+fn show_kind<W: Sink>(kind: FrameKind, sink: &mut W) -> Result<(), WriteFault>
+    ensures { Writes W.contents W.has_failed sink.old sink.new result (frame_kind_text kind) }
+{
+    match kind {
+        FrameKind::Swi(number) => push_parts(
+            sink,
+            &[b"SWI &".as_slice(), HexText::number(number).as_slice()],
+        ),
+        FrameKind::Entry(CodeKind::Initialise) => push_all(sink, b"Initialise"),
+        FrameKind::Entry(CodeKind::Finalise) => push_all(sink, b"Finalise"),
+    }
+}
+
+// A space and the full name of the instance in a slot.
+fn show_name<W: Sink>(modules: &Instances, slot: u32, sink: &mut W) -> Result<(), WriteFault>
+    ensures { Writes W.contents W.has_failed sink.old sink.new result
+        (full_name_of_slot slot modules.now) }
+{
+    for number in 0..modules.count() {
+        show_name_within(modules, number, slot, sink)?;
+    }
+    Ok(())
+}
+
+// The name, if the instance is one of the module of a number.
+fn show_name_within<W: Sink>(
+    modules: &Instances,
+    number: u32,
+    slot: u32,
+    sink: &mut W,
+) -> Result<(), WriteFault>
+    ensures { Writes W.contents W.has_failed sink.old sink.new result
+        (one_text (full_name_within slot) (slice_get modules.now number)) }
+{
+    for instance in 0..modules.instance_count(number) {
+        show_name_if(modules, number, instance, slot, sink)?;
+    }
+    Ok(())
+}
+
+// The name, if the instance of a number is the one in the slot.
+fn show_name_if<W: Sink>(
+    modules: &Instances,
+    number: u32,
+    instance: u32,
+    slot: u32,
+    sink: &mut W,
+) -> Result<(), WriteFault>
+    ensures { Writes W.contents W.has_failed sink.old sink.new result
+        (full_name_at slot instance (slice_get modules.now number)) }
+{
+    match (modules.module(number), modules.instance(number, instance)) {
+        (Some(module), Some(told)) if told.slot == slot => show_full_name(&module, &told, sink),
+        _ => Ok(()),
+    }
+}
+
+fn show_full_name<W: Sink>(
+    module: &ModuleInfo,
+    told: &InstanceInfo,
+    sink: &mut W,
+) -> Result<(), WriteFault>
+    ensures { Writes W.contents W.has_failed sink.old sink.new result
+        (full_name_text module.now.title.items told.now.name.items) }
+{
+    push_parts(
+        sink,
+        &[
+            b" ".as_slice(),
+            module.title.as_slice(),
+            b"%".as_slice(),
+            told.name.as_slice(),
+        ],
+    )
+}
+
+fn show_caller<W: Sink>(
+    memory: &AddressMap,
+    frame: &Frame,
+    label: &[u8],
+    sink: &mut W,
+) -> Result<(), WriteFault>
+    ensures { Writes W.contents W.has_failed sink.old sink.new result
+        (caller_text (bytes_of memory.now) frame.now label.now) }
+{
+    if !is_called_by_instruction(memory, frame) {
+        return push_all(sink, b" called from outside");
+    }
+    push_parts(
+        sink,
+        &[
+            b" called at &".as_slice(),
+            HexText::number(caller_address(frame)).as_slice(),
+            label,
+        ],
+    )
+}
+
+fn caller_address(frame: &Frame) -> u32
+    ensures { result ≡ caller_address frame.now }
+{
+    frame.call.next.wrapping_sub(4)
+}
+
+fn is_called_by_instruction(memory: &AddressMap, frame: &Frame) -> bool
+    ensures { result ≡ is_called_by_instruction (bytes_of memory.now) frame.now }
+{
+    is_call_entered(frame.kind, memory.load_word(caller_address(frame)))
+}
+
+fn is_call_entered(kind: FrameKind, word: Result<u32, Fault>) -> bool
+    ensures { result ≡ is_call_entered kind word }
+{
+    match word {
+        Ok(word) => word >> 24 & 15 == 15 && calls_entered(kind, without_x_bit(word % (1 << 24))),
+        Err(_) => false,
+    }
+}
+
+fn calls_entered(kind: FrameKind, number: u32) -> bool
+    ensures { result ≡ calls_entered kind number }
+{
+    match kind {
+        FrameKind::Swi(entered) => number == entered,
+        FrameKind::Entry(_) => SwiName::of(number) == Some(SwiName::Module),
+    }
+}
+
+// The mode of the caller, and R13 of SVC.
+fn show_entry<W: Sink>(frame: &Frame, sink: &mut W) -> Result<(), WriteFault>
+    ensures { Writes W.contents W.has_failed sink.old sink.new result (entry_text frame.now) }
+{
+    push_parts(
+        sink,
+        &[
+            b" in ".as_slice(),
+            mode_name(frame.call.caller.mode).as_slice(),
+            b", R13_svc ".as_slice(),
+            HexText::word(frame.stack).as_slice(),
+            b"\n".as_slice(),
+        ],
+    )
+}
