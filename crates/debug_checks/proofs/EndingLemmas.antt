@@ -1,8 +1,8 @@
 -- Where the end of steps begins in an answer, found from the answer's end on.
 use Rattle.std.proofs.Common.{◌≡◌, ℕ, zero, suc, ◌+◌, ◌-◌, ◌<◌, ◌≤◌, true, false, Bool, List, [], ◌∷◌, length, take, drop, Option, Some, None, ap, refl, arith, ◌∙◌, sym}
 use Rattle.std.specs.Prelude.{unwrap_or}
-use Rattle.std.proofs.lemmas.List.{drop_all, length-drop, take_all}
-use Rattle.debug_checks.specs.Endings.{begins_ending, output_before_ending, output_of, output_with}
+use Rattle.std.proofs.lemmas.List.{drop_all, length-drop, length-take-le, take_all}
+use Rattle.debug_checks.specs.Endings.{begins_ending, ending_of, output_before_ending, output_of, output_with}
 
 -- at a place where one begins, and none begins after it
 ending_at : (answer : List ℕ) (p : ℕ) → p < length answer → begins_ending (drop p answer) ≡ true
@@ -66,3 +66,9 @@ pub none_before : (answer : List ℕ) (place : ℕ) (begins : Bool) → 0 < plac
     → output_before_ending (drop place answer) ≡ None → output_before_ending (drop (place - 1) answer) ≡ None
 none_before answer place begins some inside is false' none =
     none_step answer (place - 1) place (omega (arith, some)) inside (begins_there answer (place - 1) begins is ∙ false') none
+
+-- what follows on the output
+pub ending_behind : (answer : List ℕ) (place : ℕ) → place ≤ length answer → take place answer ≡ output_of answer
+    → drop place answer ≡ ending_of answer
+ending_behind answer place inside is =
+    ap (λ (n : ℕ). drop n answer) (sym (length-take-le place answer inside) ∙ ap length is)

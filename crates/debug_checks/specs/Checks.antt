@@ -20,8 +20,8 @@ use Rattle.debug_lines.specs.declared.status.StatusPattern.{StatusPattern}
 use Rattle.debug_views.specs.Banks.{banked_name}
 use Rattle.debug_views.specs.Quoted.{quoted_text}
 
--- What an expectation is about: the core and the memory, the last answer, what the guest printed in
--- the last line that takes steps, and how many steps that took.
+-- What an expectation is about: the core and the memory, the last answer without what the guest
+-- printed, what it printed in the last line that takes steps, and how many steps that took.
 pub record Seen : Type 0 where
   pub cpu : State
   pub bytes : Bytes

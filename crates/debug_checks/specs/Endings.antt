@@ -1,6 +1,6 @@
 -- What a guest printed in a line that takes steps: of the line's answer, what stands before its
--- ending, which tells how the steps ended.
-use Rattle.std.specs.Prelude.{ℕ, ◌==◌, ◌||◌, Bool, true, false, List, [], ◌∷◌, codes, Option, Some, None, unwrap_or}
+-- ending, which tells how the steps ended. The answer is what was printed, and then its ending.
+use Rattle.std.specs.Prelude.{ℕ, ◌==◌, ◌||◌, Bool, true, false, List, [], ◌∷◌, codes, drop, length, Option, Some, None, unwrap_or}
 use Rattle.std.specs.List.{starts_with}
 
 -- whether a text begins as an ending does: with a stop, where the machine stands, or how a call came
@@ -27,3 +27,7 @@ output_before_ending (b ∷ rest) =
 
 abbrev pub output_of : List ℕ → List ℕ
 output_of answer = unwrap_or (output_before_ending answer) answer
+
+-- what follows on what was printed
+abbrev pub ending_of : List ℕ → List ℕ
+ending_of answer = drop (length (output_of answer)) answer

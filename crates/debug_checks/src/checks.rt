@@ -14,13 +14,13 @@ use debug_lines::{Expectation, StatusPattern, is_spelt};
 use debugger::swi_dispatch::Machine;
 use std::alloc::{AllocError, Global};
 
-/// What an expectation is about: a machine, the last answer, what the guest printed in the last line
-/// that takes steps, and how many steps that took.
+/// What an expectation is about: a machine, the last answer without what the guest printed, what it
+/// printed in the last line that takes steps, and how many steps that took.
 #[derive(Clone, Copy)]
 pub struct SeenMachine<'a> {
     /// The machine.
     pub machine: &'a Machine,
-    /// The last answer.
+    /// The last answer, without what the guest printed.
     pub answer: &'a [u8],
     /// What the guest printed.
     pub output: &'a [u8],

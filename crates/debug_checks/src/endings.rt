@@ -1,7 +1,7 @@
 //! What a guest printed, as a part of the answer to a line that takes steps.
 
-ghost use Rattle.std.specs.Prelude.{◌≡◌};
-ghost use Rattle.debug_checks.specs.Endings.{begins_ending, output_of};
+ghost use Rattle.std.specs.Prelude.{◌≡◌, ◌≤◌, length, take};
+ghost use Rattle.debug_checks.specs.Endings.{begins_ending, ending_of, output_of};
 
 /// What a guest printed in a line that takes steps, by the line's answer: what stands before the
 /// last place at which the end of steps is told. None of the words that it begins with stands
@@ -9,14 +9,31 @@ ghost use Rattle.debug_checks.specs.Endings.{begins_ending, output_of};
 pub fn output_of(answer: &[u8]) -> &[u8]
     ensures { result.now ≡ output_of answer.now }
 {
+    &answer[..ending_place(answer)]
+}
+
+/// How the steps of such a line ended, by the line's answer: what follows on what was printed.
+#[tactic(auto, using(crate::proofs::EndingLemmas::ending_behind))]
+pub fn ending_of(answer: &[u8]) -> &[u8]
+    ensures { result.now ≡ ending_of answer.now }
+{
+    &answer[ending_place(answer)..]
+}
+
+// Where the last place is at which the end of steps is told; where it is told nowhere, after the
+// answer.
+fn ending_place(answer: &[u8]) -> usize
+    ensures inside { result ≤ length answer.now }
+    ensures output { take result answer.now ≡ output_of answer.now }
+{
     let mut place = answer.len();
     while place > 0 {
         place -= 1;
         if begins_ending(&answer[place..]) {
-            return &answer[..place];
+            return place;
         }
     }
-    answer
+    answer.len()
 }
 
 // Whether a text begins as the end of steps is told: by a stop, by where the machine stands, or by

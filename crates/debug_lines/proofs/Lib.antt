@@ -1,3 +1,4 @@
+pub mod BlockEndLemmas
 pub mod OwnRequestLemmas
 pub mod WholeDebugRequestLemmas
 pub mod WordLemmas

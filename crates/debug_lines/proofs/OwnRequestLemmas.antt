@@ -4,8 +4,9 @@ use Rattle.std.proofs.lemmas.Bool.{cases_Bool}
 use Rattle.std.specs.Prelude.{codes, if◌then◌else◌}
 use Rattle.command_shell_lines.specs.Operands.{word_address, origin_of, count_up_to}
 use Rattle.command_shell_lines.specs.Requests.{Request, Unknown, is_same_word, request_of, words}
-use Rattle.debug_lines.specs.DebugRequests.{DebugRequest, Script, Remark, Words, Where, Banks, Stack, SetPc, SetPsr, Reset, Help, Quit, Expect, NotKnown, expect_line, is_remark, is_script_request, own_request, own_request_behind}
-use Rattle.debug_lines.specs.DebugRequests.{own_request_of_four, own_request_of_three, own_request_of_two, own_request_of_word}
+use Rattle.image_loader.specs.Entries.{can_name_image}
+use Rattle.debug_lines.specs.DebugRequests.{DebugRequest, Script, Remark, Forget, SetPc, SetPsr, Reset, Quit, Expect, View, NotKnown, expect_line, is_remark, is_script_request, own_request_behind, simple_request}
+use Rattle.debug_lines.specs.DebugRequests.{Banks, Help, Stack, Where, forget_if_named, own_request_of_four, own_request_of_three, own_request_of_two, own_request_of_word}
 use Rattle.debug_lines.specs.DebugRequests.{own_request_of_words, set_pc_to, set_psr_of_two, set_psr_to, set_request, stack_of, words_at}
 use Rattle.debug_lines.specs.Expectations.{ExpectRequest, expect_request, text_behind}
 use Rattle.debug_lines.specs.Status.{status_of_two, status_of_word}
@@ -28,6 +29,11 @@ own_stack : (o : Option ℕ) → asks_script (stack_of o) ≡ false
 unfolding asks_script
 own_stack (Some count) = refl
 own_stack None = refl
+
+own_forget : (b : Bool) (name : List ℕ) → asks_script (forget_if_named b name) ≡ false
+unfolding asks_script
+own_forget true name = refl
+own_forget false name = refl
 
 own_words_at : (address count : Option ℕ) → asks_script (words_at address count) ≡ false
 unfolding asks_script
@@ -53,17 +59,18 @@ own_expect None = refl
 own_word : (word : List ℕ) → asks_script (own_request_of_word word) ≡ false
 unfolding asks_script
 own_word word =
-    own_if (is_same_word word (codes "WHERE")) Where _ refl
-    (own_if (is_same_word word (codes "BANKS")) Banks _ refl
-    (own_if (is_same_word word (codes "STACK")) (Stack 8) _ refl
+    own_if (is_same_word word (codes "WHERE")) (View Where) _ refl
+    (own_if (is_same_word word (codes "BANKS")) (View Banks) _ refl
+    (own_if (is_same_word word (codes "STACK")) (View (Stack 8)) _ refl
     (own_if (is_same_word word (codes "RESET")) Reset _ refl
-    (own_if (is_same_word word (codes "HELP")) Help _ refl
+    (own_if (is_same_word word (codes "HELP")) (View Help) _ refl
     (own_if (is_same_word word (codes "QUIT")) Quit NotKnown refl refl)))))
 
 own_two : (word other : List ℕ) → asks_script (own_request_of_two word other) ≡ false
 unfolding asks_script
 own_two word other =
-    own_if (is_same_word word (codes "STACK")) _ NotKnown (own_stack (count_up_to 1024 other)) refl
+    own_if (is_same_word word (codes "STACK")) _ _ (own_stack (count_up_to 1024 other))
+    (own_if (is_same_word word (codes "FORGET")) _ NotKnown (own_forget (can_name_image other) other) refl)
 
 own_set : (what value : List ℕ) → asks_script (set_request what value) ≡ false
 unfolding asks_script
@@ -96,23 +103,23 @@ own_behind : (o : Option (List ℕ)) (line : List ℕ) → asks_script (own_requ
 own_behind (Some expected) line = own_expect (expect_request expected)
 own_behind None line = own_of_words (words line)
 
-pub script_alone : (line : List ℕ) (r : Request) → Script r ≡ own_request line → r ≡ request_of line
-unfolding own_request asks_script request_in
+pub script_alone : (line : List ℕ) (r : Request) → Script r ≡ simple_request line → r ≡ request_of line
+unfolding simple_request asks_script request_in
 script_alone line r e =
-    let asks : true ≡ asks_script (own_request line) = ap asks_script e in
+    let asks : true ≡ asks_script (simple_request line) = ap asks_script e in
     elim (cases_Bool (is_remark line)) [
       | inl remark ↦
-          let is : own_request line ≡ Remark = rw (remark) refl in
+          let is : simple_request line ≡ Remark = rw (remark) refl in
           absurd (grind (arith, asks ∙ ap asks_script is))
       | inr other ↦ elim (cases_Bool (is_script_request (request_of line))) [
         | inl script ↦
-            let is : own_request line ≡ Script (request_of line) = rw (other, script) refl in
+            let is : simple_request line ≡ Script (request_of line) = rw (other, script) refl in
             ap request_in (e ∙ is)
         | inr own ↦
-            let is : own_request line ≡ own_request_behind (text_behind (codes "EXPECT ") line) line = rw (other, own) refl in
+            let is : simple_request line ≡ own_request_behind (text_behind (codes "EXPECT ") line) line = rw (other, own) refl in
             absurd (grind (arith, asks ∙ ap asks_script is ∙ own_behind (text_behind (codes "EXPECT ") line) line))
       ]
     ]
 
-pub script_itself : (line : List ℕ) (r : Request) → Script r ≡ own_request line → Script (request_of line) ≡ own_request line
+pub script_itself : (line : List ℕ) (r : Request) → Script r ≡ simple_request line → Script (request_of line) ≡ simple_request line
 script_itself line r e = ap Script (sym (script_alone line r e)) ∙ e

@@ -1,29 +1,41 @@
 -- What a line of a debugging script asks for. A line is first read as a line of a script; only what is
 -- none is made tidy and looked at further. Command words may be in upper or lower case.
-use Rattle.std.specs.Prelude.{ℕ, Bool, true, false, ◌==◌, List, [], ◌∷◌, codes, Option, Some, None, if◌then◌else◌}
+use Rattle.std.specs.Prelude.{ℕ, Bool, true, false, ◌==◌, ◌&&◌, ◌+◌, nat_lt, not, List, [], ◌∷◌, codes, drop, take, Option, Some, None, if◌then◌else◌}
+use Rattle.std.specs.List.{position}
+use Rattle.image_loader.specs.Entries.{can_name_image}
+use Rattle.command_shell_lines.specs.Numbers.{script_number}
 use Rattle.command_shell_lines.specs.Operands.{word_address, origin_of, count_up_to}
 use Rattle.command_shell_lines.specs.Requests.{Request, Unknown, opens_block, request_of, request_of_command, is_same_word, words}
 use Rattle.debug_lines.specs.declared.status.StatusPattern.{StatusPattern}
 use Rattle.debug_lines.specs.declared.requests.DebugCommand.{DebugCommand}
 use Rattle.debug_lines.specs.declared.requests.DebugCommand.TheVariants as command
+use Rattle.debug_lines.specs.declared.requests.DebugView.{DebugView}
+use Rattle.debug_lines.specs.declared.requests.DebugView.TheVariants as view
 use Rattle.debug_lines.specs.Expectations.{ExpectRequest, expect_request, expect_request_of, text_behind}
 use Rattle.debug_lines.specs.Status.{status_of_word, status_of_two}
 use Rattle.debug_lines.specs.Tidy.{tidied_line}
+
+-- what only looks
+pub data ViewRequest : Type 0 where
+  Words : ℕ → ℕ → ViewRequest
+  Where : ViewRequest
+  Banks : ViewRequest
+  Stack : ℕ → ViewRequest
+  Help : ViewRequest
 
 pub data DebugRequest : Type 0 where
   -- what a line of a script asks for
   Script : Request → DebugRequest
   Remark : DebugRequest
-  Words : ℕ → ℕ → DebugRequest
-  Where : DebugRequest
-  Banks : DebugRequest
-  Stack : ℕ → DebugRequest
+  View : ViewRequest → DebugRequest
   SetPc : ℕ → DebugRequest
   SetPsr : StatusPattern → DebugRequest
+  Forget : List ℕ → DebugRequest
   Reset : DebugRequest
-  Help : DebugRequest
   Quit : DebugRequest
   Expect : ExpectRequest → DebugRequest
+  -- a tidy line, so many times
+  Repeat : ℕ → List ℕ → DebugRequest
   NotKnown : DebugRequest
 
 -- whether a script has a line that asks for that
@@ -39,25 +51,31 @@ is_remark (first ∷ rest) = first == 35
 -- a line of one word
 abbrev pub own_request_of_word : List ℕ → DebugRequest
 own_request_of_word word =
-    if is_same_word word (codes "WHERE") then Where else (
-    if is_same_word word (codes "BANKS") then Banks else (
-    if is_same_word word (codes "STACK") then Stack 8 else (
+    if is_same_word word (codes "WHERE") then View Where else (
+    if is_same_word word (codes "BANKS") then View Banks else (
+    if is_same_word word (codes "STACK") then View (Stack 8) else (
     if is_same_word word (codes "RESET") then Reset else (
-    if is_same_word word (codes "HELP") then Help else (
+    if is_same_word word (codes "HELP") then View Help else (
     if is_same_word word (codes "QUIT") then Quit else
     NotKnown)))))
 
 abbrev pub stack_of : Option ℕ → DebugRequest
-stack_of (Some count) = Stack count
+stack_of (Some count) = View (Stack count)
 stack_of None = NotKnown
+
+abbrev pub forget_if_named : Bool → List ℕ → DebugRequest
+forget_if_named true name = Forget name
+forget_if_named false name = NotKnown
 
 -- a line of two words
 abbrev pub own_request_of_two : List ℕ → List ℕ → DebugRequest
 own_request_of_two word other =
-    if is_same_word word (codes "STACK") then stack_of (count_up_to 1024 other) else NotKnown
+    if is_same_word word (codes "STACK") then stack_of (count_up_to 1024 other) else (
+    if is_same_word word (codes "FORGET") then forget_if_named (can_name_image other) other else
+    NotKnown)
 
 abbrev pub words_at : Option ℕ → Option ℕ → DebugRequest
-words_at (Some address) (Some count) = Words address count
+words_at (Some address) (Some count) = View (Words address count)
 words_at (Some address) None = NotKnown
 words_at None count = NotKnown
 
@@ -107,35 +125,77 @@ abbrev pub own_request_behind : Option (List ℕ) → List ℕ → DebugRequest
 own_request_behind (Some expected) line = expect_line (expect_request expected)
 own_request_behind None line = own_request_of_words (words line)
 
--- what a tidy line asks for
-unfoldable pub own_request : List ℕ → DebugRequest
-own_request line =
+-- what a tidy line asks for that is no REPEAT
+unfoldable pub simple_request : List ℕ → DebugRequest
+simple_request line =
     if is_remark line then Remark else (
     if is_script_request (request_of line) then Script (request_of line) else
     own_request_behind (text_behind (codes "EXPECT ") line) line)
-
--- what a line asks for
-abbrev pub debug_request : List ℕ → DebugRequest
-debug_request line = if is_script_request (request_of line) then Script (request_of line)
-    else own_request (tidied_line line)
 
 -- whether the lines that follow are a block of the line's own
 abbrev pub debug_opens_block : DebugRequest → Bool
 debug_opens_block (Script request) = opens_block request
 debug_opens_block _ = false
 
+-- what may stand behind REPEAT: a line that asks for something, and opens no block
+abbrev pub is_repeatable : DebugRequest → Bool
+is_repeatable (Script request) = not (opens_block request)
+is_repeatable Remark = false
+is_repeatable NotKnown = false
+is_repeatable (Repeat count line) = false
+is_repeatable _ = true
+
+abbrev pub repeated_if : Option ℕ → List ℕ → Option (ℕ × List ℕ)
+repeated_if (Some count) line =
+    if nat_lt 0 count && is_repeatable (simple_request line) then Some (count, line) else None
+repeated_if None line = None
+
+-- a number, a space and a line
+abbrev pub repeated_at : Option ℕ → List ℕ → Option (ℕ × List ℕ)
+repeated_at (Some place) text = repeated_if (script_number (take place text)) (drop (place + 1) text)
+repeated_at None text = None
+
+abbrev pub repeated_behind : Option (List ℕ) → Option (ℕ × List ℕ)
+repeated_behind (Some text) = repeated_at (position (λ b. b == 32) text) text
+repeated_behind None = None
+
+-- what is repeated, and how often, of a line `REPEAT n line`
+unfoldable pub repeated_line : List ℕ → Option (ℕ × List ℕ)
+repeated_line line = repeated_behind (text_behind (codes "REPEAT ") line)
+
+abbrev pub own_request_by : Option (ℕ × List ℕ) → List ℕ → DebugRequest
+own_request_by (Some repeated) line = Repeat repeated.0 repeated.1
+own_request_by None line = simple_request line
+
+-- what a tidy line asks for
+abbrev pub own_request : List ℕ → DebugRequest
+own_request line = own_request_by (repeated_line line) line
+
+-- what a line asks for
+abbrev pub debug_request : List ℕ → DebugRequest
+debug_request line = if is_script_request (request_of line) then Script (request_of line)
+    else own_request (tidied_line line)
+
+abbrev pub is_known : DebugRequest → Bool
+is_known NotKnown = false
+is_known _ = true
+
 -- the lines that the code tells apart, as the requests that they stand for
+abbrev pub view_request_of : DebugView → ViewRequest
+view_request_of (view.Words address count) = Words address count
+view_request_of view.Where = Where
+view_request_of view.Banks = Banks
+view_request_of (view.Stack count) = Stack count
+view_request_of view.Help = Help
+
 abbrev pub debug_request_of_command : DebugCommand → DebugRequest
 debug_request_of_command (command.Script known) = Script (request_of_command known)
 debug_request_of_command command.Remark = Remark
-debug_request_of_command (command.Words address count) = Words address count
-debug_request_of_command command.Where = Where
-debug_request_of_command command.Banks = Banks
-debug_request_of_command (command.Stack count) = Stack count
+debug_request_of_command (command.View shown) = View (view_request_of shown)
 debug_request_of_command (command.SetPc address) = SetPc address
 debug_request_of_command (command.SetPsr pattern) = SetPsr pattern
+debug_request_of_command (command.Forget name) = Forget name.now
 debug_request_of_command command.Reset = Reset
-debug_request_of_command command.Help = Help
 debug_request_of_command command.Quit = Quit
 debug_request_of_command (command.Expect expected) = Expect (expect_request_of expected)
 debug_request_of_command command.Unknown = NotKnown

@@ -1,11 +1,13 @@
 -- What each line of a debugging script asks for. Begin with DebugRequests.
 pub use Rattle.command_shell_lines
 pub use Rattle.text_lines
+pub mod BlockEnds
 pub mod DebugRequests
 pub mod ErrorNumbers
 pub mod Expectations
 pub mod FewWords
 pub mod Registers
+pub mod Repeats
 pub mod Spelling
 pub mod Status
 pub mod Tidy

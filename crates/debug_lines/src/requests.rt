@@ -3,15 +3,17 @@
 ghost use Rattle.std.specs.Prelude.{◌≡◌};
 ghost use Rattle.command_shell_lines.specs.Operands.{word_address, count_up_to};
 ghost use Rattle.command_shell_lines.specs.Requests.{request_of, request_of_command, words};
-ghost use Rattle.debug_lines.specs.DebugRequests.{is_script_request, is_remark, own_request, expect_line, own_request_of_words, debug_opens_block};
-ghost use Rattle.debug_lines.specs.DebugRequests.{own_request_of_word, own_request_of_two, own_request_of_three, own_request_of_four};
-ghost use Rattle.debug_lines.specs.DebugRequests.{words_at, set_request, set_psr_to, debug_request_of_command};
+ghost use Rattle.image_loader.specs.Entries.{can_name_image};
+ghost use Rattle.debug_lines.specs.DebugRequests.{is_script_request, is_remark, simple_request, debug_opens_block, expect_line, own_request_of_words};
+ghost use Rattle.debug_lines.specs.DebugRequests.{forget_if_named, own_request_of_word, own_request_of_two, own_request_of_three, own_request_of_four};
+ghost use Rattle.debug_lines.specs.DebugRequests.{stack_of, words_at, set_request, set_psr_to, debug_request_of_command};
 ghost use Rattle.debug_lines.specs.Expectations.{expect_request};
 
 use crate::expectations::{Expectation, expectation_of, text_behind};
 use crate::few_words::{FewWords, few_words, has_letters};
 use crate::status::StatusPattern;
 use command_shell_lines::{Origin, ScriptCommand, WordAddress, command_of, count_up_to};
+use image_loader::is_image_name;
 
 /// The most words that a line shows.
 const MAX_WORDS_SHOWN: u32 = 1024;
@@ -19,13 +21,9 @@ const MAX_WORDS_SHOWN: u32 = 1024;
 /// So many words of the stack are shown where a line tells no number.
 const STACK_WORDS: u32 = 8;
 
-/// What a line of a debugging script asks for.
+/// What a line asks for that only looks.
 #[derive(Clone, Copy, Debug)]
-pub enum DebugCommand<'a> {
-    /// A line of a script, as it stands or made tidy.
-    Script(ScriptCommand<'a>),
-    /// An empty line, or one that begins with `#`.
-    Remark,
+pub enum DebugView {
     /// `WORDS a n`, of 1 to 1024 words.
     Words(WordAddress, u32),
     /// `WHERE`.
@@ -34,14 +32,27 @@ pub enum DebugCommand<'a> {
     Banks,
     /// `STACK n`, of 1 to 1024 words; `STACK` is of 8.
     Stack(u32),
+    /// `HELP`.
+    Help,
+}
+
+/// What a line of a debugging script asks for.
+#[derive(Clone, Copy, Debug)]
+pub enum DebugCommand<'a> {
+    /// A line of a script, as it stands or made tidy.
+    Script(ScriptCommand<'a>),
+    /// An empty line, or one that begins with `#`.
+    Remark,
+    /// A line that only looks.
+    View(DebugView),
     /// `SET PC a`, with a multiple of 4 below 2^26.
     SetPc(Origin),
     /// `SET PSR letters mode`, `SET PSR letters` or `SET PSR mode`.
     SetPsr(StatusPattern),
+    /// `FORGET name`, with a name that an image can have.
+    Forget(&'a [u8]),
     /// `RESET`.
     Reset,
-    /// `HELP`.
-    Help,
     /// `QUIT`.
     Quit,
     /// `EXPECT ..`.
@@ -65,17 +76,17 @@ impl DebugCommand<'_> {
 }
 
 /// Whether a line is one of a script as it stands. What it asks for is `command_of` then, and else
-/// `own_command` of the line made tidy.
+/// `repeated_line` or else `simple_command` of the line made tidy.
 pub fn is_script_line(line: &[u8]) -> bool
     ensures { result ≡ is_script_request (request_of line.now) }
 {
     is_known(&command_of(line))
 }
 
-/// What a tidy line asks for.
-#[tactic(auto, unfolding(crate::specs::DebugRequests::own_request))]
-pub fn own_command(tidied: &[u8]) -> DebugCommand<'_>
-    ensures { debug_request_of_command result ≡ own_request tidied.now }
+/// What a tidy line asks for that is no REPEAT.
+#[tactic(auto, unfolding(crate::specs::DebugRequests::simple_request))]
+pub fn simple_command(tidied: &[u8]) -> DebugCommand<'_>
+    ensures { debug_request_of_command result ≡ simple_request tidied.now }
 {
     if is_remark(tidied) {
         return DebugCommand::Remark;
@@ -90,11 +101,11 @@ pub fn own_command(tidied: &[u8]) -> DebugCommand<'_>
     }
 }
 
-/// Whether the lines that follow a tidy line are a block of its own.
-pub(crate) fn opens_own_block(tidied: &[u8]) -> bool
-    ensures { result ≡ debug_opens_block (own_request tidied.now) }
+/// Whether the lines that follow a tidy line that is no REPEAT are a block of its own.
+pub(crate) fn opens_simple_block(tidied: &[u8]) -> bool
+    ensures { result ≡ debug_opens_block (simple_request tidied.now) }
 {
-    match own_command(tidied) {
+    match simple_command(tidied) {
         DebugCommand::Script(known) => known.opens_block(),
         _ => false,
     }
@@ -125,7 +136,7 @@ fn expect_command(text: &[u8]) -> DebugCommand<'_>
     }
 }
 
-fn command_of_words(line: &[u8]) -> DebugCommand<'static>
+fn command_of_words(line: &[u8]) -> DebugCommand<'_>
     ensures { debug_request_of_command result ≡ own_request_of_words (words line.now) }
 {
     match few_words(line) {
@@ -143,15 +154,15 @@ fn command_of_word(word: &[u8]) -> DebugCommand<'static>
     ensures { debug_request_of_command result ≡ own_request_of_word word.now }
 {
     if has_letters(word, b"WHERE") {
-        DebugCommand::Where
+        DebugCommand::View(DebugView::Where)
     } else if has_letters(word, b"BANKS") {
-        DebugCommand::Banks
+        DebugCommand::View(DebugView::Banks)
     } else if has_letters(word, b"STACK") {
-        DebugCommand::Stack(STACK_WORDS)
+        DebugCommand::View(DebugView::Stack(STACK_WORDS))
     } else if has_letters(word, b"RESET") {
         DebugCommand::Reset
     } else if has_letters(word, b"HELP") {
-        DebugCommand::Help
+        DebugCommand::View(DebugView::Help)
     } else if has_letters(word, b"QUIT") {
         DebugCommand::Quit
     } else {
@@ -159,15 +170,34 @@ fn command_of_word(word: &[u8]) -> DebugCommand<'static>
     }
 }
 
-fn command_of_two(word: &[u8], other: &[u8]) -> DebugCommand<'static>
+fn command_of_two<'a>(word: &[u8], other: &'a [u8]) -> DebugCommand<'a>
     ensures { debug_request_of_command result ≡ own_request_of_two word.now other.now }
 {
-    if !has_letters(word, b"STACK") {
-        return DebugCommand::Unknown;
+    if has_letters(word, b"STACK") {
+        stack_command(other)
+    } else if has_letters(word, b"FORGET") {
+        forget_command(other)
+    } else {
+        DebugCommand::Unknown
     }
-    match count_up_to(MAX_WORDS_SHOWN, other) {
-        Some(count) => DebugCommand::Stack(count),
+}
+
+fn stack_command(count: &[u8]) -> DebugCommand<'static>
+    ensures { debug_request_of_command result ≡ stack_of (count_up_to 1024 count.now) }
+{
+    match count_up_to(MAX_WORDS_SHOWN, count) {
+        Some(count) => DebugCommand::View(DebugView::Stack(count)),
         None => DebugCommand::Unknown,
+    }
+}
+
+fn forget_command(name: &[u8]) -> DebugCommand<'_>
+    ensures { debug_request_of_command result ≡ forget_if_named (can_name_image name.now) name.now }
+{
+    if is_image_name(name) {
+        DebugCommand::Forget(name)
+    } else {
+        DebugCommand::Unknown
     }
 }
 
@@ -191,7 +221,7 @@ fn words_command(address: &[u8], count: &[u8]) -> DebugCommand<'static>
         WordAddress::spelled(address),
         count_up_to(MAX_WORDS_SHOWN, count),
     ) {
-        (Some(address), Some(count)) => DebugCommand::Words(address, count),
+        (Some(address), Some(count)) => DebugCommand::View(DebugView::Words(address, count)),
         _ => DebugCommand::Unknown,
     }
 }

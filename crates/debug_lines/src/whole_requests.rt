@@ -5,7 +5,8 @@ ghost use Rattle.std.specs.Prelude.{◌≡◌, IfOk};
 ghost use Rattle.debug_lines.specs.DebugRequests.{debug_request, debug_opens_block};
 ghost use Rattle.debug_lines.specs.WholeDebugRequests.{AreWholeDebugRequests, is_debug_block_open_after};
 
-use crate::requests::{is_script_line, opens_own_block};
+use crate::repeats::opens_own_block;
+use crate::requests::is_script_line;
 use crate::tidy::tidied;
 use command_shell_lines::{command_of, is_block_end};
 use std::alloc::{AllocError, Global};
@@ -49,7 +50,7 @@ fn is_open_after(alloc: Global, is_open: bool, line: &[u8]) -> Result<bool, Allo
 /// # Errors
 ///
 /// `AllocError` where the host has no memory for the line made tidy.
-fn opens_block(alloc: Global, line: &[u8]) -> Result<bool, AllocError>
+pub(crate) fn opens_block(alloc: Global, line: &[u8]) -> Result<bool, AllocError>
     ensures { IfOk result (λ opens. opens ≡ debug_opens_block (debug_request line.now)) }
 {
     if is_script_line(line) {

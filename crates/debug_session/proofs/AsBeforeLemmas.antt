@@ -188,10 +188,6 @@ checked c d number words (Some reason) = refl
 
 pub looking_leaves_the_machine : LookingLeavesTheMachine
 looking_leaves_the_machine c d number words block = record {
-  words_shown = λ address count. record { script = refl };
-  place_shown = record { script = refl };
-  banks_shown = record { script = refl };
-  stack_shown = λ count. record { script = refl };
-  help_shown = record { script = refl };
+  shown = λ view. record { script = refl };
   expected = λ e. record { script = checked c d number words (check_told (seen_of d) e) };
 }

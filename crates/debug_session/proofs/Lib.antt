@@ -1,4 +1,5 @@
 pub mod AsBeforeLemmas
 pub mod LineLemmas
 pub mod OwnLemmas
+pub mod RepeatLemmas
 pub mod UnreadLemmas

@@ -28,7 +28,7 @@ any_most (suc n) (suc m) c number d (line ∷ rest) enough other =
     ap (λ (x : DebugAnswered). unless_quit d (joined first x))
     (any_most n m c next first.state after (omega (arith, enough, shorter)) (omega (arith, other, shorter)))
 
-not_quit : (d : DebugState) (told : DebugAnswered) → d.has_quit ≡ false → unless_quit d told ≡ told
+pub not_quit : (d : DebugState) (told : DebugAnswered) → d.has_quit ≡ false → unless_quit d told ≡ told
 not_quit d told quit = rw (quit) refl
 
 -- a line, its block, and the lines after it

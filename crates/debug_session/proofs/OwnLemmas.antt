@@ -11,8 +11,8 @@ use Rattle.command_shell.specs.State.{Answered, IsAnswered, ScriptState}
 use Rattle.command_shell.specs.Memory.{script_with_budget}
 use Rattle.command_shell_lines.specs.Requests.{Request, Nothing, Hex, Asm, Boot, Run, Regs, Set, Poke, Call, Load, Step}
 use Rattle.command_shell_lines.specs.Requests.{Break, Unbreak, Mem, Code, Heap, Areas, Modules, Flex, Unknown, opens_block}
-use Rattle.debug_checks.specs.Endings.{output_of}
-use Rattle.debug_session.specs.DebugScript.{machine_change_told, checked_told, debug_request_told, is_named_image, asks_nothing, is_refused_block, state_after_line, state_with_answer, script_line_told, script_line_told_by, takes_steps, told_or_refused, view_told}
+use Rattle.debug_checks.specs.Endings.{ending_of, output_of}
+use Rattle.debug_session.specs.DebugScript.{machine_change_told, checked_told, simple_request_told, is_named_image, asks_nothing, is_refused_block, state_after_line, state_with_answer, script_line_told, script_line_told_by, takes_steps, told_or_refused, view_told}
 use Rattle.image_loader.specs.Entries.{Entry}
 use Rattle.command_shell.specs.Session.{script_state}
 use Rattle.debug_session.specs.DebugState.{DebugAnswered, DebugState, IsDebugged}
@@ -56,14 +56,15 @@ noted_is : (c : DebugSetting) (d : DebugState) (r : Request) (told : Answered) (
 noted_is c d r told nothing asks some = rw (sym asks ∙ some) refl
 
 pub line_told : (before after : Option (List ℕ)) (c : DebugSetting) (d at_tell now : DebugState) (number : ℕ)
-    (r : Request) (told : Answered) (refused nothing : Bool)
-    → at_tell ≡ state_with_answer c d r told → nothing ≡ asks_nothing r → nothing ≡ false
+    (r : Request) (told : Answered) (text : List ℕ) (refused nothing : Bool)
+    → at_tell ≡ state_with_answer c d r told → text ≡ told.text → nothing ≡ asks_nothing r → nothing ≡ false
     → refused ≡ is_refused_block d.script.images told.state.images r
-    → IsDebugged before after now (told_or_refused c at_tell number refused at_tell at_tell.answer)
+    → IsDebugged before after now (told_or_refused c at_tell number refused at_tell text)
     → IsDebugged before after now (script_line_told_by c d number r told)
-line_told before after c d at_tell now number r told refused nothing note asks some is written =
+line_told before after c d at_tell now number r told text refused nothing note same asks some is written =
     subst (λ (x : DebugAnswered). IsDebugged before after now x)
-    (ap (λ (x : DebugState). told_or_refused c x number refused x x.answer) note
+    (ap (λ (x : DebugState). told_or_refused c x number refused x text) note
+    ∙ ap (λ (xs : List ℕ). told_or_refused c (state_with_answer c d r told) number refused (state_with_answer c d r told) xs) same
     ∙ by_refusal c d number r told refused
     ∙ ap (λ (b : Bool). told_or_refused c d number b (state_with_answer c d r told) told.text) is
     ∙ ap (λ (x : DebugState). told_or_refused c d number (is_refused_block d.script.images told.state.images r) x told.text)
@@ -72,12 +73,12 @@ line_told before after c d at_tell now number r told refused nothing note asks s
 
 -- the same by other names of the setting and the line
 pub told_with : (before after : Option (List ℕ)) (now at_tell : DebugState) (c e : DebugSetting) (line number : ℕ) (refused : Bool)
-    → c ≡ e → line ≡ number
-    → IsDebugged before after now (told_or_refused c at_tell line refused at_tell at_tell.answer)
-    → IsDebugged before after now (told_or_refused e at_tell number refused at_tell at_tell.answer)
-told_with before after now at_tell c e line number refused setting at told =
-    subst (λ (x : DebugSetting). IsDebugged before after now (told_or_refused x at_tell number refused at_tell at_tell.answer)) setting
-    (subst (λ (n : ℕ). IsDebugged before after now (told_or_refused c at_tell n refused at_tell at_tell.answer)) at told)
+    (text : List ℕ) → c ≡ e → line ≡ number
+    → IsDebugged before after now (told_or_refused c at_tell line refused at_tell text)
+    → IsDebugged before after now (told_or_refused e at_tell number refused at_tell text)
+told_with before after now at_tell c e line number refused text setting at told =
+    subst (λ (x : DebugSetting). IsDebugged before after now (told_or_refused x at_tell number refused at_tell text)) setting
+    (subst (λ (n : ℕ). IsDebugged before after now (told_or_refused c at_tell n refused at_tell text)) at told)
 
 -- a state by its parts
 made : ScriptState → List ℕ → List ℕ → ℕ → CheckTally → Bool → DebugState
@@ -103,7 +104,7 @@ pub session_noted : (old mid new : DebugSession) (images after : List Entry) (an
     (r : Request) (told : Answered)
     → mid ≡ record old { session = mid.session }
     → new ≡ record mid { answer = new.answer; output = new.output; steps = new.steps }
-    → new.answer.items ≡ answer
+    → new.answer.items ≡ (if takes then ending_of answer else answer)
     → new.output.items ≡ (if takes then output_of answer else mid.output.items)
     → new.steps ≡ (if takes then mid.setting.budget - mid.session.left else mid.steps)
     → takes ≡ takes_steps r → script_state mid.session after ≡ told.state → answer ≡ told.text
@@ -111,10 +112,12 @@ pub session_noted : (old mid new : DebugSession) (images after : List Entry) (an
 unfolding made
 session_noted old mid new images after answer takes r told first next kept printed counted is state text =
     ap (λ (s : DebugSession). debug_state s after) next
-    ∙ made_same (script_state mid.session after) told.state new.answer.items told.text new.output.items
+    ∙ made_same (script_state mid.session after) told.state new.answer.items
+    (if takes_steps r then ending_of told.text else told.text) new.output.items
     (if takes_steps r then output_of told.text else old.output.items) new.steps
     (if takes_steps r then old.setting.budget - told.state.left else old.steps) mid.tally old.tally mid.has_quit old.has_quit
-    state (kept ∙ text)
+    state
+    (kept ∙ by_takes takes (takes_steps r) (ending_of answer) (ending_of told.text) answer told.text is (ap ending_of text) text)
     (printed ∙ by_takes takes (takes_steps r) (output_of answer) (output_of told.text) mid.output.items old.output.items is
     (ap output_of text) (ap (λ (s : DebugSession). s.output.items) first))
     (counted ∙ by_takes takes (takes_steps r) (mid.setting.budget - mid.session.left) (old.setting.budget - told.state.left)
@@ -182,17 +185,17 @@ view_of_text before after now d c text shown same told =
 -- what is told of a request, told of a line that asks for it
 pub asked : (before after : Option (List ℕ)) (now d : DebugState) (c : DebugSetting) (number : ℕ) (words : List ℕ)
     (block : List (List ℕ)) (r asks : DebugRequest)
-    → r ≡ asks → IsDebugged before after now (debug_request_told c d number words r block)
-    → IsDebugged before after now (debug_request_told c d number words asks block)
+    → r ≡ asks → IsDebugged before after now (simple_request_told c d number words r block)
+    → IsDebugged before after now (simple_request_told c d number words asks block)
 asked before after now d c number words block r asks is told =
-    subst (λ (x : DebugRequest). IsDebugged before after now (debug_request_told c d number words x block)) is told
+    subst (λ (x : DebugRequest). IsDebugged before after now (simple_request_told c d number words x block)) is told
 
 pub asked_if : {A E : Type 0} (result : Result A E) (before after : Option (List ℕ)) (now d : DebugState) (c : DebugSetting)
     (number : ℕ) (words : List ℕ) (block : List (List ℕ)) (r asks : DebugRequest)
-    → r ≡ asks → OnOk result (IsDebugged before after now (debug_request_told c d number words r block))
-    → OnOk result (IsDebugged before after now (debug_request_told c d number words asks block))
+    → r ≡ asks → OnOk result (IsDebugged before after now (simple_request_told c d number words r block))
+    → OnOk result (IsDebugged before after now (simple_request_told c d number words asks block))
 asked_if result before after now d c number words block r asks is told =
-    subst (λ (x : DebugRequest). OnOk result (IsDebugged before after now (debug_request_told c d number words x block))) is told
+    subst (λ (x : DebugRequest). OnOk result (IsDebugged before after now (simple_request_told c d number words x block))) is told
 
 -- an expectation by its reason
 pub checked_by : {A E : Type 0} (result : Result A E) (before after : Option (List ℕ)) (now d : DebugState) (c : DebugSetting)

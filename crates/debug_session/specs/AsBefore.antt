@@ -5,9 +5,9 @@ use Rattle.command_shell.specs.Script.{lines_told}
 use Rattle.command_shell.specs.State.{ScriptState}
 use Rattle.command_shell_lines.specs.Blocks.{block_lines, lines_after}
 use Rattle.command_shell_lines.specs.Requests.{Request, opens_block, request_of}
-use Rattle.debug_lines.specs.DebugRequests.{DebugRequest, Words, Where, Banks, Stack, Help, Expect, is_script_request}
+use Rattle.debug_lines.specs.DebugRequests.{DebugRequest, Expect, View, ViewRequest, is_script_request}
 use Rattle.debug_lines.specs.Expectations.{ExpectRequest}
-use Rattle.debug_session.specs.DebugScript.{debug_lines_told, debug_request_told, takes_steps}
+use Rattle.debug_session.specs.DebugScript.{debug_lines_told, simple_request_told, takes_steps}
 use Rattle.debug_session.specs.DebugState.{DebugState}
 use Rattle.debug_session.specs.declared.reports.ReportForm.TheVariants.{Answers}
 use Rattle.debug_session.specs.declared.session.DebugSetting.{DebugSetting}
@@ -37,15 +37,11 @@ ScriptAsBefore = (c : DebugSetting) (number : ℕ) (d : DebugState) (left : List
 -- Views and EXPECT leave all that a script works on as it is.
 pub record LooksOnly (c : DebugSetting) (d : DebugState) (number : ℕ) (words : List ℕ)
     (block : List (List ℕ)) (request : DebugRequest) : Type 0 where
-  pub script : (debug_request_told c d number words request block).state.script ≡ d.script
+  pub script : (simple_request_told c d number words request block).state.script ≡ d.script
 
 pub record LookingChangesNothing (c : DebugSetting) (d : DebugState) (number : ℕ) (words : List ℕ)
     (block : List (List ℕ)) : Type 0 where
-  pub words_shown : (address count : ℕ) → LooksOnly c d number words block (Words address count)
-  pub place_shown : LooksOnly c d number words block Where
-  pub banks_shown : LooksOnly c d number words block Banks
-  pub stack_shown : (count : ℕ) → LooksOnly c d number words block (Stack count)
-  pub help_shown : LooksOnly c d number words block Help
+  pub shown : (view : ViewRequest) → LooksOnly c d number words block (View view)
   pub expected : (e : ExpectRequest) → LooksOnly c d number words block (Expect e)
 
 abbrev pub LookingLeavesTheMachine : Type 0

@@ -2,7 +2,7 @@
 -- line of a script is answered as in a script, but that each line may take the whole budget.
 use Rattle.std.specs.Prelude.{ℕ, zero, suc, ◌+◌, ◌-◌, ◌&&◌, ◌||◌, Bool, true, false, not, List, [], ◌∷◌, ◌++◌, length, codes, Option, Some, None, is_some, if◌then◌else◌}
 use Rattle.std.specs.Str.Lines.{lines}
-use Rattle.image_loader.specs.Entries.{Entry, bytes_of_image}
+use Rattle.image_loader.specs.Entries.{Entry, bytes_of_image, without_entry}
 use Rattle.command_shell.specs.Answers.{at_text, unknown_text}
 use Rattle.command_shell.specs.Memory.{script_at, script_started_anew, script_with_budget, script_with_status}
 use Rattle.command_shell.specs.Script.{request_told}
@@ -10,8 +10,10 @@ use Rattle.command_shell.specs.State.{Answered, ScriptState}
 use Rattle.command_shell_lines.specs.Blocks.{block_lines, lines_after, lines_taken}
 use Rattle.command_shell_lines.specs.Requests.{Request, Nothing, Hex, Asm, Run, Call, Load, Step, opens_block}
 use Rattle.debug_checks.specs.Checks.{Seen, check_told, status_after_pattern}
-use Rattle.debug_checks.specs.Endings.{output_of}
-use Rattle.debug_lines.specs.DebugRequests.{DebugRequest, Script, Remark, Words, Where, Banks, Stack, SetPc, SetPsr, Reset, Help, Quit, Expect, NotKnown, debug_opens_block, debug_request, is_script_request}
+use Rattle.debug_checks.specs.Endings.{ending_of, output_of}
+use Rattle.debug_lines.specs.DebugRequests.{DebugRequest, Script, Remark, SetPc, SetPsr, Forget, Reset, Quit, Expect, Repeat, NotKnown, debug_opens_block, debug_request, is_script_request, repeated_line, simple_request}
+use Rattle.debug_lines.specs.DebugRequests.{ViewRequest, View, Words, Where, Banks, Stack, Help}
+use Rattle.swi_dispatch_guest.specs.MachineState.{MachineState}
 use Rattle.command_shell_lines.specs.Requests.{request_of}
 use Rattle.debug_lines.specs.Expectations.{ExpectRequest}
 use Rattle.debug_lines.specs.Tidy.{tidied_line}
@@ -48,11 +50,12 @@ abbrev pub asks_nothing : Request → Bool
 asks_nothing Nothing = true
 asks_nothing request = false
 
--- what is kept of an answer
+-- What is kept of an answer: of one to a line that takes steps, apart, what the guest printed and how
+-- the steps ended.
 abbrev pub state_with_answer : DebugSetting → DebugState → Request → Answered → DebugState
 state_with_answer c d request told = record d {
   script = told.state;
-  answer = told.text;
+  answer = if takes_steps request then ending_of told.text else told.text;
   output = if takes_steps request then output_of told.text else d.output;
   steps = if takes_steps request then c.budget - told.state.left else d.steps;
 }
@@ -81,6 +84,14 @@ script_line_told c d number request block =
 
 -- LINES OF ITS OWN
 
+-- what a line shows that only looks
+abbrev pub view_text : MachineState → ViewRequest → List ℕ
+view_text s (Words address count) = memory_words_text s.store.bytes address count
+view_text s Where = at_text s.cpu.pc
+view_text s Banks = banks_text s.cpu
+view_text s (Stack count) = stack_words_text s.cpu s.store.bytes count
+view_text s Help = HELP.now
+
 -- a view: its text is the answer
 abbrev pub view_told : DebugSetting → DebugState → List ℕ → DebugAnswered
 view_told c d text = debug_answer (record d { answer = text }) (answer_in c.form text)
@@ -92,6 +103,16 @@ machine_change_told d script = debug_answer (record d { script = script; answer 
 abbrev pub reset_told : DebugSetting → DebugState → DebugAnswered
 reset_told c d = view_told c (record d { script = script_started_anew d.script c.config c.budget })
     (codes "reset\n")
+
+abbrev pub forget_text : Bool → List ℕ → List ℕ
+forget_text true name = codes "forget " ++ name ++ codes "\n"
+forget_text false name = codes "refused NoImage\n"
+
+-- FORGET: the image of that name goes, if there is one.
+abbrev pub forget_told : DebugSetting → DebugState → List ℕ → DebugAnswered
+forget_told c d name = view_told c
+    (record d { script = record d.script { images = without_entry d.script.images name } })
+    (forget_text (is_some (bytes_of_image d.script.images name)) name)
 
 abbrev pub seen_of : DebugState → Seen
 seen_of d = record {
@@ -113,37 +134,53 @@ abbrev pub unknown_told : DebugSetting → DebugState → ℕ → DebugAnswered
 unknown_told c d number = debug_answer (record d { answer = unknown_text number; tally = with_refusal d.tally })
     (report_of_refusal c.form d.tally number (unknown_text number))
 
--- A line at that number: its words, made tidy, what it asks for, and the lines of its block.
-abbrev pub debug_request_told : DebugSetting → DebugState → ℕ → List ℕ → DebugRequest → List (List ℕ)
+-- A line at that number that is no REPEAT: its words, made tidy, what it asks for, and the lines of
+-- its block.
+abbrev pub simple_request_told : DebugSetting → DebugState → ℕ → List ℕ → DebugRequest → List (List ℕ)
     → DebugAnswered
-debug_request_told c d number words (Script request) block = script_line_told c d number request block
-debug_request_told c d number words Remark block = debug_answer d []
-debug_request_told c d number words (Words address count) block =
-    view_told c d (memory_words_text d.script.machine.store.bytes address count)
-debug_request_told c d number words Where block = view_told c d (at_text d.script.machine.cpu.pc)
-debug_request_told c d number words Banks block = view_told c d (banks_text d.script.machine.cpu)
-debug_request_told c d number words (Stack count) block =
-    view_told c d (stack_words_text d.script.machine.cpu d.script.machine.store.bytes count)
-debug_request_told c d number words (SetPc address) block = machine_change_told d (script_at d.script address)
-debug_request_told c d number words (SetPsr pattern) block = machine_change_told d
+simple_request_told c d number words (Script request) block = script_line_told c d number request block
+simple_request_told c d number words Remark block = debug_answer d []
+simple_request_told c d number words (View shown) block = view_told c d (view_text d.script.machine shown)
+simple_request_told c d number words (SetPc address) block = machine_change_told d (script_at d.script address)
+simple_request_told c d number words (SetPsr pattern) block = machine_change_told d
     (script_with_status d.script (status_after_pattern pattern d.script.machine.cpu.psr))
-debug_request_told c d number words Reset block = reset_told c d
-debug_request_told c d number words Help block = view_told c d HELP.now
-debug_request_told c d number words Quit block = debug_answer (record d { has_quit = true }) []
-debug_request_told c d number words (Expect expected) block =
+simple_request_told c d number words (Forget name) block = forget_told c d name
+simple_request_told c d number words Reset block = reset_told c d
+simple_request_told c d number words Quit block = debug_answer (record d { has_quit = true }) []
+simple_request_told c d number words (Expect expected) block =
     checked_told c d number words (check_told (seen_of d) expected)
-debug_request_told c d number words NotKnown block = unknown_told c d number
-
--- a line as it stands
-abbrev pub debug_line_told : DebugSetting → DebugState → ℕ → List ℕ → List (List ℕ) → DebugAnswered
-debug_line_told c d number line block =
-    debug_request_told c d number (tidied_line line) (debug_request line) block
-
--- THE SCRIPT
+simple_request_told c d number words (Repeat count line) block = unknown_told c d number
+simple_request_told c d number words NotKnown block = unknown_told c d number
 
 -- nothing is answered after QUIT
 abbrev pub unless_quit : DebugState → DebugAnswered → DebugAnswered
 unless_quit d told = if d.has_quit then debug_answer d [] else told
+
+-- a tidy line, so many times
+unfoldable pub repeated_told : ℕ → DebugSetting → ℕ → List ℕ → List (List ℕ) → DebugState → DebugAnswered
+repeated_told zero c number line block d = debug_answer d []
+repeated_told (suc more) c number line block d = unless_quit d
+    (then_debugged (simple_request_told c d number line (simple_request line) block)
+    (λ after. repeated_told more c number line block after))
+
+-- a tidy line, by what is repeated, and how often
+abbrev pub tidy_line_told_by : Option (ℕ × List ℕ) → DebugSetting → DebugState → ℕ → List ℕ → List (List ℕ)
+    → DebugAnswered
+tidy_line_told_by (Some repeated) c d number words block =
+    repeated_told repeated.0 c number repeated.1 block d
+tidy_line_told_by None c d number words block =
+    simple_request_told c d number words (simple_request words) block
+
+abbrev pub tidy_line_told : DebugSetting → DebugState → ℕ → List ℕ → List (List ℕ) → DebugAnswered
+tidy_line_told c d number words block = tidy_line_told_by (repeated_line words) c d number words block
+
+-- A line as it stands: one of a script is that line, and any other is made tidy.
+abbrev pub debug_line_told : DebugSetting → DebugState → ℕ → List ℕ → List (List ℕ) → DebugAnswered
+debug_line_told c d number line block =
+    if is_script_request (request_of line) then script_line_told c d number (request_of line) block
+    else tidy_line_told c d number (tidied_line line) block
+
+-- THE SCRIPT
 
 abbrev pub line_opens : List ℕ → Bool
 line_opens line = debug_opens_block (debug_request line)

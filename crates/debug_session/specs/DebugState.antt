@@ -16,8 +16,8 @@ abbrev pub no_tally : CheckTally
 no_tally = record { passed = 0; failed = 0; refused = 0 }
 
 -- What a debugging script works on: what a script does, the last answer of a line that is no EXPECT,
--- what the guest printed in the last line that takes steps, how many steps that took, the tally, and
--- whether QUIT was among the lines.
+-- without what the guest printed, what it printed in the last line that takes steps, how many steps
+-- that took, the tally, and whether QUIT was among the lines.
 pub record DebugState : Type 0 where
   pub script : ScriptState
   pub answer : List ℕ

@@ -1,12 +1,14 @@
 -- What is told of EXPECT lines and of refusals, as answers or in the Test Anything Protocol, and what
 -- stands after the last line.
-use Rattle.std.specs.Prelude.{ℕ, ◌+◌, ◌==◌, ◌&&◌, Bool, true, false, List, [], ◌∷◌, ◌++◌, codes, Option, Some, None, if◌then◌else◌}
+use Rattle.std.specs.Prelude.{ℕ, ◌+◌, ◌==◌, ◌&&◌, ◌||◌, Bool, true, false, List, [], ◌∷◌, ◌++◌, codes, Option, Some, None, if◌then◌else◌}
 use Rattle.std.specs.Fmt.{decimal}
+use Rattle.std.specs.List.{flat_map}
 use Rattle.command_line.specs.Status.{status_after}
 use Rattle.command_shell.specs.Answers.{unknown_text}
 use Rattle.debug_session.specs.DebugState.{DebugState, one_more}
 use Rattle.debug_session.specs.declared.reports.CheckTally.{CheckTally}
 use Rattle.debug_session.specs.declared.reports.ReportForm.{ReportForm}
+use Rattle.debug_session.specs.declared.reports.TheConstants.{BLOCK_GOES_ON, NO_END}
 use Rattle.debug_session.specs.declared.reports.ReportForm.TheVariants.{Answers, Tap}
 
 -- an answer that is no report: the protocol leaves it out
@@ -27,10 +29,14 @@ with_refusal t = record t { refused = one_more t.refused }
 abbrev pub report_count : CheckTally → ℕ
 report_count t = t.passed + (t.failed + t.refused)
 
+-- `#` (35) and a backslash (92) behind a backslash, so that no line's text is a directive
+abbrev pub tap_byte_text : ℕ → List ℕ
+tap_byte_text byte = if byte == 35 || byte == 92 then 92 ∷ byte ∷ [] else byte ∷ []
+
 -- ` EXPECT R0 2`, the line as it is after its number
 abbrev pub tap_words : List ℕ → List ℕ
 tap_words [] = []
-tap_words (first ∷ rest) = 32 ∷ first ∷ rest
+tap_words (first ∷ rest) = codes " " ++ flat_map tap_byte_text (first ∷ rest)
 
 -- `ok 1 - line 16 EXPECT R0 2`, where so many were told before
 abbrev pub tap_line : List ℕ → ℕ → ℕ → List ℕ → List ℕ
@@ -62,6 +68,10 @@ report_of_refusal Tap t number text =
 -- `, 1 refused`
 abbrev pub refused_words : ℕ → List ℕ
 refused_words n = if n == 0 then [] else codes ", " ++ (decimal n ++ codes " refused")
+
+-- what a user is told of a block that lacks its line END, behind a text
+abbrev pub missing_end_text : List ℕ → ℕ → List ℕ
+missing_end_text front begin = front ++ (NO_END.now ++ (decimal begin ++ BLOCK_GOES_ON.now))
 
 -- `5 passed, 2 failed`
 abbrev pub tally_line : CheckTally → List ℕ

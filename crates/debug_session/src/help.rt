@@ -12,6 +12,7 @@ lines of a debugging script:
   WORDS a n, STACK n, BANKS, WHERE           words, the stack, the banks, the PC
   SET PC a, SET PSR Nz SVC                   letters left out stay
   RESET                                      a fresh machine; images and breaks stay
+  FORGET name, REPEAT n line                 an image goes; a line, n times
   EXPECT R0 v, R13_svc v, PC v, FLAGS Zc     what should be so, or the script fails
   EXPECT WORD a v, BYTE a v, STEPS n, STEPS <= n
   EXPECT ANSWER text, LINE text, ERROR n, OUTPUT \"text\"

@@ -1,87 +1,98 @@
 //! The lines of its own that a debugging script has.
 
-ghost use Rattle.std.specs.Prelude.{◌≡◌, ◌%◌, ◌<◌, ◌^◌, true, List, IfOk, IfErr, OnOk, OnErr};
+ghost use Rattle.std.specs.Prelude.{◌≡◌, ◌%◌, ◌<◌, ◌^◌, is_some, true, List, IfOk, IfErr, OnOk, OnErr};
 ghost use Rattle.std.specs.Option.{option_map};
+ghost use Rattle.image_loader.specs.Entries.{bytes_of_image};
 ghost use Rattle.command_shell.specs.Error.{IsLineError};
 ghost use Rattle.debug_checks.specs.Reasons.{reason_text};
+ghost use Rattle.debug_session.specs.DebugScript.{forget_text};
+ghost use Rattle.profile.specs.Output.{Writes};
 
 use crate::help::HELP;
 use crate::reports::{push_answer, push_fail, push_pass, push_refusal};
 use crate::session::DebugSession;
 use command_shell::{RunError, tell_unknown};
-use command_shell_lines::{Origin, WordAddress};
+use command_shell_lines::Origin;
 use debug_checks::{Mismatch, SeenMachine, check, push_reason, status_with};
-use debug_lines::{Expectation, StatusPattern};
+use debug_lines::{DebugView, Expectation, StatusPattern};
 use debug_views::{show_banks, show_stack, show_where, show_words};
-use profile::{Sink, WriteFault};
+use image_loader::Images;
+use profile::{Sink, WriteFault, push_all};
 use std::alloc::{AllocError, Global};
 use view_items::TextSink;
 
 impl DebugSession {
     ghost use Rattle.image_loader.specs.Entries.{Entry};
-    ghost use Rattle.command_shell.specs.Answers.{at_text};
     ghost use Rattle.command_shell.specs.Memory.{script_at, script_started_anew, script_with_status};
     ghost use Rattle.debug_checks.specs.Checks.{check_told, status_after_pattern};
     ghost use Rattle.debug_lines.specs.Expectations.{expect_request_of};
-    ghost use Rattle.debug_views.specs.Banks.{banks_text};
-    ghost use Rattle.debug_views.specs.Stack.{stack_words_text};
-    ghost use Rattle.debug_views.specs.Words.{memory_words_text};
-    ghost use Rattle.debug_session.specs.DebugScript.{checked_told, machine_change_told, reset_told, seen_of, unknown_told, view_told};
+    ghost use Rattle.debug_lines.specs.DebugRequests.{view_request_of};
+    ghost use Rattle.debug_session.specs.DebugScript.{checked_told, forget_told, machine_change_told, reset_told, seen_of, unknown_told, view_text, view_told};
     ghost use Rattle.debug_session.specs.DebugState.{IsDebugged};
     ghost use Rattle.debug_session.specs.Session.{debug_state};
-    ghost use Rattle.debug_session.specs.declared.help.TheConstants.{HELP};
     ghost use Rattle.swi_dispatch_guest.specs.Parts.{state_of};
 
-    // Words of memory.
-    pub(crate) fn words_shown(
-        &self,
-        address: WordAddress,
-        count: u32,
-    ) -> Result<Vec<u8>, AllocError>
+    /// Writes what a line shows that only looks.
+    fn show_view<W: Sink>(&self, sink: &mut W, view: DebugView) -> Result<(), WriteFault>
+        ensures { Writes W.contents W.has_failed sink.old sink.new result
+            (view_text (state_of self.now.session.machine.guest) (view_request_of view)) }
+    {
+        let machine = self.session.machine();
+        match view {
+            DebugView::Words(address, count) => {
+                show_words(machine, address.address(), count, sink)
+            }
+            DebugView::Where => show_where(machine, sink),
+            DebugView::Banks => show_banks(machine, sink),
+            DebugView::Stack(count) => show_stack(machine, count, sink),
+            DebugView::Help => push_all(sink, HELP),
+        }
+    }
+
+    // What such a line shows.
+    fn view_text(&self, view: DebugView) -> Result<Vec<u8>, AllocError>
         ensures { IfOk result (λ text. text.items
-            ≡ memory_words_text (state_of self.now.session.machine.guest).store.bytes address count) }
+            ≡ view_text (state_of self.now.session.machine.guest) (view_request_of view)) }
     {
         let mut text = TextSink::new(self.alloc);
-        match show_words(self.session.machine(), address.address(), count, &mut text) {
+        match self.show_view(&mut text, view) {
             Ok(()) => Ok(text.into_bytes()),
             Err(_) => Err(AllocError),
         }
     }
 
-    // Where the machine stands.
-    pub(crate) fn place_shown(&self) -> Result<Vec<u8>, AllocError>
-        ensures { IfOk result (λ text. text.items
-            ≡ at_text (state_of self.now.session.machine.guest).cpu.pc) }
+    /// Answers a line that only looks.
+    pub(crate) fn look<W: Sink>(&mut self, sink: &mut W, view: DebugView) -> Result<(), RunError>
+        ensures told { (images : List Entry) → OnOk result
+            (IsDebugged (W.contents sink.old) (W.contents sink.new) (debug_state self.new images)
+            (view_told self.old.setting (debug_state self.old images)
+            (view_text (debug_state self.old images).script.machine (view_request_of view)))) }
+        ensures setting { self.new.setting ≡ self.old.setting }
+        ensures errors { IfErr result IsLineError }
+        ensures same_flag { OnOk result (W.has_failed sink.new ≡ W.has_failed sink.old) }
     {
-        let mut text = TextSink::new(self.alloc);
-        match show_where(self.session.machine(), &mut text) {
-            Ok(()) => Ok(text.into_bytes()),
-            Err(_) => Err(AllocError),
-        }
+        let text = self.view_text(view)?;
+        Ok(self.view(sink, text)?)
     }
 
-    // The registers that each mode has of its own.
-    pub(crate) fn banks_shown(&self) -> Result<Vec<u8>, AllocError>
-        ensures { IfOk result (λ text. text.items
-            ≡ banks_text (state_of self.now.session.machine.guest).cpu) }
+    /// Takes the image of that name out.
+    pub(crate) fn forget<W: Sink>(
+        &mut self,
+        images: &mut Images,
+        sink: &mut W,
+        name: &[u8],
+    ) -> Result<(), RunError>
+        ensures told { OnOk result (IsDebugged (W.contents sink.old) (W.contents sink.new)
+            (debug_state self.new images.new)
+            (forget_told self.old.setting (debug_state self.old images.old) name.now)) }
+        ensures setting { self.new.setting ≡ self.old.setting }
+        ensures errors { IfErr result IsLineError }
+        ensures same_flag { OnOk result (W.has_failed sink.new ≡ W.has_failed sink.old) }
     {
-        let mut text = TextSink::new(self.alloc);
-        match show_banks(self.session.machine(), &mut text) {
-            Ok(()) => Ok(text.into_bytes()),
-            Err(_) => Err(AllocError),
-        }
-    }
-
-    // The words at the stack pointer.
-    pub(crate) fn stack_shown(&self, count: u32) -> Result<Vec<u8>, AllocError>
-        ensures { let s = state_of self.now.session.machine.guest in
-            IfOk result (λ text. text.items ≡ stack_words_text s.cpu s.store.bytes count) }
-    {
-        let mut text = TextSink::new(self.alloc);
-        match show_stack(self.session.machine(), count, &mut text) {
-            Ok(()) => Ok(text.into_bytes()),
-            Err(_) => Err(AllocError),
-        }
+        let is_there = has_image(images, name);
+        let text = forget_text(self.alloc, is_there, name)?;
+        let _was_there = images.remove(name);
+        Ok(self.view(sink, text)?)
     }
 
     // Begins anew on a fresh machine; images and breaks stay.
@@ -108,19 +119,6 @@ impl DebugSession {
     {
         let text = Vec::from_slice(self.alloc, b"reset\n")?;
         self.start_anew()?;
-        Ok(self.view(sink, text)?)
-    }
-
-    /// Tells what lines there are.
-    pub(crate) fn help<W: Sink>(&mut self, sink: &mut W) -> Result<(), RunError>
-        ensures told { (images : List Entry) → OnOk result
-            (IsDebugged (W.contents sink.old) (W.contents sink.new) (debug_state self.new images)
-            (view_told self.old.setting (debug_state self.old images) HELP.now)) }
-        ensures setting { self.new.setting ≡ self.old.setting }
-        ensures errors { IfErr result IsLineError }
-        ensures same_flag { OnOk result (W.has_failed sink.new ≡ W.has_failed sink.old) }
-    {
-        let text = Vec::from_slice(self.alloc, HELP)?;
         Ok(self.view(sink, text)?)
     }
 
@@ -235,6 +233,24 @@ impl DebugSession {
         self.tally = self.tally.with_refusal();
         Ok(())
     }
+}
+
+fn has_image(images: &Images, name: &[u8]) -> bool
+    ensures { result ≡ is_some (bytes_of_image images.now name.now) }
+{
+    images.get(name).is_some()
+}
+
+fn forget_text(alloc: Global, is_there: bool, name: &[u8]) -> Result<Vec<u8>, AllocError>
+    ensures { IfOk result (λ text. text.items ≡ forget_text is_there name.now) }
+{
+    if !is_there {
+        return Vec::from_slice(alloc, b"refused NoImage\n");
+    }
+    let mut text = Vec::from_slice(alloc, b"forget ")?;
+    text.extend_from_slice(name)?;
+    text.push(b'\n')?;
+    Ok(text)
 }
 
 fn text_of(alloc: Global, reason: &Mismatch) -> Result<Vec<u8>, AllocError>

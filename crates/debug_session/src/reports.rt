@@ -2,12 +2,18 @@
 
 ghost use Rattle.std.specs.Prelude.{◌≡◌, ◌++◌, codes};
 ghost use Rattle.std.specs.Fmt.{decimal};
+ghost use Rattle.std.specs.List.{flat_map};
 ghost use Rattle.profile.specs.Output.{Writes};
-ghost use Rattle.debug_session.specs.Reports.{answer_in, fail_text, pass_text, report_of_refusal, refused_words, report_count, summary_text};
-ghost use Rattle.debug_session.specs.Reports.{tally_line, tap_line, tap_words};
+ghost use Rattle.debug_session.specs.Reports.{answer_in, fail_text, missing_end_text, pass_text, report_of_refusal, refused_words, report_count, summary_text};
+ghost use Rattle.debug_session.specs.Reports.{tally_line, tap_byte_text, tap_line, tap_words};
 
 use itoa::Buffer;
 use profile::{Sink, WriteFault, push_all, push_parts};
+
+/// What is told of a block that lacks its line END stands before the line's number and behind it.
+pub const NO_END: &[u8] = b"no END: the block that begins at line ";
+/// See [`NO_END`].
+pub const BLOCK_GOES_ON: &[u8] = b" goes on up to a line END, or to the script's end\n";
 
 /// The form in which lines are answered.
 #[derive(Clone, Copy, Debug, PartialEq, Eq)]
@@ -174,6 +180,22 @@ pub fn push_summary<W: Sink>(
     }
 }
 
+/// Writes behind a text that the block lacks its line END that begins at that line.
+pub fn push_missing_end<W: Sink>(sink: &mut W, front: &[u8], begin: usize) -> Result<(), WriteFault>
+    ensures { Writes W.contents W.has_failed sink.old sink.new result (missing_end_text front.now begin) }
+{
+    let mut digits = Buffer::new();
+    push_parts(
+        sink,
+        &[
+            front,
+            NO_END,
+            digits.format(begin).as_bytes(),
+            BLOCK_GOES_ON,
+        ],
+    )
+}
+
 // `fail line 9: R0 is 00000004`
 fn push_failed<W: Sink>(sink: &mut W, number: usize, reason: &[u8]) -> Result<(), WriteFault>
     ensures { Writes W.contents W.has_failed sink.old sink.new result
@@ -224,7 +246,27 @@ fn push_tap_words<W: Sink>(sink: &mut W, words: &[u8]) -> Result<(), WriteFault>
     if words.is_empty() {
         return Ok(());
     }
-    push_parts(sink, &[b" ".as_slice(), words])
+    push_all(sink, b" ")?;
+    push_escaped(sink, words)
+}
+
+// A text in which nothing is a directive.
+fn push_escaped<W: Sink>(sink: &mut W, text: &[u8]) -> Result<(), WriteFault>
+    ensures { Writes W.contents W.has_failed sink.old sink.new result (flat_map tap_byte_text text.now) }
+{
+    for byte in text {
+        push_byte(sink, *byte)?;
+    }
+    Ok(())
+}
+
+fn push_byte<W: Sink>(sink: &mut W, byte: u8) -> Result<(), WriteFault>
+    ensures { Writes W.contents W.has_failed sink.old sink.new result (tap_byte_text byte) }
+{
+    match byte {
+        b'#' | b'\\' => push_all(sink, &[b'\\', byte]),
+        _ => push_all(sink, &[byte]),
+    }
 }
 
 // `5 passed, 2 failed, 1 refused`

@@ -5,7 +5,7 @@ ghost use Rattle.std.specs.Prelude.{◌≡◌, ◌+◌, ◌-◌, ◌&&◌, ◌||
 ghost use Rattle.command_shell.specs.Error.{IsLineError};
 ghost use Rattle.command_shell.specs.Script.{request_told};
 ghost use Rattle.command_shell_lines.specs.Blocks.{block_lines, lines_after, lines_taken};
-ghost use Rattle.debug_checks.specs.Endings.{output_of};
+ghost use Rattle.debug_checks.specs.Endings.{ending_of, output_of};
 ghost use Rattle.command_shell_lines.specs.Requests.{opens_block, request_of};
 ghost use Rattle.debug_session.specs.DebugScript.{is_named_image, asks_nothing, takes_steps};
 
@@ -14,7 +14,7 @@ use crate::session::DebugSession;
 use command_shell::RunError;
 use command_shell_lines::text_lines::Lines;
 use command_shell_lines::{ScriptCommand, command_of};
-use debug_checks::output_of;
+use debug_checks::{ending_of, output_of};
 use image_loader::Images;
 use profile::{Sink, WriteFault};
 use std::alloc::AllocError;
@@ -55,9 +55,10 @@ impl DebugSession {
         if asks_nothing(line) {
             return Ok(());
         }
-        self.note(takes_steps(line), answer)?;
+        let text = answer.as_slice();
+        self.note(takes_steps(line), text)?;
         let is_refused = is_refused_block(was_there, images, line);
-        Ok(self.tell(sink, number, is_refused)?)
+        Ok(self.tell(sink, number, is_refused, text)?)
     }
 
     // What a line of a script is answered, with the whole budget for its steps.
@@ -87,12 +88,13 @@ impl DebugSession {
         }
     }
 
-    // Keeps an answer for the lines that expect something; and of one to a line that takes steps, what
-    // the guest printed, and how many steps those were.
-    fn note(&mut self, takes_steps: bool, answer: Vec<u8>) -> Result<(), AllocError>
-        ensures answer { OnOk result (self.new.answer.items ≡ answer.items) }
+    // Keeps an answer for the lines that expect something; of one to a line that takes steps, how they
+    // ended, what the guest printed, and how many steps those were.
+    fn note(&mut self, takes_steps: bool, answer: &[u8]) -> Result<(), AllocError>
+        ensures answer { OnOk result (self.new.answer.items
+            ≡ (if takes_steps then ending_of answer.now else answer.now)) }
         ensures output { OnOk result (self.new.output.items
-            ≡ (if takes_steps then output_of answer.items else self.old.output.items)) }
+            ≡ (if takes_steps then output_of answer.now else self.old.output.items)) }
         ensures steps { OnOk result (self.new.steps
             ≡ (if takes_steps then self.old.setting.budget - self.old.session.left else self.old.steps)) }
         ensures rest { OnOk result (self.new ≡ record self.old {
@@ -102,11 +104,14 @@ impl DebugSession {
         }) }
         ensures setting { self.new.setting ≡ self.old.setting }
     {
-        if takes_steps {
-            self.output = Vec::from_slice(self.alloc, output_of(answer.as_slice()))?;
-            self.steps = self.steps_taken();
+        if !takes_steps {
+            self.answer = Vec::from_slice(self.alloc, answer)?;
+            return Ok(());
         }
-        self.answer = answer;
+        let output = Vec::from_slice(self.alloc, output_of(answer))?;
+        self.answer = Vec::from_slice(self.alloc, ending_of(answer))?;
+        self.output = output;
+        self.steps = self.steps_taken();
         Ok(())
     }
 
@@ -117,26 +122,27 @@ impl DebugSession {
         self.setting.budget.saturating_sub(self.session.left())
     }
 
-    // Writes the last answer, or that of a block that is refused.
+    // Writes an answer, or that of a block that is refused.
     fn tell<W: Sink>(
         &mut self,
         sink: &mut W,
         number: usize,
         is_refused: bool,
+        text: &[u8],
     ) -> Result<(), WriteFault>
         ensures told { (images : List Entry) → OnOk result (IsDebugged (W.contents sink.old)
             (W.contents sink.new) (debug_state self.new images)
             (told_or_refused self.old.setting (debug_state self.old images) number is_refused
-            (debug_state self.old images) self.old.answer.items)) }
+            (debug_state self.old images) text.now)) }
         ensures setting { self.new.setting ≡ self.old.setting }
         ensures flag { OnErr result (W.has_failed sink.new ≡ true) }
         ensures same_flag { OnOk result (W.has_failed sink.new ≡ W.has_failed sink.old) }
     {
         let form = self.setting.form;
         if !is_refused {
-            return push_answer(sink, form, self.answer.as_slice());
+            return push_answer(sink, form, text);
         }
-        push_refusal(sink, form, self.tally, number, self.answer.as_slice())?;
+        push_refusal(sink, form, self.tally, number, text)?;
         self.tally = self.tally.with_refusal();
         Ok(())
     }

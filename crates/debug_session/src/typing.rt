@@ -3,12 +3,13 @@
 
 ghost use Rattle.std.specs.Prelude.{◌≡◌, ◌++◌, ◌+◌, ◌<◌, ◌^◌, List, [], IfOk, IfErr, OnOk, OnErr, length};
 ghost use Rattle.std.specs.Str.Lines.{lines};
+ghost use Rattle.debug_lines.specs.BlockEnds.{shown_beyond};
 ghost use Rattle.debug_session.specs.DebugState.{IsDebugTypingError};
 
 use crate::session::{DebugSession, DebugSetting};
 use command_shell::RunError;
 use command_shell_lines::text_lines::{Lines, cut_line};
-use debug_lines::whole_debug_request_bytes;
+use debug_lines::{missing_ends, whole_debug_request_bytes};
 use image_loader::Images;
 use profile::Sink;
 use std::alloc::{AllocError, Global};
@@ -33,7 +34,7 @@ impl DebugTyping {
     ghost use Rattle.debug_session.specs.DebugScript.{debug_lines_told};
     ghost use Rattle.debug_session.specs.DebugState.{IsDebugged, debug_start_state};
     ghost use Rattle.debug_session.specs.Session.{debug_state};
-    ghost use Rattle.debug_session.specs.Typing.{IsTaken};
+    ghost use Rattle.debug_session.specs.Typing.{IsTaken, missing_ends_at_end, missing_ends_typed};
 
     /// A session on a fresh machine, before anything is typed.
     ///
@@ -65,6 +66,35 @@ impl DebugTyping {
     /// Whether a block is open before the next line.
     pub fn is_in_block(&self) -> bool {
         cut_line(self.pending.as_slice()).is_some()
+    }
+
+    /// The lines at which blocks begin that turn out to lack their END in a piece that is taken next.
+    ///
+    /// # Errors
+    ///
+    /// Memory ran out.
+    pub fn missing_ends(&self, piece: &[u8]) -> Result<Vec<usize>, AllocError>
+        ensures { IfOk result (λ begins. begins.items ≡ missing_ends_typed self.now piece.now) }
+    {
+        let waiting = self.pending.as_slice();
+        let text = joined(self.alloc, waiting, piece)?;
+        let before = missing_ends(self.alloc, waiting, self.number, false)?;
+        let all = missing_ends(self.alloc, text.as_slice(), self.number, false)?;
+        shown_beyond(self.alloc, before.as_slice(), all.as_slice())
+    }
+
+    /// The line at which a block begins that turns out to lack its END where nothing more is typed.
+    ///
+    /// # Errors
+    ///
+    /// Memory ran out.
+    pub fn missing_ends_at_end(&self) -> Result<Vec<usize>, AllocError>
+        ensures { IfOk result (λ begins. begins.items ≡ missing_ends_at_end self.now) }
+    {
+        let waiting = self.pending.as_slice();
+        let before = missing_ends(self.alloc, waiting, self.number, false)?;
+        let all = missing_ends(self.alloc, waiting, self.number, true)?;
+        shown_beyond(self.alloc, before.as_slice(), all.as_slice())
     }
 
     /// Takes a piece of what is typed, and answers each request that is whole then, one after
@@ -139,4 +169,12 @@ fn joined(alloc: Global, front: &[u8], rest: &[u8]) -> Result<Vec<u8>, AllocErro
     let mut all = Vec::from_slice(alloc, front)?;
     all.extend_from_slice(rest)?;
     Ok(all)
+}
+
+// What a longer reading shows beyond a shorter one.
+fn shown_beyond(alloc: Global, before: &[usize], all: &[usize]) -> Result<Vec<usize>, AllocError>
+    ensures { IfOk result (λ beyond. beyond.items ≡ shown_beyond before.now all.now) }
+{
+    let known = before.len().min(all.len());
+    Vec::from_slice(alloc, &all[known..])
 }

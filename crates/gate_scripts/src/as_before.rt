@@ -11,7 +11,7 @@
 
 use debug_lines::command_shell_lines::text_lines::Lines;
 use debug_lines::command_shell_lines::{ScriptCommand, command_of};
-use debug_lines::{DebugCommand, is_script_line, own_command, tidied};
+use debug_lines::{is_own_line, is_script_line, tidied};
 use std::alloc::{AllocError, Global};
 
 const NOT_KNOWN: &[u8] = b"? line ";
@@ -65,7 +65,7 @@ fn has_own_line(alloc: Global, script: &[u8]) -> Result<bool, AllocError> {
     while let Some(line) = lines.next_line() {
         if !is_script_line(line) {
             let words = tidied(alloc, line)?;
-            if !matches!(own_command(words.as_slice()), DebugCommand::Unknown) {
+            if is_own_line(words.as_slice()) {
                 return Ok(true);
             }
         }

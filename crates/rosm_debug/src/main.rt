@@ -12,6 +12,7 @@ mod words;
 
 use crate::process::{debug_on_standard_streams, exit_code};
 use crate::words::read_words;
+use profile::Device;
 use std::io::IsTerminal;
 use std::process::ExitCode;
 
@@ -19,7 +20,9 @@ fn main(rt: HostRuntime) -> ExitCode {
     match read_words(&rt) {
         Ok(wanted) => {
             let is_terminal = rt.stdin().is_terminal();
-            exit_code(&rt, debug_on_standard_streams(&rt, &wanted, is_terminal))
+            let mut errors = Device::new(rt.stderr());
+            let ending = debug_on_standard_streams(&rt, &wanted, &mut errors, is_terminal);
+            exit_code(&rt, ending)
         }
         Err(refusal) => exit_code(&rt, Err(refusal)),
     }

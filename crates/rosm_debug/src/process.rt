@@ -9,7 +9,7 @@ use crate::talk::talk;
 use crate::words::WantedSession;
 use debug_session::{DebugSetting, DebugTyping};
 use image_loader::Images;
-use profile::{Device, Source};
+use profile::{Device, Sink, Source};
 use rosm_settings::SettingsRefusal;
 use rosm_settings::image_files::{FileError, add_files};
 use std::fs::File;
@@ -24,23 +24,32 @@ use std::{fs, io};
 ///
 /// The first file that gives no image, or the script's file that can't be read, before any line is
 /// answered; else as [`talk`].
-pub fn debug_on_standard_streams<'a, R>(
+pub fn debug_on_standard_streams<'a, R, E>(
     rt: &R,
     wanted: &'a WantedSession,
+    errors: &mut E,
     is_terminal: bool,
 ) -> Result<u8, DebugRefusal<'a>>
 where
     R: AllocGlobal + fs::Files + Input + Print,
+    E: Sink,
 {
     let mut images = Images::new();
     take_files(rt, wanted, &mut images)?;
     match &wanted.script {
         None => {
             let mut input = Device::new(rt.reader());
-            answer(rt, wanted, &mut images, &mut input, is_terminal)
+            answer(rt, wanted, &mut images, &mut input, errors, is_terminal)
         }
         Some(path) => match File::open(rt, path.as_str()) {
-            Ok(file) => answer(rt, wanted, &mut images, &mut Device::new(file), false),
+            Ok(file) => answer(
+                rt,
+                wanted,
+                &mut images,
+                &mut Device::new(file),
+                errors,
+                false,
+            ),
             Err(error) => Err(DebugRefusal::File(path.as_str(), FileError::from(error))),
         },
     }
@@ -61,16 +70,18 @@ where
     }
 }
 
-fn answer<'a, R, S>(
+fn answer<'a, R, S, E>(
     rt: &R,
     wanted: &'a WantedSession,
     images: &mut Images,
     reader: &mut S,
+    errors: &mut E,
     is_terminal: bool,
 ) -> Result<u8, DebugRefusal<'a>>
 where
     R: AllocGlobal + Print,
     S: Source,
+    E: Sink,
 {
     let alloc = rt.alloc();
     let setting = DebugSetting {
@@ -83,7 +94,7 @@ where
         return Err(DebugRefusal::Memory);
     };
     let mut writer = Device::new(buffered);
-    Ok(talk(typing, images, reader, &mut writer, is_terminal)?)
+    Ok(talk(typing, images, reader, &mut writer, errors, is_terminal)?)
 }
 
 /// The exit status, with one line on standard error where the program is refused.

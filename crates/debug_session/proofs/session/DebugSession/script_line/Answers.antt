@@ -36,12 +36,15 @@ returns-clause-told g c =
     let answered = c.in_ok-answer.ensures in
     let kept = c.in_ok-note.ensures in
     line_told (g.W.Sink.contents c.args.sink.now) (g.W.Sink.contents c.tell.new.sink) old.setting d at_tell
-    (debug_state c.tell.new.self after) c.args.script.now.number r told c.is_refused_block-is_refused.result c.asks_nothing.result
-    (session_noted old mid c.note.new.self c.args.images.now after c.in_ok-answer.answer.items c.takes_steps.result r told
-    answered.rest kept.rest kept.answer kept.output kept.steps c.takes_steps.ensures answered.told.state answered.told.text)
+    (debug_state c.tell.new.self after) c.args.script.now.number r told c.as_slice-text.result.now
+    c.is_refused_block-is_refused.result c.asks_nothing.result
+    (session_noted old mid c.note.new.self c.args.images.now after c.as_slice-text.result.now c.takes_steps.result r told
+    answered.rest kept.rest kept.answer kept.output kept.steps c.takes_steps.ensures answered.told.state
+    (c.as_slice-text.ensures.value ∙ answered.told.text))
+    (c.as_slice-text.ensures.value ∙ answered.told.text)
     c.asks_nothing.ensures c.if-asks_nothing.false
     (refused_as_told c.is_refused_block-is_refused.result c.is_named_image-was_there.result c.args.images.now after told.state.images r
     c.is_refused_block-is_refused.ensures c.is_named_image-was_there.ensures (ap (λ (s : ScriptState). s.images) answered.told.state))
     (told_with _ _ _ at_tell c.note.new.self.setting old.setting c.number-number.result c.args.script.now.number
-    c.is_refused_block-is_refused.result (kept.setting ∙ ap (λ (s : DebugSession). s.setting) answered.rest) c.number-number.ensures
+    c.is_refused_block-is_refused.result c.as_slice-text.result.now (kept.setting ∙ ap (λ (s : DebugSession). s.setting) answered.rest) c.number-number.ensures
     (c.in_ok-tell.ensures.told after))

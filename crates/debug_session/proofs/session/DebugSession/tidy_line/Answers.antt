@@ -1,109 +1,43 @@
--- Each request is told as its own call tells it.
-use Rattle.std.proofs.Common.{◌≡◌, ◌+◌, refl, subst}
+use Rattle.std.proofs.Common.{◌≡◌, ℕ, ◌+◌, List, Option, subst}
 use Rattle.std.specs.Prelude.{OnOk}
-use Rattle.command_shell.specs.Memory.{script_at, script_with_status}
 use Rattle.command_shell_lines.specs.Blocks.{block_lines, lines_after, lines_taken}
-use Rattle.command_shell_lines.specs.Requests.{request_of}
-use Rattle.debug_checks.specs.Checks.{status_after_pattern}
-use Rattle.debug_lines.specs.DebugRequests.{DebugRequest, Script, debug_opens_block, own_request}
-use Rattle.debug_lines.proofs.OwnRequestLemmas.{script_itself}
+use Rattle.debug_lines.specs.DebugRequests.{debug_opens_block, own_request_by}
+use Rattle.debug_session.specs.DebugScript.{tidy_line_told_by}
+use Rattle.debug_session.specs.DebugState.{IsDebugged}
 use Rattle.debug_session.specs.Session.{debug_state}
-use Rattle.debug_session.proofs.OwnLemmas.{asked, asked_if, changed_quietly, checked_by, view_of_text}
 use Rattle.debug_session.proofs.session.DebugSession.tidy_line.Goals as goal
 
-pub returns-in-Script-clause-told : goal.returns-in-Script-clause-told
-returns-in-Script-clause-told g c =
-    asked_if c.script_line.result (g.W.Sink.contents c.args.sink.now) (g.W.Sink.contents c.script_line.new.sink)
-    (debug_state c.script_line.new.self c.script_line.new.images) (debug_state c.args.self.now c.args.images.now)
-    c.args.self.now.setting c.args.script.now.number c.args.words.now (block_lines c.args.script.now.left)
-    (Script (request_of c.args.words.now)) (own_request c.args.words.now)
-    (script_itself c.args.words.now _ c.in-Script.ensures) c.script_line.ensures.told
+pub returns-in-Some-clause-told : goal.returns-in-Some-clause-told
+returns-in-Some-clause-told g c =
+    subst (λ (o : Option (ℕ × List ℕ)). OnOk c.repeat.result (IsDebugged (g.W.Sink.contents c.args.sink.now)
+    (g.W.Sink.contents c.repeat.new.sink) (debug_state c.repeat.new.self c.repeat.new.images)
+    (tidy_line_told_by o c.args.self.now.setting (debug_state c.args.self.now c.args.images.now)
+    c.args.script.now.number c.args.words.now (block_lines c.args.script.now.left))))
+    c.in-Some.ensures.told c.repeat.ensures.told
 
-pub returns-in-Script-clause-left : goal.returns-in-Script-clause-left
-returns-in-Script-clause-left g c =
-    subst (λ (q : DebugRequest). OnOk c.script_line.result
-    (c.script_line.new.script.left ≡ lines_after (debug_opens_block q) c.args.script.now.left))
-    (script_itself c.args.words.now _ c.in-Script.ensures) c.script_line.ensures.left
+pub returns-in-Some-clause-left : goal.returns-in-Some-clause-left
+returns-in-Some-clause-left g c =
+    subst (λ (o : Option (ℕ × List ℕ)). OnOk c.repeat.result (c.repeat.new.script.left
+    ≡ lines_after (debug_opens_block (own_request_by o c.args.words.now)) c.args.script.now.left))
+    c.in-Some.ensures.told c.repeat.ensures.left
 
-pub returns-in-Script-clause-number : goal.returns-in-Script-clause-number
-returns-in-Script-clause-number g c =
-    subst (λ (q : DebugRequest). OnOk c.script_line.result
-    (c.script_line.new.script.number ≡ c.args.script.now.number + lines_taken (debug_opens_block q) c.args.script.now.left))
-    (script_itself c.args.words.now _ c.in-Script.ensures) c.script_line.ensures.number
+pub returns-in-None-clause-told : goal.returns-in-None-clause-told
+returns-in-None-clause-told g c =
+    subst (λ (o : Option (ℕ × List ℕ)). OnOk c.simple_line.result (IsDebugged (g.W.Sink.contents c.args.sink.now)
+    (g.W.Sink.contents c.simple_line.new.sink) (debug_state c.simple_line.new.self c.simple_line.new.images)
+    (tidy_line_told_by o c.args.self.now.setting (debug_state c.args.self.now c.args.images.now)
+    c.args.script.now.number c.args.words.now (block_lines c.args.script.now.left))))
+    c.in-None.ensures.told c.simple_line.ensures.told
 
-pub returns-in_ok-view-in-Words-clause-told : goal.returns-in_ok-view-in-Words-clause-told
-returns-in_ok-view-in-Words-clause-told g c =
-    asked (g.W.Sink.contents c.args.sink.now) (g.W.Sink.contents c.view.new.sink)
-    (debug_state c.view.new.self c.args.images.now) (debug_state c.args.self.now c.args.images.now)
-    c.args.self.now.setting c.args.script.now.number c.args.words.now (block_lines c.args.script.now.left) _
-    (own_request c.args.words.now) c.in-Words.ensures
-    (view_of_text _ _ _ (debug_state c.args.self.now c.args.images.now) c.args.self.now.setting c.in_ok-text-in-Words.text.items _ c.in_ok-text-in-Words.ensures (c.in_ok-view-in-Words.ensures.told c.args.images.now))
+pub returns-in-None-clause-left : goal.returns-in-None-clause-left
+returns-in-None-clause-left g c =
+    subst (λ (o : Option (ℕ × List ℕ)). OnOk c.simple_line.result (c.simple_line.new.script.left
+    ≡ lines_after (debug_opens_block (own_request_by o c.args.words.now)) c.args.script.now.left))
+    c.in-None.ensures.told c.simple_line.ensures.left
 
-pub returns-in_ok-view-in-Where-clause-told : goal.returns-in_ok-view-in-Where-clause-told
-returns-in_ok-view-in-Where-clause-told g c =
-    asked (g.W.Sink.contents c.args.sink.now) (g.W.Sink.contents c.view-in-Where.new.sink)
-    (debug_state c.view-in-Where.new.self c.args.images.now) (debug_state c.args.self.now c.args.images.now)
-    c.args.self.now.setting c.args.script.now.number c.args.words.now (block_lines c.args.script.now.left) _
-    (own_request c.args.words.now) c.in-Where.ensures
-    (view_of_text _ _ _ (debug_state c.args.self.now c.args.images.now) c.args.self.now.setting c.in_ok-text-in-Where.text.items _ c.in_ok-text-in-Where.ensures (c.in_ok-view-in-Where.ensures.told c.args.images.now))
-
-pub returns-in_ok-view-in-Banks-clause-told : goal.returns-in_ok-view-in-Banks-clause-told
-returns-in_ok-view-in-Banks-clause-told g c =
-    asked (g.W.Sink.contents c.args.sink.now) (g.W.Sink.contents c.view-in-Banks.new.sink)
-    (debug_state c.view-in-Banks.new.self c.args.images.now) (debug_state c.args.self.now c.args.images.now)
-    c.args.self.now.setting c.args.script.now.number c.args.words.now (block_lines c.args.script.now.left) _
-    (own_request c.args.words.now) c.in-Banks.ensures
-    (view_of_text _ _ _ (debug_state c.args.self.now c.args.images.now) c.args.self.now.setting c.in_ok-text-in-Banks.text.items _ c.in_ok-text-in-Banks.ensures (c.in_ok-view-in-Banks.ensures.told c.args.images.now))
-
-pub returns-in_ok-view-in-Stack-clause-told : goal.returns-in_ok-view-in-Stack-clause-told
-returns-in_ok-view-in-Stack-clause-told g c =
-    asked (g.W.Sink.contents c.args.sink.now) (g.W.Sink.contents c.view-in-Stack.new.sink)
-    (debug_state c.view-in-Stack.new.self c.args.images.now) (debug_state c.args.self.now c.args.images.now)
-    c.args.self.now.setting c.args.script.now.number c.args.words.now (block_lines c.args.script.now.left) _
-    (own_request c.args.words.now) c.in-Stack.ensures
-    (view_of_text _ _ _ (debug_state c.args.self.now c.args.images.now) c.args.self.now.setting c.in_ok-text-in-Stack.text.items _ c.in_ok-text-in-Stack.ensures (c.in_ok-view-in-Stack.ensures.told c.args.images.now))
-
-pub returns-in-SetPc-clause-told : goal.returns-in-SetPc-clause-told
-returns-in-SetPc-clause-told g c =
-    asked (g.W.Sink.contents c.args.sink.now) (g.W.Sink.contents c.args.sink.now)
-    (debug_state c.set_pc.new.self c.args.images.now) (debug_state c.args.self.now c.args.images.now)
-    c.args.self.now.setting c.args.script.now.number c.args.words.now (block_lines c.args.script.now.left) _
-    (own_request c.args.words.now) c.in-SetPc.ensures
-    (changed_quietly _ _ (debug_state c.args.self.now c.args.images.now)
-    (script_at (debug_state c.args.self.now c.args.images.now).script c.in-SetPc.address)
-    (c.set_pc.ensures.told c.args.images.now))
-
-pub returns-in-SetPsr-clause-told : goal.returns-in-SetPsr-clause-told
-returns-in-SetPsr-clause-told g c =
-    asked (g.W.Sink.contents c.args.sink.now) (g.W.Sink.contents c.args.sink.now)
-    (debug_state c.set_psr.new.self c.args.images.now) (debug_state c.args.self.now c.args.images.now)
-    c.args.self.now.setting c.args.script.now.number c.args.words.now (block_lines c.args.script.now.left) _
-    (own_request c.args.words.now) c.in-SetPsr.ensures
-    (changed_quietly _ _ (debug_state c.args.self.now c.args.images.now)
-    (script_with_status (debug_state c.args.self.now c.args.images.now).script (status_after_pattern c.in-SetPsr.pattern
-    (debug_state c.args.self.now c.args.images.now).script.machine.cpu.psr))
-    (c.set_psr.ensures.told c.args.images.now))
-
-pub returns-in-Reset-clause-told : goal.returns-in-Reset-clause-told
-returns-in-Reset-clause-told g c =
-    asked_if c.reset.result (g.W.Sink.contents c.args.sink.now) (g.W.Sink.contents c.reset.new.sink)
-    (debug_state c.reset.new.self c.args.images.now) (debug_state c.args.self.now c.args.images.now)
-    c.args.self.now.setting c.args.script.now.number c.args.words.now (block_lines c.args.script.now.left) _
-    (own_request c.args.words.now) c.in-Reset.ensures (c.reset.ensures.told c.args.images.now)
-
-pub returns-in-Help-clause-told : goal.returns-in-Help-clause-told
-returns-in-Help-clause-told g c =
-    asked_if c.help.result (g.W.Sink.contents c.args.sink.now) (g.W.Sink.contents c.help.new.sink)
-    (debug_state c.help.new.self c.args.images.now) (debug_state c.args.self.now c.args.images.now)
-    c.args.self.now.setting c.args.script.now.number c.args.words.now (block_lines c.args.script.now.left) _
-    (own_request c.args.words.now) c.in-Help.ensures (c.help.ensures.told c.args.images.now)
-
-pub returns-in_ok-reason-in-Expect-clause-told : goal.returns-in_ok-reason-in-Expect-clause-told
-returns-in_ok-reason-in-Expect-clause-told g c =
-    asked_if c.tell_check.result (g.W.Sink.contents c.args.sink.now) (g.W.Sink.contents c.tell_check.new.sink)
-    (debug_state c.tell_check.new.self c.args.images.now) (debug_state c.args.self.now c.args.images.now)
-    c.args.self.now.setting c.args.script.now.number c.args.words.now (block_lines c.args.script.now.left) _
-    (own_request c.args.words.now) c.in-Expect.ensures
-    (checked_by c.tell_check.result _ _ _ (debug_state c.args.self.now c.args.images.now) c.args.self.now.setting
-    c.number.result c.args.script.now.number c.args.words.now _ _ c.number.ensures
-    (c.in_ok-reason-in-Expect.ensures c.args.images.now) (c.tell_check.ensures.told c.args.images.now))
+pub returns-in-None-clause-number : goal.returns-in-None-clause-number
+returns-in-None-clause-number g c =
+    subst (λ (o : Option (ℕ × List ℕ)). OnOk c.simple_line.result (c.simple_line.new.script.number
+    ≡ c.args.script.now.number
+    + lines_taken (debug_opens_block (own_request_by o c.args.words.now)) c.args.script.now.left))
+    c.in-None.ensures.told c.simple_line.ensures.number

@@ -1,6 +1,6 @@
 use Rattle.std.proofs.Common.{◌≡◌, ◌≤◌, length, drop, None}
 use Rattle.debug_checks.specs.Endings.{output_before_ending}
-use Rattle.debug_checks.proofs.endings.output_of.Given as goal
+use Rattle.debug_checks.proofs.endings.ending_place.Given as goal
 
 -- no ending begins from the place on
 abbrev pub invariant-loop-place : goal.invariant-loop-place

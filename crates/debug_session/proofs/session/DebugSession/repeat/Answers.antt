@@ -1,0 +1,61 @@
+use Rattle.std.proofs.Common.{◌≡◌, ℕ, ◌+◌, ◌-◌, Bool, List, ◌∙◌, ap, sym, arith}
+use Rattle.command_shell_lines.specs.Blocks.{block_lines, lines_after, lines_taken}
+use Rattle.debug_lines.specs.DebugRequests.{simple_request}
+use Rattle.debug_session.specs.DebugScript.{repeated_told, simple_request_told}
+use Rattle.debug_session.specs.DebugState.{DebugAnswered}
+use Rattle.debug_session.specs.Session.{debug_state}
+use Rattle.profile.proofs.OutputLemmas.{AddsAllBut-more, Appends-from_all_but}
+use Rattle.debug_session.proofs.RepeatLemmas.{repeat_none, repeat_quit, repeat_state, repeat_text, repeatable_alone, told_there}
+use Rattle.debug_session.proofs.session.DebugSession.repeat.Goals as goal
+
+pub loop-left-preserved : goal.loop-left-preserved
+loop-left-preserved g c =
+    let before = debug_state c.loop-left.self c.loop-left.images in
+    let after = debug_state c.simple_line.new.self c.simple_line.new.images in
+    let setting = c.args.self.now.setting in
+    let number = c.args.script.now.number in
+    let block = block_lines c.args.script.now.left in
+    let line = c.args.line.now in
+    let n = c.loop-left.left in
+    let i = c.loop-left.invariant in
+    let own = c.in_ok-simple_line.ensures in
+    let told = told_there (g.W.Sink.contents c.loop-left.sink) (g.W.Sink.contents c.simple_line.new.sink) after before
+    setting c.loop-left.self.setting number c.loop-left.script.number line block (block_lines c.loop-left.script.left)
+    i.setting i.number (ap block_lines i.lines) own.told in
+    let next : n ≡ (n - 1) + 1 = omega (arith, c.loop-left-test.true) in
+    let first = simple_request_told setting before number line (simple_request line) block in
+    let text = repeat_text n (n - 1) setting number line block before after next c.if-self.false told.state in
+    let state = repeat_state n (n - 1) setting number line block before after next c.if-self.false told.state in
+    let alone = repeatable_alone (simple_request line) c.requires in
+    let taken = own.number ∙ ap (λ (b : Bool). c.loop-left.script.number + lines_taken b c.loop-left.script.left) alone in
+    record {
+      text = AddsAllBut-more (g.W.Sink.contents c.args.sink.now) (g.W.Sink.contents c.loop-left.sink)
+          (g.W.Sink.contents c.simple_line.new.sink) (repeated_told n setting number line block before).text first.text
+          (repeated_told (n - 1) setting number line block after).text _ i.text told.text text;
+      state = sym state ∙ i.state;
+      setting = own.setting ∙ i.setting;
+      same_flag = own.same_flag ∙ i.same_flag;
+      lines = own.left ∙ ap (λ (b : Bool). lines_after b c.loop-left.script.left) alone ∙ i.lines;
+      number = omega (arith, taken, i.number);
+    }
+
+pub returns-then-self-clause-told : goal.returns-then-self-clause-told
+returns-then-self-clause-told g c =
+    let quit = repeat_quit c.loop-left.left c.args.self.now.setting c.args.script.now.number c.args.line.now
+    (block_lines c.args.script.now.left) (debug_state c.loop-left.self c.loop-left.images) c.if-self.true in
+    record {
+      text = Appends-from_all_but (g.W.Sink.contents c.args.sink.now) (g.W.Sink.contents c.loop-left.sink) _ _
+          c.loop-left.invariant.text (ap (λ (a : DebugAnswered). a.text) quit);
+      state = sym (ap (λ (a : DebugAnswered). a.state) quit) ∙ c.loop-left.invariant.state;
+    }
+
+pub returns-clause-told : goal.returns-clause-told
+returns-clause-told g c =
+    let done : c.loop-left.left ≡ 0 = omega (arith, c.loop-left-test.false) in
+    let none = repeat_none c.loop-left.left c.args.self.now.setting c.args.script.now.number c.args.line.now
+    (block_lines c.args.script.now.left) (debug_state c.loop-left.self c.loop-left.images) done in
+    record {
+      text = Appends-from_all_but (g.W.Sink.contents c.args.sink.now) (g.W.Sink.contents c.loop-left.sink) _ _
+          c.loop-left.invariant.text (ap (λ (a : DebugAnswered). a.text) none);
+      state = sym (ap (λ (a : DebugAnswered). a.state) none) ∙ c.loop-left.invariant.state;
+    }
