@@ -2,7 +2,7 @@
 use Rattle.std.proofs.Common.{◌≡◌, ◌≤◌, ◌<◌, ◌+◌, ℕ, List, [], ◌++◌, length, get_or, drop}
 use Rattle.std.proofs.lemmas.List.{at_drop_more, at_drop_all}
 use Rattle.view_items.specs.declared.boxes.PictureBox.{PictureBox}
-use Rattle.view_pictures.specs.declared.layout.Drawn.{Drawn}
+use Rattle.view_layout.specs.declared.layout.Drawn.{Drawn}
 use Rattle.page_markup.specs.ToldSvg.{base_after, changed_svg, changes_svg, gone_box_svg, gone_svg, line_count_of}
 
 pub changes_more : (base : ℕ) (boxes : List Drawn) (place : ℕ) (d : Drawn) → place < length boxes

@@ -2,7 +2,7 @@
 use Rattle.std.specs.Prelude.{ℕ, ◌+◌, ◌-◌, ◌*◌, ◌/◌, ◌^◌, ◌==◌, ◌&&◌, min, max, List, [], ◌∷◌, Option, Some, None, if◌then◌else◌}
 use Rattle.view_items.specs.Kinds.{is_block}
 use Rattle.view_items.specs.declared.items.Holder.{Holder}
-use Rattle.view_pictures.specs.declared.layout.Drawn.{Drawn}
+use Rattle.view_layout.specs.declared.layout.Drawn.{Drawn}
 
 -- a place in the bytes of a box, by their share of its height
 abbrev pub place_within : Drawn → ℕ → ℕ

@@ -7,7 +7,11 @@ sign_legend =
 
 abbrev pub edge_legend : List ℕ
 edge_legend =
-    codes "<p class=\"legend\">Arrow: the free chain. Broken edge: not in use, or the page pool.</p>\n"
+    codes "<p class=\"legend\">Broken edge: not in use, or page pool. Box in a box: heap in a block.</p>\n"
+
+abbrev pub arrow_legend : List ℕ
+arrow_legend =
+    codes "<p class=\"legend\">Arrow: the free chain, or from an anchor to its block.</p>\n"
 
 abbrev pub picture_legend : List ℕ
-picture_legend = sign_legend ++ edge_legend
+picture_legend = sign_legend ++ (edge_legend ++ arrow_legend)

@@ -6,3 +6,4 @@ pub mod Legend
 pub mod Markup
 pub mod Svg
 pub mod ToldSvg
+pub mod Words

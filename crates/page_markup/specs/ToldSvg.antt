@@ -5,8 +5,8 @@ use Rattle.view_items.specs.declared.kinds.BoxKind.{BoxKind}
 use Rattle.view_items.specs.declared.kinds.BoxKind.TheVariants as kind
 use Rattle.view_items.specs.declared.boxes.PictureBox.{PictureBox}
 use Rattle.view_pictures.specs.Told.{change_told, gone_told, has_changed}
-use Rattle.view_pictures.specs.declared.layout.Drawn.{Drawn}
-use Rattle.view_pictures.specs.declared.layout.Layout.{Layout}
+use Rattle.view_layout.specs.declared.layout.Drawn.{Drawn}
+use Rattle.view_layout.specs.declared.layout.Layout.{Layout}
 use Rattle.page_markup.specs.Markup.{text_opening}
 
 abbrev pub name_of_heap : PictureBox → List ℕ
@@ -17,7 +17,9 @@ abbrev pub name_by : BoxKind → PictureBox → List ℕ
 name_by kind.Descriptor b = name_of_heap b
 name_by kind.Live b = name_of_heap b
 name_by kind.Free b = name_of_heap b
+name_by kind.Rest b = name_of_heap b
 name_by kind.Block b = codes "flex store"
+name_by kind.Header b = codes "flex store"
 name_by kind.Room b = codes "flex store"
 name_by kind.Module b = codes "modules"
 name_by kind.Word b = codes "modules"

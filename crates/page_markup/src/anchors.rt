@@ -5,7 +5,7 @@ ghost use Rattle.view_items.specs.Kinds.{is_block};
 ghost use Rattle.page_markup.specs.Anchors.{anchor_place, place_within};
 
 use view_items::items::Holder;
-use view_pictures::Drawn;
+use view_layout::Drawn;
 
 /// How far down an anchor is drawn, if one of the boxes is the block that has it.
 pub(crate) fn anchor_place(holder: Holder, boxes: &[Drawn<'_>]) -> Option<u32>

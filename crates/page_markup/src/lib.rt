@@ -9,6 +9,7 @@ mod legend;
 pub mod markup;
 pub mod svg;
 mod told;
+mod words;
 
 pub use escape::push_escaped;
 pub use grid::push_grid;

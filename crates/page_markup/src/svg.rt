@@ -1,52 +1,52 @@
 //! A picture as SVG: boxes from low addresses to high, their heights to scale where there is room
 //! for their words.
 
-ghost use Rattle.std.specs.Prelude.{◌≡◌, ◌<◌, ◌^◌, take};
-ghost use Rattle.profile.specs.Digits.{hex_word};
-ghost use Rattle.profile.specs.Output.{Writes};
+ghost use Rattle.std.specs.Prelude.{◌≡◌};
 ghost use Rattle.std.specs.List.{flat_map};
-ghost use Rattle.page_markup.specs.Svg.{address_svg, anchor_words, base_line_of, block_line, box_address, box_itself, box_svg, break_svg};
-ghost use Rattle.page_markup.specs.Svg.{change_svg, short_change, stack_head, stack_height};
-ghost use Rattle.page_markup.specs.Svg.{end_svg, holder_words, link_svg, name_line, second_line, size_svg, stack_svg, zigzag};
-ghost use Rattle.page_markup.specs.Svg.{anchor_svg, anchors_svg, svg_head, words_svg};
+ghost use Rattle.profile.specs.Output.{Writes};
+ghost use Rattle.page_markup.specs.Svg.{address_svg, anchor_svg, anchors_svg, box_address, box_bottom, box_itself, box_signs, box_svg, boxes_svg};
+ghost use Rattle.page_markup.specs.Svg.{break_svg, chain_svg, change_svg, end_svg, goes_on, link_svg, outline_svg, short_change, stack_head, stack_height};
+ghost use Rattle.page_markup.specs.Svg.{stack_svg, svg_head, told_box_svg, zigzag, zigzag_line, zigzag_start};
 
 use crate::anchors::anchor_place;
 use crate::markup::{open_text, push_decimal, push_rectangle, push_text};
 use crate::told::{height_with, push_title, push_told_svg, told_count};
+use crate::words::{base_of, inset_of, push_words};
 use itoa::Buffer;
 use profile::{HexText, Sink, WriteFault, push_all, push_parts};
 use view_changes::BoxChange;
-use view_items::items::Holder;
 use view_items::{BoxKind, PictureBox};
-use view_pictures::{Drawn, Layout, has_changed, push_told};
+use view_layout::{Drawn, Layout};
+use view_pictures::{has_changed, push_told};
 
-// The right edge of the addresses, and the left one of the boxes and of what stands in and beside
-// them.
+// The right edge of the addresses, and the left one of the boxes and of what stands beside them.
 const ADDRESS_EDGE: u64 = 68;
 
 const BOX_LEFT: u64 = 74;
 
 const BOX_WIDTH: u64 = 228;
 
-const WORD_LEFT: u64 = 82;
-
-const SIZE_LEFT: u64 = 168;
-
 const CHANGE_LEFT: u64 = 312;
 
-// The most characters of a name that has a line of its own, and of one that shares it.
-const LONG_NAME: usize = 28;
+// A second edge, inside a box.
+const EDGE_LEFT: u64 = 76;
 
-const SHORT_NAME: usize = 16;
+const EDGE_WIDTH: u64 = 224;
+
+// The right edge of the boxes, and where an arrow goes that leads to one.
+const BOX_RIGHT: u64 = 302;
+
+const ARROW_LEFT: u64 = 294;
 
 /// Writes a picture of boxes. Its name says what it is of, and its description, as lines under the
-/// boxes do, what has become of them and which of the picture before are no more. A box that is
-/// higher than its share has a zigzag in its right edge.
+/// boxes do, what has become of them and which of the picture before are no more. A heap that lies in
+/// a block stands inside the block's box. A box that is higher than its share has a zigzag in its
+/// right edge.
 pub fn push_svg<W: Sink>(sink: &mut W, layout: &Layout<'_>) -> Result<(), WriteFault>
     ensures { Writes W.contents W.has_failed sink.old sink.new result (stack_svg layout.now) }
 {
     push_stack_head(sink, layout)?;
-    push_boxes(sink, layout.boxes.as_slice())?;
+    push_boxes(sink, layout.bottom, layout.boxes.as_slice())?;
     push_anchors(sink, layout.boxes.as_slice())?;
     push_end(sink, layout.end, u64::from(layout.bottom) + 12)?;
     push_told_svg(sink, layout)?;
@@ -85,13 +85,32 @@ pub fn push_head<W: Sink>(sink: &mut W, height: u64) -> Result<(), WriteFault>
     Ok(())
 }
 
-fn push_boxes<W: Sink>(sink: &mut W, boxes: &[Drawn<'_>]) -> Result<(), WriteFault>
-    ensures { Writes W.contents W.has_failed sink.old sink.new result (flat_map box_svg boxes.now) }
+fn push_boxes<W: Sink>(sink: &mut W, bottom: u32, boxes: &[Drawn<'_>]) -> Result<(), WriteFault>
+    ensures { Writes W.contents W.has_failed sink.old sink.new result (boxes_svg bottom boxes.now) }
 {
-    for drawn in boxes {
-        push_box(sink, drawn)?;
+    for place in 0..boxes.len() {
+        let below = box_bottom(bottom, &boxes[place], &boxes[place + 1..]);
+        push_box(sink, below, &boxes[place])?;
     }
     Ok(())
+}
+
+// The lower edge of a box: that of the last of those behind it which lie in it.
+fn box_bottom(bottom: u32, drawn: &Drawn<'_>, rest: &[Drawn<'_>]) -> u32
+    ensures { result ≡ box_bottom bottom drawn.now rest.now }
+{
+    for next in rest {
+        if !goes_on(drawn, next) {
+            return next.top;
+        }
+    }
+    bottom
+}
+
+fn goes_on(drawn: &Drawn<'_>, next: &Drawn<'_>) -> bool
+    ensures { result ≡ goes_on drawn.now next.now }
+{
+    drawn.depth < next.depth || next.own.kind.is_rest() && next.depth == drawn.depth
 }
 
 fn push_end<W: Sink>(sink: &mut W, end: Option<u32>, base: u64) -> Result<(), WriteFault>
@@ -116,28 +135,63 @@ pub fn push_address<W: Sink>(sink: &mut W, address: u32, base: u64) -> Result<()
     )
 }
 
-fn push_box<W: Sink>(sink: &mut W, drawn: &Drawn<'_>) -> Result<(), WriteFault>
-    ensures { Writes W.contents W.has_failed sink.old sink.new result (box_svg drawn.now) }
+fn push_box<W: Sink>(sink: &mut W, bottom: u32, drawn: &Drawn<'_>) -> Result<(), WriteFault>
+    ensures { Writes W.contents W.has_failed sink.old sink.new result (box_svg bottom drawn.now) }
 {
-    push_box_itself(sink, drawn)?;
-    push_break(sink, drawn)?;
-    push_change(sink, drawn)?;
-    push_link(
-        sink,
-        drawn.link,
-        u64::from(drawn.top) + u64::from(drawn.height) / 2,
-    )?;
+    push_box_itself(sink, bottom, drawn)?;
+    push_signs(sink, drawn)?;
     push_all(sink, b"\n")
 }
 
-fn push_box_itself<W: Sink>(sink: &mut W, drawn: &Drawn<'_>) -> Result<(), WriteFault>
-    ensures { Writes W.contents W.has_failed sink.old sink.new result (box_itself drawn.now) }
+fn push_box_itself<W: Sink>(sink: &mut W, bottom: u32, drawn: &Drawn<'_>) -> Result<(), WriteFault>
+    ensures { Writes W.contents W.has_failed sink.old sink.new result (box_itself bottom drawn.now) }
 {
-    let own = &drawn.own;
-    let top = u64::from(drawn.top);
-    let height = u64::from(drawn.height);
-    push_rectangle(sink, own.kind.word(), BOX_LEFT, top, BOX_WIDTH, height)?;
-    push_box_address(sink, own, top + 12)?;
+    push_outline(sink, bottom, drawn)?;
+    push_told_box(sink, drawn)
+}
+
+// That it isn't to scale, what has become of it, and the arrow of the free chain.
+fn push_signs<W: Sink>(sink: &mut W, drawn: &Drawn<'_>) -> Result<(), WriteFault>
+    ensures { Writes W.contents W.has_failed sink.old sink.new result (box_signs drawn.now) }
+{
+    push_break(sink, drawn)?;
+    push_change(sink, drawn)?;
+    push_chain(sink, drawn)
+}
+
+fn push_chain<W: Sink>(sink: &mut W, drawn: &Drawn<'_>) -> Result<(), WriteFault>
+    ensures { Writes W.contents W.has_failed sink.old sink.new result (chain_svg drawn.now) }
+{
+    let middle = u64::from(drawn.top) + u64::from(drawn.height) / 2;
+    push_link(sink, drawn.link, ARROW_LEFT - 2 * inset_of(drawn), middle)
+}
+
+// What a block has behind a heap stands in the block's own box.
+fn push_outline<W: Sink>(sink: &mut W, bottom: u32, drawn: &Drawn<'_>) -> Result<(), WriteFault>
+    ensures { Writes W.contents W.has_failed sink.old sink.new result (outline_svg bottom drawn.now) }
+{
+    if drawn.own.kind.is_rest() {
+        return Ok(());
+    }
+    let inset = inset_of(drawn);
+    push_rectangle(
+        sink,
+        drawn.own.kind.word(),
+        BOX_LEFT + inset,
+        u64::from(drawn.top),
+        BOX_WIDTH - 3 * inset,
+        u64::from(bottom.saturating_sub(drawn.top)),
+    )
+}
+
+// The address and the words of a box, where it has room.
+fn push_told_box<W: Sink>(sink: &mut W, drawn: &Drawn<'_>) -> Result<(), WriteFault>
+    ensures { Writes W.contents W.has_failed sink.old sink.new result (told_box_svg drawn.now) }
+{
+    if drawn.height == 0 {
+        return Ok(());
+    }
+    push_box_address(sink, &drawn.own, u64::from(drawn.top) + 12)?;
     push_words(sink, drawn)
 }
 
@@ -155,116 +209,21 @@ fn push_box_address<W: Sink>(
     }
 }
 
-// The base line of the first words.
-fn base_of(drawn: &Drawn<'_>) -> u64
-    ensures value { result ≡ base_line_of drawn.now }
-    ensures small { result < 2 ^ 34 }
-{
-    let height = u64::from(drawn.height);
-    let down = if drawn.own.kind.has_second_line() {
-        height.saturating_sub(8) / 2
-    } else {
-        (height + 8) / 2
-    };
-    u64::from(drawn.top) + down
-}
-
-// The word, the size, and in a second line the name and what else is told.
-fn push_words<W: Sink>(sink: &mut W, drawn: &Drawn<'_>) -> Result<(), WriteFault>
-    ensures { Writes W.contents W.has_failed sink.old sink.new result (words_svg drawn.now) }
-{
-    let own = &drawn.own;
-    let base = base_of(drawn);
-    push_text(sink, b"word", WORD_LEFT, base, own.kind.word())?;
-    push_size(sink, own.size, base)?;
-    push_second_line(sink, own, base + 16)
-}
-
-fn push_size<W: Sink>(sink: &mut W, size: u32, base: u64) -> Result<(), WriteFault>
-    ensures { Writes W.contents W.has_failed sink.old sink.new result (size_svg size base) }
-{
-    open_text(sink, b"size", SIZE_LEFT, base)?;
-    push_decimal(sink, u64::from(size))?;
-    push_all(sink, b" bytes</text>")
-}
-
-fn push_second_line<W: Sink>(
-    sink: &mut W,
-    own: &PictureBox<'_>,
-    base: u64,
-) -> Result<(), WriteFault>
-    ensures { Writes W.contents W.has_failed sink.old sink.new result
-        (second_line own.now.kind own.now base) }
-{
-    match own.kind {
-        BoxKind::Block => push_block_line(sink, own.detail, own.holder, base),
-        BoxKind::Word => {
-            push_name(sink, WORD_LEFT, HexText::word(own.detail).as_slice(), base)?;
-            push_name(sink, SIZE_LEFT, front_of(own.name, SHORT_NAME), base)
-        }
-        BoxKind::Area | BoxKind::Module => {
-            push_name(sink, WORD_LEFT, front_of(own.name, LONG_NAME), base)
-        }
-        _ => Ok(()),
-    }
-}
-
-fn push_block_line<W: Sink>(
-    sink: &mut W,
-    anchor: u32,
-    holder: Option<Holder>,
-    base: u64,
-) -> Result<(), WriteFault>
-    ensures { Writes W.contents W.has_failed sink.old sink.new result (block_line anchor holder base) }
-{
-    open_text(sink, b"size", WORD_LEFT, base)?;
-    push_anchor(sink, anchor)?;
-    push_holder(sink, holder)?;
-    push_all(sink, b"</text>")
-}
-
-fn push_anchor<W: Sink>(sink: &mut W, anchor: u32) -> Result<(), WriteFault>
-    ensures { Writes W.contents W.has_failed sink.old sink.new result (anchor_words anchor) }
-{
-    push_parts(
-        sink,
-        &[b"anchor ".as_slice(), HexText::word(anchor).as_slice()],
-    )
-}
-
-fn push_holder<W: Sink>(sink: &mut W, holder: Option<Holder>) -> Result<(), WriteFault>
-    ensures { Writes W.contents W.has_failed sink.old sink.new result (holder_words holder) }
-{
-    let Some(own) = holder else {
-        return Ok(());
-    };
-    push_parts(
-        sink,
-        &[b" in ".as_slice(), HexText::word(own.address).as_slice()],
-    )
-}
-
-fn push_name<W: Sink>(sink: &mut W, left: u64, name: &[u8], base: u64) -> Result<(), WriteFault>
-    ensures { Writes W.contents W.has_failed sink.old sink.new result (name_line left name.now base) }
-{
-    push_text(sink, b"size", left, base, name)
-}
-
-// So many bytes from the front of a text, or all of them.
-fn front_of(text: &[u8], most: usize) -> &[u8]
-    ensures { result.now ≡ take most text.now }
-{
-    &text[..most.min(text.len())]
-}
-
 fn push_change<W: Sink>(sink: &mut W, drawn: &Drawn<'_>) -> Result<(), WriteFault>
     ensures { Writes W.contents W.has_failed sink.old sink.new result (change_svg drawn.now) }
 {
     if !has_changed(drawn) {
         return Ok(());
     }
-    let inner = u64::from(drawn.height).saturating_sub(4);
-    push_rectangle(sink, b"change", 76, u64::from(drawn.top) + 2, 224, inner)?;
+    let inset = inset_of(drawn);
+    push_rectangle(
+        sink,
+        b"change",
+        EDGE_LEFT + inset,
+        u64::from(drawn.top) + 2,
+        EDGE_WIDTH - 3 * inset,
+        u64::from(drawn.height).saturating_sub(4),
+    )?;
     open_text(sink, b"change", CHANGE_LEFT, base_of(drawn))?;
     push_all(sink, short_change(drawn.change))?;
     push_all(sink, b"</text>")
@@ -298,35 +257,55 @@ fn push_break<W: Sink>(sink: &mut W, drawn: &Drawn<'_>) -> Result<(), WriteFault
     if !drawn.is_raised {
         return Ok(());
     }
-    push_zigzag(sink, u64::from(drawn.top) + u64::from(drawn.height) / 2)
-}
-
-fn push_zigzag<W: Sink>(sink: &mut W, middle: u64) -> Result<(), WriteFault>
-    ensures { Writes W.contents W.has_failed sink.old sink.new result (zigzag middle) }
-{
-    let mut start = Buffer::new();
-    push_parts(
+    push_zigzag(
         sink,
-        &[
-            b"<path class=\"break\" d=\"M 302 ".as_slice(),
-            start.format(middle.saturating_sub(6)).as_bytes(),
-            b" l 4 3 l -8 3 l 8 3 l -4 3\"/>".as_slice(),
-        ],
+        BOX_RIGHT - 2 * inset_of(drawn),
+        u64::from(drawn.top) + u64::from(drawn.height) / 2,
     )
 }
 
-fn push_link<W: Sink>(sink: &mut W, link: Option<u32>, middle: u64) -> Result<(), WriteFault>
-    ensures { Writes W.contents W.has_failed sink.old sink.new result (link_svg link middle) }
+fn push_zigzag<W: Sink>(sink: &mut W, right: u64, middle: u64) -> Result<(), WriteFault>
+    ensures { Writes W.contents W.has_failed sink.old sink.new result (zigzag right middle) }
+{
+    push_zigzag_start(sink, right)?;
+    push_zigzag_line(sink, middle)
+}
+
+fn push_zigzag_start<W: Sink>(sink: &mut W, right: u64) -> Result<(), WriteFault>
+    ensures { Writes W.contents W.has_failed sink.old sink.new result (zigzag_start right) }
+{
+    push_all(sink, b"<path class=\"break\" d=\"M ")?;
+    push_decimal(sink, right)?;
+    push_all(sink, b" ")
+}
+
+fn push_zigzag_line<W: Sink>(sink: &mut W, middle: u64) -> Result<(), WriteFault>
+    ensures { Writes W.contents W.has_failed sink.old sink.new result (zigzag_line middle) }
+{
+    push_decimal(sink, middle.saturating_sub(6))?;
+    push_all(sink, b" l 4 3 l -8 3 l 8 3 l -4 3\"/>")
+}
+
+fn push_link<W: Sink>(
+    sink: &mut W,
+    link: Option<u32>,
+    left: u64,
+    middle: u64,
+) -> Result<(), WriteFault>
+    ensures { Writes W.contents W.has_failed sink.old sink.new result (link_svg link left middle) }
 {
     let Some(from) = link else {
         return Ok(());
     };
+    let mut edge = Buffer::new();
     let mut start = Buffer::new();
     let mut end = Buffer::new();
     push_parts(
         sink,
         &[
-            b"<path class=\"chain\" d=\"M 286 ".as_slice(),
+            b"<path class=\"chain\" d=\"M ".as_slice(),
+            edge.format(left).as_bytes(),
+            b" ".as_slice(),
             start.format(u64::from(from)).as_bytes(),
             b" V ".as_slice(),
             end.format(middle.saturating_sub(2)).as_bytes(),
@@ -356,5 +335,5 @@ fn push_arrow<W: Sink>(
         return Ok(());
     };
     let middle = u64::from(drawn.top) + u64::from(drawn.height) / 2;
-    push_link(sink, anchor_place(holder, boxes), middle)
+    push_link(sink, anchor_place(holder, boxes), ARROW_LEFT, middle)
 }

@@ -8,7 +8,8 @@ ghost use Rattle.page_markup.specs.ToldSvg.{name_by, picture_name, told_count, t
 use crate::markup::open_text;
 use profile::{HexText, Sink, WriteFault, push_all, push_parts};
 use view_items::{BoxKind, PictureBox};
-use view_pictures::{Drawn, Layout, has_changed, push_change, push_gone_box};
+use view_layout::{Drawn, Layout};
+use view_pictures::{has_changed, push_change, push_gone_box};
 
 const LINE_HEIGHT: u64 = 16;
 
@@ -28,11 +29,11 @@ fn push_name_of<W: Sink>(sink: &mut W, own: &PictureBox<'_>) -> Result<(), Write
     ensures { Writes W.contents W.has_failed sink.old sink.new result (name_by own.now.kind own.now) }
 {
     match own.kind {
-        BoxKind::Descriptor | BoxKind::Live | BoxKind::Free => push_parts(
+        BoxKind::Descriptor | BoxKind::Live | BoxKind::Free | BoxKind::Rest => push_parts(
             sink,
             &[b"heap ".as_slice(), HexText::word(own.address).as_slice()],
         ),
-        BoxKind::Block | BoxKind::Room => push_all(sink, b"flex store"),
+        BoxKind::Block | BoxKind::Header | BoxKind::Room => push_all(sink, b"flex store"),
         BoxKind::Module | BoxKind::Word => push_all(sink, b"modules"),
         BoxKind::Area | BoxKind::Unused | BoxKind::Pool => push_all(sink, b"dynamic areas"),
     }

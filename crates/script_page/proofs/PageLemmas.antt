@@ -20,7 +20,7 @@ use Rattle.script_page.specs.Answering.{count_of_block, line_told, state_of_answ
 use Rattle.view_reading.specs.swi_dispatch_guest.specs.MachineState.{MachineState}
 use Rattle.script_page.specs.Page.{answers_of, left_behind, lines_of, machine_behind, number_after, numbers_from, steps_behind, steps_text}
 use Rattle.script_page.specs.Page.{views_behind, AreShown, HasSteps, IsPageBy, IsPage, ShowViews}
-use Rattle.script_page.specs.Views.{view_asked}
+use Rattle.script_page.specs.Views.{view_asked, AskedView}
 use Rattle.script_page.specs.Pictures.{IsPicture}
 use Rattle.script_page.specs.Setting.{script_answer_in, start_state_in}
 use Rattle.script_page.specs.GuestText.{guest_text}
@@ -104,11 +104,11 @@ views_more machine front [] e = rw (append-nil front) refl
 views_more machine front (x ∷ old) e =
     let later = views_more machine (front ++ x.lines.now) old e in
     let same : (front ++ x.lines.now) ++ lines_of old ≡ front ++ lines_of (x ∷ old) = append_assoc front x.lines.now (lines_of old) in
-    ap (λ (xs : List (List ℕ)). view_asked (machine (front ++ x.lines.now)) x.lines.now ∷ xs)
+    ap (λ (xs : List AskedView). view_asked (machine (front ++ x.lines.now)) x.lines.now ∷ xs)
     (later ∙ ap (λ (xs : List ℕ). views_behind machine (front ++ x.lines.now) old
     ++ (view_asked (machine (xs ++ e.lines.now)) e.lines.now ∷ [])) same)
 
-show_more : (f : PageForm) (views : List (List ℕ)) (shown : List Shown) (view : List ℕ) (s : Shown) → ShowViews f views shown
+show_more : (f : PageForm) (views : List AskedView) (shown : List Shown) (view : AskedView) (s : Shown) → ShowViews f views shown
     → IsPicture f view s.picture.items → ShowViews f (views ++ view ∷ []) (shown ++ s ∷ [])
 show_more f [] [] view s all is = (is, tt)
 show_more f [] (x ∷ shown) view s all is = absurd all
@@ -156,7 +156,7 @@ shown_on setting f machine entries shown e s are there is = record {
       ∙ sym (map-append (λ (x : Shown). guest_text x.printed.now) shown (s ∷ []));
   steps = map-append (λ (x : Shown). x.steps.items) shown (s ∷ []) ∙ (λ i. are.steps i ++ is.steps i ∷ [])
       ∙ sym (map-append (λ (x : Entry). steps_text x.kind x.steps) entries (e ∷ []));
-  pictures = subst (λ (views : List (List ℕ)). ShowViews f views (shown ++ s ∷ [])) (sym (views_more (machine_behind setting) [] entries e))
+  pictures = subst (λ (views : List AskedView). ShowViews f views (shown ++ s ∷ [])) (sym (views_more (machine_behind setting) [] entries e))
       (show_more f (views_behind (machine_behind setting) [] entries) shown
       (view_asked (machine_behind setting (lines_of entries ++ e.lines.now)) e.lines.now) s are.pictures
       (subst (λ (m : MachineState). IsPicture f (view_asked m e.lines.now) s.picture.items) (sym there) is.picture));

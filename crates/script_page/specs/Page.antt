@@ -7,7 +7,7 @@ use Rattle.view_reading.specs.swi_dispatch_guest.specs.MachineState.{MachineStat
 use Rattle.script_page.specs.Setting.{script_answer_in}
 use Rattle.script_page.specs.GuestText.{guest_text}
 use Rattle.script_page.specs.Pictures.{IsPicture}
-use Rattle.script_page.specs.Views.{view_asked}
+use Rattle.script_page.specs.Views.{view_asked, AskedView}
 use Rattle.script_page.specs.declared.form.PageForm.{PageForm}
 use Rattle.script_page.specs.declared.setting.Setting.{Setting}
 use Rattle.script_page.specs.declared.entry.Entry.{Entry}
@@ -60,14 +60,14 @@ abbrev pub machine_behind : Setting → List ℕ → MachineState
 machine_behind setting lines = (script_answer_in setting lines).state.machine
 
 -- the view that each entry asks for, as the machine stands behind it
-abbrev pub views_behind : (List ℕ → MachineState) → List ℕ → List Entry → List (List ℕ)
+abbrev pub views_behind : (List ℕ → MachineState) → List ℕ → List Entry → List AskedView
 views_behind machine front [] = []
 views_behind machine front (e ∷ rest) =
     view_asked (machine (front ++ e.lines.now)) e.lines.now
     ∷ views_behind machine (front ++ e.lines.now) rest
 
 -- the picture of each entry is one of its view
-abbrev pub ShowViews : PageForm → List (List ℕ) → List Shown → Type 0
+abbrev pub ShowViews : PageForm → List AskedView → List Shown → Type 0
 ShowViews form [] [] = Unit {0}
 ShowViews form [] (s ∷ shown) = ⊥
 ShowViews form (view ∷ views) [] = ⊥

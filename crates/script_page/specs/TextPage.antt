@@ -3,7 +3,7 @@ use Rattle.std.specs.Prelude.{ℕ, ◌==◌, min, Bool, not, List, [], ◌∷◌
 use Rattle.std.specs.List.{flat_map}
 use Rattle.std.specs.Fmt.{decimal}
 use Rattle.std.specs.Str.Lines.{lines}
-use Rattle.view_pictures.specs.Bars.{bar_legend}
+use Rattle.view_pictures.specs.Legend.{bar_legend}
 use Rattle.view_pictures.specs.Spelt.{spelt}
 use Rattle.script_page.specs.Page.{number_after}
 use Rattle.script_page.specs.declared.shown.Shown.{Shown}

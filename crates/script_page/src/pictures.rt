@@ -1,22 +1,22 @@
 //! The picture under a view: of what it tells, and what has changed since the last one.
 
-ghost use Rattle.std.specs.Prelude.{◌≡◌, ◌⊎◌, true, false, IfOk};
+ghost use Rattle.std.specs.Prelude.{◌≡◌, ◌∷◌, ◌++◌, ◌⊎◌, [], true, false, All, map, IfOk, OnOk};
 ghost use Rattle.profile.specs.Output.{Writes};
 ghost use Rattle.view_reading.specs.swi_dispatch_guest.specs.Parts.{state_of};
-ghost use Rattle.view_items.specs.Boxes.{AreBoxesOf};
 ghost use Rattle.view_items.specs.Items.{are_of_memory, picture_items_text};
-ghost use Rattle.script_page.specs.Pictures.{boxes_text, line_width, rows_text, view_drawn, IsDrawn};
+ghost use Rattle.script_page.specs.Pictures.{boxes_text, line_width, rows_text, view_drawn, AreViewsOf, HasItsBoxes, IsDrawn};
 ghost use Rattle.script_page.specs.Pictures.{IsOfBoxes, IsOfRows, IsPicture};
-ghost use Rattle.script_page.specs.Views.{view_asked};
+ghost use Rattle.script_page.specs.Views.{asked_of, view_asked};
 
 use crate::entry::Entry;
 use crate::form::PageForm;
-use crate::views::items_for_lines;
+use crate::views::{ViewItems, items_for_lines};
 use page_markup::{push_grid, push_svg};
 use profile::{Sink, WriteFault};
 use std::alloc::{AllocError, Global};
-use view_items::{PictureItem, PictureView, TextSink};
-use view_pictures::{GridRow, LINE_WIDTH, Layout, layout_of, push_bars, push_marks, rows_of};
+use view_items::{PictureItem, PictureView, TextSink, are_of_memory};
+use view_layout::{Layout, layout_of};
+use view_pictures::{GridRow, LINE_WIDTH, push_bars, push_marks, rows_of};
 use view_reading::Machine;
 
 // What stands before each line of a picture in a text.
@@ -26,7 +26,7 @@ const FRONT: &[u8] = b"       ";
 /// these things.
 #[derive(Drop)]
 pub struct LastViews {
-    views: Vec<Vec<PictureItem>>,
+    views: Vec<ViewItems>,
 }
 
 impl LastViews {
@@ -54,8 +54,8 @@ impl LastViews {
         ensures { IfOk result (λ picture. IsPicture form
             (view_asked (state_of machine.now.guest) entry.now.lines.now) picture.items) }
     {
-        let items = items_drawn(alloc, machine, entry, form)?;
-        self.picture_of_items(alloc, items, form)
+        let view = items_drawn(alloc, machine, entry, form)?;
+        self.picture_of_items(alloc, view, form)
     }
 
     // The picture of a view, which is kept then.
@@ -63,51 +63,24 @@ impl LastViews {
     fn picture_of_items(
         &mut self,
         alloc: Global,
-        items: Vec<PictureItem>,
+        view: ViewItems,
         form: PageForm,
     ) -> Result<Vec<u8>, AllocError>
-        ensures { IfOk result (λ picture. IsDrawn form (picture_items_text items.items) picture.items) }
+        ensures { IfOk result (λ picture. IsDrawn form (asked_of view) picture.items) }
     {
-        if items.is_empty() {
+        if view.items.is_empty() {
             return Ok(Vec::new(alloc));
         }
-        let place = self.place_of(items.as_slice());
-        let picture = self.picture_after(alloc, items.as_slice(), place, form)?;
-        self.keep(place, items)?;
+        let place = self.place_of(view.items.as_slice());
+        let picture = picture_after(alloc, &view, self.kept_at(place), form)?;
+        self.keep(place, view)?;
         Ok(picture)
     }
 
-    // The picture of a view after the one that is kept there.
-    fn picture_after(
-        &self,
-        alloc: Global,
-        items: &[PictureItem],
-        place: Result<usize, usize>,
-        form: PageForm,
-    ) -> Result<Vec<u8>, AllocError>
-        ensures { IfOk result (λ picture. IsOfBoxes form (picture_items_text items.now) picture.items
-            ⊎ IsOfRows form (picture_items_text items.now) picture.items) }
-    {
-        let view = PictureView::of(alloc, items)?;
-        match self.view_at(alloc, place)? {
-            Some(before) if before.is_of(&view) => {
-                picture_of_view(alloc, &view, Some(&before), form)
-            }
-            _ => picture_of_view(alloc, &view, None, form),
-        }
-    }
-
-    fn view_at(
-        &self,
-        alloc: Global,
-        place: Result<usize, usize>,
-    ) -> Result<Option<PictureView<'_>>, AllocError> {
+    fn kept_at(&self, place: Result<usize, usize>) -> Option<&ViewItems> {
         match place {
-            Ok(place) => match self.views.get(place) {
-                Some(items) => Ok(Some(PictureView::of(alloc, items.as_slice())?)),
-                None => Ok(None),
-            },
-            Err(_) => Ok(None),
+            Ok(place) => self.views.get(place),
+            Err(_) => None,
         }
     }
 
@@ -115,44 +88,40 @@ impl LastViews {
     fn place_of(&self, items: &[PictureItem]) -> Result<usize, usize> {
         let thing = thing_of(items);
         self.views
-            .binary_search_by(|kept| thing_of(kept.as_slice()).cmp(&thing))
+            .binary_search_by(|kept| thing_of(kept.items.as_slice()).cmp(&thing))
     }
 
     // Keeps a view there.
-    fn keep(
-        &mut self,
-        place: Result<usize, usize>,
-        items: Vec<PictureItem>,
-    ) -> Result<(), AllocError> {
+    fn keep(&mut self, place: Result<usize, usize>, view: ViewItems) -> Result<(), AllocError> {
         match place {
             Ok(place) => {
                 if let Some(kept) = self.views.get_mut(place) {
-                    *kept = items;
+                    *kept = view;
                 }
                 Ok(())
             }
             Err(place) => {
                 let place = place.min(self.views.len());
-                self.views.insert(place, items)?;
+                self.views.insert(place, view)?;
                 Ok(())
             }
         }
     }
 }
 
-// The items of what a page of that form draws of an entry.
+// What a page of that form draws of an entry.
 fn items_drawn(
     alloc: Global,
     machine: &Machine,
     entry: &Entry<'_>,
     form: PageForm,
-) -> Result<Vec<PictureItem>, AllocError>
-    ensures { IfOk result (λ items. picture_items_text items.items ≡ view_drawn form
+) -> Result<ViewItems, AllocError>
+    ensures { IfOk result (λ view. asked_of view ≡ view_drawn form
         (view_asked (state_of machine.now.guest) entry.now.lines.now)) }
 {
     match form {
         PageForm::Text(_) | PageForm::Html => items_for_lines(alloc, machine, entry.lines),
-        PageForm::Transcript => Ok(Vec::new(alloc)),
+        PageForm::Transcript => Ok(ViewItems::none(alloc)),
     }
 }
 
@@ -168,18 +137,17 @@ fn thing_of(items: &[PictureItem]) -> (u8, u32) {
     }
 }
 
-fn picture_of_view(
+// The picture of a view after one from before of the same thing.
+fn picture_after(
     alloc: Global,
-    view: &PictureView<'_>,
-    before: Option<&PictureView<'_>>,
+    view: &ViewItems,
+    before: Option<&ViewItems>,
     form: PageForm,
 ) -> Result<Vec<u8>, AllocError>
-    requires { AreBoxesOf view.now.items.now view.now.boxes.items }
-    ensures { IfOk result (λ picture.
-        IsOfBoxes form (picture_items_text view.now.items.now) picture.items
-        ⊎ IsOfRows form (picture_items_text view.now.items.now) picture.items) }
+    ensures { IfOk result (λ picture. IsOfBoxes form (asked_of view.now) picture.items
+        ⊎ IsOfRows form (picture_items_text view.now.items.items) picture.items) }
 {
-    if view.is_memory() {
+    if are_of_memory(view.items.as_slice()) {
         picture_of_rows(alloc, view, before, form)
     } else {
         picture_of_boxes(alloc, view, before, form)
@@ -189,15 +157,15 @@ fn picture_of_view(
 #[tactic(auto, using(crate::proofs::PictureLemmas::of_rows))]
 fn picture_of_rows(
     alloc: Global,
-    view: &PictureView<'_>,
-    before: Option<&PictureView<'_>>,
+    view: &ViewItems,
+    before: Option<&ViewItems>,
     form: PageForm,
 ) -> Result<Vec<u8>, AllocError>
-    requires { are_of_memory view.now.items.now ≡ true }
+    requires { are_of_memory view.now.items.items ≡ true }
     ensures { IfOk result (λ picture.
-        IsOfRows form (picture_items_text view.now.items.now) picture.items) }
+        IsOfRows form (picture_items_text view.now.items.items) picture.items) }
 {
-    let rows = rows_of(alloc, view.items, before)?;
+    let rows = rows_of(alloc, view.items.as_slice(), items_before(before))?;
     let mut picture = TextSink::new(alloc);
     match push_rows(&mut picture, form, rows.as_slice()) {
         Ok(()) => Ok(picture.into_bytes()),
@@ -205,24 +173,83 @@ fn picture_of_rows(
     }
 }
 
+fn items_before(before: Option<&ViewItems>) -> &[PictureItem] {
+    match before {
+        Some(view) => view.items.as_slice(),
+        None => &[],
+    }
+}
+
 #[tactic(auto, using(crate::proofs::PictureLemmas::of_boxes))]
 fn picture_of_boxes(
     alloc: Global,
-    view: &PictureView<'_>,
-    before: Option<&PictureView<'_>>,
+    view: &ViewItems,
+    before: Option<&ViewItems>,
     form: PageForm,
 ) -> Result<Vec<u8>, AllocError>
-    requires no_memory { are_of_memory view.now.items.now ≡ false }
-    requires boxes { AreBoxesOf view.now.items.now view.now.boxes.items }
-    ensures { IfOk result (λ picture.
-        IsOfBoxes form (picture_items_text view.now.items.now) picture.items) }
+    requires { are_of_memory view.now.items.items ≡ false }
+    ensures { IfOk result (λ picture. IsOfBoxes form (asked_of view.now) picture.items) }
 {
-    let layout = layout_of(alloc, view.boxes.as_slice(), before, line_width(form))?;
+    let views = views_of(alloc, view)?;
+    let older = views_before(alloc, before)?;
+    let layout = layout_of(alloc, views.as_slice(), older.as_slice(), line_width(form))?;
     let mut picture = TextSink::new(alloc);
     match push_boxes(&mut picture, form, &layout) {
         Ok(()) => Ok(picture.into_bytes()),
         Err(WriteFault) => Err(AllocError),
     }
+}
+
+fn views_before(
+    alloc: Global,
+    before: Option<&ViewItems>,
+) -> Result<Vec<PictureView<'_>>, AllocError> {
+    match before {
+        Some(view) => views_of(alloc, view),
+        None => Ok(Vec::new(alloc)),
+    }
+}
+
+// The view of items, and that of each heap that lies in a block of theirs.
+#[tactic(auto, using(crate::proofs::PictureLemmas::no_views))]
+fn views_of(alloc: Global, view: &ViewItems) -> Result<Vec<PictureView<'_>>, AllocError>
+    ensures { IfOk result (λ views. AreViewsOf view.entry.now views.items) }
+{
+    let mut views = Vec::new(alloc);
+    push_view(alloc, &mut views, view.items.as_slice())?;
+    push_inner(alloc, &mut views, view.inner.as_slice())?;
+    Ok(views)
+}
+
+fn push_inner<'a>(
+    alloc: Global,
+    views: &mut Vec<PictureView<'a>>,
+    inner: &'a [Vec<PictureItem>],
+) -> Result<(), AllocError>
+    requires { All HasItsBoxes views.old.items }
+    ensures items { OnOk result (map (λ w. w.items.now) views.new.items
+        ≡ map (λ w. w.items.now) views.old.items ++ map (λ items. items.items) inner.entry.now) }
+    ensures boxes { OnOk result (All HasItsBoxes views.new.items) }
+{
+    for items in inner {
+        push_view(alloc, views, items.as_slice())?;
+    }
+    Ok(())
+}
+
+#[tactic(auto, using(crate::proofs::PictureLemmas::one_view_more))]
+fn push_view<'a>(
+    alloc: Global,
+    views: &mut Vec<PictureView<'a>>,
+    items: &'a [PictureItem],
+) -> Result<(), AllocError>
+    requires { All HasItsBoxes views.old.items }
+    ensures items { OnOk result (map (λ w. w.items.now) views.new.items
+        ≡ map (λ w. w.items.now) views.old.items ++ items.entry.now ∷ []) }
+    ensures boxes { OnOk result (All HasItsBoxes views.new.items) }
+{
+    views.push(PictureView::of(alloc, items)?)?;
+    Ok(())
 }
 
 // For how wide a line the boxes of a bar are laid out.

@@ -54,7 +54,7 @@ svg text.change { font-weight: 700; fill: var(--change); }
 svg text.word, svg text.size { paint-order: stroke; stroke: var(--paper); stroke-width: 3px; stroke-linejoin: round; }
 svg rect { stroke: var(--edge); stroke-width: 1; fill: var(--paper); }
 svg rect.live, svg rect.block, svg rect.area, svg rect.module { fill: var(--live); }
-svg rect.descriptor, svg rect.word { fill: var(--head); }
+svg rect.descriptor, svg rect.word, svg rect.header { fill: var(--head); }
 svg rect.free, svg rect.unmapped { fill: url(#hatch); }
 svg rect.room, svg rect.unused, svg rect.pool { stroke-dasharray: 4 3; }
 svg rect.byte { stroke: var(--line); }

@@ -19,6 +19,7 @@ const AREAS_PAGE: &str = "    1  AREAS
 
        signs: d descriptor, # block, area or module, . free, p page pool, w private word,
        ~ what an area may grow by, / ends a box that is not to scale, ^ under what has changed
+       h header of a flex block, [ ] a heap in a block, { } the same beside what is not to scale
 ";
 
 /// A byte that has changed since the last look at the same address is marked.
@@ -33,10 +34,11 @@ const MEM_PAGE: &str = "    1  POKE &9000 &12345678
 
        signs: d descriptor, # block, area or module, . free, p page pool, w private word,
        ~ what an area may grow by, / ends a box that is not to scale, ^ under what has changed
+       h header of a flex block, [ ] a heap in a block, { } the same beside what is not to scale
 ";
 
-/// Of 112 bytes, 20 have 10 characters of 60, 12 have 6, and the room after them 42; then of 120
-/// bytes 12 have 6 and the room 54. A block's bytes lie after 8 of its header.
+/// Of 128 bytes, the 8 of a header have 3 characters of 60, 20 have 9, 12 have 5, and the room after
+/// them 37; then 12 have 5 and the room 50.
 const FLEX_SCRIPT: &str = "SET R0 &A000
 SET R1 &A080
 CALL &C0000
@@ -68,23 +70,24 @@ const FLEX_PAGE: &str = "    1  SET R0 &A000
        flex 0000A000 0000A080 used 48
        block anchor 00009000 at 0000A008 size 20
        block anchor 00009004 at 0000A024 size 12
-       |##########|######|                                          |
-        A008       A024   A030                                       A080
+       |hhh|#########|hhh|#####|                                     |
+        A000          A01C      A030                                  A080
    11  SET R0 &9000
    12  CALL &C0002
        ok
    13  FLEX
        flex 0000A000 0000A080 used 20
        block anchor 00009004 at 0000A008 size 12
-       |######|                                                      |
-        ^^^^^^ ^^^^^^^^^^^^^^^^^^^^^^^^^^^^^^^^^^^^^^^^^^^^^^^^^^^^^^
-        A008   A014                                                   A080
+       |hhh|#####|                                                  |
+            ^^^^^ ^^^^^^^^^^^^^^^^^^^^^^^^^^^^^^^^^^^^^^^^^^^^^^^^^^
+        A000      A014                                               A080
        0000A008 block slid
        0000A014 room grown
        0000A008 block gone
 
        signs: d descriptor, # block, area or module, . free, p page pool, w private word,
        ~ what an area may grow by, / ends a box that is not to scale, ^ under what has changed
+       h header of a flex block, [ ] a heap in a block, { } the same beside what is not to scale
 ";
 
 /// The second block has its anchor in the last four bytes of the first.
@@ -117,6 +120,7 @@ const MODULES_PAGE: &str = "    1  ASM w 0
 
        signs: d descriptor, # block, area or module, . free, p page pool, w private word,
        ~ what an area may grow by, / ends a box that is not to scale, ^ under what has changed
+       h header of a flex block, [ ] a heap in a block, { } the same beside what is not to scale
 ";
 
 /// The program prints A and ends; nothing stands after what it prints.
@@ -168,6 +172,9 @@ const NARROW_PAGE: &str = "    1  MEM &9000 16
        ~ what an area may grow by,
        / ends a box not to scale,
        ^ under what has changed
+       h header of a flex block,
+       [ ] a heap in a block,
+       { } the same, as / for |
 ";
 
 const REFUSED_PAGE: &str = "    1  HEAP &9000
@@ -338,4 +345,53 @@ fn a_transcript_can_be_typed_again(rt: HostRuntime) {
     let written = page(&rt, "\nHEX a\n00\\\nEND\nSTEP 0", PageForm::Transcript);
     let wanted = ">\n> HEX a\n> 00\\\\\n> END\nhex a: line 1: Syntax\n> STEP 0\\\nat &8000\n";
     assert!(rt; written.bytes() == wanted.as_bytes());
+}
+
+fn count_of(text: &[u8], part: &[u8]) -> usize {
+    (0..text.len())
+        .filter(|place| text[*place..].starts_with(part))
+        .count()
+}
+
+/// One heading of the first rank, a title and a language; each picture is an image with a name and a
+/// description; and no picture is parted where the page is printed.
+#[test]
+fn html_tells_readers_what_it_is(rt: HostRuntime) {
+    let written = page(&rt, "AREAS\nMEM &9000 4\n", PageForm::Html);
+    let text = written.bytes();
+    assert!(rt; count_of(text, b"<h1>".as_slice()) == 1);
+    assert!(rt; has(text, b"<html lang=\"en\">".as_slice()));
+    assert!(rt; has(text, b"<title>A script and its answers</title>".as_slice()));
+    assert!(rt;
+        has(
+            text,
+            b"<title>dynamic areas</title><desc></desc>".as_slice()
+        )
+    );
+    assert!(rt; has(text, b"<title>memory 00009000</title><desc>".as_slice()));
+    assert!(rt; count_of(text, b"<svg role=\"img\"".as_slice()) == 2);
+    assert!(rt; has(text, b"figure { break-inside: avoid; }".as_slice()));
+}
+
+/// A byte that has changed has a second edge, and the description tells its row: no colour tells it
+/// alone.
+#[test]
+fn a_changed_byte_has_a_second_edge(rt: HostRuntime) {
+    let script = "MEM &9000 4\nPOKE &9000 &12345678\nMEM &9000 4\n";
+    let written = page(&rt, script, PageForm::Html);
+    assert!(rt;
+        has(
+            written.bytes(),
+            b"<desc>00009000 changed\n</desc>".as_slice()
+        )
+    );
+    assert!(rt; count_of(written.bytes(), b"<rect class=\"change\"".as_slice()) == 4);
+}
+
+/// What a guest prints may begin with a sign that means something in a transcript.
+#[test]
+fn a_sign_of_transcripts_is_escaped(rt: HostRuntime) {
+    let script = "HEX p\n21 00 A0 E3 00 00 00 EF 11 00 00 EF\nEND\nBOOT p\nRUN\n";
+    let written = page(&rt, script, PageForm::Transcript);
+    assert!(rt; has(written.bytes(), b"> RUN\n\\!stop Exit\n".as_slice()));
 }

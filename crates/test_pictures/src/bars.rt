@@ -44,6 +44,7 @@ fn what_is_not_to_scale_has_another_edge(rt: HostRuntime) {
     ];
     let drawn = "|d/..........|#/#######|#####|                                   |
  1800000      1802EF8   1804F50                                   1810000
+blocks 01802EFC 01802F4C 01804F54
 free chain 01800010 -> end
 ";
     assert!(rt; is_drawn(&rt, &view, 100, drawn));
@@ -81,6 +82,13 @@ fn bars_are_wrapped(rt: HostRuntime) {
  9000  9030  9060  9090  90C0
 |#/#/#/#/#/#/     |
  90F0  9120  9150  9200
+blocks 00009014 00009024 00009034
+       00009044 00009054 00009064
+       00009074 00009084 00009094
+       000090A4 000090B4 000090C4
+       000090D4 000090E4 000090F4
+       00009104 00009114 00009124
+       00009134 00009144
 ";
     assert!(rt; is_drawn(&rt, &view, 40, drawn));
 }
@@ -91,6 +99,7 @@ fn wide_lines_have_wide_bars(rt: HostRuntime) {
     let view = [Heap(0x9000, 256, 256), Live(0x9010, 240)];
     let drawn = "|dddd|######################################################################|
  9000 9010                                                                   9100
+blocks 00009014
 ";
     assert!(rt; is_drawn(&rt, &view, 120, drawn));
 }
@@ -111,6 +120,7 @@ fn chains_are_wrapped(rt: HostRuntime) {
     ];
     let drawn = "|d|..|#|..|#|..|#|..|#####|
  9000 9030 9060 9090 90C0  9100
+blocks 00009034 00009064 00009094 000090C4
 free chain 00009010 -> 00009040 -> 00009070 ->
            000090A0 -> end
 ";

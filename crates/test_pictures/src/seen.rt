@@ -5,7 +5,8 @@ use std::process::Abort;
 use std::test::Fail;
 use view_items::items::Holder;
 use view_items::{PictureItem, PictureView, TextSink};
-use view_pictures::{LINE_WIDTH, layout_of, push_bars, push_told};
+use view_layout::layout_of;
+use view_pictures::{LINE_WIDTH, push_bars, push_told};
 
 /// What is drawn of a view.
 #[derive(Clone, Copy, Debug)]
@@ -57,15 +58,21 @@ pub fn written_picture(
     new: &[PictureItem],
     what: Seen,
 ) -> TextSink {
-    let before = PictureView::of(rt.alloc(), old).expect(rt, "memory");
-    let now = PictureView::of(rt.alloc(), new).expect(rt, "memory");
-    let layout = layout_of(
-        rt.alloc(),
-        now.boxes.as_slice(),
-        Some(&before),
-        what.width(),
-    )
-    .expect(rt, "memory");
+    written_heaps(rt, &[old], &[new], what)
+}
+
+/// What is drawn of a new view and of those of heaps in its blocks, after the old ones.
+pub fn written_heaps(
+    rt: &(impl AllocGlobal + Abort),
+    old: &[&[PictureItem]],
+    new: &[&[PictureItem]],
+    what: Seen,
+) -> TextSink {
+    let before = views_of(rt, old);
+    let now = views_of(rt, new);
+    let layout = layout_of(rt.alloc(), now.as_slice(), before.as_slice(), what.width()).expect(
+        rt, "memory",
+    );
     let mut sink = TextSink::new(rt.alloc());
     let written = match what {
         Seen::Told => push_told(&mut sink, b"", &layout),
@@ -74,4 +81,16 @@ pub fn written_picture(
     };
     written.expect(rt, "memory");
     sink
+}
+
+fn views_of<'a>(
+    rt: &(impl AllocGlobal + Abort),
+    all: &[&'a [PictureItem]],
+) -> Vec<PictureView<'a>> {
+    let mut views = Vec::new(rt.alloc());
+    for items in all {
+        let view = PictureView::of(rt.alloc(), *items).expect(rt, "memory");
+        views.push(view).expect(rt, "memory");
+    }
+    views
 }

@@ -1,6 +1,6 @@
 //! Pictures as SVG: what they say of themselves, and what is not to scale.
 
-use crate::seen::{Seen, inside, written_picture};
+use crate::seen::{Seen, inside, written_heaps, written_picture};
 use std::process::Abort;
 use std::test::Fail;
 use view_items::PictureItem;
@@ -53,9 +53,10 @@ fn a_box_that_is_higher_than_its_share_has_a_zigzag(rt: HostRuntime) {
     assert!(rt; !has(plain.bytes(), b"class=\"break\"".as_slice()));
 }
 
-/// Of 104 bytes, 8 and 4 would have less than 40 of 200, so the blocks stand from 8, 48 and 88 on;
-/// 24 have 46. The anchor of the second is at the upper edge of the first, and that of the third at
-/// its middle; the arrows lead to the middles of these blocks, 68 and 111, but for 2.
+/// Of 128 bytes, 24 and fewer would have less than 40 of 200, so each block has 40, after 24 for its
+/// header: the blocks stand from 32, 96 and 160 on. The anchor of the second is at the upper edge of
+/// the first, and that of the third at its middle; the arrows lead to the middles of these blocks, 116
+/// and 180, but for 2.
 #[test]
 fn an_arrow_leads_from_an_anchor_to_its_block(rt: HostRuntime) {
     let view = [
@@ -66,6 +67,31 @@ fn an_arrow_leads_from_an_anchor_to_its_block(rt: HostRuntime) {
     ];
     let drawn = written_picture(&rt, &view, &view, Seen::Svg);
     let arrows =
-        b"<path class=\"chain\" d=\"M 286 8 V 66\"/><path class=\"chain\" d=\"M 286 28 V 109\"/>";
+        b"<path class=\"chain\" d=\"M 294 32 V 114\"/><path class=\"chain\" d=\"M 294 52 V 178\"/>";
     assert!(rt; has(drawn.bytes(), arrows.as_slice()));
+}
+
+/// A block's own address stands behind its word.
+#[test]
+fn a_block_tells_its_own_address(rt: HostRuntime) {
+    let drawn = written_picture(&rt, &new(), &new(), Seen::Svg);
+    let words = b">live</text><text class=\"size\" x=\"118\" y=\"55\">00009014</text>";
+    assert!(rt; has(drawn.bytes(), words.as_slice()));
+}
+
+/// Of 256 bytes, 16 would have 12 of 200; each descriptor, and the block up to the second heap, has 24
+/// all the same. The second heap's room of 32 bytes has 25, and so has what the block has behind it.
+/// The block reaches from 32 to 130, and what lies in it stands 8 further to the right.
+#[test]
+fn a_heap_stands_inside_its_block(rt: HostRuntime) {
+    let outer = [Heap(0x9000, 112, 256), Live(0x9010, 96)];
+    let inner = [Heap(0x9020, 16, 48)];
+    let heaps = [outer.as_slice(), inner.as_slice()];
+    let drawn = written_heaps(&rt, &heaps, &heaps, Seen::Svg);
+    let block = b"<rect class=\"live\" x=\"74\" y=\"32\" width=\"228\" height=\"98\"/>";
+    let descriptor = b"<rect class=\"descriptor\" x=\"82\" y=\"56\" width=\"204\" height=\"24\"/>";
+    let room = b"<rect class=\"room\" x=\"82\" y=\"80\" width=\"204\" height=\"25\"/>";
+    assert!(rt; has(drawn.bytes(), block.as_slice()));
+    assert!(rt; has(drawn.bytes(), descriptor.as_slice()));
+    assert!(rt; has(drawn.bytes(), room.as_slice()));
 }

@@ -96,6 +96,8 @@ change_since b (Some o) = change_by b.kind b o.own
 abbrev pub change_by_kind : BoxKind → Bool → List PictureBox → PictureBox → Option OlderBox → BoxChange
 change_by_kind kind.Descriptor is_tidied olds b older = change.Same
 change_by_kind kind.Unused is_tidied olds b older = change.Same
+change_by_kind kind.Header is_tidied olds b older = change.Same
+change_by_kind kind.Rest is_tidied olds b older = change.Same
 change_by_kind kind.Free is_tidied olds b older = free_change is_tidied olds b older
 change_by_kind other is_tidied olds b older = change_since b older
 

@@ -21,7 +21,8 @@ abbrev pub is_replaced : List PictureBox → PictureBox → Bool
 is_replaced news o = is_carved o.kind && list_any (λ b. stands_there o b) news
 
 -- Whether the older box with a place is no more: no box was that one, and none of a heap stands
--- there. A descriptor, a pool and what an area may grow by are always there.
+-- there. A descriptor, a flex block's header, a pool and what
+-- an area may grow by are told with what they belong to.
 abbrev pub is_gone : List BoxHistory → List PictureBox → ℕ → PictureBox → Bool
 is_gone histories news place o = not (is_lasting o.kind)
     && not (list_any (λ h. is_at_place place h.older) histories || is_replaced news o)

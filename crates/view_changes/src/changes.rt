@@ -96,7 +96,7 @@ pub fn box_change(
     ensures { result ≡ box_change is_tidied olds.now own.now older.entry }
 {
     match own.kind {
-        BoxKind::Descriptor | BoxKind::Unused => BoxChange::Same,
+        BoxKind::Descriptor | BoxKind::Unused | BoxKind::Header | BoxKind::Rest => BoxChange::Same,
         BoxKind::Free => free_change(is_tidied, olds, own, older),
         _ => change_since(own, older),
     }

@@ -59,14 +59,15 @@ own_place (item.Row address bytes) = None
 abbrev pub between : BoxKind → ℕ → ℕ → Option BoxPlace
 between k from to = if nat_lt from to && nat_lt to (2 ^ 32) then Some (plain_place k from (to - from)) else None
 
--- what an area may grow by
-abbrev pub growth_place : PictureItem → Option BoxPlace
-growth_place (item.Area number base pages max name) =
+-- what an area may grow by, and the header of a flex block: the two words before its bytes
+abbrev pub second_place : PictureItem → Option BoxPlace
+second_place (item.Area number base pages max name) =
     between kind.Unused (base + pages * 4096) (base + max)
-growth_place other = None
+second_place (item.Block anchor address size holder) = between kind.Header (address - 8) address
+second_place other = None
 
 abbrev pub item_places : PictureItem → List BoxPlace
-item_places i = option_to_list (own_place i) ++ option_to_list (growth_place i)
+item_places i = option_to_list (own_place i) ++ option_to_list (second_place i)
 
 -- the room after the last used byte of a heap or the flex store
 abbrev pub room_place : PictureItem → Option BoxPlace

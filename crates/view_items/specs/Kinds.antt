@@ -15,6 +15,8 @@ kind_word kind.Unused = codes "unused"
 kind_word kind.Pool = codes "pool"
 kind_word kind.Module = codes "module"
 kind_word kind.Word = codes "word"
+kind_word kind.Header = codes "header"
+kind_word kind.Rest = codes "rest"
 
 -- the character that fills it in a bar
 abbrev pub kind_sign : BoxKind → ℕ
@@ -28,6 +30,8 @@ kind_sign kind.Unused = 126
 kind_sign kind.Pool = 112
 kind_sign kind.Module = 35
 kind_sign kind.Word = 119
+kind_sign kind.Header = 104
+kind_sign kind.Rest = 35
 
 -- whether it has a second line, for a name, an anchor or a word's value
 abbrev pub has_second_line : BoxKind → Bool
@@ -67,12 +71,18 @@ abbrev pub is_module : BoxKind → Bool
 is_module kind.Module = true
 is_module other = false
 
--- there as long as its heap, its area or the machine is
+-- there as long as its heap, its block, its area or the machine is
 abbrev pub is_lasting : BoxKind → Bool
 is_lasting kind.Descriptor = true
 is_lasting kind.Unused = true
 is_lasting kind.Pool = true
+is_lasting kind.Header = true
+is_lasting kind.Rest = true
 is_lasting other = false
+
+abbrev pub is_rest : BoxKind → Bool
+is_rest kind.Rest = true
+is_rest other = false
 
 abbrev pub kind_number : BoxKind → ℕ
 kind_number kind.Descriptor = 0
@@ -85,6 +95,8 @@ kind_number kind.Unused = 6
 kind_number kind.Pool = 7
 kind_number kind.Module = 8
 kind_number kind.Word = 9
+kind_number kind.Header = 10
+kind_number kind.Rest = 11
 
 abbrev pub same_kind : BoxKind → BoxKind → Bool
 same_kind one other = kind_number one == kind_number other

@@ -1,14 +1,17 @@
 //! The boxes of a picture: one for each thing that a view tells of, and one for the room that is
 //! left.
 
-ghost use Rattle.std.specs.Prelude.{◌≡◌, ◌+◌, ◌++◌, IfOk, OnOk, map};
+ghost use Rattle.std.specs.Prelude.{◌≡◌, ◌≤◌, ◌+◌, ◌^◌, ◌++◌, IfOk, OnOk, map};
 ghost use Rattle.std.specs.Option.{option_map, option_to_list};
-ghost use Rattle.view_items.specs.Boxes.{AreBoxesOf, between, box_rank, growth_place, own_place, place_of_box, plain_place};
+ghost use Rattle.view_items.specs.Boxes.{AreBoxesOf, between, box_rank, own_place, second_place, place_of_box, plain_place};
 ghost use Rattle.view_items.specs.Boxes.{places_told, room_place, room_places};
 
 use crate::items::{Holder, PictureItem};
 use crate::kinds::BoxKind;
 use std::alloc::{AllocError, Global};
+
+// How many bytes the header of a flex block has.
+const HEADER_BYTES: u32 = 8;
 
 /// A box of a picture.
 #[derive(Clone, Copy, Debug)]
@@ -28,7 +31,8 @@ pub struct PictureBox<'a> {
 }
 
 impl<'a> PictureBox<'a> {
-    fn plain(kind: BoxKind, address: u32, size: u32) -> PictureBox<'a>
+    /// A box with no name, no anchor and no word.
+    pub fn plain(kind: BoxKind, address: u32, size: u32) -> PictureBox<'a>
         ensures { place_of_box result ≡ plain_place kind address size }
     {
         PictureBox {
@@ -48,9 +52,10 @@ impl<'a> PictureBox<'a> {
         u64::from(self.address) + u64::from(self.size)
     }
 
-    // Where it stands among the boxes of a picture: by its address, and last what is at none.
-    fn rank(&self) -> u64
-        ensures { result ≡ box_rank self.now }
+    /// Where it stands among the boxes of a picture: by its address, and last what is at none.
+    pub fn rank(&self) -> u64
+        ensures value { result ≡ box_rank self.now }
+        ensures small { result ≤ 2 ^ 32 }
     {
         if self.kind.is_pool() {
             1 << 32
@@ -61,8 +66,8 @@ impl<'a> PictureBox<'a> {
 }
 
 /// The boxes of the items of a view, from low addresses to high: one for each item that has a place
-/// in memory, one for what an area may grow by, and one for the room after a heap's or the flex
-/// store's last used byte. The page pool comes last.
+/// in memory, one for what an area may grow by, one for the header of a flex block, and one for the
+/// room after a heap's or the flex store's last used byte. The page pool comes last.
 ///
 /// # Errors
 ///
@@ -88,7 +93,7 @@ fn boxes_as_told<'a>(
     let mut boxes = Vec::new(alloc);
     for item in items {
         push_found(&mut boxes, box_of(item))?;
-        push_found(&mut boxes, growth_of(item))?;
+        push_found(&mut boxes, second_of(item))?;
     }
     push_found(&mut boxes, room_of_all(items))?;
     Ok(boxes)
@@ -162,15 +167,20 @@ fn between<'a>(kind: BoxKind, from: u64, to: u64) -> Option<PictureBox<'a>>
     }
 }
 
-// What an area may grow by.
-fn growth_of<'a>(item: &PictureItem) -> Option<PictureBox<'a>>
-    ensures { option_map place_of_box result ≡ growth_place item.entry.now }
+// What an area may grow by, and the header of a flex block.
+fn second_of<'a>(item: &PictureItem) -> Option<PictureBox<'a>>
+    ensures { option_map place_of_box result ≡ second_place item.entry.now }
 {
     match item {
         PictureItem::Area(_, base, pages, max, _) => between(
             BoxKind::Unused,
             u64::from(*base) + u64::from(*pages) * 4096,
             behind(*base, *max),
+        ),
+        PictureItem::Block(_, address, _, _) => between(
+            BoxKind::Header,
+            u64::from(address.saturating_sub(HEADER_BYTES)),
+            u64::from(*address),
         ),
         _ => None,
     }

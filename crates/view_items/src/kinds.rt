@@ -2,7 +2,7 @@
 
 ghost use Rattle.std.specs.Prelude.{◌≡◌};
 ghost use Rattle.view_items.specs.Kinds.{has_second_line, is_block, is_carved, is_descriptor, is_free, is_lasting, is_live, is_module};
-ghost use Rattle.view_items.specs.Kinds.{is_pool, kind_number, kind_sign, kind_word, same_kind};
+ghost use Rattle.view_items.specs.Kinds.{is_pool, is_rest, kind_number, kind_sign, kind_word, same_kind};
 
 /// What a box stands for.
 #[derive(Clone, Copy, Debug)]
@@ -27,6 +27,10 @@ pub enum BoxKind {
     Module,
     /// The private word of an instance.
     Word,
+    /// The two words before the bytes of a flex block.
+    Header,
+    /// What a block has behind a heap that lies in it.
+    Rest,
 }
 
 impl BoxKind {
@@ -45,6 +49,8 @@ impl BoxKind {
             BoxKind::Pool => b"pool",
             BoxKind::Module => b"module",
             BoxKind::Word => b"word",
+            BoxKind::Header => b"header",
+            BoxKind::Rest => b"rest",
         }
     }
 
@@ -54,12 +60,14 @@ impl BoxKind {
     {
         match self {
             BoxKind::Descriptor => b'd',
-            BoxKind::Live | BoxKind::Block | BoxKind::Area | BoxKind::Module => b'#',
+            BoxKind::Live | BoxKind::Block | BoxKind::Area | BoxKind::Module | BoxKind::Rest =>
+                b'#',
             BoxKind::Free => b'.',
             BoxKind::Room => b' ',
             BoxKind::Unused => b'~',
             BoxKind::Pool => b'p',
             BoxKind::Word => b'w',
+            BoxKind::Header => b'h',
         }
     }
 
@@ -122,11 +130,21 @@ impl BoxKind {
         matches!(self, BoxKind::Module)
     }
 
-    /// Whether it is there as long as its heap, its area or the machine is.
+    /// Whether it is there as long as its heap, its block, its area or the machine is.
     pub fn is_lasting(self) -> bool
         ensures { result ≡ is_lasting self }
     {
-        matches!(self, BoxKind::Descriptor | BoxKind::Unused | BoxKind::Pool)
+        matches!(
+            self,
+            BoxKind::Descriptor | BoxKind::Unused | BoxKind::Pool | BoxKind::Header | BoxKind::Rest
+        )
+    }
+
+    /// Whether it is what a block has behind a heap that lies in it.
+    pub fn is_rest(self) -> bool
+        ensures { result ≡ is_rest self }
+    {
+        matches!(self, BoxKind::Rest)
     }
 
     /// Whether both are one kind.
@@ -150,6 +168,8 @@ impl BoxKind {
             BoxKind::Pool => 7,
             BoxKind::Module => 8,
             BoxKind::Word => 9,
+            BoxKind::Header => 10,
+            BoxKind::Rest => 11,
         }
     }
 }

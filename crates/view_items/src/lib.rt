@@ -12,4 +12,4 @@ pub use boxes::{PictureBox, boxes_of};
 pub use items::{PictureItem, byte_digits};
 pub use kinds::BoxKind;
 pub use text_sink::TextSink;
-pub use views::PictureView;
+pub use views::{PictureView, are_of_memory};

@@ -31,16 +31,6 @@ impl<'a> PictureView<'a> {
         Ok(PictureView { items, boxes })
     }
 
-    /// Whether it is a view of memory.
-    pub fn is_memory(&self) -> bool
-        ensures { result ≡ are_of_memory self.now.items.now }
-    {
-        match self.items {
-            [first, ..] => is_row(first),
-            [] => false,
-        }
-    }
-
     /// Whether both look at the same thing: the heap or the memory of one address, or the one
     /// store, all areas or all modules.
     pub fn is_of(&self, other: &PictureView<'_>) -> bool
@@ -50,6 +40,16 @@ impl<'a> PictureView<'a> {
             ([first, ..], [other_first, ..]) => is_of_one(first, other_first),
             _ => false,
         }
+    }
+}
+
+/// Whether items are those of a view of memory.
+pub fn are_of_memory(items: &[PictureItem]) -> bool
+    ensures { result ≡ are_of_memory items.now }
+{
+    match items {
+        [first, ..] => is_row(first),
+        [] => false,
     }
 }
 

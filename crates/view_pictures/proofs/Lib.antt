@@ -1,3 +1,3 @@
-pub mod LayoutLemmas
+pub mod BarLemmas
 pub mod LegendLemmas
 pub mod RowLemmas

@@ -4,21 +4,29 @@ use Rattle.std.specs.Prelude.{length, take, drop, replicate, Option, Some, None,
 use Rattle.std.specs.List.{flat_map, list_any}
 use Rattle.profile.specs.Digits.{hex_number}
 use Rattle.view_items.specs.Kinds.{is_pool, kind_sign}
-use Rattle.view_pictures.specs.Chain.{chain}
+use Rattle.view_pictures.specs.Anchors.{anchor_lines}
+use Rattle.view_pictures.specs.Blocks.{own_address_lines}
+use Rattle.view_pictures.specs.Chain.{chains}
 use Rattle.view_pictures.specs.Told.{has_changed, told_lines}
 use Rattle.view_items.specs.declared.boxes.PictureBox.{PictureBox}
-use Rattle.view_pictures.specs.declared.layout.Drawn.{Drawn}
-use Rattle.view_pictures.specs.declared.layout.Layout.{Layout}
+use Rattle.view_layout.specs.declared.layout.Drawn.{Drawn}
+use Rattle.view_layout.specs.declared.layout.Layout.{Layout}
 
--- the right edge of a box: another where it is wider than its share
+-- the right edge of a box, by whether it is wider than its share, and whether a heap in a block begins
+-- or ends there
+abbrev pub edge_sign : Bool → Bool → Bool → List ℕ
+edge_sign is_widened true ends = if is_widened then codes "{" else codes "["
+edge_sign is_widened false true = if is_widened then codes "}" else codes "]"
+edge_sign is_widened false false = if is_widened then codes "/" else codes "|"
+
 abbrev pub bar_edge : Drawn → List ℕ
-bar_edge d = if d.is_widened then codes "/" else codes "|"
+bar_edge d = edge_sign d.is_widened (nat_lt d.depth d.behind) (nat_lt d.behind d.depth)
 
 -- a box in a bar, and its right edge
 abbrev pub bar_box : Drawn → List ℕ
 bar_box d = replicate d.width (kind_sign d.own.kind) ++ bar_edge d
 
--- `|d|####|...|    |`
+-- `|d|##[d|###|..]##|    |`
 abbrev pub bar : List Drawn → List ℕ
 bar boxes = codes "|" ++ (flat_map bar_box boxes ++ codes "\n")
 
@@ -109,38 +117,16 @@ bar_rows (suc more) front room end (d ∷ rest) =
     (take (row_length room (d ∷ rest)) (d ∷ rest))
     ++ bar_rows more front room end (drop (row_length room (d ∷ rest)) (d ∷ rest))
 
--- the rows, what has changed, what is gone, and the free chain
-abbrev pub bar_lines : List ℕ → ℕ → Layout → List ℕ
-bar_lines front width layout =
+-- the rows, and what has changed and is gone
+abbrev pub told_rows : List ℕ → ℕ → Layout → List ℕ
+told_rows front width layout =
     bar_rows (length layout.boxes.items) front (row_room front width) layout.end layout.boxes.items
-    ++ (told_lines front layout ++ chain front width layout.boxes.items)
+    ++ told_lines front layout
 
-abbrev pub sign_line : List ℕ → List ℕ
-sign_line front =
-    front ++ codes "signs: d descriptor, # block, area or module, . free, p page pool, w private word,\n"
+-- the blocks' own addresses, the free chains, and the anchors that lie in blocks
+abbrev pub list_lines : List ℕ → ℕ → List Drawn → List ℕ
+list_lines front width boxes =
+    own_address_lines front width boxes ++ (chains front width boxes ++ anchor_lines front boxes)
 
-abbrev pub scale_line : List ℕ → List ℕ
-scale_line front =
-    front ++ codes "~ what an area may grow by, / ends a box that is not to scale, ^ under what has changed\n"
-
-abbrev pub wide_legend : List ℕ → List ℕ
-wide_legend front = sign_line front ++ scale_line front
-
-unfoldable pub legend_line : List ℕ → List ℕ → List ℕ
-legend_line front words = front ++ (words ++ codes "\n")
-
--- the same in lines of at most 28 characters after their first
-abbrev pub narrow_signs : List ℕ → List ℕ
-narrow_signs front =
-    legend_line front (codes "signs: d descriptor, . free,") ++ (legend_line front (codes "# block, area or module,")
-    ++ (legend_line front (codes "p page pool, w private word,")))
-
-abbrev pub narrow_scales : List ℕ → List ℕ
-narrow_scales front =
-    legend_line front (codes "~ what an area may grow by,") ++ (legend_line front (codes "/ ends a box not to scale,")
-    ++ (legend_line front (codes "^ under what has changed")))
-
--- what the signs mean, in lines of so many characters
-abbrev pub bar_legend : List ℕ → ℕ → List ℕ
-bar_legend front width =
-    if nat_lt width (length front + 87) then narrow_signs front ++ narrow_scales front else wide_legend front
+abbrev pub bar_lines : List ℕ → ℕ → Layout → List ℕ
+bar_lines front width layout = told_rows front width layout ++ list_lines front width layout.boxes.items

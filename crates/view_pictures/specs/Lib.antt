@@ -1,7 +1,9 @@
--- The pictures of views. Begin with Layout, then Bars.
+-- The pictures of views. Begin with Bars.
+pub mod Anchors
 pub mod Bars
+pub mod Blocks
 pub mod Chain
-pub mod Layout
+pub mod Legend
 pub mod RowMarks
 pub mod Rows
 pub mod Spelt

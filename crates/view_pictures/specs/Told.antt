@@ -5,8 +5,8 @@ use Rattle.profile.specs.Digits.{hex_word}
 use Rattle.view_changes.specs.Changes.{change_words, is_some_change}
 use Rattle.view_items.specs.Kinds.{is_pool, kind_word}
 use Rattle.view_items.specs.declared.boxes.PictureBox.{PictureBox}
-use Rattle.view_pictures.specs.declared.layout.Drawn.{Drawn}
-use Rattle.view_pictures.specs.declared.layout.Layout.{Layout}
+use Rattle.view_layout.specs.declared.layout.Drawn.{Drawn}
+use Rattle.view_layout.specs.declared.layout.Layout.{Layout}
 
 abbrev pub has_changed : Drawn → Bool
 has_changed d = is_some_change d.change

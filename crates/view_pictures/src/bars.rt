@@ -4,18 +4,20 @@
 ghost use Rattle.std.specs.Prelude.{◌≡◌, ◌<◌, ◌≤◌, drop, length, take};
 ghost use Rattle.std.specs.List.{flat_map, list_any};
 ghost use Rattle.profile.specs.Output.{Writes};
-ghost use Rattle.view_pictures.specs.Bars.{address_line, addresses, bar, bar_box, bar_edge, bar_legend, bar_lines, bar_row, bar_rows};
+ghost use Rattle.view_pictures.specs.Bars.{address_line, addresses, bar, bar_box, bar_edge, bar_lines, bar_row, bar_rows};
+ghost use Rattle.view_pictures.specs.Bars.{edge_sign, list_lines, told_rows};
 ghost use Rattle.view_pictures.specs.Bars.{blanks_after_box, box_mark, box_marks, digits_at, end_digits, end_of_row};
-ghost use Rattle.view_pictures.specs.Bars.{legend_line, narrow_scales, narrow_signs};
-ghost use Rattle.view_pictures.specs.Bars.{has_room, mark_line, place_further, row_count, row_length, row_room, scale_line, sign_line, written_with};
+ghost use Rattle.view_pictures.specs.Bars.{has_room, mark_line, place_further, row_count, row_length, row_room, written_with};
 ghost use Rattle.view_pictures.specs.Told.{has_changed};
 
-use crate::chain::push_chain;
-use crate::layout::{Drawn, Layout};
+use crate::anchors::push_anchors;
+use crate::blocks::push_blocks;
+use crate::chain::push_chains;
 use crate::signs::push_many;
 use crate::told::{has_changed, push_told};
 use profile::{HexText, Sink, WriteFault, push_all, push_parts};
 use view_items::PictureBox;
+use view_layout::{Drawn, Layout};
 
 /// How wide lines of pictures are, where nothing else is asked.
 pub const LINE_WIDTH: usize = 100;
@@ -23,13 +25,10 @@ pub const LINE_WIDTH: usize = 100;
 // The most digits of an address, for which there is room after the last box of a row.
 const ADDRESS_DIGITS: usize = 8;
 
-// The characters of the longer of two lines that tell what the signs mean.
-const LEGEND_WIDTH: usize = 87;
-
 /// Writes a picture of boxes that were laid out for lines of that width. Each row of its bar, the
-/// marks and the addresses under it and the free chain begin with these bytes, and have at most that
-/// many characters, those with them, where one box has room beside them, with 2 for its edges and 8
-/// for an address after it. What doesn't fit in one row goes on in another.
+/// marks and the addresses under it, the blocks' own addresses and the free chains begin with these
+/// bytes, and have at most that many characters, those with them, where one box has room beside them,
+/// with 2 for its edges and 8 for an address after it. What doesn't fit in one row goes on in another.
 pub fn push_bars<W: Sink>(
     sink: &mut W,
     front: &[u8],
@@ -39,70 +38,38 @@ pub fn push_bars<W: Sink>(
     ensures { Writes W.contents W.has_failed sink.old sink.new result
         (bar_lines front.now width layout.now) }
 {
-    let boxes = layout.boxes.as_slice();
+    push_told_rows(sink, front, width, layout)?;
+    push_lists(sink, front, width, layout.boxes.as_slice())
+}
+
+// The rows, and what has changed and is gone.
+fn push_told_rows<W: Sink>(
+    sink: &mut W,
+    front: &[u8],
+    width: usize,
+    layout: &Layout<'_>,
+) -> Result<(), WriteFault>
+    ensures { Writes W.contents W.has_failed sink.old sink.new result
+        (told_rows front.now width layout.now) }
+{
     let room = row_room(front, width);
-    push_rows(sink, front, room, layout.end, boxes)?;
-    push_told(sink, front, layout)?;
-    push_chain(sink, front, width, boxes)
+    push_rows(sink, front, room, layout.end, layout.boxes.as_slice())?;
+    push_told(sink, front, layout)
 }
 
-/// Writes what the signs of these pictures mean. Each line begins with these bytes, and has at most
-/// that many characters, those with them, where 28 have room beside them.
-pub fn push_bar_legend<W: Sink>(sink: &mut W, front: &[u8], width: usize) -> Result<(), WriteFault>
-    ensures { Writes W.contents W.has_failed sink.old sink.new result (bar_legend front.now width) }
+// The blocks' own addresses, the free chains, and the anchors that lie in blocks.
+fn push_lists<W: Sink>(
+    sink: &mut W,
+    front: &[u8],
+    width: usize,
+    boxes: &[Drawn<'_>],
+) -> Result<(), WriteFault>
+    ensures { Writes W.contents W.has_failed sink.old sink.new result
+        (list_lines front.now width boxes.now) }
 {
-    if width < front.len().saturating_add(LEGEND_WIDTH) {
-        push_narrow_signs(sink, front)?;
-        push_narrow_scales(sink, front)
-    } else {
-        push_sign_line(sink, front)?;
-        push_scale_line(sink, front)
-    }
-}
-
-fn push_narrow_signs<W: Sink>(sink: &mut W, front: &[u8]) -> Result<(), WriteFault>
-    ensures { Writes W.contents W.has_failed sink.old sink.new result (narrow_signs front.now) }
-{
-    push_legend_line(sink, front, b"signs: d descriptor, . free,")?;
-    push_legend_line(sink, front, b"# block, area or module,")?;
-    push_legend_line(sink, front, b"p page pool, w private word,")?;
-    Ok(())
-}
-
-fn push_narrow_scales<W: Sink>(sink: &mut W, front: &[u8]) -> Result<(), WriteFault>
-    ensures { Writes W.contents W.has_failed sink.old sink.new result (narrow_scales front.now) }
-{
-    push_legend_line(sink, front, b"~ what an area may grow by,")?;
-    push_legend_line(sink, front, b"/ ends a box not to scale,")?;
-    push_legend_line(sink, front, b"^ under what has changed")?;
-    Ok(())
-}
-
-#[tactic(auto, unfolding(crate::specs::Bars::legend_line))]
-fn push_legend_line<W: Sink>(sink: &mut W, front: &[u8], words: &[u8]) -> Result<(), WriteFault>
-    ensures { Writes W.contents W.has_failed sink.old sink.new result (legend_line front.now words.now) }
-{
-    push_parts(sink, &[front, words, b"\n".as_slice()])
-}
-
-fn push_sign_line<W: Sink>(sink: &mut W, front: &[u8]) -> Result<(), WriteFault>
-    ensures { Writes W.contents W.has_failed sink.old sink.new result (sign_line front.now) }
-{
-    push_all(sink, front)?;
-    push_all(
-        sink,
-        b"signs: d descriptor, # block, area or module, . free, p page pool, w private word,\n",
-    )
-}
-
-fn push_scale_line<W: Sink>(sink: &mut W, front: &[u8]) -> Result<(), WriteFault>
-    ensures { Writes W.contents W.has_failed sink.old sink.new result (scale_line front.now) }
-{
-    push_all(sink, front)?;
-    push_all(
-        sink,
-        b"~ what an area may grow by, / ends a box that is not to scale, ^ under what has changed\n",
-    )
+    push_blocks(sink, front, width, boxes)?;
+    push_chains(sink, front, width, boxes)?;
+    push_anchors(sink, front, boxes)
 }
 
 // How many characters the boxes of a row have with their edges, at most.
@@ -114,7 +81,7 @@ fn row_room(front: &[u8], width: usize) -> usize
         .saturating_sub(ADDRESS_DIGITS)
 }
 
-#[tactic(auto, using(crate::proofs::LayoutLemmas::rows_more, crate::proofs::LayoutLemmas::rows_end, view_items::proofs::TextLemmas::text_steps))]
+#[tactic(auto, using(crate::proofs::BarLemmas::rows_more, crate::proofs::BarLemmas::rows_end, view_items::proofs::TextLemmas::text_steps))]
 fn push_rows<W: Sink>(
     sink: &mut W,
     front: &[u8],
@@ -223,11 +190,29 @@ fn push_bar_box<W: Sink>(sink: &mut W, drawn: &Drawn<'_>) -> Result<(), WriteFau
     push_all(sink, bar_edge(drawn))
 }
 
-// The right edge of a box: another where it is wider than its share.
+// The right edge of a box.
 fn bar_edge(drawn: &Drawn<'_>) -> &'static [u8]
     ensures { result.now ≡ bar_edge drawn.now }
 {
-    if drawn.is_widened { b"/" } else { b"|" }
+    edge_sign(
+        drawn.is_widened,
+        drawn.depth < drawn.behind,
+        drawn.behind < drawn.depth,
+    )
+}
+
+// By whether a box is wider than its share, and whether a heap in a block begins or ends there.
+fn edge_sign(is_widened: bool, begins: bool, ends: bool) -> &'static [u8]
+    ensures { result.now ≡ edge_sign is_widened begins ends }
+{
+    match (is_widened, begins, ends) {
+        (true, true, _) => b"{",
+        (false, true, _) => b"[",
+        (true, false, true) => b"}",
+        (false, false, true) => b"]",
+        (true, false, false) => b"/",
+        (false, false, false) => b"|",
+    }
 }
 
 fn is_any_changed(boxes: &[Drawn<'_>]) -> bool

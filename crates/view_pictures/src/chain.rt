@@ -1,41 +1,80 @@
-//! The free chain of a heap, by address, for a terminal.
+//! The free chains of heaps, by address, for a terminal.
 
 ghost use Rattle.std.specs.Prelude.{◌≡◌};
-ghost use Rattle.std.specs.List.{list_any};
+ghost use Rattle.std.specs.List.{flat_map, list_any};
 ghost use Rattle.profile.specs.Output.{Writes};
-ghost use Rattle.view_items.specs.Kinds.{is_free};
-ghost use Rattle.view_pictures.specs.Chain.{chain, chain_link, chain_links, chain_turn, links_after, links_of_line};
+ghost use Rattle.view_pictures.specs.Chain.{chain, chain_by, chain_link, chain_links, chain_turn, chains, is_link, links_after, links_of_line};
 
-use crate::layout::Drawn;
 use profile::{HexText, Sink, WriteFault, push_all, push_parts};
+use view_layout::Drawn;
 
 // The characters of `free chain` and ` end`, and of ` 00009010 ->`.
 const CHAIN_WORDS: usize = 14;
 
 const LINK_WIDTH: usize = 12;
 
-/// Writes the free chain, where a box is free. Each line begins with these bytes and has at most that
-/// many characters, those with them, if one link has room; what doesn't fit goes on in another line.
-pub fn push_chain<W: Sink>(
+/// Writes the free chain of each heap that has free room. Each line begins with these bytes and has at
+/// most that many characters, those with them, if one link has room; what doesn't fit goes on in
+/// another line.
+pub fn push_chains<W: Sink>(
     sink: &mut W,
     front: &[u8],
     width: usize,
     boxes: &[Drawn<'_>],
 ) -> Result<(), WriteFault>
-    ensures { Writes W.contents W.has_failed sink.old sink.new result (chain front.now width boxes.now) }
+    ensures { Writes W.contents W.has_failed sink.old sink.new result (chains front.now width boxes.now) }
 {
-    if !is_any_free(boxes) {
+    for drawn in boxes {
+        push_chain_by(sink, front, width, boxes, drawn)?;
+    }
+    Ok(())
+}
+
+// The chain of the heap with this descriptor.
+fn push_chain_by<W: Sink>(
+    sink: &mut W,
+    front: &[u8],
+    width: usize,
+    boxes: &[Drawn<'_>],
+    drawn: &Drawn<'_>,
+) -> Result<(), WriteFault>
+    ensures { Writes W.contents W.has_failed sink.old sink.new result
+        (chain_by front.now width boxes.now drawn.now) }
+{
+    if !drawn.own.kind.is_descriptor() {
+        return Ok(());
+    }
+    push_chain(sink, front, width, drawn.own.address, boxes)
+}
+
+// The chain of the heap that starts there.
+fn push_chain<W: Sink>(
+    sink: &mut W,
+    front: &[u8],
+    width: usize,
+    heap: u32,
+    boxes: &[Drawn<'_>],
+) -> Result<(), WriteFault>
+    ensures { Writes W.contents W.has_failed sink.old sink.new result (chain front.now width heap boxes.now) }
+{
+    if !is_any_free(heap, boxes) {
         return Ok(());
     }
     push_parts(sink, &[front, b"free chain".as_slice()])?;
-    push_links(sink, front, links_of_line(front, width), boxes)?;
+    push_links(sink, front, links_of_line(front, width), heap, boxes)?;
     push_all(sink, b" end\n")
 }
 
-fn is_any_free(boxes: &[Drawn<'_>]) -> bool
-    ensures { result ≡ list_any (λ d. is_free d.own.kind) boxes.now }
+fn is_any_free(heap: u32, boxes: &[Drawn<'_>]) -> bool
+    ensures { result ≡ list_any (λ d. is_link heap d) boxes.now }
 {
-    boxes.iter().any(|drawn| drawn.own.kind.is_free())
+    boxes.iter().any(|drawn| is_link(heap, drawn))
+}
+
+fn is_link(heap: u32, drawn: &Drawn<'_>) -> bool
+    ensures { result ≡ is_link heap drawn.now }
+{
+    drawn.own.kind.is_free() && drawn.heap == heap
 }
 
 // How many links stand in a line, one at least.
@@ -52,15 +91,16 @@ fn push_links<W: Sink>(
     sink: &mut W,
     front: &[u8],
     most: usize,
+    heap: u32,
     boxes: &[Drawn<'_>],
 ) -> Result<(), WriteFault>
     ensures { Writes W.contents W.has_failed sink.old sink.new result
-        (chain_links front.now most 0 boxes.now) }
+        (chain_links front.now most 0 heap boxes.now) }
 {
     let mut count = 0;
     for drawn in boxes {
-        push_link(sink, front, most, count, drawn)?;
-        count = links_after(most, count, drawn);
+        push_link(sink, front, most, count, heap, drawn)?;
+        count = links_after(most, count, is_link(heap, drawn));
     }
     Ok(())
 }
@@ -71,12 +111,13 @@ fn push_link<W: Sink>(
     front: &[u8],
     most: usize,
     count: usize,
+    heap: u32,
     drawn: &Drawn<'_>,
 ) -> Result<(), WriteFault>
     ensures { Writes W.contents W.has_failed sink.old sink.new result
-        (chain_link front.now most count drawn.now) }
+        (chain_link front.now most count heap drawn.now) }
 {
-    if !drawn.own.kind.is_free() {
+    if !is_link(heap, drawn) {
         return Ok(());
     }
     push_turn(sink, front, most, count)?;
@@ -104,11 +145,11 @@ fn push_turn<W: Sink>(
     push_parts(sink, &[b"\n".as_slice(), front, b"          ".as_slice()])
 }
 
-// How many links stand in the line then.
-fn links_after(most: usize, count: usize, drawn: &Drawn<'_>) -> usize
-    ensures { result ≡ links_after most count drawn.now }
+/// How many links stand in a line then, of which this may be one.
+pub(crate) fn links_after(most: usize, count: usize, is_one: bool) -> usize
+    ensures { result ≡ links_after most count is_one }
 {
-    if !drawn.own.kind.is_free() {
+    if !is_one {
         count
     } else if count < most {
         count + 1

@@ -4,7 +4,7 @@ ghost use Rattle.std.specs.Prelude.{◌≡◌, ◌++◌, IfOk, OnOk, map, slice_
 ghost use Rattle.view_pictures.specs.Rows.{bytes_of_row, is_changed, is_same_byte, row_told, rows_told, top_of};
 
 use std::alloc::{AllocError, Global};
-use view_items::{PictureItem, PictureView};
+use view_items::PictureItem;
 
 const ROW_HEIGHT: u32 = 24;
 
@@ -23,7 +23,7 @@ pub struct GridRow<'a> {
     pub before: &'a [Option<u8>],
 }
 
-/// The rows of a view of memory.
+/// The rows of a view of memory, after one from before, which may be none.
 ///
 /// # Errors
 ///
@@ -31,7 +31,7 @@ pub struct GridRow<'a> {
 pub fn rows_of<'a>(
     alloc: Global,
     items: &'a [PictureItem],
-    before: Option<&PictureView<'a>>,
+    before: &'a [PictureItem],
 ) -> Result<Vec<GridRow<'a>>, AllocError>
     ensures { IfOk result (λ rows. map bytes_of_row rows.items ≡ rows_told items.entry.now) }
 {
@@ -45,7 +45,7 @@ pub fn rows_of<'a>(
 fn push_row_of<'a>(
     rows: &mut Vec<GridRow<'a>>,
     item: &'a PictureItem,
-    before: Option<&PictureView<'a>>,
+    before: &'a [PictureItem],
 ) -> Result<(), AllocError>
     ensures { OnOk result (map bytes_of_row rows.new.items ≡ map bytes_of_row rows.old.items ++ row_told
         item.now) }
@@ -70,13 +70,11 @@ pub fn top_of(count: usize) -> u32
 }
 
 // The bytes that were shown at an address.
-fn row_before<'a>(address: u32, before: Option<&PictureView<'a>>) -> &'a [Option<u8>] {
-    if let Some(view) = before {
-        for item in view.items {
-            if let PictureItem::Row(start, bytes) = item {
-                if *start == address {
-                    return bytes.as_slice();
-                }
+fn row_before(address: u32, before: &[PictureItem]) -> &[Option<u8>] {
+    for item in before {
+        if let PictureItem::Row(start, bytes) = item {
+            if *start == address {
+                return bytes.as_slice();
             }
         }
     }

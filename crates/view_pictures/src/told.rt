@@ -7,10 +7,10 @@ ghost use Rattle.profile.specs.Output.{Writes};
 ghost use Rattle.view_pictures.specs.Told.{address_before, box_words, change_line, change_told, gone_line, gone_told};
 ghost use Rattle.view_pictures.specs.Told.{has_changed, told_lines};
 
-use crate::layout::{Drawn, Layout};
 use profile::{HexText, Sink, WriteFault, push_all, push_parts};
 use view_changes::push_change_words;
 use view_items::PictureBox;
+use view_layout::{Drawn, Layout};
 
 /// Writes a line for each box that has changed, and for each that is no more. Each line begins with
 /// these bytes.

@@ -1,1 +1,2 @@
+pub mod InnerLemmas
 pub mod ToldLemmas

@@ -66,8 +66,8 @@ fn base_of(memory: &AddressMap, heap: u32) -> u32
     memory.load_word(heap + BASE).unwrap_or(0)
 }
 
-// The end of a heap, in bytes from its start.
-fn end_of(memory: &AddressMap, heap: u32) -> u32
+/// The end of a heap, in bytes from its start.
+pub(crate) fn end_of(memory: &AddressMap, heap: u32) -> u32
     requires sound { IsSound (store_of memory.now) }
     requires there { IsSome (find_heap heap (store_of memory.now).heaps) }
     ensures { IfSome (find_heap heap (store_of memory.now).heaps) (λ h. result ≡ h.end) }

@@ -5,6 +5,7 @@
 mod areas;
 mod flex;
 mod heap;
+mod inner;
 mod items;
 mod memory;
 mod modules;
@@ -13,5 +14,6 @@ pub use areas::area_items;
 pub use debugger::swi_dispatch::Machine;
 pub use flex::flex_items;
 pub use heap::heap_items;
+pub use inner::inner_heap_items;
 pub use memory::memory_items;
 pub use modules::module_items;

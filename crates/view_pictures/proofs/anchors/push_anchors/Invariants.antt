@@ -1,0 +1,13 @@
+use Rattle.std.proofs.Common.{◌≡◌, drop}
+use Rattle.std.specs.List.{flat_map}
+use Rattle.profile.specs.Output.{AddsAllBut}
+use Rattle.view_pictures.specs.Anchors.{anchor_line}
+use Rattle.view_pictures.proofs.anchors.push_anchors.Given as goal
+
+-- what stands written, and what is left, is all
+abbrev pub invariant-loop-drawn : goal.invariant-loop-drawn
+invariant-loop-drawn g l = record {
+  text : AddsAllBut (g.W.Sink.contents l.fn.sink) (g.W.Sink.contents l.sink)
+      (flat_map (anchor_line l.front) (drop l.drawn-index l.boxes)) (flat_map (anchor_line l.front) l.fn.boxes);
+  same_flag : g.W.Sink.has_failed l.sink ≡ g.W.Sink.has_failed l.fn.sink;
+}

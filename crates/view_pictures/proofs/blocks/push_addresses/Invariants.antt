@@ -1,0 +1,12 @@
+use Rattle.std.proofs.Common.{◌≡◌, drop}
+use Rattle.profile.specs.Output.{AddsAllBut}
+use Rattle.view_pictures.specs.Blocks.{block_addresses}
+use Rattle.view_pictures.proofs.blocks.push_addresses.Given as goal
+
+-- what stands written, and what is left, is all
+abbrev pub invariant-loop-drawn : goal.invariant-loop-drawn
+invariant-loop-drawn g l = record {
+  text : AddsAllBut (g.W.Sink.contents l.fn.sink) (g.W.Sink.contents l.sink)
+      (block_addresses l.front l.most l.count (drop l.drawn-index l.boxes)) (block_addresses l.fn.front l.fn.most 0 l.fn.boxes);
+  same_flag : g.W.Sink.has_failed l.sink ≡ g.W.Sink.has_failed l.fn.sink;
+}
