@@ -1,0 +1,9 @@
+-- The labels of assembled images, and words that name places. Begin with Labels and Standing.
+pub use Rattle.assembler_names
+pub use Rattle.instances
+pub mod Labels
+pub mod Lines
+pub mod Places
+pub mod Standing
+pub mod Views
+pub mod Words

@@ -1,0 +1,62 @@
+-- A tidy line with numbers in place of words that name places. Words are parted by single spaces.
+use Rattle.std.specs.Prelude.{ℕ, Bool, not, ◌-◌, ◌||◌, nat_lt, List, [], ◌∷◌, ◌++◌, codes, Option, Some, None, if◌then◌else◌}
+use Rattle.std.specs.List.{join_with_byte}
+use Rattle.profile.specs.Digits.{hex_number}
+use Rattle.assembler_names.specs.Words.{is_same_name}
+use Rattle.command_shell_lines.specs.Requests.{words}
+use Rattle.debug_labels.specs.Words.{Naming, place_of_word}
+
+-- lines of this word have places behind it
+abbrev pub is_place_word : List ℕ → Bool
+is_place_word word =
+    is_same_name word (codes "BREAK") || is_same_name word (codes "UNBREAK")
+    || is_same_name word (codes "MEM") || is_same_name word (codes "CODE")
+    || is_same_name word (codes "HEAP") || is_same_name word (codes "POKE")
+    || is_same_name word (codes "STEP") || is_same_name word (codes "WORDS")
+    || is_same_name word (codes "GOSUB") || is_same_name word (codes "WATCH")
+    || is_same_name word (codes "UNWATCH")
+
+-- behind EXPECT, these have no places behind them
+abbrev pub is_text_check : List ℕ → Bool
+is_text_check word =
+    is_same_name word (codes "FLAGS") || is_same_name word (codes "ANSWER")
+    || is_same_name word (codes "LINE") || is_same_name word (codes "ERROR")
+    || is_same_name word (codes "OUTPUT")
+
+-- lines of these two words have places behind them
+abbrev pub has_places_behind : List ℕ → List ℕ → Bool
+has_places_behind word second =
+    if is_same_name word (codes "SET") then not (is_same_name second (codes "PSR")) else (
+    if is_same_name word (codes "EXPECT") then not (is_text_check second) else
+    is_same_name word (codes "PUT"))
+
+-- how many words stand as they are before those that may name places, if any may
+abbrev pub kept_words : List (List ℕ) → Option ℕ
+kept_words (word ∷ second ∷ others) =
+    if is_place_word word then Some 1 else (if has_places_behind word second then Some 2 else None)
+kept_words _ = None
+
+-- `&8004` in place of a word that names a place
+abbrev pub number_or_word : List ℕ → Option ℕ → List ℕ
+number_or_word word (Some value) = codes "&" ++ hex_number value
+number_or_word word None = word
+
+abbrev pub numbered_word : Naming → List ℕ → List ℕ
+numbered_word n word = number_or_word word (place_of_word n word)
+
+-- a word behind so many that stand as they are
+abbrev pub word_behind : Naming → ℕ → List ℕ → List ℕ
+word_behind n kept word = if nat_lt 0 kept then word else numbered_word n word
+
+-- words, of which so many stand as they are
+abbrev pub numbered_words : Naming → ℕ → List (List ℕ) → List (List ℕ)
+numbered_words n kept [] = []
+numbered_words n kept (word ∷ others) = word_behind n kept word ∷ numbered_words n (kept - 1) others
+
+abbrev pub numbered_behind : Naming → List ℕ → Option ℕ → List ℕ
+numbered_behind n line None = line
+numbered_behind n line (Some kept) = join_with_byte 32 (numbered_words n kept (words line))
+
+-- what a line means: the line with the numbers
+abbrev pub line_with_numbers : Naming → List ℕ → List ℕ
+line_with_numbers n line = numbered_behind n line (kept_words (words line))

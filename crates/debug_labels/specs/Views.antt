@@ -1,0 +1,45 @@
+-- Labels and places as text.
+use Rattle.std.specs.Prelude.{ℕ, ◌+◌, ◌%◌, ◌^◌, ◌==◌, List, [], ◌++◌, codes, Option, Some, None, if◌then◌else◌}
+use Rattle.std.specs.Fmt.{decimal}
+use Rattle.std.specs.List.{flat_map}
+use Rattle.profile.specs.Digits.{hex_number, hex_word}
+use Rattle.assembler_names.specs.Labels.{Entries}
+use Rattle.instances_table.specs.Modules.{Module}
+use Rattle.debug_labels.specs.Labels.{ImageLabels}
+use Rattle.debug_labels.specs.Places.{LabelledPlace, place_of}
+use Rattle.debug_labels.specs.Standing.{start_now}
+use Rattle.debug_labels.specs.Words.{Naming}
+
+-- `01800050 double:swi`
+abbrev pub label_line : ℕ → List ℕ → List ℕ → List ℕ
+label_line address image label =
+    hex_word address ++ (codes " " ++ (image ++ (codes ":" ++ (label ++ codes "\n"))))
+
+-- the lines of an image that starts there
+abbrev pub labels_text_from : ℕ → List ℕ → Entries → List ℕ
+labels_text_from start image labels =
+    flat_map (λ (label : List ℕ × ℕ). label_line ((start + label.1) % 2 ^ 32) image label.0) labels
+
+abbrev pub labels_text_of : List Module → ImageLabels → List ℕ
+labels_text_of modules i = labels_text_from (start_now modules i) i.image i.labels
+
+-- a line for each label, image by image in the order in which they were assembled
+abbrev pub labels_text : Naming → List ℕ
+labels_text n = flat_map (labels_text_of n.modules) n.labels
+
+abbrev pub label_offset_text : ℕ → List ℕ
+label_offset_text offset = if offset == 0 then [] else codes "+" ++ decimal offset
+
+-- `countdown:loop+4`
+abbrev pub labelled_place_text : LabelledPlace → List ℕ
+labelled_place_text p = p.image ++ (codes ":" ++ (p.label ++ label_offset_text p.offset))
+
+-- a space and that, or nothing
+abbrev pub spaced_place_text : Option LabelledPlace → List ℕ
+spaced_place_text None = []
+spaced_place_text (Some p) = codes " " ++ labelled_place_text p
+
+-- `at &8004 countdown:loop+4`, or `at &8004` where no label is near
+abbrev pub place_line : Naming → ℕ → List ℕ
+place_line n address =
+    codes "at &" ++ (hex_number address ++ (spaced_place_text (place_of n address) ++ codes "\n"))

@@ -1,0 +1,14 @@
+//! The labels of assembled images, for debuggers: where each stands now, words that name places,
+//! lines with such words as lines with numbers, and places as text.
+#![tactic(auto)]
+
+mod labels;
+mod lines;
+mod places;
+mod standing;
+mod views;
+mod words;
+
+pub use labels::LabelTable;
+pub use places::PlaceLabel;
+pub use words::PlaceNames;

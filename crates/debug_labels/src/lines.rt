@@ -1,0 +1,124 @@
+//! A tidy line with numbers in place of words that name places.
+
+ghost use Rattle.std.specs.Prelude.{◌≡◌, ◌++◌, IfOk, OnOk};
+ghost use Rattle.std.specs.List.{join_with_byte};
+ghost use Rattle.command_shell_lines.specs.Requests.{words};
+ghost use Rattle.debug_labels.specs.Lines.{has_places_behind, is_place_word, is_text_check, kept_words};
+
+use crate::words::PlaceNames;
+use assembler_names::words::is_name;
+use profile::HexText;
+use std::alloc::{AllocError, Global};
+use text_lines::cut;
+
+impl PlaceNames<'_> {
+    ghost use Rattle.debug_labels.specs.Lines.{line_with_numbers, numbered_words, word_behind};
+
+    /// What a tidy line means: the line with a number, as `&8004`, in place of each word that names
+    /// a place, in the lines that have places: behind BREAK, UNBREAK, MEM, CODE, HEAP, POKE, STEP,
+    /// WORDS, GOSUB, WATCH and UNWATCH, and behind one word more after PUT, SET and EXPECT, but
+    /// behind SET PSR and where EXPECT compares text.
+    ///
+    /// # Errors
+    ///
+    /// Memory ran out.
+    pub fn line_with_numbers(&self, alloc: Global, line: &[u8]) -> Result<Vec<u8>, AllocError>
+        ensures { IfOk result (λ text. text.items ≡ line_with_numbers self.now line.now) }
+    {
+        match kept_words(line) {
+            None => Vec::from_slice(alloc, line),
+            Some(kept) => self.numbered(alloc, line, kept),
+        }
+    }
+
+    #[tactic(auto, using(crate::proofs::LineLemmas::numbered_on))]
+    fn numbered(&self, alloc: Global, line: &[u8], kept: usize) -> Result<Vec<u8>, AllocError>
+        ensures { IfOk result (λ text. text.items
+            ≡ join_with_byte 32 (numbered_words self.now kept (words line.now))) }
+    {
+        let mut text = Vec::new(alloc);
+        let mut left = kept;
+        let (mut word, mut rest) = cut(line, b' ');
+        while let Some(others) = rest {
+            self.push_word(word, left, &mut text)?;
+            text.push(b' ')?;
+            left = left.saturating_sub(1);
+            let (next, after) = cut(others, b' ');
+            word = next;
+            rest = after;
+        }
+        self.push_word(word, left, &mut text)?;
+        Ok(text)
+    }
+
+    // Appends a word, or its number where it names a place and is none of those that stand as they
+    // are.
+    fn push_word(&self, word: &[u8], kept: usize, text: &mut Vec<u8>) -> Result<(), AllocError>
+        ensures { OnOk result (text.new.items ≡ text.old.items ++ word_behind self.now kept word.now) }
+    {
+        if kept > 0 {
+            return text.extend_from_slice(word);
+        }
+        match self.place(word) {
+            None => text.extend_from_slice(word),
+            Some(value) => {
+                text.push(b'&')?;
+                text.extend_from_slice(HexText::number(value).as_slice())
+            }
+        }
+    }
+}
+
+// How many words of a line stand as they are before those that may name places, if any may.
+fn kept_words(line: &[u8]) -> Option<usize>
+    ensures { result ≡ kept_words (words line.now) }
+{
+    let (word, rest) = cut(line, b' ');
+    let (second, _) = cut(rest?, b' ');
+    if is_place_word(word) {
+        Some(1)
+    } else if has_places_behind(word, second) {
+        Some(2)
+    } else {
+        None
+    }
+}
+
+// Whether lines of these two words have places behind them.
+fn has_places_behind(word: &[u8], second: &[u8]) -> bool
+    ensures { result ≡ has_places_behind word.now second.now }
+{
+    if is_name(word, b"SET") {
+        !is_name(second, b"PSR")
+    } else if is_name(word, b"EXPECT") {
+        !is_text_check(second)
+    } else {
+        is_name(word, b"PUT")
+    }
+}
+
+fn is_place_word(word: &[u8]) -> bool
+    ensures { result ≡ is_place_word word.now }
+{
+    is_name(word, b"BREAK")
+        || is_name(word, b"UNBREAK")
+        || is_name(word, b"MEM")
+        || is_name(word, b"CODE")
+        || is_name(word, b"HEAP")
+        || is_name(word, b"POKE")
+        || is_name(word, b"STEP")
+        || is_name(word, b"WORDS")
+        || is_name(word, b"GOSUB")
+        || is_name(word, b"WATCH")
+        || is_name(word, b"UNWATCH")
+}
+
+fn is_text_check(word: &[u8]) -> bool
+    ensures { result ≡ is_text_check word.now }
+{
+    is_name(word, b"FLAGS")
+        || is_name(word, b"ANSWER")
+        || is_name(word, b"LINE")
+        || is_name(word, b"ERROR")
+        || is_name(word, b"OUTPUT")
+}

@@ -1,0 +1,134 @@
+//! Labels and places as text.
+
+ghost use Rattle.std.specs.Prelude.{Some};
+ghost use Rattle.std.specs.List.{flat_map};
+ghost use Rattle.profile.specs.Output.{Writes};
+ghost use Rattle.debug_labels.specs.Places.{place_of, told_of_place_label};
+ghost use Rattle.debug_labels.specs.Views.{label_line, labels_text, labels_text_from, labels_text_of};
+ghost use Rattle.debug_labels.specs.Views.{place_line, spaced_place_text};
+
+use crate::labels::{Label, LabelledImage};
+use crate::places::PlaceLabel;
+use crate::words::PlaceNames;
+use instances::Instances;
+use itoa::Buffer;
+use profile::{HexText, Sink, WriteFault, push_all, push_parts};
+
+impl PlaceNames<'_> {
+    /// Writes a line for each label with the address at which it stands now, `01800050 double:swi`,
+    /// image by image in the order in which they were assembled.
+    pub fn show_labels<W: Sink>(&self, sink: &mut W) -> Result<(), WriteFault>
+        ensures { Writes W.contents W.has_failed sink.old sink.new result (labels_text self.now) }
+    {
+        show_images(self.labels.images(), self.modules, sink)
+    }
+
+    /// Writes where an address is: `at &8004 countdown:loop+4`, or `at &8004` where no label is
+    /// near.
+    pub fn show_place<W: Sink>(&self, address: u32, sink: &mut W) -> Result<(), WriteFault>
+        ensures { Writes W.contents W.has_failed sink.old sink.new result (place_line self.now address) }
+    {
+        push_all(sink, b"at &")?;
+        push_all(sink, HexText::number(address).as_slice())?;
+        self.push_place(address, sink)?;
+        push_all(sink, b"\n")
+    }
+
+    /// Writes a space and the label that stands at an address or near below it, with the bytes
+    /// between them, ` countdown:loop+4`; or nothing.
+    pub fn push_place<W: Sink>(&self, address: u32, sink: &mut W) -> Result<(), WriteFault>
+        ensures { Writes W.contents W.has_failed sink.old sink.new result
+            (spaced_place_text (place_of self.now address)) }
+    {
+        match self.label_at(address) {
+            None => Ok(()),
+            Some(place) => push_place_label(place, sink),
+        }
+    }
+}
+
+fn show_images<W: Sink>(
+    images: &[LabelledImage],
+    modules: &Instances,
+    sink: &mut W,
+) -> Result<(), WriteFault>
+    ensures { Writes W.contents W.has_failed sink.old sink.new result
+        (flat_map (labels_text_of modules.now) images.now) }
+{
+    for image in images {
+        image.show(modules, sink)?;
+    }
+    Ok(())
+}
+
+impl LabelledImage {
+    // A line for each label of the image.
+    fn show<W: Sink>(&self, modules: &Instances, sink: &mut W) -> Result<(), WriteFault>
+        ensures { Writes W.contents W.has_failed sink.old sink.new result
+            (labels_text_of modules.now self.now) }
+    {
+        let start = self.start(modules);
+        show_from(start, self.image.as_slice(), self.labels.as_slice(), sink)
+    }
+}
+
+// The lines of an image that starts there.
+fn show_from<W: Sink>(
+    start: u32,
+    image: &[u8],
+    labels: &[Label],
+    sink: &mut W,
+) -> Result<(), WriteFault>
+    ensures { Writes W.contents W.has_failed sink.old sink.new result
+        (labels_text_from start image.now labels.now) }
+{
+    for label in labels {
+        show_label(
+            start.wrapping_add(label.offset),
+            image,
+            label.name.as_slice(),
+            sink,
+        )?;
+    }
+    Ok(())
+}
+
+fn show_label<W: Sink>(
+    address: u32,
+    image: &[u8],
+    label: &[u8],
+    sink: &mut W,
+) -> Result<(), WriteFault>
+    ensures { Writes W.contents W.has_failed sink.old sink.new result
+        (label_line address image.now label.now) }
+{
+    push_parts(
+        sink,
+        &[
+            HexText::word(address).as_slice(),
+            b" ".as_slice(),
+            image,
+            b":".as_slice(),
+            label,
+            b"\n".as_slice(),
+        ],
+    )
+}
+
+fn push_place_label<W: Sink>(place: PlaceLabel, sink: &mut W) -> Result<(), WriteFault>
+    ensures { Writes W.contents W.has_failed sink.old sink.new result
+        (spaced_place_text (Some (told_of_place_label place.entry))) }
+{
+    push_parts(
+        sink,
+        &[b" ".as_slice(), place.image, b":".as_slice(), place.label],
+    )?;
+    if place.offset == 0 {
+        return Ok(());
+    }
+    let mut digits = Buffer::new();
+    push_parts(
+        sink,
+        &[b"+".as_slice(), digits.format(place.offset).as_bytes()],
+    )
+}
