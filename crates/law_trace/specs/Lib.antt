@@ -1,0 +1,2 @@
+-- A law of traces.
+pub mod Laws

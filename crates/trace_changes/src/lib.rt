@@ -1,0 +1,10 @@
+//! What two cores differ in: the registers of all banks, the flags, the mode, and where it goes on.
+#![tactic(auto)]
+
+pub mod laws;
+pub mod registers;
+pub mod status;
+
+pub use arm_core;
+pub use registers::{REGISTERS, RegisterChange, changed_registers, home_of};
+pub use status::{Flag, changed_flag, changed_mode, jump_of, word_behind};

@@ -1,0 +1,3 @@
+pub mod CallLemmas
+pub mod RunLemmas
+pub mod TellingLemmas

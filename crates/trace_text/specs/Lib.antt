@@ -1,0 +1,12 @@
+-- The lines of a traced step. Begin with Columns, then Step.
+pub use Rattle.trace_effects
+pub mod Areas
+pub mod Below
+pub mod Calls
+pub mod Columns
+pub mod Core
+pub mod Errors
+pub mod Start
+pub mod Step
+pub mod Stored
+pub mod Strings

@@ -1,0 +1,17 @@
+-- What a trace keeps of a machine before a step, as the code holds it.
+use Rattle.trace_text.specs.declared.start.StepStart.{StepStart}
+use Rattle.trace_text.specs.Step.{Known}
+
+abbrev pub known_in : StepStart → Known
+known_in start = record {
+  cpu = start.cpu;
+  taking = start.taking;
+  expected = start.expected;
+  is_skipped = start.is_skipped;
+  text_length = start.text_length;
+  stored_at = start.stored_at;
+  old_words = start.old_words.items;
+  frames = start.frames;
+  innermost = start.innermost;
+  areas = start.areas.items;
+}

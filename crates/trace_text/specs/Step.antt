@@ -1,0 +1,184 @@
+-- The lines of one step: what stands at the program counter, before the step is taken, and what the
+-- step leaves. They are a function of the machine before the step and of what the step leaves.
+use Rattle.std.specs.Prelude.{ℕ, ◌%◌, ◌^◌, Bool, true, false, List, [], ◌∷◌, ◌++◌, codes, length, Option, Some, None, if◌then◌else◌}
+use Rattle.std.specs.Option.{option_map}
+use Rattle.profile.specs.Digits.{hex_number, hex_word}
+use Rattle.profile.specs.Word.{bit_of}
+use Rattle.profile.specs.declared.stop.Stop.{Stop}
+use Rattle.address_map.specs.Bytes.{Bytes}
+use Rattle.arm_core.specs.State.{State}
+use Rattle.assembler_text.specs.Printing.{print}
+use Rattle.swi_dispatch_guest.specs.swi_dispatch_frames.specs.Frames.{innermost_frame}
+use Rattle.swi_dispatch_guest.specs.swi_dispatch_frames.specs.declared.frame.Frame.{Frame}
+use Rattle.swi_dispatch_guest.specs.MachineState.{MachineState, StepOutcome, stop_of}
+use Rattle.swi_dispatch_guest.specs.Step.{without_x}
+use Rattle.trace_changes.specs.Status.{word_behind}
+use Rattle.trace_effects.specs.Cause.{cause_of, swi_of_cause}
+use Rattle.trace_effects.specs.Stored.{stored_words}
+use Rattle.trace_effects.specs.declared.cause.Cause.{Cause}
+use Rattle.trace_effects.specs.declared.stored.StoredWords.{StoredWords}
+use Rattle.trace_effects.specs.declared.cause.Cause.TheVariants.{Gate, Unmapped, Skipped, Word}
+use Rattle.trace_text.specs.declared.areas.AreaMark.{AreaMark}
+use Rattle.trace_text.specs.Areas.{area_lines, area_marks}
+use Rattle.trace_text.specs.Below.{entered_word, error_words, frames_kept, left_word, prints_word}
+use Rattle.trace_text.specs.Calls.{call_words}
+use Rattle.trace_text.specs.Columns.{below_text, columns_text, words_behind}
+use Rattle.trace_text.specs.Core.{core_words}
+use Rattle.trace_text.specs.Errors.{stop_word}
+use Rattle.trace_text.specs.Stored.{stored_below, stored_here, word_values_from}
+use Rattle.trace_text.specs.declared.start.Taking.{Taking}
+use Rattle.trace_text.specs.declared.start.Taking.TheVariants as taking
+
+-- how a step is told: an instruction, a store call and whether errors go back from it, the return gate
+abbrev pub taking_swi : Option ℕ → Taking
+taking_swi (Some number) = taking.Call (bit_of number 17) (without_x number)
+taking_swi None = taking.Instruction
+
+abbrev pub taking_of : Cause → Taking
+taking_of Gate = taking.Gate
+taking_of (Word word) = taking_swi (swi_of_cause (Word word))
+taking_of _ = taking.Instruction
+
+abbrev pub word_column : Cause → List ℕ
+word_column (Skipped word) = hex_word word
+word_column (Word word) = hex_word word
+word_column _ = codes "--------"
+
+-- columns 1 to 18
+abbrev pub front_text : ℕ → Cause → List ℕ
+front_text pc cause = hex_word pc ++ (codes " " ++ (word_column cause ++ codes " "))
+
+abbrev pub what_text : ℕ → Cause → List ℕ
+what_text pc Gate = codes "return gate"
+what_text pc Unmapped = codes "unmapped"
+what_text pc (Skipped word) = print word pc
+what_text pc (Word word) = print word pc
+
+-- A store call's own words are told before it, since it can change what it reads.
+abbrev pub taking_text : State → Bytes → ℕ → Taking → List ℕ
+taking_text s b len taking.Instruction = []
+taking_text s b len (taking.Call is_x number) = words_behind len (call_words s b is_x number) ++ codes "\n"
+taking_text s b len taking.Gate = codes "\n"
+
+-- what stands written before the step is taken
+unfoldable pub start_text : State → Bytes → List ℕ
+start_text s b = (let cause = cause_of s b in let text = what_text s.pc cause in
+    front_text s.pc cause ++ (text ++ taking_text s b (length text) (taking_of cause)))
+
+abbrev pub is_skipped : Cause → Bool
+is_skipped (Skipped word) = true
+is_skipped _ = false
+
+-- What a trace knows of the machine before a step: its core, how the step is told, where it is
+-- expected to go on, whether its instruction is skipped, how long the instruction's text is, the words
+-- that it stores to as they are, the frames, and the areas.
+pub record Known : Type 0 where
+  pub cpu : State
+  pub taking : Taking
+  pub expected : ℕ
+  pub is_skipped : Bool
+  pub text_length : ℕ
+  pub stored_at : ℕ
+  pub old_words : List ℕ
+  pub frames : ℕ
+  pub innermost : Option Frame
+  pub areas : List AreaMark
+
+abbrev pub known_by : MachineState → Cause → StoredWords → Known
+known_by s cause stored = record {
+  cpu = s.cpu;
+  taking = taking_of cause;
+  expected = word_behind s.cpu;
+  is_skipped = is_skipped cause;
+  text_length = length (what_text s.cpu.pc cause);
+  stored_at = stored.at;
+  old_words = word_values_from s.store.bytes stored.at stored.count;
+  frames = length s.tables.frames;
+  innermost = innermost_frame s.tables.frames;
+  areas = area_marks s.tables.land.areas;
+}
+
+abbrev pub known_of : MachineState → Known
+known_of s = (let cause = cause_of s.cpu s.store.bytes in known_by s cause (stored_words cause s.cpu))
+
+-- behind an instruction: why it halted the machine, or what it leaves
+abbrev pub skipped_word : Bool → List ℕ
+skipped_word true = codes " skipped"
+skipped_word false = []
+
+abbrev pub instruction_words : Known → MachineState → Option Stop → List ℕ
+instruction_words k now (Some stop) = stop_word stop
+instruction_words k now None = skipped_word k.is_skipped ++ (core_words k.expected k.cpu now.cpu
+    ++ stored_here now.store.bytes k.stored_at k.old_words)
+
+abbrev pub instruction_below : Known → MachineState → Option Stop → List ℕ
+instruction_below k now (Some stop) = []
+instruction_below k now None = stored_below now.store.bytes k.stored_at k.old_words
+
+abbrev pub instruction_end : Known → MachineState → Option Stop → List ℕ
+instruction_end k now stop =
+    words_behind k.text_length (instruction_words k now stop) ++ (codes "\n" ++ instruction_below k now stop)
+
+-- the lines below a store call or the return gate
+abbrev pub core_line : ℕ → Known → MachineState → List ℕ
+core_line kept k now = below_text (error_words kept now ++ core_words k.expected k.cpu now.cpu)
+
+unfoldable pub frame_lines_below : Bool → ℕ → Known → MachineState → List ℕ
+frame_lines_below leaves kept k now = below_text (left_word leaves k.frames k.innermost)
+    ++ below_text (entered_word kept now.tables.frames)
+
+unfoldable pub lines_with : Bool → ℕ → Known → StepOutcome → List ℕ
+lines_with leaves kept k o = core_line kept k o.now ++ (below_text (prints_word o.printed)
+    ++ (frame_lines_below leaves kept k o.now ++ area_lines k.areas o.now.tables.land.areas))
+
+abbrev pub lines_below : Bool → Known → StepOutcome → List ℕ
+lines_below leaves k o = lines_with leaves (frames_kept leaves k.frames) k o
+
+abbrev pub lines_after_call : Bool → Known → StepOutcome → Option Stop → List ℕ
+lines_after_call leaves k o (Some stop) = below_text (stop_word stop)
+lines_after_call leaves k o None = lines_below leaves k o
+
+abbrev pub lines_after_step : Known → Taking → StepOutcome → Option Stop → List ℕ
+lines_after_step k taking.Instruction o stop = instruction_end k o.now stop
+lines_after_step k (taking.Call is_x number) o stop = lines_after_call false k o stop
+lines_after_step k taking.Gate o stop = lines_after_call true k o stop
+
+-- what stands written once the step is taken
+abbrev pub step_end_text : Known → StepOutcome → List ℕ
+step_end_text k o = lines_after_step k k.taking o (option_map stop_of o.now.halt)
+
+-- the lines of a step
+abbrev pub step_text : MachineState → StepOutcome → List ℕ
+step_text s o = start_text s.cpu s.store.bytes ++ step_end_text (known_of s) o
+
+-- A call from outside: `CALL &1D` and the call's words, `LOAD name text` and those of OS_Module 1.
+abbrev pub outside_line : List ℕ → List ℕ → List ℕ
+outside_line text words = columns_text (codes "-------- -------- ") text words
+
+abbrev pub calling_text : ℕ → List ℕ
+calling_text number = codes "CALL &" ++ hex_number number
+
+abbrev pub loading_text : List ℕ → List ℕ
+loading_text words = codes "LOAD " ++ words
+
+abbrev pub call_start_text : State → Bytes → ℕ → List ℕ
+call_start_text s b number =
+    outside_line (calling_text number) (call_words s b true (without_x (number % 2 ^ 24)))
+
+abbrev pub load_start_text : List ℕ → List ℕ
+load_start_text words = outside_line (loading_text words) (codes " XOS_Module 1 Load")
+
+-- the guest is expected to go on where it stands
+abbrev pub known_outside : MachineState → Known
+known_outside s = record {
+  cpu = s.cpu;
+  taking = taking.Call true 0;
+  expected = s.cpu.pc;
+  is_skipped = false;
+  text_length = 0;
+  stored_at = 0;
+  old_words = [];
+  frames = length s.tables.frames;
+  innermost = innermost_frame s.tables.frames;
+  areas = area_marks s.tables.land.areas;
+}

@@ -1,0 +1,151 @@
+//! What a step leaves in the core, as words.
+
+ghost use Rattle.std.specs.Prelude.{◌≡◌, if◌then◌else◌};
+ghost use Rattle.std.specs.List.{flat_map};
+ghost use Rattle.profile.specs.Output.{Writes};
+ghost use Rattle.trace_text.specs.Core.{banked_register_name, carry_flag_words, core_words, flag_word, flag_words, hides, jump_word, mask_flag_words, mode_word, register_word, sign_flag_words};
+
+use arm_core::{Cpu, Mode, Psr};
+use debug_views::push_banked_name;
+use debugger::mode_name;
+use itoa::Buffer;
+use profile::{HexText, Sink, WriteFault, push_all, push_parts};
+use trace_changes::{
+    Flag, RegisterChange, changed_flag, changed_mode, changed_registers, home_of, jump_of,
+};
+
+/// Writes what differs between two cores, the second of which was expected to go on at an address:
+/// each register of all banks, ` R0=00000009`, the program counter where it isn't that address, each
+/// flag and the mode. A register of a bank that the second core's mode doesn't see has its mode
+/// behind its name, ` R13_svc=01C01FFC`.
+pub fn push_core<W: Sink>(
+    sink: &mut W,
+    expected: u32,
+    before: &Cpu,
+    after: &Cpu,
+) -> Result<(), WriteFault>
+    ensures writes { Writes W.contents W.has_failed sink.old sink.new result
+        (core_words expected before.now after.now) }
+{
+    let changes = changed_registers(before, after);
+    push_registers(sink, after.psr().mode, changes.as_slice())?;
+    push_jump(sink, jump_of(expected, after))?;
+    push_flags(sink, before.psr(), after.psr())?;
+    push_mode(sink, changed_mode(before.psr(), after.psr()))
+}
+
+fn push_registers<W: Sink>(
+    sink: &mut W,
+    mode: Mode,
+    changes: &[RegisterChange],
+) -> Result<(), WriteFault>
+    ensures { Writes W.contents W.has_failed sink.old sink.new result
+        (flat_map (register_word mode) changes.now) }
+{
+    for change in changes {
+        push_register(sink, mode, change)?;
+    }
+    Ok(())
+}
+
+fn push_register<W: Sink>(
+    sink: &mut W,
+    mode: Mode,
+    change: &RegisterChange,
+) -> Result<(), WriteFault>
+    ensures { Writes W.contents W.has_failed sink.old sink.new result (register_word mode change.now) }
+{
+    push_all(sink, b" ")?;
+    push_name(sink, mode, change.place)?;
+    push_parts(
+        sink,
+        &[b"=".as_slice(), HexText::word(change.new).as_slice()],
+    )
+}
+
+fn push_name<W: Sink>(sink: &mut W, mode: Mode, place: u32) -> Result<(), WriteFault>
+    ensures { Writes W.contents W.has_failed sink.old sink.new result (banked_register_name mode place) }
+{
+    if place < 15 && !hides(mode, place) {
+        let mut digits = Buffer::new();
+        return push_parts(sink, &[b"R".as_slice(), digits.format(place).as_bytes()]);
+    }
+    let (bank, number) = home_of(place);
+    push_banked_name(sink, bank, number)
+}
+
+fn hides(mode: Mode, number: u32) -> bool
+    ensures { result ≡ hides mode number }
+{
+    match mode {
+        Mode::User => false,
+        Mode::FastInterrupt => number >= 8,
+        Mode::Interrupt | Mode::Supervisor => number >= 13,
+    }
+}
+
+fn push_jump<W: Sink>(sink: &mut W, jump: Option<u32>) -> Result<(), WriteFault>
+    ensures { Writes W.contents W.has_failed sink.old sink.new result (jump_word jump) }
+{
+    match jump {
+        None => Ok(()),
+        Some(at) => push_parts(sink, &[b" PC=".as_slice(), HexText::word(at).as_slice()]),
+    }
+}
+
+fn push_flags<W: Sink>(sink: &mut W, before: Psr, after: Psr) -> Result<(), WriteFault>
+    ensures { Writes W.contents W.has_failed sink.old sink.new result (flag_words before after) }
+{
+    push_sign_flags(sink, before, after)?;
+    push_carry_flags(sink, before, after)?;
+    push_mask_flags(sink, before, after)
+}
+
+fn push_sign_flags<W: Sink>(sink: &mut W, before: Psr, after: Psr) -> Result<(), WriteFault>
+    ensures { Writes W.contents W.has_failed sink.old sink.new result (sign_flag_words before after) }
+{
+    push_flag(sink, b'N', changed_flag(Flag::Negative, before, after))?;
+    push_flag(sink, b'Z', changed_flag(Flag::Zero, before, after))
+}
+
+fn push_carry_flags<W: Sink>(sink: &mut W, before: Psr, after: Psr) -> Result<(), WriteFault>
+    ensures { Writes W.contents W.has_failed sink.old sink.new result (carry_flag_words before after) }
+{
+    push_flag(sink, b'C', changed_flag(Flag::Carry, before, after))?;
+    push_flag(sink, b'V', changed_flag(Flag::Overflow, before, after))
+}
+
+fn push_mask_flags<W: Sink>(sink: &mut W, before: Psr, after: Psr) -> Result<(), WriteFault>
+    ensures { Writes W.contents W.has_failed sink.old sink.new result (mask_flag_words before after) }
+{
+    push_flag(sink, b'I', changed_flag(Flag::InterruptsOff, before, after))?;
+    push_flag(
+        sink,
+        b'F',
+        changed_flag(Flag::FastInterruptsOff, before, after),
+    )
+}
+
+fn push_flag<W: Sink>(sink: &mut W, letter: u8, change: Option<bool>) -> Result<(), WriteFault>
+    ensures { Writes W.contents W.has_failed sink.old sink.new result (flag_word letter change) }
+{
+    match change {
+        None => Ok(()),
+        Some(is_set) => push_all(sink, &[b' ', letter, b'=', digit(is_set)]),
+    }
+}
+
+fn digit(is_set: bool) -> u8
+    ensures { result ≡ (if is_set then 49 else 48) }
+{
+    if is_set { b'1' } else { b'0' }
+}
+
+fn push_mode<W: Sink>(sink: &mut W, mode: Option<Mode>) -> Result<(), WriteFault>
+    ensures { Writes W.contents W.has_failed sink.old sink.new result (mode_word mode) }
+{
+    match mode {
+        None => Ok(()),
+        Some(mode) => push_parts(sink, &[b" mode=".as_slice(), mode_name(mode).as_slice()]),
+    }
+}

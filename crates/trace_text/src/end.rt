@@ -1,0 +1,358 @@
+//! What a trace tells of a step once it is taken.
+
+ghost use Rattle.std.specs.Prelude.{◌≡◌, OnOk};
+ghost use Rattle.std.specs.Io.KnownBytes.{Appends};
+ghost use Rattle.profile.specs.Output.{Writes};
+ghost use Rattle.swi_dispatch_guest.specs.MachineState.{outcome_with};
+ghost use Rattle.swi_dispatch_guest.specs.Parts.{state_of};
+ghost use Rattle.trace_text.specs.Below.{entered_word, error_words, frame_word, frames_kept, has_error, kind_text, left_word, prints_word};
+ghost use Rattle.trace_text.specs.Columns.{below_text};
+ghost use Rattle.trace_text.specs.Step.{skipped_word};
+
+use crate::areas::push_areas;
+use crate::columns::{push_behind, push_below};
+use crate::core::push_core;
+use crate::errors::{push_error, push_stop};
+use crate::start::{StepStart, Taking, innermost};
+use crate::stored::{push_stored_below, push_stored_here};
+use debug_views::push_quoted;
+use debugger::swi_dispatch::{CodeKind, Frame, FrameKind, Machine};
+use itoa::Buffer;
+use profile::{HexText, Sink, Stop, WriteFault, push_all, push_parts};
+use std::alloc::Global;
+use view_items::TextSink;
+
+impl StepStart {
+    ghost use Rattle.trace_text.specs.Start.{known_in};
+    ghost use Rattle.trace_text.specs.Step.{lines_after_call, lines_with, frame_lines_below, core_line, step_end_text, instruction_below, instruction_end, instruction_words, lines_below};
+
+    /// Writes what the step left behind, by the machine after it and what it printed.
+    ///
+    /// # Errors
+    ///
+    /// Where the sink failed, or memory ran out.
+    pub fn tell_end<W: Sink>(
+        &self,
+        alloc: Global,
+        machine: &Machine,
+        printed: &[u8],
+        sink: &mut W,
+    ) -> Result<(), WriteFault>
+        ensures text { OnOk result (Appends (W.contents sink.old) (W.contents sink.new)
+            (step_end_text (known_in self.now) (outcome_with (state_of machine.now.guest) printed.now))) }
+    {
+        let stop = machine.stop();
+        match self.taking {
+            Taking::Instruction => self.end_instruction(alloc, machine, stop, sink),
+            Taking::Call { .. } => self.end_call(alloc, machine, printed, false, stop, sink),
+            Taking::Gate => self.end_call(alloc, machine, printed, true, stop, sink),
+        }
+    }
+
+    fn end_instruction<W: Sink>(
+        &self,
+        alloc: Global,
+        machine: &Machine,
+        stop: Option<Stop>,
+        sink: &mut W,
+    ) -> Result<(), WriteFault>
+        ensures { OnOk result (Appends (W.contents sink.old) (W.contents sink.new)
+            (instruction_end (known_in self.now) (state_of machine.now.guest) stop)) }
+    {
+        let mut words = TextSink::new(alloc);
+        self.push_words(&mut words, machine, stop)?;
+        push_behind(sink, self.text_length, words.bytes())?;
+        push_all(sink, b"\n")?;
+        self.push_stored(sink, machine, stop)
+    }
+
+    // Why an instruction halted the machine, or what it leaves.
+    fn push_words<W: Sink>(
+        &self,
+        sink: &mut W,
+        machine: &Machine,
+        stop: Option<Stop>,
+    ) -> Result<(), WriteFault>
+        ensures { Writes W.contents W.has_failed sink.old sink.new result
+            (instruction_words (known_in self.now) (state_of machine.now.guest) stop) }
+    {
+        match stop {
+            Some(stop) => push_stop(sink, stop),
+            None => {
+                push_skipped(sink, self.is_skipped)?;
+                push_core(sink, self.expected, &self.cpu, machine.cpu())?;
+                push_stored_here(
+                    sink,
+                    machine.memory(),
+                    self.stored_at,
+                    self.old_words.as_slice(),
+                )
+            }
+        }
+    }
+
+    fn push_stored<W: Sink>(
+        &self,
+        sink: &mut W,
+        machine: &Machine,
+        stop: Option<Stop>,
+    ) -> Result<(), WriteFault>
+        ensures { Writes W.contents W.has_failed sink.old sink.new result
+            (instruction_below (known_in self.now) (state_of machine.now.guest) stop) }
+    {
+        match stop {
+            Some(_) => Ok(()),
+            None => push_stored_below(
+                sink,
+                machine.memory(),
+                self.stored_at,
+                self.old_words.as_slice(),
+            ),
+        }
+    }
+
+    // Why a store call or the return gate halted the machine, or what it leaves. The gate leaves a
+    // frame.
+    fn end_call<W: Sink>(
+        &self,
+        alloc: Global,
+        machine: &Machine,
+        printed: &[u8],
+        leaves: bool,
+        stop: Option<Stop>,
+        sink: &mut W,
+    ) -> Result<(), WriteFault>
+        ensures { let o = outcome_with (state_of machine.now.guest) printed.now in
+            OnOk result (Appends (W.contents sink.old) (W.contents sink.new)
+            (lines_after_call leaves (known_in self.now) o stop)) }
+    {
+        match stop {
+            Some(stop) => {
+                let mut words = TextSink::new(alloc);
+                push_stop(&mut words, stop)?;
+                push_below(sink, words.bytes())
+            }
+            None => self.push_lines(alloc, machine, printed, leaves, sink),
+        }
+    }
+
+    fn push_lines<W: Sink>(
+        &self,
+        alloc: Global,
+        machine: &Machine,
+        printed: &[u8],
+        leaves: bool,
+        sink: &mut W,
+    ) -> Result<(), WriteFault>
+        ensures { let o = outcome_with (state_of machine.now.guest) printed.now in
+            OnOk result (Appends (W.contents sink.old) (W.contents sink.new)
+            (lines_below leaves (known_in self.now) o)) }
+    {
+        let kept = frames_kept(leaves, self.frames);
+        self.push_lines_with(alloc, machine, printed, leaves, kept, sink)
+    }
+
+    // The lines where so many frames were kept open.
+    fn push_lines_with<W: Sink>(
+        &self,
+        alloc: Global,
+        machine: &Machine,
+        printed: &[u8],
+        leaves: bool,
+        kept: usize,
+        sink: &mut W,
+    ) -> Result<(), WriteFault>
+        ensures { let o = outcome_with (state_of machine.now.guest) printed.now in
+            OnOk result (Appends (W.contents sink.old) (W.contents sink.new)
+            (lines_with leaves kept (known_in self.now) o)) }
+    {
+        self.push_core_line(alloc, machine, kept, sink)?;
+        push_prints_line(alloc, printed, sink)?;
+        self.push_frame_lines(alloc, machine, leaves, kept, sink)?;
+        push_areas(sink, self.areas.as_slice(), machine.areas().list())
+    }
+
+    // The lines of the frames that were left and entered.
+    fn push_frame_lines<W: Sink>(
+        &self,
+        alloc: Global,
+        machine: &Machine,
+        leaves: bool,
+        kept: usize,
+        sink: &mut W,
+    ) -> Result<(), WriteFault>
+        ensures { OnOk result (Appends (W.contents sink.old) (W.contents sink.new)
+            (frame_lines_below leaves kept (known_in self.now) (state_of machine.now.guest))) }
+    {
+        push_left_line(alloc, leaves, self.frames, self.innermost, sink)?;
+        push_entered_line(alloc, kept, machine.open_frames(), sink)
+    }
+
+    // The line of an error that went back, and of the core.
+    fn push_core_line<W: Sink>(
+        &self,
+        alloc: Global,
+        machine: &Machine,
+        kept: usize,
+        sink: &mut W,
+    ) -> Result<(), WriteFault>
+        ensures { OnOk result (Appends (W.contents sink.old) (W.contents sink.new)
+            (core_line kept (known_in self.now) (state_of machine.now.guest))) }
+    {
+        let mut words = TextSink::new(alloc);
+        push_error_words(&mut words, kept, machine)?;
+        push_core(&mut words, self.expected, &self.cpu, machine.cpu())?;
+        push_below(sink, words.bytes())
+    }
+}
+
+fn push_skipped<W: Sink>(sink: &mut W, is_skipped: bool) -> Result<(), WriteFault>
+    ensures { Writes W.contents W.has_failed sink.old sink.new result (skipped_word is_skipped) }
+{
+    if is_skipped {
+        push_all(sink, b" skipped")
+    } else {
+        Ok(())
+    }
+}
+
+fn frames_kept(leaves: bool, count: usize) -> usize
+    ensures { result ≡ frames_kept leaves count }
+{
+    if leaves {
+        count.saturating_sub(1)
+    } else {
+        count
+    }
+}
+
+fn push_error_words<W: Sink>(sink: &mut W, kept: usize, machine: &Machine) -> Result<(), WriteFault>
+    ensures { Writes W.contents W.has_failed sink.old sink.new result
+        (error_words kept (state_of machine.now.guest)) }
+{
+    if has_error(kept, machine) {
+        push_error(sink, machine.error_number())
+    } else {
+        Ok(())
+    }
+}
+
+fn has_error(kept: usize, machine: &Machine) -> bool
+    ensures { result ≡ has_error kept (state_of machine.now.guest) }
+{
+    machine.cpu().psr().overflow && machine.frames() == kept
+}
+
+/// Writes a line of what was printed, where something was.
+///
+/// # Errors
+///
+/// Where the sink failed, or memory ran out.
+pub fn push_prints_line<W: Sink>(
+    alloc: Global,
+    printed: &[u8],
+    sink: &mut W,
+) -> Result<(), WriteFault>
+    ensures text { OnOk result (Appends (W.contents sink.old) (W.contents sink.new)
+        (below_text (prints_word printed.now))) }
+{
+    let mut words = TextSink::new(alloc);
+    push_prints(&mut words, printed)?;
+    push_below(sink, words.bytes())
+}
+
+fn push_prints<W: Sink>(sink: &mut W, printed: &[u8]) -> Result<(), WriteFault>
+    ensures { Writes W.contents W.has_failed sink.old sink.new result (prints_word printed.now) }
+{
+    if printed.is_empty() {
+        return Ok(());
+    }
+    push_all(sink, b" prints ")?;
+    push_quoted(sink, printed)
+}
+
+fn push_left_line<W: Sink>(
+    alloc: Global,
+    leaves: bool,
+    count: usize,
+    innermost: Option<Frame>,
+    sink: &mut W,
+) -> Result<(), WriteFault>
+    ensures { OnOk result (Appends (W.contents sink.old) (W.contents sink.new)
+        (below_text (left_word leaves count innermost))) }
+{
+    let mut words = TextSink::new(alloc);
+    push_left(&mut words, leaves, count, innermost)?;
+    push_below(sink, words.bytes())
+}
+
+fn push_left<W: Sink>(
+    sink: &mut W,
+    leaves: bool,
+    count: usize,
+    innermost: Option<Frame>,
+) -> Result<(), WriteFault>
+    ensures { Writes W.contents W.has_failed sink.old sink.new result (left_word leaves count innermost) }
+{
+    if leaves {
+        push_frame(sink, b" leaves frame ", count, innermost)
+    } else {
+        Ok(())
+    }
+}
+
+fn push_entered_line<W: Sink>(
+    alloc: Global,
+    kept: usize,
+    frames: &[Frame],
+    sink: &mut W,
+) -> Result<(), WriteFault>
+    ensures { OnOk result (Appends (W.contents sink.old) (W.contents sink.new)
+        (below_text (entered_word kept frames.now))) }
+{
+    let mut words = TextSink::new(alloc);
+    push_entered(&mut words, kept, frames)?;
+    push_below(sink, words.bytes())
+}
+
+fn push_entered<W: Sink>(sink: &mut W, kept: usize, frames: &[Frame]) -> Result<(), WriteFault>
+    ensures { Writes W.contents W.has_failed sink.old sink.new result (entered_word kept frames.now) }
+{
+    if kept < frames.len() {
+        push_frame(sink, b" enters frame ", frames.len(), innermost(frames))
+    } else {
+        Ok(())
+    }
+}
+
+fn push_frame<W: Sink>(
+    sink: &mut W,
+    verb: &[u8],
+    number: usize,
+    frame: Option<Frame>,
+) -> Result<(), WriteFault>
+    ensures { Writes W.contents W.has_failed sink.old sink.new result (frame_word verb.now number frame) }
+{
+    let Some(frame) = frame else {
+        return Ok(());
+    };
+    let mut digits = Buffer::new();
+    push_parts(
+        sink,
+        &[verb, digits.format(number).as_bytes(), b" ".as_slice()],
+    )?;
+    push_kind(sink, frame.kind)
+}
+
+fn push_kind<W: Sink>(sink: &mut W, kind: FrameKind) -> Result<(), WriteFault>
+    ensures { Writes W.contents W.has_failed sink.old sink.new result (kind_text kind) }
+{
+    match kind {
+        FrameKind::Swi(number) => push_parts(
+            sink,
+            &[b"SWI &".as_slice(), HexText::number(number).as_slice()],
+        ),
+        FrameKind::Entry(CodeKind::Initialise) => push_all(sink, b"Initialise"),
+        FrameKind::Entry(CodeKind::Finalise) => push_all(sink, b"Finalise"),
+    }
+}

@@ -1,0 +1,16 @@
+//! The lines of a traced step: its address, its word and its instruction, and what it leaves behind.
+#![tactic(auto)]
+
+pub mod areas;
+pub mod calls;
+pub mod columns;
+pub mod core;
+pub mod end;
+pub mod errors;
+pub mod start;
+pub mod stored;
+pub mod strings;
+
+pub use end::push_prints_line;
+pub use start::StepStart;
+pub use trace_effects;

@@ -1,0 +1,347 @@
+//! What a trace tells of a step before it is taken, and what it keeps of the machine.
+
+ghost use Rattle.std.specs.Prelude.{◌≡◌, length, true, IfOk, OnOk};
+ghost use Rattle.std.specs.Io.KnownBytes.{Appends};
+ghost use Rattle.address_map.specs.Memory.{bytes_of};
+ghost use Rattle.profile.specs.Output.{Writes};
+ghost use Rattle.swi_dispatch_guest.specs.swi_dispatch_frames.specs.Frames.{innermost_frame};
+ghost use Rattle.swi_dispatch_guest.specs.Parts.{state_of};
+ghost use Rattle.trace_effects.specs.Cause.{cause_of};
+ghost use Rattle.trace_text.specs.Calls.{call_words};
+ghost use Rattle.trace_text.specs.Step.{calling_text, front_text, is_skipped, loading_text, outside_line, start_text, taking_of, taking_swi, taking_text, what_text, word_column};
+ghost use Rattle.view_items.specs.TextSink.{sink_text_of};
+
+use crate::areas::{AreaMark, MOST_AREAS, area_marks};
+use crate::calls::push_call;
+use crate::columns::{push_behind, push_line};
+use crate::stored::{MOST_STORED, old_words};
+use address_map::AddressMap;
+use arm_core::Cpu;
+use arrayvec::ArrayVec;
+use assembler_text::disassemble;
+use debugger::swi_dispatch::{Frame, Machine, without_x_bit};
+use profile::word::is_bit_set;
+use profile::{HexText, Sink, WriteFault, push_all, push_parts};
+use std::alloc::Global;
+use trace_changes::word_behind;
+use trace_effects::{Cause, called_swi, stored_words};
+use view_items::TextSink;
+
+/// How a step is told.
+#[derive(Clone, Copy, Debug, PartialEq, Eq)]
+pub enum Taking {
+    /// An instruction that is carried out or skipped, or can't be.
+    Instruction,
+    /// A store call: whether errors go back from it, and its number.
+    Call { is_x: bool, number: u32 },
+    /// The return gate.
+    Gate,
+}
+
+impl Taking {
+    fn of(cause: Cause) -> Taking
+        ensures { result ≡ taking_of cause }
+    {
+        match cause {
+            Cause::Gate => Taking::Gate,
+            Cause::Word(_) => taking_swi(called_swi(cause)),
+            Cause::Skipped(_) | Cause::Unmapped => Taking::Instruction,
+        }
+    }
+}
+
+fn taking_swi(swi: Option<u32>) -> Taking
+    ensures { result ≡ taking_swi swi }
+{
+    match swi {
+        Some(number) => Taking::Call {
+            is_x: is_bit_set(number, 17),
+            number: without_x_bit(number),
+        },
+        None => Taking::Instruction,
+    }
+}
+
+/// What a trace knows of the machine before a step.
+#[derive(Drop)]
+pub struct StepStart {
+    pub(crate) cpu: Cpu,
+    pub(crate) taking: Taking,
+    pub(crate) expected: u32,
+    pub(crate) is_skipped: bool,
+    pub(crate) text_length: usize,
+    pub(crate) stored_at: u32,
+    pub(crate) old_words: ArrayVec<u32, MOST_STORED>,
+    pub(crate) frames: usize,
+    pub(crate) innermost: Option<Frame>,
+    pub(crate) areas: ArrayVec<AreaMark, MOST_AREAS>,
+}
+
+impl StepStart {
+    ghost use Rattle.trace_text.specs.Start.{known_in};
+    ghost use Rattle.trace_text.specs.Step.{call_start_text, known_by, known_of, known_outside, load_start_text, start_text};
+    ghost use Rattle.trace_effects.specs.Stored.{stored_words};
+
+    /// Writes what stands at the program counter, and of a store call what it reads; and keeps what
+    /// the step may change.
+    ///
+    /// # Errors
+    ///
+    /// Where the sink failed, or memory ran out.
+    pub fn tell_step<W: Sink>(
+        alloc: Global,
+        machine: &Machine,
+        sink: &mut W,
+    ) -> Result<StepStart, WriteFault>
+        ensures text { let s = state_of machine.now.guest in OnOk result
+            (Appends (W.contents sink.old) (W.contents sink.new) (start_text s.cpu s.store.bytes)) }
+        ensures known { IfOk result (λ start. known_in start ≡ known_of (state_of machine.now.guest)) }
+    {
+        let cause = Cause::of(machine.cpu(), machine.memory());
+        let text_length = push_start(alloc, machine.cpu(), machine.memory(), cause, sink)?;
+        Ok(StepStart::keeping(machine, cause, text_length))
+    }
+
+    // What is kept of a machine where this stands at the program counter.
+    fn keeping(machine: &Machine, cause: Cause, text_length: usize) -> StepStart
+        requires { text_length ≡ length (what_text (state_of machine.now.guest).cpu.pc cause) }
+        ensures { let s = state_of machine.now.guest in
+            known_in result ≡ known_by s cause (stored_words cause s.cpu) }
+    {
+        let cpu = machine.cpu();
+        let stored = stored_words(cause, cpu);
+        StepStart {
+            cpu: *cpu,
+            taking: Taking::of(cause),
+            expected: word_behind(cpu),
+            is_skipped: is_skipped(cause),
+            text_length,
+            stored_at: stored.at,
+            old_words: old_words(machine.memory(), stored),
+            frames: machine.frames(),
+            innermost: innermost(machine.open_frames()),
+            areas: area_marks(machine.areas().list()),
+        }
+    }
+
+    /// Writes a store call that is made from outside, and what it reads; and keeps what it may
+    /// change.
+    ///
+    /// # Errors
+    ///
+    /// Where the sink failed, or memory ran out.
+    pub fn tell_call<W: Sink>(
+        alloc: Global,
+        machine: &Machine,
+        number: u32,
+        sink: &mut W,
+    ) -> Result<StepStart, WriteFault>
+        ensures text { let s = state_of machine.now.guest in OnOk result
+            (Appends (W.contents sink.old) (W.contents sink.new)
+            (call_start_text s.cpu s.store.bytes number)) }
+        ensures known { IfOk result
+            (λ start. known_in start ≡ known_outside (state_of machine.now.guest)) }
+    {
+        let text = calling_text(alloc, number)?;
+        let words = words_of_call(
+            alloc,
+            machine.cpu(),
+            machine.memory(),
+            without_x_bit(number % (1 << 24)),
+        )?;
+        push_outside(sink, text.bytes(), words.bytes())?;
+        Ok(StepStart::outside(machine))
+    }
+
+    /// Writes that a module is loaded from outside; and keeps what that may change.
+    ///
+    /// # Errors
+    ///
+    /// Where the sink failed, or memory ran out.
+    pub fn tell_load<W: Sink>(
+        alloc: Global,
+        machine: &Machine,
+        words: &[u8],
+        sink: &mut W,
+    ) -> Result<StepStart, WriteFault>
+        ensures text { OnOk result (Appends (W.contents sink.old) (W.contents sink.new)
+            (load_start_text words.now)) }
+        ensures known { IfOk result
+            (λ start. known_in start ≡ known_outside (state_of machine.now.guest)) }
+    {
+        let text = loading_text(alloc, words)?;
+        push_outside(sink, text.bytes(), b" XOS_Module 1 Load")?;
+        Ok(StepStart::outside(machine))
+    }
+
+    // What is kept of a machine that is called from outside.
+    fn outside(machine: &Machine) -> StepStart
+        ensures { known_in result ≡ known_outside (state_of machine.now.guest) }
+    {
+        let cpu = machine.cpu();
+        StepStart {
+            cpu: *cpu,
+            taking: Taking::Call {
+                is_x: true,
+                number: 0,
+            },
+            expected: cpu.pc(),
+            is_skipped: false,
+            text_length: 0,
+            stored_at: 0,
+            old_words: ArrayVec::new(),
+            frames: machine.frames(),
+            innermost: innermost(machine.open_frames()),
+            areas: area_marks(machine.areas().list()),
+        }
+    }
+}
+
+fn push_outside<W: Sink>(sink: &mut W, text: &[u8], words: &[u8]) -> Result<(), WriteFault>
+    ensures { Writes W.contents W.has_failed sink.old sink.new result
+        (outside_line text.now words.now) }
+{
+    push_line(sink, b"-------- -------- ", text, words)
+}
+
+// `CALL &1D`
+fn calling_text(alloc: Global, number: u32) -> Result<TextSink, WriteFault>
+    ensures { IfOk result (λ text. sink_text_of text ≡ calling_text number) }
+{
+    let mut text = TextSink::new(alloc);
+    push_called(&mut text, number)?;
+    Ok(text)
+}
+
+fn push_called<W: Sink>(sink: &mut W, number: u32) -> Result<(), WriteFault>
+    ensures { Writes W.contents W.has_failed sink.old sink.new result (calling_text number) }
+{
+    push_parts(
+        sink,
+        &[b"CALL &".as_slice(), HexText::number(number).as_slice()],
+    )
+}
+
+// `LOAD name text`
+fn loading_text(alloc: Global, words: &[u8]) -> Result<TextSink, WriteFault>
+    ensures { IfOk result (λ text. sink_text_of text ≡ loading_text words.now) }
+{
+    let mut text = TextSink::new(alloc);
+    push_loaded(&mut text, words)?;
+    Ok(text)
+}
+
+fn push_loaded<W: Sink>(sink: &mut W, words: &[u8]) -> Result<(), WriteFault>
+    ensures { Writes W.contents W.has_failed sink.old sink.new result (loading_text words.now) }
+{
+    push_parts(sink, &[b"LOAD ".as_slice(), words])
+}
+
+// The words of a call from outside.
+fn words_of_call(
+    alloc: Global,
+    cpu: &Cpu,
+    memory: &AddressMap,
+    number: u32,
+) -> Result<TextSink, WriteFault>
+    ensures { IfOk result (λ words. sink_text_of words
+        ≡ call_words cpu.now (bytes_of memory.now) true number) }
+{
+    let mut words = TextSink::new(alloc);
+    push_call(&mut words, cpu, memory, true, number)?;
+    Ok(words)
+}
+
+fn is_skipped(cause: Cause) -> bool
+    ensures { result ≡ is_skipped cause }
+{
+    matches!(cause, Cause::Skipped(_))
+}
+
+/// The frame that was opened last, if one is open.
+pub fn innermost(frames: &[Frame]) -> Option<Frame>
+    ensures value { result ≡ innermost_frame frames.now }
+{
+    frames.last().copied()
+}
+
+// Writes what stands at a program counter, and answers how long its text is.
+#[tactic(auto, unfolding(crate::specs::Step::start_text))]
+fn push_start<W: Sink>(
+    alloc: Global,
+    cpu: &Cpu,
+    memory: &AddressMap,
+    cause: Cause,
+    sink: &mut W,
+) -> Result<usize, WriteFault>
+    requires { cause ≡ cause_of cpu.now (bytes_of memory.now) }
+    ensures text { OnOk result (Appends (W.contents sink.old) (W.contents sink.new)
+        (start_text cpu.now (bytes_of memory.now))) }
+    ensures length { IfOk result (λ len. len ≡ length (what_text cpu.now.pc cause)) }
+{
+    let text = text_of(alloc, cpu.pc(), cause)?;
+    let len = text.bytes().len();
+    push_front(sink, cpu.pc(), cause)?;
+    push_all(sink, text.bytes())?;
+    push_taking(alloc, cpu, memory, len, Taking::of(cause), sink)?;
+    Ok(len)
+}
+
+fn push_front<W: Sink>(sink: &mut W, pc: u32, cause: Cause) -> Result<(), WriteFault>
+    ensures { Writes W.contents W.has_failed sink.old sink.new result (front_text pc cause) }
+{
+    push_parts(sink, &[HexText::word(pc).as_slice(), b" ".as_slice()])?;
+    push_word_column(sink, cause)?;
+    push_all(sink, b" ")
+}
+
+fn push_word_column<W: Sink>(sink: &mut W, cause: Cause) -> Result<(), WriteFault>
+    ensures { Writes W.contents W.has_failed sink.old sink.new result (word_column cause) }
+{
+    match cause {
+        Cause::Skipped(word) | Cause::Word(word) => push_all(sink, HexText::word(word).as_slice()),
+        Cause::Gate | Cause::Unmapped => push_all(sink, b"--------"),
+    }
+}
+
+fn text_of(alloc: Global, pc: u32, cause: Cause) -> Result<TextSink, WriteFault>
+    ensures { IfOk result (λ text. sink_text_of text ≡ what_text pc cause) }
+{
+    let mut text = TextSink::new(alloc);
+    push_what(&mut text, pc, cause)?;
+    Ok(text)
+}
+
+fn push_what<W: Sink>(sink: &mut W, pc: u32, cause: Cause) -> Result<(), WriteFault>
+    ensures { Writes W.contents W.has_failed sink.old sink.new result (what_text pc cause) }
+{
+    match cause {
+        Cause::Gate => push_all(sink, b"return gate"),
+        Cause::Unmapped => push_all(sink, b"unmapped"),
+        Cause::Skipped(word) | Cause::Word(word) => disassemble(word, pc, sink),
+    }
+}
+
+// Writes what follows on an instruction's text before it is carried out.
+fn push_taking<W: Sink>(
+    alloc: Global,
+    cpu: &Cpu,
+    memory: &AddressMap,
+    len: usize,
+    taking: Taking,
+    sink: &mut W,
+) -> Result<(), WriteFault>
+    ensures { OnOk result (Appends (W.contents sink.old) (W.contents sink.new)
+        (taking_text cpu.now (bytes_of memory.now) len taking)) }
+{
+    match taking {
+        Taking::Instruction => Ok(()),
+        Taking::Call { is_x, number } => {
+            let mut words = TextSink::new(alloc);
+            push_call(&mut words, cpu, memory, is_x, number)?;
+            push_behind(sink, len, words.bytes())?;
+            push_all(sink, b"\n")
+        }
+        Taking::Gate => push_all(sink, b"\n"),
+    }
+}
