@@ -1,0 +1,7 @@
+-- What GDB sees of a machine. Begin with Registers.
+pub mod Changes
+pub mod Description
+pub mod Memory
+pub mod Registers
+pub mod Stops
+pub mod Watches

@@ -1,0 +1,76 @@
+-- Why the program stands, and how GDB is told: by a signal of GDB's own numbers, by what reached it, and
+-- by the registers that GDB asks for first; or that the program has exited.
+use Rattle.std.specs.Prelude.{ℕ, ◌++◌, List, [], ◌∷◌, Option, Some, None, codes, unwrap_or}
+use Rattle.std.specs.Int.{to_be_bytes, w32}
+use Rattle.hex.specs.Hex.{encode_lower}
+use Rattle.profile.specs.declared.fault.Fault.{Fault}
+use Rattle.profile.specs.declared.fault.Fault.TheVariants as fault
+use Rattle.profile.specs.declared.stop.Stop.TheVariants as stop
+use Rattle.arm_core.specs.State.{State}
+use Rattle.gdb_machine.specs.declared.stops.GdbStop.{GdbStop}
+use Rattle.gdb_machine.specs.declared.stops.GdbStop.TheVariants as reason
+use Rattle.gdb_machine.specs.declared.stops.Signal.{Signal}
+use Rattle.gdb_machine.specs.declared.stops.Signal.TheVariants as signal
+use Rattle.gdb_machine.specs.Registers.{register_shown, word_digits}
+
+abbrev pub signal_number : Signal → ℕ
+signal_number signal.Interrupt = 2
+signal_number signal.Illegal = 4
+signal_number signal.Trap = 5
+signal_number signal.Abort = 6
+signal_number signal.Bus = 10
+signal_number signal.Segment = 11
+signal_number signal.System = 12
+signal_number signal.Steps = 24
+
+abbrev pub signal_of_fault : Fault → Signal
+signal_of_fault fault.FetchUnmapped = signal.Segment
+signal_of_fault fault.DataUnmapped = signal.Segment
+signal_of_fault fault.AddressException = signal.Bus
+signal_of_fault fault.OwnedWord = signal.Bus
+signal_of_fault fault.StackChanged = signal.Abort
+signal_of_fault (fault.ErrorStop number) = signal.System
+signal_of_fault fault.UndefinedInstruction = signal.Illegal
+signal_of_fault fault.Unallocated = signal.Illegal
+signal_of_fault fault.PcOperand = signal.Illegal
+signal_of_fault fault.MultiplySame = signal.Illegal
+signal_of_fault fault.EmptyList = signal.Illegal
+signal_of_fault fault.UserBankWriteback = signal.Illegal
+
+-- none where the program has exited
+abbrev pub signal_of : GdbStop → Option Signal
+signal_of reason.Stepped = Some signal.Trap
+signal_of (reason.Watched address) = Some signal.Trap
+signal_of reason.Asked = Some signal.Interrupt
+signal_of (reason.Ran (stop.Break address)) = Some signal.Trap
+signal_of (reason.Ran stop.Budget) = Some signal.Steps
+signal_of (reason.Ran (stop.Fault f)) = Some (signal_of_fault f)
+signal_of (reason.Ran stop.Exit) = None
+
+-- what reached it: a break, or a byte that is watched, by its address
+abbrev pub reached_text : GdbStop → List ℕ
+reached_text (reason.Ran (stop.Break address)) = codes "swbreak:;"
+reached_text (reason.Watched address) = codes "watch:" ++ encode_lower (to_be_bytes w32 address) ++ codes ";"
+reached_text (reason.Ran stop.Budget) = []
+reached_text (reason.Ran (stop.Fault f)) = []
+reached_text (reason.Ran stop.Exit) = []
+reached_text reason.Stepped = []
+reached_text reason.Asked = []
+
+abbrev pub told_value : State → ℕ → List ℕ
+told_value s n = word_digits (unwrap_or (register_shown s n) 0)
+
+-- R11, R13, R14, the program counter and the status
+abbrev pub first_registers_text : State → List ℕ
+first_registers_text s =
+    codes "0b:" ++ told_value s 11 ++ codes ";0d:" ++ told_value s 13 ++ codes ";0e:" ++ told_value s 14
+    ++ codes ";0f:" ++ told_value s 15 ++ codes ";10:" ++ told_value s 16 ++ codes ";"
+
+abbrev pub signalled_text : Option Signal → GdbStop → State → List ℕ
+signalled_text None why s = codes "W00"
+signalled_text (Some signal) why s =
+    codes "T" ++ encode_lower (signal_number signal ∷ []) ++ reached_text why ++ first_registers_text s
+
+-- `T05swbreak:;0b:..`, `T0b0b:..`, `W00`
+unfoldable pub stop_packet : State → GdbStop → List ℕ
+stop_packet s why = signalled_text (signal_of why) why s

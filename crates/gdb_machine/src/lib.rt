@@ -1,0 +1,17 @@
+//! What GDB sees of a machine: the registers as it numbers them, memory as far as it is mapped, why the
+//! program stands, and bytes that are watched. It knows no step.
+#![tactic(auto)]
+
+mod changes;
+mod description;
+mod memory;
+mod registers;
+mod stops;
+mod watches;
+
+pub use changes::{RegisterChange, register_change};
+pub use description::description_part;
+pub use memory::{known_bytes, memory_told, mixed_word, words_fault};
+pub use registers::{all_registers, one_register, register_shown};
+pub use stops::{GdbStop, Signal, stop_packet};
+pub use watches::{SeenByte, WatchError, Watches, first_changed};

@@ -1,0 +1,151 @@
+//! Why the program stands, and how GDB is told.
+
+ghost use Rattle.std.specs.Prelude.{◌≡◌, ◌∷◌, [], IfOk};
+ghost use Rattle.hex.specs.Hex.{encode_lower};
+ghost use Rattle.gdb_machine.specs.Stops.{first_registers_text, reached_text, signal_number, signal_of};
+ghost use Rattle.gdb_machine.specs.Stops.{signal_of_fault as fault_told, stop_packet as packet_told, told_value};
+
+use crate::registers::{register_shown, word_digits};
+use arm_core::Cpu;
+use hex::encode;
+use profile::{Fault, Stop};
+use std::alloc::{AllocError, Global};
+
+/// A signal, by GDB's own numbers.
+#[derive(Clone, Copy)]
+pub enum Signal {
+    /// SIGINT, 2: asked to stop.
+    Interrupt,
+    /// SIGILL, 4: no such instruction.
+    Illegal,
+    /// SIGTRAP, 5: a step, a break or a watch.
+    Trap,
+    /// SIGABRT, 6: given up.
+    Abort,
+    /// SIGBUS, 10: memory that may not be used so.
+    Bus,
+    /// SIGSEGV, 11: memory that isn't there.
+    Segment,
+    /// SIGSYS, 12: a bad system call.
+    System,
+    /// SIGXCPU, 24: too many steps.
+    Steps,
+}
+
+impl Signal {
+    fn number(self) -> u8
+        ensures { result ≡ signal_number self }
+    {
+        match self {
+            Signal::Interrupt => 2,
+            Signal::Illegal => 4,
+            Signal::Trap => 5,
+            Signal::Abort => 6,
+            Signal::Bus => 10,
+            Signal::Segment => 11,
+            Signal::System => 12,
+            Signal::Steps => 24,
+        }
+    }
+}
+
+/// Why the program stands.
+#[derive(Clone, Copy)]
+pub enum GdbStop {
+    /// It has not run yet, or a step was taken.
+    Stepped,
+    /// A run of it ended.
+    Ran(Stop),
+    /// The user asked for it.
+    Asked,
+    /// The byte at this address, which is watched, has changed.
+    Watched(u32),
+}
+
+impl GdbStop {
+    // The signal; `None` where the program has exited.
+    fn signal(self) -> Option<Signal>
+        ensures { result ≡ signal_of self }
+    {
+        match self {
+            GdbStop::Stepped | GdbStop::Watched(_) => Some(Signal::Trap),
+            GdbStop::Asked => Some(Signal::Interrupt),
+            GdbStop::Ran(Stop::Break(_)) => Some(Signal::Trap),
+            GdbStop::Ran(Stop::Budget) => Some(Signal::Steps),
+            GdbStop::Ran(Stop::Fault(fault)) => Some(signal_of_fault(fault)),
+            GdbStop::Ran(Stop::Exit) => None,
+        }
+    }
+}
+
+fn signal_of_fault(fault: Fault) -> Signal
+    ensures { result ≡ fault_told fault }
+{
+    match fault {
+        Fault::FetchUnmapped | Fault::DataUnmapped => Signal::Segment,
+        Fault::AddressException | Fault::OwnedWord => Signal::Bus,
+        Fault::StackChanged => Signal::Abort,
+        Fault::ErrorStop(_) => Signal::System,
+        Fault::UndefinedInstruction
+        | Fault::Unallocated
+        | Fault::PcOperand
+        | Fault::MultiplySame
+        | Fault::EmptyList
+        | Fault::UserBankWriteback => Signal::Illegal,
+    }
+}
+
+/// The packet that tells why the program stands.
+#[tactic(auto, unfolding(crate::specs::Stops::stop_packet))]
+pub fn stop_packet(alloc: Global, cpu: &Cpu, why: GdbStop) -> Result<Vec<u8>, AllocError>
+    ensures { IfOk result (λ packet. packet.items ≡ packet_told cpu.now why) }
+{
+    let Some(signal) = why.signal() else {
+        return Vec::from_slice(alloc, b"W00");
+    };
+    let mut packet = Vec::from_slice(alloc, b"T")?;
+    packet.extend_from_slice(encode(alloc, [signal.number()])?.as_bytes())?;
+    packet.extend_from_slice(reached(alloc, why)?.as_slice())?;
+    packet.extend_from_slice(first_registers(alloc, cpu)?.as_slice())?;
+    Ok(packet)
+}
+
+// What reached the program: a break, or a byte that is watched.
+fn reached(alloc: Global, why: GdbStop) -> Result<Vec<u8>, AllocError>
+    ensures { IfOk result (λ text. text.items ≡ reached_text why) }
+{
+    match why {
+        GdbStop::Ran(Stop::Break(_)) => Vec::from_slice(alloc, b"swbreak:;"),
+        GdbStop::Watched(address) => {
+            let mut text = Vec::from_slice(alloc, b"watch:")?;
+            text.extend_from_slice(encode(alloc, address.to_be_bytes())?.as_bytes())?;
+            text.extend_from_slice(b";")?;
+            Ok(text)
+        }
+        _ => Ok(Vec::new(alloc)),
+    }
+}
+
+// The registers that GDB asks for first.
+fn first_registers(alloc: Global, cpu: &Cpu) -> Result<Vec<u8>, AllocError>
+    ensures { IfOk result (λ text. text.items ≡ first_registers_text cpu.now) }
+{
+    let mut text = Vec::from_slice(alloc, b"0b:")?;
+    text.extend_from_slice(value_text(alloc, cpu, 11)?.as_slice())?;
+    text.extend_from_slice(b";0d:")?;
+    text.extend_from_slice(value_text(alloc, cpu, 13)?.as_slice())?;
+    text.extend_from_slice(b";0e:")?;
+    text.extend_from_slice(value_text(alloc, cpu, 14)?.as_slice())?;
+    text.extend_from_slice(b";0f:")?;
+    text.extend_from_slice(value_text(alloc, cpu, 15)?.as_slice())?;
+    text.extend_from_slice(b";10:")?;
+    text.extend_from_slice(value_text(alloc, cpu, 16)?.as_slice())?;
+    text.extend_from_slice(b";")?;
+    Ok(text)
+}
+
+fn value_text(alloc: Global, cpu: &Cpu, number: u32) -> Result<Vec<u8>, AllocError>
+    ensures { IfOk result (λ text. text.items ≡ told_value cpu.now number) }
+{
+    word_digits(alloc, register_shown(cpu, number).unwrap_or(0))
+}

@@ -1,0 +1,7 @@
+-- GDB's remote protocol as bytes. Begin with Requests, which says what each packet asks for.
+pub mod Digits
+pub mod Frames
+pub mod Laws
+pub mod Numbers
+pub mod Reading
+pub mod Requests

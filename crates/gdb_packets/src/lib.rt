@@ -1,0 +1,20 @@
+//! GDB's remote protocol as bytes: packets in their frames, both ways, and what a packet asks for. It
+//! knows no machine.
+#![tactic(auto)]
+
+mod digits;
+mod frames;
+mod laws;
+mod numbers;
+mod parts;
+mod reader;
+mod requests;
+mod words;
+
+pub use frames::push_packet;
+pub use laws::packets_are_read;
+pub use reader::{FramePlace, MOST_PACKET, PacketReader, Piece};
+pub use requests::{ByteRange, PointKind, Request, request_of};
+
+#[cfg(test)]
+mod tests;
