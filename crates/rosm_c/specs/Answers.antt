@@ -1,0 +1,26 @@
+-- What a caller in C finds after a script: the exit status of the program `rosm`, the front of the
+-- answers for which there was room, and how long all of them are.
+use Rattle.std.specs.Prelude.{◌≡◌, ◌⊎◌, ℕ, ◌++◌, List, length, take, drop}
+use Rattle.command_line.specs.Status.{status_after}
+use Rattle.command_shell.specs.State.{Answered}
+
+-- the room, with as much of a text as fits at its front
+abbrev pub room_with : List ℕ → List ℕ → List ℕ
+room_with room text = take (length room) text ++ drop (length text) room
+
+-- A script was answered whole.
+pub record TellsAnswers (told : Answered) (ending count : ℕ) (room room_after : List ℕ) : Type 0 where
+  pub status : ending ≡ status_after told.state.last
+  pub written : count ≡ length told.text
+  pub front : room_after ≡ room_with room told.text
+
+-- Nothing was written, for the reason that the status gives.
+pub record TellsNothing (reason ending count : ℕ) (room room_after : List ℕ) : Type 0 where
+  pub status : ending ≡ reason
+  pub written : count ≡ 0
+  pub untouched : room_after ≡ room
+
+-- A script was answered whole, or it wasn't: memory ran out, or the script is too long.
+abbrev pub TellsAnswersUnlessNone : Answered → ℕ → ℕ → List ℕ → List ℕ → Type 0
+TellsAnswersUnlessNone told ending count room room_after =
+    TellsAnswers told ending count room room_after ⊎ TellsNothing 4 ending count room room_after

@@ -1,0 +1,2 @@
+-- A script's answers for a caller in C. Begin with Answers.
+pub mod Answers

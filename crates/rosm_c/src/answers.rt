@@ -1,0 +1,183 @@
+//! The answers to a script, in room that a caller lends.
+
+ghost use Rattle.std.specs.Prelude.{◌≡◌, ◌<◌, ◌≤◌, length, IfOk};
+ghost use Rattle.view_items.specs.TextSink.{sink_text_of};
+ghost use Rattle.command_shell.specs.Script.{script_told};
+ghost use Rattle.rosm_c.specs.Answers.{TellsAnswersUnlessNone, room_with};
+
+use command_line::stop_status;
+use command_shell::{RunError, run_script};
+use image_loader::Images;
+use profile::{Config, Device, Stop};
+use std::alloc::Global;
+use view_items::TextSink;
+
+/// The status for sizes that no machine has.
+pub(crate) const SIZES_REFUSED: u32 = 2;
+
+/// The status where a script isn't run whole.
+pub(crate) const NOT_RUN: u32 = 4;
+
+/// Runs a script on a fresh machine with these images, and puts as much of its answers to the front
+/// of the room as fits, and how long they are into `written`. Answers the exit status, which is 4
+/// where memory runs out or the script is too long; nothing is written then.
+pub(crate) fn write_answers(
+    alloc: Global,
+    images: &mut Images,
+    config: Config,
+    budget: u64,
+    script: &[u8],
+    room: &mut [u8],
+    written: &mut usize,
+) -> u32
+    ensures told { TellsAnswersUnlessNone (script_told config images.old budget script.now)
+        result written.new room.old room.new }
+    ensures too_long { 1048576 < length script.now → result ≡ 4 }
+{
+    match answers_to(alloc, images, config, budget, script) {
+        Err(_) => refuse(NOT_RUN, written),
+        Ok((told, last)) => {
+            *written = told.bytes().len();
+            put(told.bytes(), room);
+            u32::from(stop_status(last))
+        }
+    }
+}
+
+/// Answers a status for which nothing is written.
+pub(crate) fn refuse(status: u32, written: &mut usize) -> u32
+    ensures status { result ≡ status }
+    ensures none { written.new ≡ 0 }
+{
+    *written = 0;
+    status
+}
+
+// All that a script is answered, and the last stop.
+fn answers_to(
+    alloc: Global,
+    images: &mut Images,
+    config: Config,
+    budget: u64,
+    script: &[u8],
+) -> Result<(TextSink, Option<Stop>), RunError>
+    ensures text { IfOk result (λ told. sink_text_of told.0
+        ≡ (script_told config images.old budget script.now).text) }
+    ensures last { IfOk result (λ told. told.1
+        ≡ (script_told config images.old budget script.now).state.last) }
+    ensures in_limit { IfOk result (λ _. length script.now ≤ 1048576) }
+{
+    let mut sink = TextSink::new(alloc);
+    let mut reader = Device::new(script);
+    let summary = run_script(alloc, &mut reader, images, &mut sink, config, budget)?;
+    Ok((sink, summary.last))
+}
+
+// As much of a text as fits goes to the front of the room.
+fn put(text: &[u8], room: &mut [u8])
+    ensures { room.new ≡ room_with room.old text.now }
+{
+    let count = text.len().min(room.len());
+    room[..count].copy_from_slice(&text[..count]);
+}
+
+#[cfg(test)]
+mod tests {
+    use crate::{rosm_run, rosm_run_image};
+    use std::test::Fail;
+
+    // the usual sizes of `rosm`
+    const PAGES: u32 = 256;
+
+    const APP: u32 = 64;
+
+    const RMA: u32 = 16;
+
+    #[test]
+    fn answers_with_the_status_of_rosm(rt: HostRuntime) -> Result<(), Fail> {
+        let (mut out, mut written) = ([0u8; 64], 7);
+        let status = rosm_run(
+            rt.alloc(),
+            PAGES,
+            APP,
+            RMA,
+            1000,
+            b"STEP 0\n",
+            &mut out,
+            &mut written,
+        );
+        assert!(rt; (status, written) == (3, 9));
+        assert!(rt; out.starts_with(b"at &8000\n\0"));
+        Ok(())
+    }
+
+    #[test]
+    fn fills_no_more_than_its_room(rt: HostRuntime) -> Result<(), Fail> {
+        let (mut out, mut written) = (*b"......", 0);
+        let status = rosm_run(
+            rt.alloc(),
+            PAGES,
+            APP,
+            RMA,
+            1000,
+            b"STEP 0\n",
+            &mut out[..4],
+            &mut written,
+        );
+        assert!(rt; (status, written) == (3, 9));
+        assert!(rt; out == *b"at &..");
+        Ok(())
+    }
+
+    #[test]
+    fn refuses_sizes_that_no_machine_has(rt: HostRuntime) -> Result<(), Fail> {
+        let (mut out, mut written) = ([7u8; 4], 7);
+        let status = rosm_run(
+            rt.alloc(),
+            1,
+            APP,
+            RMA,
+            1000,
+            b"STEP 0\n",
+            &mut out,
+            &mut written,
+        );
+        assert!(rt; (status, written, out) == (2, 0, [7; 4]));
+        Ok(())
+    }
+
+    #[test]
+    fn boots_an_image(rt: HostRuntime) -> Result<(), Fail> {
+        // SWI OS_Exit
+        let image = [0x11, 0, 0, 0xEF];
+        let (mut out, mut written) = ([0u8; 64], 0);
+        let status = rosm_run_image(
+            rt.alloc(),
+            PAGES,
+            APP,
+            RMA,
+            1000,
+            b"quit",
+            &image,
+            b"BOOT quit\nRUN\n",
+            &mut out,
+            &mut written,
+        );
+        assert!(rt; (status, written) == (0, 20));
+        assert!(rt; out.starts_with(b"boot quit\nstop Exit\n"));
+        let status = rosm_run_image(
+            rt.alloc(),
+            PAGES,
+            APP,
+            RMA,
+            1000,
+            b"a b",
+            &image,
+            b"RUN\n",
+            &mut out,
+            &mut written,
+        );
+        assert!(rt; (status, written) == (4, 0));
+        Ok(())
+    }
+}
