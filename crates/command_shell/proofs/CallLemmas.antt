@@ -77,7 +77,7 @@ goes_left s frames none =
     (is_among s.breaks s.machine.cpu.pc)
     (ap (call_end_by s frames) (sym (awake_by s frames s.machine.halt none)) ∙ none)
 
-halted_ends : (s : ScriptState) (frames : ℕ) (h : Halt) → s.machine.halt ≡ Some h
+pub halted_ends : (s : ScriptState) (frames : ℕ) (h : Halt) → s.machine.halt ≡ Some h
     → call_end s frames ≡ Some (end.Stopped (stop_of h))
 unfolding call_end
 halted_ends s frames h is = ap (call_end_by s frames) is

@@ -20,8 +20,8 @@ impl Session {
     /// Sets one of R0 to R14 of the present mode.
     pub fn set_register(&mut self, number: u32, value: u32)
         requires { number ≤ 14 }
-        ensures { (images : List Entry)
-            → script_state self.new images ≡ script_with_register (script_state self.old images) number value }
+        ensures { (images : List Entry) → script_state self.new images
+            ≡ script_with_register (script_state self.old images) number value }
     {
         self.machine.set_register(number, value);
     }

@@ -46,7 +46,8 @@ impl Session {
     ) -> Result<Ran, WriteFault>
         requires { most ≤ self.old.left }
         ensures ran { IfOk result (λ ran. IsAfterRun (script_state self.old images.now) most
-            (script_state self.new images.now) (W.contents sink.old) (W.contents sink.new) ran.taken ran.stop) }
+            (script_state self.new images.now)
+            (W.contents sink.old) (W.contents sink.new) ran.taken ran.stop) }
         ensures flag { OnErr result (W.has_failed sink.new ≡ true) }
         ensures same_flag { OnOk result (W.has_failed sink.new ≡ W.has_failed sink.old) }
     {

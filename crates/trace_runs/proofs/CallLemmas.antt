@@ -15,7 +15,7 @@ use Rattle.command_shell.specs.State.{Answered, IsAnswered, ScriptState}
 use Rattle.command_shell.specs.declared.calls.CallEnd.{CallEnd}
 use Rattle.command_shell.specs.declared.calls.CallEnd.TheVariants as end
 use Rattle.command_shell.specs.declared.calls.OutsideCall.{OutsideCall}
-use Rattle.command_shell.proofs.CallLemmas.{call_allowed, call_refused, goes_left}
+use Rattle.command_shell.proofs.CallLemmas.{call_allowed, call_refused, goes_left, halted_ends}
 use Rattle.view_items.specs.TextSink.{sink_text_of}
 use Rattle.trace_runs.specs.Calling.{HasCalled, IsTraced}
 use Rattle.trace_runs.specs.declared.telling.Telling.{Telling}
@@ -85,17 +85,13 @@ unfolding call_rest
 one_step frames limit n s none = ap (λ (o : Option CallEnd). rest_by s o
     (rest_after_step (told_text limit s.machine (step_of s)) (step_of s).printed (call_rest frames (limit - 1) n (step_made s (step_of s))))) none
 
-halted : (s : ScriptState) (frames : ℕ) (h : Halt) → s.machine.halt ≡ Some h → call_end s frames ≡ Some (end.Stopped (stop_of h))
-unfolding call_end
-halted s frames h is = ap (call_end_by s frames) is
-
 -- as many steps are left of a call as of the budget, or it takes none
 same_left : (frames limit n : ℕ) (now : ScriptState) (h : Option Halt) → now.machine.halt ≡ h → now.left ≡ suc n - count_after h
     → call_rest frames limit n now ≡ call_rest frames limit now.left now
 same_left frames limit n now None awake left = ap (λ (k : ℕ). call_rest frames limit k now) (omega (arith, left))
 same_left frames limit n now (Some halt.Exit) is left = ap (λ (k : ℕ). call_rest frames limit k now) (omega (arith, left))
 same_left frames limit n now (Some (halt.Fault f)) is left =
-    let stopped = halted now frames (halt.Fault f) is in
+    let stopped = halted_ends now frames (halt.Fault f) is in
     over frames limit n now (end.Stopped (stop_of (halt.Fault f))) stopped
     ∙ sym (over frames limit now.left now (end.Stopped (stop_of (halt.Fault f))) stopped)
 

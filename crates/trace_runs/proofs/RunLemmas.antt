@@ -204,11 +204,11 @@ fresh_by false is left most end fresh stale out below = fresh
 fresh_by true is left most (Some x) fresh stale out below =
     let halted : is ≡ false = stale refl in
     elim (cases_Bool (most == 0)) [
-    | inl no_steps ↦
-      let none : most ≡ 0 = eqb-true most 0 no_steps in
-      let same : left ≡ most = omega (arith, below, none) in
-      absurd (false≢true (sym halted ∙ (fresh ∙ eq-eqb left most same)))
-    | inr other ↦ halted ∙ sym other
+      | inl no_steps ↦
+          let none : most ≡ 0 = eqb-true most 0 no_steps in
+          let same : left ≡ most = omega (arith, below, none) in
+          absurd (false≢true (sym halted ∙ (fresh ∙ eq-eqb left most same)))
+      | inr other ↦ halted ∙ sym other
     ]
 fresh_by true is left most None fresh stale out below = fresh ∙ (ap (λ (k : ℕ). k == most) (out refl) ∙ zero_test most)
 

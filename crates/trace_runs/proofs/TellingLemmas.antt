@@ -59,8 +59,8 @@ pub told_pushed : {U E : Type 0} (r : Result U E) (old new : Telling) (text prin
     → piece ≡ printed → OnOk r (sink_text_of new.printed ≡ sink_text_of old.printed ++ piece) → OnOk r (IsToldOn old new text printed)
 told_pushed (Err f) old new text printed piece told is pushed = tt
 told_pushed (Ok u) old new text printed piece told is pushed = record {
-      text_told = told;
-      all_printed = pushed ∙ ap (λ (xs : List ℕ). sink_text_of old.printed ++ xs) is;
-    }
+  text_told = told;
+  all_printed = pushed ∙ ap (λ (xs : List ℕ). sink_text_of old.printed ++ xs) is;
+}
 
 pub ruleset telling_steps = (told_zero, told_some, told_call_zero, told_call_some)

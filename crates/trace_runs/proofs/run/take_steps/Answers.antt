@@ -30,8 +30,8 @@ pub returns-clause-end : goal.returns-clause-end
 returns-clause-end c =
     let images = c.args.images.now in
     let out : c.taking.stop ≡ None → c.taking.left ≡ 0 = λ none. elim c.taking-test.branch [
-    | then-taking-test+else-left-gt0 w ↦ omega (arith, w.if-left-gt0.false)
-    | else-taking-test w ↦ absurd (false≢true (sym (ap is_some none) ∙ (c.is_none.ensures ∙ ap not w.taking-test.false)))
+      | then-taking-test+else-left-gt0 w ↦ omega (arith, w.if-left-gt0.false)
+      | else-taking-test w ↦ absurd (false≢true (sym (ap is_some none) ∙ (c.is_none.ensures ∙ ap not w.taking-test.false)))
     ] in
     rw c.unwrap_or.ensures
     (going_ended (script_state c.args.session.now images) (script_state c.taking.session images) c.args.most c.taking.left c.taking.stop
@@ -41,8 +41,8 @@ pub returns-clause-told : goal.returns-clause-told
 returns-clause-told c =
     let images = c.args.images.now in
     let out : c.taking.stop ≡ None → c.taking.left ≡ 0 = λ none. elim c.taking-test.branch [
-    | then-taking-test+else-left-gt0 w ↦ omega (arith, w.if-left-gt0.false)
-    | else-taking-test w ↦ absurd (false≢true (sym (ap is_some none) ∙ (c.is_none.ensures ∙ ap not w.taking-test.false)))
+      | then-taking-test+else-left-gt0 w ↦ omega (arith, w.if-left-gt0.false)
+      | else-taking-test w ↦ absurd (false≢true (sym (ap is_some none) ∙ (c.is_none.ensures ∙ ap not w.taking-test.false)))
     ] in
     going_told (script_state c.args.session.now images) (script_state c.taking.session images) c.args.most c.taking.left c.taking.stop
     c.args.telling.now c.taking.telling c.taking.invariant out
