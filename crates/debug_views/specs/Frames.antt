@@ -93,13 +93,13 @@ frame_line modules b number label f =
     ++ (caller_text b f label ++ entry_text f)))
 
 -- frames are numbered from 1 on, the outermost first
-abbrev pub frame_numbered : ℕ → List Frame → Option Frame
-frame_numbered zero frames = None
-frame_numbered (suc number) frames = slice_get frames number
+abbrev pub open_frame_numbered : ℕ → List Frame → Option Frame
+open_frame_numbered zero frames = None
+open_frame_numbered (suc number) frames = slice_get frames number
 
 abbrev pub frame_text : MachineState → ℕ → List ℕ → List ℕ
 frame_text s number label =
-    one_text (frame_line s.tables.modules s.store.bytes number label) (frame_numbered number s.tables.frames)
+    one_text (frame_line s.tables.modules s.store.bytes number label) (open_frame_numbered number s.tables.frames)
 
 -- so many frames, the first of them last
 unfoldable pub frame_lines : MachineState → ℕ → List ℕ

@@ -5,7 +5,7 @@ ghost use Rattle.address_map.specs.Memory.{bytes_of};
 ghost use Rattle.profile.specs.Output.{Writes};
 ghost use Rattle.debugger.specs.Modules.{one_text};
 ghost use Rattle.debug_views.specs.Frames.{caller_address, caller_of_frame, caller_text, calls_entered, entry_text};
-ghost use Rattle.debug_views.specs.Frames.{frame_kind_text, frame_line, frame_lines, frame_number_text, frame_numbered};
+ghost use Rattle.debug_views.specs.Frames.{frame_kind_text, frame_line, frame_lines, frame_number_text, open_frame_numbered};
 ghost use Rattle.debug_views.specs.Frames.{frame_text, frames_text, full_name_at, full_name_of_slot, full_name_text};
 ghost use Rattle.debug_views.specs.Frames.{full_name_within, is_call_entered, is_called_by_instruction};
 ghost use Rattle.swi_dispatch_guest.specs.Parts.{state_of};
@@ -55,7 +55,7 @@ pub fn show_frame<W: Sink>(
     ensures writes { Writes W.contents W.has_failed sink.old sink.new result
         (frame_text (state_of machine.now.guest) number label.now) }
 {
-    match frame_numbered(machine.open_frames(), number) {
+    match open_frame_numbered(machine.open_frames(), number) {
         Some(frame) => show_line(
             machine.instances(),
             machine.memory(),
@@ -72,14 +72,14 @@ pub fn show_frame<W: Sink>(
 /// that its line names.
 pub fn caller_of(machine: &Machine, number: usize) -> Option<u32>
     ensures { let s = state_of machine.now.guest in
-        result ≡ caller_of_frame s.store.bytes (frame_numbered number s.tables.frames) }
+        result ≡ caller_of_frame s.store.bytes (open_frame_numbered number s.tables.frames) }
 {
-    let frame = frame_numbered(machine.open_frames(), number)?;
+    let frame = open_frame_numbered(machine.open_frames(), number)?;
     is_called_by_instruction(machine.memory(), &frame).then_some(caller_address(&frame))
 }
 
-fn frame_numbered(frames: &[Frame], number: usize) -> Option<Frame>
-    ensures { result ≡ frame_numbered number frames.now }
+fn open_frame_numbered(frames: &[Frame], number: usize) -> Option<Frame>
+    ensures { result ≡ open_frame_numbered number frames.now }
 {
     if number == 0 {
         return None;

@@ -4,14 +4,14 @@ use Rattle.std.specs.Prelude.{Option, Some, None, Result, Ok, Err}
 use Rattle.std.proofs.lemmas.List.{append-nil}
 use Rattle.profile.specs.declared.fault.Fault.{Fault}
 use Rattle.address_map.specs.Bytes.{Bytes, byte_loaded, store_fault}
-use Rattle.gdb_machine.specs.Memory.{known_bytes, onto_known, further, first_fault, words_fault}
+use Rattle.gdb_machine.specs.Memory.{known_bytes, onto_known, bytes_further, first_fault, words_fault}
 
-known_suc : (b : Bytes) (a left : ℕ) → known_bytes b a (suc left) ≡ onto_known (byte_loaded b a) (known_bytes b (further a 1) left)
+known_suc : (b : Bytes) (a left : ℕ) → known_bytes b a (suc left) ≡ onto_known (byte_loaded b a) (known_bytes b (bytes_further a 1) left)
 unfolding known_bytes
 known_suc b a left = refl
 
 known_next : (b : Bytes) (a left : ℕ) → 0 < left
-    → known_bytes b a left ≡ onto_known (byte_loaded b a) (known_bytes b (further a 1) (left - 1))
+    → known_bytes b a left ≡ onto_known (byte_loaded b a) (known_bytes b (bytes_further a 1) (left - 1))
 known_next b a left some =
     let split : left ≡ suc (left - 1) = omega arith in
     ap (known_bytes b a) split ∙ known_suc b a (left - 1)
@@ -19,17 +19,17 @@ known_next b a left some =
 -- what stands, and the known bytes that are left, is all
 pub known_more : (b : Bytes) (a left byte : ℕ) (done all : List ℕ) → 0 < left → byte_loaded b a ≡ Ok byte
     → done ++ known_bytes b a left ≡ all
-    → (done ++ byte ∷ []) ++ known_bytes b (further a 1) (left - 1) ≡ all
+    → (done ++ byte ∷ []) ++ known_bytes b (bytes_further a 1) (left - 1) ≡ all
 known_more b a left byte done all some loaded so =
-    append_assoc done (byte ∷ []) (known_bytes b (further a 1) (left - 1))
+    append_assoc done (byte ∷ []) (known_bytes b (bytes_further a 1) (left - 1))
     ∙ ap (λ (xs : List ℕ). done ++ xs) (sym (known_next b a left some
-    ∙ ap (λ (r : Result ℕ Fault). onto_known r (known_bytes b (further a 1) (left - 1))) loaded)) ∙ so
+    ∙ ap (λ (r : Result ℕ Fault). onto_known r (known_bytes b (bytes_further a 1) (left - 1))) loaded)) ∙ so
 
 pub known_fault : (b : Bytes) (a left : ℕ) (f : Fault) (done all : List ℕ) → 0 < left → byte_loaded b a ≡ Err f
     → done ++ known_bytes b a left ≡ all → done ≡ all
 known_fault b a left f done all some loaded so =
     sym (append-nil done) ∙ ap (λ (xs : List ℕ). done ++ xs) (sym (known_next b a left some
-    ∙ ap (λ (r : Result ℕ Fault). onto_known r (known_bytes b (further a 1) (left - 1))) loaded)) ∙ so
+    ∙ ap (λ (r : Result ℕ Fault). onto_known r (known_bytes b (bytes_further a 1) (left - 1))) loaded)) ∙ so
 
 none_known : (b : Bytes) (a left : ℕ) → left ≡ 0 → known_bytes b a left ≡ []
 unfolding known_bytes
@@ -42,12 +42,12 @@ known_end b a left done all none so =
 pub ruleset known_steps = (known_more, known_fault, known_end)
 
 fault_suc : (owned : ℕ → Bool) (b : Bytes) (a left : ℕ)
-    → words_fault owned b a (suc left) ≡ first_fault (store_fault owned b a) (words_fault owned b (further a 4) left)
+    → words_fault owned b a (suc left) ≡ first_fault (store_fault owned b a) (words_fault owned b (bytes_further a 4) left)
 unfolding words_fault
 fault_suc owned b a left = refl
 
 pub fault_next : (owned : ℕ → Bool) (b : Bytes) (a left : ℕ) → 0 < left
-    → words_fault owned b a left ≡ first_fault (store_fault owned b a) (words_fault owned b (further a 4) (left - 1))
+    → words_fault owned b a left ≡ first_fault (store_fault owned b a) (words_fault owned b (bytes_further a 4) (left - 1))
 fault_next owned b a left some =
     let split : left ≡ suc (left - 1) = omega arith in
     ap (words_fault owned b a) split ∙ fault_suc owned b a (left - 1)

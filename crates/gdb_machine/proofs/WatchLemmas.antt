@@ -6,22 +6,22 @@ use Rattle.std.proofs.lemmas.List.{append-nil}
 use Rattle.address_map.specs.Bytes.{Bytes}
 use Rattle.gdb_packets.specs.declared.requests.ByteRange.{ByteRange}
 use Rattle.gdb_machine.specs.declared.watches.SeenByte.{SeenByte}
-use Rattle.gdb_machine.specs.Memory.{further}
+use Rattle.gdb_machine.specs.Memory.{bytes_further}
 use Rattle.gdb_machine.specs.Watches.{byte_seen, bytes_seen, first_changed, is_byte_changed, watched_bytes}
 
-seen_suc : (b : Bytes) (a left : ℕ) → bytes_seen b a (suc left) ≡ byte_seen b a ∷ bytes_seen b (further a 1) left
+seen_suc : (b : Bytes) (a left : ℕ) → bytes_seen b a (suc left) ≡ byte_seen b a ∷ bytes_seen b (bytes_further a 1) left
 unfolding bytes_seen
 seen_suc b a left = refl
 
-seen_next : (b : Bytes) (a left : ℕ) → 0 < left → bytes_seen b a left ≡ byte_seen b a ∷ bytes_seen b (further a 1) (left - 1)
+seen_next : (b : Bytes) (a left : ℕ) → 0 < left → bytes_seen b a left ≡ byte_seen b a ∷ bytes_seen b (bytes_further a 1) (left - 1)
 seen_next b a left some =
     let split : left ≡ suc (left - 1) = omega arith in
     ap (bytes_seen b a) split ∙ seen_suc b a (left - 1)
 
 pub seen_more : (b : Bytes) (a left : ℕ) (done all : List SeenByte) → 0 < left → done ++ bytes_seen b a left ≡ all
-    → (done ++ byte_seen b a ∷ []) ++ bytes_seen b (further a 1) (left - 1) ≡ all
+    → (done ++ byte_seen b a ∷ []) ++ bytes_seen b (bytes_further a 1) (left - 1) ≡ all
 seen_more b a left done all some so =
-    append_assoc done (byte_seen b a ∷ []) (bytes_seen b (further a 1) (left - 1))
+    append_assoc done (byte_seen b a ∷ []) (bytes_seen b (bytes_further a 1) (left - 1))
     ∙ ap (λ (xs : List SeenByte). done ++ xs) (sym (seen_next b a left some)) ∙ so
 
 none_seen : (b : Bytes) (a left : ℕ) → left ≡ 0 → bytes_seen b a left ≡ []

@@ -10,8 +10,8 @@ use Rattle.address_map.specs.Bytes.{Bytes, byte_loaded, store_fault}
 use Rattle.gdb_packets.specs.declared.requests.ByteRange.{ByteRange}
 
 -- so many bytes further
-abbrev pub further : ℕ → ℕ → ℕ
-further address count = (address + count) % 2 ^ 32
+abbrev pub bytes_further : ℕ → ℕ → ℕ
+bytes_further address count = (address + count) % 2 ^ 32
 
 abbrev pub onto_known : Result ℕ Fault → List ℕ → List ℕ
 onto_known (Ok byte) rest = byte ∷ rest
@@ -20,7 +20,7 @@ onto_known (Err fault) rest = []
 -- so many bytes at most
 unfoldable pub known_bytes : Bytes → ℕ → ℕ → List ℕ
 known_bytes b address zero = []
-known_bytes b address (suc count) = onto_known (byte_loaded b address) (known_bytes b (further address 1) count)
+known_bytes b address (suc count) = onto_known (byte_loaded b address) (known_bytes b (bytes_further address 1) count)
 
 abbrev pub most_told : ℕ
 most_told = 8192
@@ -42,7 +42,7 @@ first_fault None other = other
 unfoldable pub words_fault : (ℕ → Bool) → Bytes → ℕ → ℕ → Option Fault
 words_fault owned b address zero = None
 words_fault owned b address (suc count) =
-    first_fault (store_fault owned b address) (words_fault owned b (further address 4) count)
+    first_fault (store_fault owned b address) (words_fault owned b (bytes_further address 4) count)
 
 abbrev pub loaded_or_zero : Result ℕ Fault → ℕ
 loaded_or_zero (Ok byte) = byte
@@ -60,5 +60,5 @@ mixed_byte b address start bytes =
 -- the word that an address is to have
 abbrev pub mixed_word : Bytes → ℕ → ℕ → List ℕ → ℕ
 mixed_word b address start bytes = from_le_bytes w32 (mixed_byte b address start bytes
-    ∷ mixed_byte b (further address 1) start bytes ∷ mixed_byte b (further address 2) start bytes
-    ∷ mixed_byte b (further address 3) start bytes ∷ [])
+    ∷ mixed_byte b (bytes_further address 1) start bytes ∷ mixed_byte b (bytes_further address 2) start bytes
+    ∷ mixed_byte b (bytes_further address 3) start bytes ∷ [])

@@ -7,7 +7,7 @@ use Rattle.gdb_packets.specs.declared.requests.ByteRange.{ByteRange}
 use Rattle.gdb_machine.specs.declared.watches.SeenByte.{SeenByte}
 use Rattle.gdb_machine.specs.declared.watches.WatchError.{WatchError}
 use Rattle.gdb_machine.specs.declared.watches.WatchError.TheVariants as refusal
-use Rattle.gdb_machine.specs.Memory.{further}
+use Rattle.gdb_machine.specs.Memory.{bytes_further}
 
 abbrev pub most_watches : ℕ
 most_watches = 8
@@ -50,7 +50,7 @@ byte_seen b address = record { address = address; value = loaded_byte (byte_load
 -- so many bytes from an address on
 unfoldable pub bytes_seen : Bytes → ℕ → ℕ → List SeenByte
 bytes_seen b address zero = []
-bytes_seen b address (suc count) = byte_seen b address ∷ bytes_seen b (further address 1) count
+bytes_seen b address (suc count) = byte_seen b address ∷ bytes_seen b (bytes_further address 1) count
 
 -- the bytes that are watched, as they are
 abbrev pub watched_bytes : Bytes → List ByteRange → List SeenByte

@@ -3,7 +3,7 @@
 ghost use Rattle.std.specs.Prelude.{◌≡◌, IfSome};
 ghost use Rattle.arm_core.specs.Psr.{mode_of as mode_told};
 ghost use Rattle.gdb_machine.specs.Changes.{CanBeMade, bank_change as bank_change_told, place_change as place_change_told};
-ghost use Rattle.gdb_machine.specs.Changes.{register_change as change_told, status_change as status_change_told};
+ghost use Rattle.gdb_machine.specs.Changes.{register_write as change_told, status_change as status_change_told};
 ghost use Rattle.gdb_machine.specs.Changes.{status_in as status_in_told};
 ghost use Rattle.gdb_machine.specs.Registers.{register_bank as bank_told};
 
@@ -13,7 +13,7 @@ use profile::word::is_bit_set;
 
 /// What a value of one of GDB's registers changes.
 #[derive(Clone, Copy)]
-pub enum RegisterChange {
+pub enum RegisterWrite {
     /// One of R0 to R14 of the present mode.
     Present(u32, u32),
     /// The program counter.
@@ -26,12 +26,12 @@ pub enum RegisterChange {
 
 /// What a value of the register of that number changes; `None` where there is no such register, or it
 /// can't have that value.
-pub fn register_change(number: u32, value: u32) -> Option<RegisterChange>
+pub fn register_write(number: u32, value: u32) -> Option<RegisterWrite>
     ensures value { result ≡ change_told number value }
     ensures made { IfSome result CanBeMade }
 {
     if number < 15 {
-        Some(RegisterChange::Present(number, value))
+        Some(RegisterWrite::Present(number, value))
     } else if number == 15 {
         place_change(value)
     } else if number == 16 {
@@ -41,24 +41,24 @@ pub fn register_change(number: u32, value: u32) -> Option<RegisterChange>
     }
 }
 
-fn place_change(address: u32) -> Option<RegisterChange>
+fn place_change(address: u32) -> Option<RegisterWrite>
     ensures value { result ≡ place_change_told address }
     ensures made { IfSome result CanBeMade }
 {
     if address % 4 == 0 && address < 1 << 26 {
-        Some(RegisterChange::Place(address))
+        Some(RegisterWrite::Place(address))
     } else {
         None
     }
 }
 
-fn status_change(word: u32) -> Option<RegisterChange>
+fn status_change(word: u32) -> Option<RegisterWrite>
     ensures value { result ≡ status_change_told word }
     ensures made { IfSome result CanBeMade }
 {
     let status = status_in(word);
     if status_word(status) == word {
-        Some(RegisterChange::Status(status))
+        Some(RegisterWrite::Status(status))
     } else {
         None
     }
@@ -91,10 +91,10 @@ fn mode_of(word: u32) -> Mode
     }
 }
 
-fn bank_change(number: u32, value: u32) -> Option<RegisterChange>
+fn bank_change(number: u32, value: u32) -> Option<RegisterWrite>
     ensures value { result ≡ bank_change_told (bank_told number) value }
     ensures made { IfSome result CanBeMade }
 {
     let (mode, register) = register_bank(number)?;
-    Some(RegisterChange::Banked(mode, register, value))
+    Some(RegisterWrite::Banked(mode, register, value))
 }

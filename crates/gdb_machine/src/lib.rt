@@ -9,7 +9,7 @@ mod registers;
 mod stops;
 mod watches;
 
-pub use changes::{RegisterChange, register_change};
+pub use changes::{RegisterWrite, register_write};
 pub use description::description_part;
 pub use memory::{known_bytes, memory_told, mixed_word, words_fault};
 pub use registers::{all_registers, one_register, register_shown};

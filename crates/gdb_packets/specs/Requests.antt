@@ -161,15 +161,15 @@ action_for_parts (Some parts) text = if_told (is_thread parts.behind) (action_re
 abbrev pub action_for_thread : List ℕ → GdbRequest
 action_for_thread text = action_for_parts (parts_around 58 text) text
 
-abbrev pub is_known : GdbRequest → Bool
-is_known Unknown = false
-is_known _ = true
+abbrev pub is_known_packet : GdbRequest → Bool
+is_known_packet Unknown = false
+is_known_packet _ = true
 
 -- one action, or two, of which the first tells what the one thread does
 abbrev pub actions_in : Option PacketParts → List ℕ → GdbRequest
 actions_in None text = action_for_thread text
 actions_in (Some parts) text =
-    if_told (is_known (action_for_thread parts.behind)) (action_for_thread parts.before)
+    if_told (is_known_packet (action_for_thread parts.behind)) (action_for_thread parts.before)
 
 abbrev pub actions_request : List ℕ → GdbRequest
 actions_request text = actions_in (parts_around 59 text) text

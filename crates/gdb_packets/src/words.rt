@@ -2,7 +2,7 @@
 
 ghost use Rattle.std.specs.Prelude.{◌≡◌, option_map};
 ghost use Rattle.gdb_packets.specs.Requests.{gdb_request, action_request, action_for_thread, actions_request};
-ghost use Rattle.gdb_packets.specs.Requests.{is_known, host_answer_request, host_answer_flagged, parts_around};
+ghost use Rattle.gdb_packets.specs.Requests.{is_known_packet, host_answer_request, host_answer_flagged, parts_around};
 ghost use Rattle.gdb_packets.specs.Requests.{whole_word_request, opened_request, word_request};
 ghost use Rattle.gdb_packets.specs.Requests.{about_attachment, about_process, about_session, about_target};
 
@@ -110,15 +110,15 @@ fn actions_request(text: &[u8]) -> Request<'static>
     let Some(parts) = parts_around(b';', text) else {
         return action_for_thread(text);
     };
-    if is_known(&action_for_thread(parts.behind)) {
+    if is_known_packet(&action_for_thread(parts.behind)) {
         action_for_thread(parts.before)
     } else {
         Request::Unknown
     }
 }
 
-fn is_known(request: &Request<'_>) -> bool
-    ensures { result ≡ is_known (gdb_request request.now) }
+fn is_known_packet(request: &Request<'_>) -> bool
+    ensures { result ≡ is_known_packet (gdb_request request.now) }
 {
     !matches!(request, Request::Unknown)
 }

@@ -37,8 +37,8 @@ abbrev pub mode_change : Psr → Psr → Option Mode
 mode_change p q = new_mode p.mode q.mode
 
 -- the address of the word after an instruction
-abbrev pub word_behind : State → ℕ
-word_behind s = (s.pc + 4) % 2 ^ 26
+abbrev pub following_word : State → ℕ
+following_word s = (s.pc + 4) % 2 ^ 26
 
 -- where a core goes on, if that isn't where it was expected to
 abbrev pub jump : ℕ → State → Option ℕ

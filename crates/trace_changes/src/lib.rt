@@ -7,4 +7,4 @@ pub mod status;
 
 pub use arm_core;
 pub use registers::{REGISTERS, RegisterChange, changed_registers, home_of};
-pub use status::{Flag, changed_flag, changed_mode, jump_of, word_behind};
+pub use status::{Flag, changed_flag, changed_mode, following_word, jump_of};

@@ -1,7 +1,7 @@
 //! The flags, the mode and the program counter, as two cores differ in them.
 
 ghost use Rattle.std.specs.Prelude.{◌≡◌};
-ghost use Rattle.trace_changes.specs.Status.{flag_of, flag_change, mode_change, jump, word_behind};
+ghost use Rattle.trace_changes.specs.Status.{flag_of, flag_change, mode_change, jump, following_word};
 
 use arm_core::profile::memory_map::ADDRESS_LIMIT;
 use arm_core::{Cpu, Mode, Psr};
@@ -59,8 +59,8 @@ pub fn changed_mode(before: Psr, after: Psr) -> Option<Mode>
 }
 
 /// The address of the word after the one at the program counter.
-pub fn word_behind(cpu: &Cpu) -> u32
-    ensures value { result ≡ word_behind cpu.now }
+pub fn following_word(cpu: &Cpu) -> u32
+    ensures value { result ≡ following_word cpu.now }
 {
     (cpu.pc() + 4) % ADDRESS_LIMIT
 }

@@ -30,17 +30,17 @@ name_word None = []
 name_word (Some error) = codes " " ++ error_name error
 
 -- ` 9 HeapNoRoom`
-abbrev pub numbered_word : ℕ → List ℕ
-numbered_word number =
+abbrev pub error_number_word : ℕ → List ℕ
+error_number_word number =
     codes " " ++ (decimal number ++ name_word (error_with_number numbered_errors number))
 
 -- ` error 9 HeapNoRoom`
 abbrev pub error_word : ℕ → List ℕ
-error_word number = codes " error" ++ numbered_word number
+error_word number = codes " error" ++ error_number_word number
 
 -- ` stops ErrorStop 9 HeapNoRoom`
 abbrev pub error_stop_word : ℕ → List ℕ
-error_stop_word number = codes " stops ErrorStop" ++ numbered_word number
+error_stop_word number = codes " stops ErrorStop" ++ error_number_word number
 
 -- ` stops DataUnmapped`, and of an error stop that with its number
 abbrev pub fault_word : Fault → List ℕ

@@ -12,7 +12,7 @@ use Rattle.swi_dispatch_guest.specs.swi_dispatch_frames.specs.Frames.{innermost_
 use Rattle.swi_dispatch_guest.specs.swi_dispatch_frames.specs.declared.frame.Frame.{Frame}
 use Rattle.swi_dispatch_guest.specs.MachineState.{MachineState, StepOutcome, stop_of}
 use Rattle.swi_dispatch_guest.specs.Step.{without_x}
-use Rattle.trace_changes.specs.Status.{word_behind}
+use Rattle.trace_changes.specs.Status.{following_word}
 use Rattle.trace_effects.specs.Cause.{cause_of, swi_of_cause}
 use Rattle.trace_effects.specs.Stored.{stored_words}
 use Rattle.trace_effects.specs.declared.cause.Cause.{Cause}
@@ -88,7 +88,7 @@ abbrev pub known_by : MachineState → Cause → StoredWords → Known
 known_by s cause stored = record {
   cpu = s.cpu;
   taking = taking_of cause;
-  expected = word_behind s.cpu;
+  expected = following_word s.cpu;
   is_skipped = is_skipped cause;
   text_length = length (what_text s.cpu.pc cause);
   stored_at = stored.at;

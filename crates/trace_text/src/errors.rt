@@ -2,7 +2,7 @@
 
 ghost use Rattle.std.specs.Prelude.{◌≡◌};
 ghost use Rattle.profile.specs.Output.{Writes};
-ghost use Rattle.trace_text.specs.Errors.{error_stop_word, error_with_number, error_word, fault_word, name_word, numbered_errors, numbered_word, stop_word};
+ghost use Rattle.trace_text.specs.Errors.{error_stop_word, error_with_number, error_word, fault_word, name_word, numbered_errors, error_number_word, stop_word};
 
 use itoa::Buffer;
 use profile::{ErrorNumber, Fault, Sink, Stop, WriteFault, error_text, push_all, push_parts};
@@ -85,7 +85,7 @@ fn push_error_stop<W: Sink>(sink: &mut W, number: u32) -> Result<(), WriteFault>
 }
 
 fn push_numbered<W: Sink>(sink: &mut W, number: u32) -> Result<(), WriteFault>
-    ensures { Writes W.contents W.has_failed sink.old sink.new result (numbered_word number) }
+    ensures { Writes W.contents W.has_failed sink.old sink.new result (error_number_word number) }
 {
     let mut digits = Buffer::new();
     push_parts(sink, &[b" ".as_slice(), digits.format(number).as_bytes()])?;

@@ -23,7 +23,7 @@ use debugger::swi_dispatch::{Frame, Machine, without_x_bit};
 use profile::word::is_bit_set;
 use profile::{HexText, Sink, WriteFault, push_all, push_parts};
 use std::alloc::Global;
-use trace_changes::word_behind;
+use trace_changes::following_word;
 use trace_effects::{Cause, called_swi, stored_words};
 use view_items::TextSink;
 
@@ -113,7 +113,7 @@ impl StepStart {
         StepStart {
             cpu: *cpu,
             taking: Taking::of(cause),
-            expected: word_behind(cpu),
+            expected: following_word(cpu),
             is_skipped: is_skipped(cause),
             text_length,
             stored_at: stored.at,

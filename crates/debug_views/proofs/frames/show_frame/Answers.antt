@@ -2,7 +2,7 @@ use Rattle.std.proofs.Common.{◌≡◌, List, ℕ, ap, subst, sym, ◌∙◌}
 use Rattle.profile.specs.Output.{Writes}
 use Rattle.address_map.specs.Memory.{bytes_of}
 use Rattle.debugger.specs.Modules.{one_text}
-use Rattle.debug_views.specs.Frames.{frame_line, frame_numbered, frame_text}
+use Rattle.debug_views.specs.Frames.{frame_line, open_frame_numbered, frame_text}
 use Rattle.debug_views.proofs.frames.show_frame.Goals as goal
 use Rattle.swi_dispatch_guest.specs.Parts.{state_of}
 
@@ -17,7 +17,7 @@ returns-in-Some g c =
     λ i. frame_line (c.instances.ensures i) (c.memory.ensures.bytes i) number label frame in
     let same : frame_line c.instances.result.now (bytes_of c.memory.result.now) number label frame ≡ frame_text s number label =
     here ∙ ap (one_text (frame_line s.tables.modules s.store.bytes number label))
-    (sym c.in-Some.is ∙ c.frame_numbered.ensures ∙ ap (frame_numbered number) c.open_frames.ensures) in
+    (sym c.in-Some.is ∙ c.open_frame_numbered.ensures ∙ ap (open_frame_numbered number) c.open_frames.ensures) in
     record {
       writes = subst (λ (text : List ℕ). Writes g.W.Sink.contents g.W.Sink.has_failed c.args.sink.now c.show_line.new.sink
           c.show_line.result text) same c.show_line.ensures;
