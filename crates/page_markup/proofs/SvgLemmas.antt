@@ -1,5 +1,5 @@
 -- What a picture begins with, and a size, written piece by piece.
-use Rattle.std.proofs.Common.{ℕ, List, [], ◌∷◌, ◌++◌, Option, Result, Ok, Err, ◌≡◌, ◌≤◌, ◌<◌, ◌+◌, length, get_or, drop, not, subst, if◌then◌else◌}
+use Rattle.std.proofs.Common.{ℕ, List, [], ◌++◌, Option, Result, Ok, Err, ◌≡◌, ◌≤◌, ◌<◌, ◌+◌, length, get_or, drop, not, subst, if◌then◌else◌}
 use Rattle.std.proofs.lemmas.List.{at_drop_more, at_drop_all}
 use Rattle.std.specs.Prelude.{codes, OnOk}
 use Rattle.std.specs.Fmt.{decimal}

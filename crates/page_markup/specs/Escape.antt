@@ -1,6 +1,6 @@
 -- Bytes as they stand in HTML, and how they are read back from there.
-use Rattle.std.specs.Prelude.{ℕ, suc, zero, ◌+◌, ◌-◌, ◌*◌, ◌/◌, ◌%◌, ◌==◌, ◌&&◌, ◌||◌, Bool, true, false, not, nat_lt}
-use Rattle.std.specs.Prelude.{List, [], ◌∷◌, ◌++◌, length, drop, if◌then◌else◌, codes}
+use Rattle.std.specs.Prelude.{ℕ, suc, zero, ◌+◌, ◌-◌, ◌*◌, ◌/◌, ◌%◌, ◌==◌, ◌||◌, Bool, not, nat_lt}
+use Rattle.std.specs.Prelude.{List, [], ◌∷◌, length, drop, if◌then◌else◌}
 use Rattle.std.specs.List.{flat_map, list_all}
 use Rattle.profile.specs.Digits.{hex_digit}
 use Rattle.view_pictures.specs.Spelt.{is_shown}

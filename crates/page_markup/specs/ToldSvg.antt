@@ -1,5 +1,5 @@
 -- The name of a picture, and lines under its boxes that tell what has become of them.
-use Rattle.std.specs.Prelude.{ℕ, ◌+◌, ◌-◌, ◌*◌, ◌^◌, min, Bool, true, false, List, [], ◌∷◌, ◌++◌, fold, codes, if◌then◌else◌}
+use Rattle.std.specs.Prelude.{ℕ, ◌+◌, ◌-◌, ◌*◌, ◌^◌, min, List, [], ◌∷◌, ◌++◌, fold, codes, if◌then◌else◌}
 use Rattle.profile.specs.Digits.{hex_word}
 use Rattle.view_items.specs.declared.kinds.BoxKind.{BoxKind}
 use Rattle.view_items.specs.declared.kinds.BoxKind.TheVariants as kind

@@ -5,7 +5,6 @@ use Rattle.std.proofs.lemmas.List.{at_drop_more, at_drop_all}
 use Rattle.view_items.specs.declared.views.PictureView.{PictureView}
 use Rattle.view_layout.specs.Layout.{scaled_by, shared_width, shown_before, spot_before, spot_of, spots_from, told_of, top_behind, total_box_size, total_from, IsLayoutOf}
 use Rattle.view_layout.specs.Nested.{all_gone, AreToldOf}
-use Rattle.view_layout.specs.declared.layout.Drawn.{Drawn}
 use Rattle.view_layout.specs.declared.layout.Layout.{Layout}
 use Rattle.view_layout.specs.declared.nested.ToldBox.{ToldBox}
 

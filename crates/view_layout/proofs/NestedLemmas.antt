@@ -1,5 +1,5 @@
 -- How the boxes of several heaps are gone through one after another.
-use Rattle.std.proofs.Common.{◌≡◌, ◌≤◌, ◌<◌, ◌+◌, ℕ, suc, zero, Bool, List, [], ◌∷◌, ◌++◌, length, get_or, drop, map, IsPermutation, Option, None, Some, refl, arith, subst, if◌then◌else◌}
+use Rattle.std.proofs.Common.{◌≡◌, ◌≤◌, ◌<◌, ◌+◌, ℕ, suc, zero, Bool, List, [], ◌∷◌, length, get_or, drop, map, IsPermutation, None, Some, refl, arith, subst, if◌then◌else◌}
 use Rattle.std.proofs.lemmas.List.{at_drop_more, at_drop_all}
 use Rattle.view_changes.specs.declared.history.BoxHistory.{BoxHistory}
 use Rattle.view_items.specs.Boxes.{place_of_box}

@@ -4,7 +4,6 @@ use Rattle.view_items.specs.Boxes.{box_rank}
 use Rattle.view_items.specs.Kinds.{has_second_line}
 use Rattle.view_items.specs.declared.kinds.BoxKind.{BoxKind}
 use Rattle.view_items.specs.declared.kinds.BoxKind.TheVariants as kind
-use Rattle.view_items.specs.declared.boxes.PictureBox.{PictureBox}
 use Rattle.view_items.specs.declared.views.PictureView.{PictureView}
 use Rattle.view_layout.specs.Nested.{all_gone, AreToldOf}
 use Rattle.view_layout.specs.declared.layout.Drawn.{Drawn}

@@ -1,7 +1,7 @@
 -- How the boxes of a picture go on in the rows of a bar.
-use Rattle.std.proofs.Common.{◌≡◌, ◌≤◌, ◌<◌, ◌+◌, ◌-◌, ◌^◌, ℕ, suc, zero, List, [], ◌∷◌, ◌++◌, length, length-drop, get_or, drop, take}
+use Rattle.std.proofs.Common.{◌≡◌, ◌≤◌, ◌<◌, ◌+◌, ◌-◌, ℕ, suc, zero, List, [], ◌∷◌, ◌++◌, length, length-drop, get_or, drop, take}
 use Rattle.std.proofs.Common.{Option, ap, arith, refl, if◌then◌else◌}
-use Rattle.std.specs.Prelude.{min, nat_le}
+use Rattle.std.specs.Prelude.{nat_le}
 use Rattle.std.proofs.lemmas.List.{at_drop_more, at_drop_all}
 use Rattle.profile.specs.Digits.{hex_number}
 use Rattle.view_pictures.specs.Bars.{addresses, bar_row, bar_rows, blanks_after_box, box_mark, box_marks, digits_at, end_digits, end_of_row}

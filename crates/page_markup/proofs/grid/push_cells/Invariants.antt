@@ -1,4 +1,4 @@
-use Rattle.std.proofs.Common.{◌≡◌, drop, ◌-◌}
+use Rattle.std.proofs.Common.{◌≡◌, ◌-◌}
 use Rattle.profile.specs.Output.{AddsAllBut}
 use Rattle.page_markup.specs.Grid.{cell_svg, cells}
 use Rattle.page_markup.proofs.grid.push_cells.Given as goal

@@ -1,4 +1,4 @@
-use Rattle.std.proofs.Common.{◌≡◌, ◌+◌, fold, take}
+use Rattle.std.proofs.Common.{◌≡◌, take}
 use Rattle.view_changes.specs.Changes.{boxes_end}
 use Rattle.view_changes.proofs.history.boxes_end.Given as goal
 

@@ -1,4 +1,4 @@
-use Rattle.std.proofs.Common.{IsPermutation, rules}
+use Rattle.std.proofs.Common.{rules}
 use Rattle.std.proofs.lemmas.List.Sorted.{IsNonDecreasingBy-from_sort_by_key, IsPermutation-map}
 use Rattle.view_layout.specs.Nested.{place_of_told, told_rank}
 use Rattle.view_layout.proofs.nested.sorted.Goals as goal

@@ -1,4 +1,4 @@
-use Rattle.std.proofs.Common.{◌≡◌, ◌≤◌, drop}
+use Rattle.std.proofs.Common.{◌≡◌, drop}
 use Rattle.profile.specs.Output.{AddsAllBut}
 use Rattle.view_pictures.specs.Chain.{chain_links}
 use Rattle.view_pictures.proofs.chain.push_links.Given as goal

@@ -1,4 +1,4 @@
-use Rattle.std.proofs.Common.{◌≡◌, ◌∙◌}
+use Rattle.std.proofs.Common.{◌∙◌}
 use Rattle.address_map.specs.Memory.{bytes_of}
 use Rattle.debugger.specs.Modules.{modules_text}
 use Rattle.view_reading.proofs.ToldLemmas.{all_told}
