@@ -1,11 +1,11 @@
 -- The list of changes is complete, and true.
-use Rattle.std.proofs.Common.{◌≡◌, ◌≢◌, ℕ, zero, suc, ◌+◌, ◌<◌, ◌≤◌, ◌==◌, true, false, List, [], ◌∷◌, ◌++◌, Contains, cond, length, slice_index, slice_index_or, refl, sym, ◌∙◌, ap, arith, rules, ◌⊎◌, inl, inr, subst, nat_lt}
+use Rattle.std.proofs.Common.{◌≡◌, ◌≢◌, ℕ, zero, suc, ◌<◌, ◌≤◌, ◌==◌, List, [], ◌∷◌, Contains, slice_index, slice_index_or, refl, sym, ◌∙◌, arith, inl, inr, subst}
 use Rattle.std.proofs.lemmas.Bool.{cases_lt, cases_Bool, eqb-true, eq-eqb, false≢true}
 use Rattle.std.proofs.lemmas.Bool.Decides.{nat_tests}
 use Rattle.std.proofs.lemmas.List.Elements.{Contains-append_left, Contains-append_right, Contains-append_cases, Contains-push}
 use Rattle.arm_core.specs.declared.psr.Mode.{Mode}
 use Rattle.arm_core.specs.declared.psr.Mode.TheVariants.{User, FastInterrupt, Interrupt, Supervisor}
-use Rattle.arm_core.specs.State.{State, register_in, slot_of}
+use Rattle.arm_core.specs.State.{State, slot_of}
 use Rattle.trace_changes.specs.declared.registers.RegisterChange.{RegisterChange}
 use Rattle.trace_changes.specs.Laws.{AreComplete, AreTrue, IsChange}
 use Rattle.trace_changes.specs.Registers.{change_at, register_change, changes_below}

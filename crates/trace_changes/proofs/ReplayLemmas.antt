@@ -1,15 +1,15 @@
 -- Changes replayed give the second core.
-use Rattle.std.proofs.Common.{◌≡◌, ◌≢◌, ℕ, zero, suc, ◌+◌, ◌<◌, ◌≤◌, ◌==◌, Bool, true, false, List, [], ◌∷◌, ◌++◌, length, slice_index, slice_set, refl, sym, ◌∙◌, ap, arith, inl, inr, Option, Some, None, unwrap_or}
-use Rattle.std.proofs.lemmas.Bool.{cases_Bool, eqb-true, eq-eqb, false≢true, cases_lt}
-use Rattle.std.proofs.lemmas.List.{ext_get_or, get_or-set_same}
+use Rattle.std.proofs.Common.{◌≡◌, ◌≢◌, ℕ, zero, suc, ◌<◌, ◌≤◌, ◌==◌, Bool, true, false, List, [], ◌∷◌, ◌++◌, length, slice_index, slice_set, refl, sym, ◌∙◌, ap, arith, inl, inr, unwrap_or}
+use Rattle.std.proofs.lemmas.Bool.{cases_Bool, eqb-true, eq-eqb, false≢true}
+use Rattle.std.proofs.lemmas.List.{ext_get_or}
 use Rattle.std.proofs.lemmas.Grind.{common_steps}
 use Rattle.arm_core.specs.declared.psr.Mode.{Mode}
 use Rattle.arm_core.specs.declared.psr.Mode.TheVariants.{User, FastInterrupt, Interrupt, Supervisor}
-use Rattle.arm_core.specs.State.{IsCore, State}
+use Rattle.arm_core.specs.State.{State}
 use Rattle.trace_changes.specs.declared.registers.RegisterChange.{RegisterChange}
-use Rattle.trace_changes.specs.Registers.{change_at, register_change, changes_below}
+use Rattle.trace_changes.specs.Registers.{change_at, changes_below}
 use Rattle.trace_changes.specs.Status.{jump, new_bool, new_mode}
-use Rattle.trace_changes.specs.Laws.{Replays, core_after, core_changes, registers_after}
+use Rattle.trace_changes.specs.Laws.{Replays, registers_after}
 use Rattle.trace_changes.proofs.ChangeLemmas.{alike_here, differs_here, suc_below}
 
 after_both : (f : List ℕ) (cs ds : List RegisterChange) → registers_after f (cs ++ ds) ≡ registers_after (registers_after f cs) ds

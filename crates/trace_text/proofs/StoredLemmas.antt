@@ -47,6 +47,4 @@ next_line b at next n olds inside e =
 pub lines_done : (b : Bytes) (at n : ℕ) (olds : List ℕ) → length olds ≤ n → stored_lines b at (drop n olds) ≡ []
 lines_done b at n olds past = ap (stored_lines b at) (drop_all n olds past) ∙ no_lines b at
 
-pub ruleset word_steps = (word_more, words_done)
-
 pub ruleset line_steps = (AddsAllBut-start, AddsAllBut-more, AddsAllBut-same, Appends-from_all_but, lines_done, next_line)

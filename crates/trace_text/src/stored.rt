@@ -15,7 +15,6 @@ use trace_effects::StoredWords;
 pub const MOST_STORED: usize = 16;
 
 /// What stands in some words of memory; a word where no memory is mapped counts as 0.
-#[tactic(auto, using(crate::proofs::StoredLemmas::word_steps))]
 pub fn old_words(memory: &AddressMap, words: StoredWords) -> ArrayVec<u32, MOST_STORED>
     requires { words.count ≤ 16 }
     ensures value { result.items ≡ word_values_from (bytes_of memory.now) words.at words.count }

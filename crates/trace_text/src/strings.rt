@@ -1,9 +1,10 @@
 //! The text that a register points to.
 
 ghost use Rattle.std.specs.Prelude.{◌≡◌, ◌==◌, [], codes, if◌then◌else◌};
+ghost use Rattle.address_map.specs.Bytes.{byte_loaded};
 ghost use Rattle.address_map.specs.Memory.{bytes_of};
 ghost use Rattle.profile.specs.Output.{Writes};
-ghost use Rattle.trace_text.specs.Strings.{characters_at, cut_text, string_word};
+ghost use Rattle.trace_text.specs.Strings.{character_loaded, characters_at, cut_text, string_word};
 
 use address_map::AddressMap;
 use arrayvec::ArrayVec;
@@ -36,18 +37,26 @@ fn dots_behind(count: usize) -> &'static [u8]
     if count == MOST_CHARACTERS { b".." } else { b"" }
 }
 
-#[tactic(auto, using(crate::proofs::StringLemmas::character_steps))]
 fn characters_at(memory: &AddressMap, first: u32) -> ArrayVec<u8, MOST_CHARACTERS>
     ensures { result.items ≡ characters_at (bytes_of memory.now) first 40 }
 {
     let mut characters = ArrayVec::new();
     let mut at = first;
     for _count in 0..MOST_CHARACTERS {
-        match memory.load_byte(at) {
-            Ok(byte) if byte >= b' ' => characters.push(byte),
-            _ => return characters,
+        match character_at(memory, at) {
+            Some(byte) => characters.push(byte),
+            None => return characters,
         }
         at = at.wrapping_add(1);
     }
     characters
+}
+
+fn character_at(memory: &AddressMap, at: u32) -> Option<u8>
+    ensures { result ≡ character_loaded (byte_loaded (bytes_of memory.now) at) }
+{
+    match memory.load_byte(at) {
+        Ok(byte) if byte >= b' ' => Some(byte),
+        _ => None,
+    }
 }

@@ -1,4 +1,4 @@
-use Rattle.std.proofs.Common.{◌≡◌, ◌≤◌, length, arith, refl, ap, sym, ◌∙◌, rules}
+use Rattle.std.proofs.Common.{arith}
 use Rattle.trace_changes.specs.Registers.{changes_below}
 use Rattle.trace_changes.proofs.registers.changed_registers.Goals as goal
 
