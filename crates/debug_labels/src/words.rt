@@ -15,6 +15,7 @@ use std::marker::Model;
 use text_lines::cut;
 
 /// What words are read by.
+#[derive(Drop)]
 pub struct PlaceNames<'a> {
     pub(crate) labels: &'a LabelTable,
     pub(crate) modules: &'a Instances,
