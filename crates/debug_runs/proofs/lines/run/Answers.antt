@@ -1,0 +1,33 @@
+use Rattle.std.proofs.Common.{sym, ◌∙◌}
+use Rattle.command_shell.specs.Calls.{stop_told}
+use Rattle.command_shell.specs.Session.{script_state}
+use Rattle.command_shell.proofs.AnswerLemmas.{tells_same}
+use Rattle.command_shell.proofs.CallLemmas.{can_step}
+use Rattle.debug_runs.specs.Lines.{run_of_line, stubbed_run_done, stubbed_run_told}
+use Rattle.debug_runs.proofs.LineLemmas.{run_goes, run_refused}
+use Rattle.debug_runs.proofs.lines.run.Goals as goal
+
+pub run_all-requires : goal.run_all-requires
+run_all-requires g c =
+    let w = script_state c.args.session.now c.args.images.now in
+    can_step w.machine.halt w.left (sym (c.stop_before_step.ensures c.args.images.now) ∙ c.in-None.is)
+
+pub returns-in-Some-clause-told : goal.returns-in-Some-clause-told
+returns-in-Some-clause-told g c =
+    let images = c.args.images.now in
+    let w = script_state c.args.session.now images in
+    let stop = c.in-Some.stop in
+    tells_same c.tell_end.result (g.W.Sink.contents c.args.sink.now) (g.W.Sink.contents c.tell_end.new.sink)
+    (script_state c.tell_end.new.self images)
+    (stop_told w stop) (stubbed_run_told c.args.stubs.now w)
+    (run_refused c.args.stubs.now w stop (sym (c.stop_before_step.ensures images) ∙ c.in-Some.is))
+    (c.tell_end.ensures.told images)
+
+pub returns-in-None-clause-told : goal.returns-in-None-clause-told
+returns-in-None-clause-told g c =
+    let images = c.args.images.now in
+    let w = script_state c.args.session.now images in
+    tells_same c.run_all.result (g.W.Sink.contents c.args.sink.now) (g.W.Sink.contents c.run_all.new.sink)
+    (script_state c.run_all.new.session images)
+    (stubbed_run_done (run_of_line c.args.stubs.now w w.left)) (stubbed_run_told c.args.stubs.now w)
+    (run_goes c.args.stubs.now w (sym (c.stop_before_step.ensures images) ∙ c.in-None.is)) c.run_all.ensures.told
