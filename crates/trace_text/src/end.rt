@@ -11,7 +11,7 @@ ghost use Rattle.trace_text.specs.Step.{skipped_word};
 
 use crate::areas::push_areas;
 use crate::columns::{push_behind, push_below};
-use crate::core::push_core;
+use crate::core_text::push_core;
 use crate::errors::{push_error, push_stop};
 use crate::start::{StepStart, Taking, innermost};
 use crate::stored::{push_stored_below, push_stored_here};

@@ -4,7 +4,7 @@
 pub mod areas;
 pub mod calls;
 pub mod columns;
-pub mod core;
+pub mod core_text;
 pub mod end;
 pub mod errors;
 pub mod start;

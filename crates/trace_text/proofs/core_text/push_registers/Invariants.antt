@@ -2,7 +2,7 @@ use Rattle.std.proofs.Common.{◌≡◌, drop}
 use Rattle.std.specs.List.{flat_map}
 use Rattle.profile.specs.Output.{AddsAllBut}
 use Rattle.trace_text.specs.Core.{register_word}
-use Rattle.trace_text.proofs.core.push_registers.Given as goal
+use Rattle.trace_text.proofs.core_text.push_registers.Given as goal
 
 -- what stands written, and the changes that are left, is all
 abbrev pub invariant-loop-change : goal.invariant-loop-change
