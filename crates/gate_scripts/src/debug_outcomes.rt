@@ -1,6 +1,8 @@
 //! Debugging scripts run on fresh machines, whole or as they are typed.
 
-ghost use Rattle.std.specs.Prelude.{◌<◌};
+ghost use Rattle.std.specs.Prelude.{◌≡◌, ◌<◌, IfOk};
+ghost use Rattle.debug_session.specs.DebugScript.{debug_script_told};
+ghost use Rattle.debug_session.specs.Reports.{debug_status};
 
 use command_shell::RunError;
 use debug_lines::command_shell_lines::text_lines::Lines;
@@ -21,7 +23,12 @@ pub fn debug_outcome_of(
     script: &[u8],
     images: &mut Images,
     setting: DebugSetting,
-) -> Result<ScriptOutcome, RunError> {
+) -> Result<ScriptOutcome, RunError>
+    ensures answer { IfOk result (λ outcome. outcome.answer.items
+        ≡ (debug_script_told setting images.old script.now).text) }
+    ensures status { IfOk result (λ outcome. outcome.status
+        ≡ debug_status (debug_script_told setting images.old script.now).state) }
+{
     let mut session = DebugSession::new(alloc, setting)?;
     let mut room = vec![in alloc; 0u8; MOST_ANSWER_BYTES]?;
     let mut writer = MemorySink::new(&mut room, MOST_ANSWER_BYTES, u64::MAX);
