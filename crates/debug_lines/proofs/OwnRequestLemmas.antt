@@ -6,7 +6,7 @@ use Rattle.command_shell_lines.specs.Operands.{word_address, origin_of, count_up
 use Rattle.command_shell_lines.specs.Requests.{Request, Unknown, is_same_word, request_of, words}
 use Rattle.image_loader.specs.Entries.{can_name_image}
 use Rattle.debug_lines.specs.DebugRequests.{DebugRequest, Script, Remark, Forget, SetPc, SetPsr, Reset, Quit, Expect, View, NotKnown, expect_line, is_remark, is_script_request, own_request_behind, simple_request}
-use Rattle.debug_lines.specs.DebugRequests.{Banks, Help, Stack, Where, forget_if_named, own_request_of_four, own_request_of_three, own_request_of_two, own_request_of_word}
+use Rattle.debug_lines.specs.DebugRequests.{Banks, Frames, Help, Stack, Where, forget_if_named, is_frames_word, own_request_of_four, own_request_of_three, own_request_of_two, own_request_of_word}
 use Rattle.debug_lines.specs.DebugRequests.{own_request_of_words, set_pc_to, set_psr_of_two, set_psr_to, set_request, stack_of, words_at}
 use Rattle.debug_lines.specs.Expectations.{ExpectRequest, expect_request, text_behind}
 use Rattle.debug_lines.specs.Status.{status_of_two, status_of_word}
@@ -62,9 +62,10 @@ own_word word =
     own_if (is_same_word word (codes "WHERE")) (View Where) _ refl
     (own_if (is_same_word word (codes "BANKS")) (View Banks) _ refl
     (own_if (is_same_word word (codes "STACK")) (View (Stack 8)) _ refl
+    (own_if (is_frames_word word) (View Frames) _ refl
     (own_if (is_same_word word (codes "RESET")) Reset _ refl
     (own_if (is_same_word word (codes "HELP")) (View Help) _ refl
-    (own_if (is_same_word word (codes "QUIT")) Quit NotKnown refl refl)))))
+    (own_if (is_same_word word (codes "QUIT")) Quit NotKnown refl refl))))))
 
 own_two : (word other : List ℕ) → asks_script (own_request_of_two word other) ≡ false
 unfolding asks_script

@@ -1,6 +1,6 @@
 -- What a line of a debugging script asks for. A line is first read as a line of a script; only what is
 -- none is made tidy and looked at further. Command words may be in upper or lower case.
-use Rattle.std.specs.Prelude.{ℕ, Bool, true, false, ◌==◌, ◌&&◌, ◌+◌, nat_lt, not, List, [], ◌∷◌, codes, drop, take, Option, Some, None, if◌then◌else◌}
+use Rattle.std.specs.Prelude.{ℕ, Bool, true, false, ◌==◌, ◌&&◌, ◌||◌, ◌+◌, nat_lt, not, List, [], ◌∷◌, codes, drop, take, Option, Some, None, if◌then◌else◌}
 use Rattle.std.specs.List.{position}
 use Rattle.image_loader.specs.Entries.{can_name_image}
 use Rattle.command_shell_lines.specs.Numbers.{script_number}
@@ -21,6 +21,7 @@ pub data ViewRequest : Type 0 where
   Where : ViewRequest
   Banks : ViewRequest
   Stack : ℕ → ViewRequest
+  Frames : ViewRequest
   Help : ViewRequest
 
 pub data DebugRequest : Type 0 where
@@ -48,16 +49,22 @@ abbrev pub is_remark : List ℕ → Bool
 is_remark [] = true
 is_remark (first ∷ rest) = first == 35
 
+-- the open frames have three names
+abbrev pub is_frames_word : List ℕ → Bool
+is_frames_word word = is_same_word word (codes "FRAMES")
+    || (is_same_word word (codes "BACKTRACE") || is_same_word word (codes "BT"))
+
 -- a line of one word
 abbrev pub own_request_of_word : List ℕ → DebugRequest
 own_request_of_word word =
     if is_same_word word (codes "WHERE") then View Where else (
     if is_same_word word (codes "BANKS") then View Banks else (
     if is_same_word word (codes "STACK") then View (Stack 8) else (
+    if is_frames_word word then View Frames else (
     if is_same_word word (codes "RESET") then Reset else (
     if is_same_word word (codes "HELP") then View Help else (
     if is_same_word word (codes "QUIT") then Quit else
-    NotKnown)))))
+    NotKnown))))))
 
 abbrev pub stack_of : Option ℕ → DebugRequest
 stack_of (Some count) = View (Stack count)
@@ -186,6 +193,7 @@ view_request_of (view.Words address count) = Words address count
 view_request_of view.Where = Where
 view_request_of view.Banks = Banks
 view_request_of (view.Stack count) = Stack count
+view_request_of view.Frames = Frames
 view_request_of view.Help = Help
 
 abbrev pub debug_request_of_command : DebugCommand → DebugRequest

@@ -5,7 +5,7 @@ ghost use Rattle.command_shell_lines.specs.Operands.{word_address, count_up_to};
 ghost use Rattle.command_shell_lines.specs.Requests.{request_of, request_of_command, words};
 ghost use Rattle.image_loader.specs.Entries.{can_name_image};
 ghost use Rattle.debug_lines.specs.DebugRequests.{is_script_request, is_remark, simple_request, debug_opens_block, expect_line, own_request_of_words};
-ghost use Rattle.debug_lines.specs.DebugRequests.{forget_if_named, own_request_of_word, own_request_of_two, own_request_of_three, own_request_of_four};
+ghost use Rattle.debug_lines.specs.DebugRequests.{forget_if_named, is_frames_word, own_request_of_word, own_request_of_two, own_request_of_three, own_request_of_four};
 ghost use Rattle.debug_lines.specs.DebugRequests.{stack_of, words_at, set_request, set_psr_to, debug_request_of_command};
 ghost use Rattle.debug_lines.specs.Expectations.{expect_request};
 
@@ -32,6 +32,8 @@ pub enum DebugView {
     Banks,
     /// `STACK n`, of 1 to 1024 words; `STACK` is of 8.
     Stack(u32),
+    /// `FRAMES`, `BACKTRACE` or `BT`.
+    Frames,
     /// `HELP`.
     Help,
 }
@@ -159,6 +161,8 @@ fn command_of_word(word: &[u8]) -> DebugCommand<'static>
         DebugCommand::View(DebugView::Banks)
     } else if has_letters(word, b"STACK") {
         DebugCommand::View(DebugView::Stack(STACK_WORDS))
+    } else if is_frames_word(word) {
+        DebugCommand::View(DebugView::Frames)
     } else if has_letters(word, b"RESET") {
         DebugCommand::Reset
     } else if has_letters(word, b"HELP") {
@@ -168,6 +172,12 @@ fn command_of_word(word: &[u8]) -> DebugCommand<'static>
     } else {
         DebugCommand::Unknown
     }
+}
+
+fn is_frames_word(word: &[u8]) -> bool
+    ensures { result ≡ is_frames_word word.now }
+{
+    has_letters(word, b"FRAMES") || has_letters(word, b"BACKTRACE") || has_letters(word, b"BT")
 }
 
 fn command_of_two<'a>(word: &[u8], other: &'a [u8]) -> DebugCommand<'a>

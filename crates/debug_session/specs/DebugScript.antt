@@ -12,12 +12,13 @@ use Rattle.command_shell_lines.specs.Requests.{Request, Nothing, Hex, Asm, Run, 
 use Rattle.debug_checks.specs.Checks.{Seen, check_told, status_after_pattern}
 use Rattle.debug_checks.specs.Endings.{ending_of, output_of}
 use Rattle.debug_lines.specs.DebugRequests.{DebugRequest, Script, Remark, SetPc, SetPsr, Forget, Reset, Quit, Expect, Repeat, NotKnown, debug_opens_block, debug_request, is_script_request, repeated_line, simple_request}
-use Rattle.debug_lines.specs.DebugRequests.{ViewRequest, View, Words, Where, Banks, Stack, Help}
+use Rattle.debug_lines.specs.DebugRequests.{ViewRequest, View, Words, Where, Banks, Stack, Frames, Help}
 use Rattle.swi_dispatch_guest.specs.MachineState.{MachineState}
 use Rattle.command_shell_lines.specs.Requests.{request_of}
 use Rattle.debug_lines.specs.Expectations.{ExpectRequest}
 use Rattle.debug_lines.specs.Tidy.{tidied_line}
 use Rattle.debug_views.specs.Banks.{banks_text}
+use Rattle.debug_views.specs.Frames.{frames_text}
 use Rattle.debug_views.specs.Stack.{stack_words_text}
 use Rattle.debug_views.specs.Words.{memory_words_text}
 use Rattle.debug_session.specs.DebugState.{DebugAnswered, DebugState, debug_answer, debug_start_state, then_debugged}
@@ -90,6 +91,7 @@ view_text s (Words address count) = memory_words_text s.store.bytes address coun
 view_text s Where = at_text s.cpu.pc
 view_text s Banks = banks_text s.cpu
 view_text s (Stack count) = stack_words_text s.cpu s.store.bytes count
+view_text s Frames = frames_text s
 view_text s Help = HELP.now
 
 -- a view: its text is the answer

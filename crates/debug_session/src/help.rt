@@ -10,6 +10,7 @@ pub const HELP: &[u8] = b"lines of a script:
 lines of a debugging script:
   ; text, # text                             a comment, a heading
   WORDS a n, STACK n, BANKS, WHERE           words, the stack, the banks, the PC
+  FRAMES                                     the calls of module code that are open
   SET PC a, SET PSR Nz SVC                   letters left out stay
   RESET                                      a fresh machine; images and breaks stay
   FORGET name, REPEAT n line                 an image goes; a line, n times

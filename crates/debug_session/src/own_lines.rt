@@ -15,7 +15,7 @@ use command_shell::{RunError, tell_unknown};
 use command_shell_lines::Origin;
 use debug_checks::{Mismatch, SeenMachine, check, push_reason, status_with};
 use debug_lines::{DebugView, Expectation, StatusPattern};
-use debug_views::{show_banks, show_stack, show_where, show_words};
+use debug_views::{show_banks, show_frames, show_stack, show_where, show_words};
 use image_loader::Images;
 use profile::{Sink, WriteFault, push_all};
 use std::alloc::{AllocError, Global};
@@ -45,6 +45,7 @@ impl DebugSession {
             DebugView::Where => show_where(machine, sink),
             DebugView::Banks => show_banks(machine, sink),
             DebugView::Stack(count) => show_stack(machine, count, sink),
+            DebugView::Frames => show_frames(machine, sink),
             DebugView::Help => push_all(sink, HELP),
         }
     }
