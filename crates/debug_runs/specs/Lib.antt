@@ -2,6 +2,7 @@
 pub use Rattle.command_shell
 pub mod Finishing
 pub mod Lines
+pub mod Routines
 pub mod Runs
 pub mod StubNames
 pub mod Stubs
