@@ -85,6 +85,6 @@ pub told : StepsLeaveBytes → StoresAreTold
 told past images s w a awake is differs = elim (cases_Bool (is_stored s.cpu s.store.bytes a)) [
   | inl stored ↦ stored_in_words s.cpu s.store.bytes a stored
   | inr other ↦
-    let same : w.1.at a ≡ s.store.bytes.at a = past (owned_in s.store) s.cpu w.0 s.store.bytes w.1 a is other in
-    absurd (differs (ap (λ (b : Bytes). b.at a) (bytes_after images s w awake is) ∙ same))
+      let same : w.1.at a ≡ s.store.bytes.at a = past (owned_in s.store) s.cpu w.0 s.store.bytes w.1 a is other in
+      absurd (differs (ap (λ (b : Bytes). b.at a) (bytes_after images s w awake is) ∙ same))
 ]
