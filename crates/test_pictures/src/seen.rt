@@ -52,20 +52,20 @@ pub fn inside(address: u32, offset: u32) -> Option<Holder> {
 }
 
 /// What is drawn of the new view, after the old one.
-pub fn written_picture(
+pub fn written_picture<'a>(
     rt: &(impl AllocGlobal + Abort),
-    old: &[PictureItem],
-    new: &[PictureItem],
+    old: &'a [PictureItem],
+    new: &'a [PictureItem],
     what: Seen,
 ) -> TextSink {
     written_heaps(rt, &[old], &[new], what)
 }
 
 /// What is drawn of a new view and of those of heaps in its blocks, after the old ones.
-pub fn written_heaps(
+pub fn written_heaps<'a>(
     rt: &(impl AllocGlobal + Abort),
-    old: &[&[PictureItem]],
-    new: &[&[PictureItem]],
+    old: &[&'a [PictureItem]],
+    new: &[&'a [PictureItem]],
     what: Seen,
 ) -> TextSink {
     let before = views_of(rt, old);
