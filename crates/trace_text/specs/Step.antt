@@ -12,15 +12,17 @@ use Rattle.swi_dispatch_guest.specs.swi_dispatch_frames.specs.Frames.{innermost_
 use Rattle.swi_dispatch_guest.specs.swi_dispatch_frames.specs.declared.frame.Frame.{Frame}
 use Rattle.swi_dispatch_guest.specs.MachineState.{MachineState, StepOutcome, stop_of}
 use Rattle.swi_dispatch_guest.specs.Step.{without_x}
+use Rattle.os_heap.specs.Store.{Store}
 use Rattle.trace_changes.specs.Status.{following_word}
 use Rattle.trace_effects.specs.Cause.{cause_of, swi_of_cause}
 use Rattle.trace_effects.specs.Stored.{stored_words}
 use Rattle.trace_effects.specs.declared.cause.Cause.{Cause}
 use Rattle.trace_effects.specs.declared.stored.StoredWords.{StoredWords}
 use Rattle.trace_effects.specs.declared.cause.Cause.TheVariants.{Gate, Unmapped, Skipped, Word}
+use Rattle.trace_store_text.specs.StoreLines.{store_lines}
 use Rattle.trace_text.specs.declared.areas.AreaMark.{AreaMark}
 use Rattle.trace_text.specs.Areas.{area_lines, area_marks}
-use Rattle.trace_text.specs.Below.{entered_word, error_words, frames_kept, left_word, prints_word}
+use Rattle.trace_text.specs.Below.{entered_word, error_words, frames_kept, has_error, left_word, prints_word}
 use Rattle.trace_text.specs.Calls.{call_words}
 use Rattle.trace_text.specs.Columns.{below_text, columns_text, words_behind}
 use Rattle.trace_text.specs.Core.{core_words}
@@ -71,7 +73,7 @@ is_skipped _ = false
 
 -- What a trace knows of the machine before a step: its core, how the step is told, where it is
 -- expected to go on, whether its instruction is skipped, how long the instruction's text is, the words
--- that it stores to as they are, the frames, and the areas.
+-- that it stores to as they are, the frames, the areas, and the store, unless it is an instruction.
 pub record Known : Type 0 where
   pub cpu : State
   pub taking : Taking
@@ -83,6 +85,11 @@ pub record Known : Type 0 where
   pub frames : ℕ
   pub innermost : Option Frame
   pub areas : List AreaMark
+  pub before : Option Store
+
+abbrev pub store_before : Taking → Store → Option Store
+store_before taking.Instruction s = None
+store_before _ s = Some s
 
 abbrev pub known_by : MachineState → Cause → StoredWords → Known
 known_by s cause stored = record {
@@ -96,6 +103,7 @@ known_by s cause stored = record {
   frames = length s.tables.frames;
   innermost = innermost_frame s.tables.frames;
   areas = area_marks s.tables.land.areas;
+  before = store_before (taking_of cause) s.store;
 }
 
 abbrev pub known_of : MachineState → Known
@@ -127,9 +135,18 @@ unfoldable pub frame_lines_below : Bool → ℕ → Known → MachineState → L
 frame_lines_below leaves kept k now = below_text (left_word leaves k.frames k.innermost)
     ++ below_text (entered_word kept now.tables.frames)
 
+abbrev pub store_lines_below : Bool → Option Store → Store → List ℕ
+store_lines_below has_error None s' = []
+store_lines_below has_error (Some s) s' = store_lines has_error s s'
+
+-- the areas, and what is in them
+unfoldable pub memory_lines_below : ℕ → Known → MachineState → List ℕ
+memory_lines_below kept k now = area_lines k.areas now.tables.land.areas
+    ++ store_lines_below (has_error kept now) k.before now.store
+
 unfoldable pub lines_with : Bool → ℕ → Known → StepOutcome → List ℕ
 lines_with leaves kept k o = core_line kept k o.now ++ (below_text (prints_word o.printed)
-    ++ (frame_lines_below leaves kept k o.now ++ area_lines k.areas o.now.tables.land.areas))
+    ++ (frame_lines_below leaves kept k o.now ++ memory_lines_below kept k o.now))
 
 abbrev pub lines_below : Bool → Known → StepOutcome → List ℕ
 lines_below leaves k o = lines_with leaves (frames_kept leaves k.frames) k o
@@ -181,4 +198,5 @@ known_outside s = record {
   frames = length s.tables.frames;
   innermost = innermost_frame s.tables.frames;
   areas = area_marks s.tables.land.areas;
+  before = Some s.store;
 }

@@ -7,7 +7,8 @@ ghost use Rattle.swi_dispatch_guest.specs.MachineState.{outcome_with};
 ghost use Rattle.swi_dispatch_guest.specs.Parts.{state_of};
 ghost use Rattle.trace_text.specs.Below.{entered_word, error_words, frame_word, frames_kept, has_error, kind_text, left_word, prints_word};
 ghost use Rattle.trace_text.specs.Columns.{below_text};
-ghost use Rattle.trace_text.specs.Step.{skipped_word};
+ghost use Rattle.trace_text.specs.Start.{store_kept};
+ghost use Rattle.trace_text.specs.Step.{skipped_word, store_lines_below};
 
 use crate::areas::push_areas;
 use crate::columns::{push_behind, push_below};
@@ -20,11 +21,13 @@ use debugger::swi_dispatch::{CodeKind, Frame, FrameKind, Machine};
 use itoa::Buffer;
 use profile::{HexText, Sink, Stop, WriteFault, push_all, push_parts};
 use std::alloc::Global;
+use trace_store_text::push_store_lines;
+use trace_store_text::trace_words::StoreCopy;
 use view_items::TextSink;
 
 impl StepStart {
     ghost use Rattle.trace_text.specs.Start.{known_in};
-    ghost use Rattle.trace_text.specs.Step.{lines_after_call, lines_with, frame_lines_below, core_line, step_end_text, instruction_below, instruction_end, instruction_words, lines_below};
+    ghost use Rattle.trace_text.specs.Step.{lines_after_call, lines_with, frame_lines_below, core_line, step_end_text, instruction_below, instruction_end, instruction_words, lines_below, memory_lines_below};
 
     /// Writes what the step left behind, by the machine after it and what it printed.
     ///
@@ -169,7 +172,22 @@ impl StepStart {
         self.push_core_line(alloc, machine, kept, sink)?;
         push_prints_line(alloc, printed, sink)?;
         self.push_frame_lines(alloc, machine, leaves, kept, sink)?;
-        push_areas(sink, self.areas.as_slice(), machine.areas().list())
+        self.push_memory_lines(machine, kept, sink)
+    }
+
+    // The lines of the areas, and of what is in them.
+    #[tactic(auto, unfolding(crate::specs::Step::memory_lines_below))]
+    fn push_memory_lines<W: Sink>(
+        &self,
+        machine: &Machine,
+        kept: usize,
+        sink: &mut W,
+    ) -> Result<(), WriteFault>
+        ensures { Writes W.contents W.has_failed sink.old sink.new result
+            (memory_lines_below kept (known_in self.now) (state_of machine.now.guest)) }
+    {
+        push_areas(sink, self.areas.as_slice(), machine.areas().list())?;
+        push_store(sink, &self.before, machine, has_error(kept, machine))
     }
 
     // The lines of the frames that were left and entered.
@@ -203,6 +221,21 @@ impl StepStart {
         push_error_words(&mut words, kept, machine)?;
         push_core(&mut words, self.expected, &self.cpu, machine.cpu())?;
         push_below(sink, words.bytes())
+    }
+}
+
+fn push_store<W: Sink>(
+    sink: &mut W,
+    before: &Option<Box<StoreCopy>>,
+    machine: &Machine,
+    has_error: bool,
+) -> Result<(), WriteFault>
+    ensures { Writes W.contents W.has_failed sink.old sink.new result
+        (store_lines_below has_error (store_kept before.now) (state_of machine.now.guest).store) }
+{
+    match before {
+        Some(before) => push_store_lines(sink, before, machine, has_error),
+        None => Ok(()),
     }
 }
 

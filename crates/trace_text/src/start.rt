@@ -1,6 +1,6 @@
 //! What a trace tells of a step before it is taken, and what it keeps of the machine.
 
-ghost use Rattle.std.specs.Prelude.{◌≡◌, length, true, IfOk, OnOk};
+ghost use Rattle.std.specs.Prelude.{◌≡◌, length, true, Some, IfOk, OnOk};
 ghost use Rattle.std.specs.Io.KnownBytes.{Appends};
 ghost use Rattle.address_map.specs.Memory.{bytes_of};
 ghost use Rattle.profile.specs.Output.{Writes};
@@ -8,7 +8,9 @@ ghost use Rattle.swi_dispatch_guest.specs.swi_dispatch_frames.specs.Frames.{inne
 ghost use Rattle.swi_dispatch_guest.specs.Parts.{state_of};
 ghost use Rattle.trace_effects.specs.Cause.{cause_of};
 ghost use Rattle.trace_text.specs.Calls.{call_words};
-ghost use Rattle.trace_text.specs.Step.{calling_text, front_text, is_skipped, loading_text, outside_line, start_text, taking_of, taking_swi, taking_text, what_text, word_column};
+ghost use Rattle.trace_text.specs.Start.{store_kept};
+ghost use Rattle.trace_text.specs.Step.{calling_text, front_text, is_skipped, loading_text, outside_line, start_text, store_before, taking_of, taking_swi, taking_text, what_text, word_column};
+ghost use Rattle.trace_words.specs.Copies.{copied_store};
 ghost use Rattle.view_items.specs.TextSink.{sink_text_of};
 
 use crate::areas::{AreaMark, MOST_AREAS, area_marks};
@@ -22,9 +24,10 @@ use assembler_text::disassemble;
 use debugger::swi_dispatch::{Frame, Machine, without_x_bit};
 use profile::word::is_bit_set;
 use profile::{HexText, Sink, WriteFault, push_all, push_parts};
-use std::alloc::Global;
+use std::alloc::{AllocError, Global};
 use trace_changes::following_word;
 use trace_effects::{Cause, called_swi, stored_words};
+use trace_store_text::trace_words::StoreCopy;
 use view_items::TextSink;
 
 /// How a step is told.
@@ -75,6 +78,8 @@ pub struct StepStart {
     pub(crate) frames: usize,
     pub(crate) innermost: Option<Frame>,
     pub(crate) areas: ArrayVec<AreaMark, MOST_AREAS>,
+    /// The store as it was; an instruction's own words are told without it.
+    pub(crate) before: Option<Box<StoreCopy>>,
 }
 
 impl StepStart {
@@ -99,12 +104,20 @@ impl StepStart {
     {
         let cause = Cause::of(machine.cpu(), machine.memory());
         let text_length = push_start(alloc, machine.cpu(), machine.memory(), cause, sink)?;
-        Ok(StepStart::keeping(machine, cause, text_length))
+        let before = store_before(alloc, machine, Taking::of(cause))?;
+        Ok(StepStart::keeping(machine, cause, text_length, before))
     }
 
     // What is kept of a machine where this stands at the program counter.
-    fn keeping(machine: &Machine, cause: Cause, text_length: usize) -> StepStart
-        requires { text_length ≡ length (what_text (state_of machine.now.guest).cpu.pc cause) }
+    fn keeping(
+        machine: &Machine,
+        cause: Cause,
+        text_length: usize,
+        before: Option<Box<StoreCopy>>,
+    ) -> StepStart
+        requires length { text_length ≡ length (what_text (state_of machine.now.guest).cpu.pc cause) }
+        requires before { store_kept before
+            ≡ store_before (taking_of cause) (state_of machine.now.guest).store }
         ensures { let s = state_of machine.now.guest in
             known_in result ≡ known_by s cause (stored_words cause s.cpu) }
     {
@@ -121,6 +134,7 @@ impl StepStart {
             frames: machine.frames(),
             innermost: innermost(machine.open_frames()),
             areas: area_marks(machine.areas().list()),
+            before,
         }
     }
 
@@ -150,14 +164,10 @@ impl StepStart {
             without_x_bit(number % (1 << 24)),
         )?;
         push_outside(sink, text.bytes(), words.bytes())?;
-        Ok(StepStart::outside(machine))
+        StepStart::outside(alloc, machine)
     }
 
-    /// Writes that a module is loaded from outside; and keeps what that may change.
-    ///
-    /// # Errors
-    ///
-    /// Where the sink failed, or memory ran out.
+    /// Writes that a module is loaded from outside; keeps and fails as `tell_call` does.
     pub fn tell_load<W: Sink>(
         alloc: Global,
         machine: &Machine,
@@ -171,20 +181,21 @@ impl StepStart {
     {
         let text = loading_text(alloc, words)?;
         push_outside(sink, text.bytes(), b" XOS_Module 1 Load")?;
-        Ok(StepStart::outside(machine))
+        StepStart::outside(alloc, machine)
     }
 
     // What is kept of a machine that is called from outside.
-    fn outside(machine: &Machine) -> StepStart
-        ensures { known_in result ≡ known_outside (state_of machine.now.guest) }
+    fn outside(alloc: Global, machine: &Machine) -> Result<StepStart, WriteFault>
+        ensures { IfOk result (λ start. known_in start ≡ known_outside (state_of machine.now.guest)) }
     {
         let cpu = machine.cpu();
-        StepStart {
+        let taking = Taking::Call {
+            is_x: true,
+            number: 0,
+        };
+        Ok(StepStart {
             cpu: *cpu,
-            taking: Taking::Call {
-                is_x: true,
-                number: 0,
-            },
+            taking,
             expected: cpu.pc(),
             is_skipped: false,
             text_length: 0,
@@ -193,8 +204,40 @@ impl StepStart {
             frames: machine.frames(),
             innermost: innermost(machine.open_frames()),
             areas: area_marks(machine.areas().list()),
-        }
+            before: store_before(alloc, machine, taking)?,
+        })
     }
+}
+
+// A copy of the store, where the step is no instruction.
+fn store_before(
+    alloc: Global,
+    machine: &Machine,
+    taking: Taking,
+) -> Result<Option<Box<StoreCopy>>, WriteFault>
+    ensures { IfOk result (λ before. store_kept before
+        ≡ store_before taking (state_of machine.now.guest).store) }
+{
+    match taking {
+        Taking::Instruction => Ok(None),
+        Taking::Call { .. } | Taking::Gate => kept_store(alloc, machine),
+    }
+}
+
+fn kept_store(alloc: Global, machine: &Machine) -> Result<Option<Box<StoreCopy>>, WriteFault>
+    ensures { IfOk result (λ before. store_kept before ≡ Some (state_of machine.now.guest).store) }
+{
+    match boxed_copy(alloc, machine) {
+        Ok(copy) => Ok(Some(copy)),
+        Err(_) => Err(WriteFault),
+    }
+}
+
+fn boxed_copy(alloc: Global, machine: &Machine) -> Result<Box<StoreCopy>, AllocError>
+    ensures { IfOk result (λ copy. copied_store copy.value ≡ (state_of machine.now.guest).store) }
+{
+    let copy = StoreCopy::of(alloc, machine)?;
+    Ok(Box::new(alloc, copy)?)
 }
 
 fn push_outside<W: Sink>(sink: &mut W, text: &[u8], words: &[u8]) -> Result<(), WriteFault>
@@ -287,7 +330,12 @@ fn push_start<W: Sink>(
     Ok(len)
 }
 
-fn push_front<W: Sink>(sink: &mut W, pc: u32, cause: Cause) -> Result<(), WriteFault>
+/// Writes the columns before an instruction's text: the address and the word that stand there.
+///
+/// # Errors
+///
+/// Where the sink failed.
+pub fn push_front<W: Sink>(sink: &mut W, pc: u32, cause: Cause) -> Result<(), WriteFault>
     ensures { Writes W.contents W.has_failed sink.old sink.new result (front_text pc cause) }
 {
     push_parts(sink, &[HexText::word(pc).as_slice(), b" ".as_slice()])?;
@@ -304,7 +352,12 @@ fn push_word_column<W: Sink>(sink: &mut W, cause: Cause) -> Result<(), WriteFaul
     }
 }
 
-fn text_of(alloc: Global, pc: u32, cause: Cause) -> Result<TextSink, WriteFault>
+/// The text of what stands at a program counter.
+///
+/// # Errors
+///
+/// Where memory ran out.
+pub fn text_of(alloc: Global, pc: u32, cause: Cause) -> Result<TextSink, WriteFault>
     ensures { IfOk result (λ text. sink_text_of text ≡ what_text pc cause) }
 {
     let mut text = TextSink::new(alloc);

@@ -1,0 +1,3 @@
+-- Heaps as a store call leaves them. Begin with Limits.
+pub use Rattle.debugger
+pub mod Limits

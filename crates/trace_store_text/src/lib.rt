@@ -1,0 +1,10 @@
+//! The lines below a store call, of what it changes in the machine's store.
+#![tactic(auto)]
+
+pub mod heap_lines;
+pub mod image_lines;
+pub mod store_lines;
+pub mod word_lines;
+
+pub use store_lines::push_store_lines;
+pub use trace_words;

@@ -1,0 +1,84 @@
+-- How many pages a memory has, counted one by one, and the store of a copy.
+use Rattle.std.proofs.Common.{◌≡◌, ℕ, zero, suc, ◌+◌, ◌-◌, ◌*◌, ◌<◌, ◌≤◌, Bool, true, false, List, Option, is_some, refl, sym, ap, ◌∙◌, arith, if◌then◌else◌}
+use Rattle.address_map.specs.Classes.{is_anchor, is_flex_header}
+use Rattle.address_map.specs.Counts.{number_below}
+use Rattle.address_map.specs.Memory.{Layout, bytes_of, byte_at, class_of, free_pages, is_mapped, layout, page_total, place, regions}
+use Rattle.address_map.specs.declared.class.Class.{Class}
+use Rattle.address_map.specs.declared.map.AddressMap.{AddressMap}
+use Rattle.address_map.specs.declared.region.Region.{Region}
+use Rattle.dynamic_areas.specs.PageCounts.{AreasCountPages}
+use Rattle.os_heap.specs.Store.{Store, heaps_in, others_in, store_of}
+use Rattle.os_heap.proofs.Frame.{layout-regions}
+use Rattle.swi_dispatch.specs.Value.{IsMachine, MachineValue}
+
+-- how many pages below one are mapped
+pub mapped_below : AddressMap → ℕ → ℕ
+mapped_below m n = number_below (λ page. is_mapped m (4096 * page)) n
+
+pub none_below : (m : AddressMap) → mapped_below m 0 ≡ 0
+unfolding mapped_below number_below
+none_below m = refl
+
+below_suc : (m : AddressMap) (n : ℕ) → mapped_below m (suc n) ≡ mapped_below m n + (if is_mapped m (4096 * n) then 1 else 0)
+unfolding mapped_below number_below
+below_suc m n = refl
+
+below_next : (m : AddressMap) (n : ℕ) → mapped_below m (n + 1) ≡ mapped_below m n + (if is_mapped m (4096 * n) then 1 else 0)
+below_next m n = let next : n + 1 ≡ suc n = omega arith in ap (mapped_below m) next ∙ below_suc m n
+
+pub one_mapped : (m : AddressMap) (n : ℕ) (there : Option ℕ) → there ≡ place m (4096 * n) → is_some there ≡ true
+    → mapped_below m (n + 1) ≡ mapped_below m n + 1
+one_mapped m n there is some =
+    let mapped : is_mapped m (4096 * n) ≡ true = sym (ap is_some is) ∙ some in
+    below_next m n ∙ rw mapped refl
+
+pub none_mapped : (m : AddressMap) (n : ℕ) (there : Option ℕ) → there ≡ place m (4096 * n) → is_some there ≡ false
+    → mapped_below m (n + 1) ≡ mapped_below m n
+none_mapped m n there is none =
+    let unmapped : is_mapped m (4096 * n) ≡ false = sym (ap is_some is) ∙ none in
+    let more : mapped_below m (n + 1) ≡ mapped_below m n + 0 = below_next m n ∙ rw unmapped refl in
+    omega arith
+
+-- no more are mapped below a lower page
+pub below_within : (m : AddressMap) (n k : ℕ) → mapped_below m n ≤ mapped_below m (n + k)
+below_within m n zero = let same : mapped_below m (n + 0) ≡ mapped_below m n = (let e : n + 0 ≡ n = omega arith in ap (mapped_below m) e) in omega arith
+below_within m n (suc k) =
+    let before = below_within m n k in
+    let next : n + suc k ≡ suc (n + k) = omega arith in
+    let more = ap (mapped_below m) next ∙ below_suc m (n + k) in
+    omega (arith, before, more)
+
+pub all_counted : (m : AddressMap) → page_total m ≡ free_pages m + number_below (λ page. is_mapped m (4096 * page)) 16384
+    → page_total m ≡ free_pages m + mapped_below m 16384
+unfolding mapped_below
+all_counted m counted = counted
+
+-- there is room to count a page more
+pub room_for_one : (m : AddressMap) (n total : ℕ) (there : Option ℕ) → n < 16384 → total ≡ free_pages m + mapped_below m n
+    → page_total m ≡ free_pages m + mapped_below m 16384 → page_total m ≤ 1024 → there ≡ place m (4096 * n) → is_some there ≡ true → total < 1024
+room_for_one m n total there inside counted all few is some =
+    let more = one_mapped m n there is some in
+    let ahead = below_within m (n + 1) (16384 - (n + 1)) in
+    let end : n + 1 + (16384 - (n + 1)) ≡ 16384 = omega arith in
+    let last = ap (mapped_below m) end in
+    omega (arith, more, ahead, last, counted, all, few)
+
+-- a copy has the same store
+pub same_store : (m n : AddressMap) → byte_at n ≡ byte_at m → layout n ≡ layout m → class_of n ≡ class_of m → store_of n ≡ store_of m
+unfolding store_of
+same_store m n at same marks = λ i. stored (λ a. is_some ((same i).place a)) (at i) (layout-regions m n same i) (marks i) where
+  stored : (ℕ → Bool) → (ℕ → ℕ) → List Region → (ℕ → Class) → Store
+  stored mapped bytes regions classes = record {
+    bytes = record { mapped = mapped; at = bytes };
+    heaps = heaps_in (record { mapped = mapped; at = bytes }) regions;
+    others = others_in regions;
+    anchor = λ a. is_anchor (classes a);
+    header = λ a. is_flex_header (classes a);
+  }
+
+-- a machine's memory has few pages
+pub few_pages : (m : MachineValue) → IsMachine m → AreasCountPages → page_total m.guest.map ≡ m.guest.tables.land.sizes.pages
+few_pages m is count = count m.guest.map m.guest.tables.land is.guest.well_formed.areas
+
+pub in_limit : (m : MachineValue) → IsMachine m → m.guest.tables.land.sizes.pages ≤ 1024
+in_limit m is = is.guest.well_formed.areas.ground.sizes.in_limit

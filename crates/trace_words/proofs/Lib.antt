@@ -1,0 +1,4 @@
+pub mod ChangeLemmas
+pub mod CopyLemmas
+pub mod LawLemmas
+pub mod WordLemmas

@@ -1,0 +1,8 @@
+use Rattle.std.proofs.Common.{◌*◌}
+use Rattle.address_map.specs.Memory.{bytes_of}
+use Rattle.trace_words.specs.Words.{IsSummary, word_changes_below, is_told}
+use Rattle.trace_words.proofs.changes.changed_words.Given as goal
+
+-- the words of the pages that were passed
+abbrev pub invariant-loop-page : goal.invariant-loop-page
+invariant-loop-page l = IsSummary l.changes (word_changes_below (is_told l.has_error) (bytes_of l.before) (bytes_of l.after) (1024 * l.page))

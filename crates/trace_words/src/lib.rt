@@ -1,0 +1,9 @@
+//! The words of memory that a store call changes, and what is kept of a machine to find them.
+#![tactic(auto)]
+
+pub mod changes;
+pub mod laws;
+pub mod store_copy;
+
+pub use changes::{MOST_CHANGES, WordChange, WordChanges, changed_words};
+pub use store_copy::StoreCopy;

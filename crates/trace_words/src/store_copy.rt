@@ -1,0 +1,83 @@
+//! What is kept of a machine's store before a call that may change it.
+
+ghost use Rattle.std.specs.Prelude.{◌≡◌, ◌≤◌, IfOk};
+ghost use Rattle.address_map.specs.Memory.{page_total};
+ghost use Rattle.os_heap.specs.Store.{IsSound, store_of};
+ghost use Rattle.swi_dispatch.specs.swi_dispatch_guest.specs.Parts.{state_of};
+
+use address_map::{AddressMap, pages_are_counted};
+use profile::memory_map::{ADDRESS_LIMIT, PAGE_SIZE};
+use std::alloc::{AllocError, Global};
+use std::marker::Model;
+use swi_dispatch::Machine;
+use swi_dispatch::dynamic_areas::areas_count_pages;
+
+/// A copy of a machine's memory, with its heaps and what is recorded in it.
+#[derive(Drop)]
+pub struct StoreCopy {
+    memory: AddressMap,
+}
+
+impl Model for StoreCopy {
+    ghost use Rattle.os_heap.specs.Store.{IsSound, store_of};
+    ghost use Rattle.trace_words.specs.Copies.{CopiedParts};
+
+    ghost Value = { CopiedParts };
+
+    ghost view = { λ c. record { map = c.memory } };
+
+    ghost invariant = { λ c. IsSound (store_of c.memory) };
+}
+
+impl StoreCopy {
+    ghost use Rattle.address_map.specs.Memory.{bytes_of};
+    ghost use Rattle.trace_words.specs.Copies.{copied_store};
+
+    /// A copy of a machine's memory as it is.
+    ///
+    /// # Errors
+    ///
+    /// Where the host has no memory for it.
+    pub fn of(alloc: Global, machine: &Machine) -> Result<StoreCopy, AllocError>
+        ensures store { IfOk result (λ copy. copied_store copy ≡ (state_of machine.now.guest).store) }
+    {
+        machine.known();
+        areas_count_pages();
+        let memory = copy_of(alloc, machine.memory())?;
+        Ok(StoreCopy { memory })
+    }
+
+    /// The memory as it was.
+    pub fn memory(&self) -> &AddressMap
+        ensures map { result.now ≡ self.now.map }
+        ensures bytes { bytes_of result.now ≡ (copied_store self.now).bytes }
+        ensures sound { IsSound (store_of result.now) }
+    {
+        &self.memory
+    }
+}
+
+// A copy of a memory.
+fn copy_of(alloc: Global, memory: &AddressMap) -> Result<AddressMap, AllocError>
+    requires { page_total memory.now ≤ 1024 }
+    ensures { IfOk result (λ copy. store_of copy ≡ store_of memory.now) }
+{
+    let mut copy = AddressMap::new(alloc, page_total(memory))?;
+    copy.copy_from(memory);
+    Ok(copy)
+}
+
+// How many pages a memory has, mapped or not.
+fn page_total(memory: &AddressMap) -> u32
+    requires { page_total memory.now ≤ 1024 }
+    ensures { result ≡ page_total memory.now }
+{
+    pages_are_counted();
+    let mut total = memory.free_pages();
+    for page in 0..ADDRESS_LIMIT / PAGE_SIZE {
+        if memory.translate(PAGE_SIZE * page).is_some() {
+            total += 1;
+        }
+    }
+    total
+}
