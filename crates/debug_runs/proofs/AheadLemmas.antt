@@ -9,7 +9,6 @@ use Rattle.address_map.specs.Bytes.{Bytes, word_loaded}
 use Rattle.arm_core.specs.Conditions.{condition_holds}
 use Rattle.arm_core.specs.Effect.{with_next_pc}
 use Rattle.arm_core.specs.State.{State}
-use Rattle.arm_core.specs.declared.turn.Turn.{Turn}
 use Rattle.arm_core.specs.declared.turn.Turn.TheVariants as turn
 use Rattle.arm_decode.specs.Decoded.{instruction_of_word}
 use Rattle.arm_decode.specs.Fields.{condition_in}

@@ -1,7 +1,8 @@
 pub mod AheadLemmas
-pub mod FinishLemmas
-pub mod RoutineLemmas
 pub mod LineLemmas
+pub mod PlainLemmas
 pub mod RunLemmas
 pub mod StubLemmas
 pub mod TellingLemmas
+pub mod TracedLemmas
+pub mod WatchLemmas

@@ -1,150 +1,203 @@
 -- How a run goes on from one step to the next, and how it ends.
-use Rattle.std.proofs.Common.{◌≡◌, ℕ, zero, suc, ◌-◌, ◌<◌, ◌≤◌, ◌++◌, length, List, [], Option, Some, None, Result, Ok, Err, sym, ap, arith, refl, subst, ◌∙◌}
+use Rattle.std.proofs.Common.{◌≡◌, ℕ, suc, ◌-◌, ◌<◌, ◌≤◌, ◌++◌, true, false, List, [], ◌∷◌, Option, Some, None, Result, Ok, Err, sym, ap, append_assoc, arith, refl, subst, ◌∙◌}
+use Rattle.std.proofs.lemmas.List.{append-nil}
 use Rattle.std.specs.Prelude.{IfOk}
-use Rattle.std.specs.Io.KnownBytes.{Appends}
-use Rattle.profile.specs.Output.{AddsAllBut}
-use Rattle.profile.proofs.OutputLemmas.{AddsAllBut-more, Appends-from_all_but, Appends-join}
+use Rattle.std.specs.Option.{option_map, option_or}
+use Rattle.profile.specs.declared.stop.Stop.{Stop}
 use Rattle.profile.specs.declared.stop.Stop.TheVariants as stop
+use Rattle.address_map.specs.Bytes.{Bytes}
+use Rattle.debug_labels.specs.Labels.{ImageLabels}
+use Rattle.debug_labels.specs.Standing.{first_of}
 use Rattle.swi_dispatch_guest.specs.declared.halt.Halt.{Halt}
 use Rattle.swi_dispatch_guest.specs.declared.halt.Halt.TheVariants as halt
-use Rattle.swi_dispatch_guest.specs.MachineState.{StepOutcome}
+use Rattle.swi_dispatch_guest.specs.MachineState.{StepOutcome, stop_of}
 use Rattle.swi_dispatch_guest.specs.Run.{count_after}
 use Rattle.command_shell.specs.Calls.{step_made}
 use Rattle.command_shell.specs.State.{ScriptState}
-use Rattle.debug_runs.specs.Runs.{DebugRun, IsAfterDebugRun, next_step, run_after, run_end, run_ended, run_from, run_on, run_unless}
+use Rattle.view_items.specs.TextSink.{sink_text_of}
+use Rattle.debug_runs.specs.Runs.{SteppingRun, call_run, end_after, run_end_by, is_reached, next_step, run_behind, run_ended, run_step, run_unless}
+use Rattle.debug_runs.specs.Runs.{steps_run, text_of_next, watched_end}
+use Rattle.debug_runs.specs.Telling.{one_told, told_of_step}
+use Rattle.debug_runs.specs.Told.{IsAfterStepping, IsToldOn}
+use Rattle.debug_runs.specs.WordWatches.{change_of_word, watch_hit, watched_change, watched_words}
+use Rattle.debug_runs.specs.declared.modes.StepModes.{StepModes}
 use Rattle.debug_runs.specs.declared.running.RunEnd.{RunEnd}
 use Rattle.debug_runs.specs.declared.running.RunEnd.TheVariants as end
 use Rattle.debug_runs.specs.declared.running.RunGoal.{RunGoal}
-use Rattle.debug_runs.specs.declared.running.RunGoal.TheVariants as goal
-use Rattle.debug_runs.specs.declared.stubs.Stub.{Stub}
+use Rattle.debug_runs.specs.declared.telling.Telling.{Telling}
+use Rattle.debug_runs.specs.declared.watches.WatchHit.{WatchHit}
 
--- a run that goes no further
-run_over : (stubs : List Stub) (g : RunGoal) (n : ℕ) (s : ScriptState) (e : RunEnd) → run_end g s ≡ Some e → run_on stubs g n s ≡ run_ended s e
-unfolding run_on
-run_over stubs g zero s e over = ap (λ o. run_unless s o (run_ended s (end.Stopped stop.Budget))) over
-run_over stubs g (suc n) s e over = ap (λ o. run_unless s o (run_after s (next_step stubs s) (run_on stubs g n))) over
+-- a step after which a run ends, and one after which it goes on
+step_over : (watches : List ℕ) (g : RunGoal) (s next : ScriptState) (o : StepOutcome) (text : List ℕ) (f : ScriptState → SteppingRun) (e : RunEnd)
+    → next ≡ step_made s o → end_after watches g s next ≡ Some e → run_step watches g s o text f ≡ run_behind text o.printed (run_ended next e)
+step_over watches g s next o text f e made is =
+    ap (λ (w : ScriptState). run_behind text o.printed (run_unless w (end_after watches g s w) (f w))) (sym made)
+    ∙ ap (λ (x : Option RunEnd). run_behind text o.printed (run_unless next x (f next))) is
 
--- one that could, but may not
-run_spent : (stubs : List Stub) (g : RunGoal) (s : ScriptState) → run_end g s ≡ None → run_on stubs g 0 s ≡ run_ended s (end.Stopped stop.Budget)
-unfolding run_on
-run_spent stubs g s more = ap (λ o. run_unless s o (run_ended s (end.Stopped stop.Budget))) more
+step_on : (watches : List ℕ) (g : RunGoal) (s next : ScriptState) (o : StepOutcome) (text : List ℕ) (f : ScriptState → SteppingRun)
+    → next ≡ step_made s o → end_after watches g s next ≡ None → run_step watches g s o text f ≡ run_behind text o.printed (f next)
+step_on watches g s next o text f made is =
+    ap (λ (w : ScriptState). run_behind text o.printed (run_unless w (end_after watches g s w) (f w))) (sym made)
+    ∙ ap (λ (x : Option RunEnd). run_behind text o.printed (run_unless next x (f next))) is
 
--- and one that does
-run_more : (stubs : List Stub) (g : RunGoal) (n : ℕ) (s : ScriptState) → run_end g s ≡ None → run_on stubs g (suc n) s ≡ run_after s (next_step stubs s) (run_on stubs g n)
-unfolding run_on
-run_more stubs g n s more = ap (λ o. run_unless s o (run_after s (next_step stubs s) (run_on stubs g n))) more
+-- the first of so many steps
+first_step_of : (modes : StepModes) (labels : List ImageLabels) (g : RunGoal) (n : ℕ) (told : Option ℕ) (s : ScriptState)
+    → steps_run modes labels g (suc n) told s
+    ≡ run_step modes.watches g s (next_step modes s) (text_of_next modes labels told s) (steps_run modes labels g n (one_told told))
+unfolding steps_run
+first_step_of modes labels g n told s = refl
+
+no_step : (modes : StepModes) (labels : List ImageLabels) (g : RunGoal) (told : Option ℕ) (s : ScriptState)
+    → steps_run modes labels g 0 told s ≡ run_ended s (end.Stopped stop.Budget)
+unfolding steps_run
+no_step modes labels g told s = refl
+
+first_of_left : (modes : StepModes) (labels : List ImageLabels) (g : RunGoal) (left : ℕ) (told : Option ℕ) (s : ScriptState) → 0 < left
+    → steps_run modes labels g left told s
+    ≡ run_step modes.watches g s (next_step modes s) (text_of_next modes labels told s) (steps_run modes labels g (left - 1) (one_told told))
+first_of_left modes labels g left told s some =
+    let split : left ≡ suc (left - 1) = omega (arith, some) in
+    ap (λ (n : ℕ). steps_run modes labels g n told s) split ∙ first_step_of modes labels g (left - 1) told s
 
 -- what is left of a run is all of it but what was told
-pub record IsRest (a b : Option (List ℕ)) (rest all : DebugRun) : Type 0 where
-  pub text : AddsAllBut a b rest.printed all.printed
+pub record IsRest (old new : Telling) (rest all : SteppingRun) : Type 0 where
+  pub text : sink_text_of new.text ++ rest.text ≡ sink_text_of old.text ++ all.text
+  pub printed : sink_text_of new.printed ++ rest.printed ≡ sink_text_of old.printed ++ all.printed
   pub now : rest.now ≡ all.now
   pub ended : rest.ended ≡ all.ended
 
-pub run_goes_on : (a b c : Option (List ℕ)) (stubs : List Stub) (g : RunGoal) (left : ℕ) (s now : ScriptState) (all : DebugRun)
-    → IsRest a b (run_on stubs g left s) all → 0 < left → run_end g s ≡ None → now ≡ step_made s (next_step stubs s)
-    → Appends b c (next_step stubs s).printed → IsRest a c (run_on stubs g (left - 1) now) all
-run_goes_on a b c stubs g left s now all is some more made here =
-    let split : left ≡ suc (left - 1) = omega (arith, some) in
-    let whole : run_on stubs g left s ≡ run_after s (next_step stubs s) (run_on stubs g (left - 1)) =
-    ap (λ n. run_on stubs g n s) split ∙ run_more stubs g (left - 1) s more in
-    let rest : run_on stubs g (left - 1) (step_made s (next_step stubs s)) ≡ run_on stubs g (left - 1) now = ap (run_on stubs g (left - 1)) (sym made) in
-    let text : (run_on stubs g left s).printed ≡ (next_step stubs s).printed ++ (run_on stubs g (left - 1) now).printed =
-    ap (λ (r : DebugRun). r.printed) whole ∙ ap (λ (r : DebugRun). (next_step stubs s).printed ++ r.printed) rest in
-    let state : (run_on stubs g left s).now ≡ (run_on stubs g (left - 1) now).now =
-    ap (λ (r : DebugRun). r.now) whole ∙ ap (λ (r : DebugRun). r.now) rest in
-    let ended : (run_on stubs g left s).ended ≡ (run_on stubs g (left - 1) now).ended =
-    ap (λ (r : DebugRun). r.ended) whole ∙ ap (λ (r : DebugRun). r.ended) rest in
-    record {
-      text = AddsAllBut-more a b c _ (next_step stubs s).printed (run_on stubs g (left - 1) now).printed all.printed is.text here text;
-      now = sym state ∙ is.now;
-      ended = sym ended ∙ is.ended;
-    }
+pub rest_start : (t : Telling) (all : SteppingRun) → IsRest t t all all
+rest_start t all = record { text = refl; printed = refl; now = refl; ended = refl }
 
-ends_by : (a b : Option (List ℕ)) (rest : DebugRun) (s : ScriptState) (e : RunEnd) (all : DebugRun)
-    → IsRest a b rest all → rest ≡ run_ended s e → IsAfterDebugRun all s a b e
-ends_by a b rest s e all is whole = record {
-  state = ap (λ (r : DebugRun). r.now) (sym whole) ∙ is.now;
-  text = Appends-from_all_but a b rest.printed all.printed is.text (ap (λ (r : DebugRun). r.printed) whole);
-  ended = ap (λ (r : DebugRun). r.ended) (sym whole) ∙ is.ended;
+rest_behind : (old mid new : Telling) (text printed : List ℕ) (rest all : SteppingRun) → IsRest old mid (run_behind text printed rest) all
+    → IsToldOn mid new text printed → IsRest old new rest all
+rest_behind old mid new text printed rest all is told = record {
+  text = ap (λ (xs : List ℕ). xs ++ rest.text) told.text_told
+      ∙ (append_assoc (sink_text_of mid.text) text rest.text ∙ is.text);
+  printed = ap (λ (xs : List ℕ). xs ++ rest.printed) told.all_printed
+      ∙ (append_assoc (sink_text_of mid.printed) printed rest.printed ∙ is.printed);
+  now = is.now;
+  ended = is.ended;
 }
 
-pub run_stops : (a b : Option (List ℕ)) (stubs : List Stub) (g : RunGoal) (left : ℕ) (s : ScriptState) (e : RunEnd) (all : DebugRun)
-    → IsRest a b (run_on stubs g left s) all → run_end g s ≡ Some e → IsAfterDebugRun all s a b e
-run_stops a b stubs g left s e all is over = ends_by a b (run_on stubs g left s) s e all is (run_over stubs g left s e over)
+rest_ends : (old new : Telling) (s : ScriptState) (e : RunEnd) (all : SteppingRun) → IsRest old new (run_ended s e) all → IsAfterStepping all s old new e
+rest_ends old new s e all is = record {
+  state = is.now;
+  told = record {
+    text_told = sym (append-nil (sink_text_of new.text)) ∙ is.text;
+    all_printed = sym (append-nil (sink_text_of new.printed)) ∙ is.printed;
+  };
+  ended = is.ended;
+}
 
-pub run_runs_out : (a b : Option (List ℕ)) (stubs : List Stub) (g : RunGoal) (left : ℕ) (s : ScriptState) (all : DebugRun)
-    → IsRest a b (run_on stubs g left s) all → left ≡ 0 → run_end g s ≡ None → IsAfterDebugRun all s a b (end.Stopped stop.Budget)
-run_runs_out a b stubs g left s all is none more =
-    ends_by a b (run_on stubs g left s) s (end.Stopped stop.Budget) all is (ap (λ n. run_on stubs g n s) none ∙ run_spent stubs g s more)
+pub goes_on : (old mid new : Telling) (modes : StepModes) (labels : List ImageLabels) (g : RunGoal) (left : ℕ) (s next : ScriptState) (all : SteppingRun)
+    → IsRest old mid (steps_run modes labels g left mid.told s) all → 0 < left → next ≡ step_made s (next_step modes s)
+    → IsToldOn mid new (text_of_next modes labels mid.told s) (next_step modes s).printed → new.told ≡ one_told mid.told
+    → end_after modes.watches g s next ≡ None
+    → IsRest old new (steps_run modes labels g (left - 1) new.told next) all
+goes_on old mid new modes labels g left s next all is some made told fewer none =
+    let o = next_step modes s in
+    let text = text_of_next modes labels mid.told s in
+    let f : ScriptState → SteppingRun = steps_run modes labels g (left - 1) (one_told mid.told) in
+    let whole : steps_run modes labels g left mid.told s ≡ run_behind text o.printed (f next) =
+    first_of_left modes labels g left mid.told s some ∙ step_on modes.watches g s next o text f made none in
+    let behind : IsRest old new (f next) all =
+    rest_behind old mid new text o.printed (f next) all (subst (λ (r : SteppingRun). IsRest old mid r all) whole is) told in
+    subst (λ (t : Option ℕ). IsRest old new (steps_run modes labels g (left - 1) t next) all) (sym fewer) behind
+
+pub stops : (old mid new : Telling) (modes : StepModes) (labels : List ImageLabels) (g : RunGoal) (left : ℕ) (s next : ScriptState) (all : SteppingRun) (e : RunEnd)
+    → IsRest old mid (steps_run modes labels g left mid.told s) all → 0 < left → next ≡ step_made s (next_step modes s)
+    → IsToldOn mid new (text_of_next modes labels mid.told s) (next_step modes s).printed
+    → end_after modes.watches g s next ≡ Some e
+    → IsAfterStepping all next old new e
+stops old mid new modes labels g left s next all e is some made told over =
+    let o = next_step modes s in
+    let text = text_of_next modes labels mid.told s in
+    let f : ScriptState → SteppingRun = steps_run modes labels g (left - 1) (one_told mid.told) in
+    let whole : steps_run modes labels g left mid.told s ≡ run_behind text o.printed (run_ended next e) =
+    first_of_left modes labels g left mid.told s some ∙ step_over modes.watches g s next o text f e made over in
+    rest_ends old new next e all
+    (rest_behind old mid new text o.printed (run_ended next e) all (subst (λ (r : SteppingRun). IsRest old mid r all) whole is) told)
+
+pub runs_out : (old new : Telling) (modes : StepModes) (labels : List ImageLabels) (g : RunGoal) (left : ℕ) (s : ScriptState) (all : SteppingRun)
+    → IsRest old new (steps_run modes labels g left new.told s) all → left ≡ 0 → IsAfterStepping all s old new (end.Stopped stop.Budget)
+runs_out old new modes labels g left s all is none =
+    let over : steps_run modes labels g left new.told s ≡ run_ended s (end.Stopped stop.Budget) =
+    ap (λ (n : ℕ). steps_run modes labels g n new.told s) none ∙ no_step modes labels g new.told s in
+    rest_ends old new s (end.Stopped stop.Budget) all (subst (λ (r : SteppingRun). IsRest old new r all) over is)
+
+-- a call from outside, and what follows
+pub call_stops : (old new : Telling) (modes : StepModes) (labels : List ImageLabels) (g : RunGoal) (most : ℕ) (s next : ScriptState) (text : List ℕ) (o : StepOutcome) (e : RunEnd)
+    → next ≡ step_made s o → IsToldOn old new (told_of_step old.told text o.printed) o.printed → end_after modes.watches g s next ≡ Some e
+    → IsAfterStepping (call_run modes labels g most old.told s text o) next old new e
+call_stops old new modes labels g most s next text o e made told over =
+    let whole = step_over modes.watches g s next o (told_of_step old.told text o.printed) (steps_run modes labels g (most - 1) (one_told old.told)) e made over in
+    let all = call_run modes labels g most old.told s text o in
+    rest_ends old new next e all
+    (rest_behind old old new (told_of_step old.told text o.printed) o.printed (run_ended next e) all
+    (subst (λ (r : SteppingRun). IsRest old old r all) whole (rest_start old all)) told)
+
+joined : (old mid new : Telling) (text printed : List ℕ) (rest : SteppingRun) (now : ScriptState) (e : RunEnd)
+    → IsToldOn old mid text printed → IsAfterStepping rest now mid new e → IsAfterStepping (run_behind text printed rest) now old new e
+joined old mid new text printed rest now e told after = record {
+  state = after.state;
+  told = record {
+    text_told = after.told.text_told
+        ∙ (ap (λ (xs : List ℕ). xs ++ rest.text) told.text_told ∙ append_assoc (sink_text_of old.text) text rest.text);
+    all_printed = after.told.all_printed
+        ∙ (ap (λ (xs : List ℕ). xs ++ rest.printed) told.all_printed ∙ append_assoc (sink_text_of old.printed) printed rest.printed);
+  };
+  ended = after.ended;
+}
+
+pub call_goes_on : {E : Type 0} (r : Result RunEnd E) (old mid new : Telling) (modes : StepModes) (labels : List ImageLabels) (g : RunGoal) (most fuel : ℕ)
+    (s next now : ScriptState) (text : List ℕ) (o : StepOutcome)
+    → next ≡ step_made s o → IsToldOn old mid (told_of_step old.told text o.printed) o.printed → mid.told ≡ one_told old.told → fuel ≡ most - 1
+    → end_after modes.watches g s next ≡ None
+    → IfOk r (λ e. IsAfterStepping (steps_run modes labels g fuel mid.told next) now mid new e)
+    → IfOk r (λ e. IsAfterStepping (call_run modes labels g most old.told s text o) now old new e)
+call_goes_on (Err x) old mid new modes labels g most fuel s next now text o made told fewer is none after = tt
+call_goes_on (Ok e) old mid new modes labels g most fuel s next now text o made told fewer is none after =
+    let f : ScriptState → SteppingRun = steps_run modes labels g (most - 1) (one_told old.told) in
+    let whole : call_run modes labels g most old.told s text o ≡ run_behind (told_of_step old.told text o.printed) o.printed (f next) =
+    step_on modes.watches g s next o (told_of_step old.told text o.printed) f made none in
+    let by_fuel : IsAfterStepping (steps_run modes labels g (most - 1) mid.told next) now mid new e =
+    subst (λ (n : ℕ). IsAfterStepping (steps_run modes labels g n mid.told next) now mid new e) is after in
+    let by_told : IsAfterStepping (f next) now mid new e =
+    subst (λ (t : Option ℕ). IsAfterStepping (steps_run modes labels g (most - 1) t next) now mid new e) fewer by_fuel in
+    subst (λ (r : SteppingRun). IsAfterStepping r now old new e) (sym whole)
+    (joined old mid new (told_of_step old.told text o.printed) o.printed (f next) now e told by_told)
 
 -- a step counts once at most
-pub counts_once : (o : Option Halt) → count_after o ≤ 1
+counts_once : (o : Option Halt) → count_after o ≤ 1
 counts_once None = omega arith
 counts_once (Some halt.Exit) = omega arith
 counts_once (Some (halt.Fault f)) = omega arith
 
-pub left_after : (s now : ScriptState) (a : StepOutcome) → now ≡ step_made s a → now.left ≡ s.left - count_after a.now.halt
-left_after s now a made = ap (λ (w : ScriptState). w.left) made
+pub enough_left : (left : ℕ) (s next : ScriptState) (a : StepOutcome) → left ≤ s.left → next ≡ step_made s a → left - 1 ≤ next.left
+enough_left left s next a enough made =
+    let fewer : next.left ≡ s.left - count_after a.now.halt = ap (λ (w : ScriptState). w.left) made in
+    omega (arith, enough, fewer, counts_once a.now.halt)
 
-pub enough_left : (left : ℕ) (s now : ScriptState) (a : StepOutcome) → left ≤ s.left → now ≡ step_made s a → left - 1 ≤ now.left
-enough_left left s now a enough made =
-    omega (arith, enough, left_after s now a made, counts_once a.now.halt)
+-- WHY A RUN ENDS
 
--- no run gives back what it may take
-spends_by : (s : ScriptState) (o : Option RunEnd) (more : DebugRun) → more.now.left ≤ s.left → (run_unless s o more).now.left ≤ s.left
-spends_by s (Some e) more fewer = omega arith
-spends_by s None more fewer = fewer
+pub end_halted : (watches : List ℕ) (g : RunGoal) (before after : ScriptState) (o : Option Halt) (x : Stop) → Some x ≡ option_map stop_of o
+    → Some (end.Stopped x) ≡ run_end_by watches g before after o
+end_halted watches g before after (Some h) x is = ap (λ (y : Option Stop). option_map end.Stopped y) is
+end_halted watches g before after None x is = absurd (cc)
 
-run_spends : (stubs : List Stub) (g : RunGoal) (n : ℕ) (s : ScriptState) → (run_on stubs g n s).now.left ≤ s.left
-unfolding run_on
-run_spends stubs g zero s = spends_by s (run_end g s) (run_ended s (end.Stopped stop.Budget)) (omega arith)
-run_spends stubs g (suc n) s =
-    let rest : (run_on stubs g n (step_made s (next_step stubs s))).now.left ≤ s.left - count_after (next_step stubs s).now.halt =
-    run_spends stubs g n (step_made s (next_step stubs s)) in
-    spends_by s (run_end g s) (run_after s (next_step stubs s) (run_on stubs g n)) (omega (arith, rest))
+pub end_reached : (watches : List ℕ) (g : RunGoal) (before after : ScriptState) (o : Option Halt) → None ≡ option_map stop_of o
+    → is_reached g after.machine ≡ true → Some end.Reached ≡ run_end_by watches g before after o
+end_reached watches g before after (Some h) none is = absurd (cc)
+end_reached watches g before after None none is = rw is refl
 
-pub run_from_spends : (stubs : List Stub) (g : RunGoal) (most : ℕ) (s : ScriptState) → (run_from stubs g most s).now.left ≤ s.left
-run_from_spends stubs g most s =
-    let rest : (run_on stubs g (most - 1) (step_made s (next_step stubs s))).now.left ≤ s.left - count_after (next_step stubs s).now.halt =
-    run_spends stubs g (most - 1) (step_made s (next_step stubs s)) in
-    omega (arith, rest)
+pub end_watched : (watches : List ℕ) (g : RunGoal) (before after : ScriptState) (o : Option Halt) → None ≡ option_map stop_of o
+    → is_reached g after.machine ≡ false
+    → watched_end (watch_hit watches before.machine.store.bytes after.machine.store.bytes) after ≡ run_end_by watches g before after o
+end_watched watches g before after (Some h) none is = absurd (cc)
+end_watched watches g before after None none is = rw is refl
 
--- the first step, and then the rest
-pub run_begins : {E : Type 0} (r : Result RunEnd E) (a b c : Option (List ℕ)) (stubs : List Stub) (g : RunGoal) (most fuel : ℕ)
-    (s mid now : ScriptState) (first : StepOutcome)
-    → mid ≡ step_made s first → Appends a b first.printed → fuel ≡ most - 1
-    → IfOk r (λ e. IsAfterDebugRun (run_on stubs g fuel mid) now b c e)
-    → IfOk r (λ e. IsAfterDebugRun (run_after s first (run_on stubs g (most - 1))) now a c e)
-run_begins (Err f) a b c stubs g most fuel s mid now first made here is run = tt
-run_begins (Ok e) a b c stubs g most fuel s mid now first made here is run =
-    let whole : run_on stubs g fuel mid ≡ run_on stubs g (most - 1) (step_made s first) =
-    ap (λ n. run_on stubs g n mid) is ∙ ap (run_on stubs g (most - 1)) made in
-    let rest : IsAfterDebugRun (run_on stubs g (most - 1) (step_made s first)) now b c e =
-    subst (λ (r : DebugRun). IsAfterDebugRun r now b c e) whole run in
-    record {
-      state = rest.state;
-      text = Appends-join a b c first.printed _ here rest.text;
-      ended = rest.ended;
-    }
-
--- the run of a call from outside, by what was found before it
-pub begun_run : (a b d : Option (List ℕ)) (stubs : List Stub) (s begun mid : ScriptState) (first : StepOutcome) (count most : ℕ) (e : RunEnd)
-    → count ≡ length s.machine.tables.frames → most ≡ s.left → begun ≡ step_made s first → Appends a b first.printed
-    → IsAfterDebugRun (run_on stubs (goal.Frames count) (most - 1) begun) mid b d e
-    → IsAfterDebugRun (run_after s first (run_on stubs (goal.Frames (length s.machine.tables.frames)) (s.left - 1))) mid a d e
-begun_run a b d stubs s begun mid first count most e frames left made here run =
-    let by_frames : IsAfterDebugRun (run_on stubs (goal.Frames (length s.machine.tables.frames)) (most - 1) begun) mid b d e =
-    subst (λ (x : ℕ). IsAfterDebugRun (run_on stubs (goal.Frames x) (most - 1) begun) mid b d e) frames run in
-    let by_left : IsAfterDebugRun (run_on stubs (goal.Frames (length s.machine.tables.frames)) (s.left - 1) begun) mid b d e =
-    subst (λ (x : ℕ). IsAfterDebugRun (run_on stubs (goal.Frames (length s.machine.tables.frames)) (x - 1) begun) mid b d e) left by_frames in
-    let rest : IsAfterDebugRun (run_on stubs (goal.Frames (length s.machine.tables.frames)) (s.left - 1) (step_made s first)) mid b d e =
-    subst (λ (x : ScriptState). IsAfterDebugRun (run_on stubs (goal.Frames (length s.machine.tables.frames)) (s.left - 1) x) mid b d e)
-    made by_left in
-    record {
-      state = rest.state;
-      text = Appends-join a b d first.printed _ here rest.text;
-      ended = rest.ended;
-    }
-
-pub most_left : (most : ℕ) (s : ScriptState) → most ≡ s.left → most ≤ s.left
-most_left most s is = omega (arith, is)
+-- the first change, by the words as they were
+pub hits : (watches : List ℕ) (before after : Bytes) → first_of (change_of_word after) (watched_words watches before) ≡ watch_hit watches before after
+hits [] before after = refl
+hits (a ∷ others) before after = ap (λ (o : Option WatchHit). option_or (watched_change before after a) o) (hits others before after)

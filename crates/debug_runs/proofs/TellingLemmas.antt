@@ -1,9 +1,19 @@
 -- What is told, from its pieces.
-use Rattle.std.proofs.Common.{◌≡◌, ℕ, ◌++◌, ◌∙◌, Bool, List, Option, Result, Ok, Err}
+use Rattle.std.proofs.Common.{◌≡◌, ℕ, ◌++◌, ◌∙◌, Bool, true, false, List, [], Option, Result, Ok, Err, refl, sym, ap, append_assoc, subst}
+use Rattle.std.proofs.lemmas.List.{append-nil}
 use Rattle.std.specs.Prelude.{OnOk}
 use Rattle.std.specs.Io.KnownBytes.{Appends}
 use Rattle.profile.proofs.OutputLemmas.{Appends-join}
+use Rattle.swi_dispatch_guest.specs.MachineState.{StepOutcome, outcome_with}
+use Rattle.command_shell.specs.Calls.{step_made}
 use Rattle.command_shell.specs.State.{ScriptState, IsAnswered, answer}
+use Rattle.command_shell.specs.declared.calls.OutsideCall.{OutsideCall}
+use Rattle.trace_text.specs.Step.{Known, known_of, known_outside, start_text, step_end_text, step_text}
+use Rattle.view_items.specs.TextSink.{sink_text_of}
+use Rattle.debug_runs.specs.Calls.{outside_start_text, outside_text}
+use Rattle.debug_runs.specs.Telling.{is_step_told, told_of_step, untold_text}
+use Rattle.debug_runs.specs.Told.{IsToldOn}
+use Rattle.debug_runs.specs.declared.telling.Telling.{Telling}
 
 -- an answer from the state that was made of another
 pub tells_at : {U E : Type 0} (r : Result U E) (b c : Option (List ℕ)) (now s : ScriptState) (text : List ℕ) → now ≡ s
@@ -20,3 +30,89 @@ two_texts (Err e) a b c xs ys first second = tt
 pub two_flags : {U E : Type 0} (r : Result U E) (x y z : Bool) → y ≡ x → OnOk r (z ≡ y) → OnOk r (z ≡ x)
 two_flags (Ok u) x y z first second = second ∙ first
 two_flags (Err e) x y z first second = tt
+
+-- a step that is told, and one that isn't
+pub told_whole : (told : Option ℕ) (whole printed : List ℕ) → is_step_told told ≡ true → told_of_step told whole printed ≡ whole
+told_whole told whole printed is = rw is refl
+
+pub told_rest : (told : Option ℕ) (whole printed : List ℕ) → is_step_told told ≡ false → told_of_step told whole printed ≡ untold_text told printed
+told_rest told whole printed is = rw is refl
+
+pub ruleset telling_steps = (told_whole, told_rest)
+
+-- the same text, written another way
+pub told_same : {U E : Type 0} (r : Result U E) (old new : Telling) (text same printed : List ℕ) → same ≡ text
+    → OnOk r (IsToldOn old new text printed) → OnOk r (IsToldOn old new same printed)
+told_same r old new text same printed is told = subst (λ (xs : List ℕ). OnOk r (IsToldOn old new xs printed)) (sym is) told
+
+-- what holds whatever a call answers
+pub whatever : {U E P : Type 0} (r : Result U E) → P → OnOk r P
+whatever (Ok u) p = p
+whatever (Err e) p = tt
+
+-- the end of a step's text, by what a trace kept and the session behind the step
+end_is : (s next : ScriptState) (o : StepOutcome) (kept known : Known) (printed : List ℕ) → next ≡ step_made s o → kept ≡ known → printed ≡ o.printed
+    → step_end_text kept (outcome_with next.machine printed) ≡ step_end_text known o
+end_is s next o kept known printed made is all =
+    ap (λ (k : Known). step_end_text k (outcome_with next.machine printed)) is
+    ∙ (ap (λ (w : ScriptState). step_end_text known (outcome_with w.machine printed)) made
+    ∙ ap (λ (p : List ℕ). step_end_text known (outcome_with o.now p)) all)
+
+pub step_told : (s next : ScriptState) (o : StepOutcome) (kept : Known) (t u v printed : List ℕ) → next ≡ step_made s o → kept ≡ known_of s.machine
+    → printed ≡ o.printed → u ≡ t ++ start_text s.machine.cpu s.machine.store.bytes → v ≡ u ++ step_end_text kept (outcome_with next.machine printed)
+    → v ≡ t ++ step_text s.machine o
+step_told s next o kept t u v printed made is all start behind =
+    behind
+    ∙ (ap (λ (xs : List ℕ). xs ++ step_end_text kept (outcome_with next.machine printed)) start
+    ∙ (append_assoc t (start_text s.machine.cpu s.machine.store.bytes) (step_end_text kept (outcome_with next.machine printed))
+    ∙ ap (λ (xs : List ℕ). t ++ (start_text s.machine.cpu s.machine.store.bytes ++ xs)) (end_is s next o kept (known_of s.machine) printed made is all)))
+
+pub call_told_behind : (call : OutsideCall) (s next : ScriptState) (o : StepOutcome) (kept : Known) (t u v printed : List ℕ) → next ≡ step_made s o
+    → kept ≡ known_outside s.machine → printed ≡ o.printed → u ≡ t ++ outside_start_text call s.machine
+    → v ≡ u ++ step_end_text kept (outcome_with next.machine printed) → v ≡ t ++ outside_text call s.machine o
+call_told_behind call s next o kept t u v printed made is all start behind =
+    behind
+    ∙ (ap (λ (xs : List ℕ). xs ++ step_end_text kept (outcome_with next.machine printed)) start
+    ∙ (append_assoc t (outside_start_text call s.machine) (step_end_text kept (outcome_with next.machine printed))
+    ∙ ap (λ (xs : List ℕ). t ++ (outside_start_text call s.machine ++ xs)) (end_is s next o kept (known_outside s.machine) printed made is all)))
+
+-- what was told, and what was printed, where the last call succeeded
+pub told_pushed : {U E : Type 0} (r : Result U E) (old new : Telling) (text printed piece : List ℕ) → sink_text_of new.text ≡ sink_text_of old.text ++ text
+    → piece ≡ printed → OnOk r (sink_text_of new.printed ≡ sink_text_of old.printed ++ piece) → OnOk r (IsToldOn old new text printed)
+told_pushed (Err f) old new text printed piece told is pushed = tt
+told_pushed (Ok u) old new text printed piece told is pushed = record {
+  text_told = told;
+  all_printed = pushed ∙ ap (λ (xs : List ℕ). sink_text_of old.printed ++ xs) is;
+}
+
+-- what a step printed that isn't told
+pub untold_pushed : {U E : Type 0} (r : Result U E) (old new : Telling) (told : Option ℕ) (printed piece : List ℕ) → piece ≡ printed
+    → OnOk r (IsToldOn old new (untold_text told piece) piece) → OnOk r (IsToldOn old new (untold_text told printed) printed)
+untold_pushed r old new told printed piece is pushed =
+    subst (λ (xs : List ℕ). OnOk r (IsToldOn old new (untold_text told xs) xs)) is pushed
+
+-- a text alone
+pub text_alone : {U E : Type 0} (r : Result U E) (old new : Telling) (text same : List ℕ) → same ≡ text → new.printed ≡ old.printed
+    → OnOk r (sink_text_of new.text ≡ sink_text_of old.text ++ same) → OnOk r (IsToldOn old new text [])
+text_alone (Err f) old new text same is all pushed = tt
+text_alone (Ok u) old new text same is all pushed = record {
+  text_told = pushed ∙ ap (λ (xs : List ℕ). sink_text_of old.text ++ xs) is;
+  all_printed = ap sink_text_of all ∙ sym (append-nil (sink_text_of old.printed));
+}
+
+-- a label's line before a step
+pub label_first : {U E : Type 0} (r : Result U E) (old mid new : Telling) (label text same whole printed piece : List ℕ)
+    → sink_text_of mid.text ≡ sink_text_of old.text ++ label → sink_text_of mid.printed ≡ sink_text_of old.printed
+    → same ≡ text → piece ≡ printed → whole ≡ label ++ text
+    → OnOk r (IsToldOn mid new same piece) → OnOk r (IsToldOn old new whole printed)
+label_first (Err f) old mid new label text same whole printed piece first all is is_printed all_is told = tt
+label_first (Ok u) old mid new label text same whole printed piece first all is is_printed all_is told = record {
+  text_told = told.text_told
+      ∙ (ap (λ (xs : List ℕ). sink_text_of mid.text ++ xs) is
+      ∙ (ap (λ (xs : List ℕ). xs ++ text) first
+      ∙ (append_assoc (sink_text_of old.text) label text
+      ∙ ap (λ (xs : List ℕ). sink_text_of old.text ++ xs) (sym all_is))));
+  all_printed = told.all_printed
+      ∙ (ap (λ (xs : List ℕ). xs ++ piece) all
+      ∙ ap (λ (xs : List ℕ). sink_text_of old.printed ++ xs) is_printed);
+}

@@ -1,8 +1,16 @@
--- What the lines that run a machine tell. A file for each line, over the runs of Runs.
+-- What the lines of a debugging script that take steps tell. Begin with Lines, over the runs of Runs.
 pub use Rattle.command_shell
-pub mod Finishing
+pub use Rattle.debug_labels
+pub use Rattle.trace_text
+pub mod Calls
+pub mod Endings
+pub mod Laws
 pub mod Lines
+pub mod Modes
 pub mod Routines
 pub mod Runs
 pub mod StubNames
 pub mod Stubs
+pub mod Telling
+pub mod Told
+pub mod WordWatches

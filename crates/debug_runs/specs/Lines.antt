@@ -1,64 +1,94 @@
--- The lines of a script that take steps, where stubs may answer SWIs: RUN, STEP, CALL and LOAD.
-use Rattle.std.specs.Prelude.{ℕ, Bool, ◌-◌, min, nat_le, length, List, Option, Some, None}
+-- The lines that take steps: RUN, STEP, CALL and LOAD as a script has them, FINISH, which takes steps
+-- until the innermost frame of module code has gone back, and GOSUB, which calls a routine; traced or
+-- not, with stubs and watches.
+use Rattle.std.specs.Prelude.{ℕ, zero, suc, false, ◌-◌, ◌++◌, min, nat_le, List, [], codes, length, Option, Some, None}
 use Rattle.profile.specs.declared.stop.Stop.{Stop}
-use Rattle.profile.specs.declared.stop.Stop.TheVariants as stop
-use Rattle.command_shell.specs.Answers.{stepped_text}
-use Rattle.command_shell.specs.Calls.{first_step, stop_before_step, stop_before_step_by, stop_told}
-use Rattle.command_shell.specs.Memory.{script_with_last}
-use Rattle.command_shell.specs.State.{ScriptState, Answered, answer, then_answered}
-use Rattle.command_shell.specs.declared.calls.OutsideCall.{OutsideCall}
-use Rattle.debug_runs.specs.Finishing.{call_run_told}
-use Rattle.debug_runs.specs.Runs.{DebugRun, run_after, run_from, run_on}
-use Rattle.debug_runs.specs.declared.running.RunEnd.{RunEnd}
+use Rattle.debug_labels.specs.Labels.{ImageLabels}
+use Rattle.swi_dispatch_guest.specs.MachineState.{StepOutcome}
+use Rattle.swi_dispatch_guest.specs.Step.{module_loaded, store_called}
+use Rattle.command_shell.specs.Answers.{refused_text}
+use Rattle.command_shell.specs.Calls.{stop_before_step_by}
+use Rattle.command_shell.specs.State.{ScriptState, Answered, answer}
+use Rattle.trace_text.specs.Step.{call_start_text, load_start_text}
+use Rattle.debug_runs.specs.Endings.{line_end_told}
+use Rattle.debug_runs.specs.Routines.{caller_in, script_at_routine}
+use Rattle.debug_runs.specs.Runs.{SteppingRun, call_run, steps_run}
+use Rattle.debug_runs.specs.Telling.{call_text_behind, more_text}
+use Rattle.debug_runs.specs.declared.endings.EndKind.{EndKind}
+use Rattle.debug_runs.specs.declared.endings.EndKind.TheVariants as kind
+use Rattle.debug_runs.specs.declared.lines.SteppingLine.{SteppingLine}
+use Rattle.debug_runs.specs.declared.lines.SteppingLine.TheVariants as line
+use Rattle.debug_runs.specs.declared.modes.StepModes.{StepModes}
 use Rattle.debug_runs.specs.declared.running.RunEnd.TheVariants as end
 use Rattle.debug_runs.specs.declared.running.RunGoal.TheVariants as goal
-use Rattle.debug_runs.specs.declared.stubs.Stub.{Stub}
 
--- why a run without a goal ended
-abbrev pub stop_of_end : RunEnd → Stop
-stop_of_end end.Reached = stop.Budget
-stop_of_end (end.Stopped stop) = stop
+pub data SteppingRequest : Type 0 where
+  Run : SteppingRequest
+  Step : ℕ → SteppingRequest
+  Call : ℕ → SteppingRequest
+  Load : List ℕ → SteppingRequest
+  Finish : SteppingRequest
+  Gosub : ℕ → SteppingRequest
 
--- RUN: the stop line
-abbrev pub run_of_line : List Stub → ScriptState → ℕ → DebugRun
-run_of_line stubs s most = run_from stubs goal.Nowhere most s
+-- as the code has them
+abbrev pub request_of_stepping : SteppingLine → SteppingRequest
+request_of_stepping line.Run = Run
+request_of_stepping (line.Step count) = Step count
+request_of_stepping (line.Call number) = Call number
+request_of_stepping (line.Load text) = Load text.now
+request_of_stepping line.Finish = Finish
+request_of_stepping (line.Gosub address) = Gosub address
 
-abbrev pub stubbed_run_done : DebugRun → Answered
-stubbed_run_done r = then_answered (answer r.now r.printed) (λ now. stop_told now (stop_of_end r.ended))
+-- What a line leaves: the state, what is told of its steps, what the guest printed, and the line's
+-- usual ending, which stands behind what is told.
+pub record SteppingTold : Type 0 where
+  pub now : ScriptState
+  pub text : List ℕ
+  pub printed : List ℕ
+  pub ending : List ℕ
 
-abbrev pub stubbed_run_unless : List Stub → ScriptState → Option Stop → Answered
-stubbed_run_unless stubs s (Some stop) = stop_told s stop
-stubbed_run_unless stubs s None = stubbed_run_done (run_of_line stubs s s.left)
+abbrev pub told_at_once : Answered → SteppingTold
+told_at_once a = record { now = a.state; text = []; printed = []; ending = a.text }
 
-abbrev pub stubbed_run_told : List Stub → ScriptState → Answered
-stubbed_run_told stubs s = stubbed_run_unless stubs s (stop_before_step s)
+abbrev pub told_with_ending : List ℕ → List ℕ → Answered → SteppingTold
+told_with_ending text printed a = record { now = a.state; text = text; printed = printed; ending = a.text }
 
--- STEP: where the machine stands, if all steps could be taken and were, else the stop line
-abbrev pub stepped_told : Bool → ScriptState → Stop → Answered
-stepped_told could_all s stop = answer (script_with_last s stop) (stepped_text could_all stop s.machine.cpu.pc)
+-- a line whose run is this: behind its steps stands how many more were taken than told
+abbrev pub steps_line_told : Option ℕ → ScriptState → EndKind → SteppingRun → SteppingTold
+steps_line_told told s k r =
+    told_with_ending (r.text ++ more_text told (s.left - r.now.left)) r.printed (line_end_told k r.now r.ended)
 
-abbrev pub stubbed_step_done : Bool → DebugRun → Answered
-stubbed_step_done could_all r =
-    then_answered (answer r.now r.printed) (λ now. stepped_told could_all now (stop_of_end r.ended))
+abbrev pub told_unless : Option ℕ → ScriptState → EndKind → SteppingRun → Option Stop → SteppingTold
+told_unless told s k r (Some stop) = told_at_once (line_end_told k s (end.Stopped stop))
+told_unless told s k r None = steps_line_told told s k r
 
-abbrev pub stubbed_step_unless : List Stub → ScriptState → ℕ → Option Stop → Answered
-stubbed_step_unless stubs s count (Some stop) = stepped_told (nat_le count s.left) s stop
-stubbed_step_unless stubs s count None =
-    stubbed_step_done (nat_le count s.left) (run_of_line stubs s (min count s.left))
+-- unless none of so many steps can be taken
+abbrev pub told_if_awake : Option ℕ → ScriptState → EndKind → ℕ → SteppingRun → SteppingTold
+told_if_awake told s k most r = told_unless told s k r (stop_before_step_by s.machine.halt most)
 
-abbrev pub stubbed_step_told : List Stub → ScriptState → ℕ → Answered
-stubbed_step_told stubs s count =
-    stubbed_step_unless stubs s count (stop_before_step_by s.machine.halt (min count s.left))
+-- CALL and LOAD, whose first step leaves this
+abbrev pub call_line_told : StepModes → List ImageLabels → Option ℕ → ScriptState → List ℕ → StepOutcome → SteppingTold
+call_line_told modes labels told s start o = told_if_awake told s kind.Call s.left
+    (call_run modes labels (goal.Frames (length s.machine.tables.frames)) s.left told s
+    (call_text_behind start s.machine o) o)
 
--- CALL and LOAD: as without stubs
-abbrev pub stubbed_call_done : List Stub → ScriptState → OutsideCall → Answered
-stubbed_call_done stubs s call =
-    call_run_told (run_after s (first_step s call)
-    (run_on stubs (goal.Frames (length s.machine.tables.frames)) (s.left - 1)))
+-- FINISH, where so many frames are open
+abbrev pub finish_told : StepModes → List ImageLabels → Option ℕ → ScriptState → ℕ → SteppingTold
+finish_told modes labels told s zero = told_at_once (answer s (refused_text (codes "NoFrame")))
+finish_told modes labels told s (suc outer) = told_if_awake told s kind.Call s.left
+    (steps_run modes labels (goal.Frames outer) s.left told s)
 
-abbrev pub stubbed_call_unless : List Stub → ScriptState → OutsideCall → Option Stop → Answered
-stubbed_call_unless stubs s call (Some stop) = stop_told s stop
-stubbed_call_unless stubs s call None = stubbed_call_done stubs s call
-
-abbrev pub stubbed_call_told : List Stub → ScriptState → OutsideCall → Answered
-stubbed_call_told stubs s call = stubbed_call_unless stubs s call (stop_before_step s)
+unfoldable pub stepping_told : StepModes → List ImageLabels → Option ℕ → ScriptState → SteppingRequest → SteppingTold
+stepping_told modes labels told s Run =
+    told_if_awake told s (kind.Steps false) s.left (steps_run modes labels goal.Nowhere s.left told s)
+stepping_told modes labels told s (Step count) = (let most = min count s.left in
+    told_if_awake told s (kind.Steps (nat_le count s.left)) most (steps_run modes labels goal.Nowhere most told s))
+stepping_told modes labels told s (Call number) =
+    call_line_told modes labels told s (call_start_text s.machine.cpu s.machine.store.bytes number)
+    (store_called s.images s.machine number)
+stepping_told modes labels told s (Load text) =
+    call_line_told modes labels told s (load_start_text text) (module_loaded s.images s.machine text)
+stepping_told modes labels told s Finish = finish_told modes labels told s (length s.machine.tables.frames)
+stepping_told modes labels told s (Gosub address) =
+    told_if_awake told s (kind.Routine (caller_in s)) s.left
+    (steps_run modes labels (goal.Routine (length s.machine.tables.frames)) s.left told (script_at_routine s address))

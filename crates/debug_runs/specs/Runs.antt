@@ -1,19 +1,22 @@
--- Runs of a debugger: steps one after another, until a goal is reached or the run is stopped.
-use Rattle.std.specs.Prelude.{◌≡◌, ℕ, zero, suc, Bool, false, ◌-◌, ◌==◌, ◌&&◌, ◌++◌, List, [], length, Option, Some, None, if◌then◌else◌}
-use Rattle.std.specs.Io.KnownBytes.{Appends}
-use Rattle.profile.specs.declared.stop.Stop.{Stop}
+-- Runs of a debugger: steps one after another, until a goal is reached or the run is stopped, and
+-- what is told of each.
+use Rattle.std.specs.Prelude.{ℕ, zero, suc, Bool, false, ◌-◌, ◌==◌, ◌&&◌, ◌++◌, List, [], length, Option, Some, None, if◌then◌else◌}
 use Rattle.profile.specs.declared.stop.Stop.TheVariants as stop
+use Rattle.debug_labels.specs.Labels.{ImageLabels}
 use Rattle.swi_dispatch_guest.specs.declared.halt.Halt.{Halt}
 use Rattle.swi_dispatch_guest.specs.MachineState.{MachineState, StepOutcome, stop_of}
 use Rattle.swi_dispatch_guest.specs.Run.{is_among}
 use Rattle.command_shell.specs.Calls.{step_made}
 use Rattle.command_shell.specs.State.{ScriptState}
 use Rattle.debug_runs.specs.Stubs.{stubbed_step}
+use Rattle.debug_runs.specs.Telling.{one_told, told_of_step, whole_step_text}
+use Rattle.debug_runs.specs.WordWatches.{watch_hit}
+use Rattle.debug_runs.specs.declared.modes.StepModes.{StepModes}
 use Rattle.debug_runs.specs.declared.running.RunEnd.{RunEnd}
 use Rattle.debug_runs.specs.declared.running.RunEnd.TheVariants as end
 use Rattle.debug_runs.specs.declared.running.RunGoal.{RunGoal}
 use Rattle.debug_runs.specs.declared.running.RunGoal.TheVariants as goal
-use Rattle.debug_runs.specs.declared.stubs.Stub.{Stub}
+use Rattle.debug_runs.specs.declared.watches.WatchHit.{WatchHit}
 
 -- where a routine that was called from outside goes back to: nothing is fetched there
 abbrev pub routine_end : ℕ
@@ -25,50 +28,62 @@ is_reached goal.Nowhere s = false
 is_reached (goal.Frames count) s = length s.tables.frames == count
 is_reached (goal.Routine count) s = s.cpu.pc == routine_end && length s.tables.frames == count
 
--- Why a run goes no further after a step. It is tested in this order: the machine is halted; the
--- goal is reached; the program counter is among the breaks.
-abbrev pub run_end_by : RunGoal → ScriptState → Option Halt → Option RunEnd
-run_end_by g s (Some halt) = Some (end.Stopped (stop_of halt))
-run_end_by g s None =
-    if is_reached g s.machine then Some end.Reached else (
-    if is_among s.breaks s.machine.cpu.pc then Some (end.Stopped (stop.Break s.machine.cpu.pc)) else
-    None)
+-- Why a run goes no further after a step. It is tested in this order: the machine is halted; the goal
+-- is reached; a watched word is another than before the step; the program counter is among the breaks.
+abbrev pub break_end : ScriptState → Option RunEnd
+break_end s = if is_among s.breaks s.machine.cpu.pc then Some (end.Stopped (stop.Break s.machine.cpu.pc)) else None
 
-unfoldable pub run_end : RunGoal → ScriptState → Option RunEnd
-run_end g s = run_end_by g s s.machine.halt
+abbrev pub watched_end : Option WatchHit → ScriptState → Option RunEnd
+watched_end (Some hit) s = Some (end.Watched hit)
+watched_end None s = break_end s
 
--- what a run leaves: the state, what was printed, and why it went no further
-pub record DebugRun : Type 0 where
+abbrev pub run_end_by : List ℕ → RunGoal → ScriptState → ScriptState → Option Halt → Option RunEnd
+run_end_by watches g before after (Some halt) = Some (end.Stopped (stop_of halt))
+run_end_by watches g before after None = if is_reached g after.machine then Some end.Reached else
+    watched_end (watch_hit watches before.machine.store.bytes after.machine.store.bytes) after
+
+unfoldable pub end_after : List ℕ → RunGoal → ScriptState → ScriptState → Option RunEnd
+end_after watches g before after = run_end_by watches g before after after.machine.halt
+
+-- what a run leaves: the state, what is told of its steps, what was printed, and why it went no further
+pub record SteppingRun : Type 0 where
   pub now : ScriptState
+  pub text : List ℕ
   pub printed : List ℕ
   pub ended : RunEnd
 
-abbrev pub run_ended : ScriptState → RunEnd → DebugRun
-run_ended s e = record { now = s; printed = []; ended = e }
+abbrev pub run_ended : ScriptState → RunEnd → SteppingRun
+run_ended s e = record { now = s; text = []; printed = []; ended = e }
 
--- a step, what it prints, and then what follows
-abbrev pub run_after : ScriptState → StepOutcome → (ScriptState → DebugRun) → DebugRun
-run_after s a next = (let r = next (step_made s a) in record r { printed = a.printed ++ r.printed })
-
-abbrev pub run_unless : ScriptState → Option RunEnd → DebugRun → DebugRun
+abbrev pub run_unless : ScriptState → Option RunEnd → SteppingRun → SteppingRun
 run_unless s (Some e) more = run_ended s e
 run_unless s None more = more
 
+abbrev pub run_behind : List ℕ → List ℕ → SteppingRun → SteppingRun
+run_behind text printed r = record r { text = text ++ r.text; printed = printed ++ r.printed }
+
+-- a step, what is told of it, and what follows unless the run ends after it
+abbrev pub run_step : List ℕ → RunGoal → ScriptState → StepOutcome → List ℕ → (ScriptState → SteppingRun) → SteppingRun
+run_step watches g s o text next = (let after = step_made s o in
+    run_behind text o.printed (run_unless after (end_after watches g s after) (next after)))
+
 -- the step that a run takes next, with stubs
-abbrev pub next_step : List Stub → ScriptState → StepOutcome
-next_step stubs s = stubbed_step stubs s.images s.machine
+abbrev pub next_step : StepModes → ScriptState → StepOutcome
+next_step modes s = stubbed_step modes.stubs s.images s.machine
 
--- the rest of a run after a step of it, with so many steps left
-unfoldable pub run_on : List Stub → RunGoal → ℕ → ScriptState → DebugRun
-run_on stubs g zero s = run_unless s (run_end g s) (run_ended s (end.Stopped stop.Budget))
-run_on stubs g (suc n) s = run_unless s (run_end g s) (run_after s (next_step stubs s) (run_on stubs g n))
+abbrev pub text_of_next : StepModes → List ImageLabels → Option ℕ → ScriptState → List ℕ
+text_of_next modes labels told s = (let o = next_step modes s in
+    told_of_step told (whole_step_text modes.stubs labels s.machine o) o.printed)
 
--- a run of so many steps at most, whose first step is taken whatever stands there
-abbrev pub run_from : List Stub → RunGoal → ℕ → ScriptState → DebugRun
-run_from stubs g most s = run_after s (next_step stubs s) (run_on stubs g (most - 1))
+-- a run of so many steps at most, of which so many are told
+unfoldable pub steps_run : StepModes → List ImageLabels → RunGoal → ℕ → Option ℕ → ScriptState → SteppingRun
+steps_run modes labels g zero told s = run_ended s (end.Stopped stop.Budget)
+steps_run modes labels g (suc n) told s =
+    run_step modes.watches g s (next_step modes s) (text_of_next modes labels told s)
+    (steps_run modes labels g n (one_told told))
 
--- a run left this
-pub record IsAfterDebugRun (r : DebugRun) (now : ScriptState) (before after : Option (List ℕ)) (why : RunEnd) : Type 0 where
-  pub state : now ≡ r.now
-  pub text : Appends before after r.printed
-  pub ended : why ≡ r.ended
+-- the same where the first step is a call from outside, which leaves this
+abbrev pub call_run : StepModes → List ImageLabels → RunGoal → ℕ → Option ℕ → ScriptState → List ℕ → StepOutcome → SteppingRun
+call_run modes labels g most told s text o =
+    run_step modes.watches g s o (told_of_step told text o.printed)
+    (steps_run modes labels g (most - 1) (one_told told))

@@ -1,16 +1,23 @@
-//! Runs of a debugger, for `debug_session`: until a frame of module code has gone back, until a
-//! routine has returned, and with stubs for SWIs that the machine doesn't have.
+//! The lines of a debugging script that take steps: RUN, STEP, CALL, LOAD, FINISH and GOSUB, traced or
+//! not, with stubs for SWIs that the machine doesn't have and watches on words of memory.
 #![tactic(auto)]
 
 mod ahead;
-mod finishing;
+mod context;
+mod endings;
+mod labelling;
+pub mod laws;
 mod lines;
+mod modes;
 mod routines;
 mod running;
+mod stub_lines;
 mod stubbing;
 mod stubs;
+mod telling;
+mod watches;
 
-pub use finishing::finish;
-pub use lines::{call, run, step};
-pub use routines::gosub;
+pub use lines::{LineTold, SteppingLine, answer_stepping};
+pub use modes::StepModes;
 pub use stubs::{MOST_STUB_REGISTERS, MOST_STUBS, Stub, StubError, StubRegister, Stubs};
+pub use watches::{MOST_WATCHES, WordWatchError, WordWatches};

@@ -1,108 +1,288 @@
-//! The lines of a script that take steps, where stubs may answer SWIs.
+//! The lines of a debugging script that take steps, traced or not, with stubs and watches.
 
-ghost use Rattle.std.specs.Prelude.{◌≡◌, ◌<◌, ◌≤◌, true, List, OnOk, OnErr};
+ghost use Rattle.std.specs.Prelude.{◌≡◌, ◌≤◌, ◌<◌, ◌-◌, ◌%◌, ◌^◌, [], List, length, IfOk, OnOk};
 ghost use Rattle.image_loader.specs.Entries.{Entry};
-ghost use Rattle.command_shell.specs.Calls.{stop_before_step_by};
+ghost use Rattle.command_shell.specs.Calls.{first_step, stop_before_step_by};
 ghost use Rattle.command_shell.specs.Session.{script_state};
-ghost use Rattle.command_shell.specs.State.{IsAnswered};
-ghost use Rattle.debug_runs.specs.Lines.{run_of_line, stepped_told, stop_of_end, stubbed_call_done, stubbed_call_told};
-ghost use Rattle.debug_runs.specs.Lines.{stubbed_run_done, stubbed_run_told, stubbed_step_done, stubbed_step_told};
+ghost use Rattle.debug_runs.specs.Calls.{outside_start_text};
+ghost use Rattle.debug_runs.specs.Endings.{line_end_told};
+ghost use Rattle.debug_runs.specs.Lines.{Gosub, call_line_told, finish_told, request_of_stepping, stepping_told};
+ghost use Rattle.debug_runs.specs.Lines.{told_if_awake, told_with_ending};
+ghost use Rattle.debug_runs.specs.Runs.{steps_run};
+ghost use Rattle.debug_runs.specs.Telling.{more_text};
+ghost use Rattle.debug_runs.specs.Told.{HasTold, IsSteppingTold};
 
-use crate::finishing::tell_end_of_call;
-use crate::running::{RunEnd, RunGoal, run_from, run_on};
-use crate::stubs::Stubs;
-use command_shell::{CallEnd, OutsideCall, Session, tell_stepped};
+use crate::context::StepContext;
+use crate::endings::{EndKind, tell_line_end, tell_refused};
+use crate::modes::StepModes;
+use crate::routines::{caller_of, enter};
+use crate::running::{RunEnd, RunGoal, take_call, take_steps};
+use crate::telling::Telling;
+use command_shell::{OutsideCall, Session};
+use command_shell_lines::Origin;
+use debug_labels::LabelTable;
 use image_loader::Images;
-use profile::{Sink, Stop, WriteFault};
+use profile::{Stop, WriteFault};
+use std::alloc::{AllocError, Global};
+use view_items::TextSink;
 
-/// RUN with stubs: all the steps that are left, and the stop line.
+/// A line that takes steps.
+#[derive(Clone, Copy, Debug)]
+pub enum SteppingLine<'a> {
+    /// RUN: all the steps that are left.
+    Run,
+    /// STEP: so many steps, or as many as are left.
+    Step(u64),
+    /// CALL: a store call by its number, and the module code that it enters.
+    Call(u32),
+    /// LOAD: the loading of a module, by the name of an image and a text, and the module code that
+    /// it enters.
+    Load(&'a [u8]),
+    /// FINISH: until the innermost frame of module code has gone back.
+    Finish,
+    /// GOSUB: until a routine of the guest's has come back. R14 is &03FFFFFC with the status in it;
+    /// afterwards R14 and the program counter are as they were.
+    Gosub(Origin),
+}
+
+/// What a line left to write: what is told of its steps, and its usual ending behind that.
+#[derive(Drop)]
+pub struct LineTold {
+    /// What is told of the steps: what the guest printed where the line is not traced, else the
+    /// trace.
+    pub text: Vec<u8>,
+    /// What the guest printed.
+    pub printed: Vec<u8>,
+    /// The line's usual ending alone.
+    pub ending: Vec<u8>,
+}
+
+/// Answers a line that takes steps: with `Some`, traced, so many steps are told at most, and what is
+/// told ends with how many more were taken, `.. 64540 steps more`; with `None` what the guest prints
+/// stands as it is. A run ends where the machine is halted, else where what the line waits for has
+/// come, else after the step that changed a watched word, else at a break, else with the budget. A
+/// break where the run begins isn't heeded. `refused NoFrame` is FINISH's ending where no frame is
+/// open.
 ///
 /// # Errors
 ///
-/// `WriteFault` where the sink failed.
-pub fn run<W: Sink>(
-    stubs: &Stubs,
+/// Where memory ran out; steps have been taken then.
+pub fn answer_stepping(
+    alloc: Global,
     session: &mut Session,
     images: &Images,
-    sink: &mut W,
-) -> Result<(), WriteFault>
-    ensures told { OnOk result (IsAnswered (W.contents sink.old) (W.contents sink.new)
+    modes: &mut StepModes,
+    labels: &LabelTable,
+    line: &SteppingLine<'_>,
+    told: Option<u64>,
+) -> Result<LineTold, AllocError>
+    ensures told { let s = script_state session.old images.now in IfOk result (λ line_told. IsSteppingTold
+        (stepping_told modes.old labels.now told s (request_of_stepping line.now))
         (script_state session.new images.now)
-        (stubbed_run_told stubs.now (script_state session.old images.now))) }
-    ensures flag { OnErr result (W.has_failed sink.new ≡ true) }
-    ensures same_flag { OnOk result (W.has_failed sink.new ≡ W.has_failed sink.old) }
+        line_told.text.items line_told.printed.items line_told.ending.items) }
+    ensures modes { modes.new ≡ modes.old }
 {
-    match session.stop_before_step() {
-        Some(stop) => session.tell_end(sink, CallEnd::Stopped(stop)),
-        None => run_all(stubs, session, images, sink),
+    answer_with(alloc, session, images, modes, labels, line, told)
+}
+
+fn answer_with<'a>(
+    alloc: Global,
+    session: &mut Session,
+    images: &'a Images,
+    modes: &'a StepModes,
+    labels: &'a LabelTable,
+    line: &SteppingLine<'_>,
+    told: Option<u64>,
+) -> Result<LineTold, AllocError>
+    ensures { let s = script_state session.old images.now in IfOk result (λ line_told. IsSteppingTold
+        (stepping_told modes.now labels.now told s (request_of_stepping line.now))
+        (script_state session.new images.now)
+        line_told.text.items line_told.printed.items line_told.ending.items) }
+{
+    let context = StepContext {
+        images,
+        modes,
+        labels,
+    };
+    let mut telling = Telling::new(alloc, told);
+    let mut ending = TextSink::new(alloc);
+    match tell_line(&mut telling, &mut ending, session, &context, line) {
+        Ok(()) => Ok(LineTold {
+            text: telling.text.into_bytes(),
+            printed: telling.printed.into_bytes(),
+            ending: ending.into_bytes(),
+        }),
+        Err(_) => Err(AllocError),
     }
 }
 
-// RUN where a step can be taken.
-fn run_all<W: Sink>(
-    stubs: &Stubs,
+fn tell_line(
+    telling: &mut Telling,
+    ending: &mut TextSink,
     session: &mut Session,
-    images: &Images,
-    sink: &mut W,
+    context: &StepContext<'_>,
+    line: &SteppingLine<'_>,
 ) -> Result<(), WriteFault>
-    requires { 0 < (script_state session.old images.now).left }
-    ensures told { OnOk result (IsAnswered (W.contents sink.old) (W.contents sink.new)
-        (script_state session.new images.now)
-        (stubbed_run_done (run_of_line stubs.now (script_state session.old images.now)
-        (script_state session.old images.now).left))) }
-    ensures flag { OnErr result (W.has_failed sink.new ≡ true) }
-    ensures same_flag { OnOk result (W.has_failed sink.new ≡ W.has_failed sink.old) }
+    ensures { let s = script_state session.old context.now.images.now in OnOk result (HasTold
+        (stepping_told context.now.modes.now context.now.labels.now telling.old.told s
+        (request_of_stepping line.now))
+        (script_state session.new context.now.images.now) telling.old telling.new ending.old ending.new) }
 {
-    let most = session.left();
-    let end = run_from(stubs, session, images, sink, RunGoal::Nowhere, most)?;
-    session.tell_end(sink, CallEnd::Stopped(stop_of_end(end)))
-}
-
-/// STEP with stubs: so many steps, or as many as are left, and where the machine stands.
-///
-/// # Errors
-///
-/// `WriteFault` where the sink failed.
-pub fn step<W: Sink>(
-    stubs: &Stubs,
-    session: &mut Session,
-    images: &Images,
-    sink: &mut W,
-    count: u32,
-) -> Result<(), WriteFault>
-    ensures told { OnOk result (IsAnswered (W.contents sink.old) (W.contents sink.new)
-        (script_state session.new images.now)
-        (stubbed_step_told stubs.now (script_state session.old images.now) count)) }
-    ensures flag { OnErr result (W.has_failed sink.new ≡ true) }
-    ensures same_flag { OnOk result (W.has_failed sink.new ≡ W.has_failed sink.old) }
-{
-    let could_all = u64::from(count) <= session.left();
-    let most = u64::from(count).min(session.left());
-    match stop_within(session, most) {
-        Some(stop) => tell_steps(session, sink, could_all, stop),
-        None => step_within(stubs, session, images, sink, could_all, most),
+    let left = session.left();
+    match *line {
+        SteppingLine::Run => {
+            let kind = EndKind::Steps(false);
+            tell_steps(
+                telling,
+                ending,
+                session,
+                context,
+                kind,
+                RunGoal::Nowhere,
+                left,
+            )
+        }
+        SteppingLine::Step(count) => {
+            let kind = EndKind::Steps(count <= left);
+            let most = count.min(left);
+            tell_steps(
+                telling,
+                ending,
+                session,
+                context,
+                kind,
+                RunGoal::Nowhere,
+                most,
+            )
+        }
+        SteppingLine::Call(number) => {
+            tell_call(telling, ending, session, context, OutsideCall::Swi(number))
+        }
+        SteppingLine::Load(text) => {
+            tell_call(telling, ending, session, context, OutsideCall::Load(text))
+        }
+        SteppingLine::Finish => tell_finish(telling, ending, session, context),
+        SteppingLine::Gosub(address) => {
+            tell_gosub(telling, ending, session, context, address.address())
+        }
     }
 }
 
-// STEP where a step can be taken.
-fn step_within<W: Sink>(
-    stubs: &Stubs,
+// So many steps at most.
+fn tell_steps(
+    telling: &mut Telling,
+    ending: &mut TextSink,
     session: &mut Session,
-    images: &Images,
-    sink: &mut W,
-    could_all: bool,
+    context: &StepContext<'_>,
+    kind: EndKind,
+    goal: RunGoal,
     most: u64,
 ) -> Result<(), WriteFault>
-    requires some { 0 < most }
-    requires enough { most ≤ (script_state session.old images.now).left }
-    ensures told { OnOk result (IsAnswered (W.contents sink.old) (W.contents sink.new)
-        (script_state session.new images.now)
-        (stubbed_step_done could_all (run_of_line stubs.now (script_state session.old images.now) most))) }
-    ensures flag { OnErr result (W.has_failed sink.new ≡ true) }
-    ensures same_flag { OnOk result (W.has_failed sink.new ≡ W.has_failed sink.old) }
+    requires { most ≤ (script_state session.old context.now.images.now).left }
+    ensures { let s = script_state session.old context.now.images.now in
+        let modes = context.now.modes.now in OnOk result (HasTold
+        (told_if_awake telling.old.told s kind most
+        (steps_run modes context.now.labels.now goal most telling.old.told s))
+        (script_state session.new context.now.images.now) telling.old telling.new ending.old ending.new) }
 {
-    let end = run_from(stubs, session, images, sink, RunGoal::Nowhere, most)?;
-    tell_steps(session, sink, could_all, stop_of_end(end))
+    if let Some(stop) = stop_within(session, most) {
+        return tell_line_end(session, ending, kind, RunEnd::Stopped(stop));
+    }
+    let told = telling.told;
+    let left = session.left();
+    let end = take_steps(telling, session, context, goal, most)?;
+    tell_run_end(telling, ending, session, told, left, kind, end)
+}
+
+// CALL and LOAD.
+fn tell_call(
+    telling: &mut Telling,
+    ending: &mut TextSink,
+    session: &mut Session,
+    context: &StepContext<'_>,
+    call: OutsideCall,
+) -> Result<(), WriteFault>
+    ensures { let s = script_state session.old context.now.images.now in
+        OnOk result (HasTold
+        (call_line_told context.now.modes.now context.now.labels.now telling.old.told s
+        (outside_start_text call.entry s.machine) (first_step s call.entry))
+        (script_state session.new context.now.images.now) telling.old telling.new ending.old ending.new) }
+{
+    let left = session.left();
+    if let Some(stop) = stop_within(session, left) {
+        return tell_line_end(session, ending, EndKind::Call, RunEnd::Stopped(stop));
+    }
+    let told = telling.told;
+    let goal = RunGoal::Frames(session.machine().frames());
+    let end = take_call(telling, session, context, call, goal, left)?;
+    tell_run_end(telling, ending, session, told, left, EndKind::Call, end)
+}
+
+fn tell_finish(
+    telling: &mut Telling,
+    ending: &mut TextSink,
+    session: &mut Session,
+    context: &StepContext<'_>,
+) -> Result<(), WriteFault>
+    ensures { let s = script_state session.old context.now.images.now in
+        OnOk result (HasTold
+        (finish_told context.now.modes.now context.now.labels.now telling.old.told s
+        (length s.machine.tables.frames))
+        (script_state session.new context.now.images.now) telling.old telling.new ending.old ending.new) }
+{
+    match session.machine().frames() {
+        0 => tell_refused(ending, b"NoFrame"),
+        frames => {
+            let goal = RunGoal::Frames(frames - 1);
+            let left = session.left();
+            tell_steps(telling, ending, session, context, EndKind::Call, goal, left)
+        }
+    }
+}
+
+fn tell_gosub(
+    telling: &mut Telling,
+    ending: &mut TextSink,
+    session: &mut Session,
+    context: &StepContext<'_>,
+    address: u32,
+) -> Result<(), WriteFault>
+    requires aligned { address % 4 ≡ 0 }
+    requires inside { address < 2 ^ 26 }
+    ensures { let s = script_state session.old context.now.images.now in
+        let modes = context.now.modes.now in OnOk result (HasTold
+        (stepping_told modes context.now.labels.now telling.old.told s (Gosub address))
+        (script_state session.new context.now.images.now) telling.old telling.new ending.old ending.new) }
+{
+    let left = session.left();
+    let kind = EndKind::Routine(caller_of(session));
+    if let Some(stop) = stop_within(session, left) {
+        return tell_line_end(session, ending, kind, RunEnd::Stopped(stop));
+    }
+    let told = telling.told;
+    let goal = RunGoal::Routine(session.machine().frames());
+    enter(session, address);
+    let end = take_steps(telling, session, context, goal, left)?;
+    tell_run_end(telling, ending, session, told, left, kind, end)
+}
+
+// How a run ended of which so many steps were to be told, and before which so many were left.
+fn tell_run_end(
+    telling: &mut Telling,
+    ending: &mut TextSink,
+    session: &mut Session,
+    told: Option<u64>,
+    left: u64,
+    kind: EndKind,
+    end: RunEnd,
+) -> Result<(), WriteFault>
+    ensures { (images : List Entry) → let s = script_state session.old images in
+        let ended = line_end_told kind s end in OnOk result (HasTold
+        (told_with_ending (more_text told (left - s.left)) [] ended)
+        (script_state session.new images) telling.old telling.new ending.old ending.new) }
+{
+    telling.push_more(told, left.saturating_sub(session.left()))?;
+    tell_line_end(session, ending, kind, end)
 }
 
 // Why none of so many steps can be taken, if none can.
@@ -113,86 +293,5 @@ fn stop_within(session: &Session, most: u64) -> Option<Stop>
     match session.machine().stop() {
         None if most == 0 => Some(Stop::Budget),
         stop => stop,
-    }
-}
-
-fn tell_steps<W: Sink>(
-    session: &mut Session,
-    sink: &mut W,
-    could_all: bool,
-    stop: Stop,
-) -> Result<(), WriteFault>
-    ensures told { (images : List Entry) → OnOk result
-        (IsAnswered (W.contents sink.old) (W.contents sink.new)
-        (script_state session.new images)
-        (stepped_told could_all (script_state session.old images) stop)) }
-    ensures flag { OnErr result (W.has_failed sink.new ≡ true) }
-    ensures same_flag { OnOk result (W.has_failed sink.new ≡ W.has_failed sink.old) }
-{
-    let at = session.machine().cpu().pc();
-    session.set_last(stop);
-    tell_stepped(sink, could_all, stop, at)
-}
-
-/// CALL or LOAD with stubs: the call, the steps of the module code that it enters, and how it
-/// ended.
-///
-/// # Errors
-///
-/// `WriteFault` where the sink failed.
-pub fn call<W: Sink>(
-    stubs: &Stubs,
-    session: &mut Session,
-    images: &Images,
-    sink: &mut W,
-    call: OutsideCall,
-) -> Result<(), WriteFault>
-    ensures told { OnOk result (IsAnswered (W.contents sink.old) (W.contents sink.new)
-        (script_state session.new images.now)
-        (stubbed_call_told stubs.now (script_state session.old images.now) call.entry)) }
-    ensures flag { OnErr result (W.has_failed sink.new ≡ true) }
-    ensures same_flag { OnOk result (W.has_failed sink.new ≡ W.has_failed sink.old) }
-{
-    match session.stop_before_step() {
-        Some(stop) => session.tell_end(sink, CallEnd::Stopped(stop)),
-        None => complete(stubs, session, images, sink, call),
-    }
-}
-
-// CALL or LOAD where a step can be taken.
-fn complete<W: Sink>(
-    stubs: &Stubs,
-    session: &mut Session,
-    images: &Images,
-    sink: &mut W,
-    call: OutsideCall,
-) -> Result<(), WriteFault>
-    requires { 0 < (script_state session.old images.now).left }
-    ensures told { OnOk result (IsAnswered (W.contents sink.old) (W.contents sink.new)
-        (script_state session.new images.now)
-        (stubbed_call_done stubs.now (script_state session.old images.now) call.entry)) }
-    ensures flag { OnErr result (W.has_failed sink.new ≡ true) }
-    ensures same_flag { OnOk result (W.has_failed sink.new ≡ W.has_failed sink.old) }
-{
-    let frames = session.machine().frames();
-    let most = session.left();
-    session.begin_call(images, sink, call)?;
-    let end = run_on(
-        stubs,
-        session,
-        images,
-        sink,
-        RunGoal::Frames(frames),
-        most - 1,
-    )?;
-    tell_end_of_call(session, sink, end)
-}
-
-fn stop_of_end(end: RunEnd) -> Stop
-    ensures { result ≡ stop_of_end end }
-{
-    match end {
-        RunEnd::Reached => Stop::Budget,
-        RunEnd::Stopped(stop) => stop,
     }
 }

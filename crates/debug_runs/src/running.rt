@@ -1,17 +1,24 @@
 //! Runs of a debugger, step by step.
 
-ghost use Rattle.std.specs.Prelude.{◌≡◌, ◌≤◌, ◌<◌, true, List, IfOk, OnOk, OnErr};
+ghost use Rattle.std.specs.Prelude.{◌≡◌, ◌≤◌, ◌<◌, ◌-◌, ℕ, List, IfOk};
 ghost use Rattle.image_loader.specs.Entries.{Entry};
+ghost use Rattle.address_map.specs.Memory.{bytes_of};
+ghost use Rattle.command_shell.specs.Calls.{first_step};
 ghost use Rattle.command_shell.specs.Session.{script_state};
-ghost use Rattle.debug_runs.specs.Runs.{IsAfterDebugRun, is_reached, run_end, run_from, run_on};
+ghost use Rattle.command_shell.specs.State.{ScriptState};
+ghost use Rattle.debug_runs.specs.Runs.{call_run, end_after, is_reached, steps_run, watched_end};
+ghost use Rattle.debug_runs.specs.Calls.{outside_text};
+ghost use Rattle.debug_runs.specs.Told.{IsAfterStepping};
+ghost use Rattle.debug_runs.specs.WordWatches.{watched_words};
 ghost use Rattle.swi_dispatch_guest.specs.Parts.{state_of};
 
-use crate::stubs::Stubs;
-use command_shell::Session;
+use crate::context::StepContext;
+use crate::telling::Telling;
+use crate::watches::{WatchHit, WatchedWord, first_change};
+use command_shell::{OutsideCall, Session};
 use debugger::swi_dispatch::Machine;
-use image_loader::Images;
 use profile::memory_map::ADDRESS_LIMIT;
-use profile::{Sink, Stop, WriteFault};
+use profile::{Stop, WriteFault};
 
 /// Where a routine that was called from outside goes back to: nothing is fetched there.
 pub(crate) const ROUTINE_END: u32 = ADDRESS_LIMIT - 4;
@@ -32,77 +39,89 @@ pub enum RunGoal {
 pub enum RunEnd {
     /// The goal is reached.
     Reached,
-    /// The machine is halted, a break was reached, or the budget is used up.
+    /// A watched word has changed.
+    Watched(WatchHit),
+    /// The machine is halted, a break was reached, or no step is left.
     Stopped(Stop),
 }
 
-/// Takes a step, and then those that follow, so many at most, until the goal is reached or the run
-/// is stopped.
-pub(crate) fn run_from<W: Sink>(
-    stubs: &Stubs,
+/// Takes so many steps at most, until the goal is reached or the run is stopped.
+pub(crate) fn take_steps(
+    telling: &mut Telling,
     session: &mut Session,
-    images: &Images,
-    sink: &mut W,
+    context: &StepContext<'_>,
+    goal: RunGoal,
+    most: u64,
+) -> Result<RunEnd, WriteFault>
+    requires { most ≤ (script_state session.old context.now.images.now).left }
+    ensures { let images = context.now.images.now in
+        IfOk result (λ end. IsAfterStepping
+        (steps_run context.now.modes.now context.now.labels.now goal most telling.old.told
+        (script_state session.old images)) (script_state session.new images) telling.old telling.new end) }
+{
+    let mut left = most;
+    while left > 0 {
+        let words = context.modes.watches.words(session.machine().memory());
+        telling.step(session, context)?;
+        left -= 1;
+        if let Some(end) = end_after(session, goal, words.as_slice()) {
+            return Ok(end);
+        }
+    }
+    Ok(RunEnd::Stopped(Stop::Budget))
+}
+
+/// Takes so many steps at most, the first of which is a call from outside.
+pub(crate) fn take_call(
+    telling: &mut Telling,
+    session: &mut Session,
+    context: &StepContext<'_>,
+    call: OutsideCall,
     goal: RunGoal,
     most: u64,
 ) -> Result<RunEnd, WriteFault>
     requires some { 0 < most }
-    requires enough { most ≤ (script_state session.old images.now).left }
-    ensures run { IfOk result (λ end. IsAfterDebugRun
-        (run_from stubs.now goal most (script_state session.old images.now))
-        (script_state session.new images.now) (W.contents sink.old) (W.contents sink.new) end) }
-    ensures flag { OnErr result (W.has_failed sink.new ≡ true) }
-    ensures same_flag { OnOk result (W.has_failed sink.new ≡ W.has_failed sink.old) }
+    requires enough { most ≤ (script_state session.old context.now.images.now).left }
+    ensures { let s = script_state session.old context.now.images.now in
+        let o = first_step s call.entry in
+        IfOk result (λ end. IsAfterStepping
+        (call_run context.now.modes.now context.now.labels.now goal most telling.old.told s
+        (outside_text call.entry s.machine o) o)
+        (script_state session.new context.now.images.now) telling.old telling.new end) }
 {
-    stubs.take_step(session, images, sink)?;
-    run_on(stubs, session, images, sink, goal, most - 1)
-}
-
-/// The rest of a run, with so many steps left.
-pub(crate) fn run_on<W: Sink>(
-    stubs: &Stubs,
-    session: &mut Session,
-    images: &Images,
-    sink: &mut W,
-    goal: RunGoal,
-    most: u64,
-) -> Result<RunEnd, WriteFault>
-    requires { most ≤ (script_state session.old images.now).left }
-    ensures run { IfOk result (λ end. IsAfterDebugRun
-        (run_on stubs.now goal most (script_state session.old images.now))
-        (script_state session.new images.now) (W.contents sink.old) (W.contents sink.new) end) }
-    ensures flag { OnErr result (W.has_failed sink.new ≡ true) }
-    ensures same_flag { OnOk result (W.has_failed sink.new ≡ W.has_failed sink.old) }
-{
-    let mut left = most;
-    while left > 0 {
-        if let Some(end) = run_end(session, goal) {
-            return Ok(end);
-        }
-        stubs.take_step(session, images, sink)?;
-        left -= 1;
-    }
-    match run_end(session, goal) {
+    let words = context.modes.watches.words(session.machine().memory());
+    telling.begin(session, context, call)?;
+    match end_after(session, goal, words.as_slice()) {
         Some(end) => Ok(end),
-        None => Ok(RunEnd::Stopped(Stop::Budget)),
+        None => take_steps(telling, session, context, goal, most - 1),
     }
 }
 
-// Why a run goes no further, if it does not.
-#[tactic(auto, unfolding(crate::specs::Runs::run_end))]
-fn run_end(session: &Session, goal: RunGoal) -> Option<RunEnd>
-    ensures { (images : List Entry) → result ≡ run_end goal (script_state session.now images) }
+// Why a run goes no further after a step before which the watched words were these, if it does not.
+#[tactic(auto, unfolding(crate::specs::Runs::end_after))]
+fn end_after(session: &Session, goal: RunGoal, words: &[WatchedWord]) -> Option<RunEnd>
+    ensures { (images : List Entry) → (before : ScriptState) → (watches : List ℕ)
+        → words.now ≡ watched_words watches before.machine.store.bytes
+        → result ≡ end_after watches goal before (script_state session.now images) }
 {
     let machine = session.machine();
-    let at = machine.cpu().pc();
     if let Some(stop) = machine.stop() {
         Some(RunEnd::Stopped(stop))
     } else if is_reached(machine, goal) {
         Some(RunEnd::Reached)
-    } else if session.breaks().has(at) {
-        Some(RunEnd::Stopped(Stop::Break(at)))
     } else {
-        None
+        watched_end(session, first_change(words, machine.memory()))
+    }
+}
+
+fn watched_end(session: &Session, hit: Option<WatchHit>) -> Option<RunEnd>
+    ensures { (images : List Entry) → result ≡ watched_end hit (script_state session.now images) }
+{
+    let at = session.machine().cpu().pc();
+    match hit {
+        Some(hit) => Some(RunEnd::Watched(hit)),
+        None if session.breaks().has(at) => Some(RunEnd::Stopped(Stop::Break(at))),
+        None => None,
     }
 }
 

@@ -52,7 +52,7 @@ impl Stubs {
 
 impl Stub {
     // What the stub does in place of a step.
-    fn act(&self, session: &mut Session)
+    pub(crate) fn act(&self, session: &mut Session)
         requires left { (images : List Entry) → 0 < (script_state session.old images).left }
         ensures { (images : List Entry) → script_state session.new images
             ≡ script_after_stub self.now (script_state session.old images) }

@@ -5,8 +5,8 @@ use Rattle.swi_dispatch_guest.specs.Parts.{state_of}
 use Rattle.command_shell.specs.Session.{script_state}
 use Rattle.debug_runs.proofs.routines.caller_of.Goals as goal
 
-pub returns-clause-caller : goal.returns-clause-caller
-returns-clause-caller c images =
+pub returns : goal.returns
+returns c images =
     let s = script_state c.args.session.now images in
     let cpu : c.cpu-cpu.result.now ≡ s.machine.cpu = c.cpu-cpu.ensures ∙ ap (λ (m : MachineValue). (state_of m.guest).cpu) c.machine.ensures in
     let psr = c.psr.ensures ∙ ap (λ (x : State). x.psr) cpu in

@@ -1,4 +1,4 @@
-use Rattle.std.proofs.Common.{◌≡◌, ℕ, ◌+◌, false, ap, ◌∙◌}
+use Rattle.std.proofs.Common.{◌≡◌, ◌+◌, false, ap, ◌∙◌}
 use Rattle.arm_core.specs.State.{State}
 use Rattle.arm_core.specs.declared.psr.Mode.TheVariants.{Supervisor}
 use Rattle.arm_core.specs.declared.psr.Psr.{Psr}

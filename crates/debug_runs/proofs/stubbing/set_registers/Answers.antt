@@ -1,4 +1,4 @@
-use Rattle.std.proofs.Common.{◌≡◌, ◌<◌, ◌+◌, ℕ, List, ap, drop, length, sym, ◌∙◌, arith}
+use Rattle.std.proofs.Common.{◌<◌, ◌+◌, ℕ, List, ap, drop, length, sym, ◌∙◌, arith}
 use Rattle.command_shell.specs.Memory.{script_with_register}
 use Rattle.command_shell.specs.Session.{script_state}
 use Rattle.debug_runs.specs.Stubs.{script_with_registers}

@@ -1,4 +1,4 @@
-use Rattle.std.proofs.Common.{◌≡◌, Some, None, sym, ap, subst, ◌∙◌}
+use Rattle.std.proofs.Common.{◌≡◌, Some, sym, ap, subst, ◌∙◌}
 use Rattle.std.specs.Option.{option_copied}
 use Rattle.debugger.specs.swi_dispatch.specs.Value.{MachineValue}
 use Rattle.swi_dispatch_guest.specs.MachineState.{StepOutcome}
@@ -6,7 +6,7 @@ use Rattle.swi_dispatch_guest.specs.Parts.{state_of}
 use Rattle.command_shell.specs.Calls.{step_made}
 use Rattle.command_shell.specs.Session.{script_state}
 use Rattle.debug_runs.specs.Stubs.{stub_ahead}
-use Rattle.debug_runs.proofs.StubLemmas.{real_steps, stub_awake, stub_is_step, stub_steps}
+use Rattle.debug_runs.proofs.StubLemmas.{stub_awake, stub_is_step, stub_steps}
 use Rattle.debug_runs.proofs.stubs.Stubs.take_step.Goals as goal
 
 pub returns-in-Some-clause-state : goal.returns-in-Some-clause-state

@@ -1,0 +1,68 @@
+-- By the lemmas that are named.
+use Rattle.std.proofs.Common.{◌≡◌, Some, None, length, sym, ap, subst, ◌∙◌, arith}
+use Rattle.std.specs.Prelude.{OnOk}
+use Rattle.debugger.specs.swi_dispatch.specs.Value.{MachineValue}
+use Rattle.swi_dispatch_guest.specs.Parts.{state_of}
+use Rattle.command_shell.specs.Calls.{stop_before_step_by}
+use Rattle.command_shell.specs.Session.{script_state}
+use Rattle.command_shell.specs.State.{ScriptState}
+use Rattle.debug_runs.specs.Endings.{line_end_told}
+use Rattle.debug_runs.specs.Lines.{Gosub, steps_line_told, stepping_told, told_at_once}
+use Rattle.debug_runs.specs.Routines.{CallerState, caller_in, script_at_routine}
+use Rattle.debug_runs.specs.Runs.{steps_run}
+use Rattle.debug_runs.specs.Told.{HasTold}
+use Rattle.debug_runs.specs.declared.endings.EndKind.TheVariants as kind
+use Rattle.debug_runs.specs.declared.running.RunEnd.TheVariants as end
+use Rattle.debug_runs.specs.declared.running.RunGoal.TheVariants as goal_of
+use Rattle.debug_runs.proofs.LineLemmas.{at_once, goes, gosub_is, gosub_ran, has_same, refused, run_tells}
+use Rattle.debug_runs.proofs.lines.tell_gosub.Goals as goal
+
+pub returns-in-Some : goal.returns-in-Some
+returns-in-Some c =
+    let images = c.args.context.now.images.now in
+    let s = script_state c.args.session.now images in
+    let t = c.args.telling.now in
+    let modes = c.args.context.now.modes.now in
+    let labels = c.args.context.now.labels.now in
+    let k = kind.Routine (caller_in s) in
+    let r = steps_run modes labels (goal_of.Routine (length s.machine.tables.frames)) s.left t.told (script_at_routine s c.args.address) in
+    let a = line_end_told k s (end.Stopped c.in-Some.stop) in
+    let now = script_state c.tell_line_end.new.session images in
+    let is : stop_before_step_by s.machine.halt s.left ≡ Some c.in-Some.stop =
+    ap (stop_before_step_by s.machine.halt) (sym (c.left-left.ensures images)) ∙ (sym (c.stop_within.ensures images) ∙ c.in-Some.is) in
+    has_same c.tell_line_end.result (told_at_once a) (stepping_told modes labels t.told s (Gosub c.args.address)) now
+    t t c.args.ending.now c.tell_line_end.new.sink (gosub_is modes labels t.told s c.args.address ∙ refused t.told s k s.left r c.in-Some.stop is)
+    (at_once c.tell_line_end.result a now t c.args.ending.now c.tell_line_end.new.sink (c.tell_line_end.ensures images))
+
+pub returns : goal.returns
+returns c =
+    let images = c.args.context.now.images.now in
+    let s = script_state c.args.session.now images in
+    let t = c.args.telling.now in
+    let modes = c.args.context.now.modes.now in
+    let labels = c.args.context.now.labels.now in
+    let k = kind.Routine (caller_in s) in
+    let r = steps_run modes labels (goal_of.Routine (length s.machine.tables.frames)) s.left t.told (script_at_routine s c.args.address) in
+    let mid = script_state c.take_steps.new.session images in
+    let now = script_state c.tell_run_end.new.session images in
+    let left = c.left-left.ensures images in
+    let frames = c.frames.ensures.value ∙ ap (λ (m : MachineValue). length (state_of m.guest).tables.frames) c.machine.ensures in
+    let is : stop_before_step_by s.machine.halt s.left ≡ None =
+    ap (stop_before_step_by s.machine.halt) (sym left) ∙ (sym (c.stop_within.ensures images) ∙ c.in_default.is) in
+    let ran = gosub_ran modes labels t.told s (script_state c.enter.new.session images) mid c.args.address c.frames.result c.left-left.result
+    t c.take_steps.new.telling c.in_ok-end.end frames left (c.enter.ensures images) c.in_ok-end.ensures in
+    let told = run_tells c.tell_run_end.result t.told s mid now (kind.Routine c.caller_of.result) r c.in_ok-end.end c.left-left.result
+    t c.take_steps.new.telling c.tell_run_end.new.telling c.args.ending.now c.tell_run_end.new.ending
+    ran left (c.tell_run_end.ensures images) in
+    has_same c.tell_run_end.result (steps_line_told t.told s k r) (stepping_told modes labels t.told s (Gosub c.args.address)) now
+    t c.tell_run_end.new.telling c.args.ending.now c.tell_run_end.new.ending
+    (gosub_is modes labels t.told s c.args.address ∙ goes t.told s k s.left r is)
+    (subst (λ (x : CallerState). OnOk c.tell_run_end.result (HasTold (steps_line_told t.told s (kind.Routine x) r) now
+    t c.tell_run_end.new.telling c.args.ending.now c.tell_run_end.new.ending)) (c.caller_of.ensures images) told)
+
+pub take_steps-requires : goal.take_steps-requires
+take_steps-requires c =
+    let images = c.args.context.now.images.now in
+    let left = c.left-left.ensures images in
+    let same = ap (λ (w : ScriptState). w.left) (c.enter.ensures images) in
+    omega (arith, left, same)

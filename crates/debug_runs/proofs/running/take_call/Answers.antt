@@ -1,0 +1,46 @@
+-- By the lemmas that are named.
+use Rattle.std.proofs.Common.{◌≡◌, None, Some, sym, ap, refl, ◌∙◌}
+use Rattle.debugger.specs.swi_dispatch.specs.Value.{MachineValue}
+use Rattle.swi_dispatch_guest.specs.Parts.{state_of}
+use Rattle.command_shell.specs.Calls.{first_step}
+use Rattle.command_shell.specs.Session.{script_state}
+use Rattle.debug_runs.specs.Calls.{outside_text}
+use Rattle.debug_runs.specs.Runs.{end_after}
+use Rattle.debug_runs.specs.WordWatches.{watched_words}
+use Rattle.debug_runs.proofs.RunLemmas.{call_goes_on, call_stops, enough_left}
+use Rattle.debug_runs.proofs.running.take_call.Goals as goal
+
+pub returns-in-Some : goal.returns-in-Some
+returns-in-Some c =
+    let images = c.args.context.now.images.now in
+    let modes = c.args.context.now.modes.now in
+    let labels = c.args.context.now.labels.now in
+    let s = script_state c.args.session.now images in
+    let next = script_state c.begin.new.session images in
+    let o = first_step s c.args.call in
+    let words = c.as_slice.ensures.value ∙ (c.words-words.ensures
+    ∙ ap (watched_words modes.watches) (c.memory.ensures.bytes ∙ ap (λ (m : MachineValue). (state_of m.guest).store.bytes) c.machine.ensures)) in
+    let over : end_after modes.watches c.args.goal s next ≡ Some c.in-Some.end = sym (c.end_after.ensures images s modes.watches words) ∙ c.in-Some.is in
+    call_stops c.args.telling.now c.begin.new.self modes labels c.args.goal c.args.most s next (outside_text c.args.call s.machine o) o c.in-Some.end
+    c.in_ok-begin.ensures.state c.in_ok-begin.ensures.told over
+
+pub returns-in-None : goal.returns-in-None
+returns-in-None c =
+    let images = c.args.context.now.images.now in
+    let modes = c.args.context.now.modes.now in
+    let labels = c.args.context.now.labels.now in
+    let s = script_state c.args.session.now images in
+    let next = script_state c.begin.new.session images in
+    let o = first_step s c.args.call in
+    let words = c.as_slice.ensures.value ∙ (c.words-words.ensures
+    ∙ ap (watched_words modes.watches) (c.memory.ensures.bytes ∙ ap (λ (m : MachineValue). (state_of m.guest).store.bytes) c.machine.ensures)) in
+    let none : end_after modes.watches c.args.goal s next ≡ None = sym (c.end_after.ensures images s modes.watches words) ∙ c.in-None.is in
+    call_goes_on c.take_steps.result c.args.telling.now c.begin.new.self c.take_steps.new.telling modes labels c.args.goal c.args.most _
+    s next (script_state c.take_steps.new.session images) (outside_text c.args.call s.machine o) o
+    c.in_ok-begin.ensures.state c.in_ok-begin.ensures.told c.in_ok-begin.ensures.one_told refl none c.take_steps.ensures
+
+pub take_steps-requires : goal.take_steps-requires
+take_steps-requires c =
+    let images = c.args.context.now.images.now in
+    let s = script_state c.args.session.now images in
+    enough_left c.args.most s (script_state c.begin.new.session images) (first_step s c.args.call) c.requires.enough c.in_ok-begin.ensures.state

@@ -1,0 +1,41 @@
+-- What a trace and a debugger's modes leave as it is.
+use Rattle.std.specs.Prelude.{◌≡◌, ℕ, true, false, List, ◌++◌, None, Some, IsSome}
+use Rattle.debug_labels.specs.Labels.{ImageLabels}
+use Rattle.command_shell.specs.Script.{request_told}
+use Rattle.command_shell.specs.State.{Answered, ScriptState}
+use Rattle.command_shell_lines.specs.Requests as script
+use Rattle.debug_runs.specs.Lines.{SteppingRequest, SteppingTold, Run, Step, Call, Load, stepping_told}
+use Rattle.debug_runs.specs.Modes.{are_plain}
+use Rattle.debug_runs.specs.declared.modes.StepModes.{StepModes}
+
+-- all but what is told of the steps
+pub record IsSameLine (t u : SteppingTold) : Type 0 where
+  pub now : t.now ≡ u.now
+  pub printed : t.printed ≡ u.printed
+  pub ending : t.ending ≡ u.ending
+
+-- A traced line leaves the state that it leaves untraced, prints the same and has the same ending.
+abbrev pub TracedLineIsTheLine : Type 0
+TracedLineIsTheLine = (modes : StepModes) (labels : List ImageLabels) (limit : ℕ) (s : ScriptState) (r : SteppingRequest)
+    → IsSameLine (stepping_told modes labels (Some limit) s r) (stepping_told modes labels None s r)
+
+-- a line's answer: what is told, and behind it the ending
+pub record IsAnswer (t : SteppingTold) (a : Answered) : Type 0 where
+  pub state : t.now ≡ a.state
+  pub text : t.text ++ t.ending ≡ a.text
+
+-- a machine that is halted has taken a step, and is fresh no more
+abbrev pub IsFreshAwake : ScriptState → Type 0
+IsFreshAwake s = IsSome s.machine.halt → s.is_fresh ≡ false
+
+-- RUN, STEP, CALL and LOAD are answered as in a script.
+pub record AreScriptLines (modes : StepModes) (labels : List ImageLabels) (s : ScriptState) (number : ℕ) (block : List (List ℕ)) : Type 0 where
+  pub run : IsAnswer (stepping_told modes labels None s Run) (request_told s number script.Run block)
+  pub step : (count : ℕ) → IsAnswer (stepping_told modes labels None s (Step count)) (request_told s number (script.Step count) block)
+  pub call : (called : ℕ) → IsAnswer (stepping_told modes labels None s (Call called)) (request_told s number (script.Call called) block)
+  pub load : (text : List ℕ) → IsAnswer (stepping_told modes labels None s (Load text)) (request_told s number (script.Load text) block)
+
+-- With no stub and no watch, untraced lines are those of a script.
+abbrev pub PlainLinesAreTheScripts : Type 0
+PlainLinesAreTheScripts = (modes : StepModes) (labels : List ImageLabels) (s : ScriptState) (number : ℕ) (block : List (List ℕ))
+    → are_plain modes ≡ true → IsFreshAwake s → AreScriptLines modes labels s number block

@@ -1,0 +1,76 @@
+-- What is told of the steps of a line. Of an untraced line it is what they print. Of a traced line so
+-- many steps are told at most, and of the others what they print alone.
+use Rattle.std.specs.Prelude.{ℕ, Bool, false, ◌-◌, ◌==◌, nat_lt, List, [], ◌++◌, codes, Option, Some, None, option_map, if◌then◌else◌}
+use Rattle.std.specs.Fmt.{decimal}
+use Rattle.arm_core.specs.State.{State}
+use Rattle.debug_labels.specs.Labels.{ImageLabels}
+use Rattle.debug_labels.specs.Places.{LabelledPlace, place_of}
+use Rattle.debug_labels.specs.Words.{Naming}
+use Rattle.swi_dispatch_guest.specs.MachineState.{MachineState, StepOutcome}
+use Rattle.trace_changes.specs.Status.{following_word}
+use Rattle.trace_effects.specs.Cause.{cause_of}
+use Rattle.trace_effects.specs.declared.cause.Cause.{Cause}
+use Rattle.trace_text.specs.Below.{prints_word}
+use Rattle.trace_text.specs.Columns.{below_text, columns_text}
+use Rattle.trace_text.specs.Core.{core_words}
+use Rattle.trace_text.specs.Step.{front_text, known_outside, step_end_text, step_text, what_text}
+use Rattle.debug_runs.specs.Stubs.{stub_ahead}
+use Rattle.debug_runs.specs.declared.stubs.Stub.{Stub}
+
+-- `image:label:`, before a step at whose address a label stands
+abbrev pub step_label_line : Option LabelledPlace → List ℕ
+step_label_line None = []
+step_label_line (Some place) = if place.offset == 0 then place.image ++ (codes ":" ++ (place.label ++ codes ":\n")) else []
+
+abbrev pub naming_in : List ImageLabels → MachineState → Naming
+naming_in labels s = record { labels = labels; modules = s.tables.modules; cpu = s.cpu }
+
+abbrev pub label_line_in : List ImageLabels → MachineState → List ℕ
+label_line_in labels s = step_label_line (place_of (naming_in labels s) s.cpu.pc)
+
+-- a step that a stub answers, with what it leaves in the core
+abbrev pub stub_words : State → State → List ℕ
+stub_words before after = codes " stub" ++ core_words (following_word before) before after
+
+abbrev pub stub_line : State → Cause → State → List ℕ
+stub_line before cause after =
+    columns_text (front_text before.pc cause) (what_text before.pc cause) (stub_words before after)
+
+abbrev pub stub_step_text : MachineState → MachineState → List ℕ
+stub_step_text s now = stub_line s.cpu (cause_of s.cpu s.store.bytes) now.cpu
+
+-- all that can be told of a step
+abbrev pub text_by_stub : MachineState → StepOutcome → Option Stub → List ℕ
+text_by_stub s o (Some stub) = stub_step_text s o.now
+text_by_stub s o None = step_text s o
+
+abbrev pub whole_step_text : List Stub → List ImageLabels → MachineState → StepOutcome → List ℕ
+whole_step_text stubs labels s o = label_line_in labels s ++ text_by_stub s o (stub_ahead stubs s)
+
+-- a call from outside, before it is made, and behind it
+abbrev pub call_text_behind : List ℕ → MachineState → StepOutcome → List ℕ
+call_text_behind start s o = start ++ step_end_text (known_outside s) o
+
+-- whether a step is told, where so many are
+abbrev pub is_step_told : Option ℕ → Bool
+is_step_told None = false
+is_step_told (Some limit) = nat_lt 0 limit
+
+-- what is told of a step that isn't
+abbrev pub untold_text : Option ℕ → List ℕ → List ℕ
+untold_text None printed = printed
+untold_text (Some limit) printed = below_text (prints_word printed)
+
+-- what is told of a step of which so much can be, and that prints this
+abbrev pub told_of_step : Option ℕ → List ℕ → List ℕ → List ℕ
+told_of_step told whole printed = if is_step_told told then whole else untold_text told printed
+
+-- how many are told after it
+abbrev pub one_told : Option ℕ → Option ℕ
+one_told told = option_map (λ limit. limit - 1) told
+
+-- `.. 64540 steps more`, where so many were taken
+abbrev pub more_text : Option ℕ → ℕ → List ℕ
+more_text None taken = []
+more_text (Some limit) taken =
+    if nat_lt limit taken then codes ".. " ++ (decimal (taken - limit) ++ codes " steps more\n") else []

@@ -1,0 +1,124 @@
+//! How the end of a line that takes steps is told.
+
+ghost use Rattle.std.specs.Prelude.{◌≡◌, List, OnOk};
+ghost use Rattle.image_loader.specs.Entries.{Entry};
+ghost use Rattle.profile.specs.Output.{Writes};
+ghost use Rattle.command_shell.specs.Answers.{refused_text};
+ghost use Rattle.command_shell.specs.Session.{script_state};
+ghost use Rattle.command_shell.specs.State.{IsAnswered};
+ghost use Rattle.debug_runs.specs.Endings.{goal_told, line_end_told, line_stop_told, routine_told, steps_told, watch_told};
+
+use crate::routines::{Caller, go_back, tell_returned};
+use crate::running::RunEnd;
+use crate::watches::{WatchHit, push_watch};
+use command_shell::{CallEnd, Session, tell_stepped};
+use profile::{Sink, Stop, WriteFault, push_parts};
+
+/// What the steps of a line are for.
+#[derive(Clone, Copy, Debug)]
+pub enum EndKind {
+    /// Steps alone; and whether as many are left as the line asks for, where it asks for so many.
+    Steps(bool),
+    /// A call, that comes back.
+    Call,
+    /// A routine, that comes back to its caller.
+    Routine(Caller),
+}
+
+/// Tells how a line ended; where it was stopped, that is the last stop then.
+pub(crate) fn tell_line_end<W: Sink>(
+    session: &mut Session,
+    sink: &mut W,
+    kind: EndKind,
+    end: RunEnd,
+) -> Result<(), WriteFault>
+    ensures { (images : List Entry) → OnOk result
+        (IsAnswered (W.contents sink.old) (W.contents sink.new)
+        (script_state session.new images)
+        (line_end_told kind (script_state session.old images) end)) }
+{
+    match end {
+        RunEnd::Reached => tell_goal(session, sink, kind),
+        RunEnd::Watched(hit) => tell_watch(session, sink, hit),
+        RunEnd::Stopped(stop) => tell_line_stop(session, sink, kind, stop),
+    }
+}
+
+fn tell_goal<W: Sink>(session: &mut Session, sink: &mut W, kind: EndKind) -> Result<(), WriteFault>
+    ensures { (images : List Entry) → OnOk result
+        (IsAnswered (W.contents sink.old) (W.contents sink.new)
+        (script_state session.new images)
+        (goal_told kind (script_state session.old images))) }
+{
+    match kind {
+        EndKind::Steps(could_all) => tell_steps(session, sink, could_all, Stop::Budget),
+        EndKind::Call => session.tell_end(sink, CallEnd::Returned),
+        EndKind::Routine(caller) => tell_routine(session, sink, caller),
+    }
+}
+
+fn tell_line_stop<W: Sink>(
+    session: &mut Session,
+    sink: &mut W,
+    kind: EndKind,
+    stop: Stop,
+) -> Result<(), WriteFault>
+    ensures { (images : List Entry) → OnOk result
+        (IsAnswered (W.contents sink.old) (W.contents sink.new)
+        (script_state session.new images)
+        (line_stop_told kind (script_state session.old images) stop)) }
+{
+    match kind {
+        EndKind::Steps(could_all) => tell_steps(session, sink, could_all, stop),
+        EndKind::Call | EndKind::Routine(_) => session.tell_end(sink, CallEnd::Stopped(stop)),
+    }
+}
+
+fn tell_steps<W: Sink>(
+    session: &mut Session,
+    sink: &mut W,
+    could_all: bool,
+    stop: Stop,
+) -> Result<(), WriteFault>
+    ensures { (images : List Entry) → OnOk result
+        (IsAnswered (W.contents sink.old) (W.contents sink.new)
+        (script_state session.new images)
+        (steps_told could_all (script_state session.old images) stop)) }
+{
+    let at = session.machine().cpu().pc();
+    session.set_last(stop);
+    tell_stepped(sink, could_all, stop, at)
+}
+
+fn tell_watch<W: Sink>(session: &mut Session, sink: &mut W, hit: WatchHit) -> Result<(), WriteFault>
+    ensures { (images : List Entry) → OnOk result
+        (IsAnswered (W.contents sink.old) (W.contents sink.new)
+        (script_state session.new images)
+        (watch_told (script_state session.old images) hit)) }
+{
+    let at = session.machine().cpu().pc();
+    session.set_last(Stop::Break(at));
+    push_watch(sink, hit)
+}
+
+fn tell_routine<W: Sink>(
+    session: &mut Session,
+    sink: &mut W,
+    caller: Caller,
+) -> Result<(), WriteFault>
+    ensures { (images : List Entry) → OnOk result
+        (IsAnswered (W.contents sink.old) (W.contents sink.new)
+        (script_state session.new images)
+        (routine_told caller (script_state session.old images))) }
+{
+    let steps = caller.left().saturating_sub(session.left());
+    go_back(session, caller);
+    tell_returned(sink, steps)
+}
+
+/// `refused NoFrame`, and the like.
+pub(crate) fn tell_refused<W: Sink>(sink: &mut W, reason: &[u8]) -> Result<(), WriteFault>
+    ensures { Writes W.contents W.has_failed sink.old sink.new result (refused_text reason.now) }
+{
+    push_parts(sink, &[b"refused ".as_slice(), reason, b"\n".as_slice()])
+}

@@ -1,0 +1,59 @@
+//! A step of a trace that a stub answers.
+
+ghost use Rattle.std.specs.Prelude.{◌≡◌, IfOk, OnOk};
+ghost use Rattle.std.specs.Io.KnownBytes.{Appends};
+ghost use Rattle.profile.specs.Output.{Writes};
+ghost use Rattle.trace_text.specs.Step.{front_text};
+ghost use Rattle.debug_runs.specs.Telling.{stub_line, stub_words};
+ghost use Rattle.view_items.specs.TextSink.{sink_text_of};
+
+use arm_core::Cpu;
+use profile::{Sink, WriteFault, push_all};
+use std::alloc::Global;
+use trace_changes::following_word;
+use trace_effects::Cause;
+use trace_text::columns::push_line;
+use trace_text::core_text::push_core;
+use trace_text::start::{push_front, text_of};
+use view_items::TextSink;
+
+/// Writes the line of a step that a stub answered, by the core before it and after it, and what
+/// stood at the program counter.
+pub(crate) fn push_stub_line<W: Sink>(
+    alloc: Global,
+    before: &Cpu,
+    cause: Cause,
+    after: &Cpu,
+    sink: &mut W,
+) -> Result<(), WriteFault>
+    ensures { OnOk result (Appends (W.contents sink.old) (W.contents sink.new)
+        (stub_line before.now cause after.now)) }
+{
+    let front = front_of(alloc, before.pc(), cause)?;
+    let text = text_of(alloc, before.pc(), cause)?;
+    let words = stub_words(alloc, before, after)?;
+    push_line(sink, front.bytes(), text.bytes(), words.bytes())
+}
+
+fn front_of(alloc: Global, pc: u32, cause: Cause) -> Result<TextSink, WriteFault>
+    ensures { IfOk result (λ front. sink_text_of front ≡ front_text pc cause) }
+{
+    let mut front = TextSink::new(alloc);
+    push_front(&mut front, pc, cause)?;
+    Ok(front)
+}
+
+fn stub_words(alloc: Global, before: &Cpu, after: &Cpu) -> Result<TextSink, WriteFault>
+    ensures { IfOk result (λ words. sink_text_of words ≡ stub_words before.now after.now) }
+{
+    let mut words = TextSink::new(alloc);
+    push_stub_words(&mut words, before, after)?;
+    Ok(words)
+}
+
+fn push_stub_words<W: Sink>(sink: &mut W, before: &Cpu, after: &Cpu) -> Result<(), WriteFault>
+    ensures { Writes W.contents W.has_failed sink.old sink.new result (stub_words before.now after.now) }
+{
+    push_all(sink, b" stub")?;
+    push_core(sink, following_word(before), before, after)
+}

@@ -1,3 +1,0 @@
-pub mod CallLemmas
-pub mod RunLemmas
-pub mod TellingLemmas
