@@ -1,5 +1,6 @@
 -- The labels of images that were assembled, image by image, in the order in which they were.
-use Rattle.std.specs.Prelude.{ℕ, ◌-◌, List, length, map, Option, Some, None, Result, Ok, Err}
+use Rattle.std.specs.Prelude.{ℕ, ◌-◌, not, List, filter, length, map, Option, Some, None, Result, Ok, Err}
+use Rattle.std.specs.Str.{bytes_eq}
 use Rattle.module_header.specs.Header.{header_of}
 use Rattle.module_header.specs.declared.header.Header.{Header}
 use Rattle.assembler_names.specs.Labels.{Entries}
@@ -30,3 +31,7 @@ labels_of_image name bytes origin labels = record {
   size = length bytes;
   labels = labels_behind origin labels;
 }
+
+-- those that are not of an image of that name
+abbrev pub without_labels : List ImageLabels → List ℕ → List ImageLabels
+without_labels labels image = filter (λ (i : ImageLabels). not (bytes_eq i.image image)) labels

@@ -1,5 +1,5 @@
 -- A tidy line with numbers in place of words that name places. Words are parted by single spaces.
-use Rattle.std.specs.Prelude.{ℕ, Bool, not, ◌-◌, ◌||◌, nat_lt, List, [], ◌∷◌, ◌++◌, codes, Option, Some, None, if◌then◌else◌}
+use Rattle.std.specs.Prelude.{ℕ, Bool, not, ◌+◌, ◌-◌, ◌||◌, nat_lt, List, [], ◌∷◌, ◌++◌, codes, Option, Some, None, option_map, if◌then◌else◌}
 use Rattle.std.specs.List.{join_with_byte}
 use Rattle.profile.specs.Digits.{hex_number}
 use Rattle.assembler_names.specs.Words.{is_same_name}
@@ -31,10 +31,17 @@ has_places_behind word second =
     is_same_name word (codes "PUT"))
 
 -- how many words stand as they are before those that may name places, if any may
-abbrev pub kept_words : List (List ℕ) → Option ℕ
-kept_words (word ∷ second ∷ others) =
+abbrev pub kept_untraced : List (List ℕ) → Option ℕ
+kept_untraced (word ∷ second ∷ others) =
     if is_place_word word then Some 1 else (if has_places_behind word second then Some 2 else None)
-kept_words _ = None
+kept_untraced _ = None
+
+-- the same where TRACE may stand before the line
+abbrev pub kept_words : List (List ℕ) → Option ℕ
+kept_words [] = None
+kept_words (word ∷ others) =
+    if is_same_name word (codes "TRACE") then option_map (λ n. n + 1) (kept_untraced others)
+    else kept_untraced (word ∷ others)
 
 -- `&8004` in place of a word that names a place
 abbrev pub number_or_word : List ℕ → Option ℕ → List ℕ

@@ -1,7 +1,7 @@
 //! The labels of images that were assembled.
 
 ghost use Rattle.std.specs.Prelude.{◌≡◌, ◌++◌, ◌∷◌, [], bytes_eq, IfOk, OnOk, OnErr};
-ghost use Rattle.debug_labels.specs.Labels.{labels_behind, labels_of_image, ok_of};
+ghost use Rattle.debug_labels.specs.Labels.{labels_behind, labels_of_image, ok_of, without_labels};
 ghost use Rattle.module_header.specs.Header.{header_of};
 
 use assembler_names::Labels;
@@ -65,6 +65,13 @@ impl Model for LabelledImage {
 }
 
 impl LabelledImage {
+    // Whether the image has this name.
+    fn is_of(&self, image: &[u8]) -> bool
+        ensures { result ≡ bytes_eq self.now.image image.now }
+    {
+        self.image.as_slice() == image
+    }
+
     // The labels of an image of these bytes.
     fn new(
         alloc: Global,
@@ -159,6 +166,14 @@ impl LabelTable {
         let added = LabelledImage::new(self.alloc, image, bytes, origin, labels)?;
         self.images.push(added)?;
         Ok(())
+    }
+
+    /// Takes the labels of the images of that name out, if there are some; the others stay in their
+    /// order.
+    pub fn remove(&mut self, image: &[u8])
+        ensures { self.new ≡ without_labels self.old image.now }
+    {
+        self.images.retain(|labels| !labels.is_of(image));
     }
 
     pub(crate) fn images(&self) -> &[LabelledImage]

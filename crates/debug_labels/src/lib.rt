@@ -10,5 +10,6 @@ mod views;
 mod words;
 
 pub use labels::LabelTable;
+pub use lines::may_name_places;
 pub use places::PlaceLabel;
 pub use words::PlaceNames;

@@ -1,9 +1,9 @@
 //! A tidy line with numbers in place of words that name places.
 
-ghost use Rattle.std.specs.Prelude.{◌≡◌, ◌++◌, IfOk, OnOk};
+ghost use Rattle.std.specs.Prelude.{◌≡◌, ◌≤◌, ◌++◌, is_some, IfOk, IfSome, OnOk};
 ghost use Rattle.std.specs.List.{join_with_byte};
 ghost use Rattle.command_shell_lines.specs.Requests.{words};
-ghost use Rattle.debug_labels.specs.Lines.{has_places_behind, is_place_word, is_text_check, kept_words};
+ghost use Rattle.debug_labels.specs.Lines.{has_places_behind, is_place_word, is_text_check, kept_untraced, kept_words};
 
 use crate::words::PlaceNames;
 use assembler_names::words::is_name;
@@ -17,7 +17,7 @@ impl PlaceNames<'_> {
     /// What a tidy line means: the line with a number, as `&8004`, in place of each word that names
     /// a place, in the lines that have places: behind BREAK, UNBREAK, MEM, CODE, HEAP, POKE, STEP,
     /// WORDS, GOSUB, WATCH and UNWATCH, and behind one word more after PUT, SET and EXPECT, but
-    /// behind SET PSR and where EXPECT compares text.
+    /// behind SET PSR and where EXPECT compares text. TRACE may stand before these.
     ///
     /// # Errors
     ///
@@ -69,9 +69,29 @@ impl PlaceNames<'_> {
     }
 }
 
+/// Whether words of a tidy line may name places.
+pub fn may_name_places(line: &[u8]) -> bool
+    ensures { result ≡ is_some (kept_words (words line.now)) }
+{
+    kept_words(line).is_some()
+}
+
 // How many words of a line stand as they are before those that may name places, if any may.
 fn kept_words(line: &[u8]) -> Option<usize>
     ensures { result ≡ kept_words (words line.now) }
+{
+    let (word, rest) = cut(line, b' ');
+    if is_name(word, b"TRACE") {
+        Some(kept_untraced(rest?)? + 1)
+    } else {
+        kept_untraced(line)
+    }
+}
+
+// The same of a line before which no TRACE stands.
+fn kept_untraced(line: &[u8]) -> Option<usize>
+    ensures kept { result ≡ kept_untraced (words line.now) }
+    ensures few { IfSome result (λ n. n ≤ 2) }
 {
     let (word, rest) = cut(line, b' ');
     let (second, _) = cut(rest?, b' ');

@@ -1,3 +1,1 @@
-pub mod FrameLemmas
-pub mod StackLemmas
 pub mod WordLemmas

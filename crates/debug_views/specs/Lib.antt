@@ -3,7 +3,5 @@ pub use Rattle.address_map
 pub use Rattle.arm_core
 pub use Rattle.debugger
 pub mod Banks
-pub mod Frames
 pub mod Quoted
-pub mod Stack
 pub mod Words

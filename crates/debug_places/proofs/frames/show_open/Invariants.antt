@@ -1,7 +1,7 @@
 use Rattle.std.proofs.Common.{◌≡◌, length}
 use Rattle.profile.specs.Output.{AddsAllBut}
-use Rattle.debug_views.specs.Frames.{frame_lines}
-use Rattle.debug_views.proofs.frames.show_open.Given as goal
+use Rattle.debug_places.specs.Frames.{frame_lines}
+use Rattle.debug_places.proofs.frames.show_open.Given as goal
 use Rattle.swi_dispatch_guest.specs.Parts.{state_of}
 
 -- what stands written, and the lines of the frames that are left, is all
@@ -9,8 +9,8 @@ abbrev pub invariant-loop-number : goal.invariant-loop-number
 invariant-loop-number g l =
     let s = state_of l.machine.guest in
     record {
-      text : AddsAllBut (g.W.Sink.contents l.fn.sink) (g.W.Sink.contents l.sink) (frame_lines s l.number)
-          (frame_lines s (length s.tables.frames));
+      text : AddsAllBut (g.W.Sink.contents l.fn.sink) (g.W.Sink.contents l.sink) (frame_lines l.names s l.number)
+          (frame_lines l.names s (length s.tables.frames));
       same_flag : g.W.Sink.has_failed l.sink ≡ g.W.Sink.has_failed l.fn.sink;
     }
 

@@ -2,9 +2,9 @@ use Rattle.std.proofs.Common.{◌≡◌}
 use Rattle.std.specs.Prelude.{slice_get}
 use Rattle.profile.specs.Output.{AddsAllBut}
 use Rattle.debugger.specs.Modules.{one_text}
-use Rattle.debug_views.specs.Frames.{full_name_within}
-use Rattle.debug_views.proofs.FrameLemmas.{names_from}
-use Rattle.debug_views.proofs.frames.show_name_within.Given as goal
+use Rattle.debug_places.specs.Frames.{full_name_within}
+use Rattle.debug_places.proofs.FrameLemmas.{names_from}
+use Rattle.debug_places.proofs.frames.show_name_within.Given as goal
 
 -- what stands written, and what the instances that are left tell, is all
 abbrev pub invariant-loop-instance : goal.invariant-loop-instance

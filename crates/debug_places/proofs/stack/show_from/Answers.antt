@@ -1,7 +1,7 @@
 -- By the lemmas of `entry_steps`.
 use Rattle.std.proofs.Common.{arith}
-use Rattle.debug_views.proofs.StackLemmas.{entry_steps}
-use Rattle.debug_views.proofs.stack.show_from.Goals as goal
+use Rattle.debug_places.proofs.StackLemmas.{entry_steps}
+use Rattle.debug_places.proofs.stack.show_from.Goals as goal
 
 pub loop-left-preserved : goal.loop-left-preserved
 loop-left-preserved g c = grind (arith, entry_steps)

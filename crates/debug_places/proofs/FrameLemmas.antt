@@ -2,11 +2,12 @@
 use Rattle.std.proofs.Common.{◌≡◌, ℕ, suc, ◌+◌, ◌-◌, ◌<◌, ◌≤◌, List, [], ◌++◌, drop, Option, Some, None, refl, sym, ap, ◌∙◌, arith}
 use Rattle.std.specs.List.{flat_map}
 use Rattle.profile.proofs.OutputLemmas.{AddsAllBut-start, AddsAllBut-more, AddsAllBut-same, Appends-from_all_but}
+use Rattle.debug_labels.specs.Words.{Naming}
 use Rattle.debugger.specs.Modules.{one_text}
 use Rattle.debugger.specs.swi_dispatch.specs.instances_table.specs.Lookup.{instance_count}
 use Rattle.debugger.specs.swi_dispatch.specs.instances_table.specs.Modules.{Module}
 use Rattle.debugger.proofs.ModuleLemmas.{all_shown, next_shown}
-use Rattle.debug_views.specs.Frames.{frame_lines, frame_text, full_name_at, full_name_if, full_name_within}
+use Rattle.debug_places.specs.Frames.{frame_lines, frame_text, full_name_at, full_name_if, full_name_within}
 use Rattle.swi_dispatch_guest.specs.MachineState.{MachineState}
 
 -- what the instances that are left tell of a slot
@@ -27,18 +28,21 @@ pub first_name : (slot : ℕ) (o : Option Module) → one_text (full_name_within
 first_name slot None = refl
 first_name slot (Some m) = refl
 
-pub no_frames : (s : MachineState) (n : ℕ) → n ≡ 0 → frame_lines s n ≡ []
+pub no_frames : (n : Naming) (s : MachineState) (left : ℕ) → left ≡ 0 → frame_lines n s left ≡ []
 unfolding frame_lines
-no_frames s n none = rw none refl
+no_frames n s left none = rw none refl
 
-one_frame : (s : MachineState) (n : ℕ) → frame_lines s (suc n) ≡ frame_text s (suc n) [] ++ frame_lines s n
+one_frame : (n : Naming) (s : MachineState) (left : ℕ)
+    → frame_lines n s (suc left) ≡ frame_text n s (suc left) ++ frame_lines n s left
 unfolding frame_lines
-one_frame s n = refl
+one_frame n s left = refl
 
-pub next_frame : (s : MachineState) (n : ℕ) → 0 < n → frame_lines s n ≡ frame_text s n [] ++ frame_lines s (n - 1)
-next_frame s n some =
-    let split : n ≡ suc (n - 1) = omega (arith, some) in
-    ap (frame_lines s) split ∙ one_frame s (n - 1) ∙ ap (λ (k : ℕ). frame_text s k [] ++ frame_lines s (n - 1)) (sym split)
+pub next_frame : (n : Naming) (s : MachineState) (left : ℕ) → 0 < left
+    → frame_lines n s left ≡ frame_text n s left ++ frame_lines n s (left - 1)
+next_frame n s left some =
+    let split : left ≡ suc (left - 1) = omega (arith, some) in
+    ap (frame_lines n s) split ∙ one_frame n s (left - 1)
+    ∙ ap (λ (k : ℕ). frame_text n s k ++ frame_lines n s (left - 1)) (sym split)
 
 pub ruleset name_steps = (AddsAllBut-start, AddsAllBut-more, AddsAllBut-same, Appends-from_all_but, next_name, no_name_more, first_name)
 

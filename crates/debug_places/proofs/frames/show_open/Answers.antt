@@ -1,7 +1,7 @@
 -- By the lemmas of `frame_steps`.
 use Rattle.std.proofs.Common.{arith}
-use Rattle.debug_views.proofs.FrameLemmas.{frame_steps}
-use Rattle.debug_views.proofs.frames.show_open.Goals as goal
+use Rattle.debug_places.proofs.FrameLemmas.{frame_steps}
+use Rattle.debug_places.proofs.frames.show_open.Goals as goal
 
 pub loop-number-preserved : goal.loop-number-preserved
 loop-number-preserved g c = grind (arith, frame_steps)

@@ -15,7 +15,11 @@ use Rattle.debugger.specs.Memory.{address_further}
 use Rattle.debugger.specs.Modules.{one_text}
 use Rattle.debugger.specs.Registers.{mode_text}
 use Rattle.debugger.specs.swi_dispatch.specs.instances_table.specs.Modules.{Instance, Module}
-use Rattle.command_shell.specs.Answers.{at_text}
+use Rattle.debug_labels.specs.Labels.{ImageLabels}
+use Rattle.debug_labels.specs.Places.{place_of}
+use Rattle.debug_labels.specs.Views.{spaced_place_text}
+use Rattle.debug_labels.specs.Words.{Naming}
+use Rattle.debug_places.specs.Places.{naming_on, where_text}
 use Rattle.swi_dispatch_guest.specs.swi_dispatch_frames.specs.instances_plans.specs.declared.code.CodeKind.TheVariants.{Initialise, Finalise}
 use Rattle.swi_dispatch_guest.specs.swi_dispatch_frames.specs.declared.frame.Frame.{Frame}
 use Rattle.swi_dispatch_guest.specs.swi_dispatch_frames.specs.declared.frame.FrameKind.{FrameKind}
@@ -69,14 +73,16 @@ caller_address f = address_further f.call.next (2 ^ 32 - 4)
 abbrev pub is_called_by_instruction : Bytes → Frame → Bool
 is_called_by_instruction b f = is_call_entered f.kind (word_loaded b (caller_address f))
 
-abbrev pub caller_of_frame : Bytes → Option Frame → Option ℕ
-caller_of_frame b None = None
-caller_of_frame b (Some f) = if is_called_by_instruction b f then Some (caller_address f) else None
+-- `1800074 high:swi+4`
+abbrev pub address_text : Naming → ℕ → List ℕ
+address_text n address = hex_number address ++ spaced_place_text (place_of n address)
 
--- ` called at &1800074`, and what stands behind an address
-abbrev pub caller_text : Bytes → Frame → List ℕ → List ℕ
-caller_text b f label = if is_called_by_instruction b f
-    then codes " called at &" ++ (hex_number (caller_address f) ++ label)
+-- ` called at &1800074 high:swi+4`
+abbrev pub called_at_text : Naming → ℕ → List ℕ
+called_at_text n address = codes " called at &" ++ address_text n address
+
+abbrev pub caller_text : Naming → Bytes → Frame → List ℕ
+caller_text n b f = if is_called_by_instruction b f then called_at_text n (caller_address f)
     else codes " called from outside"
 
 abbrev pub frame_number_text : ℕ → List ℕ
@@ -86,26 +92,26 @@ frame_number_text number = codes "frame " ++ (decimal number ++ codes " ")
 abbrev pub entry_text : Frame → List ℕ
 entry_text f = codes " in " ++ (mode_text f.call.caller.mode ++ (codes ", R13_svc " ++ (hex_word f.stack ++ codes "\n")))
 
--- `frame 2 SWI &40000 Low%Base called at &1800074 in SVC, R13_svc 01C01FFC`
-abbrev pub frame_line : List Module → Bytes → ℕ → List ℕ → Frame → List ℕ
-frame_line modules b number label f =
+-- `frame 2 SWI &40000 Low%Base called at &1800074 high:swi+4 in SVC, R13_svc 01C01FFC`
+abbrev pub frame_line : Naming → List Module → Bytes → ℕ → Frame → List ℕ
+frame_line n modules b number f =
     frame_number_text number ++ (frame_kind_text f.kind ++ (full_name_of_slot f.slot modules
-    ++ (caller_text b f label ++ entry_text f)))
+    ++ (caller_text n b f ++ entry_text f)))
 
 -- frames are numbered from 1 on, the outermost first
 abbrev pub open_frame_numbered : ℕ → List Frame → Option Frame
 open_frame_numbered zero frames = None
 open_frame_numbered (suc number) frames = slice_get frames number
 
-abbrev pub frame_text : MachineState → ℕ → List ℕ → List ℕ
-frame_text s number label =
-    one_text (frame_line s.tables.modules s.store.bytes number label) (open_frame_numbered number s.tables.frames)
+abbrev pub frame_text : Naming → MachineState → ℕ → List ℕ
+frame_text n s number =
+    one_text (frame_line n s.tables.modules s.store.bytes number) (open_frame_numbered number s.tables.frames)
 
 -- so many frames, the first of them last
-unfoldable pub frame_lines : MachineState → ℕ → List ℕ
-frame_lines s zero = []
-frame_lines s (suc number) = frame_text s (suc number) [] ++ frame_lines s number
+unfoldable pub frame_lines : Naming → MachineState → ℕ → List ℕ
+frame_lines n s zero = []
+frame_lines n s (suc number) = frame_text n s (suc number) ++ frame_lines n s number
 
 -- where the machine stands, and all open frames
-abbrev pub frames_text : MachineState → List ℕ
-frames_text s = at_text s.cpu.pc ++ frame_lines s (length s.tables.frames)
+abbrev pub frames_text : List ImageLabels → MachineState → List ℕ
+frames_text labels s = where_text labels s ++ frame_lines (naming_on labels s) s (length s.tables.frames)

@@ -4,78 +4,75 @@ ghost use Rattle.std.specs.Prelude.{◌≡◌, length, slice_get};
 ghost use Rattle.address_map.specs.Memory.{bytes_of};
 ghost use Rattle.profile.specs.Output.{Writes};
 ghost use Rattle.debugger.specs.Modules.{one_text};
-ghost use Rattle.debug_views.specs.Frames.{caller_address, caller_of_frame, caller_text, calls_entered, entry_text};
-ghost use Rattle.debug_views.specs.Frames.{frame_kind_text, frame_line, frame_lines, frame_number_text, open_frame_numbered};
-ghost use Rattle.debug_views.specs.Frames.{frame_text, frames_text, full_name_at, full_name_of_slot, full_name_text};
-ghost use Rattle.debug_views.specs.Frames.{full_name_within, is_call_entered, is_called_by_instruction};
+ghost use Rattle.debug_places.specs.Frames.{address_text, called_at_text, caller_address, caller_text, calls_entered, entry_text};
+ghost use Rattle.debug_places.specs.Frames.{frame_kind_text, frame_line, frame_lines, frame_number_text, open_frame_numbered};
+ghost use Rattle.debug_places.specs.Frames.{frame_text, frames_text, full_name_at, full_name_of_slot, full_name_text};
+ghost use Rattle.debug_places.specs.Frames.{full_name_within, is_call_entered, is_called_by_instruction};
+ghost use Rattle.debug_places.specs.Places.{naming_on};
 ghost use Rattle.swi_dispatch_guest.specs.Parts.{state_of};
 
+use crate::names::names_on;
 use crate::standing::show_where;
 use address_map::AddressMap;
+use debug_labels::{LabelTable, PlaceNames};
 use debugger::mode_name;
 use debugger::swi_dispatch::instances::{InstanceInfo, Instances, ModuleInfo};
 use debugger::swi_dispatch::{CodeKind, Frame, FrameKind, Machine, without_x_bit};
 use itoa::Buffer;
 use profile::{Fault, HexText, Sink, SwiName, WriteFault, push_all, push_parts};
 
-/// Writes where the machine stands, and a line for each open frame, the innermost first, as
-/// [`show_frame`] does without a label.
-pub fn show_frames<W: Sink>(machine: &Machine, sink: &mut W) -> Result<(), WriteFault>
+/// Writes where the machine stands, and a line for each open frame, the innermost first. Frames are
+/// numbered from 1 on, the outermost first; a line tells what the frame's code was entered for, the
+/// instance whose code it is, where the call was made, with the label there or near below it, in
+/// which mode, and R13 of SVC as it was on entry,
+/// `frame 2 SWI &40000 Low%Base called at &1800074 high:swi+4 in SVC, R13_svc 01C01FFC`. A call that
+/// no instruction made there is `called from outside`.
+pub fn show_frames<W: Sink>(
+    labels: &LabelTable,
+    machine: &Machine,
+    sink: &mut W,
+) -> Result<(), WriteFault>
     ensures writes { Writes W.contents W.has_failed sink.old sink.new result
-        (frames_text (state_of machine.now.guest)) }
+        (frames_text labels.now (state_of machine.now.guest)) }
 {
-    show_where(machine, sink)?;
-    show_open(machine, sink)
+    show_where(labels, machine, sink)?;
+    show_open(&names_on(labels, machine), machine, sink)
 }
 
-fn show_open<W: Sink>(machine: &Machine, sink: &mut W) -> Result<(), WriteFault>
+fn show_open<W: Sink>(names: &PlaceNames, machine: &Machine, sink: &mut W) -> Result<(), WriteFault>
     ensures { let s = state_of machine.now.guest in
-        Writes W.contents W.has_failed sink.old sink.new result (frame_lines s (length s.tables.frames)) }
+        Writes W.contents W.has_failed sink.old sink.new result
+        (frame_lines names.now s (length s.tables.frames)) }
 {
     let mut number = machine.frames();
     while number > 0 {
-        show_frame(machine, number, b"", sink)?;
+        show_frame(names, machine, number, sink)?;
         number -= 1;
     }
     Ok(())
 }
 
-/// Writes the line of an open frame, which are numbered from 1 on, the outermost first: what its
-/// code was entered for, the instance whose code it is, where the call was made, in which mode, and
-/// R13 of SVC as it was on entry,
-/// `frame 2 SWI &40000 Low%Base called at &1800074 in SVC, R13_svc 01C01FFC`. The label stands
-/// behind the address of the call. A call that no instruction made there is
-/// `called from outside`. Where no frame has that number nothing is written.
-pub fn show_frame<W: Sink>(
+// The line of an open frame, if there is one of that number.
+fn show_frame<W: Sink>(
+    names: &PlaceNames,
     machine: &Machine,
     number: usize,
-    label: &[u8],
     sink: &mut W,
 ) -> Result<(), WriteFault>
     ensures writes { Writes W.contents W.has_failed sink.old sink.new result
-        (frame_text (state_of machine.now.guest) number label.now) }
+        (frame_text names.now (state_of machine.now.guest) number) }
 {
     match open_frame_numbered(machine.open_frames(), number) {
         Some(frame) => show_line(
+            names,
             machine.instances(),
             machine.memory(),
             number,
-            label,
             &frame,
             sink,
         ),
         None => Ok(()),
     }
-}
-
-/// Where the call was made for which a frame was opened, if an instruction made it: the address
-/// that its line names.
-pub fn caller_of(machine: &Machine, number: usize) -> Option<u32>
-    ensures { let s = state_of machine.now.guest in
-        result ≡ caller_of_frame s.store.bytes (open_frame_numbered number s.tables.frames) }
-{
-    let frame = open_frame_numbered(machine.open_frames(), number)?;
-    is_called_by_instruction(machine.memory(), &frame).then_some(caller_address(&frame))
 }
 
 fn open_frame_numbered(frames: &[Frame], number: usize) -> Option<Frame>
@@ -88,20 +85,20 @@ fn open_frame_numbered(frames: &[Frame], number: usize) -> Option<Frame>
 }
 
 fn show_line<W: Sink>(
+    names: &PlaceNames,
     modules: &Instances,
     memory: &AddressMap,
     number: usize,
-    label: &[u8],
     frame: &Frame,
     sink: &mut W,
 ) -> Result<(), WriteFault>
     ensures { Writes W.contents W.has_failed sink.old sink.new result
-        (frame_line modules.now (bytes_of memory.now) number label.now frame.now) }
+        (frame_line names.now modules.now (bytes_of memory.now) number frame.now) }
 {
     show_number(number, sink)?;
     show_kind(frame.kind, sink)?;
     show_name(modules, frame.slot, sink)?;
-    show_caller(memory, frame, label, sink)?;
+    show_caller(names, memory, frame, sink)?;
     show_entry(frame, sink)
 }
 
@@ -197,25 +194,34 @@ fn show_full_name<W: Sink>(
 }
 
 fn show_caller<W: Sink>(
+    names: &PlaceNames,
     memory: &AddressMap,
     frame: &Frame,
-    label: &[u8],
     sink: &mut W,
 ) -> Result<(), WriteFault>
     ensures { Writes W.contents W.has_failed sink.old sink.new result
-        (caller_text (bytes_of memory.now) frame.now label.now) }
+        (caller_text names.now (bytes_of memory.now) frame.now) }
 {
-    if !is_called_by_instruction(memory, frame) {
-        return push_all(sink, b" called from outside");
+    if is_called_by_instruction(memory, frame) {
+        show_call(names, caller_address(frame), sink)
+    } else {
+        push_all(sink, b" called from outside")
     }
-    push_parts(
-        sink,
-        &[
-            b" called at &".as_slice(),
-            HexText::number(caller_address(frame)).as_slice(),
-            label,
-        ],
-    )
+}
+
+// The address of an instruction that made a call, with its label.
+fn show_call<W: Sink>(names: &PlaceNames, address: u32, sink: &mut W) -> Result<(), WriteFault>
+    ensures { Writes W.contents W.has_failed sink.old sink.new result (called_at_text names.now address) }
+{
+    push_all(sink, b" called at &")?;
+    show_address(names, address, sink)
+}
+
+fn show_address<W: Sink>(names: &PlaceNames, address: u32, sink: &mut W) -> Result<(), WriteFault>
+    ensures { Writes W.contents W.has_failed sink.old sink.new result (address_text names.now address) }
+{
+    push_all(sink, HexText::number(address).as_slice())?;
+    names.push_place(address, sink)
 }
 
 fn caller_address(frame: &Frame) -> u32

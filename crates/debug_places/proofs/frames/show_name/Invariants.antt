@@ -1,8 +1,8 @@
 use Rattle.std.proofs.Common.{◌≡◌, drop}
 use Rattle.std.specs.List.{flat_map}
 use Rattle.profile.specs.Output.{AddsAllBut}
-use Rattle.debug_views.specs.Frames.{full_name_within}
-use Rattle.debug_views.proofs.frames.show_name.Given as goal
+use Rattle.debug_places.specs.Frames.{full_name_within}
+use Rattle.debug_places.proofs.frames.show_name.Given as goal
 
 -- what stands written, and what the modules that are left tell, is all
 abbrev pub invariant-loop-number : goal.invariant-loop-number

@@ -1,0 +1,13 @@
+//! Views for a debugger that tell places by their labels: where the machine stands, the stack, and
+//! the open frames of module code.
+#![tactic(auto)]
+
+mod frames;
+mod names;
+mod stack;
+mod standing;
+
+pub use frames::show_frames;
+pub use names::names_on;
+pub use stack::show_stack;
+pub use standing::show_where;
