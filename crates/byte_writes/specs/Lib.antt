@@ -1,0 +1,3 @@
+-- What bytes that are written from outside leave, and where they are refused.
+pub use Rattle.command_shell
+pub mod Put
