@@ -1,15 +1,22 @@
--- A tidy line that asks for what a line of a script asks for is that line of a script.
+-- A tidy line that asks for what a line of a script asks for is that line of a script, maybe behind
+-- the word TRACE.
 use Rattle.std.proofs.Common.{◌≡◌, ℕ, Bool, true, false, List, [], ◌∷◌, Option, Some, None, ap, sym, refl, ◌∙◌, inl, inr, arith}
 use Rattle.std.proofs.lemmas.Bool.{cases_Bool}
 use Rattle.std.specs.Prelude.{codes, if◌then◌else◌}
+use Rattle.command_shell_lines.specs.Numbers.{script_number}
 use Rattle.command_shell_lines.specs.Operands.{word_address, origin_of, count_up_to}
 use Rattle.command_shell_lines.specs.Requests.{Request, Unknown, is_same_word, request_of, words}
 use Rattle.image_loader.specs.Entries.{can_name_image}
-use Rattle.debug_lines.specs.DebugRequests.{DebugRequest, Script, Remark, Forget, SetPc, SetPsr, Reset, Quit, Expect, View, NotKnown, expect_line, is_remark, is_script_request, own_request_behind, simple_request}
-use Rattle.debug_lines.specs.DebugRequests.{Banks, Frames, Help, Stack, Where, forget_if_named, is_frames_word, own_request_of_four, own_request_of_three, own_request_of_two, own_request_of_word}
-use Rattle.debug_lines.specs.DebugRequests.{own_request_of_words, set_pc_to, set_psr_of_two, set_psr_to, set_request, stack_of, words_at}
+use Rattle.debug_lines.specs.DebugRequests.{DebugRequest, Script, Stepping, Mode, Remark, Put, Forget, SetPc, SetPsr, Reset, Quit, Expect, Repeat, View, NotKnown}
+use Rattle.debug_lines.specs.DebugRequests.{expect_line, is_remark, is_repeatable, is_script_request, own_request_behind, simple_request, untraced_request}
+use Rattle.debug_lines.specs.DebugRequests.{Banks, Frames, Help, Labels, Stack, Where, forget_if_named, gosub_to, is_frames_word, mode_line, put_at}
+use Rattle.debug_lines.specs.DebugRequests.{own_request_of_four, own_request_of_three, own_request_of_two, own_request_of_word}
+use Rattle.debug_lines.specs.DebugRequests.{own_request_of_words, set_pc_to, set_psr_to, set_request, stack_of, words_at}
+use Rattle.debug_lines.specs.DebugRequests.{line_behind_trace, simple_request_behind, trace_of_own, trace_of_words, trace_limit, trace_step, traced_request, traced_script, untraced_line}
 use Rattle.debug_lines.specs.Expectations.{ExpectRequest, expect_request, text_behind}
+use Rattle.debug_lines.specs.ModeRequests.{ModeRequest, Trace, mode_of_two, stub_request}
 use Rattle.debug_lines.specs.Status.{status_of_two, status_of_word}
+use Rattle.debug_lines.specs.SteppingRequests.{Finish, SteppingRequest, stepping_in}
 use Rattle.debug_lines.specs.declared.status.StatusPattern.{StatusPattern}
 
 unfoldable asks_script : DebugRequest → Bool
@@ -51,6 +58,22 @@ unfolding asks_script
 own_psr (Some pattern) = refl
 own_psr None = refl
 
+own_gosub : (o : Option ℕ) → asks_script (gosub_to o) ≡ false
+unfolding asks_script
+own_gosub (Some address) = refl
+own_gosub None = refl
+
+own_mode : (o : Option ModeRequest) → asks_script (mode_line o) ≡ false
+unfolding asks_script
+own_mode (Some request) = refl
+own_mode None = refl
+
+own_put : (b : Bool) (name : List ℕ) (o : Option ℕ) → asks_script (put_at b name o) ≡ false
+unfolding asks_script
+own_put true name (Some address) = refl
+own_put true name None = refl
+own_put false name o = refl
+
 own_expect : (o : Option ExpectRequest) → asks_script (expect_line o) ≡ false
 unfolding asks_script
 own_expect (Some expected) = refl
@@ -63,15 +86,18 @@ own_word word =
     (own_if (is_same_word word (codes "BANKS")) (View Banks) _ refl
     (own_if (is_same_word word (codes "STACK")) (View (Stack 8)) _ refl
     (own_if (is_frames_word word) (View Frames) _ refl
+    (own_if (is_same_word word (codes "LABELS")) (View Labels) _ refl
+    (own_if (is_same_word word (codes "FINISH")) (Stepping false Finish) _ refl
     (own_if (is_same_word word (codes "RESET")) Reset _ refl
     (own_if (is_same_word word (codes "HELP")) (View Help) _ refl
-    (own_if (is_same_word word (codes "QUIT")) Quit NotKnown refl refl))))))
+    (own_if (is_same_word word (codes "QUIT")) Quit NotKnown refl refl))))))))
 
 own_two : (word other : List ℕ) → asks_script (own_request_of_two word other) ≡ false
 unfolding asks_script
 own_two word other =
     own_if (is_same_word word (codes "STACK")) _ _ (own_stack (count_up_to 1024 other))
-    (own_if (is_same_word word (codes "FORGET")) _ NotKnown (own_forget (can_name_image other) other) refl)
+    (own_if (is_same_word word (codes "FORGET")) _ _ (own_forget (can_name_image other) other)
+    (own_if (is_same_word word (codes "GOSUB")) _ _ (own_gosub (origin_of other)) (own_mode (mode_of_two word other))))
 
 own_set : (what value : List ℕ) → asks_script (set_request what value) ≡ false
 unfolding asks_script
@@ -83,7 +109,8 @@ own_three : (word first second : List ℕ) → asks_script (own_request_of_three
 unfolding asks_script
 own_three word first second =
     own_if (is_same_word word (codes "WORDS")) _ _ (own_words_at (word_address first) (count_up_to 1024 second))
-    (own_if (is_same_word word (codes "SET")) _ NotKnown (own_set first second) refl)
+    (own_if (is_same_word word (codes "SET")) _ _ (own_set first second)
+    (own_if (is_same_word word (codes "PUT")) _ NotKnown (own_put (can_name_image first) first (script_number second)) refl))
 
 own_four : (word first second third : List ℕ) → asks_script (own_request_of_four word first second third) ≡ false
 unfolding asks_script
@@ -100,27 +127,102 @@ own_of_words (word ∷ first ∷ second ∷ []) = own_three word first second
 own_of_words (word ∷ first ∷ second ∷ third ∷ []) = own_four word first second third
 own_of_words (word ∷ first ∷ second ∷ third ∷ fourth ∷ more) = refl
 
-own_behind : (o : Option (List ℕ)) (line : List ℕ) → asks_script (own_request_behind o line) ≡ false
-own_behind (Some expected) line = own_expect (expect_request expected)
-own_behind None line = own_of_words (words line)
+own_behind : (expected stub : Option (List ℕ)) (line : List ℕ) → asks_script (own_request_behind expected stub line) ≡ false
+own_behind (Some expected) stub line = own_expect (expect_request expected)
+own_behind None (Some stub) line = own_mode (stub_request stub)
+own_behind None None line = own_of_words (words line)
 
-pub script_alone : (line : List ℕ) (r : Request) → Script r ≡ simple_request line → r ≡ request_of line
-unfolding simple_request asks_script request_in
-script_alone line r e =
-    let asks : true ≡ asks_script (simple_request line) = ap asks_script e in
+untraced_alone : (line : List ℕ) (r : Request) → Script r ≡ untraced_request line → r ≡ request_of line
+unfolding untraced_request asks_script request_in
+untraced_alone line r e =
+    let asks : true ≡ asks_script (untraced_request line) = ap asks_script e in
     elim (cases_Bool (is_remark line)) [
       | inl remark ↦
-          let is : simple_request line ≡ Remark = rw (remark) refl in
+          let is : untraced_request line ≡ Remark = rw (remark) refl in
           absurd (grind (arith, asks ∙ ap asks_script is))
       | inr other ↦ elim (cases_Bool (is_script_request (request_of line))) [
         | inl script ↦
-            let is : simple_request line ≡ Script (request_of line) = rw (other, script) refl in
+            let is : untraced_request line ≡ Script (request_of line) = rw (other, script) refl in
             ap request_in (e ∙ is)
         | inr own ↦
-            let is : simple_request line ≡ own_request_behind (text_behind (codes "EXPECT ") line) line = rw (other, own) refl in
-            absurd (grind (arith, asks ∙ ap asks_script is ∙ own_behind (text_behind (codes "EXPECT ") line) line))
+            let expected : Option (List ℕ) = text_behind (codes "EXPECT ") line in
+            let stub : Option (List ℕ) = text_behind (codes "STUB ") line in
+            let is : untraced_request line ≡ own_request_behind expected stub line = rw (other, own) refl in
+            absurd (grind (arith, asks ∙ ap asks_script is ∙ own_behind expected stub line))
       ]
     ]
 
-pub script_itself : (line : List ℕ) (r : Request) → Script r ≡ simple_request line → Script (request_of line) ≡ simple_request line
+-- what stands behind TRACE is of a script where the line is
+script_if : (b : Bool) (q r : Request) → Script r ≡ (if b then Script q else NotKnown) → Script r ≡ Script q
+script_if true q r e = e
+script_if false q r e = absurd (cc)
+
+traced_script_alone : (o : Option SteppingRequest) (q r : Request) → Script r ≡ traced_script o (Script q) → Script r ≡ Script q
+traced_script_alone (Some request) q r e = absurd (cc)
+traced_script_alone None q r e = script_if (is_repeatable (Script q)) q r e
+
+traced_alone : (d : DebugRequest) (r : Request) → Script r ≡ traced_request d → Script r ≡ d
+traced_alone (Script q) r e = traced_script_alone (stepping_in q) q r e
+traced_alone (Stepping is_traced request) r e = absurd (cc)
+traced_alone (Mode request) r e = e
+traced_alone Remark r e = absurd (cc)
+traced_alone (View shown) r e = e
+traced_alone (SetPc address) r e = e
+traced_alone (SetPsr pattern) r e = e
+traced_alone (Put name address) r e = e
+traced_alone (Forget name) r e = e
+traced_alone Reset r e = e
+traced_alone Quit r e = e
+traced_alone (Expect expected) r e = e
+traced_alone (Repeat count line) r e = absurd (cc)
+traced_alone NotKnown r e = e
+
+-- and TRACE alone asks for nothing of a script's
+unfoldable some_asks_script : Option DebugRequest → Bool
+some_asks_script (Some d) = asks_script d
+some_asks_script None = false
+
+own_step : (o : Option ℕ) → some_asks_script (trace_step o) ≡ false
+unfolding some_asks_script asks_script
+own_step (Some count) = refl
+own_step None = refl
+
+own_limit : (o : Option ℕ) → some_asks_script (trace_limit o) ≡ false
+unfolding some_asks_script asks_script
+own_limit (Some limit) = refl
+own_limit None = refl
+
+some_if : (b : Bool) (x y : Option DebugRequest) → some_asks_script x ≡ false → some_asks_script y ≡ false
+    → some_asks_script (if b then x else y) ≡ false
+some_if true x y first other = first
+some_if false x y first other = other
+
+own_trace : (ws : List (List ℕ)) → some_asks_script (trace_of_words ws) ≡ false
+unfolding some_asks_script asks_script
+own_trace [] = refl
+own_trace (word ∷ []) =
+    some_if (is_same_word word (codes "ON")) (Some (Mode (Trace true))) _ refl
+    (some_if (is_same_word word (codes "OFF")) (Some (Mode (Trace false))) _ refl (own_step (script_number word)))
+own_trace (word ∷ limit ∷ []) = some_if (is_same_word word (codes "LIMIT")) _ None (own_limit (script_number limit)) refl
+own_trace (word ∷ limit ∷ other ∷ more) = refl
+
+trace_alone : (o : Option DebugRequest) (d : DebugRequest) (r : Request) → some_asks_script o ≡ false
+    → Script r ≡ trace_of_own o d → Script r ≡ traced_request d
+unfolding some_asks_script asks_script
+trace_alone (Some own) d r asks e = absurd (grind (arith, ap asks_script e ∙ asks))
+trace_alone None d r asks e = e
+
+alone_by : (o : Option (List ℕ)) (line : List ℕ) (r : Request) → Script r ≡ simple_request_behind o line
+    → r ≡ request_of (line_behind_trace o line)
+alone_by (Some text) line r e =
+    untraced_alone text r (traced_alone (untraced_request text) r
+    (trace_alone (trace_of_words (words text)) (untraced_request text) r (own_trace (words text)) e))
+alone_by None line r e = untraced_alone line r e
+
+pub script_alone : (line : List ℕ) (r : Request) → Script r ≡ simple_request line → r ≡ request_of (untraced_line line)
+unfolding simple_request
+script_alone line r e = alone_by (text_behind (codes "TRACE ") line) line r e
+
+pub script_itself : (line : List ℕ) (r : Request) → Script r ≡ simple_request line
+    → Script (request_of (untraced_line line)) ≡ simple_request line
 script_itself line r e = ap Script (sym (script_alone line r e)) ∙ e

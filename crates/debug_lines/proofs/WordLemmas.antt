@@ -1,8 +1,7 @@
 -- Lines and names of many parts.
-use Rattle.std.proofs.Common.{◌≡◌, ◌<◌, ℕ, List, [], ◌∷◌, length, ap, ◌∙◌, arith, refl, Option, None}
+use Rattle.std.proofs.Common.{◌≡◌, ◌<◌, ℕ, List, [], ◌∷◌, length, ap, ◌∙◌, arith, refl, None}
 use Rattle.std.specs.Prelude.{◌==◌}
 use Rattle.std.specs.List.{slice_split}
-use Rattle.arm_core.specs.declared.psr.Mode.{Mode}
 use Rattle.text_lines.proofs.LineLemmas.{some_part}
 use Rattle.debug_lines.specs.Registers.{register_in_bank_of_parts}
 

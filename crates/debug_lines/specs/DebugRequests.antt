@@ -12,7 +12,9 @@ use Rattle.debug_lines.specs.declared.requests.DebugCommand.TheVariants as comma
 use Rattle.debug_lines.specs.declared.requests.DebugView.{DebugView}
 use Rattle.debug_lines.specs.declared.requests.DebugView.TheVariants as view
 use Rattle.debug_lines.specs.Expectations.{ExpectRequest, expect_request, expect_request_of, text_behind}
+use Rattle.debug_lines.specs.ModeRequests.{ModeRequest, Trace, TraceLimit, mode_of_two, mode_request_of, stub_request}
 use Rattle.debug_lines.specs.Status.{status_of_word, status_of_two}
+use Rattle.debug_lines.specs.SteppingRequests.{SteppingRequest, Step, Finish, Gosub, stepping_in, stepping_request_of}
 use Rattle.debug_lines.specs.Tidy.{tidied_line}
 
 -- what only looks
@@ -22,15 +24,21 @@ pub data ViewRequest : Type 0 where
   Banks : ViewRequest
   Stack : ℕ → ViewRequest
   Frames : ViewRequest
+  Labels : ViewRequest
   Help : ViewRequest
 
 pub data DebugRequest : Type 0 where
   -- what a line of a script asks for
   Script : Request → DebugRequest
+  -- steps, and whether they are told one by one; of a script's own lines only where they are
+  Stepping : Bool → SteppingRequest → DebugRequest
+  Mode : ModeRequest → DebugRequest
   Remark : DebugRequest
   View : ViewRequest → DebugRequest
   SetPc : ℕ → DebugRequest
   SetPsr : StatusPattern → DebugRequest
+  -- an image's bytes to an address
+  Put : List ℕ → ℕ → DebugRequest
   Forget : List ℕ → DebugRequest
   Reset : DebugRequest
   Quit : DebugRequest
@@ -61,10 +69,12 @@ own_request_of_word word =
     if is_same_word word (codes "BANKS") then View Banks else (
     if is_same_word word (codes "STACK") then View (Stack 8) else (
     if is_frames_word word then View Frames else (
+    if is_same_word word (codes "LABELS") then View Labels else (
+    if is_same_word word (codes "FINISH") then Stepping false Finish else (
     if is_same_word word (codes "RESET") then Reset else (
     if is_same_word word (codes "HELP") then View Help else (
     if is_same_word word (codes "QUIT") then Quit else
-    NotKnown))))))
+    NotKnown))))))))
 
 abbrev pub stack_of : Option ℕ → DebugRequest
 stack_of (Some count) = View (Stack count)
@@ -74,12 +84,21 @@ abbrev pub forget_if_named : Bool → List ℕ → DebugRequest
 forget_if_named true name = Forget name
 forget_if_named false name = NotKnown
 
+abbrev pub gosub_to : Option ℕ → DebugRequest
+gosub_to (Some address) = Stepping false (Gosub address)
+gosub_to None = NotKnown
+
+abbrev pub mode_line : Option ModeRequest → DebugRequest
+mode_line (Some request) = Mode request
+mode_line None = NotKnown
+
 -- a line of two words
 abbrev pub own_request_of_two : List ℕ → List ℕ → DebugRequest
 own_request_of_two word other =
     if is_same_word word (codes "STACK") then stack_of (count_up_to 1024 other) else (
-    if is_same_word word (codes "FORGET") then forget_if_named (can_name_image other) other else
-    NotKnown)
+    if is_same_word word (codes "FORGET") then forget_if_named (can_name_image other) other else (
+    if is_same_word word (codes "GOSUB") then gosub_to (origin_of other) else
+    mode_line (mode_of_two word other)))
 
 abbrev pub words_at : Option ℕ → Option ℕ → DebugRequest
 words_at (Some address) (Some count) = View (Words address count)
@@ -100,12 +119,18 @@ set_request what value =
     if is_same_word what (codes "PSR") then set_psr_to (status_of_word value) else
     NotKnown)
 
+abbrev pub put_at : Bool → List ℕ → Option ℕ → DebugRequest
+put_at true name (Some address) = Put name address
+put_at true name None = NotKnown
+put_at false name address = NotKnown
+
 -- a line of three words
 abbrev pub own_request_of_three : List ℕ → List ℕ → List ℕ → DebugRequest
 own_request_of_three word first second =
     if is_same_word word (codes "WORDS") then words_at (word_address first) (count_up_to 1024 second) else (
-    if is_same_word word (codes "SET") then set_request first second else
-    NotKnown)
+    if is_same_word word (codes "SET") then set_request first second else (
+    if is_same_word word (codes "PUT") then put_at (can_name_image first) first (script_number second) else
+    NotKnown))
 
 abbrev pub set_psr_of_two : List ℕ → List ℕ → List ℕ → DebugRequest
 set_psr_of_two what letters mode =
@@ -127,17 +152,18 @@ abbrev pub expect_line : Option ExpectRequest → DebugRequest
 expect_line (Some expected) = Expect expected
 expect_line None = NotKnown
 
--- EXPECT reads what follows for itself.
-abbrev pub own_request_behind : Option (List ℕ) → List ℕ → DebugRequest
-own_request_behind (Some expected) line = expect_line (expect_request expected)
-own_request_behind None line = own_request_of_words (words line)
+-- EXPECT and STUB read what follows for themselves.
+abbrev pub own_request_behind : Option (List ℕ) → Option (List ℕ) → List ℕ → DebugRequest
+own_request_behind (Some expected) stub line = expect_line (expect_request expected)
+own_request_behind None (Some stub) line = mode_line (stub_request stub)
+own_request_behind None None line = own_request_of_words (words line)
 
--- what a tidy line asks for that is no REPEAT
-unfoldable pub simple_request : List ℕ → DebugRequest
-simple_request line =
+-- what a tidy line asks for that is neither a REPEAT nor a TRACE
+unfoldable pub untraced_request : List ℕ → DebugRequest
+untraced_request line =
     if is_remark line then Remark else (
     if is_script_request (request_of line) then Script (request_of line) else
-    own_request_behind (text_behind (codes "EXPECT ") line) line)
+    own_request_behind (text_behind (codes "EXPECT ") line) (text_behind (codes "STUB ") line) line)
 
 -- whether the lines that follow are a block of the line's own
 abbrev pub debug_opens_block : DebugRequest → Bool
@@ -151,6 +177,66 @@ is_repeatable Remark = false
 is_repeatable NotKnown = false
 is_repeatable (Repeat count line) = false
 is_repeatable _ = true
+
+-- A line that takes steps has them told behind TRACE; another that may stand there asks for what it
+-- asks for without it.
+abbrev pub traced_script : Option SteppingRequest → DebugRequest → DebugRequest
+traced_script (Some request) other = Stepping true request
+traced_script None other = if is_repeatable other then other else NotKnown
+
+abbrev pub traced_request : DebugRequest → DebugRequest
+traced_request (Script request) = traced_script (stepping_in request) (Script request)
+traced_request (Stepping is_traced request) = Stepping true request
+traced_request other = if is_repeatable other then other else NotKnown
+
+abbrev pub trace_step : Option ℕ → Option DebugRequest
+trace_step (Some count) = Some (Stepping true (Step count))
+trace_step None = None
+
+-- TRACE ON, TRACE OFF, TRACE n
+abbrev pub trace_of_word : List ℕ → Option DebugRequest
+trace_of_word word =
+    if is_same_word word (codes "ON") then Some (Mode (Trace true)) else (
+    if is_same_word word (codes "OFF") then Some (Mode (Trace false)) else
+    trace_step (script_number word))
+
+abbrev pub trace_limit : Option ℕ → Option DebugRequest
+trace_limit (Some limit) = Some (Mode (TraceLimit limit))
+trace_limit None = None
+
+-- TRACE LIMIT n
+abbrev pub trace_of_two : List ℕ → List ℕ → Option DebugRequest
+trace_of_two word limit =
+    if is_same_word word (codes "LIMIT") then trace_limit (script_number limit) else None
+
+abbrev pub trace_of_words : List (List ℕ) → Option DebugRequest
+trace_of_words (word ∷ []) = trace_of_word word
+trace_of_words (word ∷ other ∷ []) = trace_of_two word other
+trace_of_words _ = None
+
+abbrev pub trace_of_own : Option DebugRequest → DebugRequest → DebugRequest
+trace_of_own (Some own) other = own
+trace_of_own None other = traced_request other
+
+-- what a line asks for by what stands behind the word TRACE
+abbrev pub trace_request : List ℕ → DebugRequest
+trace_request text = trace_of_own (trace_of_words (words text)) (untraced_request text)
+
+abbrev pub simple_request_behind : Option (List ℕ) → List ℕ → DebugRequest
+simple_request_behind (Some text) line = trace_request text
+simple_request_behind None line = untraced_request line
+
+-- what a tidy line asks for that is no REPEAT
+unfoldable pub simple_request : List ℕ → DebugRequest
+simple_request line = simple_request_behind (text_behind (codes "TRACE ") line) line
+
+abbrev pub line_behind_trace : Option (List ℕ) → List ℕ → List ℕ
+line_behind_trace (Some text) line = text
+line_behind_trace None line = line
+
+-- a line without the word TRACE before it
+abbrev pub untraced_line : List ℕ → List ℕ
+untraced_line line = line_behind_trace (text_behind (codes "TRACE ") line) line
 
 abbrev pub repeated_if : Option ℕ → List ℕ → Option (ℕ × List ℕ)
 repeated_if (Some count) line =
@@ -194,14 +280,18 @@ view_request_of view.Where = Where
 view_request_of view.Banks = Banks
 view_request_of (view.Stack count) = Stack count
 view_request_of view.Frames = Frames
+view_request_of view.Labels = Labels
 view_request_of view.Help = Help
 
 abbrev pub debug_request_of_command : DebugCommand → DebugRequest
 debug_request_of_command (command.Script known) = Script (request_of_command known)
+debug_request_of_command (command.Stepping is_traced request) = Stepping is_traced (stepping_request_of request)
+debug_request_of_command (command.Mode request) = Mode (mode_request_of request)
 debug_request_of_command command.Remark = Remark
 debug_request_of_command (command.View shown) = View (view_request_of shown)
 debug_request_of_command (command.SetPc address) = SetPc address
 debug_request_of_command (command.SetPsr pattern) = SetPsr pattern
+debug_request_of_command (command.Put name address) = Put name.now address
 debug_request_of_command (command.Forget name) = Forget name.now
 debug_request_of_command command.Reset = Reset
 debug_request_of_command command.Quit = Quit

@@ -6,9 +6,11 @@ pub mod DebugRequests
 pub mod ErrorNumbers
 pub mod Expectations
 pub mod FewWords
+pub mod ModeRequests
 pub mod Registers
 pub mod Repeats
 pub mod Spelling
 pub mod Status
+pub mod SteppingRequests
 pub mod Tidy
 pub mod WholeDebugRequests

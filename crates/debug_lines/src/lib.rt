@@ -6,20 +6,30 @@ mod block_ends;
 mod error_names;
 mod expectations;
 mod few_words;
+mod modes;
 mod registers;
 mod repeats;
 mod requests;
 mod spelling;
 mod status;
+mod stepping;
+#[cfg(test)]
+mod tests;
 mod tidy;
+mod tracing;
 mod whole_requests;
 
 pub use block_ends::missing_ends;
 pub use command_shell_lines;
 pub use expectations::Expectation;
-pub use repeats::{RepeatedLine, is_own_line, repeated_line};
-pub use requests::{DebugCommand, DebugView, is_script_line, simple_command};
+pub use modes::{MOST_STUB_SETTINGS, ModeCommand, StubSetting};
+pub use repeats::{
+    RepeatedLine, is_known_line, is_own_line, is_repeatable_line, repeated_line, repeated_text,
+};
+pub use requests::{DebugCommand, DebugView, is_script_line};
 pub use spelling::is_spelt;
 pub use status::StatusPattern;
+pub use stepping::{SteppingCommand, stepping_in};
 pub use tidy::tidied;
+pub use tracing::{simple_command, untraced_line};
 pub use whole_requests::whole_debug_request_bytes;

@@ -5,10 +5,11 @@ ghost use Rattle.std.specs.List.{position};
 ghost use Rattle.command_shell_lines.specs.Numbers.{script_number};
 ghost use Rattle.debug_lines.specs.DebugRequests.{debug_opens_block, is_known, is_repeatable, own_request};
 ghost use Rattle.debug_lines.specs.DebugRequests.{repeated_at, repeated_if, repeated_line, simple_request};
-ghost use Rattle.debug_lines.specs.Repeats.{count_and_line};
+ghost use Rattle.debug_lines.specs.Repeats.{count_and_line, counted_text, counted_text_at, repeated_text};
 
 use crate::expectations::text_behind;
-use crate::requests::{DebugCommand, opens_simple_block, simple_command};
+use crate::requests::DebugCommand;
+use crate::tracing::{is_repeatable, opens_simple_block, simple_command};
 use command_shell_lines::number_of;
 
 /// A tidy line, and how often it is to be answered.
@@ -16,11 +17,12 @@ use command_shell_lines::number_of;
 pub struct RepeatedLine<'a> {
     /// How often, once at least.
     pub count: u32,
-    /// The line. It asks for something, opens no block, and is no REPEAT.
+    /// The line.
     pub line: &'a [u8],
 }
 
-/// What is repeated, and how often, of a tidy line `REPEAT n line`.
+/// What is repeated, and how often, of a tidy line `REPEAT n line`, where the line asks for something,
+/// opens no block, and is no REPEAT.
 #[tactic(auto, unfolding(crate::specs::DebugRequests::repeated_line))]
 pub fn repeated_line(tidied: &[u8]) -> Option<RepeatedLine<'_>>
     ensures told { option_map count_and_line result ≡ repeated_line tidied.now }
@@ -55,19 +57,42 @@ fn repeated_if(count: Option<u32>, line: &[u8]) -> Option<RepeatedLine<'_>>
     ensures alone { IfSome result (λ repeated. is_repeatable (simple_request repeated.line.now) ≡ true) }
 {
     match count {
-        Some(count) if count > 0 && is_repeatable(line) => Some(RepeatedLine { count, line }),
+        Some(count) if count > 0 && is_repeatable(&simple_command(line)) => Some(RepeatedLine {
+            count,
+            line,
+        }),
         _ => None,
     }
 }
 
-// Whether a tidy line asks for something, and opens no block.
-fn is_repeatable(line: &[u8]) -> bool
-    ensures { result ≡ is_repeatable (simple_request line.now) }
+/// What stands behind `REPEAT n` of a tidy line, and how often, from once on, whatever it asks for.
+#[tactic(auto, unfolding(crate::specs::Repeats::repeated_text))]
+pub fn repeated_text(tidied: &[u8]) -> Option<RepeatedLine<'_>>
+    ensures { option_map count_and_line result ≡ repeated_text tidied.now }
 {
-    match simple_command(line) {
-        DebugCommand::Script(command) => !command.opens_block(),
-        DebugCommand::Remark | DebugCommand::Unknown => false,
-        _ => true,
+    match text_behind(b"REPEAT ", tidied) {
+        Some(text) => counted_text(text),
+        None => None,
+    }
+}
+
+// A number from 1 on, a space and a text.
+fn counted_text(text: &[u8]) -> Option<RepeatedLine<'_>>
+    ensures { option_map count_and_line result
+        ≡ counted_text_at (position (λ b. b == 32) text.now) text.now }
+{
+    match space_in(text) {
+        Some(place) => counted_if(number_of(&text[..place]), &text[place + 1..]),
+        None => None,
+    }
+}
+
+fn counted_if(count: Option<u32>, line: &[u8]) -> Option<RepeatedLine<'_>>
+    ensures { option_map count_and_line result ≡ counted_text count line.now }
+{
+    match count {
+        Some(count) if count > 0 => Some(RepeatedLine { count, line }),
+        _ => None,
     }
 }
 
@@ -81,9 +106,23 @@ pub(crate) fn opens_own_block(tidied: &[u8]) -> bool
     }
 }
 
+/// Whether a tidy line asks for something, opens no block, and is no REPEAT.
+pub fn is_repeatable_line(tidied: &[u8]) -> bool
+    ensures { result ≡ is_repeatable (simple_request tidied.now) }
+{
+    is_repeatable(&simple_command(tidied))
+}
+
+/// Whether a tidy line that is no REPEAT means something.
+pub fn is_known_line(tidied: &[u8]) -> bool
+    ensures { result ≡ is_known (simple_request tidied.now) }
+{
+    !matches!(simple_command(tidied), DebugCommand::Unknown)
+}
+
 /// Whether a tidy line means something.
 pub fn is_own_line(tidied: &[u8]) -> bool
     ensures { result ≡ is_known (own_request tidied.now) }
 {
-    repeated_line(tidied).is_some() || !matches!(simple_command(tidied), DebugCommand::Unknown)
+    repeated_line(tidied).is_some() || is_known_line(tidied)
 }

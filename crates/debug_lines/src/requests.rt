@@ -1,18 +1,22 @@
 //! What each line of a debugging script asks for.
 
-ghost use Rattle.std.specs.Prelude.{◌≡◌};
-ghost use Rattle.command_shell_lines.specs.Operands.{word_address, count_up_to};
+ghost use Rattle.std.specs.Prelude.{◌≡◌, option_map};
+ghost use Rattle.command_shell_lines.specs.Numbers.{script_number};
+ghost use Rattle.command_shell_lines.specs.Operands.{word_address, count_up_to, origin_of};
 ghost use Rattle.command_shell_lines.specs.Requests.{request_of, request_of_command, words};
 ghost use Rattle.image_loader.specs.Entries.{can_name_image};
-ghost use Rattle.debug_lines.specs.DebugRequests.{is_script_request, is_remark, simple_request, debug_opens_block, expect_line, own_request_of_words};
+ghost use Rattle.debug_lines.specs.DebugRequests.{is_script_request, is_remark, untraced_request, expect_line, own_request_of_words};
 ghost use Rattle.debug_lines.specs.DebugRequests.{forget_if_named, is_frames_word, own_request_of_word, own_request_of_two, own_request_of_three, own_request_of_four};
-ghost use Rattle.debug_lines.specs.DebugRequests.{stack_of, words_at, set_request, set_psr_to, debug_request_of_command};
+ghost use Rattle.debug_lines.specs.DebugRequests.{gosub_to, mode_line, put_at, stack_of, words_at, set_request, set_psr_to, debug_request_of_command};
 ghost use Rattle.debug_lines.specs.Expectations.{expect_request};
+ghost use Rattle.debug_lines.specs.ModeRequests.{mode_request_of};
 
 use crate::expectations::{Expectation, expectation_of, text_behind};
 use crate::few_words::{FewWords, few_words, has_letters};
+use crate::modes::{ModeCommand, mode_of_two, stub_command};
 use crate::status::StatusPattern;
-use command_shell_lines::{Origin, ScriptCommand, WordAddress, command_of, count_up_to};
+use crate::stepping::SteppingCommand;
+use command_shell_lines::{Origin, ScriptCommand, WordAddress, command_of, count_up_to, number_of};
 use image_loader::is_image_name;
 
 /// The most words that a line shows.
@@ -34,15 +38,22 @@ pub enum DebugView {
     Stack(u32),
     /// `FRAMES`, `BACKTRACE` or `BT`.
     Frames,
+    /// `LABELS`.
+    Labels,
     /// `HELP`.
     Help,
 }
 
 /// What a line of a debugging script asks for.
-#[derive(Clone, Copy, Debug)]
+#[derive(Drop)]
 pub enum DebugCommand<'a> {
     /// A line of a script, as it stands or made tidy.
     Script(ScriptCommand<'a>),
+    /// A line that takes steps, and whether they are told one by one: FINISH and GOSUB, and behind
+    /// TRACE the lines of a script too. `TRACE n` is `TRACE STEP n`.
+    Stepping(bool, SteppingCommand<'a>),
+    /// A line that changes how later lines are answered.
+    Mode(ModeCommand),
     /// An empty line, or one that begins with `#`.
     Remark,
     /// A line that only looks.
@@ -51,6 +62,8 @@ pub enum DebugCommand<'a> {
     SetPc(Origin),
     /// `SET PSR letters mode`, `SET PSR letters` or `SET PSR mode`.
     SetPsr(StatusPattern),
+    /// `PUT name a`, with a name that an image can have.
+    Put(&'a [u8], u32),
     /// `FORGET name`, with a name that an image can have.
     Forget(&'a [u8]),
     /// `RESET`.
@@ -85,10 +98,10 @@ pub fn is_script_line(line: &[u8]) -> bool
     is_known(&command_of(line))
 }
 
-/// What a tidy line asks for that is no REPEAT.
-#[tactic(auto, unfolding(crate::specs::DebugRequests::simple_request))]
-pub fn simple_command(tidied: &[u8]) -> DebugCommand<'_>
-    ensures { debug_request_of_command result ≡ simple_request tidied.now }
+/// What a tidy line asks for that is neither a REPEAT nor a TRACE.
+#[tactic(auto, unfolding(crate::specs::DebugRequests::untraced_request))]
+pub(crate) fn untraced_command(tidied: &[u8]) -> DebugCommand<'_>
+    ensures { debug_request_of_command result ≡ untraced_request tidied.now }
 {
     if is_remark(tidied) {
         return DebugCommand::Remark;
@@ -97,19 +110,12 @@ pub fn simple_command(tidied: &[u8]) -> DebugCommand<'_>
     if is_known(&command) {
         return DebugCommand::Script(command);
     }
-    match text_behind(b"EXPECT ", tidied) {
-        Some(text) => expect_command(text),
-        None => command_of_words(tidied),
-    }
-}
-
-/// Whether the lines that follow a tidy line that is no REPEAT are a block of its own.
-pub(crate) fn opens_simple_block(tidied: &[u8]) -> bool
-    ensures { result ≡ debug_opens_block (simple_request tidied.now) }
-{
-    match simple_command(tidied) {
-        DebugCommand::Script(known) => known.opens_block(),
-        _ => false,
+    if let Some(text) = text_behind(b"EXPECT ", tidied) {
+        expect_command(text)
+    } else if let Some(text) = text_behind(b"STUB ", tidied) {
+        mode_command(stub_command(text))
+    } else {
+        command_of_words(tidied)
     }
 }
 
@@ -134,6 +140,16 @@ fn expect_command(text: &[u8]) -> DebugCommand<'_>
 {
     match expectation_of(text) {
         Some(expectation) => DebugCommand::Expect(expectation),
+        None => DebugCommand::Unknown,
+    }
+}
+
+// A line that changes a mode, if it is one.
+fn mode_command(command: Option<ModeCommand>) -> DebugCommand<'static>
+    ensures { debug_request_of_command result ≡ mode_line (option_map mode_request_of command) }
+{
+    match command {
+        Some(command) => DebugCommand::Mode(command),
         None => DebugCommand::Unknown,
     }
 }
@@ -163,6 +179,10 @@ fn command_of_word(word: &[u8]) -> DebugCommand<'static>
         DebugCommand::View(DebugView::Stack(STACK_WORDS))
     } else if is_frames_word(word) {
         DebugCommand::View(DebugView::Frames)
+    } else if has_letters(word, b"LABELS") {
+        DebugCommand::View(DebugView::Labels)
+    } else if has_letters(word, b"FINISH") {
+        DebugCommand::Stepping(false, SteppingCommand::Finish)
     } else if has_letters(word, b"RESET") {
         DebugCommand::Reset
     } else if has_letters(word, b"HELP") {
@@ -187,8 +207,10 @@ fn command_of_two<'a>(word: &[u8], other: &'a [u8]) -> DebugCommand<'a>
         stack_command(other)
     } else if has_letters(word, b"FORGET") {
         forget_command(other)
+    } else if has_letters(word, b"GOSUB") {
+        gosub_command(other)
     } else {
-        DebugCommand::Unknown
+        mode_command(mode_of_two(word, other))
     }
 }
 
@@ -211,15 +233,36 @@ fn forget_command(name: &[u8]) -> DebugCommand<'_>
     }
 }
 
-fn command_of_three(word: &[u8], first: &[u8], second: &[u8]) -> DebugCommand<'static>
+fn gosub_command(address: &[u8]) -> DebugCommand<'static>
+    ensures { debug_request_of_command result ≡ gosub_to (origin_of address.now) }
+{
+    match Origin::spelled(address) {
+        Some(address) => DebugCommand::Stepping(false, SteppingCommand::Gosub(address)),
+        None => DebugCommand::Unknown,
+    }
+}
+
+fn command_of_three<'a>(word: &[u8], first: &'a [u8], second: &[u8]) -> DebugCommand<'a>
     ensures { debug_request_of_command result ≡ own_request_of_three word.now first.now second.now }
 {
     if has_letters(word, b"WORDS") {
         words_command(first, second)
     } else if has_letters(word, b"SET") {
         set_command(first, second)
+    } else if has_letters(word, b"PUT") {
+        put_command(first, second)
     } else {
         DebugCommand::Unknown
+    }
+}
+
+fn put_command<'a>(name: &'a [u8], address: &[u8]) -> DebugCommand<'a>
+    ensures { debug_request_of_command result
+        ≡ put_at (can_name_image name.now) name.now (script_number address.now) }
+{
+    match number_of(address) {
+        Some(address) if is_image_name(name) => DebugCommand::Put(name, address),
+        _ => DebugCommand::Unknown,
     }
 }
 

@@ -1,0 +1,43 @@
+-- By the lemmas on what a table's call leaves.
+use Rattle.std.proofs.Common.{◌≡◌, ℕ, Ok, Err, ap, subst, ◌∙◌}
+use Rattle.std.specs.Prelude.{codes}
+use Rattle.profile.specs.Outcome.{Leaves}
+use Rattle.swi_dispatch_guest.specs.Parts.{state_of}
+use Rattle.debug_modes.specs.Changes.{change_text, stub_number, stub_with}
+use Rattle.debug_runs.specs.Stubs.{with_stub}
+use Rattle.debug_runs.specs.declared.stubs.Stub.{Stub}
+use Rattle.debug_modes.proofs.ChangeLemmas.{on_err, stubs_changed, stubs_refused_if, stubs_stay}
+use Rattle.debug_modes.proofs.modes.DebugModes.add_stub.Goals as goal
+
+pub returns-in-Ok-clause-told : goal.returns-in-Ok-clause-told
+returns-in-Ok-clause-told c =
+    let number : c.stub_number-number.result ≡ stub_number c.args.number = c.stub_number-number.ensures in
+    let stub : c.stub_with.result ≡ stub_with (stub_number c.args.number) c.args.settings.now =
+    c.stub_with.ensures ∙ ap (λ (n : ℕ). stub_with n c.args.settings.now) number in
+    stubs_changed c.args.self.now (change_text (codes "stub") (stub_number c.args.number))
+    (with_stub (state_of c.args.machine.now.guest) c.args.self.now.steps.stubs
+    (stub_with (stub_number c.args.number) c.args.settings.now)) c.in-Ok.field-0 c.add.new.self c.in_ok-text.text.items
+    (subst (λ (x : Stub). Leaves {U = Unit {0}} c.args.self.now.steps.stubs
+    (with_stub (state_of c.args.machine.now.guest) c.args.self.now.steps.stubs x) (Ok c.in-Ok.field-0) c.add.new.self)
+    stub c.in-Ok.ensures)
+    (c.in_ok-text.ensures ∙ ap (change_text (codes "stub")) number)
+
+pub returns-in-Err-clause-told : goal.returns-in-Err-clause-told
+returns-in-Err-clause-told c =
+    let number : c.stub_number-number.result ≡ stub_number c.args.number = c.stub_number-number.ensures in
+    let stub : c.stub_with.result ≡ stub_with (stub_number c.args.number) c.args.settings.now =
+    c.stub_with.ensures ∙ ap (λ (n : ℕ). stub_with n c.args.settings.now) number in
+    stubs_refused_if c.args.self.now (change_text (codes "stub") (stub_number c.args.number))
+    (with_stub (state_of c.args.machine.now.guest) c.args.self.now.steps.stubs
+    (stub_with (stub_number c.args.number) c.args.settings.now)) c.in-Err.error c.add.new.self c.refused_line.result
+    c.name.result.now
+    (subst (λ (x : Stub). Leaves {U = Unit {0}} c.args.self.now.steps.stubs
+    (with_stub (state_of c.args.machine.now.guest) c.args.self.now.steps.stubs x) (Err c.in-Err.error) c.add.new.self)
+    stub c.in-Err.ensures)
+    c.name.ensures c.refused_line.ensures
+
+pub returns-in-Err-clause-same : goal.returns-in-Err-clause-same
+returns-in-Err-clause-same c =
+    on_err c.refused_line.result (stubs_stay c.args.self.now
+    (with_stub (state_of c.args.machine.now.guest) c.args.self.now.steps.stubs c.stub_with.result) c.in-Err.error c.add.new.self
+    c.in-Err.ensures)

@@ -1,0 +1,99 @@
+-- The lines that change modes: what they leave, and how they are answered. A refusal leaves all modes
+-- as they were.
+use Rattle.std.specs.Prelude.{◌≡◌, ℕ, Bool, true, false, ◌%◌, ◌^◌, ◌++◌, List, map, codes, Result, Ok, Err}
+use Rattle.std.specs.Fmt.{decimal}
+use Rattle.command_shell.specs.Answers.{at_address_text, refused_text}
+use Rattle.debug_lines.specs.ModeRequests.{ModeRequest, Trace, TraceLimit, Unstub, Unwatch}
+use Rattle.debug_lines.specs.ModeRequests as request
+use Rattle.debug_lines.specs.declared.modes.StubSetting.{StubSetting}
+use Rattle.debug_modes.specs.declared.modes.DebugModes.{DebugModes}
+use Rattle.debug_runs.specs.StubNames.{stub_error_name}
+use Rattle.debug_runs.specs.Stubs.{with_stub, without_stub}
+use Rattle.debug_runs.specs.WordWatches.{watch_error_name, with_word_watch, without_word_watch}
+use Rattle.debug_runs.specs.declared.stubs.Stub.{Stub}
+use Rattle.debug_runs.specs.declared.stubs.StubError.{StubError}
+use Rattle.debug_runs.specs.declared.stubs.StubRegister.{StubRegister}
+use Rattle.debug_runs.specs.declared.watches.WordWatchError.{WordWatchError}
+use Rattle.swi_dispatch_guest.specs.MachineState.{MachineState}
+use Rattle.swi_dispatch_guest.specs.Step.{without_x}
+
+-- the modes after a line, and its answer
+pub record ModeTold : Type 0 where
+  pub modes : DebugModes
+  pub text : List ℕ
+
+-- a line left this
+pub record IsModeTold (t : ModeTold) (modes : DebugModes) (text : List ℕ) : Type 0 where
+  pub state : modes ≡ t.modes
+  pub answer : text ≡ t.text
+
+-- `stub &6`, and the like
+abbrev pub change_text : List ℕ → ℕ → List ℕ
+change_text word address = word ++ (at_address_text address ++ codes "\n")
+
+abbrev pub refused_in : DebugModes → List ℕ → ModeTold
+refused_in m reason = record { modes = m; text = refused_text reason }
+
+-- TRACE ON, TRACE OFF
+abbrev pub trace_text : Bool → List ℕ
+trace_text true = codes "trace on\n"
+trace_text false = codes "trace off\n"
+
+abbrev pub trace_line_told : DebugModes → Bool → ModeTold
+trace_line_told m is_on = record { modes = record m { is_tracing = is_on }; text = trace_text is_on }
+
+-- TRACE LIMIT
+abbrev pub limit_text : ℕ → List ℕ
+limit_text limit = codes "trace limit " ++ (decimal limit ++ codes "\n")
+
+abbrev pub limit_line_told : DebugModes → ℕ → ModeTold
+limit_line_told m limit = record { modes = record m { limit = limit }; text = limit_text limit }
+
+-- a SWI's number as CALL takes it, without its X bit
+abbrev pub stub_number : ℕ → ℕ
+stub_number number = without_x (number % 2 ^ 24)
+
+-- STUB
+abbrev pub stub_register_of : StubSetting → StubRegister
+stub_register_of setting = record { register = setting.register; value = setting.value }
+
+abbrev pub stub_with : ℕ → List StubSetting → Stub
+stub_with number settings =
+    record { number = number; registers = record { items = map stub_register_of settings } }
+
+abbrev pub stubs_told : DebugModes → List ℕ → Result (List Stub) StubError → ModeTold
+stubs_told m text (Ok stubs) =
+    record { modes = record m { steps = record m.steps { stubs = stubs } }; text = text }
+stubs_told m text (Err e) = refused_in m (stub_error_name e)
+
+abbrev pub stub_line_told : MachineState → DebugModes → ℕ → List StubSetting → ModeTold
+stub_line_told s m number settings = stubs_told m (change_text (codes "stub") (stub_number number))
+    (with_stub s m.steps.stubs (stub_with (stub_number number) settings))
+
+-- UNSTUB
+abbrev pub unstub_line_told : DebugModes → ℕ → ModeTold
+unstub_line_told m number = stubs_told m (change_text (codes "unstub") (stub_number number))
+    (without_stub m.steps.stubs (stub_number number))
+
+-- WATCH
+abbrev pub watches_told : DebugModes → List ℕ → Result (List ℕ) WordWatchError → ModeTold
+watches_told m text (Ok watches) =
+    record { modes = record m { steps = record m.steps { watches = watches } }; text = text }
+watches_told m text (Err e) = refused_in m (watch_error_name e)
+
+abbrev pub watch_line_told : DebugModes → ℕ → ModeTold
+watch_line_told m address = watches_told m (change_text (codes "watch") address) (with_word_watch m.steps.watches address)
+
+-- UNWATCH
+abbrev pub unwatch_line_told : DebugModes → ℕ → ModeTold
+unwatch_line_told m address =
+    watches_told m (change_text (codes "unwatch") address) (without_word_watch m.steps.watches address)
+
+-- a line that changes modes, on a machine
+abbrev pub mode_told : MachineState → DebugModes → ModeRequest → ModeTold
+mode_told s m (Trace is_on) = trace_line_told m is_on
+mode_told s m (TraceLimit limit) = limit_line_told m limit
+mode_told s m (request.Stub number settings) = stub_line_told s m number settings
+mode_told s m (Unstub number) = unstub_line_told m number
+mode_told s m (request.Watch address) = watch_line_told m address
+mode_told s m (Unwatch address) = unwatch_line_told m address

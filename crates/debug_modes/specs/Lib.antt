@@ -1,0 +1,6 @@
+-- The modes of a debugger, and the lines that change them or are told in them. Begin with Modes.
+pub use Rattle.debug_lines
+pub use Rattle.debug_runs
+pub mod Changes
+pub mod Modes
+pub mod Stepping

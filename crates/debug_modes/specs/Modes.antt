@@ -1,0 +1,16 @@
+-- The modes of a debugger, by which lines that take steps are answered.
+use Rattle.std.specs.Prelude.{ℕ, Bool, false, not, ◌||◌, [], Option, Some, None, if◌then◌else◌}
+use Rattle.debug_modes.specs.declared.modes.DebugModes.{DebugModes}
+use Rattle.debug_runs.specs.Modes.{are_plain}
+
+-- as a debugger begins
+abbrev pub no_modes : DebugModes
+no_modes = record { steps = record { stubs = []; watches = [] }; is_tracing = false; limit = 1000 }
+
+-- whether the lines of a script that take steps are answered otherwise than in a script
+abbrev pub takes_over : DebugModes → Bool
+takes_over m = m.is_tracing || not (are_plain m.steps)
+
+-- how many steps of a line are told, where they are
+abbrev pub told_of_line : DebugModes → Bool → Option ℕ
+told_of_line m is_traced = if is_traced || m.is_tracing then Some m.limit else None

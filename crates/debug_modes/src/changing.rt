@@ -1,0 +1,132 @@
+//! The lines that change modes.
+
+ghost use Rattle.std.specs.Prelude.{◌≡◌, ◌≤◌, IfOk, OnErr, length};
+ghost use Rattle.debug_lines.specs.ModeRequests.{mode_request_of};
+ghost use Rattle.debug_modes.specs.Changes.{IsModeTold, limit_line_told, mode_told, stub_line_told, trace_line_told, unstub_line_told};
+ghost use Rattle.debug_modes.specs.Changes.{unwatch_line_told, watch_line_told};
+ghost use Rattle.swi_dispatch_guest.specs.Parts.{state_of};
+
+use crate::answers::{at_line, limit_line, refused_line};
+use crate::modes::DebugModes;
+use crate::stub_lines::{stub_number, stub_with};
+use command_shell_lines::WordAddress;
+use debug_lines::{ModeCommand, StubSetting};
+use debugger::swi_dispatch::Machine;
+use std::alloc::{AllocError, Global};
+
+impl DebugModes {
+    /// Changes what a line asks for, and answers with the line's answer. Where that is a refusal all
+    /// modes stay:
+    ///
+    /// - `refused Known`: the machine has the call of a stub, of its own or of a module's.
+    /// - `refused StubTableFull`: there are 16 other stubs.
+    /// - `refused NoStub`: there is no stub of that number.
+    /// - `refused WatchTableFull`: 4 other words are watched.
+    /// - `refused NoWatch`: the word is not watched.
+    ///
+    /// A stub's number goes without its X bit, and below 2^24, as CALL takes it.
+    ///
+    /// # Errors
+    ///
+    /// `AllocError` where the host has no memory for the answer; the modes stay then.
+    pub fn change(
+        &mut self,
+        alloc: Global,
+        machine: &Machine,
+        command: &ModeCommand,
+    ) -> Result<Vec<u8>, AllocError>
+        ensures told { IfOk result (λ text. IsModeTold
+            (mode_told (state_of machine.now.guest) self.old (mode_request_of command.now))
+            self.new text.items) }
+        ensures same { OnErr result (self.new ≡ self.old) }
+    {
+        match command {
+            ModeCommand::Trace(is_on) => self.trace(alloc, *is_on),
+            ModeCommand::TraceLimit(limit) => self.set_limit(alloc, *limit),
+            ModeCommand::Stub(number, settings) => {
+                self.add_stub(alloc, machine, *number, settings.as_slice())
+            }
+            ModeCommand::Unstub(number) => self.remove_stub(alloc, *number),
+            ModeCommand::Watch(address) => self.add_watch(alloc, *address),
+            ModeCommand::Unwatch(address) => self.remove_watch(alloc, *address),
+        }
+    }
+
+    fn trace(&mut self, alloc: Global, is_on: bool) -> Result<Vec<u8>, AllocError>
+        ensures told { IfOk result (λ text.
+            IsModeTold (trace_line_told self.old is_on) self.new text.items) }
+        ensures same { OnErr result (self.new ≡ self.old) }
+    {
+        let text: &[u8] = if is_on { b"trace on\n" } else { b"trace off\n" };
+        let text = Vec::from_slice(alloc, text)?;
+        self.is_tracing = is_on;
+        Ok(text)
+    }
+
+    fn set_limit(&mut self, alloc: Global, limit: u32) -> Result<Vec<u8>, AllocError>
+        ensures told { IfOk result (λ text.
+            IsModeTold (limit_line_told self.old limit) self.new text.items) }
+        ensures same { OnErr result (self.new ≡ self.old) }
+    {
+        let text = limit_line(alloc, limit)?;
+        self.limit = u64::from(limit);
+        Ok(text)
+    }
+
+    fn add_stub(
+        &mut self,
+        alloc: Global,
+        machine: &Machine,
+        number: u32,
+        settings: &[StubSetting],
+    ) -> Result<Vec<u8>, AllocError>
+        requires { length settings.now ≤ 8 }
+        ensures told { IfOk result (λ text. IsModeTold
+            (stub_line_told (state_of machine.now.guest) self.old number settings.now) self.new text.items) }
+        ensures same { OnErr result (self.new ≡ self.old) }
+    {
+        let number = stub_number(number);
+        let text = at_line(alloc, b"stub", number)?;
+        match self.steps.stubs.add(machine, stub_with(number, settings)) {
+            Ok(()) => Ok(text),
+            Err(error) => refused_line(alloc, error.name()),
+        }
+    }
+
+    fn remove_stub(&mut self, alloc: Global, number: u32) -> Result<Vec<u8>, AllocError>
+        ensures told { IfOk result (λ text.
+            IsModeTold (unstub_line_told self.old number) self.new text.items) }
+        ensures same { OnErr result (self.new ≡ self.old) }
+    {
+        let number = stub_number(number);
+        let text = at_line(alloc, b"unstub", number)?;
+        match self.steps.stubs.remove(number) {
+            Ok(()) => Ok(text),
+            Err(error) => refused_line(alloc, error.name()),
+        }
+    }
+
+    fn add_watch(&mut self, alloc: Global, address: WordAddress) -> Result<Vec<u8>, AllocError>
+        ensures told { IfOk result (λ text.
+            IsModeTold (watch_line_told self.old address) self.new text.items) }
+        ensures same { OnErr result (self.new ≡ self.old) }
+    {
+        let text = at_line(alloc, b"watch", address.address())?;
+        match self.steps.watches.add(address) {
+            Ok(()) => Ok(text),
+            Err(error) => refused_line(alloc, error.name()),
+        }
+    }
+
+    fn remove_watch(&mut self, alloc: Global, address: WordAddress) -> Result<Vec<u8>, AllocError>
+        ensures told { IfOk result (λ text.
+            IsModeTold (unwatch_line_told self.old address) self.new text.items) }
+        ensures same { OnErr result (self.new ≡ self.old) }
+    {
+        let text = at_line(alloc, b"unwatch", address.address())?;
+        match self.steps.watches.remove(address) {
+            Ok(()) => Ok(text),
+            Err(error) => refused_line(alloc, error.name()),
+        }
+    }
+}

@@ -1,0 +1,37 @@
+//! The stub that a line STUB asks for.
+
+ghost use Rattle.std.specs.Prelude.{◌≡◌, ◌≤◌, length};
+ghost use Rattle.debug_modes.specs.Changes.{stub_register_of, stub_with, stub_number};
+
+use arrayvec::ArrayVec;
+use debug_lines::StubSetting;
+use debug_runs::{MOST_STUB_REGISTERS, Stub, StubRegister};
+use debugger::swi_dispatch::without_x_bit;
+
+/// The number of a SWI that a line tells as CALL takes it, without its X bit.
+pub(crate) fn stub_number(number: u32) -> u32
+    ensures { result ≡ stub_number number }
+{
+    without_x_bit(number % (1 << 24))
+}
+
+/// The stub of a SWI that sets these registers.
+pub(crate) fn stub_with(number: u32, settings: &[StubSetting]) -> Stub
+    requires { length settings.now ≤ 8 }
+    ensures { result ≡ stub_with number settings.now }
+{
+    let mut registers: ArrayVec<StubRegister, MOST_STUB_REGISTERS> = ArrayVec::new();
+    for setting in settings {
+        registers.push(stub_register_of(*setting));
+    }
+    Stub { number, registers }
+}
+
+fn stub_register_of(setting: StubSetting) -> StubRegister
+    ensures { result ≡ stub_register_of setting }
+{
+    StubRegister {
+        register: setting.register,
+        value: setting.value,
+    }
+}
