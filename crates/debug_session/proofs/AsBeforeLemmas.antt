@@ -11,7 +11,8 @@ use Rattle.command_shell_lines.specs.Requests.{Request, opens_block, request_of}
 use Rattle.debug_lines.specs.DebugRequests.{is_script_request}
 use Rattle.debug_session.specs.AsBefore.{LookingLeavesTheMachine, ScriptAsBefore, are_script_lines, stepping_lines}
 use Rattle.debug_checks.specs.Checks.{check_told}
-use Rattle.debug_session.specs.DebugScript.{checked_told, asks_nothing, is_refused_block, state_after_line, state_with_answer, script_line_told, seen_of, some_lines_told, takes_steps}
+use Rattle.debug_modes.specs.Modes.{takes_over}
+use Rattle.debug_session.specs.DebugScript.{checked_told, asks_nothing, is_refused_block, state_after_line, state_with_answer, plain_line_told, seen_of, some_lines_told, takes_steps}
 use Rattle.debug_session.specs.DebugScript.{told_or_refused}
 use Rattle.debug_session.specs.DebugState.{DebugAnswered, DebugState, then_debugged}
 use Rattle.debug_session.specs.declared.reports.ReportForm.TheVariants.{Answers}
@@ -29,20 +30,30 @@ told_script : (c : DebugSetting) (d after : DebugState) (number : ℕ) (refused 
 told_script c d after number true text = refl
 told_script c d after number false text = refl
 
+told_modes : (c : DebugSetting) (d after : DebugState) (number : ℕ) (refused : Bool) (text : List ℕ)
+    → (told_or_refused c d number refused after text).state.modes ≡ after.modes
+told_modes c d after number true text = refl
+told_modes c d after number false text = refl
+
 told_quit : (c : DebugSetting) (d after : DebugState) (number : ℕ) (refused : Bool) (text : List ℕ)
     → (told_or_refused c d number refused after text).state.has_quit ≡ after.has_quit
 told_quit c d after number true text = refl
 told_quit c d after number false text = refl
 
-noted_by_if : (c : DebugSetting) (d : DebugState) (r : Request) (told : Answered) (nothing : Bool)
-    → (if nothing then record d { script = told.state } else state_with_answer c d r told).script ≡ told.state
-noted_by_if c d r told true = refl
-noted_by_if c d r told false = refl
+noted_by_if : (c : DebugSetting) (d : DebugState) (r : Request) (told : Answered) (block : List (List ℕ)) (nothing : Bool)
+    → (if nothing then record d { script = told.state } else state_with_answer c d r told block).script ≡ told.state
+noted_by_if c d r told block true = refl
+noted_by_if c d r told block false = refl
 
-quit_by_if : (c : DebugSetting) (d : DebugState) (r : Request) (told : Answered) (nothing : Bool)
-    → (if nothing then record d { script = told.state } else state_with_answer c d r told).has_quit ≡ d.has_quit
-quit_by_if c d r told true = refl
-quit_by_if c d r told false = refl
+quit_by_if : (c : DebugSetting) (d : DebugState) (r : Request) (told : Answered) (block : List (List ℕ)) (nothing : Bool)
+    → (if nothing then record d { script = told.state } else state_with_answer c d r told block).has_quit ≡ d.has_quit
+quit_by_if c d r told block true = refl
+quit_by_if c d r told block false = refl
+
+modes_by_if : (c : DebugSetting) (d : DebugState) (r : Request) (told : Answered) (block : List (List ℕ)) (nothing : Bool)
+    → (if nothing then record d { script = told.state } else state_with_answer c d r told block).modes ≡ d.modes
+modes_by_if c d r told block true = refl
+modes_by_if c d r told block false = refl
 
 -- two scripts that differ in their budgets alone, if at all
 SameBut : ℕ → ScriptState → ScriptState → Type 0
@@ -53,6 +64,7 @@ record IsTold (c : DebugSetting) (d : DebugState) (told : Answered) (first : Deb
   text : first.text ≡ told.text
   script : SameBut c.budget first.state.script told.state
   quit : first.state.has_quit ≡ d.has_quit
+  modes : first.state.modes ≡ d.modes
 
 with_own_budget : (s : ScriptState) (b : ℕ) → s.left ≡ b → script_with_budget s b ≡ s
 with_own_budget s b own = ap (λ (n : ℕ). script_with_budget s n) (sym own)
@@ -60,7 +72,7 @@ with_own_budget s b own = ap (λ (n : ℕ). script_with_budget s n) (sym own)
 -- one that takes steps, where the budgets are the same
 told_stepping : (c : DebugSetting) (d : DebugState) (s : ScriptState) (number : ℕ) (r : Request) (block : List (List ℕ))
     → c.form ≡ Answers → SameBut c.budget d.script s → s.left ≡ c.budget
-    → IsTold c d (request_told s number r block) (script_line_told c d number r block)
+    → IsTold c d (request_told s number r block) (plain_line_told c d number r block)
 unfolding SameBut
 told_stepping c d s number r block form same whole =
     let with_budget : ScriptState = script_with_budget d.script c.budget in
@@ -69,17 +81,18 @@ told_stepping c d s number r block form same whole =
     let is : with_budget ≡ s = same ∙ with_own_budget s c.budget whole in
     let answers : told ≡ request_told s number r block = ap (λ (t : ScriptState). request_told t number r block) is in
     record {
-      text = told_text c d (state_after_line c d r told) number refused told.text form ∙ ap (λ (a : Answered). a.text) answers;
+      text = told_text c d (state_after_line c d r told block) number refused told.text form ∙ ap (λ (a : Answered). a.text) answers;
       script = ap (λ (t : ScriptState). script_with_budget t c.budget)
-          (told_script c d (state_after_line c d r told) number refused told.text ∙ noted_by_if c d r told (asks_nothing r)
+          (told_script c d (state_after_line c d r told block) number refused told.text ∙ noted_by_if c d r told block (asks_nothing r)
           ∙ ap (λ (a : Answered). a.state) answers);
-      quit = told_quit c d (state_after_line c d r told) number refused told.text ∙ quit_by_if c d r told (asks_nothing r);
+      quit = told_quit c d (state_after_line c d r told block) number refused told.text ∙ quit_by_if c d r told block (asks_nothing r);
+      modes = told_modes c d (state_after_line c d r told block) number refused told.text ∙ modes_by_if c d r told block (asks_nothing r);
     }
 
 -- one that takes none
 told_still : (c : DebugSetting) (d : DebugState) (s : ScriptState) (number : ℕ) (r : Request) (block : List (List ℕ))
     → c.form ≡ Answers → SameBut c.budget d.script s → takes_steps r ≡ false
-    → IsTold c d (request_told s number r block) (script_line_told c d number r block)
+    → IsTold c d (request_told s number r block) (plain_line_told c d number r block)
 unfolding SameBut
 told_still c d s number r block form same none =
     let told : Answered = request_told (script_with_budget d.script c.budget) number r block in
@@ -88,23 +101,24 @@ told_still c d s number r block form same none =
     let answers : told ≡ other = ap (λ (t : ScriptState). request_told t number r block) same in
     let unread : IsUnread s c.budget (request_told s number r block) other = budget_unread s c.budget number r block none in
     record {
-      text = told_text c d (state_after_line c d r told) number refused told.text form
+      text = told_text c d (state_after_line c d r told block) number refused told.text form
           ∙ ap (λ (a : Answered). a.text) answers ∙ unread.text;
       script = ap (λ (t : ScriptState). script_with_budget t c.budget)
-          (told_script c d (state_after_line c d r told) number refused told.text ∙ noted_by_if c d r told (asks_nothing r)
+          (told_script c d (state_after_line c d r told block) number refused told.text ∙ noted_by_if c d r told block (asks_nothing r)
           ∙ ap (λ (a : Answered). a.state) answers ∙ unread.state);
-      quit = told_quit c d (state_after_line c d r told) number refused told.text ∙ quit_by_if c d r told (asks_nothing r);
+      quit = told_quit c d (state_after_line c d r told block) number refused told.text ∙ quit_by_if c d r told block (asks_nothing r);
+      modes = told_modes c d (state_after_line c d r told block) number refused told.text ∙ modes_by_if c d r told block (asks_nothing r);
     }
 
 -- the first line of some, and the others
 one_line : (n : ℕ) (c : DebugSetting) (number : ℕ) (d : DebugState) (line : List ℕ) (rest : List (List ℕ))
-    → d.has_quit ≡ false → is_script_request (request_of line) ≡ true
+    → d.has_quit ≡ false → takes_over d.modes ≡ false → is_script_request (request_of line) ≡ true
     → some_lines_told (suc n) c number d (line ∷ rest)
-    ≡ then_debugged (script_line_told c d (number + 1) (request_of line) (block_lines rest))
+    ≡ then_debugged (plain_line_told c d (number + 1) (request_of line) (block_lines rest))
     (λ after. some_lines_told n c (number + 1 + lines_taken (opens_block (request_of line)) rest) after
     (lines_after (opens_block (request_of line)) rest))
 unfolding some_lines_told
-one_line n c number d line rest quit is = rw (quit, is) refl
+one_line n c number d line rest quit plain is = rw (quit, is, plain) refl
 
 -- Where a script and a session stand: they differ in the budget alone, and no line that is left takes
 -- steps, or the script has its whole budget, and one line at most takes steps.
@@ -114,8 +128,8 @@ Stands c d s count = SameBut c.budget d.script s × ((count ≡ 0) ⊎ ((s.left 
 -- one line more
 stands_after : (c : DebugSetting) (d : DebugState) (s : ScriptState) (number more : ℕ) (r : Request) (block : List (List ℕ))
     → c.form ≡ Answers → Stands c d s ((if takes_steps r then 1 else 0) + more)
-    → IsTold c d (request_told s number r block) (script_line_told c d number r block)
-    × Stands c (script_line_told c d number r block).state (request_told s number r block).state more
+    → IsTold c d (request_told s number r block) (plain_line_told c d number r block)
+    × Stands c (plain_line_told c d number r block).state (request_told s number r block).state more
 unfolding Stands
 stands_after c d s number more r block form stands = elim (cases_Bool (takes_steps r)) [
   | inl steps ↦ elim stands.1 [
@@ -152,34 +166,35 @@ nothing_left zero c number d = refl
 nothing_left (suc n) c number d = refl
 
 as_before : (n : ℕ) (c : DebugSetting) (number : ℕ) (d : DebugState) (s : ScriptState) (left : List (List ℕ))
-    → c.form ≡ Answers → d.has_quit ≡ false → length left ≤ n → are_script_lines n left ≡ true
+    → c.form ≡ Answers → d.has_quit ≡ false → takes_over d.modes ≡ false → length left ≤ n → are_script_lines n left ≡ true
     → Stands c d s (stepping_lines n left)
     → (some_lines_told n c number d left).text ≡ (lines_told number s None left).text
 unfolding are_script_lines stepping_lines
-as_before n c number d s [] form quit enough are stands =
+as_before n c number d s [] form quit plain enough are stands =
     nothing_left n c number d ∙ sym (text_end number s)
-as_before zero c number d s (line ∷ rest) form quit enough are stands = absurd (omega (arith, enough))
-as_before (suc n) c number d s (line ∷ rest) form quit enough are stands =
+as_before zero c number d s (line ∷ rest) form quit plain enough are stands = absurd (omega (arith, enough))
+as_before (suc n) c number d s (line ∷ rest) form quit plain enough are stands =
     let r : Request = request_of line in
     let next : ℕ = number + 1 + lines_taken (opens_block r) rest in
     let after : List (List ℕ) = lines_after (opens_block r) rest in
     let is : is_script_request r ≡ true = first_of (is_script_request r) (are_script_lines n after) are in
-    let first : DebugAnswered = script_line_told c d (number + 1) r (block_lines rest) in
+    let first : DebugAnswered = plain_line_told c d (number + 1) r (block_lines rest) in
     let told : Answered = request_told s (number + 1) r (block_lines rest) in
     let step = stands_after c d s (number + 1) (stepping_lines n after) r (block_lines rest) form stands in
     let others : (some_lines_told n c next first.state after).text ≡ (lines_told next told.state None after).text =
     as_before n c next first.state told.state after form (step.0.quit ∙ quit)
+    (ap takes_over step.0.modes ∙ plain)
     (omega (arith, enough, lines_after-shorter (opens_block r) rest))
     (second_of (is_script_request r) (are_script_lines n after) are) step.1 in
-    ap (λ (a : DebugAnswered). a.text) (one_line n c number d line rest quit is)
+    ap (λ (a : DebugAnswered). a.text) (one_line n c number d line rest quit plain is)
     ∙ ap (λ (xs : List ℕ). xs ++ (some_lines_told n c next first.state after).text) step.0.text
     ∙ ap (λ (xs : List ℕ). told.text ++ xs) others
     ∙ sym (text_step number (number + 1) next s told.state line rest after r refl refl refl refl refl)
 
 pub script_as_before : ScriptAsBefore
 unfolding Stands SameBut
-script_as_before c number d left form quit whole are few =
-    as_before (length left) c number d d.script left form quit (omega arith) are (refl, inr (whole, few))
+script_as_before c number d left form quit plain whole are few =
+    as_before (length left) c number d d.script left form quit plain (omega arith) are (refl, inr (whole, few))
 
 checked : (c : DebugSetting) (d : DebugState) (number : ℕ) (words : List ℕ) (reason : Option (List ℕ))
     → (checked_told c d number words reason).state.script ≡ d.script

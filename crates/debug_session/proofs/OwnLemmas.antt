@@ -12,7 +12,10 @@ use Rattle.command_shell.specs.Memory.{script_with_budget}
 use Rattle.command_shell_lines.specs.Requests.{Request, Nothing, Hex, Asm, Boot, Run, Regs, Set, Poke, Call, Load, Step}
 use Rattle.command_shell_lines.specs.Requests.{Break, Unbreak, Mem, Code, Heap, Areas, Modules, Flex, Unknown, opens_block}
 use Rattle.debug_checks.specs.Endings.{ending_of, output_of}
-use Rattle.debug_session.specs.DebugScript.{machine_change_told, checked_told, simple_request_told, is_named_image, asks_nothing, is_refused_block, state_after_line, state_with_answer, script_line_told, script_line_told_by, takes_steps, told_or_refused, view_told}
+use Rattle.debug_labels.specs.Labels.{ImageLabels}
+use Rattle.debug_modes.specs.declared.modes.DebugModes.{DebugModes}
+use Rattle.debug_session.specs.Naming.{labels_with_block}
+use Rattle.debug_session.specs.DebugScript.{machine_change_told, checked_told, labels_after, simple_request_told, is_named_image, asks_nothing, is_refused_block, state_after_line, state_with_answer, plain_line_told, script_line_told_by, takes_steps, told_or_refused, view_told}
 use Rattle.image_loader.specs.Entries.{Entry}
 use Rattle.command_shell.specs.Session.{script_state}
 use Rattle.debug_session.specs.DebugState.{DebugAnswered, DebugState, IsDebugged}
@@ -45,30 +48,31 @@ gathered held text bytes now s t number r block none same with_budget told =
     (subst (λ (xs : List ℕ). IsAnswered (Some xs) (Some text) now (request_told s number r block)) none told))
 
 -- the tally and the form alone count of the state before
-by_refusal : (c : DebugSetting) (d : DebugState) (number : ℕ) (r : Request) (told : Answered) (refused : Bool)
-    → told_or_refused c (state_with_answer c d r told) number refused (state_with_answer c d r told) told.text
-    ≡ told_or_refused c d number refused (state_with_answer c d r told) told.text
-by_refusal c d number r told true = refl
-by_refusal c d number r told false = refl
+by_refusal : (c : DebugSetting) (d : DebugState) (number : ℕ) (r : Request) (told : Answered) (block : List (List ℕ)) (refused : Bool)
+    → told_or_refused c (state_with_answer c d r told block) number refused (state_with_answer c d r told block) told.text
+    ≡ told_or_refused c d number refused (state_with_answer c d r told block) told.text
+by_refusal c d number r told block true = refl
+by_refusal c d number r told block false = refl
 
-noted_is : (c : DebugSetting) (d : DebugState) (r : Request) (told : Answered) (nothing : Bool)
-    → nothing ≡ asks_nothing r → nothing ≡ false → state_with_answer c d r told ≡ state_after_line c d r told
-noted_is c d r told nothing asks some = rw (sym asks ∙ some) refl
+noted_is : (c : DebugSetting) (d : DebugState) (r : Request) (told : Answered) (block : List (List ℕ)) (nothing : Bool)
+    → nothing ≡ asks_nothing r → nothing ≡ false
+    → state_with_answer c d r told block ≡ state_after_line c d r told block
+noted_is c d r told block nothing asks some = rw (sym asks ∙ some) refl
 
 pub line_told : (before after : Option (List ℕ)) (c : DebugSetting) (d at_tell now : DebugState) (number : ℕ)
-    (r : Request) (told : Answered) (text : List ℕ) (refused nothing : Bool)
-    → at_tell ≡ state_with_answer c d r told → text ≡ told.text → nothing ≡ asks_nothing r → nothing ≡ false
+    (r : Request) (told : Answered) (block : List (List ℕ)) (text : List ℕ) (refused nothing : Bool)
+    → at_tell ≡ state_with_answer c d r told block → text ≡ told.text → nothing ≡ asks_nothing r → nothing ≡ false
     → refused ≡ is_refused_block d.script.images told.state.images r
     → IsDebugged before after now (told_or_refused c at_tell number refused at_tell text)
-    → IsDebugged before after now (script_line_told_by c d number r told)
-line_told before after c d at_tell now number r told text refused nothing note same asks some is written =
+    → IsDebugged before after now (script_line_told_by c d number r told block)
+line_told before after c d at_tell now number r told block text refused nothing note same asks some is written =
     subst (λ (x : DebugAnswered). IsDebugged before after now x)
     (ap (λ (x : DebugState). told_or_refused c x number refused x text) note
-    ∙ ap (λ (xs : List ℕ). told_or_refused c (state_with_answer c d r told) number refused (state_with_answer c d r told) xs) same
-    ∙ by_refusal c d number r told refused
-    ∙ ap (λ (b : Bool). told_or_refused c d number b (state_with_answer c d r told) told.text) is
+    ∙ ap (λ (xs : List ℕ). told_or_refused c (state_with_answer c d r told block) number refused (state_with_answer c d r told block) xs) same
+    ∙ by_refusal c d number r told block refused
+    ∙ ap (λ (b : Bool). told_or_refused c d number b (state_with_answer c d r told block) told.text) is
     ∙ ap (λ (x : DebugState). told_or_refused c d number (is_refused_block d.script.images told.state.images r) x told.text)
-    (noted_is c d r told nothing asks some))
+    (noted_is c d r told block nothing asks some))
     written
 
 -- the same by other names of the setting and the line
@@ -81,9 +85,11 @@ told_with before after now at_tell c e line number refused text setting at told 
     (subst (λ (n : ℕ). IsDebugged before after now (told_or_refused c at_tell n refused at_tell text)) at told)
 
 -- a state by its parts
-made : ScriptState → List ℕ → List ℕ → ℕ → CheckTally → Bool → DebugState
-made script answer output steps tally quit = record {
+made : ScriptState → List ImageLabels → DebugModes → List ℕ → List ℕ → ℕ → CheckTally → Bool → DebugState
+made script labels modes answer output steps tally quit = record {
   script = script;
+  labels = labels;
+  modes = modes;
   answer = answer;
   output = output;
   steps = steps;
@@ -91,13 +97,23 @@ made script answer output steps tally quit = record {
   has_quit = quit;
 }
 
-made_same : (s s' : ScriptState) (a a' o o' : List ℕ) (n n' : ℕ) (t t' : CheckTally) (q q' : Bool)
-    → s ≡ s' → a ≡ a' → o ≡ o' → n ≡ n' → t ≡ t' → q ≡ q' → made s a o n t q ≡ made s' a' o' n' t' q'
-made_same s s' a a' o o' n n' t t' q q' script answer output steps tally quit = cc
+made_same : (s s' : ScriptState) (l l' : List ImageLabels) (m m' : DebugModes) (a a' o o' : List ℕ) (n n' : ℕ) (t t' : CheckTally) (q q' : Bool)
+    → s ≡ s' → l ≡ l' → m ≡ m' → a ≡ a' → o ≡ o' → n ≡ n' → t ≡ t' → q ≡ q'
+    → made s l m a o n t q ≡ made s' l' m' a' o' n' t' q'
+made_same s s' l l' m m' a a' o o' n n' t t' q q' script labels modes answer output steps tally quit = cc
 
 by_takes : {A : Type 0} (takes other : Bool) (x x' y y' : A) → takes ≡ other → x ≡ x' → y ≡ y'
     → (if takes then x else y) ≡ (if other then x' else y')
 by_takes takes other x x' y y' is first rest = rw (is, first, rest) refl
+
+-- what is kept of an answer, but for the labels
+pub noted_state : DebugSetting → DebugState → Request → Answered → DebugState
+noted_state c d r told = record d {
+  script = told.state;
+  answer = if takes_steps r then ending_of told.text else told.text;
+  output = if takes_steps r then output_of told.text else d.output;
+  steps = if takes_steps r then c.budget - told.state.left else d.steps;
+}
 
 -- what a session keeps of an answer
 pub session_noted : (old mid new : DebugSession) (images after : List Entry) (answer : List ℕ) (takes : Bool)
@@ -108,15 +124,15 @@ pub session_noted : (old mid new : DebugSession) (images after : List Entry) (an
     → new.output.items ≡ (if takes then output_of answer else mid.output.items)
     → new.steps ≡ (if takes then mid.setting.budget - mid.session.left else mid.steps)
     → takes ≡ takes_steps r → script_state mid.session after ≡ told.state → answer ≡ told.text
-    → debug_state new after ≡ state_with_answer old.setting (debug_state old images) r told
-unfolding made
+    → debug_state new after ≡ noted_state old.setting (debug_state old images) r told
+unfolding made noted_state
 session_noted old mid new images after answer takes r told first next kept printed counted is state text =
     ap (λ (s : DebugSession). debug_state s after) next
-    ∙ made_same (script_state mid.session after) told.state new.answer.items
+    ∙ made_same (script_state mid.session after) told.state mid.labels old.labels mid.modes old.modes new.answer.items
     (if takes_steps r then ending_of told.text else told.text) new.output.items
     (if takes_steps r then output_of told.text else old.output.items) new.steps
     (if takes_steps r then old.setting.budget - told.state.left else old.steps) mid.tally old.tally mid.has_quit old.has_quit
-    state
+    state (ap (λ (s : DebugSession). s.labels) first) (ap (λ (s : DebugSession). s.modes) first)
     (kept ∙ by_takes takes (takes_steps r) (ending_of answer) (ending_of told.text) answer told.text is (ap ending_of text) text)
     (printed ∙ by_takes takes (takes_steps r) (output_of answer) (output_of told.text) mid.output.items old.output.items is
     (ap output_of text) (ap (λ (s : DebugSession). s.output.items) first))
@@ -126,6 +142,36 @@ session_noted old mid new images after answer takes r told first next kept print
     ∙ ap (λ (s : ScriptState). old.setting.budget - s.left) state)
     (ap (λ (s : DebugSession). s.steps) first))
     (ap (λ (s : DebugSession). s.tally) first) (ap (λ (s : DebugSession). s.has_quit) first)
+
+-- the labels that a session takes in
+pub labels_taken : (taken noted : List ImageLabels) (d : DebugState) (refused : Bool) (images : List Entry) (r : Request)
+    (told : Answered) (lines block : List (List ℕ))
+    → taken ≡ (if refused then noted else labels_with_block noted images r lines) → noted ≡ d.labels
+    → refused ≡ is_refused_block d.script.images told.state.images r → images ≡ told.state.images → lines ≡ block
+    → taken ≡ labels_after d r told block
+labels_taken taken noted d refused images r told lines block is same refusal there follows = is
+    ∙ ap (λ (ls : List ImageLabels). if refused then ls else labels_with_block ls images r lines) same
+    ∙ ap (λ (b : Bool). if b then d.labels else labels_with_block d.labels images r lines) refusal
+    ∙ ap (λ (es : List Entry). if is_refused_block d.script.images told.state.images r then d.labels
+    else labels_with_block d.labels es r lines) there
+    ∙ ap (λ (ls : List (List ℕ)). if is_refused_block d.script.images told.state.images r then d.labels
+    else labels_with_block d.labels told.state.images r ls) follows
+
+pub noted_labels : (old mid new : DebugSession) → mid ≡ record old { session = mid.session }
+    → new ≡ record mid { answer = new.answer; output = new.output; steps = new.steps } → new.labels ≡ old.labels
+noted_labels old mid new first next =
+    ap (λ (s : DebugSession). s.labels) next ∙ ap (λ (s : DebugSession). s.labels) first
+
+pub session_labelled : (noted new : DebugSession) (after : List Entry) (c : DebugSetting) (d : DebugState) (r : Request)
+    (told : Answered) (block : List (List ℕ))
+    → new ≡ record noted { labels = new.labels } → debug_state noted after ≡ noted_state c d r told
+    → new.labels ≡ labels_after d r told block → debug_state new after ≡ state_with_answer c d r told block
+unfolding noted_state
+session_labelled noted new after c d r told block next state labels =
+    ap (λ (s : DebugSession). debug_state s after) next
+    ∙ ap (λ (x : DebugState). let with_labels : DebugState = record x { labels = new.labels } in with_labels) state
+    ∙ ap (λ (ls : List ImageLabels). let with_labels : DebugState = record (noted_state c d r told) { labels = ls } in with_labels)
+    labels
 
 -- a session whose script alone is another
 pub session_moved : (old mid : DebugSession) (images after : List Entry) (to : ScriptState)
@@ -151,7 +197,7 @@ empty_in Tap = refl
 pub nothing_told : (c : DebugSetting) (d now : DebugState) (number : ℕ) (r : Request) (block : List (List ℕ))
     (held : Option (List ℕ)) (nothing : Bool) → nothing ≡ asks_nothing r → nothing ≡ true
     → now ≡ record d { script = (request_told (script_with_budget d.script c.budget) number r block).state }
-    → IsDebugged held held now (script_line_told c d number r block)
+    → IsDebugged held held now (plain_line_told c d number r block)
 nothing_told c d now number Nothing block held nothing asks none state = record {
   text = subst (λ (xs : List ℕ). Appends held held xs) (sym (empty_in c.form)) (Appends-nothing held);
   state = state;
@@ -210,6 +256,12 @@ checked_by result before after now d c line number words reason told at is writt
 pub changed_quietly : (held : Option (List ℕ)) (now d : DebugState) (script : ScriptState)
     → now ≡ (machine_change_told d script).state → IsDebugged held held now (machine_change_told d script)
 changed_quietly held now d script is = record { text = Appends-nothing held; state = is }
+
+-- a session whose images and labels are others
+pub without_image : (d : DebugState) (images after : List Entry) (labels left : List ImageLabels) → after ≡ images → labels ≡ left
+    → record d { script = record d.script { images = after }; labels = labels }
+    ≡ record d { script = record d.script { images = images }; labels = left }
+without_image d images after labels left stay go = rw (stay, go) refl
 
 -- a view of another state
 pub view_after : (before after : Option (List ℕ)) (now d e : DebugState) (c f : DebugSetting) (text shown : List ℕ)

@@ -1,62 +1,45 @@
 -- A line that is answered many times, one time after another.
 use Rattle.std.proofs.Common.{◌≡◌, ℕ, zero, suc, ◌+◌, Bool, true, false, List, [], ◌++◌, Option, ap, sym, refl, subst, ◌∙◌, arith}
-use Rattle.std.proofs.lemmas.Bool.{not-true}
-use Rattle.command_shell_lines.specs.Requests.{Request, opens_block}
-use Rattle.debug_lines.specs.DebugRequests.{DebugRequest, Script, Remark, View, SetPc, SetPsr, Forget, Reset, Quit, Expect, Repeat, NotKnown, debug_opens_block, is_repeatable, simple_request}
-use Rattle.debug_session.specs.DebugScript.{repeated_told, simple_request_told, unless_quit}
+use Rattle.debug_session.specs.DebugScript.{repeated_told, simple_line_told, unless_quit}
 use Rattle.debug_session.specs.DebugState.{DebugAnswered, DebugState, IsDebugged, debug_answer}
 use Rattle.debug_session.specs.declared.session.DebugSetting.{DebugSetting}
 use Rattle.debug_session.proofs.LineLemmas.{joined, not_quit}
 
--- a line that may be repeated opens no block
-pub repeatable_alone : (r : DebugRequest) → is_repeatable r ≡ true → debug_opens_block r ≡ false
-repeatable_alone (Script request) may = not-true (opens_block request) may
-repeatable_alone Remark may = refl
-repeatable_alone (View shown) may = refl
-repeatable_alone (SetPc address) may = refl
-repeatable_alone (SetPsr pattern) may = refl
-repeatable_alone (Forget name) may = refl
-repeatable_alone Reset may = refl
-repeatable_alone Quit may = refl
-repeatable_alone (Expect expected) may = refl
-repeatable_alone (Repeat count line) may = refl
-repeatable_alone NotKnown may = refl
-
 -- an answer by other names of the setting, the line's number and what follows it
 pub told_there : (before after : Option (List ℕ)) (now d : DebugState) (c e : DebugSetting) (number here : ℕ) (line : List ℕ)
     (block own : List (List ℕ)) → e ≡ c → here ≡ number → own ≡ block
-    → IsDebugged before after now (simple_request_told e d here line (simple_request line) own)
-    → IsDebugged before after now (simple_request_told c d number line (simple_request line) block)
+    → IsDebugged before after now (simple_line_told e d here line own)
+    → IsDebugged before after now (simple_line_told c d number line block)
 told_there before after now d c e number here line block own setting at follows told =
-    subst (λ (x : DebugSetting). IsDebugged before after now (simple_request_told x d number line (simple_request line) block)) setting
-    (subst (λ (n : ℕ). IsDebugged before after now (simple_request_told e d n line (simple_request line) block)) at
-    (subst (λ (ls : List (List ℕ)). IsDebugged before after now (simple_request_told e d here line (simple_request line) ls)) follows told))
+    subst (λ (x : DebugSetting). IsDebugged before after now (simple_line_told x d number line block)) setting
+    (subst (λ (n : ℕ). IsDebugged before after now (simple_line_told e d n line block)) at
+    (subst (λ (ls : List (List ℕ)). IsDebugged before after now (simple_line_told e d here line ls)) follows told))
 
 repeat_step : (n m : ℕ) (c : DebugSetting) (number : ℕ) (line : List ℕ) (block : List (List ℕ)) (d : DebugState)
     → n ≡ m + 1 → d.has_quit ≡ false
     → repeated_told n c number line block d
-    ≡ joined (simple_request_told c d number line (simple_request line) block)
-    (repeated_told m c number line block (simple_request_told c d number line (simple_request line) block).state)
+    ≡ joined (simple_line_told c d number line block)
+    (repeated_told m c number line block (simple_line_told c d number line block).state)
 unfolding repeated_told
 repeat_step n m c number line block d next quit =
     let more : n ≡ suc m = omega (arith, next) in
-    let first : DebugAnswered = simple_request_told c d number line (simple_request line) block in
+    let first : DebugAnswered = simple_line_told c d number line block in
     ap (λ (k : ℕ). repeated_told k c number line block d) more
     ∙ not_quit d (joined first (repeated_told m c number line block first.state)) quit
 
 pub repeat_text : (n m : ℕ) (c : DebugSetting) (number : ℕ) (line : List ℕ) (block : List (List ℕ)) (d after : DebugState)
     → n ≡ m + 1 → d.has_quit ≡ false
-    → after ≡ (simple_request_told c d number line (simple_request line) block).state
+    → after ≡ (simple_line_told c d number line block).state
     → (repeated_told n c number line block d).text
-    ≡ (simple_request_told c d number line (simple_request line) block).text ++ (repeated_told m c number line block after).text
+    ≡ (simple_line_told c d number line block).text ++ (repeated_told m c number line block after).text
 repeat_text n m c number line block d after next quit state =
     ap (λ (a : DebugAnswered). a.text) (repeat_step n m c number line block d next quit)
-    ∙ ap (λ (x : DebugState). (simple_request_told c d number line (simple_request line) block).text
+    ∙ ap (λ (x : DebugState). (simple_line_told c d number line block).text
     ++ (repeated_told m c number line block x).text) (sym state)
 
 pub repeat_state : (n m : ℕ) (c : DebugSetting) (number : ℕ) (line : List ℕ) (block : List (List ℕ)) (d after : DebugState)
     → n ≡ m + 1 → d.has_quit ≡ false
-    → after ≡ (simple_request_told c d number line (simple_request line) block).state
+    → after ≡ (simple_line_told c d number line block).state
     → (repeated_told n c number line block d).state ≡ (repeated_told m c number line block after).state
 repeat_state n m c number line block d after next quit state =
     ap (λ (a : DebugAnswered). a.state) (repeat_step n m c number line block d next quit)

@@ -7,6 +7,7 @@ use Rattle.command_shell_lines.specs.Blocks.{block_lines, lines_after}
 use Rattle.command_shell_lines.specs.Requests.{Request, opens_block, request_of}
 use Rattle.debug_lines.specs.DebugRequests.{DebugRequest, Expect, View, ViewRequest, is_script_request}
 use Rattle.debug_lines.specs.Expectations.{ExpectRequest}
+use Rattle.debug_modes.specs.Modes.{takes_over}
 use Rattle.debug_session.specs.DebugScript.{debug_lines_told, simple_request_told, takes_steps}
 use Rattle.debug_session.specs.DebugState.{DebugState}
 use Rattle.debug_session.specs.declared.reports.ReportForm.TheVariants.{Answers}
@@ -26,11 +27,12 @@ stepping_lines (suc more) [] = 0
 stepping_lines (suc more) (line ∷ rest) = (if takes_steps (request_of line) then 1 else 0)
     + stepping_lines more (lines_after (opens_block (request_of line)) rest)
 
--- With lines of a script alone, of which one at most takes steps, the answers are the script's. (Each
--- line may take the whole budget, where all lines of a script have one budget together.)
+-- Where no modes are set, as when a session begins, the answers to lines of a script alone, of which
+-- one at most takes steps, are the script's. (Each line may take the whole budget, where all lines of a
+-- script have one budget together.)
 abbrev pub ScriptAsBefore : Type 0
 ScriptAsBefore = (c : DebugSetting) (number : ℕ) (d : DebugState) (left : List (List ℕ))
-    → c.form ≡ Answers → d.has_quit ≡ false → d.script.left ≡ c.budget
+    → c.form ≡ Answers → d.has_quit ≡ false → takes_over d.modes ≡ false → d.script.left ≡ c.budget
     → are_script_lines (length left) left ≡ true → stepping_lines (length left) left ≤ 1
     → (debug_lines_told c number d left).text ≡ (lines_told number d.script None left).text
 

@@ -1,9 +1,13 @@
 -- What a debugging script does and what it is answered, line by line, over the written machine. A
 -- line of a script is answered as in a script, but that each line may take the whole budget.
-use Rattle.std.specs.Prelude.{ℕ, zero, suc, ◌+◌, ◌-◌, ◌&&◌, ◌||◌, Bool, true, false, not, List, [], ◌∷◌, ◌++◌, length, codes, Option, Some, None, is_some, if◌then◌else◌}
+use Rattle.std.specs.Prelude.{ℕ, zero, suc, ◌+◌, ◌-◌, ◌&&◌, ◌||◌, Bool, true, false, not, List, [], ◌∷◌, ◌++◌, length, codes, Option, Some, None, Result, Ok, Err, is_some, if◌then◌else◌}
 use Rattle.std.specs.Str.Lines.{lines}
 use Rattle.image_loader.specs.Entries.{Entry, bytes_of_image, without_entry}
-use Rattle.command_shell.specs.Answers.{at_text, unknown_text}
+use Rattle.byte_writes.specs.Put.{script_after_put}
+use Rattle.profile.specs.Digits.{hex_number}
+use Rattle.profile.specs.FaultNames.{fault_name}
+use Rattle.profile.specs.declared.fault.Fault.{Fault}
+use Rattle.command_shell.specs.Answers.{refused_text, unknown_text}
 use Rattle.command_shell.specs.Memory.{script_at, script_started_anew, script_with_budget, script_with_status}
 use Rattle.command_shell.specs.Script.{request_told}
 use Rattle.command_shell.specs.State.{Answered, ScriptState}
@@ -11,17 +15,27 @@ use Rattle.command_shell_lines.specs.Blocks.{block_lines, lines_after, lines_tak
 use Rattle.command_shell_lines.specs.Requests.{Request, Nothing, Hex, Asm, Run, Call, Load, Step, opens_block}
 use Rattle.debug_checks.specs.Checks.{Seen, check_told, status_after_pattern}
 use Rattle.debug_checks.specs.Endings.{ending_of, output_of}
-use Rattle.debug_lines.specs.DebugRequests.{DebugRequest, Script, Remark, SetPc, SetPsr, Forget, Reset, Quit, Expect, Repeat, NotKnown, debug_opens_block, debug_request, is_script_request, repeated_line, simple_request}
-use Rattle.debug_lines.specs.DebugRequests.{ViewRequest, View, Words, Where, Banks, Stack, Frames, Help}
+use Rattle.debug_lines.specs.DebugRequests.{DebugRequest, Script, Stepping, Mode, Remark, SetPc, SetPsr, Put, Forget, Reset, Quit, Expect, Repeat, NotKnown}
+use Rattle.debug_lines.specs.DebugRequests.{debug_opens_block, debug_request, is_script_request}
+use Rattle.debug_lines.specs.DebugRequests.{ViewRequest, View, Words, Where, Banks, Stack, Frames, Labels, Help}
 use Rattle.swi_dispatch_guest.specs.MachineState.{MachineState}
 use Rattle.command_shell_lines.specs.Requests.{request_of}
 use Rattle.debug_lines.specs.Expectations.{ExpectRequest}
+use Rattle.debug_lines.specs.ModeRequests.{ModeRequest}
+use Rattle.debug_lines.specs.SteppingRequests.{SteppingRequest, stepping_in}
+use Rattle.debug_modes.specs.Changes.{ModeTold, mode_told}
+use Rattle.debug_modes.specs.Modes.{takes_over}
+use Rattle.debug_modes.specs.Stepping.{stepping_in_modes}
 use Rattle.debug_lines.specs.Tidy.{tidied_line}
+use Rattle.debug_labels.specs.Labels.{ImageLabels, without_labels}
+use Rattle.debug_labels.specs.Views.{labels_text}
+use Rattle.debug_places.specs.Frames.{frames_text}
+use Rattle.debug_places.specs.Places.{naming_on, where_text}
+use Rattle.debug_places.specs.Stack.{stack_words_text}
 use Rattle.debug_views.specs.Banks.{banks_text}
-use Rattle.debug_views.specs.Frames.{frames_text}
-use Rattle.debug_views.specs.Stack.{stack_words_text}
 use Rattle.debug_views.specs.Words.{memory_words_text}
 use Rattle.debug_session.specs.DebugState.{DebugAnswered, DebugState, debug_answer, debug_start_state, then_debugged}
+use Rattle.debug_session.specs.Naming.{labels_with_block, meant_request, naming_of, repeated_now}
 use Rattle.debug_session.specs.declared.help.TheConstants.{HELP}
 use Rattle.debug_session.specs.declared.session.DebugSetting.{DebugSetting}
 use Rattle.debug_session.specs.Reports.{answer_in, fail_text, pass_text, report_of_refusal, summary_text, with_fail, with_pass, with_refusal}
@@ -51,11 +65,18 @@ abbrev pub asks_nothing : Request → Bool
 asks_nothing Nothing = true
 asks_nothing request = false
 
+-- the labels after a line of a script: with those of the image that it has made
+abbrev pub labels_after : DebugState → Request → Answered → List (List ℕ) → List ImageLabels
+labels_after d request told block =
+    if is_refused_block d.script.images told.state.images request then d.labels
+    else labels_with_block d.labels told.state.images request block
+
 -- What is kept of an answer: of one to a line that takes steps, apart, what the guest printed and how
 -- the steps ended.
-abbrev pub state_with_answer : DebugSetting → DebugState → Request → Answered → DebugState
-state_with_answer c d request told = record d {
+abbrev pub state_with_answer : DebugSetting → DebugState → Request → Answered → List (List ℕ) → DebugState
+state_with_answer c d request told block = record d {
   script = told.state;
+  labels = labels_after d request told block;
   answer = if takes_steps request then ending_of told.text else told.text;
   output = if takes_steps request then output_of told.text else d.output;
   steps = if takes_steps request then c.budget - told.state.left else d.steps;
@@ -63,36 +84,71 @@ state_with_answer c d request told = record d {
 
 -- The state after the answer to a line of a script. After an empty line the last answer is the one
 -- before it.
-abbrev pub state_after_line : DebugSetting → DebugState → Request → Answered → DebugState
-state_after_line c d request told = if asks_nothing request then record d { script = told.state }
-    else state_with_answer c d request told
+abbrev pub state_after_line : DebugSetting → DebugState → Request → Answered → List (List ℕ) → DebugState
+state_after_line c d request told block = if asks_nothing request then record d { script = told.state }
+    else state_with_answer c d request told block
 
 abbrev pub told_or_refused : DebugSetting → DebugState → ℕ → Bool → DebugState → List ℕ → DebugAnswered
 told_or_refused c d number true after text = debug_answer (record after { tally = with_refusal d.tally })
     (report_of_refusal c.form d.tally number text)
 told_or_refused c d number false after text = debug_answer after (answer_in c.form text)
 
-abbrev pub script_line_told_by : DebugSetting → DebugState → ℕ → Request → Answered → DebugAnswered
-script_line_told_by c d number request told =
+abbrev pub script_line_told_by : DebugSetting → DebugState → ℕ → Request → Answered → List (List ℕ)
+    → DebugAnswered
+script_line_told_by c d number request told block =
     told_or_refused c d number (is_refused_block d.script.images told.state.images request)
-    (state_after_line c d request told) told.text
+    (state_after_line c d request told block) told.text
 
 -- A line of a script may take the whole budget.
+abbrev pub plain_line_told : DebugSetting → DebugState → ℕ → Request → List (List ℕ) → DebugAnswered
+plain_line_told c d number request block =
+    script_line_told_by c d number request
+    (request_told (script_with_budget d.script c.budget) number request block) block
+
+-- LINES THAT TAKE STEPS IN MODES
+
+-- what is kept and written of a line that took steps: the state, what is told of the steps, what the
+-- guest printed, and the line's usual ending
+abbrev pub stepping_told_by : DebugSetting → DebugState → ScriptState → List ℕ → List ℕ → List ℕ → DebugAnswered
+stepping_told_by c d now text printed ending = debug_answer
+    (record d {
+      script = now;
+      answer = ending;
+      output = printed;
+      steps = c.budget - now.left;
+    })
+    (answer_in c.form (text ++ ending))
+
+-- It may take the whole budget, too.
+abbrev pub stepping_line_told : DebugSetting → DebugState → Bool → SteppingRequest → DebugAnswered
+stepping_line_told c d is_traced request =
+    let told = stepping_in_modes d.modes d.labels is_traced (script_with_budget d.script c.budget) request in
+    stepping_told_by c d told.now told.text told.printed told.ending
+
+-- what a line of a script asks for, where modes are set in which its steps are answered otherwise
+abbrev pub stepping_now : DebugState → Request → Option SteppingRequest
+stepping_now d request = if takes_over d.modes then stepping_in request else None
+
+abbrev pub script_line_told_in : Option SteppingRequest → DebugSetting → DebugState → ℕ → Request
+    → List (List ℕ) → DebugAnswered
+script_line_told_in (Some stepping) c d number request block = stepping_line_told c d false stepping
+script_line_told_in None c d number request block = plain_line_told c d number request block
+
 abbrev pub script_line_told : DebugSetting → DebugState → ℕ → Request → List (List ℕ) → DebugAnswered
 script_line_told c d number request block =
-    script_line_told_by c d number request
-    (request_told (script_with_budget d.script c.budget) number request block)
+    script_line_told_in (stepping_now d request) c d number request block
 
 -- LINES OF ITS OWN
 
 -- what a line shows that only looks
-abbrev pub view_text : MachineState → ViewRequest → List ℕ
-view_text s (Words address count) = memory_words_text s.store.bytes address count
-view_text s Where = at_text s.cpu.pc
-view_text s Banks = banks_text s.cpu
-view_text s (Stack count) = stack_words_text s.cpu s.store.bytes count
-view_text s Frames = frames_text s
-view_text s Help = HELP.now
+abbrev pub view_text : List ImageLabels → MachineState → ViewRequest → List ℕ
+view_text labels s (Words address count) = memory_words_text s.store.bytes address count
+view_text labels s Where = where_text labels s
+view_text labels s Banks = banks_text s.cpu
+view_text labels s (Stack count) = stack_words_text (naming_on labels s) s.cpu s.store.bytes count
+view_text labels s Frames = frames_text labels s
+view_text labels s Labels = labels_text (naming_on labels s)
+view_text labels s Help = HELP.now
 
 -- a view: its text is the answer
 abbrev pub view_told : DebugSetting → DebugState → List ℕ → DebugAnswered
@@ -110,11 +166,37 @@ abbrev pub forget_text : Bool → List ℕ → List ℕ
 forget_text true name = codes "forget " ++ name ++ codes "\n"
 forget_text false name = codes "refused NoImage\n"
 
--- FORGET: the image of that name goes, if there is one.
+-- FORGET: the image of that name goes, if there is one, and its labels.
 abbrev pub forget_told : DebugSetting → DebugState → List ℕ → DebugAnswered
 forget_told c d name = view_told c
-    (record d { script = record d.script { images = without_entry d.script.images name } })
+    (record d {
+      script = record d.script { images = without_entry d.script.images name };
+      labels = without_labels d.labels name;
+    })
     (forget_text (is_some (bytes_of_image d.script.images name)) name)
+
+-- `put count at &9000`
+abbrev pub put_text : List ℕ → ℕ → List ℕ
+put_text name address = codes "put " ++ (name ++ (codes " at &" ++ (hex_number address ++ codes "\n")))
+
+abbrev pub put_done : DebugSetting → DebugState → List ℕ → ℕ → Result ScriptState Fault → DebugAnswered
+put_done c d name address (Ok script) = view_told c (record d { script = script }) (put_text name address)
+put_done c d name address (Err fault) = view_told c d (refused_text (fault_name fault))
+
+-- PUT: the bytes of the image of that name are written, whole or not at all.
+abbrev pub put_found : DebugSetting → DebugState → List ℕ → ℕ → Option (List ℕ) → DebugAnswered
+put_found c d name address None = view_told c d (refused_text (codes "NoImage"))
+put_found c d name address (Some bytes) = put_done c d name address (script_after_put d.script address bytes)
+
+abbrev pub put_told : DebugSetting → DebugState → List ℕ → ℕ → DebugAnswered
+put_told c d name address = put_found c d name address (bytes_of_image d.script.images name)
+
+-- a change of modes, and its answer
+abbrev pub mode_told_by : DebugSetting → DebugState → ModeTold → DebugAnswered
+mode_told_by c d told = view_told c (record d { modes = told.modes }) told.text
+
+abbrev pub mode_line_told : DebugSetting → DebugState → ModeRequest → DebugAnswered
+mode_line_told c d request = mode_told_by c d (mode_told d.script.machine d.modes request)
 
 abbrev pub seen_of : DebugState → Seen
 seen_of d = record {
@@ -141,11 +223,15 @@ unknown_told c d number = debug_answer (record d { answer = unknown_text number;
 abbrev pub simple_request_told : DebugSetting → DebugState → ℕ → List ℕ → DebugRequest → List (List ℕ)
     → DebugAnswered
 simple_request_told c d number words (Script request) block = script_line_told c d number request block
+simple_request_told c d number words (Stepping is_traced request) block =
+    stepping_line_told c d is_traced request
+simple_request_told c d number words (Mode request) block = mode_line_told c d request
 simple_request_told c d number words Remark block = debug_answer d []
-simple_request_told c d number words (View shown) block = view_told c d (view_text d.script.machine shown)
+simple_request_told c d number words (View shown) block = view_told c d (view_text d.labels d.script.machine shown)
 simple_request_told c d number words (SetPc address) block = machine_change_told d (script_at d.script address)
 simple_request_told c d number words (SetPsr pattern) block = machine_change_told d
     (script_with_status d.script (status_after_pattern pattern d.script.machine.cpu.psr))
+simple_request_told c d number words (Put name address) block = put_told c d name address
 simple_request_told c d number words (Forget name) block = forget_told c d name
 simple_request_told c d number words Reset block = reset_told c d
 simple_request_told c d number words Quit block = debug_answer (record d { has_quit = true }) []
@@ -158,11 +244,16 @@ simple_request_told c d number words NotKnown block = unknown_told c d number
 abbrev pub unless_quit : DebugState → DebugAnswered → DebugAnswered
 unless_quit d told = if d.has_quit then debug_answer d [] else told
 
--- a tidy line, so many times
+-- A tidy line that is no REPEAT, by what it means now.
+abbrev pub simple_line_told : DebugSetting → DebugState → ℕ → List ℕ → List (List ℕ) → DebugAnswered
+simple_line_told c d number line block =
+    simple_request_told c d number line (meant_request (naming_of d) line) block
+
+-- a tidy line, so many times, each by what it means then
 unfoldable pub repeated_told : ℕ → DebugSetting → ℕ → List ℕ → List (List ℕ) → DebugState → DebugAnswered
 repeated_told zero c number line block d = debug_answer d []
 repeated_told (suc more) c number line block d = unless_quit d
-    (then_debugged (simple_request_told c d number line (simple_request line) block)
+    (then_debugged (simple_line_told c d number line block)
     (λ after. repeated_told more c number line block after))
 
 -- a tidy line, by what is repeated, and how often
@@ -170,11 +261,11 @@ abbrev pub tidy_line_told_by : Option (ℕ × List ℕ) → DebugSetting → Deb
     → DebugAnswered
 tidy_line_told_by (Some repeated) c d number words block =
     repeated_told repeated.0 c number repeated.1 block d
-tidy_line_told_by None c d number words block =
-    simple_request_told c d number words (simple_request words) block
+tidy_line_told_by None c d number words block = simple_line_told c d number words block
 
 abbrev pub tidy_line_told : DebugSetting → DebugState → ℕ → List ℕ → List (List ℕ) → DebugAnswered
-tidy_line_told c d number words block = tidy_line_told_by (repeated_line words) c d number words block
+tidy_line_told c d number words block =
+    tidy_line_told_by (repeated_now (naming_of d) words) c d number words block
 
 -- A line as it stands: one of a script is that line, and any other is made tidy.
 abbrev pub debug_line_told : DebugSetting → DebugState → ℕ → List ℕ → List (List ℕ) → DebugAnswered

@@ -5,6 +5,9 @@ use Rattle.image_loader.specs.Entries.{Entry}
 use Rattle.command_shell.specs.State.{ScriptState, script_start_state}
 use Rattle.command_shell.specs.declared.error.RunError.{RunError}
 use Rattle.command_shell.specs.declared.error.RunError.TheVariants.{Memory, ReadFault, WriteFault, ScriptTooLong}
+use Rattle.debug_labels.specs.Labels.{ImageLabels}
+use Rattle.debug_modes.specs.Modes.{no_modes}
+use Rattle.debug_modes.specs.declared.modes.DebugModes.{DebugModes}
 use Rattle.debug_session.specs.declared.reports.CheckTally.{CheckTally}
 use Rattle.debug_session.specs.declared.session.DebugSetting.{DebugSetting}
 
@@ -15,11 +18,14 @@ one_more n = min (n + 1) (2 ^ 64 - 1)
 abbrev pub no_tally : CheckTally
 no_tally = record { passed = 0; failed = 0; refused = 0 }
 
--- What a debugging script works on: what a script does, the last answer of a line that is no EXPECT,
--- without what the guest printed, what it printed in the last line that takes steps, how many steps
--- that took, the tally, and whether QUIT was among the lines.
+-- What a debugging script works on: what a script does, the labels of the images that were assembled,
+-- the modes in which lines that take steps are answered, the last answer of a line that is no EXPECT, without what the guest printed, what it printed in the
+-- last line that takes steps, how many steps that took, the tally, and whether QUIT was among the
+-- lines.
 pub record DebugState : Type 0 where
   pub script : ScriptState
+  pub labels : List ImageLabels
+  pub modes : DebugModes
   pub answer : List ℕ
   pub output : List ℕ
   pub steps : ℕ
@@ -50,6 +56,8 @@ then_debugged first next = record {
 abbrev pub debug_start_state : DebugSetting → List Entry → DebugState
 debug_start_state setting images = record {
   script = script_start_state setting.config images setting.budget;
+  labels = [];
+  modes = no_modes;
   answer = [];
   output = [];
   steps = 0;

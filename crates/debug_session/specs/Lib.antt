@@ -2,6 +2,7 @@
 pub mod AsBefore
 pub mod DebugScript
 pub mod DebugState
+pub mod Naming
 pub mod Reports
 pub mod Session
 pub mod Typing

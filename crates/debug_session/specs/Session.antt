@@ -8,6 +8,8 @@ use Rattle.debug_session.specs.declared.session.DebugSession.{DebugSession}
 abbrev pub debug_state : DebugSession → List Entry → DebugState
 debug_state s images = record {
   script = script_state s.session images;
+  labels = s.labels;
+  modes = s.modes;
   answer = s.answer.items;
   output = s.output.items;
   steps = s.steps;

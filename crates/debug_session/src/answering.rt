@@ -1,21 +1,29 @@
 //! One line of a debugging script, answered.
 
-ghost use Rattle.std.specs.Prelude.{◌≡◌, ◌+◌, true, List, IfErr, OnOk};
+ghost use Rattle.std.specs.Prelude.{◌≡◌, ◌+◌, true, false, List, Some, option_map, IfErr, IfOk, IfNone, IfSome, OnOk};
 ghost use Rattle.command_shell.specs.Error.{IsLineError};
 ghost use Rattle.command_shell_lines.specs.Blocks.{block_lines, lines_after, lines_taken};
 
 use crate::session::DebugSession;
 use command_shell::RunError;
 use command_shell_lines::text_lines::Lines;
-use debug_lines::{DebugCommand, is_script_line, repeated_line, simple_command, tidied};
+use debug_lines::{
+    DebugCommand, RepeatedLine, is_known_line, is_repeatable_line, is_script_line, repeated_line,
+    repeated_text, simple_command, tidied, untraced_line,
+};
+use debug_places::names_on;
 use image_loader::Images;
 use profile::Sink;
+use std::alloc::AllocError;
 
 impl DebugSession {
     ghost use Rattle.image_loader.specs.Entries.{Entry};
-    ghost use Rattle.debug_lines.specs.DebugRequests.{debug_opens_block, is_repeatable, own_request, simple_request};
-    ghost use Rattle.debug_session.specs.DebugScript.{debug_line_told, line_opens, repeated_told, simple_request_told, tidy_line_told};
+    ghost use Rattle.debug_labels.specs.Lines.{line_with_numbers};
+    ghost use Rattle.debug_lines.specs.DebugRequests.{debug_opens_block, is_known, is_repeatable, own_request, simple_request};
+    ghost use Rattle.debug_lines.specs.Repeats.{count_and_line};
+    ghost use Rattle.debug_session.specs.DebugScript.{debug_line_told, line_opens, repeated_told, simple_line_told, simple_request_told, tidy_line_told};
     ghost use Rattle.debug_session.specs.DebugState.{IsDebugged};
+    ghost use Rattle.debug_session.specs.Naming.{if_repeatable, meant_request, naming_of, repeated_now, repeated_with_places};
     ghost use Rattle.debug_session.specs.Session.{debug_state};
 
     /// Answers a line; of a HEX or an ASM line, reads its block from the lines that follow.
@@ -68,10 +76,87 @@ impl DebugSession {
         ensures errors { IfErr result IsLineError }
         ensures same_flag { OnOk result (W.has_failed sink.new ≡ W.has_failed sink.old) }
     {
-        match repeated_line(words) {
+        match self.repeated_now(words)? {
             Some(repeated) => self.repeat(images, sink, repeated.count, repeated.line, script),
             None => self.simple_line(images, sink, words, script),
         }
+    }
+
+    // What is repeated, and how often, of a tidy line.
+    fn repeated_now<'a>(&self, words: &'a [u8]) -> Result<Option<RepeatedLine<'a>>, AllocError>
+        ensures told { (images : List Entry) → IfOk result (λ repeated. option_map count_and_line repeated
+            ≡ repeated_now (naming_of (debug_state self.now images)) words.now) }
+        ensures alone { IfOk result (λ repeated. IfSome repeated
+            (λ r. debug_opens_block (simple_request r.line.now) ≡ false)) }
+        ensures some { IfOk result (λ repeated. IfSome repeated
+            (λ r. debug_opens_block (own_request words.now) ≡ false)) }
+        ensures none { IfOk result (λ repeated. IfNone repeated
+            (own_request words.now ≡ simple_request words.now)) }
+    {
+        match repeated_line(words) {
+            Some(repeated) => Ok(Some(repeated)),
+            None => self.repeated_with_places(words),
+        }
+    }
+
+    // What is repeated, and how often, of a line that means nothing as it stands.
+    fn repeated_with_places<'a>(
+        &self,
+        words: &'a [u8],
+    ) -> Result<Option<RepeatedLine<'a>>, AllocError>
+        ensures told { (images : List Entry) → IfOk result (λ repeated. option_map count_and_line repeated
+            ≡ repeated_with_places (naming_of (debug_state self.now images)) words.now) }
+        ensures alone { IfOk result (λ repeated. IfSome repeated
+            (λ r. debug_opens_block (simple_request r.line.now) ≡ false)) }
+        ensures some { IfOk result (λ repeated. IfSome repeated
+            (λ r. is_known (simple_request words.now) ≡ false)) }
+    {
+        if is_known_line(words) {
+            return Ok(None);
+        }
+        match repeated_text(words) {
+            Some(repeated) => self.if_repeatable(repeated),
+            None => Ok(None),
+        }
+    }
+
+    // The same where the line may be repeated now.
+    fn if_repeatable<'a>(
+        &self,
+        repeated: RepeatedLine<'a>,
+    ) -> Result<Option<RepeatedLine<'a>>, AllocError>
+        ensures told { (images : List Entry) → IfOk result (λ found. option_map count_and_line found
+            ≡ if_repeatable (naming_of (debug_state self.now images))
+            (Some (count_and_line repeated.entry))) }
+        ensures alone { IfOk result (λ found. IfSome found
+            (λ r. debug_opens_block (simple_request r.line.now) ≡ false)) }
+    {
+        if self.is_repeatable_now(repeated.line)? {
+            Ok(Some(repeated))
+        } else {
+            Ok(None)
+        }
+    }
+
+    // Whether a tidy line asks for something now, and opens no block.
+    fn is_repeatable_now(&self, line: &[u8]) -> Result<bool, AllocError>
+        ensures told { (images : List Entry) → IfOk result (λ is. is
+            ≡ is_repeatable (meant_request (naming_of (debug_state self.now images)) line.now)) }
+        ensures alone { IfOk result (λ is. is ≡ true → debug_opens_block (simple_request line.now) ≡ false) }
+    {
+        if is_known_line(line) {
+            return Ok(is_repeatable_line(line));
+        }
+        let numbered = self.with_numbers(line)?;
+        Ok(is_repeatable_line(numbered.as_slice()))
+    }
+
+    // A tidy line with numbers in place of the words that name places now.
+    fn with_numbers(&self, line: &[u8]) -> Result<Vec<u8>, AllocError>
+        ensures { (images : List Entry) → IfOk result (λ text. text.items
+            ≡ line_with_numbers (naming_of (debug_state self.now images)) line.now) }
+    {
+        names_on(&self.labels, self.session.machine()).line_with_numbers(self.alloc, line)
     }
 
     // Answers a tidy line many times.
@@ -83,7 +168,7 @@ impl DebugSession {
         line: &[u8],
         script: &mut Lines,
     ) -> Result<(), RunError>
-        requires { is_repeatable (simple_request line.now) ≡ true }
+        requires { debug_opens_block (simple_request line.now) ≡ false }
         ensures told { OnOk result (IsDebugged (W.contents sink.old) (W.contents sink.new)
             (debug_state self.new images.new)
             (repeated_told count self.old.setting script.old.number line.now
@@ -105,7 +190,7 @@ impl DebugSession {
         Ok(())
     }
 
-    // Answers a tidy line that is no REPEAT.
+    // Answers a tidy line that is no REPEAT: as it stands, or with numbers where it means nothing so.
     fn simple_line<W: Sink>(
         &mut self,
         images: &mut Images,
@@ -115,8 +200,8 @@ impl DebugSession {
     ) -> Result<(), RunError>
         ensures told { OnOk result (IsDebugged (W.contents sink.old) (W.contents sink.new)
             (debug_state self.new images.new)
-            (simple_request_told self.old.setting (debug_state self.old images.old) script.old.number
-            words.now (simple_request words.now) (block_lines script.old.left))) }
+            (simple_line_told self.old.setting (debug_state self.old images.old) script.old.number
+            words.now (block_lines script.old.left))) }
         ensures left { OnOk result (script.new.left
             ≡ lines_after (debug_opens_block (simple_request words.now)) script.old.left) }
         ensures number { OnOk result (script.new.number ≡ script.old.number
@@ -125,8 +210,46 @@ impl DebugSession {
         ensures errors { IfErr result IsLineError }
         ensures same_flag { OnOk result (W.has_failed sink.new ≡ W.has_failed sink.old) }
     {
-        match simple_command(words) {
-            DebugCommand::Script(_) => self.script_line(images, sink, words, script),
+        if is_known_line(words) {
+            return self.known_line(images, sink, words, words, script);
+        }
+        let numbered = self.with_numbers(words)?;
+        let line = numbered.as_slice();
+        if is_repeatable_line(line) {
+            return self.known_line(images, sink, words, line, script);
+        }
+        self.refuse(sink, script.number())
+    }
+
+    // Answers a line by what it means as it stands; `words` are the line as it was typed, made tidy.
+    fn known_line<W: Sink>(
+        &mut self,
+        images: &mut Images,
+        sink: &mut W,
+        words: &[u8],
+        line: &[u8],
+        script: &mut Lines,
+    ) -> Result<(), RunError>
+        ensures told { OnOk result (IsDebugged (W.contents sink.old) (W.contents sink.new)
+            (debug_state self.new images.new)
+            (simple_request_told self.old.setting (debug_state self.old images.old) script.old.number
+            words.now (simple_request line.now) (block_lines script.old.left))) }
+        ensures left { OnOk result (script.new.left
+            ≡ lines_after (debug_opens_block (simple_request line.now)) script.old.left) }
+        ensures number { OnOk result (script.new.number ≡ script.old.number
+            + lines_taken (debug_opens_block (simple_request line.now)) script.old.left) }
+        ensures setting { self.new.setting ≡ self.old.setting }
+        ensures errors { IfErr result IsLineError }
+        ensures same_flag { OnOk result (W.has_failed sink.new ≡ W.has_failed sink.old) }
+    {
+        match simple_command(line) {
+            DebugCommand::Script(_) => {
+                self.script_line(images, sink, untraced_line(line), script)
+            }
+            DebugCommand::Stepping(is_traced, command) => {
+                self.stepping_line(images, sink, is_traced, &command)
+            }
+            DebugCommand::Mode(command) => self.mode_line(sink, &command),
             DebugCommand::Remark => Ok(()),
             DebugCommand::View(view) => self.look(sink, view),
             DebugCommand::SetPc(address) => {
@@ -137,6 +260,7 @@ impl DebugSession {
                 self.set_psr(pattern);
                 Ok(())
             }
+            DebugCommand::Put(name, address) => self.put(images, sink, name, address),
             DebugCommand::Forget(name) => self.forget(images, sink, name),
             DebugCommand::Reset => self.reset(sink),
             DebugCommand::Quit => {

@@ -10,10 +10,16 @@ pub const HELP: &[u8] = b"lines of a script:
 lines of a debugging script:
   ; text, # text                             a comment, a heading
   WORDS a n, STACK n, BANKS, WHERE           words, the stack, the banks, the PC
-  FRAMES                                     the calls of module code that are open
+  FRAMES, LABELS                             open calls of module code; labels of images
   SET PC a, SET PSR Nz SVC                   letters left out stay
-  RESET                                      a fresh machine; images and breaks stay
+  RESET                                      a fresh machine; images, labels, breaks, modes stay
   FORGET name, REPEAT n line                 an image goes; a line, n times
+  TRACE line, TRACE n, TRACE ON, TRACE OFF   steps told one by one; TRACE LIMIT n of a line
+  FINISH, GOSUB a                            until a frame has gone back; a routine called
+  PUT name a                                 an image's bytes to an address
+  STUB n R0 v .., UNSTUB n                   a SWI that the machine doesn't have
+  WATCH a, UNWATCH a                         a run ends where the word changes
+  label, image:label+4, R1, PC-4             in place of an address, or behind SET x, EXPECT x
   EXPECT R0 v, R13_svc v, PC v, FLAGS Zc     what should be so, or the script fails
   EXPECT WORD a v, BYTE a v, STEPS n, STEPS <= n
   EXPECT ANSWER text, LINE text, ERROR n, OUTPUT \"text\"

@@ -9,6 +9,7 @@ mod own_lines;
 pub mod reports;
 mod script_lines;
 mod session;
+mod stepping_lines;
 mod typing;
 
 pub use reports::{CheckTally, ReportForm};

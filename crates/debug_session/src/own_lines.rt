@@ -5,19 +5,22 @@ ghost use Rattle.std.specs.Option.{option_map};
 ghost use Rattle.image_loader.specs.Entries.{bytes_of_image};
 ghost use Rattle.command_shell.specs.Error.{IsLineError};
 ghost use Rattle.debug_checks.specs.Reasons.{reason_text};
-ghost use Rattle.debug_session.specs.DebugScript.{forget_text};
+ghost use Rattle.command_shell.specs.Answers.{refused_text};
+ghost use Rattle.debug_session.specs.DebugScript.{forget_text, put_text};
 ghost use Rattle.profile.specs.Output.{Writes};
 
 use crate::help::HELP;
 use crate::reports::{push_answer, push_fail, push_pass, push_refusal};
 use crate::session::DebugSession;
+use byte_writes::put_bytes;
 use command_shell::{RunError, tell_unknown};
 use command_shell_lines::Origin;
 use debug_checks::{Mismatch, SeenMachine, check, push_reason, status_with};
 use debug_lines::{DebugView, Expectation, StatusPattern};
-use debug_views::{show_banks, show_frames, show_stack, show_where, show_words};
+use debug_places::{names_on, show_frames, show_stack, show_where};
+use debug_views::{show_banks, show_words};
 use image_loader::Images;
-use profile::{Sink, WriteFault, push_all};
+use profile::{HexText, Sink, WriteFault, push_all};
 use std::alloc::{AllocError, Global};
 use view_items::TextSink;
 
@@ -27,7 +30,7 @@ impl DebugSession {
     ghost use Rattle.debug_checks.specs.Checks.{check_told, status_after_pattern};
     ghost use Rattle.debug_lines.specs.Expectations.{expect_request_of};
     ghost use Rattle.debug_lines.specs.DebugRequests.{view_request_of};
-    ghost use Rattle.debug_session.specs.DebugScript.{checked_told, forget_told, machine_change_told, reset_told, seen_of, unknown_told, view_text, view_told};
+    ghost use Rattle.debug_session.specs.DebugScript.{checked_told, forget_told, machine_change_told, put_told, reset_told, seen_of, unknown_told, view_text, view_told};
     ghost use Rattle.debug_session.specs.DebugState.{IsDebugged};
     ghost use Rattle.debug_session.specs.Session.{debug_state};
     ghost use Rattle.swi_dispatch_guest.specs.Parts.{state_of};
@@ -35,17 +38,19 @@ impl DebugSession {
     /// Writes what a line shows that only looks.
     fn show_view<W: Sink>(&self, sink: &mut W, view: DebugView) -> Result<(), WriteFault>
         ensures { Writes W.contents W.has_failed sink.old sink.new result
-            (view_text (state_of self.now.session.machine.guest) (view_request_of view)) }
+            (view_text self.now.labels (state_of self.now.session.machine.guest) (view_request_of view)) }
     {
         let machine = self.session.machine();
+        let labels = &self.labels;
         match view {
             DebugView::Words(address, count) => {
                 show_words(machine, address.address(), count, sink)
             }
-            DebugView::Where => show_where(machine, sink),
+            DebugView::Where => show_where(labels, machine, sink),
             DebugView::Banks => show_banks(machine, sink),
-            DebugView::Stack(count) => show_stack(machine, count, sink),
-            DebugView::Frames => show_frames(machine, sink),
+            DebugView::Stack(count) => show_stack(labels, machine, count, sink),
+            DebugView::Frames => show_frames(labels, machine, sink),
+            DebugView::Labels => names_on(labels, machine).show_labels(sink),
             DebugView::Help => push_all(sink, HELP),
         }
     }
@@ -53,7 +58,7 @@ impl DebugSession {
     // What such a line shows.
     fn view_text(&self, view: DebugView) -> Result<Vec<u8>, AllocError>
         ensures { IfOk result (λ text. text.items
-            ≡ view_text (state_of self.now.session.machine.guest) (view_request_of view)) }
+            ≡ view_text self.now.labels (state_of self.now.session.machine.guest) (view_request_of view)) }
     {
         let mut text = TextSink::new(self.alloc);
         match self.show_view(&mut text, view) {
@@ -67,7 +72,8 @@ impl DebugSession {
         ensures told { (images : List Entry) → OnOk result
             (IsDebugged (W.contents sink.old) (W.contents sink.new) (debug_state self.new images)
             (view_told self.old.setting (debug_state self.old images)
-            (view_text (debug_state self.old images).script.machine (view_request_of view)))) }
+            (view_text (debug_state self.old images).labels (debug_state self.old images).script.machine
+            (view_request_of view)))) }
         ensures setting { self.new.setting ≡ self.old.setting }
         ensures errors { IfErr result IsLineError }
         ensures same_flag { OnOk result (W.has_failed sink.new ≡ W.has_failed sink.old) }
@@ -76,7 +82,7 @@ impl DebugSession {
         Ok(self.view(sink, text)?)
     }
 
-    /// Takes the image of that name out.
+    /// Takes the image of that name out, and its labels.
     pub(crate) fn forget<W: Sink>(
         &mut self,
         images: &mut Images,
@@ -93,10 +99,40 @@ impl DebugSession {
         let is_there = has_image(images, name);
         let text = forget_text(self.alloc, is_there, name)?;
         let _was_there = images.remove(name);
+        self.labels.remove(name);
         Ok(self.view(sink, text)?)
     }
 
-    // Begins anew on a fresh machine; images and breaks stay.
+    /// Writes the bytes of the image of that name to memory.
+    pub(crate) fn put<W: Sink>(
+        &mut self,
+        images: &Images,
+        sink: &mut W,
+        name: &[u8],
+        address: u32,
+    ) -> Result<(), RunError>
+        ensures told { OnOk result (IsDebugged (W.contents sink.old) (W.contents sink.new)
+            (debug_state self.new images.now)
+            (put_told self.old.setting (debug_state self.old images.now) name.now address)) }
+        ensures setting { self.new.setting ≡ self.old.setting }
+        ensures errors { IfErr result IsLineError }
+        ensures same_flag { OnOk result (W.has_failed sink.new ≡ W.has_failed sink.old) }
+    {
+        let Some(bytes) = images.get(name) else {
+            let text = refused_text(self.alloc, b"NoImage")?;
+            return Ok(self.view(sink, text)?);
+        };
+        let done = put_text(self.alloc, name, address)?;
+        match put_bytes(&mut self.session, address, bytes) {
+            Ok(()) => Ok(self.view(sink, done)?),
+            Err(fault) => {
+                let text = refused_text(self.alloc, fault.name().as_bytes())?;
+                Ok(self.view(sink, text)?)
+            }
+        }
+    }
+
+    // Begins anew on a fresh machine; images, labels, breaks and modes stay.
     pub(crate) fn start_anew(&mut self) -> Result<(), AllocError>
         ensures made { OnOk result ((images : List Entry) → debug_state self.new images
             ≡ record (debug_state self.old images) {
@@ -109,7 +145,7 @@ impl DebugSession {
             .start_anew(self.setting.config, self.setting.budget)
     }
 
-    /// Begins anew on a fresh machine; images and breaks stay.
+    /// Begins anew on a fresh machine; images, labels, breaks and modes stay.
     pub(crate) fn reset<W: Sink>(&mut self, sink: &mut W) -> Result<(), RunError>
         ensures told { (images : List Entry) → OnOk result
             (IsDebugged (W.contents sink.old) (W.contents sink.new) (debug_state self.new images)
@@ -250,6 +286,27 @@ fn forget_text(alloc: Global, is_there: bool, name: &[u8]) -> Result<Vec<u8>, Al
     }
     let mut text = Vec::from_slice(alloc, b"forget ")?;
     text.extend_from_slice(name)?;
+    text.push(b'\n')?;
+    Ok(text)
+}
+
+fn put_text(alloc: Global, name: &[u8], address: u32) -> Result<Vec<u8>, AllocError>
+    ensures { IfOk result (λ text. text.items ≡ put_text name.now address) }
+{
+    let mut text = Vec::from_slice(alloc, b"put ")?;
+    text.extend_from_slice(name)?;
+    text.extend_from_slice(b" at &")?;
+    text.extend_from_slice(HexText::number(address).as_slice())?;
+    text.push(b'\n')?;
+    Ok(text)
+}
+
+#[tactic(auto, unfolding(command_shell::specs::Answers::refused_text))]
+fn refused_text(alloc: Global, reason: &[u8]) -> Result<Vec<u8>, AllocError>
+    ensures { IfOk result (λ text. text.items ≡ refused_text reason.now) }
+{
+    let mut text = Vec::from_slice(alloc, b"refused ")?;
+    text.extend_from_slice(reason)?;
     text.push(b'\n')?;
     Ok(text)
 }

@@ -7,13 +7,16 @@ ghost use Rattle.command_shell.specs.Script.{request_told};
 ghost use Rattle.command_shell_lines.specs.Blocks.{block_lines, lines_after, lines_taken};
 ghost use Rattle.debug_checks.specs.Endings.{ending_of, output_of};
 ghost use Rattle.command_shell_lines.specs.Requests.{opens_block, request_of};
+ghost use Rattle.assembler.specs.Passes.{labels_of_lines};
 ghost use Rattle.debug_session.specs.DebugScript.{is_named_image, asks_nothing, takes_steps};
+ghost use Rattle.debug_session.specs.Naming.{labels_with_block, labels_with_image};
 
 use crate::reports::{push_answer, push_refusal};
 use crate::session::DebugSession;
+use assembler::labels_of_lines;
 use command_shell::RunError;
 use command_shell_lines::text_lines::Lines;
-use command_shell_lines::{ScriptCommand, command_of};
+use command_shell_lines::{Origin, ScriptCommand, command_of, skip_block};
 use debug_checks::{ending_of, output_of};
 use image_loader::Images;
 use profile::{Sink, WriteFault};
@@ -25,12 +28,12 @@ impl DebugSession {
     ghost use Rattle.command_shell.specs.Session.{script_state};
     ghost use Rattle.command_shell.specs.State.{IsAnswered};
     ghost use Rattle.image_loader.specs.Entries.{Entry};
-    ghost use Rattle.debug_session.specs.DebugScript.{script_line_told, told_or_refused};
+    ghost use Rattle.debug_session.specs.DebugScript.{plain_line_told, told_or_refused};
     ghost use Rattle.debug_session.specs.DebugState.{IsDebugged};
     ghost use Rattle.debug_session.specs.Session.{debug_state};
 
-    /// Answers a line of a script.
-    pub(crate) fn script_line<W: Sink>(
+    // Answers a line of a script as a script does, with the whole budget for its steps.
+    pub(crate) fn plain_line<W: Sink>(
         &mut self,
         images: &mut Images,
         sink: &mut W,
@@ -39,7 +42,7 @@ impl DebugSession {
     ) -> Result<(), RunError>
         ensures told { OnOk result (IsDebugged (W.contents sink.old) (W.contents sink.new)
             (debug_state self.new images.new)
-            (script_line_told self.old.setting (debug_state self.old images.old) script.old.number
+            (plain_line_told self.old.setting (debug_state self.old images.old) script.old.number
             (request_of line.now) (block_lines script.old.left))) }
         ensures left { OnOk result (script.new.left
             ≡ lines_after (opens_block (request_of line.now)) script.old.left) }
@@ -50,6 +53,7 @@ impl DebugSession {
         ensures same_flag { OnOk result (W.has_failed sink.new ≡ W.has_failed sink.old) }
     {
         let number = script.number();
+        let block = script.again();
         let was_there = is_named_image(images, line);
         let answer = self.answer_to(images, line, script)?;
         if asks_nothing(line) {
@@ -58,6 +62,7 @@ impl DebugSession {
         let text = answer.as_slice();
         self.note(takes_steps(line), text)?;
         let is_refused = is_refused_block(was_there, images, line);
+        self.take_labels(images, line, &block, is_refused)?;
         Ok(self.tell(sink, number, is_refused, text)?)
     }
 
@@ -115,8 +120,56 @@ impl DebugSession {
         Ok(())
     }
 
+    // Takes in the labels of the image that a line has made of a block, if it has.
+    fn take_labels(
+        &mut self,
+        images: &Images,
+        line: &[u8],
+        block: &Lines,
+        is_refused: bool,
+    ) -> Result<(), RunError>
+        ensures labels { OnOk result (self.new.labels ≡ (if is_refused then self.old.labels
+            else labels_with_block self.old.labels images.now (request_of line.now)
+            (block_lines block.now.left))) }
+        ensures rest { OnOk result (self.new ≡ record self.old { labels = self.new.labels }) }
+        ensures setting { self.new.setting ≡ self.old.setting }
+        ensures errors { IfErr result IsLineError }
+    {
+        match command_of(line) {
+            ScriptCommand::Asm(name, origin) if !is_refused => match images.get(name) {
+                Some(bytes) => self.add_labels(name, bytes, origin, block),
+                None => Ok(()),
+            },
+            _ => Ok(()),
+        }
+    }
+
+    // Adds the labels of an image that a block has made. A block that is a program has labels, so
+    // that it is memory that lacks where there are none.
+    fn add_labels(
+        &mut self,
+        name: &[u8],
+        bytes: &[u8],
+        origin: Origin,
+        block: &Lines,
+    ) -> Result<(), RunError>
+        ensures labels { OnOk result (self.new.labels ≡ labels_with_image self.old.labels name.now origin
+            (Some bytes.now) (labels_of_lines (block_lines block.now.left) origin)) }
+        ensures rest { OnOk result (self.new ≡ record self.old { labels = self.new.labels }) }
+        ensures setting { self.new.setting ≡ self.old.setting }
+        ensures errors { IfErr result IsLineError }
+    {
+        let mut after = block.again();
+        let count = skip_block(&mut after);
+        let origin = origin.address();
+        match labels_of_lines(self.alloc, block, count, origin) {
+            Ok(labels) => Ok(self.labels.add(name, bytes, origin, &labels)?),
+            Err(_) => Err(RunError::Memory),
+        }
+    }
+
     // How many steps the last line took.
-    fn steps_taken(&self) -> u64
+    pub(crate) fn steps_taken(&self) -> u64
         ensures { result ≡ self.now.setting.budget - self.now.session.left }
     {
         self.setting.budget.saturating_sub(self.session.left())

@@ -8,6 +8,8 @@ use crate::reports::{CheckTally, ReportForm, push_summary};
 use command_line::stop_status;
 use command_shell::{RunError, Session};
 use command_shell_lines::text_lines::Lines;
+use debug_labels::LabelTable;
+use debug_modes::DebugModes;
 use image_loader::Images;
 use profile::{Config, Sink, WriteFault};
 use std::alloc::{AllocError, Global};
@@ -29,6 +31,8 @@ pub struct DebugSession {
     pub(crate) alloc: Global,
     pub(crate) setting: DebugSetting,
     pub(crate) session: Session,
+    pub(crate) labels: LabelTable,
+    pub(crate) modes: DebugModes,
     pub(crate) answer: Vec<u8>,
     pub(crate) output: Vec<u8>,
     pub(crate) steps: u64,
@@ -57,6 +61,8 @@ impl DebugSession {
             alloc,
             setting,
             session: Session::on_fresh_machine(alloc, setting.config, setting.budget)?,
+            labels: LabelTable::new(alloc),
+            modes: DebugModes::new(),
             answer: Vec::new(alloc),
             output: Vec::new(alloc),
             steps: 0,

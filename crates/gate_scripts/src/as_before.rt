@@ -3,15 +3,16 @@
 //! It does so where both of these hold, and the gate asks it of just those scripts:
 //!
 //! - No line that `rosm` doesn't know means anything there: untidy lines, comments and the lines of
-//!   its own do. Where `rosm` has answered no line by `? line n`, there is no such line; else all
-//!   lines are looked at, those of blocks too.
+//!   its own do, and lines whose words may name places can. Where `rosm` has answered no line by
+//!   `? line n`, there is no such line; else all lines are looked at, those of blocks too.
 //! - The budget makes no difference, which each line of a debugging session has for itself: no
 //!   answer is `stop Budget`, since steps that end before a budget does end so with a larger one,
 //!   too; or one line at most takes steps. Lines of blocks count as lines here, too.
 
+use debug_labels::may_name_places;
 use debug_lines::command_shell_lines::text_lines::Lines;
 use debug_lines::command_shell_lines::{ScriptCommand, command_of};
-use debug_lines::{is_own_line, is_script_line, tidied};
+use debug_lines::{is_own_line, is_script_line, repeated_text, tidied};
 use std::alloc::{AllocError, Global};
 
 const NOT_KNOWN: &[u8] = b"? line ";
@@ -59,16 +60,24 @@ fn takes_steps(line: &[u8]) -> bool {
     )
 }
 
-// Whether a line is none of `rosm`'s, but means something in a debugging script.
+// Whether a line is none of `rosm`'s, but means something in a debugging script, or may.
 fn has_own_line(alloc: Global, script: &[u8]) -> Result<bool, AllocError> {
     let mut lines = Lines::new(script);
     while let Some(line) = lines.next_line() {
         if !is_script_line(line) {
             let words = tidied(alloc, line)?;
-            if is_own_line(words.as_slice()) {
+            let line = words.as_slice();
+            if is_own_line(line) || may_have_places(line) {
                 return Ok(true);
             }
         }
     }
     Ok(false)
+}
+
+fn may_have_places(line: &[u8]) -> bool {
+    match repeated_text(line) {
+        Some(repeated) => may_name_places(repeated.line),
+        None => may_name_places(line),
+    }
 }

@@ -1,15 +1,17 @@
-use Rattle.std.proofs.Common.{Bool, List, ◌∙◌, ap, refl}
-use Rattle.image_loader.specs.Entries.{Entry}
+use Rattle.std.proofs.Common.{Bool, ◌∙◌, ap, refl}
 use Rattle.debug_session.specs.DebugScript.{forget_text}
 use Rattle.debug_session.specs.Session.{debug_state}
-use Rattle.debug_session.proofs.OwnLemmas.{view_after}
+use Rattle.debug_session.specs.declared.session.DebugSession.{DebugSession}
+use Rattle.debug_session.proofs.OwnLemmas.{view_after, without_image}
 use Rattle.debug_session.proofs.session.DebugSession.forget.Goals as goal
 
 pub returns-clause-told : goal.returns-clause-told
 returns-clause-told g c =
     let after = c.remove-was_there.new.self in
-    view_after _ _ _ (debug_state c.args.self.now after) _ c.args.self.now.setting c.args.self.now.setting
+    let old = c.args.self.now in
+    let gone : DebugSession = record old { labels = c.remove.new.self } in
+    view_after _ _ _ (debug_state gone after) _ old.setting old.setting
     c.in_ok-text.text.items _ refl
-    (ap (λ (es : List Entry). debug_state c.args.self.now es) c.remove-was_there.ensures.left)
+    (without_image (debug_state old c.args.images.now) _ after c.remove.new.self _ c.remove-was_there.ensures.left c.remove.ensures)
     (c.in_ok-text.ensures ∙ ap (λ (b : Bool). forget_text b c.args.name.now) c.has_image-is_there.ensures)
     (c.in_ok-view.ensures.told after)

@@ -1,11 +1,10 @@
 use Rattle.std.proofs.Common.{◌≡◌, ℕ, ◌+◌, ◌-◌, Bool, List, ◌∙◌, ap, sym, arith}
 use Rattle.command_shell_lines.specs.Blocks.{block_lines, lines_after, lines_taken}
-use Rattle.debug_lines.specs.DebugRequests.{simple_request}
-use Rattle.debug_session.specs.DebugScript.{repeated_told, simple_request_told}
+use Rattle.debug_session.specs.DebugScript.{repeated_told, simple_line_told}
 use Rattle.debug_session.specs.DebugState.{DebugAnswered}
 use Rattle.debug_session.specs.Session.{debug_state}
 use Rattle.profile.proofs.OutputLemmas.{AddsAllBut-more, Appends-from_all_but}
-use Rattle.debug_session.proofs.RepeatLemmas.{repeat_none, repeat_quit, repeat_state, repeat_text, repeatable_alone, told_there}
+use Rattle.debug_session.proofs.RepeatLemmas.{repeat_none, repeat_quit, repeat_state, repeat_text, told_there}
 use Rattle.debug_session.proofs.session.DebugSession.repeat.Goals as goal
 
 pub loop-left-preserved : goal.loop-left-preserved
@@ -23,10 +22,10 @@ loop-left-preserved g c =
     setting c.loop-left.self.setting number c.loop-left.script.number line block (block_lines c.loop-left.script.left)
     i.setting i.number (ap block_lines i.lines) own.told in
     let next : n ≡ (n - 1) + 1 = omega (arith, c.loop-left-test.true) in
-    let first = simple_request_told setting before number line (simple_request line) block in
+    let first = simple_line_told setting before number line block in
     let text = repeat_text n (n - 1) setting number line block before after next c.if-self.false told.state in
     let state = repeat_state n (n - 1) setting number line block before after next c.if-self.false told.state in
-    let alone = repeatable_alone (simple_request line) c.requires in
+    let alone = c.requires in
     let taken = own.number ∙ ap (λ (b : Bool). c.loop-left.script.number + lines_taken b c.loop-left.script.left) alone in
     record {
       text = AddsAllBut-more (g.W.Sink.contents c.args.sink.now) (g.W.Sink.contents c.loop-left.sink)

@@ -1,50 +1,43 @@
-use Rattle.std.proofs.Common.{List, ◌∙◌, ap}
-use Rattle.image_loader.specs.Entries.{Entry}
-use Rattle.command_shell.specs.Memory.{script_with_budget}
-use Rattle.command_shell.specs.Script.{request_told}
-use Rattle.command_shell.specs.Session.{script_state}
-use Rattle.command_shell.specs.State.{Answered, ScriptState}
-use Rattle.command_shell_lines.specs.Blocks.{block_lines}
-use Rattle.command_shell_lines.specs.Requests.{request_of}
+-- A line that takes steps in modes, and any other.
+use Rattle.std.proofs.Common.{◌≡◌, ℕ, ◌+◌, Bool, List, Option, arith, refl, sym, subst}
+use Rattle.std.specs.Prelude.{OnOk}
+use Rattle.command_shell_lines.specs.Blocks.{block_lines, lines_after, lines_taken}
+use Rattle.command_shell_lines.specs.Requests.{opens_block, request_of}
+use Rattle.debug_lines.specs.SteppingRequests.{SteppingRequest, stepping_request_of}
+use Rattle.debug_modes.specs.Modes.{takes_over}
+use Rattle.debug_session.specs.DebugScript.{script_line_told_in}
+use Rattle.debug_session.specs.DebugState.{IsDebugged}
 use Rattle.debug_session.specs.Session.{debug_state}
-use Rattle.debug_session.proofs.OwnLemmas.{line_told, nothing_told, refused_as_told, session_moved, session_noted, told_with}
-use Rattle.debug_session.specs.declared.session.DebugSession.{DebugSession}
+use Rattle.debug_session.proofs.SteppingLemmas.{anyhow, stepping_alone}
 use Rattle.debug_session.proofs.session.DebugSession.script_line.Goals as goal
 
-pub returns-then-asks_nothing-clause-told : goal.returns-then-asks_nothing-clause-told
-returns-then-asks_nothing-clause-told g c =
-    let old = c.args.self.now in
-    let d = debug_state old c.args.images.now in
-    let r = request_of c.args.line.now in
-    let block = block_lines c.args.script.now.left in
-    let told = request_told (script_with_budget d.script old.setting.budget) c.args.script.now.number r block in
-    nothing_told old.setting d (debug_state c.answer_to.new.self c.answer_to.new.images) c.args.script.now.number r block
-    (g.W.Sink.contents c.args.sink.now) c.asks_nothing.result c.asks_nothing.ensures c.if-asks_nothing.true
-    (session_moved old c.answer_to.new.self c.args.images.now c.answer_to.new.images told.state
-    c.in_ok-answer.ensures.rest c.in_ok-answer.ensures.told.state)
+pub returns-in-Some-clause-told : goal.returns-in-Some-clause-told
+returns-in-Some-clause-told g c =
+    subst (λ (o : Option SteppingRequest). OnOk c.stepping_line.result (IsDebugged (g.W.Sink.contents c.args.sink.now)
+    (g.W.Sink.contents c.stepping_line.new.sink) (debug_state c.stepping_line.new.self c.args.images.now)
+    (script_line_told_in o c.args.self.now.setting (debug_state c.args.self.now c.args.images.now)
+    c.args.script.now.number (request_of c.args.line.now) (block_lines c.args.script.now.left))))
+    (c.in-Some.ensures c.args.images.now) c.stepping_line.ensures.told
 
-pub returns-clause-told : goal.returns-clause-told
-returns-clause-told g c =
-    let old = c.args.self.now in
-    let d = debug_state old c.args.images.now in
-    let r = request_of c.args.line.now in
-    let told = request_told (script_with_budget d.script old.setting.budget) c.args.script.now.number r
-    (block_lines c.args.script.now.left) in
-    let mid = c.answer_to.new.self in
-    let after = c.answer_to.new.images in
-    let at_tell = debug_state c.note.new.self after in
-    let answered = c.in_ok-answer.ensures in
-    let kept = c.in_ok-note.ensures in
-    line_told (g.W.Sink.contents c.args.sink.now) (g.W.Sink.contents c.tell.new.sink) old.setting d at_tell
-    (debug_state c.tell.new.self after) c.args.script.now.number r told c.as_slice-text.result.now
-    c.is_refused_block-is_refused.result c.asks_nothing.result
-    (session_noted old mid c.note.new.self c.args.images.now after c.as_slice-text.result.now c.takes_steps.result r told
-    answered.rest kept.rest kept.answer kept.output kept.steps c.takes_steps.ensures answered.told.state
-    (c.as_slice-text.ensures.value ∙ answered.told.text))
-    (c.as_slice-text.ensures.value ∙ answered.told.text)
-    c.asks_nothing.ensures c.if-asks_nothing.false
-    (refused_as_told c.is_refused_block-is_refused.result c.is_named_image-was_there.result c.args.images.now after told.state.images r
-    c.is_refused_block-is_refused.ensures c.is_named_image-was_there.ensures (ap (λ (s : ScriptState). s.images) answered.told.state))
-    (told_with _ _ _ at_tell c.note.new.self.setting old.setting c.number-number.result c.args.script.now.number
-    c.is_refused_block-is_refused.result c.as_slice-text.result.now (kept.setting ∙ ap (λ (s : DebugSession). s.setting) answered.rest) c.number-number.ensures
-    (c.in_ok-tell.ensures.told after))
+pub returns-in-Some-clause-left : goal.returns-in-Some-clause-left
+returns-in-Some-clause-left g c =
+    let alone = stepping_alone (takes_over c.args.self.now.modes) (request_of c.args.line.now)
+    (stepping_request_of c.in-Some.command) (c.in-Some.ensures c.args.images.now) in
+    subst (λ (b : Bool). OnOk c.stepping_line.result (c.args.script.now.left ≡ lines_after b c.args.script.now.left)) (sym alone)
+    (anyhow c.stepping_line.result _ refl)
+
+pub returns-in-None-clause-told : goal.returns-in-None-clause-told
+returns-in-None-clause-told g c =
+    subst (λ (o : Option SteppingRequest). OnOk c.plain_line.result (IsDebugged (g.W.Sink.contents c.args.sink.now)
+    (g.W.Sink.contents c.plain_line.new.sink) (debug_state c.plain_line.new.self c.plain_line.new.images)
+    (script_line_told_in o c.args.self.now.setting (debug_state c.args.self.now c.args.images.now)
+    c.args.script.now.number (request_of c.args.line.now) (block_lines c.args.script.now.left))))
+    (c.in-None.ensures c.args.images.now) c.plain_line.ensures.told
+
+pub returns-in-Some-clause-number : goal.returns-in-Some-clause-number
+returns-in-Some-clause-number g c =
+    let alone = stepping_alone (takes_over c.args.self.now.modes) (request_of c.args.line.now)
+    (stepping_request_of c.in-Some.command) (c.in-Some.ensures c.args.images.now) in
+    subst (λ (b : Bool). OnOk c.stepping_line.result
+    (c.args.script.now.number ≡ c.args.script.now.number + lines_taken b c.args.script.now.left)) (sym alone)
+    (anyhow c.stepping_line.result _ (omega arith))

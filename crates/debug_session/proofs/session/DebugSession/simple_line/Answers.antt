@@ -1,84 +1,62 @@
--- Each request is told as its own call tells it.
-use Rattle.std.proofs.Common.{◌≡◌, ◌+◌, refl, subst}
+-- A line by what it means as it stands, or with numbers.
+use Rattle.std.proofs.Common.{◌≡◌, ℕ, ◌+◌, Bool, List, ap, sym, subst, ◌∙◌}
 use Rattle.std.specs.Prelude.{OnOk}
-use Rattle.command_shell.specs.Memory.{script_at, script_with_status}
 use Rattle.command_shell_lines.specs.Blocks.{block_lines, lines_after, lines_taken}
-use Rattle.command_shell_lines.specs.Requests.{request_of}
-use Rattle.debug_checks.specs.Checks.{status_after_pattern}
-use Rattle.debug_lines.specs.DebugRequests.{DebugRequest, Script, debug_opens_block, simple_request}
-use Rattle.debug_lines.proofs.OwnRequestLemmas.{script_itself}
+use Rattle.debug_lines.specs.DebugRequests.{NotKnown, debug_opens_block, simple_request}
+use Rattle.debug_session.specs.DebugScript.{unknown_told}
+use Rattle.debug_session.specs.DebugState.{IsDebugged}
+use Rattle.debug_session.specs.Naming.{meant_request, naming_of}
 use Rattle.debug_session.specs.Session.{debug_state}
-use Rattle.debug_session.proofs.OwnLemmas.{asked, asked_if, changed_quietly, checked_by}
+use Rattle.debug_session.proofs.NamingLemmas.{meant_known, meant_nothing, meant_numbered, repeatable_alone, unknown_alone}
+use Rattle.debug_session.proofs.OwnLemmas.{asked_if}
 use Rattle.debug_session.proofs.session.DebugSession.simple_line.Goals as goal
 
-pub returns-in-Script-clause-told : goal.returns-in-Script-clause-told
-returns-in-Script-clause-told g c =
-    asked_if c.script_line.result (g.W.Sink.contents c.args.sink.now) (g.W.Sink.contents c.script_line.new.sink)
-    (debug_state c.script_line.new.self c.script_line.new.images) (debug_state c.args.self.now c.args.images.now)
-    c.args.self.now.setting c.args.script.now.number c.args.words.now (block_lines c.args.script.now.left)
-    (Script (request_of c.args.words.now)) (simple_request c.args.words.now)
-    (script_itself c.args.words.now _ c.in-Script.ensures) c.script_line.ensures.told
+pub returns-then-is_known_line-clause-told : goal.returns-then-is_known_line-clause-told
+returns-then-is_known_line-clause-told g c =
+    let d = debug_state c.args.self.now c.args.images.now in
+    let line = c.args.words.now in
+    asked_if c.known_line.result _ _ _ d c.args.self.now.setting c.args.script.now.number line
+    (block_lines c.args.script.now.left) (simple_request line) (meant_request (naming_of d) line)
+    (meant_known (naming_of d) line (sym c.is_known_line.ensures ∙ c.if-is_known_line.true)) c.known_line.ensures.told
 
-pub returns-in-Script-clause-left : goal.returns-in-Script-clause-left
-returns-in-Script-clause-left g c =
-    subst (λ (q : DebugRequest). OnOk c.script_line.result
-    (c.script_line.new.script.left ≡ lines_after (debug_opens_block q) c.args.script.now.left))
-    (script_itself c.args.words.now _ c.in-Script.ensures) c.script_line.ensures.left
+pub returns-then-is_repeatable_line-clause-told : goal.returns-then-is_repeatable_line-clause-told
+returns-then-is_repeatable_line-clause-told g c =
+    let d = debug_state c.args.self.now c.args.images.now in
+    let line = c.args.words.now in
+    let numbered = c.as_slice-line.result.now in
+    asked_if c.known_line-then-is_repeatable_line.result _ _ _ d c.args.self.now.setting c.args.script.now.number line
+    (block_lines c.args.script.now.left) (simple_request numbered) (meant_request (naming_of d) line)
+    (meant_numbered (naming_of d) line numbered (sym c.is_known_line.ensures ∙ c.if-is_known_line.false)
+    (c.as_slice-line.ensures.value ∙ c.in_ok-numbered.ensures c.args.images.now)
+    (sym c.is_repeatable_line.ensures ∙ c.if-is_repeatable_line.true)) c.known_line-then-is_repeatable_line.ensures.told
 
-pub returns-in-Script-clause-number : goal.returns-in-Script-clause-number
-returns-in-Script-clause-number g c =
-    subst (λ (q : DebugRequest). OnOk c.script_line.result
-    (c.script_line.new.script.number ≡ c.args.script.now.number + lines_taken (debug_opens_block q) c.args.script.now.left))
-    (script_itself c.args.words.now _ c.in-Script.ensures) c.script_line.ensures.number
+pub returns-then-is_repeatable_line-clause-left : goal.returns-then-is_repeatable_line-clause-left
+returns-then-is_repeatable_line-clause-left g c =
+    let numbered = c.as_slice-line.result.now in
+    let same = repeatable_alone (simple_request numbered) (sym c.is_repeatable_line.ensures ∙ c.if-is_repeatable_line.true)
+    ∙ sym (unknown_alone (simple_request c.args.words.now) (sym c.is_known_line.ensures ∙ c.if-is_known_line.false)) in
+    subst (λ (b : Bool). OnOk c.known_line-then-is_repeatable_line.result (c.known_line-then-is_repeatable_line.new.script.left ≡ lines_after b c.args.script.now.left)) same
+    c.known_line-then-is_repeatable_line.ensures.left
 
-pub returns-in-View-clause-told : goal.returns-in-View-clause-told
-returns-in-View-clause-told g c =
-    asked_if c.look.result (g.W.Sink.contents c.args.sink.now) (g.W.Sink.contents c.look.new.sink)
-    (debug_state c.look.new.self c.args.images.now) (debug_state c.args.self.now c.args.images.now)
-    c.args.self.now.setting c.args.script.now.number c.args.words.now (block_lines c.args.script.now.left) _
-    (simple_request c.args.words.now) c.in-View.ensures (c.look.ensures.told c.args.images.now)
+pub returns-then-is_repeatable_line-clause-number : goal.returns-then-is_repeatable_line-clause-number
+returns-then-is_repeatable_line-clause-number g c =
+    let numbered = c.as_slice-line.result.now in
+    let same = repeatable_alone (simple_request numbered) (sym c.is_repeatable_line.ensures ∙ c.if-is_repeatable_line.true)
+    ∙ sym (unknown_alone (simple_request c.args.words.now) (sym c.is_known_line.ensures ∙ c.if-is_known_line.false)) in
+    subst (λ (b : Bool). OnOk c.known_line-then-is_repeatable_line.result (c.known_line-then-is_repeatable_line.new.script.number
+    ≡ c.args.script.now.number + lines_taken b c.args.script.now.left)) same
+    c.known_line-then-is_repeatable_line.ensures.number
 
-pub returns-in-Forget-clause-told : goal.returns-in-Forget-clause-told
-returns-in-Forget-clause-told g c =
-    asked_if c.forget.result (g.W.Sink.contents c.args.sink.now) (g.W.Sink.contents c.forget.new.sink)
-    (debug_state c.forget.new.self c.forget.new.images) (debug_state c.args.self.now c.args.images.now)
-    c.args.self.now.setting c.args.script.now.number c.args.words.now (block_lines c.args.script.now.left) _
-    (simple_request c.args.words.now) c.in-Forget.ensures c.forget.ensures.told
-
-pub returns-in-SetPc-clause-told : goal.returns-in-SetPc-clause-told
-returns-in-SetPc-clause-told g c =
-    asked (g.W.Sink.contents c.args.sink.now) (g.W.Sink.contents c.args.sink.now)
-    (debug_state c.set_pc.new.self c.args.images.now) (debug_state c.args.self.now c.args.images.now)
-    c.args.self.now.setting c.args.script.now.number c.args.words.now (block_lines c.args.script.now.left) _
-    (simple_request c.args.words.now) c.in-SetPc.ensures
-    (changed_quietly _ _ (debug_state c.args.self.now c.args.images.now)
-    (script_at (debug_state c.args.self.now c.args.images.now).script c.in-SetPc.address)
-    (c.set_pc.ensures.told c.args.images.now))
-
-pub returns-in-SetPsr-clause-told : goal.returns-in-SetPsr-clause-told
-returns-in-SetPsr-clause-told g c =
-    asked (g.W.Sink.contents c.args.sink.now) (g.W.Sink.contents c.args.sink.now)
-    (debug_state c.set_psr.new.self c.args.images.now) (debug_state c.args.self.now c.args.images.now)
-    c.args.self.now.setting c.args.script.now.number c.args.words.now (block_lines c.args.script.now.left) _
-    (simple_request c.args.words.now) c.in-SetPsr.ensures
-    (changed_quietly _ _ (debug_state c.args.self.now c.args.images.now)
-    (script_with_status (debug_state c.args.self.now c.args.images.now).script (status_after_pattern c.in-SetPsr.pattern
-    (debug_state c.args.self.now c.args.images.now).script.machine.cpu.psr))
-    (c.set_psr.ensures.told c.args.images.now))
-
-pub returns-in-Reset-clause-told : goal.returns-in-Reset-clause-told
-returns-in-Reset-clause-told g c =
-    asked_if c.reset.result (g.W.Sink.contents c.args.sink.now) (g.W.Sink.contents c.reset.new.sink)
-    (debug_state c.reset.new.self c.args.images.now) (debug_state c.args.self.now c.args.images.now)
-    c.args.self.now.setting c.args.script.now.number c.args.words.now (block_lines c.args.script.now.left) _
-    (simple_request c.args.words.now) c.in-Reset.ensures (c.reset.ensures.told c.args.images.now)
-
-pub returns-in_ok-reason-in-Expect-clause-told : goal.returns-in_ok-reason-in-Expect-clause-told
-returns-in_ok-reason-in-Expect-clause-told g c =
-    asked_if c.tell_check.result (g.W.Sink.contents c.args.sink.now) (g.W.Sink.contents c.tell_check.new.sink)
-    (debug_state c.tell_check.new.self c.args.images.now) (debug_state c.args.self.now c.args.images.now)
-    c.args.self.now.setting c.args.script.now.number c.args.words.now (block_lines c.args.script.now.left) _
-    (simple_request c.args.words.now) c.in-Expect.ensures
-    (checked_by c.tell_check.result _ _ _ (debug_state c.args.self.now c.args.images.now) c.args.self.now.setting
-    c.number.result c.args.script.now.number c.args.words.now _ _ c.number.ensures
-    (c.in_ok-reason-in-Expect.ensures c.args.images.now) (c.tell_check.ensures.told c.args.images.now))
+pub returns-clause-told : goal.returns-clause-told
+returns-clause-told g c =
+    let d = debug_state c.args.self.now c.args.images.now in
+    let line = c.args.words.now in
+    let setting = c.args.self.now.setting in
+    asked_if c.refuse.result _ _ (debug_state c.refuse.new.self c.args.images.now) d setting c.args.script.now.number line
+    (block_lines c.args.script.now.left) NotKnown (meant_request (naming_of d) line)
+    (meant_nothing (naming_of d) line c.as_slice-line.result.now (sym c.is_known_line.ensures ∙ c.if-is_known_line.false)
+    (c.as_slice-line.ensures.value ∙ c.in_ok-numbered.ensures c.args.images.now)
+    (sym c.is_repeatable_line.ensures ∙ c.if-is_repeatable_line.false))
+    (subst (λ (n : ℕ). OnOk c.refuse.result (IsDebugged (g.W.Sink.contents c.args.sink.now) (g.W.Sink.contents c.refuse.new.sink)
+    (debug_state c.refuse.new.self c.args.images.now) (unknown_told setting d n))) c.number.ensures
+    (c.refuse.ensures.told c.args.images.now))

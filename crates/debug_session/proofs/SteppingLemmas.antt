@@ -1,0 +1,93 @@
+-- Lines that take steps in modes.
+use Rattle.std.proofs.Common.{◌≡◌, ℕ, ◌+◌, ◌-◌, Bool, true, false, List, [], ◌++◌, Option, None, Some, Result, Ok, Err, ap, refl, subst, sym, ◌∙◌}
+use Rattle.std.specs.Prelude.{OnOk, if◌then◌else◌}
+use Rattle.std.specs.Io.KnownBytes.{Appends}
+use Rattle.profile.proofs.OutputLemmas.{Appends-join}
+use Rattle.profile.specs.FaultNames.{fault_name}
+use Rattle.profile.specs.Outcome.{Leaves}
+use Rattle.profile.specs.declared.fault.Fault.{Fault}
+use Rattle.command_shell.specs.Answers.{refused_text}
+use Rattle.command_shell.specs.State.{ScriptState}
+use Rattle.command_shell_lines.specs.Requests.{Request, Nothing, Hex, Asm, Boot, Run, Regs, Set, Poke, Call, Load, Step}
+use Rattle.command_shell_lines.specs.Requests.{Break, Unbreak, Mem, Code, Heap, Areas, Modules, Flex, Unknown, opens_block}
+use Rattle.debug_lines.specs.SteppingRequests.{SteppingRequest, stepping_in}
+use Rattle.debug_modes.specs.declared.modes.DebugModes.{DebugModes}
+use Rattle.debug_session.specs.DebugScript.{put_done, put_text, stepping_told_by, view_told}
+use Rattle.debug_session.specs.DebugState.{DebugAnswered, DebugState, IsDebugged}
+use Rattle.debug_session.specs.Reports.{answer_in}
+use Rattle.debug_session.specs.declared.reports.ReportForm.{ReportForm}
+use Rattle.debug_session.specs.declared.reports.ReportForm.TheVariants.{Answers, Tap}
+use Rattle.debug_session.specs.declared.session.DebugSetting.{DebugSetting}
+
+-- a line that takes steps opens no block
+stepping_opens : (r : Request) (asked : SteppingRequest) → Some asked ≡ stepping_in r → opens_block r ≡ false
+stepping_opens Nothing asked is = absurd (cc)
+stepping_opens (Hex name) asked is = absurd (cc)
+stepping_opens (Asm name origin) asked is = absurd (cc)
+stepping_opens (Boot name) asked is = absurd (cc)
+stepping_opens Run asked is = refl
+stepping_opens Regs asked is = absurd (cc)
+stepping_opens (Set register value) asked is = absurd (cc)
+stepping_opens (Poke address value) asked is = absurd (cc)
+stepping_opens (Call number) asked is = refl
+stepping_opens (Load text) asked is = refl
+stepping_opens (Step count) asked is = refl
+stepping_opens (Break address) asked is = absurd (cc)
+stepping_opens (Unbreak address) asked is = absurd (cc)
+stepping_opens (Mem address count) asked is = absurd (cc)
+stepping_opens (Code address count) asked is = absurd (cc)
+stepping_opens (Heap address) asked is = absurd (cc)
+stepping_opens Areas asked is = absurd (cc)
+stepping_opens Modules asked is = absurd (cc)
+stepping_opens Flex asked is = absurd (cc)
+stepping_opens Unknown asked is = absurd (cc)
+
+pub stepping_alone : (over : Bool) (r : Request) (asked : SteppingRequest)
+    → Some asked ≡ (if over then stepping_in r else None) → opens_block r ≡ false
+stepping_alone true r asked is = stepping_opens r asked is
+stepping_alone false r asked is = absurd (cc)
+
+-- what holds anyhow holds where a call was well
+pub anyhow : {A E : Type 0} (result : Result A E) (P : Type 0) → P → OnOk result P
+anyhow (Ok a) P holds = holds
+anyhow (Err e) P holds = record {}
+
+-- two answers one after another
+answers_joined : (form : ReportForm) (xs ys : List ℕ) → answer_in form xs ++ answer_in form ys ≡ answer_in form (xs ++ ys)
+answers_joined Answers xs ys = refl
+answers_joined Tap xs ys = refl
+
+pub written_both : (a b c : Option (List ℕ)) (form : ReportForm) (xs ys : List ℕ)
+    → Appends a b (answer_in form xs) → Appends b c (answer_in form ys) → Appends a c (answer_in form (xs ++ ys))
+written_both a b c form xs ys first next =
+    subst (λ (text : List ℕ). Appends a c text) (answers_joined form xs ys)
+    (Appends-join a b c (answer_in form xs) (answer_in form ys) first next)
+
+-- what steps left, told from the state after them
+pub steps_told : (before after : Option (List ℕ)) (c : DebugSetting) (d now : DebugState) (mid : ScriptState) (modes : DebugModes)
+    (s : ScriptState) (text text' printed printed' ending ending' : List ℕ)
+    → modes ≡ d.modes → mid ≡ s → text ≡ text' → printed ≡ printed' → ending ≡ ending'
+    → IsDebugged before after now
+    (stepping_told_by c (record d { script = mid; modes = modes }) mid text printed ending)
+    → IsDebugged before after now (stepping_told_by c d s text' printed' ending')
+steps_told before after c d now mid modes s text text' printed printed' ending ending' same is told prints ends written =
+    subst (λ (x : DebugAnswered). IsDebugged before after now x) (rw (same, is, told, prints, ends) refl) written
+
+-- the bytes of an image written, or refused
+pub put_ok : (before after : Option (List ℕ)) (c : DebugSetting) (d now : DebugState) (name : List ℕ) (address : ℕ)
+    (old new : ScriptState) (o : Result ScriptState Fault) (u : Unit {0}) (text : List ℕ) → Leaves {U = Unit {0}} old o (Ok u) new
+    → text ≡ put_text name address
+    → IsDebugged before after now (view_told c (record d { script = new }) text)
+    → IsDebugged before after now (put_done c d name address o)
+put_ok before after c d now name address old new (Ok s) u text leaves same told =
+    subst (λ (x : DebugAnswered). IsDebugged before after now x) (rw (leaves, same) refl) told
+put_ok before after c d now name address old new (Err fault) u text leaves same told = absurd leaves
+
+pub put_refused : (before after : Option (List ℕ)) (c : DebugSetting) (d now : DebugState) (name : List ℕ) (address : ℕ)
+    (new : ScriptState) (o : Result ScriptState Fault) (fault : Fault) (text : List ℕ)
+    → Leaves {U = Unit {0}} d.script o (Err fault) new → text ≡ refused_text (fault_name fault)
+    → IsDebugged before after now (view_told c (record d { script = new }) text)
+    → IsDebugged before after now (put_done c d name address o)
+put_refused before after c d now name address new (Ok s) fault text leaves same told = absurd leaves
+put_refused before after c d now name address new (Err f) fault text leaves same told =
+    subst (λ (x : DebugAnswered). IsDebugged before after now x) (rw (leaves.1, same, leaves.0) refl) told

@@ -1,0 +1,134 @@
+//! Lines that take steps in the modes that are set, and lines that change these.
+
+ghost use Rattle.std.specs.Prelude.{◌≡◌, ◌+◌, true, List, option_map, IfErr, OnOk, OnErr};
+ghost use Rattle.command_shell.specs.Error.{IsLineError};
+ghost use Rattle.command_shell_lines.specs.Blocks.{block_lines, lines_after, lines_taken};
+ghost use Rattle.command_shell_lines.specs.Requests.{opens_block, request_of};
+ghost use Rattle.debug_lines.specs.ModeRequests.{mode_request_of};
+ghost use Rattle.debug_lines.specs.SteppingRequests.{stepping_request_of};
+
+use crate::reports::push_answer;
+use crate::session::DebugSession;
+use command_shell::RunError;
+use command_shell_lines::command_of;
+use command_shell_lines::text_lines::Lines;
+use debug_lines::{ModeCommand, SteppingCommand, stepping_in};
+use image_loader::Images;
+use profile::{Sink, WriteFault};
+
+impl DebugSession {
+    ghost use Rattle.image_loader.specs.Entries.{Entry};
+    ghost use Rattle.debug_session.specs.DebugScript.{mode_line_told, script_line_told, stepping_line_told, stepping_now, stepping_told_by};
+    ghost use Rattle.debug_session.specs.DebugState.{IsDebugged};
+    ghost use Rattle.debug_session.specs.Session.{debug_state};
+
+    /// Answers a line of a script.
+    pub(crate) fn script_line<W: Sink>(
+        &mut self,
+        images: &mut Images,
+        sink: &mut W,
+        line: &[u8],
+        script: &mut Lines,
+    ) -> Result<(), RunError>
+        ensures told { OnOk result (IsDebugged (W.contents sink.old) (W.contents sink.new)
+            (debug_state self.new images.new)
+            (script_line_told self.old.setting (debug_state self.old images.old) script.old.number
+            (request_of line.now) (block_lines script.old.left))) }
+        ensures left { OnOk result (script.new.left
+            ≡ lines_after (opens_block (request_of line.now)) script.old.left) }
+        ensures number { OnOk result (script.new.number ≡ script.old.number
+            + lines_taken (opens_block (request_of line.now)) script.old.left) }
+        ensures setting { self.new.setting ≡ self.old.setting }
+        ensures errors { IfErr result IsLineError }
+        ensures same_flag { OnOk result (W.has_failed sink.new ≡ W.has_failed sink.old) }
+    {
+        match self.stepping_now(line) {
+            Some(command) => self.stepping_line(images, sink, false, &command),
+            None => self.plain_line(images, sink, line, script),
+        }
+    }
+
+    // What a line of a script asks for, where modes are set in which its steps are answered otherwise.
+    fn stepping_now<'a>(&self, line: &'a [u8]) -> Option<SteppingCommand<'a>>
+        ensures { (images : List Entry) → option_map stepping_request_of result
+            ≡ stepping_now (debug_state self.now images) (request_of line.now) }
+    {
+        if self.modes.takes_over() {
+            stepping_in(&command_of(line))
+        } else {
+            None
+        }
+    }
+
+    /// Answers a line that takes steps, traced or not, with the whole budget for them.
+    pub(crate) fn stepping_line<W: Sink>(
+        &mut self,
+        images: &Images,
+        sink: &mut W,
+        is_traced: bool,
+        command: &SteppingCommand<'_>,
+    ) -> Result<(), RunError>
+        ensures told { OnOk result (IsDebugged (W.contents sink.old) (W.contents sink.new)
+            (debug_state self.new images.now)
+            (stepping_line_told self.old.setting (debug_state self.old images.now) is_traced
+            (stepping_request_of command.now))) }
+        ensures setting { self.new.setting ≡ self.old.setting }
+        ensures errors { IfErr result IsLineError }
+        ensures same_flag { OnOk result (W.has_failed sink.new ≡ W.has_failed sink.old) }
+    {
+        self.session.set_budget(self.setting.budget);
+        let told = self.modes.answer(
+            self.alloc,
+            &mut self.session,
+            images,
+            &self.labels,
+            is_traced,
+            command,
+        )?;
+        Ok(self.tell_steps(sink, told.text, told.printed, told.ending)?)
+    }
+
+    // Writes what a line that took steps left to write, and keeps it for the lines that expect
+    // something.
+    fn tell_steps<W: Sink>(
+        &mut self,
+        sink: &mut W,
+        text: Vec<u8>,
+        printed: Vec<u8>,
+        ending: Vec<u8>,
+    ) -> Result<(), WriteFault>
+        ensures told { (images : List Entry) → OnOk result
+            (IsDebugged (W.contents sink.old) (W.contents sink.new) (debug_state self.new images)
+            (stepping_told_by self.old.setting (debug_state self.old images)
+            (debug_state self.old images).script text.items printed.items ending.items)) }
+        ensures setting { self.new.setting ≡ self.old.setting }
+        ensures flag { OnErr result (W.has_failed sink.new ≡ true) }
+        ensures same_flag { OnOk result (W.has_failed sink.new ≡ W.has_failed sink.old) }
+    {
+        let form = self.setting.form;
+        push_answer(sink, form, text.as_slice())?;
+        push_answer(sink, form, ending.as_slice())?;
+        self.steps = self.steps_taken();
+        self.answer = ending;
+        self.output = printed;
+        Ok(())
+    }
+
+    /// Changes the modes, and tells what has become of them.
+    pub(crate) fn mode_line<W: Sink>(
+        &mut self,
+        sink: &mut W,
+        command: &ModeCommand,
+    ) -> Result<(), RunError>
+        ensures told { (images : List Entry) → OnOk result
+            (IsDebugged (W.contents sink.old) (W.contents sink.new) (debug_state self.new images)
+            (mode_line_told self.old.setting (debug_state self.old images) (mode_request_of command.now))) }
+        ensures setting { self.new.setting ≡ self.old.setting }
+        ensures errors { IfErr result IsLineError }
+        ensures same_flag { OnOk result (W.has_failed sink.new ≡ W.has_failed sink.old) }
+    {
+        let machine = self.session.machine();
+        let text = self.modes.change(self.alloc, machine, command)?;
+        Ok(self.view(sink, text)?)
+    }
+}
