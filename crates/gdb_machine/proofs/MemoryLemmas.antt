@@ -1,10 +1,10 @@
--- How the known bytes, and the words that are looked at, go on and end.
-use Rattle.std.proofs.Common.{◌≡◌, ◌<◌, ◌+◌, ◌-◌, ◌%◌, ◌^◌, ℕ, suc, zero, Bool, List, [], ◌∷◌, ◌++◌, append_assoc, refl, ap, sym, ◌∙◌, arith}
-use Rattle.std.specs.Prelude.{Option, Some, None, Result, Ok, Err}
+-- How the known bytes go on and end.
+use Rattle.std.proofs.Common.{◌≡◌, ◌<◌, ◌+◌, ◌-◌, ◌%◌, ◌^◌, ℕ, suc, zero, List, [], ◌∷◌, ◌++◌, append_assoc, refl, ap, sym, ◌∙◌, arith}
+use Rattle.std.specs.Prelude.{Result, Ok, Err}
 use Rattle.std.proofs.lemmas.List.{append-nil}
 use Rattle.profile.specs.declared.fault.Fault.{Fault}
-use Rattle.address_map.specs.Bytes.{Bytes, byte_loaded, store_fault}
-use Rattle.gdb_machine.specs.Memory.{known_bytes, onto_known, bytes_further, first_fault, words_fault}
+use Rattle.address_map.specs.Bytes.{Bytes, byte_loaded}
+use Rattle.gdb_machine.specs.Memory.{known_bytes, onto_known, bytes_further}
 
 known_suc : (b : Bytes) (a left : ℕ) → known_bytes b a (suc left) ≡ onto_known (byte_loaded b a) (known_bytes b (bytes_further a 1) left)
 unfolding known_bytes
@@ -40,20 +40,3 @@ known_end b a left done all none so =
     sym (append-nil done) ∙ ap (λ (xs : List ℕ). done ++ xs) (sym (none_known b a left none)) ∙ so
 
 pub ruleset known_steps = (known_more, known_fault, known_end)
-
-fault_suc : (owned : ℕ → Bool) (b : Bytes) (a left : ℕ)
-    → words_fault owned b a (suc left) ≡ first_fault (store_fault owned b a) (words_fault owned b (bytes_further a 4) left)
-unfolding words_fault
-fault_suc owned b a left = refl
-
-pub fault_next : (owned : ℕ → Bool) (b : Bytes) (a left : ℕ) → 0 < left
-    → words_fault owned b a left ≡ first_fault (store_fault owned b a) (words_fault owned b (bytes_further a 4) (left - 1))
-fault_next owned b a left some =
-    let split : left ≡ suc (left - 1) = omega arith in
-    ap (words_fault owned b a) split ∙ fault_suc owned b a (left - 1)
-
-pub no_words : (owned : ℕ → Bool) (b : Bytes) (a left : ℕ) → left ≡ 0 → words_fault owned b a left ≡ None
-unfolding words_fault
-no_words owned b a left e = rw e refl
-
-pub ruleset fault_steps = (fault_next, no_words)

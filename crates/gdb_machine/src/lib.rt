@@ -11,7 +11,7 @@ mod watches;
 
 pub use changes::{RegisterWrite, register_write};
 pub use description::description_part;
-pub use memory::{known_bytes, memory_told, mixed_word, words_fault};
+pub use memory::{known_bytes, memory_told};
 pub use registers::{all_registers, one_register, register_shown};
 pub use stops::{GdbStop, Signal, stop_packet};
 pub use watches::{SeenByte, WatchError, Watches, first_changed};

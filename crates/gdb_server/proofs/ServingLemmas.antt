@@ -1,0 +1,99 @@
+-- Bytes that are served one after another, and text in packets.
+use Rattle.std.proofs.Common.{◌≡◌, ◌<◌, ◌≤◌, ◌+◌, ◌-◌, ◌/◌, ℕ, zero, suc, true, false, List, [], ◌∷◌, ◌++◌, length, get_or, take, drop, min, inl, inr, refl, ap, sym, subst, ◌∙◌, arith}
+use Rattle.std.specs.Prelude.{Option, Some}
+use Rattle.std.proofs.lemmas.Bool.{cases_lt}
+use Rattle.std.proofs.lemmas.List.{take_min}
+use Rattle.std.proofs.Math.Seq.{drop-cons}
+use Rattle.gdb_packets.specs.Reading.{byte_taken}
+use Rattle.gdb_packets.specs.declared.reader.Piece.{Piece}
+use Rattle.gdb_packets.specs.declared.reader.Piece.TheVariants as piece
+use Rattle.profile.specs.Output.{AddsAllBut}
+use Rattle.profile.proofs.OutputLemmas.{Appends-from_all_but, Appends-nothing}
+use Rattle.gdb_server.specs.Server.{IsServed}
+use Rattle.gdb_server.specs.Serving.{ServerState, Served, asked_to_stop, byte_served, bytes_served, piece_served, then_served}
+use Rattle.gdb_server.specs.Serving.{text_packet, text_packets, told_packets}
+use Rattle.gdb_session.specs.declared.session.GdbSetting.{GdbSetting}
+
+served_cons : (setting : GdbSetting) (start : List ℕ) (byte : ℕ) (bytes : List ℕ) (s : ServerState) → s.session.has_ended ≡ false
+    → bytes_served setting start (byte ∷ bytes) s
+    ≡ then_served (byte_served setting start s byte) (bytes_served setting start bytes)
+unfolding bytes_served
+served_cons setting start byte bytes s goes = rw goes refl
+
+-- one more byte
+pub served_more : (setting : GdbSetting) (start bytes : List ℕ) (i : ℕ) (s : ServerState) → i < length bytes → s.session.has_ended ≡ false
+    → bytes_served setting start (drop i bytes) s
+    ≡ then_served (byte_served setting start s (get_or bytes i 0)) (bytes_served setting start (drop (i + 1) bytes))
+served_more setting start bytes i s below goes =
+    let next : suc i ≡ i + 1 = omega arith in
+    ap (λ (xs : List ℕ). bytes_served setting start xs s) (drop-cons bytes i 0 below)
+    ∙ served_cons setting start (get_or bytes i 0) (drop (suc i) bytes) s goes
+    ∙ ap (λ (n : ℕ). then_served (byte_served setting start s (get_or bytes i 0)) (bytes_served setting start (drop n bytes))) next
+
+-- the session has ended, or there is no more byte
+pub served_ended : (setting : GdbSetting) (start bytes : List ℕ) (s : ServerState) → s.session.has_ended ≡ true
+    → bytes_served setting start bytes s ≡ record { state = s; text = [] }
+unfolding bytes_served
+served_ended setting start [] s ended = refl
+served_ended setting start (byte ∷ bytes) s ended = rw ended refl
+
+pub served_none : (setting : GdbSetting) (start bytes : List ℕ) (s : ServerState) → bytes ≡ []
+    → bytes_served setting start bytes s ≡ record { state = s; text = [] }
+unfolding bytes_served
+served_none setting start bytes s none = rw none refl
+
+told_suc : (n : ℕ) (text : List ℕ) → text_packets (suc n) text ≡ text_packet (take 1024 text) ++ text_packets n (drop 1024 text)
+unfolding text_packets
+told_suc n text = refl
+
+told_zero : (text : List ℕ) → text_packets 0 text ≡ []
+unfolding text_packets
+told_zero text = refl
+
+-- the first packet of a text, and those of the rest
+pub told_more : (t front back : List ℕ) (mid : ℕ) → 0 < length t → mid ≡ min (length t) 1024 → front ≡ take mid t → back ≡ drop mid t
+    → length back + mid ≡ length t → told_packets t ≡ text_packet front ++ told_packets back
+unfolding told_packets
+told_more t front back mid some is begins ends counts =
+    let order : mid ≡ min 1024 (length t) = omega arith in
+    let first : front ≡ take 1024 t = begins ∙ ap (λ (n : ℕ). take n t) order ∙ take_min 1024 t in
+    elim (cases_lt 1024 (length t)) [
+      | inl long ↦
+          (let whole : mid ≡ 1024 = omega arith in
+          let rest : back ≡ drop 1024 t = ends ∙ ap (λ (n : ℕ). drop n t) whole in
+          let count : (length t + 1023) / 1024 ≡ suc ((length back + 1023) / 1024) = omega (arith, counts, whole) in
+          ap (λ (n : ℕ). text_packets n t) count ∙ told_suc ((length back + 1023) / 1024) t
+          ∙ ap (λ (x : List ℕ). text_packet x ++ text_packets ((length back + 1023) / 1024) (drop 1024 t)) (sym first)
+          ∙ ap (λ (x : List ℕ). text_packet front ++ text_packets ((length back + 1023) / 1024) x) (sym rest))
+      | inr short ↦
+          (let whole : mid ≡ length t = omega arith in
+          let one : (length t + 1023) / 1024 ≡ suc 0 = omega (arith, some, short) in
+          let none : (length back + 1023) / 1024 ≡ 0 = omega (arith, counts, whole) in
+          ap (λ (n : ℕ). text_packets n t) one ∙ told_suc 0 t
+          ∙ ap (λ (x : List ℕ). text_packet x ++ text_packets 0 (drop 1024 t)) (sym first)
+          ∙ ap (λ (y : List ℕ). text_packet front ++ y)
+          (told_zero (drop 1024 t) ∙ sym (ap (λ (n : ℕ). text_packets n back) none ∙ told_zero back)))
+    ]
+
+pub told_none : (t : List ℕ) → length t ≡ 0 → told_packets t ≡ []
+unfolding told_packets
+told_none t empty =
+    let none : (length t + 1023) / 1024 ≡ 0 = omega (arith, empty) in
+    ap (λ (n : ℕ). text_packets n t) none ∙ told_zero t
+
+-- the byte 3
+pub stop_served : (setting : GdbSetting) (start : List ℕ) (s now : ServerState) (byte : ℕ) (x : Option (List ℕ))
+    → Some piece.Stop ≡ (byte_taken s.reading byte).piece
+    → now ≡ record s { session = asked_to_stop s.session; reading = (byte_taken s.reading byte).now }
+    → IsServed x x now (byte_served setting start s byte)
+stop_served setting start s now byte x stops is =
+    subst (λ (p : Option Piece). IsServed x x now (piece_served setting start (record s { reading = (byte_taken s.reading byte).now }) p))
+    stops (record { text = Appends-nothing x; state = is })
+
+pub ends_served : (setting : GdbSetting) (start bytes : List ℕ) (s : ServerState) (before here : Option (List ℕ)) (all : Served)
+    → AddsAllBut before here (bytes_served setting start bytes s).text all.text → (bytes_served setting start bytes s).state ≡ all.state
+    → bytes_served setting start bytes s ≡ record { state = s; text = [] } → IsServed before here s all
+ends_served setting start bytes s before here all text state none = record {
+  text = Appends-from_all_but before here (bytes_served setting start bytes s).text all.text text (ap (λ (x : Served). x.text) none);
+  state = sym (ap (λ (x : Served). x.state) none) ∙ state;
+}

@@ -1,0 +1,62 @@
+use Rattle.std.proofs.Common.{◌≡◌, ℕ, ◌+◌, false, true, List, ◌++◌, get_or, drop, ap, subst, sym, ◌∙◌, arith}
+use Rattle.std.proofs.lemmas.List.{drop_all}
+use Rattle.profile.proofs.OutputLemmas.{AddsAllBut-more}
+use Rattle.gdb_server.specs.Server.{IsServed, server_state}
+use Rattle.gdb_server.specs.Serving.{ServerState, Served, byte_served, bytes_served}
+use Rattle.gdb_session.specs.declared.session.GdbSetting.{GdbSetting}
+use Rattle.gdb_server.proofs.ServingLemmas.{ends_served, served_ended, served_more, served_none}
+use Rattle.gdb_server.proofs.server.GdbServer.take.Goals as goal
+
+pub returns-then-has_ended-clause-told : goal.returns-then-has_ended-clause-told
+returns-then-has_ended-clause-told g c =
+    let setting : GdbSetting = c.args.self.now.session.setting in
+    let start = c.args.self.now.session.start.items in
+    let bytes = c.args.bytes.now in
+    let s : ServerState = server_state c.loop-byte.self c.loop-byte.images in
+    let ended : s.session.has_ended ≡ true = sym (c.has_ended.ensures c.loop-byte.images) ∙ c.if-has_ended.true in
+    ends_served setting start (drop c.loop-byte.byte-index bytes) s (g.W.Sink.contents c.args.sink.now)
+    (g.W.Sink.contents c.loop-byte.sink) (bytes_served setting start bytes (server_state c.args.self.now c.args.images.now))
+    c.loop-byte.invariant.text c.loop-byte.invariant.state (served_ended setting start (drop c.loop-byte.byte-index bytes) s ended)
+
+pub loop-byte-preserved : goal.loop-byte-preserved
+loop-byte-preserved g c =
+    let setting : GdbSetting = c.args.self.now.session.setting in
+    let start : List ℕ = c.args.self.now.session.start.items in
+    let bytes : List ℕ = c.args.bytes.now in
+    let i = c.loop-byte.invariant in
+    let index : ℕ = c.loop-byte.byte-index in
+    let s : ServerState = server_state c.loop-byte.self c.loop-byte.images in
+    let now : ServerState = server_state c.take_byte.new.self c.take_byte.new.images in
+    let byte : ℕ = get_or bytes index 0 in
+    let goes : s.session.has_ended ≡ false = sym (c.has_ended.ensures c.loop-byte.images) ∙ c.if-has_ended.false in
+    let before = g.W.Sink.contents c.loop-byte.sink in
+    let after = g.W.Sink.contents c.take_byte.new.sink in
+    let told = subst (λ (x : List ℕ). IsServed before after now (byte_served setting x s byte)) i.start
+    (subst (λ (u : GdbSetting). IsServed before after now (byte_served u c.loop-byte.self.session.start.items s byte)) i.setting
+    c.in_ok-take_byte.ensures.told) in
+    let more = served_more setting start bytes index s c.loop-byte-test.true goes in
+    let first : Served = byte_served setting start s byte in
+    let rest = drop (index + 1) bytes in
+    record {
+      text = AddsAllBut-more (g.W.Sink.contents c.args.sink.now) before after (bytes_served setting start (drop index bytes) s).text
+          first.text (bytes_served setting start rest now).text
+          (bytes_served setting start bytes (server_state c.args.self.now c.args.images.now)).text i.text told.text
+          (ap (λ (x : Served). x.text) more
+          ∙ ap (λ (u : ServerState). first.text ++ (bytes_served setting start rest u).text) (sym told.state));
+      state = ap (λ (u : ServerState). (bytes_served setting start rest u).state) told.state
+          ∙ sym (ap (λ (x : Served). x.state) more) ∙ i.state;
+      setting = c.in_ok-take_byte.ensures.setting ∙ i.setting;
+      start = c.in_ok-take_byte.ensures.start ∙ i.start;
+      same_flag = c.in_ok-take_byte.ensures.same_flag ∙ i.same_flag;
+    }
+
+pub returns-clause-told : goal.returns-clause-told
+returns-clause-told g c =
+    let setting : GdbSetting = c.args.self.now.session.setting in
+    let start = c.args.self.now.session.start.items in
+    let bytes = c.args.bytes.now in
+    let s : ServerState = server_state c.loop-byte.self c.loop-byte.images in
+    let none = drop_all c.loop-byte.byte-index bytes (omega (arith, c.loop-byte-test.false)) in
+    ends_served setting start (drop c.loop-byte.byte-index bytes) s (g.W.Sink.contents c.args.sink.now)
+    (g.W.Sink.contents c.loop-byte.sink) (bytes_served setting start bytes (server_state c.args.self.now c.args.images.now))
+    c.loop-byte.invariant.text c.loop-byte.invariant.state (served_none setting start (drop c.loop-byte.byte-index bytes) s none)

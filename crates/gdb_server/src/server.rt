@@ -1,0 +1,207 @@
+//! What the bytes of the other side are answered with, one byte after another.
+
+ghost use Rattle.std.specs.Prelude.{◌≡◌, ◌++◌, true, [], List, IfErr, IfOk, OnOk, OnErr, codes};
+ghost use Rattle.command_shell.specs.Error.{IsLineError};
+ghost use Rattle.profile.specs.Output.{Writes};
+ghost use Rattle.std.specs.Io.KnownBytes.{Appends};
+ghost use Rattle.gdb_server.specs.Serving.{told_packets, text_packet, reply_packet, spoilt_text, keeps_acks as keeps_acks_told};
+ghost use Rattle.gdb_packets.specs.Requests.{gdb_request};
+ghost use Rattle.std.specs.Option.{option_map};
+
+use command_shell::RunError;
+use gdb_packets::{PacketReader, Piece, Request, push_packet, request_of};
+use gdb_session::{GdbAnswer, GdbSession};
+use image_loader::Images;
+use profile::{Sink, WriteFault, push_all};
+use std::alloc::Global;
+use view_items::TextSink;
+
+/// The most bytes of text that a packet has.
+const MOST_TEXT: usize = 1024;
+
+/// A session with GDB, and where in the bytes of GDB the reading stands.
+#[derive(Drop)]
+pub struct GdbServer {
+    alloc: Global,
+    reader: PacketReader,
+    session: GdbSession,
+    // Whether each packet is answered by `+` or `-`.
+    has_acks: bool,
+    // The last answer, as it was written.
+    last: Vec<u8>,
+}
+
+impl GdbServer {
+    ghost use Rattle.image_loader.specs.Entries.{Entry};
+    ghost use Rattle.gdb_server.specs.Server.{IsServed, server_state};
+    ghost use Rattle.gdb_server.specs.Serving.{byte_served, packet_served, bytes_served};
+    ghost use Rattle.gdb_session.specs.Session.{gdb_state};
+    ghost use Rattle.gdb_packets.specs.Reading.{reading_start};
+
+    /// Before the first byte.
+    pub fn new(alloc: Global, session: GdbSession) -> GdbServer
+        ensures state { (images : List Entry) → server_state result images ≡ record {
+          session = gdb_state session images;
+          reading = reading_start;
+          has_acks = true;
+          last = [];
+        } }
+        ensures setting { result.session.setting ≡ session.setting }
+        ensures start { result.session.start.items ≡ session.start.items }
+    {
+        GdbServer {
+            alloc,
+            reader: PacketReader::new(),
+            session,
+            has_acks: true,
+            last: Vec::new(alloc),
+        }
+    }
+
+    /// The session, as the packets left it.
+    pub fn session(&self) -> &GdbSession
+        ensures { result.now ≡ self.now.session }
+    {
+        &self.session
+    }
+
+    /// Takes bytes, up to the end of the session, and writes what they are answered with.
+    ///
+    /// # Errors
+    ///
+    /// `Memory` and `WriteFault`, when a part of the answers may stand written.
+    pub fn take<W: Sink>(
+        &mut self,
+        images: &mut Images,
+        sink: &mut W,
+        bytes: &[u8],
+    ) -> Result<(), RunError>
+        ensures told { OnOk result (IsServed (W.contents sink.old) (W.contents sink.new)
+            (server_state self.new images.new)
+            (bytes_served self.old.session.setting self.old.session.start.items
+            bytes.now (server_state self.old images.old))) }
+        ensures setting { self.new.session.setting ≡ self.old.session.setting }
+        ensures start { self.new.session.start.items ≡ self.old.session.start.items }
+        ensures errors { IfErr result IsLineError }
+        ensures same_flag { OnOk result (W.has_failed sink.new ≡ W.has_failed sink.old) }
+    {
+        for byte in bytes {
+            if self.session.has_ended() {
+                return Ok(());
+            }
+            self.take_byte(images, sink, *byte)?;
+        }
+        Ok(())
+    }
+
+    fn take_byte<W: Sink>(
+        &mut self,
+        images: &mut Images,
+        sink: &mut W,
+        byte: u8,
+    ) -> Result<(), RunError>
+        ensures told { OnOk result (IsServed (W.contents sink.old) (W.contents sink.new)
+            (server_state self.new images.new)
+            (byte_served self.old.session.setting self.old.session.start.items
+            (server_state self.old images.old) byte)) }
+        ensures setting { self.new.session.setting ≡ self.old.session.setting }
+        ensures start { self.new.session.start.items ≡ self.old.session.start.items }
+        ensures errors { IfErr result IsLineError }
+        ensures same_flag { OnOk result (W.has_failed sink.new ≡ W.has_failed sink.old) }
+    {
+        match self.reader.take(byte) {
+            None => Ok(()),
+            Some(Piece::Packet) => self.take_packet(images, sink),
+            Some(Piece::Spoilt) => Ok(self.refuse(sink)?),
+            Some(Piece::Again) => Ok(push_all(sink, self.last.as_slice())?),
+            Some(Piece::Stop) => {
+                self.session.ask_to_stop();
+                Ok(())
+            }
+        }
+    }
+
+    fn take_packet<W: Sink>(&mut self, images: &mut Images, sink: &mut W) -> Result<(), RunError>
+        ensures told { OnOk result (IsServed (W.contents sink.old) (W.contents sink.new)
+            (server_state self.new images.new)
+            (packet_served self.old.session.setting self.old.session.start.items
+            (server_state self.old images.old))) }
+        ensures setting { self.new.session.setting ≡ self.old.session.setting }
+        ensures start { self.new.session.start.items ≡ self.old.session.start.items }
+        ensures errors { IfErr result IsLineError }
+        ensures same_flag { OnOk result (W.has_failed sink.new ≡ W.has_failed sink.old) }
+    {
+        if self.has_acks {
+            push_all(sink, b"+")?;
+        }
+        let request = request_of(self.reader.packet());
+        self.has_acks = self.has_acks && keeps_acks(&request);
+        let answer = self.session.answer(images, &request)?;
+        let mut text = TextSink::new(self.alloc);
+        push_answer(self.alloc, &mut text, &answer)?;
+        self.last = text.into_bytes();
+        Ok(push_all(sink, self.last.as_slice())?)
+    }
+
+    // A packet that came spoilt: it is asked for again, or where nobody asks so, refused.
+    fn refuse<W: Sink>(&self, sink: &mut W) -> Result<(), WriteFault>
+        ensures { Writes W.contents W.has_failed sink.old sink.new result (spoilt_text self.now.has_acks) }
+    {
+        if self.has_acks {
+            push_all(sink, b"-")
+        } else {
+            push_packet(sink, b"E16")
+        }
+    }
+}
+
+// Whether `+` and `-` are sent after a request too.
+fn keeps_acks(request: &Request<'_>) -> bool
+    ensures { result ≡ keeps_acks_told (gdb_request request.now) }
+{
+    !matches!(request, Request::NoAcks)
+}
+
+/// Writes an answer: the text for the user in packets, and then the packet.
+pub(crate) fn push_answer<W: Sink>(
+    alloc: Global,
+    sink: &mut W,
+    answer: &GdbAnswer,
+) -> Result<(), RunError>
+    ensures told { OnOk result (Appends (W.contents sink.old) (W.contents sink.new)
+        (told_packets answer.now.told.items
+        ++ reply_packet (option_map (λ reply. reply.items) answer.now.reply))) }
+    ensures same_flag { OnOk result (W.has_failed sink.new ≡ W.has_failed sink.old) }
+    ensures errors { IfErr result IsLineError }
+{
+    push_told(alloc, sink, answer.told.as_slice())?;
+    match &answer.reply {
+        Some(reply) => Ok(push_packet(sink, reply.as_slice())?),
+        None => Ok(()),
+    }
+}
+
+// Text for the user, in packets that begin with `O`.
+fn push_told<W: Sink>(alloc: Global, sink: &mut W, text: &[u8]) -> Result<(), RunError>
+    ensures told { OnOk result (Appends (W.contents sink.old) (W.contents sink.new) (told_packets text.now)) }
+    ensures errors { IfErr result IsLineError }
+    ensures same_flag { OnOk result (W.has_failed sink.new ≡ W.has_failed sink.old) }
+{
+    let mut rest = text;
+    while !rest.is_empty() {
+        let (piece, others) = rest.split_at(rest.len().min(MOST_TEXT));
+        push_text(alloc, sink, piece)?;
+        rest = others;
+    }
+    Ok(())
+}
+
+fn push_text<W: Sink>(alloc: Global, sink: &mut W, text: &[u8]) -> Result<(), RunError>
+    ensures told { OnOk result (Appends (W.contents sink.old) (W.contents sink.new) (text_packet text.now)) }
+    ensures errors { IfErr result IsLineError }
+    ensures same_flag { OnOk result (W.has_failed sink.new ≡ W.has_failed sink.old) }
+{
+    let mut packet = Vec::from_slice(alloc, b"O")?;
+    packet.extend_from_slice(hex::encode(alloc, text)?.as_bytes())?;
+    Ok(push_packet(sink, packet.as_slice())?)
+}

@@ -1,0 +1,5 @@
+pub mod ChangeLemmas
+pub mod LookLemmas
+pub mod RunLemmas
+pub mod SliceLemmas
+pub mod WatchLemmas

@@ -1,0 +1,12 @@
+-- What GDB's requests do, and what they are answered. Begin with Requests.
+pub use Rattle.command_shell
+pub use Rattle.gdb_machine
+pub use Rattle.gdb_packets
+pub mod Changes
+pub mod Laws
+pub mod Looks
+pub mod Requests
+pub mod Runs
+pub mod Session
+pub mod State
+pub mod Stores

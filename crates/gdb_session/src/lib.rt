@@ -1,0 +1,15 @@
+//! GDB on a machine: what a request of its remote protocol does to a session, and what it is answered.
+#![tactic(auto)]
+
+mod acting;
+mod changing;
+mod laws;
+mod looking;
+mod running;
+mod session;
+mod storing;
+
+pub use gdb_machine::{GdbStop, Signal};
+pub use gdb_packets;
+pub use laws::{looking_changes_nothing, slices_are_one_run};
+pub use session::{GdbAnswer, GdbSession, GdbSetting};
