@@ -1,8 +1,6 @@
-//! GDB over two streams: bytes to requests, requests to answers, and answers to bytes.
+//! GDB over bytes, as they come: bytes to requests, requests to answers, and answers to bytes.
 #![tactic(auto)]
 
 mod server;
-mod streams;
 
 pub use server::GdbServer;
-pub use streams::serve;
