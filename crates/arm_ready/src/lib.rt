@@ -1,0 +1,18 @@
+//! Words made ready: what carrying a word out needs of it, taken out of it once and kept beside it.
+#![tactic(auto)]
+
+mod blocks;
+mod branches;
+pub mod kind;
+mod making;
+mod moving;
+mod multiplying;
+mod operations;
+pub mod ready;
+pub mod table;
+mod transferring;
+mod transfers;
+
+pub use kind::ReadyKind;
+pub use ready::Ready;
+pub use table::{PLACES, ReadyWords};

@@ -1,0 +1,10 @@
+use Rattle.address_map.specs.Memory.{bytes_of, is_owned}
+use Rattle.address_map.proofs.Words.{is_owned-same}
+use Rattle.arm_run.proofs.Transferred.{acts_from}
+use Rattle.arm_run.proofs.blocks.store_block.Goals as goal
+
+pub returns-clause-state : goal.returns-clause-state
+returns-clause-state c =
+    acts_from (is_owned c.args.memory.now) (is_owned c.store_registers.new.memory) c.args.cpu.now c.store_registers.new.cpu c.slowly.new.cpu c.args.at (bytes_of c.args.memory.now)
+    (bytes_of c.store_registers.new.memory) (bytes_of c.slowly.new.memory) c.slowly.result (is_owned-same _ _ c.store_registers.ensures.marks)
+    (c.store_registers.ensures.core c.if-store_registers.false) (c.store_registers.ensures.bytes c.if-store_registers.false) c.slowly.ensures.state

@@ -1,0 +1,13 @@
+//! Steps of the core one after another, by words made ready.
+#![tactic(auto)]
+
+mod act;
+mod blocks;
+mod branching;
+mod multiplying;
+mod operating;
+mod running;
+mod standing;
+mod transferring;
+
+pub use running::run;

@@ -1,0 +1,87 @@
+//! The core while its position is kept beside it: any word by the way that is right for all, and
+//! the registers of the present mode.
+
+ghost use Rattle.std.specs.Prelude.{◌≡◌, ◌<◌, ◌≤◌, ◌+◌, ◌%◌, ◌^◌, IfSome};
+ghost use Rattle.address_map.specs.Memory.{bytes_of, is_owned, layout, class_of};
+ghost use Rattle.arm_core.specs.State.{register_in, with_register};
+ghost use Rattle.arm_run.specs.Standing.{core_at, Acts, Refuses};
+ghost use Rattle.arm_step.specs.Step.{result_of_step};
+ghost use Rattle.arm_step.specs.Turns.{Turns};
+
+use address_map::AddressMap;
+use arm_core::{Cpu, Turn};
+use arm_step::step;
+
+/// How many words the address space has.
+pub(crate) const POSITIONS: usize = 1 << 24;
+
+/// R0 to R14 of the present mode.
+#[inline(always)]
+pub(crate) fn current(cpu: &Cpu, number: u8) -> u32
+    requires { number < 15 }
+    ensures { result ≡ register_in cpu.now.psr.mode cpu.now number }
+{
+    cpu.register_in(cpu.psr().mode, u32::from(number))
+}
+
+/// Sets one of R0 to R14 of the present mode.
+#[inline(always)]
+pub(crate) fn set_current(cpu: &mut Cpu, number: u8, value: u32)
+    requires { number < 15 }
+    ensures { cpu.new ≡ with_register cpu.old number value }
+{
+    cpu.set_register(u32::from(number), value);
+}
+
+/// The core stands at a position.
+#[tactic(auto, using(crate::proofs::Positions::stands))]
+#[inline(always)]
+pub(crate) fn stand(cpu: &mut Cpu, at: usize)
+    ensures { cpu.new ≡ core_at cpu.old at }
+{
+    cpu.set_pc((at % POSITIONS) as u32 * 4);
+}
+
+/// The position that the core stands at.
+#[tactic(auto, using(crate::proofs::Positions::stands_there))]
+#[inline(always)]
+pub(crate) fn position(cpu: &Cpu) -> usize
+    ensures within { result < 2 ^ 24 }
+    ensures there { core_at cpu.now result ≡ cpu.now }
+{
+    cpu.pc() as usize / 4
+}
+
+/// A step at a position, by the way that is right for every word. Where it isn't done, nothing is
+/// changed but where the core stands.
+#[tactic(auto, using(crate::proofs::Positions::done_slowly, crate::proofs::Positions::other_slowly))]
+#[inline(never)]
+pub(crate) fn slowly(cpu: &mut Cpu, at: usize, memory: &mut AddressMap) -> Option<usize>
+    ensures state { Acts (is_owned memory.old) cpu.old at (bytes_of memory.old)
+        result cpu.new (bytes_of memory.new) }
+    ensures within { IfSome result (λ next. next ≤ 2 ^ 24) }
+    ensures layout { layout memory.new ≡ layout memory.old }
+    ensures marks { class_of memory.new ≡ class_of memory.old }
+{
+    stand(cpu, at);
+    match step(cpu, memory) {
+        Turn::Done => Some(position(cpu)),
+        _ => None,
+    }
+}
+
+/// The turn at a position where no instruction is done. The core stands there then.
+#[inline(never)]
+pub(crate) fn turn_at(cpu: &mut Cpu, at: usize, memory: &mut AddressMap) -> Turn
+    requires { Refuses (is_owned memory.old) (core_at cpu.old at) (bytes_of memory.old) }
+    ensures core { cpu.new ≡ core_at cpu.old at }
+    ensures bytes { bytes_of memory.new ≡ bytes_of memory.old }
+    ensures turn { Turns (cpu.new, bytes_of memory.new)
+        (result_of_step (is_owned memory.old) cpu.new (bytes_of memory.new))
+        result (cpu.new, bytes_of memory.new) }
+    ensures layout { layout memory.new ≡ layout memory.old }
+    ensures marks { class_of memory.new ≡ class_of memory.old }
+{
+    stand(cpu, at);
+    step(cpu, memory)
+}
