@@ -1,4 +1,5 @@
-//! What is told of store calls: the words of memory that they change, each with its old value.
+//! What is told of store calls: the items of heaps and the instances that come and go, and the words
+//! of memory that they change, each with its old value.
 
 use debugger::swi_dispatch::Machine;
 use image_loader::Images;
@@ -28,6 +29,7 @@ const BLOCK_CLAIMED: &str =
     "-------- -------- CALL &1D                  XOS_Heap 2 Get R1=00009000 R3=00000014
                   R2=00009014
                   heap 00009000 base 40 was 16
+                  heap 00009000 new  live 00009010 24
                   [00009008]=00000028 was 00000010
                   [00009010]=00000018 was 00000000
 ";
@@ -47,6 +49,9 @@ const BLOCK_MOVED: &str =
     "-------- -------- CALL &1D                  XOS_Heap 4 Resize R1=00009000 R2=00009014 R3=00000008
                   R2=00009084
                   heap 00009000 base 240 was 128
+                  heap 00009000 gone live 00009010 104
+                  heap 00009000 new  free 00009010 104
+                  heap 00009000 new  live 00009080 112
                   [00009004]=00000010 was 00000000
                   [00009008]=000000F0 was 00000080
                   [00009010]=00000000 was 00000068
@@ -68,14 +73,17 @@ const BLOCK_MOVED: &str =
 
 /// A module's header of nine words, the fifth of which tells where its title is, and its title: 40
 /// bytes. Its block in the module area takes its length word too, and is a multiple of 8: 48 bytes
-/// from the area's base on, of which 44 are the image's. Nothing is called as it is loaded.
+/// from the area's base on, of which 44 are the image's. Nothing is called as it is loaded. A module's
+/// first instance is Base.
 const IMAGE: &[u8; 40] =
     b"\0\0\0\0\0\0\0\0\0\0\0\0\0\0\0\0\x24\0\0\0\0\0\0\0\0\0\0\0\0\0\0\0\0\0\0\0Dbl\0";
 
 const MODULE_LOADED: &str = "-------- -------- LOAD double               XOS_Module 1 Load
                   R14_svc=00008000
                   image 01800014 44 new
+                  module Dbl%Base new at 01800014 length 40
                   heap 01800000 base 64 was 16
+                  heap 01800000 new  live 01800010 48
                   [01800008]=00000040 was 00000010
                   [01800010]=00000030 was 00000000
                   [01800024]=00000024 was 00000000

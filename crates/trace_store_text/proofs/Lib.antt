@@ -1,3 +1,4 @@
+pub mod FlexLemmas
 pub mod HeapLemmas
 pub mod ImageLemmas
 pub mod LineLemmas

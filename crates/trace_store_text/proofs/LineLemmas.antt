@@ -6,6 +6,10 @@ use Rattle.os_heap.specs.Store.{Store}
 use Rattle.trace_words.specs.declared.changes.WordChange.{WordChange}
 use Rattle.trace_words.specs.declared.changes.WordChanges.{WordChanges}
 use Rattle.trace_words.specs.Words.{IsSummary, all_changes, is_told}
+use Rattle.trace_items.specs.Changes.{IsItemSummary}
+use Rattle.trace_items.specs.declared.changes.ItemChange.{ItemChange}
+use Rattle.trace_items.specs.declared.changes.ItemChanges.{ItemChanges}
+use Rattle.trace_store_text.specs.ItemLines.{item_lines, item_summary_lines}
 use Rattle.trace_store_text.specs.StoreLines.{changed_word_lines}
 use Rattle.trace_store_text.specs.WordLines.{summary_lines, word_lines}
 
@@ -24,6 +28,13 @@ store_lines_kept has_error s s' b b' kept old new is =
     ∙ (ap (λ (x : Bytes). word_lines (all_changes (is_told has_error) b x)) (sym new)
     ∙ lines_kept kept (all_changes (is_told has_error) b b') is)
 
+pub item_lines_kept : (heap : ℕ) (kept : ItemChanges) (all : List ItemChange) → IsItemSummary kept all → item_lines heap all ≡ item_summary_lines heap kept
+unfolding item_lines
+item_lines_kept heap kept all is =
+    let first = is.first in
+    let count = is.count in
+    rw (first, count) refl
+
 -- parts that were written one after another
 pub three_parts : (a b c x y z : List ℕ) → a ≡ x → b ≡ y → c ≡ z → a ++ (b ++ (c ++ [])) ≡ x ++ (y ++ z)
 three_parts a b c x y z p q r = rw (p, q, r, append-nil z) refl
@@ -35,3 +46,11 @@ five_parts a b c d e x y z v w p q r s t = rw (p, q, r, s, t, append-nil w) refl
 pub seven_parts : (a b c d e f h x y z v w u k : List ℕ) → a ≡ x → b ≡ y → c ≡ z → d ≡ v → e ≡ w → f ≡ u → h ≡ k
     → a ++ (b ++ (c ++ (d ++ (e ++ (f ++ (h ++ [])))))) ≡ x ++ (y ++ (z ++ (v ++ (w ++ (u ++ k)))))
 seven_parts a b c d e f h x y z v w u k p q r s t m n = rw (p, q, r, s, t, m, n, append-nil k) refl
+
+pub nine_parts : (a0 a1 a2 a3 a4 a5 a6 a7 a8 x0 x1 x2 x3 x4 x5 x6 x7 x8 : List ℕ) → a0 ≡ x0 → a1 ≡ x1 → a2 ≡ x2 → a3 ≡ x3 → a4 ≡ x4 → a5 ≡ x5 → a6 ≡ x6 → a7 ≡ x7 → a8 ≡ x8
+    → a0 ++ (a1 ++ (a2 ++ (a3 ++ (a4 ++ (a5 ++ (a6 ++ (a7 ++ (a8 ++ [])))))))) ≡ x0 ++ (x1 ++ (x2 ++ (x3 ++ (x4 ++ (x5 ++ (x6 ++ (x7 ++ x8)))))))
+nine_parts a0 a1 a2 a3 a4 a5 a6 a7 a8 x0 x1 x2 x3 x4 x5 x6 x7 x8 p0 p1 p2 p3 p4 p5 p6 p7 p8 = rw (p0, p1, p2, p3, p4, p5, p6, p7, p8, append-nil x8) refl
+
+pub eleven_parts : (a0 a1 a2 a3 a4 a5 a6 a7 a8 a9 a10 x0 x1 x2 x3 x4 x5 x6 x7 x8 x9 x10 : List ℕ) → a0 ≡ x0 → a1 ≡ x1 → a2 ≡ x2 → a3 ≡ x3 → a4 ≡ x4 → a5 ≡ x5 → a6 ≡ x6 → a7 ≡ x7 → a8 ≡ x8 → a9 ≡ x9 → a10 ≡ x10
+    → a0 ++ (a1 ++ (a2 ++ (a3 ++ (a4 ++ (a5 ++ (a6 ++ (a7 ++ (a8 ++ (a9 ++ (a10 ++ [])))))))))) ≡ x0 ++ (x1 ++ (x2 ++ (x3 ++ (x4 ++ (x5 ++ (x6 ++ (x7 ++ (x8 ++ (x9 ++ x10)))))))))
+eleven_parts a0 a1 a2 a3 a4 a5 a6 a7 a8 a9 a10 x0 x1 x2 x3 x4 x5 x6 x7 x8 x9 x10 p0 p1 p2 p3 p4 p5 p6 p7 p8 p9 p10 = rw (p0, p1, p2, p3, p4, p5, p6, p7, p8, p9, p10, append-nil x10) refl

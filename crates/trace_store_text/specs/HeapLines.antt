@@ -1,5 +1,6 @@
--- What a store call changes in heaps, a line below the call for each heap that is gone or made, and
--- for each limit of one that differs. Limits are in bytes from the heap's start.
+-- What a store call changes in heaps, a line below the call for each heap that is gone or made, for
+-- each limit of one that differs, and for each item that is gone or new. Limits are in bytes from the
+-- heap's start.
 use Rattle.std.specs.Prelude.{ℕ, ◌==◌, List, [], ◌++◌, codes, Option, Some, None, if◌then◌else◌}
 use Rattle.std.specs.Fmt.{decimal}
 use Rattle.std.specs.List.{flat_map}
@@ -9,6 +10,8 @@ use Rattle.address_map.specs.declared.region.Region.{Region}
 use Rattle.os_heap.specs.Store.{Store}
 use Rattle.os_heap.specs.os_heap_lists.specs.Heap.{HeapList}
 use Rattle.trace_heaps.specs.Limits.{limits_in}
+use Rattle.trace_items.specs.Changes.{item_changes}
+use Rattle.trace_store_text.specs.ItemLines.{item_lines}
 use Rattle.trace_heaps.specs.declared.limits.HeapLimits.{HeapLimits}
 
 -- `heap 00009000 gone`
@@ -47,6 +50,7 @@ gone_heap_lines s' start = gone_heap_line start (limits_in s' start)
 
 abbrev pub kept_heap_lines : Store → Store → ℕ → List ℕ
 kept_heap_lines s s' start = heap_lines_by start (limits_in s start) (limits_in s' start)
+    ++ item_lines start (item_changes s s' start)
 
 -- those of some heaps
 abbrev pub lines_of_heaps : (ℕ → List ℕ) → List HeapList → List ℕ

@@ -1,14 +1,19 @@
 -- All that a store call changes in the machine's store, a line below the call for each.
 use Rattle.std.specs.Prelude.{ℕ, Bool, List, ◌++◌}
+use Rattle.trace_words.specs.Copies.{KeptStore}
 use Rattle.os_heap.specs.Store.{Store}
 use Rattle.trace_words.specs.Words.{all_changes, is_told}
+use Rattle.trace_store_text.specs.FlexLines.{flex_lines}
 use Rattle.trace_store_text.specs.HeapLines.{heap_lines}
 use Rattle.trace_store_text.specs.ImageLines.{image_lines}
+use Rattle.trace_store_text.specs.ModuleLines.{module_lines}
 use Rattle.trace_store_text.specs.WordLines.{word_lines}
 
 -- the words, but those of the error block where an error is told
 unfoldable pub changed_word_lines : Bool → Store → Store → List ℕ
 changed_word_lines has_error s s' = word_lines (all_changes (is_told has_error) s.bytes s'.bytes)
 
-unfoldable pub store_lines : Bool → Store → Store → List ℕ
-store_lines has_error s s' = image_lines s s' ++ (heap_lines s s' ++ changed_word_lines has_error s s')
+unfoldable pub store_lines : Bool → KeptStore → KeptStore → List ℕ
+store_lines has_error k k' = image_lines k.store k'.store ++ (module_lines k.modules k'.modules
+    ++ (flex_lines k.store.bytes k.flex k'.store.bytes k'.flex
+    ++ (heap_lines k.store k'.store ++ changed_word_lines has_error k.store k'.store)))

@@ -12,17 +12,17 @@ unfoldable pub word_line : WordChange → List ℕ
 word_line c = codes "                  [" ++ (hex_word c.at ++ (codes "]="
     ++ (hex_word c.new ++ (codes " was " ++ (hex_word c.old ++ codes "\n")))))
 
--- `.. 9 words more`
-unfoldable pub count_line : ℕ → List ℕ
-count_line more = codes "                  .. " ++ (decimal more ++ codes " words more\n")
+-- `.. 9 words more`, and nothing where there are none
+unfoldable pub count_line : List ℕ → ℕ → List ℕ
+count_line what more = codes "                  .. " ++ (decimal more ++ what)
 
-unfoldable pub more_words_line : ℕ → List ℕ
-more_words_line more = if more == 0 then [] else count_line more
+unfoldable pub more_line : List ℕ → ℕ → List ℕ
+more_line what more = if more == 0 then [] else count_line what more
 
 -- the lines of some words, of which the first are told
 unfoldable pub word_lines : List WordChange → List ℕ
-word_lines changes = flat_map word_line (take 16 changes) ++ more_words_line (length changes - 16)
+word_lines changes = flat_map word_line (take 16 changes) ++ more_line (codes " words more\n") (length changes - 16)
 
 -- the same by what is kept of them
 abbrev pub summary_lines : WordChanges → List ℕ
-summary_lines kept = flat_map word_line kept.first.items ++ more_words_line (kept.count - 16)
+summary_lines kept = flat_map word_line kept.first.items ++ more_line (codes " words more\n") (kept.count - 16)

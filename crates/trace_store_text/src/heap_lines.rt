@@ -6,12 +6,14 @@ ghost use Rattle.os_heap.specs.Store.{IsSound, store_of};
 ghost use Rattle.profile.specs.Output.{Writes};
 ghost use Rattle.trace_store_text.specs.HeapLines.{changed_limit_line, gone_heap_line, heap_gone_line, gone_heap_lines, heap_lines, heap_lines_by, kept_heap_lines, limit_line, limit_lines, lines_of_region, made_line};
 
+use crate::item_lines::push_items;
 use address_map::{AddressMap, Region};
 use itoa::Buffer;
 use profile::{HexText, Sink, WriteFault, push_parts};
 use trace_heaps::{HeapLimits, limits_of};
 
-/// Writes a line for each heap that is gone or made, and for each limit of one that differs.
+/// Writes a line for each heap that is gone or made, for each limit of one that differs, and for each
+/// item that is gone or new.
 pub fn push_heaps<W: Sink>(
     sink: &mut W,
     before: &AddressMap,
@@ -113,15 +115,31 @@ fn push_kept_region<W: Sink>(
         (lines_of_region (kept_heap_lines (store_of before.now) (store_of after.now)) region.now) }
 {
     if region.kind.is_heap() {
-        push_kept(
-            sink,
-            region.at,
-            limits_of(before, region.at),
-            limits_of(after, region.at),
-        )
+        push_kept_heap(sink, region.at, before, after)
     } else {
         Ok(())
     }
+}
+
+// What differs of a heap that is there after the call, or may be.
+fn push_kept_heap<W: Sink>(
+    sink: &mut W,
+    start: u32,
+    before: &AddressMap,
+    after: &AddressMap,
+) -> Result<(), WriteFault>
+    requires old { IsSound (store_of before.now) }
+    requires new { IsSound (store_of after.now) }
+    ensures { Writes W.contents W.has_failed sink.old sink.new result
+        (kept_heap_lines (store_of before.now) (store_of after.now) start) }
+{
+    push_kept(
+        sink,
+        start,
+        limits_of(before, start),
+        limits_of(after, start),
+    )?;
+    push_items(sink, start, before, after)
 }
 
 fn push_kept<W: Sink>(

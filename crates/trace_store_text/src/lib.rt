@@ -1,8 +1,12 @@
 //! The lines below a store call, of what it changes in the machine's store.
 #![tactic(auto)]
 
+pub mod flex_lines;
+pub mod frame_words;
 pub mod heap_lines;
 pub mod image_lines;
+pub mod item_lines;
+pub mod module_lines;
 pub mod store_lines;
 pub mod word_lines;
 

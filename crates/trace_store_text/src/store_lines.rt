@@ -3,13 +3,17 @@
 ghost use Rattle.std.specs.Prelude.{◌≡◌};
 ghost use Rattle.profile.specs.Output.{Writes};
 ghost use Rattle.swi_dispatch.specs.swi_dispatch_guest.specs.Parts.{state_of};
-ghost use Rattle.trace_words.specs.Copies.{copied_store};
+ghost use Rattle.trace_words.specs.Copies.{kept_in, kept_of};
+ghost use Rattle.trace_store_text.specs.FlexLines.{flex_lines};
 ghost use Rattle.trace_store_text.specs.HeapLines.{heap_lines};
 ghost use Rattle.trace_store_text.specs.ImageLines.{image_lines};
+ghost use Rattle.trace_store_text.specs.ModuleLines.{module_lines};
 ghost use Rattle.trace_store_text.specs.StoreLines.{changed_word_lines, store_lines};
 
+use crate::flex_lines::push_flex;
 use crate::heap_lines::push_heaps;
 use crate::image_lines::push_images;
+use crate::module_lines::push_modules;
 use crate::word_lines::push_words;
 use profile::{Sink, WriteFault};
 use swi_dispatch::Machine;
@@ -24,9 +28,11 @@ pub fn push_store_lines<W: Sink>(
     has_error: bool,
 ) -> Result<(), WriteFault>
     ensures writes { Writes W.contents W.has_failed sink.old sink.new result
-        (store_lines has_error (copied_store before.now) (state_of machine.now.guest).store) }
+        (store_lines has_error (kept_in before.now) (kept_of (state_of machine.now.guest))) }
 {
     push_changed_images(sink, before, machine)?;
+    push_changed_modules(sink, before, machine)?;
+    push_changed_flex(sink, before, machine)?;
     push_changed_heaps(sink, before, machine)?;
     push_changed_words(sink, before, machine, has_error)
 }
@@ -37,9 +43,39 @@ fn push_changed_images<W: Sink>(
     machine: &Machine,
 ) -> Result<(), WriteFault>
     ensures { Writes W.contents W.has_failed sink.old sink.new result
-        (image_lines (copied_store before.now) (state_of machine.now.guest).store) }
+        (image_lines (kept_in before.now).store (state_of machine.now.guest).store) }
 {
     push_images(sink, before.memory(), machine.memory())
+}
+
+fn push_changed_modules<W: Sink>(
+    sink: &mut W,
+    before: &StoreCopy,
+    machine: &Machine,
+) -> Result<(), WriteFault>
+    ensures { let s = state_of machine.now.guest in
+        Writes W.contents W.has_failed sink.old sink.new result
+        (module_lines (kept_in before.now).modules s.tables.modules) }
+{
+    push_modules(sink, before.instances(), machine.instances())
+}
+
+fn push_changed_flex<W: Sink>(
+    sink: &mut W,
+    before: &StoreCopy,
+    machine: &Machine,
+) -> Result<(), WriteFault>
+    ensures { let k = kept_in before.now in let s = state_of machine.now.guest in
+        Writes W.contents W.has_failed sink.old sink.new result
+        (flex_lines k.store.bytes k.flex s.store.bytes s.tables.flex) }
+{
+    push_flex(
+        sink,
+        before.memory(),
+        before.flex(),
+        machine.memory(),
+        machine.flex(),
+    )
 }
 
 fn push_changed_heaps<W: Sink>(
@@ -48,7 +84,7 @@ fn push_changed_heaps<W: Sink>(
     machine: &Machine,
 ) -> Result<(), WriteFault>
     ensures { Writes W.contents W.has_failed sink.old sink.new result
-        (heap_lines (copied_store before.now) (state_of machine.now.guest).store) }
+        (heap_lines (kept_in before.now).store (state_of machine.now.guest).store) }
 {
     push_heaps(sink, before.memory(), machine.memory())
 }
@@ -60,7 +96,7 @@ fn push_changed_words<W: Sink>(
     has_error: bool,
 ) -> Result<(), WriteFault>
     ensures { Writes W.contents W.has_failed sink.old sink.new result
-        (changed_word_lines has_error (copied_store before.now) (state_of machine.now.guest).store) }
+        (changed_word_lines has_error (kept_in before.now).store (state_of machine.now.guest).store) }
 {
     let changes = changed_words(before.memory(), machine.memory(), has_error);
     push_words(sink, &changes)

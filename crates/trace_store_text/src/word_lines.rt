@@ -3,7 +3,7 @@
 ghost use Rattle.std.specs.Prelude.{◌≡◌};
 ghost use Rattle.std.specs.List.{flat_map};
 ghost use Rattle.profile.specs.Output.{Writes};
-ghost use Rattle.trace_store_text.specs.WordLines.{count_line, more_words_line, summary_lines, word_line};
+ghost use Rattle.trace_store_text.specs.WordLines.{count_line, more_line, summary_lines, word_line};
 
 use itoa::Buffer;
 use profile::{HexText, Sink, WriteFault, push_parts};
@@ -17,7 +17,11 @@ pub fn push_words<W: Sink>(sink: &mut W, changes: &WordChanges) -> Result<(), Wr
     ensures writes { Writes W.contents W.has_failed sink.old sink.new result (summary_lines changes.now) }
 {
     push_changes(sink, changes.first.as_slice())?;
-    push_more(sink, changes.count.saturating_sub(MOST_WORDS))
+    push_more(
+        sink,
+        changes.count.saturating_sub(MOST_WORDS),
+        b" words more\n",
+    )
 }
 
 fn push_changes<W: Sink>(sink: &mut W, changes: &[WordChange]) -> Result<(), WriteFault>
@@ -47,19 +51,20 @@ fn push_change<W: Sink>(sink: &mut W, change: &WordChange) -> Result<(), WriteFa
     )
 }
 
-#[tactic(auto, unfolding(crate::specs::WordLines::more_words_line))]
-fn push_more<W: Sink>(sink: &mut W, more: u32) -> Result<(), WriteFault>
-    ensures { Writes W.contents W.has_failed sink.old sink.new result (more_words_line more) }
+/// Writes how many more there are of what isn't told, if there are any.
+#[tactic(auto, unfolding(crate::specs::WordLines::more_line))]
+pub fn push_more<W: Sink>(sink: &mut W, more: u32, what: &[u8]) -> Result<(), WriteFault>
+    ensures { Writes W.contents W.has_failed sink.old sink.new result (more_line what.now more) }
 {
     if more == 0 {
         return Ok(());
     }
-    push_count(sink, more)
+    push_count(sink, more, what)
 }
 
 #[tactic(auto, unfolding(crate::specs::WordLines::count_line))]
-fn push_count<W: Sink>(sink: &mut W, more: u32) -> Result<(), WriteFault>
-    ensures { Writes W.contents W.has_failed sink.old sink.new result (count_line more) }
+fn push_count<W: Sink>(sink: &mut W, more: u32, what: &[u8]) -> Result<(), WriteFault>
+    ensures { Writes W.contents W.has_failed sink.old sink.new result (count_line what.now more) }
 {
     let mut digits = Buffer::new();
     push_parts(
@@ -67,7 +72,7 @@ fn push_count<W: Sink>(sink: &mut W, more: u32) -> Result<(), WriteFault>
         &[
             b"                  .. ".as_slice(),
             digits.format(more).as_bytes(),
-            b" words more\n".as_slice(),
+            what,
         ],
     )
 }

@@ -1,13 +1,12 @@
 -- What a trace keeps of a machine before a step, as the code holds it.
 use Rattle.std.specs.Prelude.{Box, Option, Some, None}
-use Rattle.os_heap.specs.Store.{Store}
-use Rattle.trace_words.specs.Copies.{CopiedParts, copied_store}
+use Rattle.trace_words.specs.Copies.{CopiedParts, KeptStore, kept_in}
 use Rattle.trace_text.specs.declared.start.StepStart.{StepStart}
 use Rattle.trace_text.specs.Step.{Known}
 
-abbrev pub store_kept : {Z : Type 0} → Option (Box CopiedParts Z) → Option Store
+abbrev pub store_kept : {Z : Type 0} → Option (Box CopiedParts Z) → Option KeptStore
 store_kept None = None
-store_kept (Some copy) = Some (copied_store copy.value)
+store_kept (Some copy) = Some (kept_in copy.value)
 
 abbrev pub known_in : StepStart → Known
 known_in start = record {

@@ -12,17 +12,18 @@ use Rattle.swi_dispatch_guest.specs.swi_dispatch_frames.specs.Frames.{innermost_
 use Rattle.swi_dispatch_guest.specs.swi_dispatch_frames.specs.declared.frame.Frame.{Frame}
 use Rattle.swi_dispatch_guest.specs.MachineState.{MachineState, StepOutcome, stop_of}
 use Rattle.swi_dispatch_guest.specs.Step.{without_x}
-use Rattle.os_heap.specs.Store.{Store}
 use Rattle.trace_changes.specs.Status.{following_word}
 use Rattle.trace_effects.specs.Cause.{cause_of, swi_of_cause}
 use Rattle.trace_effects.specs.Stored.{stored_words}
 use Rattle.trace_effects.specs.declared.cause.Cause.{Cause}
 use Rattle.trace_effects.specs.declared.stored.StoredWords.{StoredWords}
 use Rattle.trace_effects.specs.declared.cause.Cause.TheVariants.{Gate, Unmapped, Skipped, Word}
+use Rattle.trace_store_text.specs.FrameWords.{entered_word}
 use Rattle.trace_store_text.specs.StoreLines.{store_lines}
+use Rattle.trace_words.specs.Copies.{KeptStore, kept_of}
 use Rattle.trace_text.specs.declared.areas.AreaMark.{AreaMark}
 use Rattle.trace_text.specs.Areas.{area_lines, area_marks}
-use Rattle.trace_text.specs.Below.{entered_word, error_words, frames_kept, has_error, left_word, prints_word}
+use Rattle.trace_text.specs.Below.{error_words, frames_kept, has_error, left_word_kept, prints_word}
 use Rattle.trace_text.specs.Calls.{call_words}
 use Rattle.trace_text.specs.Columns.{below_text, columns_text, words_behind}
 use Rattle.trace_text.specs.Core.{core_words}
@@ -85,11 +86,11 @@ pub record Known : Type 0 where
   pub frames : ℕ
   pub innermost : Option Frame
   pub areas : List AreaMark
-  pub before : Option Store
+  pub before : Option KeptStore
 
-abbrev pub store_before : Taking → Store → Option Store
-store_before taking.Instruction s = None
-store_before _ s = Some s
+abbrev pub store_before : Taking → KeptStore → Option KeptStore
+store_before taking.Instruction k = None
+store_before _ k = Some k
 
 abbrev pub known_by : MachineState → Cause → StoredWords → Known
 known_by s cause stored = record {
@@ -103,7 +104,7 @@ known_by s cause stored = record {
   frames = length s.tables.frames;
   innermost = innermost_frame s.tables.frames;
   areas = area_marks s.tables.land.areas;
-  before = store_before (taking_of cause) s.store;
+  before = store_before (taking_of cause) (kept_of s);
 }
 
 abbrev pub known_of : MachineState → Known
@@ -132,17 +133,17 @@ abbrev pub core_line : ℕ → Known → MachineState → List ℕ
 core_line kept k now = below_text (error_words kept now ++ core_words k.expected k.cpu now.cpu)
 
 unfoldable pub frame_lines_below : Bool → ℕ → Known → MachineState → List ℕ
-frame_lines_below leaves kept k now = below_text (left_word leaves k.frames k.innermost)
-    ++ below_text (entered_word kept now.tables.frames)
+frame_lines_below leaves kept k now = below_text (left_word_kept leaves k.frames k.innermost k.before)
+    ++ below_text (entered_word kept now.tables.frames now.tables.modules)
 
-abbrev pub store_lines_below : Bool → Option Store → Store → List ℕ
-store_lines_below has_error None s' = []
-store_lines_below has_error (Some s) s' = store_lines has_error s s'
+abbrev pub store_lines_below : Bool → Option KeptStore → KeptStore → List ℕ
+store_lines_below has_error None k' = []
+store_lines_below has_error (Some k) k' = store_lines has_error k k'
 
 -- the areas, and what is in them
 unfoldable pub memory_lines_below : ℕ → Known → MachineState → List ℕ
 memory_lines_below kept k now = area_lines k.areas now.tables.land.areas
-    ++ store_lines_below (has_error kept now) k.before now.store
+    ++ store_lines_below (has_error kept now) k.before (kept_of now)
 
 unfoldable pub lines_with : Bool → ℕ → Known → StepOutcome → List ℕ
 lines_with leaves kept k o = core_line kept k o.now ++ (below_text (prints_word o.printed)
@@ -198,5 +199,5 @@ known_outside s = record {
   frames = length s.tables.frames;
   innermost = innermost_frame s.tables.frames;
   areas = area_marks s.tables.land.areas;
-  before = Some s.store;
+  before = Some (kept_of s);
 }

@@ -5,22 +5,24 @@ ghost use Rattle.std.specs.Io.KnownBytes.{Appends};
 ghost use Rattle.profile.specs.Output.{Writes};
 ghost use Rattle.swi_dispatch_guest.specs.MachineState.{outcome_with};
 ghost use Rattle.swi_dispatch_guest.specs.Parts.{state_of};
-ghost use Rattle.trace_text.specs.Below.{entered_word, error_words, frame_word, frames_kept, has_error, kind_text, left_word, prints_word};
+ghost use Rattle.trace_store_text.specs.FrameWords.{entered_word};
+ghost use Rattle.trace_text.specs.Below.{error_words, frames_kept, has_error, left_word_kept, prints_word};
 ghost use Rattle.trace_text.specs.Columns.{below_text};
 ghost use Rattle.trace_text.specs.Start.{store_kept};
+ghost use Rattle.trace_words.specs.Copies.{kept_of};
 ghost use Rattle.trace_text.specs.Step.{skipped_word, store_lines_below};
 
 use crate::areas::push_areas;
 use crate::columns::{push_behind, push_below};
 use crate::core_text::push_core;
 use crate::errors::{push_error, push_stop};
-use crate::start::{StepStart, Taking, innermost};
+use crate::start::{StepStart, Taking};
 use crate::stored::{push_stored_below, push_stored_here};
 use debug_views::push_quoted;
-use debugger::swi_dispatch::{CodeKind, Frame, FrameKind, Machine};
-use itoa::Buffer;
-use profile::{HexText, Sink, Stop, WriteFault, push_all, push_parts};
+use debugger::swi_dispatch::{Frame, Machine};
+use profile::{Sink, Stop, WriteFault, push_all};
 use std::alloc::Global;
+use trace_store_text::frame_words::{push_entered, push_left};
 use trace_store_text::push_store_lines;
 use trace_store_text::trace_words::StoreCopy;
 use view_items::TextSink;
@@ -202,8 +204,15 @@ impl StepStart {
         ensures { OnOk result (Appends (W.contents sink.old) (W.contents sink.new)
             (frame_lines_below leaves kept (known_in self.now) (state_of machine.now.guest))) }
     {
-        push_left_line(alloc, leaves, self.frames, self.innermost, sink)?;
-        push_entered_line(alloc, kept, machine.open_frames(), sink)
+        push_left_line(
+            alloc,
+            leaves,
+            self.frames,
+            self.innermost,
+            &self.before,
+            sink,
+        )?;
+        push_entered_line(alloc, kept, machine, sink)
     }
 
     // The line of an error that went back, and of the core.
@@ -231,7 +240,7 @@ fn push_store<W: Sink>(
     has_error: bool,
 ) -> Result<(), WriteFault>
     ensures { Writes W.contents W.has_failed sink.old sink.new result
-        (store_lines_below has_error (store_kept before.now) (state_of machine.now.guest).store) }
+        (store_lines_below has_error (store_kept before.now) (kept_of (state_of machine.now.guest))) }
 {
     match before {
         Some(before) => push_store_lines(sink, before, machine, has_error),
@@ -309,83 +318,44 @@ fn push_left_line<W: Sink>(
     leaves: bool,
     count: usize,
     innermost: Option<Frame>,
+    before: &Option<Box<StoreCopy>>,
     sink: &mut W,
 ) -> Result<(), WriteFault>
     ensures { OnOk result (Appends (W.contents sink.old) (W.contents sink.new)
-        (below_text (left_word leaves count innermost))) }
+        (below_text (left_word_kept leaves count innermost (store_kept before.now)))) }
 {
     let mut words = TextSink::new(alloc);
-    push_left(&mut words, leaves, count, innermost)?;
+    push_left_kept(&mut words, leaves, count, innermost, before)?;
     push_below(sink, words.bytes())
 }
 
-fn push_left<W: Sink>(
+fn push_left_kept<W: Sink>(
     sink: &mut W,
     leaves: bool,
     count: usize,
     innermost: Option<Frame>,
+    before: &Option<Box<StoreCopy>>,
 ) -> Result<(), WriteFault>
-    ensures { Writes W.contents W.has_failed sink.old sink.new result (left_word leaves count innermost) }
+    ensures { Writes W.contents W.has_failed sink.old sink.new result
+        (left_word_kept leaves count innermost (store_kept before.now)) }
 {
-    if leaves {
-        push_frame(sink, b" leaves frame ", count, innermost)
-    } else {
-        Ok(())
+    match before {
+        Some(before) => push_left(sink, leaves, count, innermost, before.instances()),
+        None => Ok(()),
     }
 }
 
 fn push_entered_line<W: Sink>(
     alloc: Global,
     kept: usize,
-    frames: &[Frame],
+    machine: &Machine,
     sink: &mut W,
 ) -> Result<(), WriteFault>
-    ensures { OnOk result (Appends (W.contents sink.old) (W.contents sink.new)
-        (below_text (entered_word kept frames.now))) }
+    ensures { let s = state_of machine.now.guest in
+        OnOk result (Appends (W.contents sink.old) (W.contents sink.new)
+        (below_text (entered_word kept s.tables.frames s.tables.modules))) }
 {
     let mut words = TextSink::new(alloc);
-    push_entered(&mut words, kept, frames)?;
+    push_entered(&mut words, kept, machine.open_frames(), machine.instances())?;
     push_below(sink, words.bytes())
-}
-
-fn push_entered<W: Sink>(sink: &mut W, kept: usize, frames: &[Frame]) -> Result<(), WriteFault>
-    ensures { Writes W.contents W.has_failed sink.old sink.new result (entered_word kept frames.now) }
-{
-    if kept < frames.len() {
-        push_frame(sink, b" enters frame ", frames.len(), innermost(frames))
-    } else {
-        Ok(())
-    }
-}
-
-fn push_frame<W: Sink>(
-    sink: &mut W,
-    verb: &[u8],
-    number: usize,
-    frame: Option<Frame>,
-) -> Result<(), WriteFault>
-    ensures { Writes W.contents W.has_failed sink.old sink.new result (frame_word verb.now number frame) }
-{
-    let Some(frame) = frame else {
-        return Ok(());
-    };
-    let mut digits = Buffer::new();
-    push_parts(
-        sink,
-        &[verb, digits.format(number).as_bytes(), b" ".as_slice()],
-    )?;
-    push_kind(sink, frame.kind)
-}
-
-fn push_kind<W: Sink>(sink: &mut W, kind: FrameKind) -> Result<(), WriteFault>
-    ensures { Writes W.contents W.has_failed sink.old sink.new result (kind_text kind) }
-{
-    match kind {
-        FrameKind::Swi(number) => push_parts(
-            sink,
-            &[b"SWI &".as_slice(), HexText::number(number).as_slice()],
-        ),
-        FrameKind::Entry(CodeKind::Initialise) => push_all(sink, b"Initialise"),
-        FrameKind::Entry(CodeKind::Finalise) => push_all(sink, b"Finalise"),
-    }
 }

@@ -10,7 +10,7 @@ ghost use Rattle.trace_effects.specs.Cause.{cause_of};
 ghost use Rattle.trace_text.specs.Calls.{call_words};
 ghost use Rattle.trace_text.specs.Start.{store_kept};
 ghost use Rattle.trace_text.specs.Step.{calling_text, front_text, is_skipped, loading_text, outside_line, start_text, store_before, taking_of, taking_swi, taking_text, what_text, word_column};
-ghost use Rattle.trace_words.specs.Copies.{copied_store};
+ghost use Rattle.trace_words.specs.Copies.{kept_in, kept_of};
 ghost use Rattle.view_items.specs.TextSink.{sink_text_of};
 
 use crate::areas::{AreaMark, MOST_AREAS, area_marks};
@@ -27,6 +27,7 @@ use profile::{HexText, Sink, WriteFault, push_all, push_parts};
 use std::alloc::{AllocError, Global};
 use trace_changes::following_word;
 use trace_effects::{Cause, called_swi, stored_words};
+use trace_store_text::frame_words::innermost;
 use trace_store_text::trace_words::StoreCopy;
 use view_items::TextSink;
 
@@ -117,7 +118,7 @@ impl StepStart {
     ) -> StepStart
         requires length { text_length ≡ length (what_text (state_of machine.now.guest).cpu.pc cause) }
         requires before { store_kept before
-            ≡ store_before (taking_of cause) (state_of machine.now.guest).store }
+            ≡ store_before (taking_of cause) (kept_of (state_of machine.now.guest)) }
         ensures { let s = state_of machine.now.guest in
             known_in result ≡ known_by s cause (stored_words cause s.cpu) }
     {
@@ -216,7 +217,7 @@ fn store_before(
     taking: Taking,
 ) -> Result<Option<Box<StoreCopy>>, WriteFault>
     ensures { IfOk result (λ before. store_kept before
-        ≡ store_before taking (state_of machine.now.guest).store) }
+        ≡ store_before taking (kept_of (state_of machine.now.guest))) }
 {
     match taking {
         Taking::Instruction => Ok(None),
@@ -225,7 +226,7 @@ fn store_before(
 }
 
 fn kept_store(alloc: Global, machine: &Machine) -> Result<Option<Box<StoreCopy>>, WriteFault>
-    ensures { IfOk result (λ before. store_kept before ≡ Some (state_of machine.now.guest).store) }
+    ensures { IfOk result (λ before. store_kept before ≡ Some (kept_of (state_of machine.now.guest))) }
 {
     match boxed_copy(alloc, machine) {
         Ok(copy) => Ok(Some(copy)),
@@ -234,7 +235,7 @@ fn kept_store(alloc: Global, machine: &Machine) -> Result<Option<Box<StoreCopy>>
 }
 
 fn boxed_copy(alloc: Global, machine: &Machine) -> Result<Box<StoreCopy>, AllocError>
-    ensures { IfOk result (λ copy. copied_store copy.value ≡ (state_of machine.now.guest).store) }
+    ensures { IfOk result (λ copy. kept_in copy.value ≡ kept_of (state_of machine.now.guest)) }
 {
     let copy = StoreCopy::of(alloc, machine)?;
     Ok(Box::new(alloc, copy)?)
@@ -299,13 +300,6 @@ fn is_skipped(cause: Cause) -> bool
     ensures { result ≡ is_skipped cause }
 {
     matches!(cause, Cause::Skipped(_))
-}
-
-/// The frame that was opened last, if one is open.
-pub fn innermost(frames: &[Frame]) -> Option<Frame>
-    ensures value { result ≡ innermost_frame frames.now }
-{
-    frames.last().copied()
 }
 
 // Writes what stands at a program counter, and answers how long its text is.

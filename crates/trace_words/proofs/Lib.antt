@@ -1,4 +1,5 @@
 pub mod ChangeLemmas
 pub mod CopyLemmas
+pub mod FlexLemmas
 pub mod LawLemmas
 pub mod WordLemmas

@@ -1,9 +1,24 @@
--- The parts of a machine that are kept of it.
+-- The parts of a machine that are kept of it, and what they stand for: its store, its modules, and where
+-- its flex store is.
+use Rattle.std.specs.Prelude.{List}
 use Rattle.address_map.specs.declared.map.AddressMap.{AddressMap}
 use Rattle.os_heap.specs.Store.{Store, store_of}
+use Rattle.swi_dispatch.specs.flex_store.specs.declared.flex.Flex.{Flex}
+use Rattle.swi_dispatch.specs.instances_table.specs.Modules.{Module}
+use Rattle.swi_dispatch.specs.swi_dispatch_guest.specs.MachineState.{MachineState}
 
 pub record CopiedParts : Type 0 where
   pub map : AddressMap
+  pub modules : List Module
+  pub flex : Flex
 
-abbrev pub copied_store : CopiedParts → Store
-copied_store copy = store_of copy.map
+pub record KeptStore : Type 0 where
+  pub store : Store
+  pub modules : List Module
+  pub flex : Flex
+
+abbrev pub kept_in : CopiedParts → KeptStore
+kept_in copy = record { store = store_of copy.map; modules = copy.modules; flex = copy.flex }
+
+abbrev pub kept_of : MachineState → KeptStore
+kept_of s = record { store = s.store; modules = s.tables.modules; flex = s.tables.flex }

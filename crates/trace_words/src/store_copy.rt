@@ -11,49 +11,77 @@ use std::alloc::{AllocError, Global};
 use std::marker::Model;
 use swi_dispatch::Machine;
 use swi_dispatch::dynamic_areas::areas_count_pages;
+use swi_dispatch::flex_store::Flex;
+use swi_dispatch::instances::Instances;
 
-/// A copy of a machine's memory, with its heaps and what is recorded in it.
+/// A copy of a machine's memory, with its heaps and what is recorded in it, of its modules, and of where
+/// its flex store is.
 #[derive(Drop)]
 pub struct StoreCopy {
     memory: AddressMap,
+    instances: Instances,
+    flex: Flex,
 }
 
 impl Model for StoreCopy {
     ghost use Rattle.os_heap.specs.Store.{IsSound, store_of};
+    ghost use Rattle.swi_dispatch.specs.flex_store.specs.State.{IsFlex};
     ghost use Rattle.trace_words.specs.Copies.{CopiedParts};
 
     ghost Value = { CopiedParts };
 
-    ghost view = { λ c. record { map = c.memory } };
+    ghost view = { λ c. record { map = c.memory; modules = c.instances; flex = c.flex } };
 
-    ghost invariant = { λ c. IsSound (store_of c.memory) };
+    ghost invariant = { λ c. IsSound (store_of c.memory) × IsFlex c.memory c.flex };
 }
 
 impl StoreCopy {
     ghost use Rattle.address_map.specs.Memory.{bytes_of};
-    ghost use Rattle.trace_words.specs.Copies.{copied_store};
+    ghost use Rattle.swi_dispatch.specs.flex_store.specs.State.{IsFlex};
+    ghost use Rattle.trace_words.specs.Copies.{kept_in, kept_of};
 
-    /// A copy of a machine's memory as it is.
+    /// A copy of a machine's store as it is.
     ///
     /// # Errors
     ///
     /// Where the host has no memory for it.
     pub fn of(alloc: Global, machine: &Machine) -> Result<StoreCopy, AllocError>
-        ensures store { IfOk result (λ copy. copied_store copy ≡ (state_of machine.now.guest).store) }
+        ensures kept { IfOk result (λ copy. kept_in copy ≡ kept_of (state_of machine.now.guest)) }
     {
         machine.known();
         areas_count_pages();
         let memory = copy_of(alloc, machine.memory())?;
-        Ok(StoreCopy { memory })
+        let mut instances = Instances::new();
+        instances.copy_from(machine.instances());
+        Ok(StoreCopy {
+            memory,
+            instances,
+            flex: *machine.flex(),
+        })
     }
 
     /// The memory as it was.
     pub fn memory(&self) -> &AddressMap
         ensures map { result.now ≡ self.now.map }
-        ensures bytes { bytes_of result.now ≡ (copied_store self.now).bytes }
+        ensures bytes { bytes_of result.now ≡ (kept_in self.now).store.bytes }
         ensures sound { IsSound (store_of result.now) }
+        ensures flex { IsFlex result.now self.now.flex }
     {
         &self.memory
+    }
+
+    /// The modules and their instances as they were.
+    pub fn instances(&self) -> &Instances
+        ensures { result.now ≡ self.now.modules }
+    {
+        &self.instances
+    }
+
+    /// Where the flex store was, if there was one.
+    pub fn flex(&self) -> &Flex
+        ensures { result.now ≡ self.now.flex }
+    {
+        &self.flex
     }
 }
 

@@ -1,11 +1,11 @@
 use Rattle.address_map.specs.Memory.{bytes_of}
 use Rattle.swi_dispatch.specs.swi_dispatch_guest.specs.Parts.{state_of}
-use Rattle.trace_words.specs.Copies.{copied_store}
+use Rattle.trace_words.specs.Copies.{kept_in}
 use Rattle.trace_store_text.proofs.LineLemmas.{store_lines_kept}
 use Rattle.trace_store_text.proofs.store_lines.push_changed_words.Goals as goal
 
 pub returns : goal.returns
 returns g c =
-    rw (store_lines_kept c.args.has_error (copied_store c.args.before.now) (state_of c.args.machine.now.guest).store
+    rw (store_lines_kept c.args.has_error (kept_in c.args.before.now).store (state_of c.args.machine.now.guest).store
     (bytes_of c.memory.result.now) (bytes_of c.memory-2.result.now) c.changed_words-changes.result
     c.memory.ensures.bytes c.memory-2.ensures.bytes c.changed_words-changes.ensures) c.push_words.ensures.writes

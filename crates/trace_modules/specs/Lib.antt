@@ -1,0 +1,5 @@
+-- Instances of modules as a trace tells them. Begin with Changes.
+pub use Rattle.instances
+pub mod Changes
+pub mod Laws
+pub mod Marks

@@ -1,0 +1,9 @@
+use Rattle.os_heap.specs.Store.{store_of}
+use Rattle.trace_items.specs.Changes.{item_changes}
+use Rattle.trace_store_text.proofs.LineLemmas.{item_lines_kept}
+use Rattle.trace_store_text.proofs.item_lines.push_items.Goals as goal
+
+pub returns : goal.returns
+returns g c =
+    rw (item_lines_kept c.args.heap c.changed_items-changes.result (item_changes (store_of c.args.before.now) (store_of c.args.after.now) c.args.heap)
+    c.changed_items-changes.ensures) (record { writes = c.push_kept_items.ensures })

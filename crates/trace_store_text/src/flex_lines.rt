@@ -1,0 +1,195 @@
+//! What a store call changes in the flex store.
+
+ghost use Rattle.std.specs.Prelude.{◌≡◌, Some, None};
+ghost use Rattle.std.specs.List.{flat_map};
+ghost use Rattle.address_map.specs.Memory.{bytes_of};
+ghost use Rattle.profile.specs.Output.{Writes};
+ghost use Rattle.swi_dispatch.specs.flex_store.specs.Listed.{all_listed};
+ghost use Rattle.swi_dispatch.specs.flex_store.specs.State.{IsFlex, flex_in};
+ghost use Rattle.trace_flex.specs.Changes.{gone_block_by, kept_block_by};
+ghost use Rattle.trace_store_text.specs.FlexLines.{block_change_line, flex_change_lines, flex_lines, gone_block_line, gone_block_lines, kept_block_lines, new_block_line, other_block_line};
+
+use address_map::AddressMap;
+use itoa::Buffer;
+use profile::{HexText, Sink, WriteFault, push_parts};
+use swi_dispatch::flex_store::{Flex, FlexBlock};
+use trace_flex::{find_block, is_same_block};
+
+/// Writes a line for each block of the flex store that is gone, new, or not what it was.
+pub fn push_flex<W: Sink>(
+    sink: &mut W,
+    before: &AddressMap,
+    old: &Flex,
+    after: &AddressMap,
+    new: &Flex,
+) -> Result<(), WriteFault>
+    requires old { IsFlex before.now old.now }
+    requires new { IsFlex after.now new.now }
+    ensures writes { Writes W.contents W.has_failed sink.old sink.new result
+        (flex_lines (bytes_of before.now) old.now (bytes_of after.now) new.now) }
+{
+    push_blocks(sink, before, old, after, new)
+}
+
+fn push_blocks<W: Sink>(
+    sink: &mut W,
+    before: &AddressMap,
+    old: &Flex,
+    after: &AddressMap,
+    new: &Flex,
+) -> Result<(), WriteFault>
+    requires old { IsFlex before.now old.now }
+    requires new { IsFlex after.now new.now }
+    ensures { Writes W.contents W.has_failed sink.old sink.new result (flex_change_lines
+        (all_listed (flex_in before.now old.now.extent)) (all_listed (flex_in after.now new.now.extent))) }
+{
+    push_gone_blocks(sink, before, old, after, new)?;
+    push_kept_blocks(sink, before, old, after, new)
+}
+
+fn push_gone_blocks<W: Sink>(
+    sink: &mut W,
+    before: &AddressMap,
+    old: &Flex,
+    after: &AddressMap,
+    new: &Flex,
+) -> Result<(), WriteFault>
+    requires old { IsFlex before.now old.now }
+    requires new { IsFlex after.now new.now }
+    ensures { Writes W.contents W.has_failed sink.old sink.new result
+        (flat_map (gone_block_lines (all_listed (flex_in after.now new.now.extent)))
+        (all_listed (flex_in before.now old.now.extent))) }
+{
+    let mut rest = old.blocks(before);
+    while let Some(block) = rest.next() {
+        let found = find_block(new.blocks(after), block.anchor);
+        push_gone_block(sink, &block, found)?;
+    }
+    Ok(())
+}
+
+fn push_kept_blocks<W: Sink>(
+    sink: &mut W,
+    before: &AddressMap,
+    old: &Flex,
+    after: &AddressMap,
+    new: &Flex,
+) -> Result<(), WriteFault>
+    requires old { IsFlex before.now old.now }
+    requires new { IsFlex after.now new.now }
+    ensures { Writes W.contents W.has_failed sink.old sink.new result
+        (flat_map (kept_block_lines (all_listed (flex_in before.now old.now.extent)))
+        (all_listed (flex_in after.now new.now.extent))) }
+{
+    let mut rest = new.blocks(after);
+    while let Some(block) = rest.next() {
+        let found = find_block(old.blocks(before), block.anchor);
+        push_kept_block(sink, &block, found)?;
+    }
+    Ok(())
+}
+
+fn push_gone_block<W: Sink>(
+    sink: &mut W,
+    block: &FlexBlock,
+    found: Option<FlexBlock>,
+) -> Result<(), WriteFault>
+    ensures { Writes W.contents W.has_failed sink.old sink.new result
+        (flat_map block_change_line (gone_block_by block.now found)) }
+{
+    match found {
+        Some(_) => Ok(()),
+        None => push_gone_line(sink, block),
+    }
+}
+
+fn push_kept_block<W: Sink>(
+    sink: &mut W,
+    block: &FlexBlock,
+    found: Option<FlexBlock>,
+) -> Result<(), WriteFault>
+    ensures { Writes W.contents W.has_failed sink.old sink.new result
+        (flat_map block_change_line (kept_block_by block.now found)) }
+{
+    match found {
+        None => push_new_line(sink, block),
+        Some(old) => push_other_block(sink, &old, block),
+    }
+}
+
+fn push_other_block<W: Sink>(
+    sink: &mut W,
+    old: &FlexBlock,
+    block: &FlexBlock,
+) -> Result<(), WriteFault>
+    ensures { Writes W.contents W.has_failed sink.old sink.new result
+        (flat_map block_change_line (kept_block_by block.now (Some old.now))) }
+{
+    if is_same_block(old, block) {
+        Ok(())
+    } else {
+        push_other_line(sink, old, block)
+    }
+}
+
+#[tactic(auto, unfolding(crate::specs::FlexLines::gone_block_line))]
+fn push_gone_line<W: Sink>(sink: &mut W, block: &FlexBlock) -> Result<(), WriteFault>
+    ensures { Writes W.contents W.has_failed sink.old sink.new result (gone_block_line block.now) }
+{
+    push_parts(
+        sink,
+        &[
+            b"                  block anchor ".as_slice(),
+            HexText::word(block.anchor).as_slice(),
+            b" gone\n".as_slice(),
+        ],
+    )
+}
+
+#[tactic(auto, unfolding(crate::specs::FlexLines::new_block_line))]
+fn push_new_line<W: Sink>(sink: &mut W, block: &FlexBlock) -> Result<(), WriteFault>
+    ensures { Writes W.contents W.has_failed sink.old sink.new result (new_block_line block.now) }
+{
+    let mut size = Buffer::new();
+    push_parts(
+        sink,
+        &[
+            b"                  block anchor ".as_slice(),
+            HexText::word(block.anchor).as_slice(),
+            b" at ".as_slice(),
+            HexText::word(block.at).as_slice(),
+            b" size ".as_slice(),
+            size.format(block.size).as_bytes(),
+            b" new\n".as_slice(),
+        ],
+    )
+}
+
+#[tactic(auto, unfolding(crate::specs::FlexLines::other_block_line))]
+fn push_other_line<W: Sink>(
+    sink: &mut W,
+    old: &FlexBlock,
+    block: &FlexBlock,
+) -> Result<(), WriteFault>
+    ensures { Writes W.contents W.has_failed sink.old sink.new result
+        (other_block_line old.now block.now) }
+{
+    let mut size = Buffer::new();
+    let mut was = Buffer::new();
+    push_parts(
+        sink,
+        &[
+            b"                  block anchor ".as_slice(),
+            HexText::word(block.anchor).as_slice(),
+            b" at ".as_slice(),
+            HexText::word(block.at).as_slice(),
+            b" size ".as_slice(),
+            size.format(block.size).as_bytes(),
+            b" was ".as_slice(),
+            HexText::word(old.at).as_slice(),
+            b" ".as_slice(),
+            was.format(old.size).as_bytes(),
+            b"\n".as_slice(),
+        ],
+    )
+}
