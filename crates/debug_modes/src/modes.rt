@@ -3,7 +3,7 @@
 ghost use Rattle.std.specs.Prelude.{◌≡◌};
 ghost use Rattle.debug_modes.specs.Modes.{no_modes, takes_over, told_of_line};
 
-use debug_runs::StepModes;
+use debug_runs::debug_tables::StepModes;
 
 /// So many steps of a line are told where no line says otherwise.
 const FIRST_LIMIT: u64 = 1000;

@@ -5,8 +5,8 @@ ghost use Rattle.debug_modes.specs.Changes.{stub_register_of, stub_with, stub_nu
 
 use arrayvec::ArrayVec;
 use debug_lines::StubSetting;
-use debug_runs::{MOST_STUB_REGISTERS, Stub, StubRegister};
-use debugger::swi_dispatch::without_x_bit;
+use debug_runs::debug_tables::{MOST_STUB_REGISTERS, Stub, StubRegister};
+use debug_runs::debugger::swi_dispatch::without_x_bit;
 
 /// The number of a SWI that a line tells as CALL takes it, without its X bit.
 pub(crate) fn stub_number(number: u32) -> u32

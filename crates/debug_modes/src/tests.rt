@@ -1,10 +1,10 @@
 //! Lines that change modes, with their answers; the calls that a machine has are those of the manual.
 
 use crate::DebugModes;
-use command_shell::Session;
-use debug_labels::LabelTable;
 use debug_lines::{DebugCommand, SteppingCommand, simple_command};
-use debugger::swi_dispatch::Machine;
+use debug_runs::command_shell::Session;
+use debug_runs::debug_labels::LabelTable;
+use debug_runs::debugger::swi_dispatch::Machine;
 use image_loader::Images;
 use profile::Config;
 use std::alloc::Global;

@@ -1,8 +1,5 @@
-pub mod AheadLemmas
 pub mod LineLemmas
 pub mod PlainLemmas
 pub mod RunLemmas
-pub mod StubLemmas
 pub mod TellingLemmas
 pub mod TracedLemmas
-pub mod WatchLemmas

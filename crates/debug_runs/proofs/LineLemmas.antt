@@ -12,14 +12,15 @@ use Rattle.command_shell.specs.State.{Answered, IsAnswered, ScriptState}
 use Rattle.view_items.specs.TextSink.{sink_text_of}
 use Rattle.view_items.specs.declared.text_sink.TextSink.{TextSink}
 use Rattle.debug_runs.specs.Endings.{line_end_told}
-use Rattle.debug_runs.specs.Lines.{Run, Step, Call, Load, Finish, Gosub, SteppingTold, call_line_told, finish_told, stepping_told, steps_line_told, told_at_once, told_if_awake, told_unless, told_with_ending}
+use Rattle.debug_lines.specs.SteppingRequests.{Run, Step, Call, Load, Finish, Gosub}
+use Rattle.debug_runs.specs.Lines.{SteppingTold, call_line_told, finish_told, stepping_told, steps_line_told, told_at_once, told_if_awake, told_unless, told_with_ending}
 use Rattle.debug_runs.specs.Routines.{caller_in, script_at_routine}
 use Rattle.debug_runs.specs.Runs.{SteppingRun, call_run, steps_run}
 use Rattle.debug_runs.specs.Telling.{more_text}
 use Rattle.debug_runs.specs.Told.{HasTold, IsAfterStepping, IsToldOn}
 use Rattle.debug_runs.specs.declared.endings.EndKind.{EndKind}
 use Rattle.debug_runs.specs.declared.endings.EndKind.TheVariants as kind
-use Rattle.debug_runs.specs.declared.modes.StepModes.{StepModes}
+use Rattle.debug_tables.specs.declared.modes.StepModes.{StepModes}
 use Rattle.debug_runs.specs.declared.running.RunEnd.{RunEnd}
 use Rattle.debug_runs.specs.declared.running.RunEnd.TheVariants as end
 use Rattle.debug_runs.specs.declared.running.RunGoal.TheVariants as goal

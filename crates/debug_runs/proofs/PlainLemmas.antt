@@ -24,16 +24,17 @@ use Rattle.trace_text.specs.Step.{call_start_text, load_start_text}
 use Rattle.debug_runs.specs.Endings.{line_end_told, steps_told}
 use Rattle.debug_runs.specs.Laws.{AreScriptLines, IsAnswer, IsFreshAwake}
 use Rattle.debug_runs.specs.Lines.{stepping_told}
+use Rattle.debug_lines.specs.SteppingRequests as asked
 use Rattle.debug_runs.specs.Lines as line
-use Rattle.debug_runs.specs.Modes.{are_plain}
+use Rattle.debug_tables.specs.Modes.{are_plain}
 use Rattle.debug_runs.specs.Runs.{SteppingRun, call_run, end_after, run_end_by, next_step, run_behind, run_ended, run_step, run_unless, steps_run}
-use Rattle.debug_runs.specs.Stubs.{is_known_swi, stub_numbered, stub_of_swi, swi_ahead}
+use Rattle.debug_tables.specs.Stubs.{is_known_swi, stub_numbered, stub_of_swi, swi_ahead}
 use Rattle.debug_runs.specs.Telling.{call_text_behind}
 use Rattle.debug_runs.specs.declared.endings.EndKind.TheVariants as kind
-use Rattle.debug_runs.specs.declared.modes.StepModes.{StepModes}
+use Rattle.debug_tables.specs.declared.modes.StepModes.{StepModes}
 use Rattle.debug_runs.specs.declared.running.RunEnd.TheVariants as end
 use Rattle.debug_runs.specs.declared.running.RunGoal.TheVariants as goal
-use Rattle.debug_runs.proofs.StubLemmas.{real_steps}
+use Rattle.debug_tables.proofs.StubLemmas.{no_stub, real_steps}
 
 -- NO MODES
 
@@ -50,14 +51,6 @@ plain_modes modes is =
     let stubs = empty modes.stubs none.0 in
     let watches = empty modes.watches none.1 in
     λ i. record { stubs = stubs i; watches = watches i }
-
-stub_if : (known : Bool) (number : ℕ) → (if known then None else stub_numbered number []) ≡ None
-stub_if true number = refl
-stub_if false number = refl
-
-no_stub : (m : MachineState) (swi : Option ℕ) → stub_of_swi [] m swi ≡ None
-no_stub m None = refl
-no_stub m (Some number) = stub_if (is_known_swi m (without_x number)) (without_x number)
 
 plain_step : (s : ScriptState) → next_step no_modes s ≡ machine_step s.images s.machine
 plain_step s = real_steps [] s.images s.machine (no_stub s.machine (swi_ahead s.machine))
@@ -295,7 +288,7 @@ unfolding stepping_told
 plain_lines labels s number block awake = record {
   run =
       let q = script_run s s.left in
-      subst (λ (text : List ℕ). IsAnswer (line.stepping_told no_modes labels None s line.Run) (answer (script_after_run s s.left q) (q.printed ++ text)))
+      subst (λ (text : List ℕ). IsAnswer (stepping_told no_modes labels None s asked.Run) (answer (script_after_run s s.left q) (q.printed ++ text)))
       (stop_line q.stop q.now.cpu.pc) (steps_are labels s false s.left awake);
   step = λ count. steps_are labels s (nat_le count s.left) (min count s.left) awake;
   call = λ called. call_is labels s (call_start_text s.machine.cpu s.machine.store.bytes called) (store_called s.images s.machine called);

@@ -19,13 +19,13 @@ use Rattle.debug_runs.specs.Runs.{SteppingRun, call_run, end_after, run_end_by, 
 use Rattle.debug_runs.specs.Runs.{steps_run, text_of_next, watched_end}
 use Rattle.debug_runs.specs.Telling.{one_told, told_of_step}
 use Rattle.debug_runs.specs.Told.{IsAfterStepping, IsToldOn}
-use Rattle.debug_runs.specs.WordWatches.{change_of_word, watch_hit, watched_change, watched_words}
-use Rattle.debug_runs.specs.declared.modes.StepModes.{StepModes}
+use Rattle.debug_tables.specs.WordWatches.{change_of_word, watch_hit, watched_change, watched_words}
+use Rattle.debug_tables.specs.declared.modes.StepModes.{StepModes}
 use Rattle.debug_runs.specs.declared.running.RunEnd.{RunEnd}
 use Rattle.debug_runs.specs.declared.running.RunEnd.TheVariants as end
 use Rattle.debug_runs.specs.declared.running.RunGoal.{RunGoal}
 use Rattle.debug_runs.specs.declared.telling.Telling.{Telling}
-use Rattle.debug_runs.specs.declared.watches.WatchHit.{WatchHit}
+use Rattle.debug_tables.specs.declared.watches.WatchHit.{WatchHit}
 
 -- a step after which a run ends, and one after which it goes on
 step_over : (watches : List ℕ) (g : RunGoal) (s next : ScriptState) (o : StepOutcome) (text : List ℕ) (f : ScriptState → SteppingRun) (e : RunEnd)

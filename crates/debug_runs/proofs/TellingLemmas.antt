@@ -1,14 +1,15 @@
 -- What is told, from its pieces.
-use Rattle.std.proofs.Common.{◌≡◌, ℕ, ◌++◌, ◌∙◌, Bool, true, false, List, [], Option, Result, Ok, Err, refl, sym, ap, append_assoc, subst}
+use Rattle.std.proofs.Common.{◌≡◌, ◌==◌, ℕ, ◌++◌, ◌∙◌, Bool, true, false, List, [], ◌∷◌, Option, None, Some, Result, Ok, Err, refl, sym, ap, append_assoc, arith, length, subst}
+use Rattle.std.proofs.lemmas.Bool.{eqb-true}
 use Rattle.std.proofs.lemmas.List.{append-nil}
 use Rattle.std.specs.Prelude.{OnOk}
 use Rattle.std.specs.Io.KnownBytes.{Appends}
-use Rattle.profile.proofs.OutputLemmas.{Appends-join}
 use Rattle.swi_dispatch_guest.specs.MachineState.{StepOutcome, outcome_with}
 use Rattle.command_shell.specs.Calls.{step_made}
 use Rattle.command_shell.specs.State.{ScriptState, IsAnswered, answer}
 use Rattle.command_shell.specs.declared.calls.OutsideCall.{OutsideCall}
 use Rattle.trace_text.specs.Step.{Known, known_of, known_outside, start_text, step_end_text, step_text}
+use Rattle.trace_text.specs.Columns.{below_text}
 use Rattle.view_items.specs.TextSink.{sink_text_of}
 use Rattle.debug_runs.specs.Calls.{outside_start_text, outside_text}
 use Rattle.debug_runs.specs.Telling.{is_step_told, told_of_step, untold_text}
@@ -20,16 +21,6 @@ pub tells_at : {U E : Type 0} (r : Result U E) (b c : Option (List ℕ)) (now s 
     → OnOk r (Appends b c text) → OnOk r (IsAnswered b c now (answer s text))
 tells_at (Ok u) b c now s text is h = record { text = h; state = is }
 tells_at (Err e) b c now s text is h = tt
-
--- one text written behind another
-pub two_texts : {U E : Type 0} (r : Result U E) (a b c : Option (List ℕ)) (xs ys : List ℕ) → Appends a b xs → OnOk r (Appends b c ys)
-    → OnOk r (Appends a c (xs ++ ys))
-two_texts (Ok u) a b c xs ys first second = Appends-join a b c xs ys first second
-two_texts (Err e) a b c xs ys first second = tt
-
-pub two_flags : {U E : Type 0} (r : Result U E) (x y z : Bool) → y ≡ x → OnOk r (z ≡ y) → OnOk r (z ≡ x)
-two_flags (Ok u) x y z first second = second ∙ first
-two_flags (Err e) x y z first second = tt
 
 -- a step that is told, and one that isn't
 pub told_whole : (told : Option ℕ) (whole printed : List ℕ) → is_step_told told ≡ true → told_of_step told whole printed ≡ whole
@@ -90,6 +81,23 @@ pub untold_pushed : {U E : Type 0} (r : Result U E) (old new : Telling) (told : 
     → OnOk r (IsToldOn old new (untold_text told piece) piece) → OnOk r (IsToldOn old new (untold_text told printed) printed)
 untold_pushed r old new told printed piece is pushed =
     subst (λ (xs : List ℕ). OnOk r (IsToldOn old new (untold_text told xs) xs)) is pushed
+
+untold_none : (told : Option ℕ) → untold_text told [] ≡ []
+unfolding below_text
+untold_none None = refl
+untold_none (Some limit) = refl
+
+nothing_more : (t : Telling) (told : Option ℕ) → IsToldOn t t (untold_text told []) []
+nothing_more t told = record {
+  text_told = sym (ap (λ (xs : List ℕ). sink_text_of t.text ++ xs) (untold_none told) ∙ append-nil (sink_text_of t.text));
+  all_printed = sym (append-nil (sink_text_of t.printed));
+}
+
+-- a step that isn't told, and that prints nothing
+pub nothing_told : (t : Telling) (told : Option ℕ) (printed : List ℕ) → (length printed == 0) ≡ true
+    → IsToldOn t t (untold_text told printed) printed
+nothing_told t told [] is = nothing_more t told
+nothing_told t told (x ∷ xs) is = absurd (omega (arith, eqb-true (length (x ∷ xs)) 0 is))
 
 -- a text alone
 pub text_alone : {U E : Type 0} (r : Result U E) (old new : Telling) (text same : List ℕ) → same ≡ text → new.printed ≡ old.printed

@@ -10,13 +10,14 @@ use Rattle.command_shell.specs.State.{ScriptState}
 use Rattle.trace_text.specs.Step.{call_start_text, load_start_text}
 use Rattle.debug_runs.specs.Endings.{line_end_told}
 use Rattle.debug_runs.specs.Laws.{IsSameLine}
-use Rattle.debug_runs.specs.Lines.{SteppingRequest, Run, Step, Call, Load, Finish, Gosub, call_line_told, finish_told, stepping_told, told_if_awake, told_unless}
+use Rattle.debug_lines.specs.SteppingRequests.{SteppingRequest, Run, Step, Call, Load, Finish, Gosub}
+use Rattle.debug_runs.specs.Lines.{call_line_told, finish_told, stepping_told, told_if_awake, told_unless}
 use Rattle.debug_runs.specs.Routines.{caller_in, script_at_routine}
 use Rattle.debug_runs.specs.Runs.{SteppingRun, call_run, end_after, next_step, run_behind, run_unless, steps_run, text_of_next}
 use Rattle.debug_runs.specs.Telling.{call_text_behind, one_told, told_of_step}
 use Rattle.debug_runs.specs.declared.endings.EndKind.{EndKind}
 use Rattle.debug_runs.specs.declared.endings.EndKind.TheVariants as kind
-use Rattle.debug_runs.specs.declared.modes.StepModes.{StepModes}
+use Rattle.debug_tables.specs.declared.modes.StepModes.{StepModes}
 use Rattle.debug_runs.specs.declared.running.RunEnd.{RunEnd}
 use Rattle.debug_runs.specs.declared.running.RunGoal.{RunGoal}
 use Rattle.debug_runs.specs.declared.running.RunGoal.TheVariants as goal

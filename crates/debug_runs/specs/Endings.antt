@@ -7,12 +7,12 @@ use Rattle.command_shell.specs.Calls.{call_text, stop_told}
 use Rattle.command_shell.specs.Memory.{script_with_last}
 use Rattle.command_shell.specs.State.{ScriptState, Answered, answer}
 use Rattle.debug_runs.specs.Routines.{CallerState, returned_text, script_back}
-use Rattle.debug_runs.specs.WordWatches.{watch_text}
+use Rattle.debug_tables.specs.WordWatches.{watch_text}
 use Rattle.debug_runs.specs.declared.endings.EndKind.{EndKind}
 use Rattle.debug_runs.specs.declared.endings.EndKind.TheVariants as kind
 use Rattle.debug_runs.specs.declared.running.RunEnd.{RunEnd}
 use Rattle.debug_runs.specs.declared.running.RunEnd.TheVariants as end
-use Rattle.debug_runs.specs.declared.watches.WatchHit.{WatchHit}
+use Rattle.debug_tables.specs.declared.watches.WatchHit.{WatchHit}
 
 -- STEP: where the machine stands, if all steps could be taken and were, else the stop line
 abbrev pub steps_told : Bool → ScriptState → Stop → Answered

@@ -3,10 +3,11 @@ use Rattle.std.specs.Prelude.{◌≡◌, ℕ, true, false, List, ◌++◌, None,
 use Rattle.debug_labels.specs.Labels.{ImageLabels}
 use Rattle.command_shell.specs.Script.{request_told}
 use Rattle.command_shell.specs.State.{Answered, ScriptState}
-use Rattle.command_shell_lines.specs.Requests as script
-use Rattle.debug_runs.specs.Lines.{SteppingRequest, SteppingTold, Run, Step, Call, Load, stepping_told}
-use Rattle.debug_runs.specs.Modes.{are_plain}
-use Rattle.debug_runs.specs.declared.modes.StepModes.{StepModes}
+use Rattle.debug_lines.specs.command_shell_lines.specs.Requests as script
+use Rattle.debug_lines.specs.SteppingRequests.{SteppingRequest, Run, Step, Call, Load}
+use Rattle.debug_runs.specs.Lines.{SteppingTold, stepping_told}
+use Rattle.debug_tables.specs.Modes.{are_plain}
+use Rattle.debug_tables.specs.declared.modes.StepModes.{StepModes}
 
 -- all but what is told of the steps
 pub record IsSameLine (t u : SteppingTold) : Type 0 where

@@ -4,6 +4,7 @@
 use Rattle.std.specs.Prelude.{ℕ, zero, suc, false, ◌-◌, ◌++◌, min, nat_le, List, [], codes, length, Option, Some, None}
 use Rattle.profile.specs.declared.stop.Stop.{Stop}
 use Rattle.debug_labels.specs.Labels.{ImageLabels}
+use Rattle.debug_lines.specs.SteppingRequests.{SteppingRequest, Run, Step, Call, Load, Finish, Gosub}
 use Rattle.swi_dispatch_guest.specs.MachineState.{StepOutcome}
 use Rattle.swi_dispatch_guest.specs.Step.{module_loaded, store_called}
 use Rattle.command_shell.specs.Answers.{refused_text}
@@ -16,28 +17,9 @@ use Rattle.debug_runs.specs.Runs.{SteppingRun, call_run, steps_run}
 use Rattle.debug_runs.specs.Telling.{call_text_behind, more_text}
 use Rattle.debug_runs.specs.declared.endings.EndKind.{EndKind}
 use Rattle.debug_runs.specs.declared.endings.EndKind.TheVariants as kind
-use Rattle.debug_runs.specs.declared.lines.SteppingLine.{SteppingLine}
-use Rattle.debug_runs.specs.declared.lines.SteppingLine.TheVariants as line
-use Rattle.debug_runs.specs.declared.modes.StepModes.{StepModes}
+use Rattle.debug_tables.specs.declared.modes.StepModes.{StepModes}
 use Rattle.debug_runs.specs.declared.running.RunEnd.TheVariants as end
 use Rattle.debug_runs.specs.declared.running.RunGoal.TheVariants as goal
-
-pub data SteppingRequest : Type 0 where
-  Run : SteppingRequest
-  Step : ℕ → SteppingRequest
-  Call : ℕ → SteppingRequest
-  Load : List ℕ → SteppingRequest
-  Finish : SteppingRequest
-  Gosub : ℕ → SteppingRequest
-
--- as the code has them
-abbrev pub request_of_stepping : SteppingLine → SteppingRequest
-request_of_stepping line.Run = Run
-request_of_stepping (line.Step count) = Step count
-request_of_stepping (line.Call number) = Call number
-request_of_stepping (line.Load text) = Load text.now
-request_of_stepping line.Finish = Finish
-request_of_stepping (line.Gosub address) = Gosub address
 
 -- What a line leaves: the state, what is told of its steps, what the guest printed, and the line's
 -- usual ending, which stands behind what is told.

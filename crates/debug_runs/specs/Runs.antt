@@ -8,15 +8,15 @@ use Rattle.swi_dispatch_guest.specs.MachineState.{MachineState, StepOutcome, sto
 use Rattle.swi_dispatch_guest.specs.Run.{is_among}
 use Rattle.command_shell.specs.Calls.{step_made}
 use Rattle.command_shell.specs.State.{ScriptState}
-use Rattle.debug_runs.specs.Stubs.{stubbed_step}
+use Rattle.debug_tables.specs.Stubs.{stubbed_step}
 use Rattle.debug_runs.specs.Telling.{one_told, told_of_step, whole_step_text}
-use Rattle.debug_runs.specs.WordWatches.{watch_hit}
-use Rattle.debug_runs.specs.declared.modes.StepModes.{StepModes}
+use Rattle.debug_tables.specs.WordWatches.{watch_hit}
+use Rattle.debug_tables.specs.declared.modes.StepModes.{StepModes}
 use Rattle.debug_runs.specs.declared.running.RunEnd.{RunEnd}
 use Rattle.debug_runs.specs.declared.running.RunEnd.TheVariants as end
 use Rattle.debug_runs.specs.declared.running.RunGoal.{RunGoal}
 use Rattle.debug_runs.specs.declared.running.RunGoal.TheVariants as goal
-use Rattle.debug_runs.specs.declared.watches.WatchHit.{WatchHit}
+use Rattle.debug_tables.specs.declared.watches.WatchHit.{WatchHit}
 
 -- where a routine that was called from outside goes back to: nothing is fetched there
 abbrev pub routine_end : ℕ

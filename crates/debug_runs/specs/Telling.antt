@@ -14,8 +14,8 @@ use Rattle.trace_text.specs.Below.{prints_word}
 use Rattle.trace_text.specs.Columns.{below_text, columns_text}
 use Rattle.trace_text.specs.Core.{core_words}
 use Rattle.trace_text.specs.Step.{front_text, known_outside, step_end_text, step_text, what_text}
-use Rattle.debug_runs.specs.Stubs.{stub_ahead}
-use Rattle.debug_runs.specs.declared.stubs.Stub.{Stub}
+use Rattle.debug_tables.specs.Stubs.{stub_ahead}
+use Rattle.debug_tables.specs.declared.stubs.Stub.{Stub}
 
 -- `image:label:`, before a step at whose address a label stands
 abbrev pub step_label_line : Option LabelledPlace → List ℕ

@@ -1,7 +1,7 @@
 //! What the steps of a line are taken with.
 
-use crate::modes::StepModes;
 use debug_labels::LabelTable;
+use debug_tables::StepModes;
 use image_loader::Images;
 
 /// What the steps of a line are taken with: the images that SWIs load, the stubs and watches, and

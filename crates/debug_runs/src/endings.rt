@@ -10,8 +10,8 @@ ghost use Rattle.debug_runs.specs.Endings.{goal_told, line_end_told, line_stop_t
 
 use crate::routines::{Caller, go_back, tell_returned};
 use crate::running::RunEnd;
-use crate::watches::{WatchHit, push_watch};
 use command_shell::{CallEnd, Session, tell_stepped};
+use debug_tables::{WatchHit, push_watch};
 use profile::{Sink, Stop, WriteFault, push_parts};
 
 /// What the steps of a line are for.

@@ -6,7 +6,8 @@ ghost use Rattle.command_shell.specs.Calls.{first_step, stop_before_step_by};
 ghost use Rattle.command_shell.specs.Session.{script_state};
 ghost use Rattle.debug_runs.specs.Calls.{outside_start_text};
 ghost use Rattle.debug_runs.specs.Endings.{line_end_told};
-ghost use Rattle.debug_runs.specs.Lines.{Gosub, call_line_told, finish_told, request_of_stepping, stepping_told};
+ghost use Rattle.debug_lines.specs.SteppingRequests.{Gosub, stepping_request_of};
+ghost use Rattle.debug_runs.specs.Lines.{call_line_told, finish_told, stepping_told};
 ghost use Rattle.debug_runs.specs.Lines.{told_if_awake, told_with_ending};
 ghost use Rattle.debug_runs.specs.Runs.{steps_run};
 ghost use Rattle.debug_runs.specs.Telling.{more_text};
@@ -14,36 +15,17 @@ ghost use Rattle.debug_runs.specs.Told.{HasTold, IsSteppingTold};
 
 use crate::context::StepContext;
 use crate::endings::{EndKind, tell_line_end, tell_refused};
-use crate::modes::StepModes;
 use crate::routines::{caller_of, enter};
 use crate::running::{RunEnd, RunGoal, take_call, take_steps};
 use crate::telling::Telling;
 use command_shell::{OutsideCall, Session};
-use command_shell_lines::Origin;
 use debug_labels::LabelTable;
+use debug_lines::SteppingCommand;
+use debug_tables::StepModes;
 use image_loader::Images;
 use profile::{Stop, WriteFault};
 use std::alloc::{AllocError, Global};
 use view_items::TextSink;
-
-/// A line that takes steps.
-#[derive(Clone, Copy, Debug)]
-pub enum SteppingLine<'a> {
-    /// RUN: all the steps that are left.
-    Run,
-    /// STEP: so many steps, or as many as are left.
-    Step(u64),
-    /// CALL: a store call by its number, and the module code that it enters.
-    Call(u32),
-    /// LOAD: the loading of a module, by the name of an image and a text, and the module code that
-    /// it enters.
-    Load(&'a [u8]),
-    /// FINISH: until the innermost frame of module code has gone back.
-    Finish,
-    /// GOSUB: until a routine of the guest's has come back. R14 is &03FFFFFC with the status in it;
-    /// afterwards R14 and the program counter are as they were.
-    Gosub(Origin),
-}
 
 /// What a line left to write: what is told of its steps, and its usual ending behind that.
 #[derive(Drop)]
@@ -57,12 +39,16 @@ pub struct LineTold {
     pub ending: Vec<u8>,
 }
 
-/// Answers a line that takes steps: with `Some`, traced, so many steps are told at most, and what is
-/// told ends with how many more were taken, `.. 64540 steps more`; with `None` what the guest prints
-/// stands as it is. A run ends where the machine is halted, else where what the line waits for has
-/// come, else after the step that changed a watched word, else at a break, else with the budget. A
-/// break where the run begins isn't heeded. `refused NoFrame` is FINISH's ending where no frame is
-/// open.
+/// Answers a line that takes steps. RUN takes all that are left, STEP so many, or as many as are left;
+/// CALL and LOAD go on until the module code that they enter has gone back, FINISH until the innermost
+/// frame of module code has, and GOSUB until its routine has: R14 is &03FFFFFC in it, with the status;
+/// afterwards R14 and the program counter are as they were.
+///
+/// With `Some`, traced, so many steps are told at most, and what is told ends with how many more
+/// were taken, `.. 64540 steps more`; with `None` what the guest prints stands as it is. A run
+/// ends where the machine is halted, else where what the line waits for has come, else after the
+/// step that changed a watched word, else at a break, else with the budget. A break where the run
+/// begins isn't heeded. `refused NoFrame` is FINISH's ending where no frame is open.
 ///
 /// # Errors
 ///
@@ -73,11 +59,11 @@ pub fn answer_stepping(
     images: &Images,
     modes: &mut StepModes,
     labels: &LabelTable,
-    line: &SteppingLine<'_>,
+    line: &SteppingCommand<'_>,
     told: Option<u64>,
 ) -> Result<LineTold, AllocError>
     ensures told { let s = script_state session.old images.now in IfOk result (λ line_told. IsSteppingTold
-        (stepping_told modes.old labels.now told s (request_of_stepping line.now))
+        (stepping_told modes.old labels.now told s (stepping_request_of line.now))
         (script_state session.new images.now)
         line_told.text.items line_told.printed.items line_told.ending.items) }
     ensures modes { modes.new ≡ modes.old }
@@ -91,11 +77,11 @@ fn answer_with<'a>(
     images: &'a Images,
     modes: &'a StepModes,
     labels: &'a LabelTable,
-    line: &SteppingLine<'_>,
+    line: &SteppingCommand<'_>,
     told: Option<u64>,
 ) -> Result<LineTold, AllocError>
     ensures { let s = script_state session.old images.now in IfOk result (λ line_told. IsSteppingTold
-        (stepping_told modes.now labels.now told s (request_of_stepping line.now))
+        (stepping_told modes.now labels.now told s (stepping_request_of line.now))
         (script_state session.new images.now)
         line_told.text.items line_told.printed.items line_told.ending.items) }
 {
@@ -121,16 +107,16 @@ fn tell_line(
     ending: &mut TextSink,
     session: &mut Session,
     context: &StepContext<'_>,
-    line: &SteppingLine<'_>,
+    line: &SteppingCommand<'_>,
 ) -> Result<(), WriteFault>
     ensures { let s = script_state session.old context.now.images.now in OnOk result (HasTold
         (stepping_told context.now.modes.now context.now.labels.now telling.old.told s
-        (request_of_stepping line.now))
+        (stepping_request_of line.now))
         (script_state session.new context.now.images.now) telling.old telling.new ending.old ending.new) }
 {
     let left = session.left();
     match *line {
-        SteppingLine::Run => {
+        SteppingCommand::Run => {
             let kind = EndKind::Steps(false);
             tell_steps(
                 telling,
@@ -142,7 +128,8 @@ fn tell_line(
                 left,
             )
         }
-        SteppingLine::Step(count) => {
+        SteppingCommand::Step(count) => {
+            let count = u64::from(count);
             let kind = EndKind::Steps(count <= left);
             let most = count.min(left);
             tell_steps(
@@ -155,14 +142,14 @@ fn tell_line(
                 most,
             )
         }
-        SteppingLine::Call(number) => {
+        SteppingCommand::Call(number) => {
             tell_call(telling, ending, session, context, OutsideCall::Swi(number))
         }
-        SteppingLine::Load(text) => {
+        SteppingCommand::Load(text) => {
             tell_call(telling, ending, session, context, OutsideCall::Load(text))
         }
-        SteppingLine::Finish => tell_finish(telling, ending, session, context),
-        SteppingLine::Gosub(address) => {
+        SteppingCommand::Finish => tell_finish(telling, ending, session, context),
+        SteppingCommand::Gosub(address) => {
             tell_gosub(telling, ending, session, context, address.address())
         }
     }

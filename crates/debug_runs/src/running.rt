@@ -9,13 +9,13 @@ ghost use Rattle.command_shell.specs.State.{ScriptState};
 ghost use Rattle.debug_runs.specs.Runs.{call_run, end_after, is_reached, steps_run, watched_end};
 ghost use Rattle.debug_runs.specs.Calls.{outside_text};
 ghost use Rattle.debug_runs.specs.Told.{IsAfterStepping};
-ghost use Rattle.debug_runs.specs.WordWatches.{watched_words};
+ghost use Rattle.debug_tables.specs.WordWatches.{watched_words};
 ghost use Rattle.swi_dispatch_guest.specs.Parts.{state_of};
 
 use crate::context::StepContext;
 use crate::telling::Telling;
-use crate::watches::{WatchHit, WatchedWord, first_change};
 use command_shell::{OutsideCall, Session};
+use debug_tables::{WatchHit, WatchedWord, first_change};
 use debugger::swi_dispatch::Machine;
 use profile::memory_map::ADDRESS_LIMIT;
 use profile::{Stop, WriteFault};

@@ -15,8 +15,8 @@ ghost use Rattle.view_items.specs.TextSink.{sink_text_of};
 use crate::context::StepContext;
 use crate::labelling::push_label_line;
 use crate::stub_lines::push_stub_line;
-use crate::stubs::Stub;
 use command_shell::{OutsideCall, Session};
+use debug_tables::Stub;
 use debugger::swi_dispatch::Machine;
 use image_loader::Images;
 use itoa::Buffer;
@@ -42,7 +42,7 @@ impl Telling {
     ghost use Rattle.trace_text.specs.Step.{step_text};
     ghost use Rattle.debug_runs.specs.Calls.{outside_text};
     ghost use Rattle.debug_runs.specs.Runs.{next_step, text_of_next};
-    ghost use Rattle.debug_runs.specs.Stubs.{script_after_stub};
+    ghost use Rattle.debug_tables.specs.Stubs.{script_after_stub};
     ghost use Rattle.debug_runs.specs.Telling.{stub_step_text, told_of_step, whole_step_text};
     ghost use Rattle.debug_runs.specs.Told.{IsToldOn};
 
@@ -282,12 +282,15 @@ impl Telling {
         self.push_untold(printed.bytes())
     }
 
-    // What a step printed that is not told.
+    // What a step printed that is not told: most print nothing.
     fn push_untold(&mut self, printed: &[u8]) -> Result<(), WriteFault>
         ensures told { OnOk result
             (IsToldOn self.old self.new (untold_text self.old.told printed.now) printed.now) }
         ensures same { self.new.told ≡ self.old.told }
     {
+        if printed.is_empty() {
+            return Ok(());
+        }
         push_untold_text(self.alloc, self.told, printed, &mut self.text)?;
         push_all(&mut self.printed, printed)
     }

@@ -5,7 +5,7 @@ use Rattle.debugger.specs.swi_dispatch.specs.Value.{MachineValue}
 use Rattle.swi_dispatch_guest.specs.Parts.{state_of}
 use Rattle.command_shell.specs.Memory.{script_with_last}
 use Rattle.command_shell.specs.Session.{script_state}
-use Rattle.debug_runs.specs.WordWatches.{watch_text}
+use Rattle.debug_tables.specs.WordWatches.{watch_text}
 use Rattle.debug_runs.proofs.TellingLemmas.{tells_at}
 use Rattle.debug_runs.proofs.endings.tell_watch.Goals as goal
 

@@ -7,7 +7,8 @@ use Rattle.command_shell.specs.Calls.{stop_before_step_by}
 use Rattle.command_shell.specs.Session.{script_state}
 use Rattle.command_shell.specs.State.{ScriptState}
 use Rattle.debug_runs.specs.Endings.{line_end_told}
-use Rattle.debug_runs.specs.Lines.{Gosub, steps_line_told, stepping_told, told_at_once}
+use Rattle.debug_lines.specs.SteppingRequests.{Gosub}
+use Rattle.debug_runs.specs.Lines.{steps_line_told, stepping_told, told_at_once}
 use Rattle.debug_runs.specs.Routines.{CallerState, caller_in, script_at_routine}
 use Rattle.debug_runs.specs.Runs.{steps_run}
 use Rattle.debug_runs.specs.Told.{HasTold}

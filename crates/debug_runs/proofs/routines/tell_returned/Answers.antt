@@ -1,6 +1,6 @@
 use Rattle.std.specs.Prelude.{codes}
 use Rattle.debug_runs.specs.Routines.{step_count_text}
-use Rattle.debug_runs.proofs.TellingLemmas.{two_flags, two_texts}
+use Rattle.debug_tables.proofs.TextLemmas.{two_flags, two_texts}
 use Rattle.debug_runs.proofs.routines.tell_returned.Goals as goal
 
 pub returns : goal.returns

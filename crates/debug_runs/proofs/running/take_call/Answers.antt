@@ -6,7 +6,7 @@ use Rattle.command_shell.specs.Calls.{first_step}
 use Rattle.command_shell.specs.Session.{script_state}
 use Rattle.debug_runs.specs.Calls.{outside_text}
 use Rattle.debug_runs.specs.Runs.{end_after}
-use Rattle.debug_runs.specs.WordWatches.{watched_words}
+use Rattle.debug_tables.specs.WordWatches.{watched_words}
 use Rattle.debug_runs.proofs.RunLemmas.{call_goes_on, call_stops, enough_left}
 use Rattle.debug_runs.proofs.running.take_call.Goals as goal
 

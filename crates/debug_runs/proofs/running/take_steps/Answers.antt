@@ -4,7 +4,7 @@ use Rattle.debugger.specs.swi_dispatch.specs.Value.{MachineValue}
 use Rattle.swi_dispatch_guest.specs.Parts.{state_of}
 use Rattle.command_shell.specs.Session.{script_state}
 use Rattle.debug_runs.specs.Runs.{end_after, next_step, steps_run}
-use Rattle.debug_runs.specs.WordWatches.{watched_words}
+use Rattle.debug_tables.specs.WordWatches.{watched_words}
 use Rattle.debug_runs.proofs.RunLemmas.{enough_left, goes_on, runs_out, stops}
 use Rattle.debug_runs.proofs.running.take_steps.Goals as goal
 

@@ -12,10 +12,10 @@ use Rattle.command_shell.specs.State.{ScriptState}
 use Rattle.trace_text.specs.Step.{step_text}
 use Rattle.view_items.specs.TextSink.{sink_text_of}
 use Rattle.debug_runs.specs.Runs.{next_step}
-use Rattle.debug_runs.specs.Stubs.{stub_ahead}
+use Rattle.debug_tables.specs.Stubs.{stub_ahead}
 use Rattle.debug_runs.specs.Telling.{label_line_in, stub_step_text, text_by_stub, whole_step_text}
-use Rattle.debug_runs.specs.declared.stubs.Stub.{Stub}
-use Rattle.debug_runs.proofs.StubLemmas.{real_steps, stub_awake, stub_is_step, stub_steps}
+use Rattle.debug_tables.specs.declared.stubs.Stub.{Stub}
+use Rattle.debug_tables.proofs.StubLemmas.{real_steps, stub_awake, stub_is_step, stub_steps}
 use Rattle.debug_runs.proofs.TellingLemmas.{label_first, whatever}
 use Rattle.debug_runs.proofs.telling.Telling.take_told.Goals as goal
 

@@ -1,0 +1,74 @@
+-- Which instructions call a SWI.
+use Rattle.std.proofs.Common.{◌≡◌, ◌==◌, ℕ, Bool, true, false, Option, Some, None, Result, Ok, Err, refl}
+use Rattle.std.specs.Prelude.{if◌then◌else◌}
+use Rattle.std.specs.Option.{option_map}
+use Rattle.profile.specs.MemoryMap.{return_gate}
+use Rattle.profile.specs.declared.stop.Stop.{Stop}
+use Rattle.profile.specs.declared.fault.Fault.{Fault}
+use Rattle.address_map.specs.Bytes.{Bytes, word_loaded}
+use Rattle.arm_core.specs.Conditions.{condition_holds}
+use Rattle.arm_core.specs.Effect.{with_next_pc}
+use Rattle.arm_core.specs.State.{State}
+use Rattle.arm_core.specs.declared.turn.Turn.TheVariants as turn
+use Rattle.arm_decode.specs.Decoded.{instruction_of_word}
+use Rattle.arm_decode.specs.Fields.{condition_in}
+use Rattle.arm_decode.specs.declared.action.Action.{Action}
+use Rattle.arm_decode.specs.declared.action.Action.TheVariants as action
+use Rattle.arm_decode.specs.declared.condition.Condition.{Condition}
+use Rattle.debugger.specs.swi_dispatch.specs.arm_step.specs.Step.{acted_if_decoded, executed_if_fetched, or_fault, result_of_action, result_of_step}
+use Rattle.debugger.specs.swi_dispatch.specs.arm_step.specs.Step.{result_of_word}
+use Rattle.debugger.specs.swi_dispatch.specs.arm_step.specs.Transfers.{result_of_transfer}
+use Rattle.debugger.specs.swi_dispatch.specs.arm_step.specs.Blocks.{result_of_block_transfer}
+use Rattle.debug_tables.specs.Stubs.{swi_next, swi_decoded, swi_fetched, swi_in_action, swi_in_turn, swi_in_word, swi_unless_halted}
+use Rattle.swi_dispatch_guest.specs.MachineState.{stop_of}
+use Rattle.swi_dispatch_guest.specs.declared.halt.Halt.{Halt}
+
+none_in_memory : (r : Result (State × Bytes) Fault) → swi_in_turn (or_fault r) ≡ None
+none_in_memory (Ok w) = refl
+none_in_memory (Err f) = refl
+
+swi_of_action : (owned : ℕ → Bool) (s : State) (b : Bytes) (a : Action) → swi_in_turn (result_of_action owned s b a) ≡ swi_in_action a
+unfolding result_of_action
+swi_of_action owned s b (action.Operate o) = refl
+swi_of_action owned s b (action.Multiply m) = refl
+swi_of_action owned s b (action.Transfer t) = none_in_memory (result_of_transfer owned s b t)
+swi_of_action owned s b (action.BlockTransfer t) = none_in_memory (result_of_block_transfer owned s b t)
+swi_of_action owned s b (action.Branch links distance) = refl
+swi_of_action owned s b (action.SoftwareInterrupt n) = refl
+
+swi_of_decoded : (owned : ℕ → Bool) (s : State) (b : Bytes) (i : Result (Condition × Action) Fault)
+    → swi_in_turn (acted_if_decoded owned s b i) ≡ swi_decoded i
+swi_of_decoded owned s b (Ok i) = swi_of_action owned s b i.1
+swi_of_decoded owned s b (Err f) = refl
+
+swi_if : (met : Bool) (owned : ℕ → Bool) (s : State) (b : Bytes) (i : Result (Condition × Action) Fault)
+    → swi_in_turn (if met then acted_if_decoded owned s b i else Ok (with_next_pc s, b)) ≡ (if met then swi_decoded i else None)
+swi_if true owned s b i = swi_of_decoded owned s b i
+swi_if false owned s b i = refl
+
+swi_of_word : (owned : ℕ → Bool) (s : State) (b : Bytes) (w : ℕ) → swi_in_turn (result_of_word owned s b w) ≡ swi_in_word s.psr w
+swi_of_word owned s b w = swi_if (condition_holds (condition_in w) s.psr) owned s b (instruction_of_word w)
+
+swi_of_fetched : (owned : ℕ → Bool) (s : State) (b : Bytes) (r : Result ℕ Fault)
+    → swi_in_turn (executed_if_fetched owned s b r) ≡ swi_fetched s.psr r
+swi_of_fetched owned s b (Ok w) = swi_of_word owned s b w
+swi_of_fetched owned s b (Err f) = refl
+
+swi_unless_gate : (gate : Bool) (owned : ℕ → Bool) (s : State) (b : Bytes) (r : Result ℕ Fault)
+    → swi_in_turn (if gate then Err turn.Gate else executed_if_fetched owned s b r) ≡ (if gate then None else swi_fetched s.psr r)
+swi_unless_gate true owned s b r = refl
+swi_unless_gate false owned s b r = swi_of_fetched owned s b r
+
+-- the SWI that a step calls is the one of the word there
+pub swi_of_step : (owned : ℕ → Bool) (s : State) (b : Bytes) → swi_in_turn (result_of_step owned s b) ≡ swi_next s b
+unfolding result_of_step
+swi_of_step owned s b = swi_unless_gate (s.pc == return_gate) owned s b (word_loaded b s.pc)
+
+-- by why the machine is halted, if it is
+pub awake : (o : Option Halt) (swi : Option ℕ) → None ≡ option_map stop_of o → swi_unless_halted o swi ≡ swi
+awake None swi none = refl
+awake (Some h) swi none = absurd (cc)
+
+pub halted : (o : Option Halt) (swi : Option ℕ) (stop : Stop) → Some stop ≡ option_map stop_of o → None ≡ swi_unless_halted o swi
+halted None swi stop some = absurd (cc)
+halted (Some h) swi stop some = refl

@@ -1,0 +1,4 @@
+pub mod AheadLemmas
+pub mod StubLemmas
+pub mod TextLemmas
+pub mod WatchLemmas

@@ -1,0 +1,10 @@
+use Rattle.std.proofs.Common.{◌≡◌, drop}
+use Rattle.address_map.specs.Memory.{bytes_of}
+use Rattle.debug_labels.specs.Standing.{first_of}
+use Rattle.debug_tables.specs.WordWatches.{change_of_word}
+use Rattle.debug_tables.proofs.watches.first_change.Given as goal
+
+-- none of the words that were passed has changed
+abbrev pub invariant-loop-word : goal.invariant-loop-word
+invariant-loop-word l =
+    first_of (change_of_word (bytes_of l.memory)) (drop l.word-index l.words) ≡ first_of (change_of_word (bytes_of l.memory)) l.words

@@ -1,0 +1,5 @@
+-- What a debugger keeps beside the machine while steps are taken. Begin with Stubs and WordWatches.
+pub mod Modes
+pub mod StubNames
+pub mod Stubs
+pub mod WordWatches
