@@ -1,7 +1,10 @@
+pub mod AloneLemmas
 pub mod AsBeforeLemmas
+pub mod JoinLemmas
 pub mod LineLemmas
 pub mod NamingLemmas
 pub mod OwnLemmas
 pub mod RepeatLemmas
 pub mod SteppingLemmas
+pub mod TakenLemmas
 pub mod UnreadLemmas

@@ -35,6 +35,7 @@ impl DebugTyping {
     ghost use Rattle.debug_session.specs.DebugState.{IsDebugged, debug_start_state};
     ghost use Rattle.debug_session.specs.Session.{debug_state};
     ghost use Rattle.debug_session.specs.Typing.{IsTaken, missing_ends_at_end, missing_ends_typed};
+    ghost use Rattle.debug_session.specs.Typing.{TypedPieceThenRest, TypedPiecesJoin, TypedTextTakenOneWay};
 
     /// A session on a fresh machine, before anything is typed.
     ///
@@ -161,6 +162,23 @@ impl DebugTyping {
         session.answer_lines(images, sink, &mut lines)?;
         Ok(session)
     }
+
+    /// What is typed in two pieces is taken as the two in one are.
+    pub fn pieces_join()
+        ensures { TypedPiecesJoin }
+    {}
+
+    /// What a piece is answered, and then what follows it up to the end, is what all of it is
+    /// answered: so all pieces of a script are answered as the whole script.
+    pub fn piece_then_rest()
+        ensures { TypedPieceThenRest }
+    {}
+
+    /// A text is taken in one way: the pieces of a text leave the session where the text in one piece
+    /// leaves it, and the same stands written.
+    pub fn taken_one_way()
+        ensures { TypedTextTakenOneWay }
+    {}
 }
 
 fn joined(alloc: Global, front: &[u8], rest: &[u8]) -> Result<Vec<u8>, AllocError>
