@@ -1,14 +1,15 @@
 -- Bytes that are served one after another, and text in packets.
-use Rattle.std.proofs.Common.{◌≡◌, ◌<◌, ◌≤◌, ◌+◌, ◌-◌, ◌/◌, ℕ, zero, suc, true, false, List, [], ◌∷◌, ◌++◌, length, get_or, take, drop, min, inl, inr, refl, ap, sym, subst, ◌∙◌, arith}
-use Rattle.std.specs.Prelude.{Option, Some}
-use Rattle.std.proofs.lemmas.Bool.{cases_lt}
-use Rattle.std.proofs.lemmas.List.{take_min}
+use Rattle.std.proofs.Common.{◌≡◌, ◌<◌, ◌≤◌, ◌+◌, ◌-◌, ◌/◌, ℕ, zero, suc, true, false, List, [], ◌∷◌, ◌++◌, length, get_or, take, drop, min, inl, inr, refl, ap, sym, subst, ◌∙◌, append_assoc, arith}
+use Rattle.std.specs.Prelude.{Option, None, Some}
+use Rattle.std.proofs.lemmas.Bool.{cases_Bool, cases_lt}
+use Rattle.std.proofs.lemmas.List.{append-nil, take_min}
 use Rattle.std.proofs.Math.Seq.{drop-cons}
 use Rattle.gdb_packets.specs.Reading.{byte_taken}
 use Rattle.gdb_packets.specs.declared.reader.Piece.{Piece}
 use Rattle.gdb_packets.specs.declared.reader.Piece.TheVariants as piece
-use Rattle.profile.specs.Output.{AddsAllBut}
-use Rattle.profile.proofs.OutputLemmas.{Appends-from_all_but, Appends-nothing}
+use Rattle.std.specs.Io.KnownBytes.{Appends}
+use Rattle.profile.specs.Output.{AddsAllBut, AddsFront, AddsPart}
+use Rattle.profile.proofs.OutputLemmas.{AddsAllBut-more, AddsAllBut-start, Appends-from_all_but, Appends-nothing}
 use Rattle.gdb_server.specs.Server.{IsServed}
 use Rattle.gdb_server.specs.Serving.{ServerState, Served, asked_to_stop, byte_served, bytes_served, piece_served, then_served}
 use Rattle.gdb_server.specs.Serving.{text_packet, text_packets, told_packets}
@@ -41,6 +42,30 @@ pub served_none : (setting : GdbSetting) (start bytes : List ℕ) (s : ServerSta
     → bytes_served setting start bytes s ≡ record { state = s; text = [] }
 unfolding bytes_served
 served_none setting start bytes s none = rw none refl
+
+-- pieces, one after another
+pub served_append : (setting : GdbSetting) (start first next : List ℕ) (s : ServerState)
+    → bytes_served setting start (first ++ next) s
+    ≡ then_served (bytes_served setting start first s) (bytes_served setting start next)
+served_append setting start [] next s =
+    sym (ap (λ (first : Served). then_served first (bytes_served setting start next)) (served_none setting start [] s refl))
+served_append setting start (byte ∷ more) next s = elim (cases_Bool s.session.has_ended) [
+  | inl ended ↦
+      served_ended setting start ((byte ∷ more) ++ next) s ended
+      ∙ sym (served_ended setting start next s ended)
+      ∙ sym (ap (λ (first : Served). then_served first (bytes_served setting start next)) (served_ended setting start (byte ∷ more) s ended))
+  | inr goes ↦
+      (let first : Served = byte_served setting start s byte in
+      served_cons setting start byte (more ++ next) s goes
+      ∙ ap (λ (then : Served). record { state = then.state; text = first.text ++ then.text })
+      (served_append setting start more next first.state)
+      ∙ ap (λ (text : List ℕ). record {
+        state = (bytes_served setting start next (bytes_served setting start more first.state).state).state;
+        text = text;
+      }) (sym (append_assoc first.text (bytes_served setting start more first.state).text
+      (bytes_served setting start next (bytes_served setting start more first.state).state).text))
+      ∙ sym (ap (λ (all : Served). then_served all (bytes_served setting start next)) (served_cons setting start byte more s goes)))
+]
 
 told_suc : (n : ℕ) (text : List ℕ) → text_packets (suc n) text ≡ text_packet (take 1024 text) ++ text_packets n (drop 1024 text)
 unfolding text_packets
@@ -80,6 +105,48 @@ unfolding told_packets
 told_none t empty =
     let none : (length t + 1023) / 1024 ≡ 0 = omega (arith, empty) in
     ap (λ (n : ℕ). text_packets n t) none ∙ told_zero t
+
+-- what stands written of a front
+pub record WrittenOf (before after : Option (List ℕ)) (text : List ℕ) : Type 0 where
+  pub written : List ℕ
+  pub left : List ℕ
+  pub appends : Appends before after written
+  pub whole : written ++ left ≡ text
+
+pub written_of : (before after : Option (List ℕ)) (text : List ℕ) → AddsFront before after text → WrittenOf before after text
+written_of None after text front = record { written = text; left = []; appends = tt; whole = append-nil text }
+written_of (Some held) None text front = absurd (grind (arith, front.front.adds.holds))
+written_of (Some held) (Some now) text front = record {
+  written = front.front.adds.part;
+  left = front.rest;
+  appends = (let e : Some now ≡ Some (held ++ front.front.adds.part) = front.front.adds.holds in cc);
+  whole = front.front.adds.whole;
+}
+
+-- a front of a piece after what was written before it
+pub front_more : (a b c : Option (List ℕ)) (rest piece more all : List ℕ) → AddsAllBut a b rest all → rest ≡ piece ++ more
+    → AddsFront b c piece → AddsFront a c all
+front_more a b c rest piece more all done split front =
+    let w = written_of b c piece front in
+    record {
+      rest = w.left ++ more;
+      front = AddsAllBut-more a b c rest w.written (w.left ++ more) all done w.appends
+          (split ∙ ap (λ (p : List ℕ). p ++ more) (sym w.whole) ∙ append_assoc w.written w.left more);
+    }
+
+-- a front of a text is one of a longer text
+pub front_of_more : (a b : Option (List ℕ)) (piece more : List ℕ) → AddsFront a b piece → AddsFront a b (piece ++ more)
+front_of_more a b piece more front = front_more a a b (piece ++ more) piece more (piece ++ more) (AddsAllBut-start a (piece ++ more)) refl front
+
+-- all of a piece and a front of the next
+pub front_after : (a b c : Option (List ℕ)) (piece next : List ℕ) → Appends a b piece → AddsFront b c next → AddsFront a c (piece ++ next)
+front_after a b c piece next whole front =
+    front_more a b c next next [] (piece ++ next)
+    (AddsAllBut-more a a b (piece ++ next) piece next (piece ++ next) (AddsAllBut-start a (piece ++ next)) whole refl)
+    (sym (append-nil next)) front
+
+pub front_of_part : (a b : Option (List ℕ)) (text : List ℕ) → AddsPart a b text → AddsFront a b text
+front_of_part a b text part = record { rest = part.missing; front = part.front }
 
 -- the byte 3
 pub stop_served : (setting : GdbSetting) (start : List ℕ) (s now : ServerState) (byte : ℕ) (x : Option (List ℕ))

@@ -2,3 +2,4 @@
 pub use Rattle.gdb_session
 pub mod Serving
 pub mod Server
+pub mod Laws

@@ -2,9 +2,9 @@
 
 ghost use Rattle.std.specs.Prelude.{◌≡◌, ◌++◌, true, [], List, IfErr, IfOk, OnOk, OnErr, codes};
 ghost use Rattle.command_shell.specs.Error.{IsLineError};
-ghost use Rattle.profile.specs.Output.{Writes};
+ghost use Rattle.profile.specs.Output.{AddsFront, Writes};
 ghost use Rattle.std.specs.Io.KnownBytes.{Appends};
-ghost use Rattle.gdb_server.specs.Serving.{told_packets, text_packet, reply_packet, spoilt_text, keeps_acks as keeps_acks_told};
+ghost use Rattle.gdb_server.specs.Serving.{ack_text, told_packets, text_packet, reply_packet, spoilt_text, keeps_acks as keeps_acks_told};
 ghost use Rattle.gdb_packets.specs.Requests.{gdb_request};
 ghost use Rattle.std.specs.Option.{option_map};
 
@@ -69,7 +69,7 @@ impl GdbServer {
     ///
     /// # Errors
     ///
-    /// `Memory` and `WriteFault`, when a part of the answers may stand written.
+    /// `Memory` and `WriteFault`, when a front of the answers stands written.
     pub fn take<W: Sink>(
         &mut self,
         images: &mut Images,
@@ -80,6 +80,9 @@ impl GdbServer {
             (server_state self.new images.new)
             (bytes_served self.old.session.setting self.old.session.start.items
             bytes.now (server_state self.old images.old))) }
+        ensures front { OnErr result (AddsFront (W.contents sink.old) (W.contents sink.new)
+            (bytes_served self.old.session.setting self.old.session.start.items
+            bytes.now (server_state self.old images.old)).text) }
         ensures setting { self.new.session.setting ≡ self.old.session.setting }
         ensures start { self.new.session.start.items ≡ self.old.session.start.items }
         ensures errors { IfErr result IsLineError }
@@ -104,6 +107,9 @@ impl GdbServer {
             (server_state self.new images.new)
             (byte_served self.old.session.setting self.old.session.start.items
             (server_state self.old images.old) byte)) }
+        ensures front { OnErr result (AddsFront (W.contents sink.old) (W.contents sink.new)
+            (byte_served self.old.session.setting self.old.session.start.items
+            (server_state self.old images.old) byte).text) }
         ensures setting { self.new.session.setting ≡ self.old.session.setting }
         ensures start { self.new.session.start.items ≡ self.old.session.start.items }
         ensures errors { IfErr result IsLineError }
@@ -126,31 +132,63 @@ impl GdbServer {
             (server_state self.new images.new)
             (packet_served self.old.session.setting self.old.session.start.items
             (server_state self.old images.old))) }
+        ensures front { OnErr result (AddsFront (W.contents sink.old) (W.contents sink.new)
+            (packet_served self.old.session.setting self.old.session.start.items
+            (server_state self.old images.old)).text) }
         ensures setting { self.new.session.setting ≡ self.old.session.setting }
         ensures start { self.new.session.start.items ≡ self.old.session.start.items }
         ensures errors { IfErr result IsLineError }
         ensures same_flag { OnOk result (W.has_failed sink.new ≡ W.has_failed sink.old) }
     {
+        self.acknowledge(sink)?;
+        self.answer_packet(images)?;
+        Ok(push_all(sink, self.last.as_slice())?)
+    }
+
+    // `+`, where it is sent.
+    fn acknowledge<W: Sink>(&self, sink: &mut W) -> Result<(), WriteFault>
+        ensures text { OnOk result
+            (Appends (W.contents sink.old) (W.contents sink.new) (ack_text self.now.has_acks)) }
+        ensures front { OnErr result
+            (AddsFront (W.contents sink.old) (W.contents sink.new) (ack_text self.now.has_acks)) }
+        ensures same_flag { OnOk result (W.has_failed sink.new ≡ W.has_failed sink.old) }
+    {
         if self.has_acks {
-            push_all(sink, b"+")?;
+            push_all(sink, b"+")
+        } else {
+            Ok(())
         }
+    }
+
+    // Answers the packet that came, and keeps the answer as it is written.
+    fn answer_packet(&mut self, images: &mut Images) -> Result<(), RunError>
+        ensures state { OnOk result (server_state self.new images.new
+            ≡ (packet_served self.old.session.setting self.old.session.start.items
+            (server_state self.old images.old)).state) }
+        ensures setting { self.new.session.setting ≡ self.old.session.setting }
+        ensures start { self.new.session.start.items ≡ self.old.session.start.items }
+        ensures errors { IfErr result IsLineError }
+    {
         let request = request_of(self.reader.packet());
         self.has_acks = self.has_acks && keeps_acks(&request);
         let answer = self.session.answer(images, &request)?;
         let mut text = TextSink::new(self.alloc);
         push_answer(self.alloc, &mut text, &answer)?;
         self.last = text.into_bytes();
-        Ok(push_all(sink, self.last.as_slice())?)
+        Ok(())
     }
 
     // A packet that came spoilt: it is asked for again, or where nobody asks so, refused.
     fn refuse<W: Sink>(&self, sink: &mut W) -> Result<(), WriteFault>
-        ensures { Writes W.contents W.has_failed sink.old sink.new result (spoilt_text self.now.has_acks) }
+        ensures told { Writes W.contents W.has_failed sink.old sink.new result
+            (spoilt_text self.now.has_acks) }
+        ensures front { OnErr result
+            (AddsFront (W.contents sink.old) (W.contents sink.new) (spoilt_text self.now.has_acks)) }
     {
         if self.has_acks {
             push_all(sink, b"-")
         } else {
-            push_packet(sink, b"E16")
+            push_all(sink, b"$E16#ac")
         }
     }
 }

@@ -1,0 +1,4 @@
+pub mod OptionLemmas
+pub mod ServeLemmas
+pub mod StreamLemmas
+pub mod WordLemmas

@@ -1,0 +1,38 @@
+-- What the words ask for, and why they are refused, by the parts of them.
+use Rattle.std.proofs.Common.{◌≡◌, ℕ, List, Option, None, Some, Result, ap, subst, ◌∙◌}
+use Rattle.command_line.specs.Settings.{settings_for}
+use Rattle.command_line.specs.declared.options.Settings.{Settings}
+use Rattle.command_line.specs.declared.options.SettingsError.{SettingsError}
+use Rattle.gdb_face.specs.Endings.{IsGdbRefusalOf, IsMachineRefusal, IsRefusalOfWords}
+use Rattle.gdb_face.specs.Options.{last_gdb_word, machine_words, one_start_path, start_path_wanted, start_paths, unless_path_lacks}
+use Rattle.gdb_face.specs.declared.options.GdbWord.{GdbWord}
+use Rattle.gdb_face.specs.declared.options.GdbWord.TheVariants as taken
+use Rattle.gdb_face.specs.declared.refusal.GdbRefusal.{GdbRefusal}
+use Rattle.gdb_face.specs.declared.refusal.GdbRefusal.TheVariants as refusal
+
+memory_fits : (path : Option (Option (List ℕ))) (answer : Result Settings SettingsError) → IsRefusalOfWords path answer refusal.Memory
+memory_fits None answer = tt
+memory_fits (Some path) answer = tt
+
+-- memory may run out at any point
+pub refused_by_memory : (words : List (List ℕ)) → IsGdbRefusalOf words refusal.Memory
+refused_by_memory words = memory_fits (start_path_wanted words) (settings_for (machine_words words))
+
+-- the path of the script, by the paths and what a word after the last would be
+pub path_by_parts : (words paths : List (List ℕ)) (next : GdbWord) (path : Option (Option (List ℕ)))
+    → path ≡ unless_path_lacks next (one_start_path paths) → paths ≡ start_paths words → next ≡ last_gdb_word taken.Option words
+    → path ≡ start_path_wanted words
+path_by_parts words paths next path is of_paths of_next =
+    is ∙ ap (λ (n : GdbWord). unless_path_lacks n (one_start_path paths)) of_next
+    ∙ ap (λ (ps : List (List ℕ)). unless_path_lacks (last_gdb_word taken.Option words) (one_start_path ps)) of_paths
+
+pub refused_by_script : (words : List (List ℕ)) (told : GdbRefusal) → None ≡ start_path_wanted words
+    → ((answer : Result Settings SettingsError) → IsRefusalOfWords None answer told) → IsGdbRefusalOf words told
+refused_by_script words told none refused =
+    subst (λ (path : Option (Option (List ℕ))). IsRefusalOfWords path (settings_for (machine_words words)) told) none
+    (refused (settings_for (machine_words words)))
+
+pub refused_by_others : (words : List (List ℕ)) (told : GdbRefusal) (path : Option (List ℕ)) → Some path ≡ start_path_wanted words
+    → IsMachineRefusal (settings_for (machine_words words)) told → IsGdbRefusalOf words told
+refused_by_others words told path some refused =
+    subst (λ (p : Option (Option (List ℕ))). IsRefusalOfWords p (settings_for (machine_words words)) told) some refused

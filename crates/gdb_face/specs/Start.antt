@@ -1,0 +1,29 @@
+-- The lines that a machine begins with: those of the script that is named, or one that boots the first
+-- file.
+use Rattle.std.specs.Prelude.{◌≡◌, ℕ, List, [], ◌∷◌, ◌++◌, Option, Some, None, IfSome, codes}
+use Rattle.std.specs.Path.{path_file_name}
+use Rattle.gdb_face.specs.declared.words.WantedGdb.{WantedGdb}
+
+abbrev pub boot_line_named : List ℕ → List ℕ
+boot_line_named name = codes "BOOT " ++ (name ++ codes "\n")
+
+-- a path without a last part names nothing
+abbrev pub boot_line_if : Option (List ℕ) → List ℕ
+boot_line_if None = []
+boot_line_if (Some name) = boot_line_named name
+
+abbrev pub boot_line : List (List ℕ) → List ℕ
+boot_line [] = []
+boot_line (path ∷ more) = boot_line_if (path_file_name path)
+
+-- The script was opened, and the lines are its bytes, as far as they are known.
+pub record IsOfScript {F : Type 0} (of_file : F → Option (List ℕ)) (start : List ℕ) : Type 0 where
+  pub file : F
+  pub bytes : IfSome (of_file file) (λ told. start ≡ told)
+
+abbrev pub AreFirstLinesFor : {F P : Type 0} → (F → Option (List ℕ)) → Option P → List (List ℕ) → List ℕ → Type 0
+AreFirstLinesFor of_file None files start = start ≡ boot_line files
+AreFirstLinesFor of_file (Some path) files start = IsOfScript of_file start
+
+abbrev pub AreFirstLines : {F : Type 0} → (F → Option (List ℕ)) → WantedGdb → List ℕ → Type 0
+AreFirstLines of_file wanted start = AreFirstLinesFor of_file wanted.script wanted.settings.files start

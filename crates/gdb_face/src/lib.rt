@@ -1,0 +1,14 @@
+//! GDB's remote protocol over standard input and output: the face `gdb` of the program `rosm_tools`,
+//! which people type as `rosm_gdb`.
+//!
+//! `rosm_gdb [--script FILE] [--pages N] [--app N] [--rma N] [--budget N] [FILE...]`
+#![tactic(auto)]
+
+mod options;
+mod process;
+mod refusal;
+mod serve;
+mod start;
+mod words;
+
+pub use process::run;

@@ -1,0 +1,5 @@
+# What GDB has to be told of an ARM2: gdb-multiarch -x rosm.gdb ..
+set arm apcs32 off
+set arm force-mode arm
+set confirm off
+set debuginfod enabled off

@@ -1,0 +1,5 @@
+break main
+continue
+kill
+run
+continue

@@ -1,0 +1,6 @@
+load
+compare-sections
+break main
+continue
+bt
+continue

@@ -1,0 +1,2 @@
+set $pc = 3
+print/x $pc

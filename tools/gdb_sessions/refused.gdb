@@ -1,0 +1,3 @@
+break remove_odd
+continue
+print *(unsigned *)&__heap = 5

@@ -1,0 +1,9 @@
+break main
+continue
+watch list
+info watchpoints
+continue
+continue
+bt
+delete
+continue
