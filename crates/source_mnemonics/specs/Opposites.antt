@@ -38,3 +38,7 @@ unfoldable pub opposite_instruction : Operation → ℕ → Option (Operation ×
 opposite_instruction o n = if is_some (least_rotation n) then None
     else (encodable (inverse_operation o) (bit_not w32 n)
     or encodable (negative_operation o) ((2 ^ 32 - n) % 2 ^ 32))
+
+-- MOV of a number, or MVN of it with each bit turned over, where an instruction has it
+unfoldable pub move_of_number : ℕ → Option (Operation × ℕ)
+move_of_number n = encodable (Some operation.Move) n or encodable (Some operation.MoveNot) (bit_not w32 n)

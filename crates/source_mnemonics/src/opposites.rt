@@ -1,7 +1,7 @@
 //! The instruction that does the same by another number.
 
 ghost use Rattle.std.specs.Prelude.{◌≡◌, is_some};
-ghost use Rattle.source_mnemonics.specs.Opposites.{encodable, inverse_operation, negative_operation, opposite_instruction};
+ghost use Rattle.source_mnemonics.specs.Opposites.{encodable, inverse_operation, move_of_number, negative_operation, opposite_instruction};
 
 use arm_decode::Operation;
 use assembler_text::numbers::least_rotation;
@@ -20,6 +20,14 @@ pub fn opposite_instruction(operation: Operation, number: u32) -> Option<(Operat
         negative_operation(operation),
         0u32.wrapping_sub(number),
     ))
+}
+
+/// MOV of a number, or MVN of its inverse, where one of them has it.
+#[tactic(auto, unfolding(crate::specs::Opposites::move_of_number))]
+pub fn move_of_number(number: u32) -> Option<(Operation, u32)>
+    ensures { result ≡ move_of_number number }
+{
+    encodable(Some(Operation::Move), number).or(encodable(Some(Operation::MoveNot), !number))
 }
 
 // An operation and its number, if an instruction has it.

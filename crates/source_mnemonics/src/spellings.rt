@@ -100,15 +100,15 @@ fn old_condition(name: &[u8]) -> Option<Condition>
     }
 }
 
-// The first letters of a word, or all of it.
-fn front(name: &[u8], count: usize) -> &[u8]
+/// The first letters of a word, or all of it.
+pub fn front(name: &[u8], count: usize) -> &[u8]
     ensures { result.now ≡ take count name.now }
 {
     &name[..count.min(name.len())]
 }
 
-// The letters after the first.
-fn behind(name: &[u8], count: usize) -> &[u8]
+/// The letters of a word after its first.
+pub fn behind(name: &[u8], count: usize) -> &[u8]
     ensures { result.now ≡ drop count name.now }
 {
     &name[count.min(name.len())..]

@@ -1,0 +1,16 @@
+use Rattle.std.proofs.Common.{◌≡◌, length}
+use Rattle.std.specs.Str.Lines.{lines}
+use Rattle.profile.specs.Output.{AddsAllBut}
+use Rattle.source_choices.specs.Lines.{taken_lines}
+use Rattle.source_choices.proofs.lines.push_taken_lines.Given as goal
+
+-- what stands written, and the lines that are left, is all
+abbrev pub invariant-loop-line : goal.invariant-loop-line
+invariant-loop-line g l = record {
+  text : AddsAllBut (g.W.Sink.contents l.fn.sink) (g.W.Sink.contents l.sink)
+      (taken_lines l.choices l.lines.number l.lines.left) (taken_lines l.choices 0 (lines l.text));
+  same_flag : g.W.Sink.has_failed l.sink ≡ g.W.Sink.has_failed l.fn.sink;
+}
+
+abbrev pub decreases-loop-line : goal.decreases-loop-line
+decreases-loop-line g l = length l.lines.left

@@ -1,0 +1,6 @@
+pub mod FirstRefusals
+pub mod Kept
+pub mod OptionsLemmas
+pub mod Programs
+pub mod ReportLoop
+pub mod Rounds

@@ -1,0 +1,12 @@
+use Rattle.std.proofs.Common.{◌∙◌, ap₂}
+use Rattle.std.proofs.lemmas.Result.{IfOk-weaker}
+use Rattle.clap.specs.Words.{with_rule}
+use Rattle.source_face.specs.Options.{rosm_source}
+use Rattle.source_face.proofs.options.command.Goals as goal
+
+pub returns : goal.returns
+unfolding rosm_source
+returns c =
+    let name = c.in_ok-name.ensures ∙ ap₂ with_rule c.new-named.ensures.app c.option.ensures.rule in
+    let origin = c.in_ok-origin.ensures ∙ ap₂ with_rule name c.option-2.ensures.rule in
+    IfOk-weaker c.with_arg-3.result _ _ (λ r h. h ∙ ap₂ with_rule origin c.file_word.ensures.rule) c.with_arg-3.ensures

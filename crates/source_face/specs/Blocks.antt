@@ -1,0 +1,65 @@
+-- A source as a block of a script, or what is refused of it.
+use Rattle.std.specs.Prelude.{ℕ, Bool, true, false, ◌==◌, ◌&&◌, List, [], ◌++◌, length, codes, if◌then◌else◌}
+use Rattle.std.specs.Str.Lines.{lines}
+use Rattle.assembler.specs.declared.error.AsmError.{AsmError}
+use Rattle.objasm_source.specs.Knowledge.{SourceKnowledge}
+use Rattle.objasm_source.specs.Sources.{read_source}
+use Rattle.objasm_source.specs.Writing.{first_pool, source_text}
+use Rattle.objasm_source.specs.declared.sources.LineRefusal.{LineRefusal}
+use Rattle.source_choices.specs.Lines.{plain_source}
+use Rattle.source_face.specs.AskedOptions.{AskedOptions}
+use Rattle.source_face.specs.Checking.{assembler_refusals}
+use Rattle.source_face.specs.Reports.{reports_text}
+
+-- what is written, whether it is a block, and what is told
+pub record Conversion : Type 0 where
+  pub is_written : Bool
+  pub block : List ℕ
+  pub told : List ℕ
+
+-- the lines of the block
+abbrev pub source_body : SourceKnowledge → List (List ℕ) → List ℕ
+source_body s texts = source_text s 0 first_pool texts
+
+-- the same of the lines of a source
+abbrev pub body_of_lines : List (List ℕ) → List ℕ
+body_of_lines texts = source_body (read_source texts) texts
+
+-- the block, with its first line and its last
+unfoldable pub block_text : AskedOptions → List ℕ → List ℕ
+block_text asked body = (codes "ASM " ++ (asked.name ++ (codes " " ++ (asked.origin ++ codes "\n"))))
+    ++ (body ++ codes "END\n")
+
+abbrev pub refused_conversion : AskedOptions → List (List ℕ) → List LineRefusal → List AsmError → Conversion
+refused_conversion asked texts refused errors = record {
+  is_written = false;
+  block = [];
+  told = reports_text asked.path refused errors 0 0 texts;
+}
+
+abbrev pub block_conversion : AskedOptions → List ℕ → Conversion
+block_conversion asked body = record { is_written = true; block = block_text asked body; told = [] }
+
+abbrev pub is_unrefused : List LineRefusal → List AsmError → Bool
+is_unrefused refused errors = length refused == 0 && length errors == 0
+
+-- a block where nothing is refused, by the source's reading and by the assembler
+abbrev pub converted_or_told : AskedOptions → List (List ℕ) → List ℕ → List LineRefusal → List AsmError →
+    Conversion
+converted_or_told asked texts body refused errors =
+    if is_unrefused refused errors then block_conversion asked body
+    else refused_conversion asked texts refused errors
+
+abbrev pub conversion_of_body : AskedOptions → List (List ℕ) → List LineRefusal → List ℕ → Conversion
+conversion_of_body asked texts refused body =
+    converted_or_told asked texts body refused (assembler_refusals body asked.address)
+
+abbrev pub conversion_of_source : AskedOptions → List (List ℕ) → SourceKnowledge → Conversion
+conversion_of_source asked texts s = conversion_of_body asked texts s.refused (source_body s texts)
+
+abbrev pub conversion_of_lines : AskedOptions → List (List ℕ) → Conversion
+conversion_of_lines asked texts = conversion_of_source asked texts (read_source texts)
+
+-- what the source in a text is converted to
+abbrev pub conversion : AskedOptions → List ℕ → Conversion
+conversion asked text = conversion_of_lines asked (lines (plain_source text))

@@ -1,0 +1,17 @@
+//! Old sources as assembler text: the face `source` of the program `rosm_tools`, which people type as
+//! `rosm_source`.
+//!
+//! `rosm_source [--name N] [--origin A] FILE >BLOCK`
+#![tactic(auto)]
+
+mod blocks;
+mod checking;
+mod faults;
+pub mod laws;
+mod options;
+mod process;
+mod refusal;
+mod reports;
+mod words;
+
+pub use process::run;

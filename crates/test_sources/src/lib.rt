@@ -1,0 +1,18 @@
+//! Tests of old sources: their words, their mnemonics, their lines, and whole ones.
+//!
+//! They stand apart from the crates that they test, since a crate with tests is proved once more
+//! with them.
+#![tactic(auto)]
+
+#[cfg(test)]
+mod choices;
+#[cfg(test)]
+mod layouts;
+#[cfg(test)]
+mod lines;
+#[cfg(test)]
+mod mnemonics;
+#[cfg(test)]
+mod sources;
+#[cfg(test)]
+mod words;
