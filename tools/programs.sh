@@ -1,5 +1,24 @@
 # Which programs stand as the sources are. The launchers and ./install read this file, with `here`, the
 # repository's folder, set.
+#
+# A program that people type is a crate of its name, or a face of `rosm_tools`: `rosm_debug` is the crate
+# `debug_face`, and is run as `rosm_tools debug`.
+
+# The crate from which a program is built.
+crate_of() {
+    if [ -d "$here/crates/${1#rosm_}_face" ]; then
+        echo rosm_tools
+    else
+        echo "$1"
+    fi
+}
+
+# The word that a program is run with before all others, if there is one.
+face_of() {
+    [ "$(crate_of "$1")" = "$1" ] || echo "${1#rosm_}"
+}
+
+# All that follows goes by the name of a crate.
 
 proved_program() {
     echo "$here/crates/$1/out/$1"

@@ -1,30 +1,43 @@
-//! The program's standard streams and its exit status.
+//! The standard streams of the process, and its exit status.
 
 ghost use Rattle.std.specs.Prelude.{◌≡◌};
 ghost use Rattle.std.specs.Process.{exit_status};
-ghost use Rattle.rosm_debug.specs.Endings.{ending_status};
+ghost use Rattle.debug_face.specs.Endings.{ending_status};
 
 use crate::refusal::DebugRefusal;
 use crate::talk::talk;
-use crate::words::WantedSession;
+use crate::words::{WantedSession, read_words};
 use debug_session::{DebugSetting, DebugTyping};
 use image_loader::Images;
 use profile::{Device, Sink, Source};
 use rosm_settings::SettingsRefusal;
 use rosm_settings::image_files::{FileError, add_files};
+use std::env::Env;
 use std::fs::File;
 use std::io::BufWriter;
 use std::process::ExitCode;
 use std::{fs, io};
 
-/// Answers the lines of the script that is asked for, or of standard input, which may be a terminal,
-/// on standard output, and gives the exit status that they end with.
-///
-/// # Errors
-///
-/// The first file that gives no image, or the script's file that can't be read, before any line is
-/// answered; else as [`talk`].
-pub fn debug_on_standard_streams<'a, R, E>(
+/// Answers a debugging script as the words of this process ask for it, of which the first names the
+/// face. `is_terminal` tells whether standard input is a terminal, and `errors` is standard error.
+pub fn run<R, E>(rt: &R, errors: &mut E, is_terminal: bool) -> ExitCode
+where
+    R: AllocGlobal + Env + fs::Files + Input + Print + Eprint,
+    E: Sink,
+{
+    match read_words(rt) {
+        Ok(wanted) => {
+            let ending = debug_on_standard_streams(rt, &wanted, errors, is_terminal);
+            exit_code(rt, ending)
+        }
+        Err(refusal) => exit_code(rt, Err(refusal)),
+    }
+}
+
+// Answers the lines of the script that is asked for, or of standard input, which may be a terminal,
+// on standard output, and gives the exit status that they end with. The first file that gives no
+// image, or the script's file that can't be read, is told before any line is answered.
+fn debug_on_standard_streams<'a, R, E>(
     rt: &R,
     wanted: &'a WantedSession,
     errors: &mut E,
@@ -97,8 +110,8 @@ where
     Ok(talk(typing, images, reader, &mut writer, errors, is_terminal)?)
 }
 
-/// The exit status, with one line on standard error where the program is refused.
-pub fn exit_code<R: Eprint>(rt: &R, ending: Result<u8, DebugRefusal<'_>>) -> ExitCode
+// The exit status, with one line on standard error where the program is refused.
+fn exit_code<R: Eprint>(rt: &R, ending: Result<u8, DebugRefusal<'_>>) -> ExitCode
     ensures { exit_status result ≡ ending_status ending.entry }
 {
     match ending {

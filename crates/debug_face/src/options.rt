@@ -1,7 +1,7 @@
 //! The words that are the program's own: `--tap`, and `--script` with the path that follows it.
 
 ghost use Rattle.std.specs.Prelude.{◌≡◌, [], false, map, IfOk};
-ghost use Rattle.rosm_debug.specs.Options.{is_dashes, kind_at, kind_of_word, words_told, DebugWords};
+ghost use Rattle.debug_face.specs.Options.{is_dashes, kind_at, kind_of_word, words_told, DebugWords};
 
 use std::alloc::{AllocError, Global};
 

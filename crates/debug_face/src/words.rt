@@ -1,7 +1,7 @@
-//! The words of the program: its own, and those that `rosm` takes too.
+//! The words behind the face's own: those that it alone takes, and those that `rosm` takes too.
 
-ghost use Rattle.std.specs.Prelude.{◌≡◌, map, string_bytes, IfOk};
-ghost use Rattle.rosm_debug.specs.Options.{form_of_taps};
+ghost use Rattle.std.specs.Prelude.{◌≡◌, drop, map, string_bytes, IfOk};
+ghost use Rattle.debug_face.specs.Options.{form_of_taps};
 
 use crate::options::part_words;
 use crate::refusal::DebugRefusal;
@@ -23,7 +23,7 @@ pub struct WantedSession {
     pub settings: Settings,
 }
 
-/// What the words of this process ask for.
+/// What the words of this process ask for, from that of the face on.
 ///
 /// # Errors
 ///
@@ -36,7 +36,17 @@ pub fn read_words<R: Env + AllocGlobal>(rt: &R) -> Result<WantedSession, DebugRe
         Err(error) => return Err(words_refusal(error.kind())),
     };
     let words: Vec<String> = args.collect(alloc)?;
-    wanted_of(alloc, words.as_slice())
+    wanted_of(alloc, from_face(words.as_slice()))
+}
+
+// The words from that of the face on, which stands where the name of a program does.
+fn from_face(words: &[String]) -> &[String]
+    ensures { result.now ≡ drop 1 words.now }
+{
+    match words {
+        [] => words,
+        [_program, rest @ ..] => rest,
+    }
 }
 
 fn words_refusal(kind: ErrorKind) -> DebugRefusal<'static> {

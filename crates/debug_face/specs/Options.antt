@@ -4,8 +4,8 @@ use Rattle.std.specs.Prelude.{ℕ, ◌||◌, ◌&&◌, Bool, true, false, List, 
 use Rattle.std.specs.Str.{bytes_eq}
 use Rattle.debug_session.specs.declared.reports.ReportForm.{ReportForm}
 use Rattle.debug_session.specs.declared.reports.ReportForm.TheVariants as form
-use Rattle.rosm_debug.specs.declared.options.WordKind.{WordKind}
-use Rattle.rosm_debug.specs.declared.options.WordKind.TheVariants as kind
+use Rattle.debug_face.specs.declared.options.WordKind.{WordKind}
+use Rattle.debug_face.specs.declared.options.WordKind.TheVariants as kind
 
 -- whether all words after one are files
 abbrev pub is_dashes : List ℕ → Bool

@@ -1,0 +1,2 @@
+-- Which tool a word names.
+pub mod Faces

@@ -1,0 +1,55 @@
+//! The tools, which the first word of a command line names.
+
+ghost use Rattle.std.specs.Prelude.{◌≡◌};
+ghost use Rattle.std.specs.Process.{exit_status};
+ghost use Rattle.rosm_tools.specs.Faces.{face_named};
+
+use std::env::Env;
+use std::process::ExitCode;
+
+/// What the first word names.
+#[derive(Clone, Copy, Debug, PartialEq, Eq)]
+pub enum Face {
+    /// `debug`.
+    Debug,
+    /// `gdb`.
+    Gdb,
+    /// `source`.
+    Source,
+}
+
+// A word with more bytes than this names no face.
+const MOST_BYTES: usize = 8;
+
+/// The face that the first word of this process names, if it names one.
+pub fn face_asked<R: Env>(rt: &R) -> Option<Face> {
+    let mut word = [0u8; MOST_BYTES];
+    match rt.arg(1, &mut word) {
+        Ok(length) => face_of(&word[..length]),
+        Err(_) => None,
+    }
+}
+
+fn face_of(word: &[u8]) -> Option<Face>
+    ensures { result ≡ face_named word.now }
+{
+    if word == b"debug".as_slice() {
+        Some(Face::Debug)
+    } else if word == b"gdb".as_slice() {
+        Some(Face::Gdb)
+    } else if word == b"source".as_slice() {
+        Some(Face::Source)
+    } else {
+        None
+    }
+}
+
+/// The exit status where no face is named, with one line on standard error that lists them.
+pub fn refuse<R: Eprint>(rt: &R) -> ExitCode
+    ensures { exit_status result ≡ 2 }
+{
+    let _ = eprintln!(rt;
+        "rosm_tools: the first word is debug, gdb or source; usage: rosm_tools (debug | gdb | source) [WORD...]"
+    );
+    ExitCode::from(2)
+}
