@@ -10,12 +10,12 @@ use Rattle.std.specs.Str.Lines.{lines}
 use Rattle.script_page.specs.HtmlPage.{opening, guest_html, part_html, told_html, figure_html, item_html, typed_lines}
 use Rattle.script_page.specs.PictureIndex.{drawn_html, html_back, index_link, pictures_html}
 
-four : (a b c d e : Option (List ℕ)) (x y z w : List ℕ) → Appends a b x → Appends b c y → Appends c d z → Appends d e w
+pub four : (a b c d e : Option (List ℕ)) (x y z w : List ℕ) → Appends a b x → Appends b c y → Appends c d z → Appends d e w
     → Appends a e (x ++ (y ++ (z ++ w)))
 four a b c d e x y z w first second third fourth =
     Appends-join a b e x (y ++ (z ++ w)) first (three_pieces b c d e y z w second third fourth)
 
-five : (a b c d e f : Option (List ℕ)) (x y z w v : List ℕ) → Appends a b x → Appends b c y → Appends c d z → Appends d e w
+pub five : (a b c d e f : Option (List ℕ)) (x y z w v : List ℕ) → Appends a b x → Appends b c y → Appends c d z → Appends d e w
     → Appends e f v → Appends a f (x ++ (y ++ (z ++ (w ++ v))))
 five a b c d e f x y z w v first second third fourth fifth =
     Appends-join a b f x (y ++ (z ++ (w ++ v))) first (four b c d e f y z w v second third fourth fifth)

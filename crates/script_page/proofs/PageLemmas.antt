@@ -162,14 +162,14 @@ shown_on setting f machine entries shown e s are there is = record {
       (subst (λ (m : MachineState). IsPicture f (view_asked m e.lines.now) s.picture.items) (sym there) is.picture));
 }
 
-drawn_on : (shown : List Shown) (s : Shown) → list_any has_picture (shown ++ s ∷ []) ≡ (list_any has_picture shown || has_picture s)
-drawn_on [] s = elim (has_picture s) as (λ b. (b || false) ≡ (false || b)) [ true ↦ refl | false ↦ refl ]
-drawn_on (x ∷ shown) s =
-    ap (λ (b : Bool). has_picture x || b) (drawn_on shown s)
-    ∙ elim (has_picture x) as (λ b. (b || (list_any has_picture shown || has_picture s)) ≡ ((b || list_any has_picture shown) || has_picture s))
+pub any_more : {A : Type 0} (f : A → Bool) (xs : List A) (x : A) → list_any f (xs ++ x ∷ []) ≡ (list_any f xs || f x)
+any_more f [] x = elim (f x) as (λ b. (b || false) ≡ (false || b)) [ true ↦ refl | false ↦ refl ]
+any_more f (y ∷ xs) x =
+    ap (λ (b : Bool). f y || b) (any_more f xs x)
+    ∙ elim (f y) as (λ b. (b || (list_any f xs || f x)) ≡ ((b || list_any f xs) || f x))
     [ true ↦ refl | false ↦ refl ]
 
-more_of : {A : Type 0} (f : A → List ℕ) (xs : List A) (x : A) → flat_map f (xs ++ x ∷ []) ≡ flat_map f xs ++ f x
+pub more_of : {A : Type 0} (f : A → List ℕ) (xs : List A) (x : A) → flat_map f (xs ++ x ∷ []) ≡ flat_map f xs ++ f x
 more_of f xs x = flat_map-append f xs (x ∷ []) ∙ ap (λ (t : List ℕ). flat_map f xs ++ t) (append-nil (f x))
 
 entries_on : (f : PageForm) (entries : List Entry) (shown : List Shown) (e : Entry) (s : Shown)
@@ -320,7 +320,7 @@ page_goes_on front setting f script old new number next was_drawn is_drawn links
           (ap (λ (w : ScriptState). w.machine) stands_after)
           (subst (λ (n : ℕ). IsShownOf f (state_of_answering new).machine n e s) so.counted is);
       counted = counted ∙ ap (λ (n : ℕ). number_after n (length (lines e.lines.now))) so.counted ∙ sym (number_on 1 entries e);
-      drawn = drawn ∙ ap (λ (b : Bool). b || has_picture s) so.drawn ∙ sym (drawn_on so.shown s);
+      drawn = drawn ∙ ap (λ (b : Bool). b || has_picture s) so.drawn ∙ sym (any_more has_picture so.shown s);
       index = linked ∙ ap (λ (xs : List ℕ). xs ++ entry_link s) so.index ∙ sym (more_of entry_link so.shown s);
       text = written_on front f entries so.shown e s before between after so.text written;
     }

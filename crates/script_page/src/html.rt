@@ -20,12 +20,13 @@ pub fn push_entry<W: Sink>(sink: &mut W, shown: &Shown<'_>) -> Result<(), WriteF
     push_typed(sink, shown.lines)?;
     push_all(sink, b"</pre><div class=\"answers\">")?;
     push_answers(sink, shown)?;
-    push_figure(sink, shown)?;
+    push_figure(sink, shown.picture.as_slice())?;
     push_all(sink, b"</div></div></li>\n")?;
     Ok(())
 }
 
-fn push_opening<W: Sink>(sink: &mut W, number: usize) -> Result<(), WriteFault>
+/// Writes what stands before the first line of an entry.
+pub fn push_opening<W: Sink>(sink: &mut W, number: usize) -> Result<(), WriteFault>
     ensures { Writes W.contents W.has_failed sink.old sink.new result (opening number) }
 {
     push_all(sink, b"<li id=\"line-")?;
@@ -66,7 +67,8 @@ fn push_answers<W: Sink>(sink: &mut W, shown: &Shown<'_>) -> Result<(), WriteFau
     Ok(())
 }
 
-fn push_guest<W: Sink>(sink: &mut W, guest: &[u8]) -> Result<(), WriteFault>
+/// Writes what the guest printed, if it printed anything.
+pub fn push_guest<W: Sink>(sink: &mut W, guest: &[u8]) -> Result<(), WriteFault>
     ensures { Writes W.contents W.has_failed sink.old sink.new result (guest_part guest.now) }
 {
     if guest.is_empty() {
@@ -85,7 +87,8 @@ fn push_printed<W: Sink>(sink: &mut W, guest: &[u8]) -> Result<(), WriteFault>
     Ok(())
 }
 
-fn push_part<W: Sink>(sink: &mut W, class: &[u8], part: &[u8]) -> Result<(), WriteFault>
+/// Writes a part of an answer, of a class, if it isn't empty.
+pub fn push_part<W: Sink>(sink: &mut W, class: &[u8], part: &[u8]) -> Result<(), WriteFault>
     ensures { Writes W.contents W.has_failed sink.old sink.new result (answer_part class.now part.now) }
 {
     if part.is_empty() {
@@ -106,10 +109,10 @@ fn push_filled_part<W: Sink>(sink: &mut W, class: &[u8], part: &[u8]) -> Result<
     Ok(())
 }
 
-fn push_figure<W: Sink>(sink: &mut W, shown: &Shown<'_>) -> Result<(), WriteFault>
-    ensures { Writes W.contents W.has_failed sink.old sink.new result (figure shown.now.picture.items) }
+/// Writes a picture, if there is one.
+pub fn push_figure<W: Sink>(sink: &mut W, picture: &[u8]) -> Result<(), WriteFault>
+    ensures { Writes W.contents W.has_failed sink.old sink.new result (figure picture.now) }
 {
-    let picture = shown.picture.as_slice();
     if picture.is_empty() {
         return Ok(());
     }

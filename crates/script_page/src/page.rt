@@ -72,7 +72,7 @@ fn push_between<W: Sink>(
     let mut is_drawn = false;
     push_front(sink, front, form)?;
     while let Some(entry) = answering.next_entry(alloc)? {
-        let picture = views.picture_of(alloc, answering.machine(), &entry, form)?;
+        let picture = views.picture_of(alloc, answering.machine(), entry.lines, form)?;
         let shown = shown_of(alloc, number, &entry, picture)?;
         keep_link(&mut links, has_picture(&shown), number, entry.lines)?;
         push_entry(sink, &entry, &shown, form)?;

@@ -8,7 +8,6 @@ ghost use Rattle.script_page.specs.Pictures.{boxes_text, line_width, rows_text, 
 ghost use Rattle.script_page.specs.Pictures.{IsOfBoxes, IsOfRows, IsPicture};
 ghost use Rattle.script_page.specs.Views.{asked_of, view_asked};
 
-use crate::entry::Entry;
 use crate::form::PageForm;
 use crate::views::{ViewItems, items_for_lines};
 use page_markup::{push_grid, push_svg};
@@ -37,8 +36,8 @@ impl LastViews {
         }
     }
 
-    /// The picture of an entry in a page of that form, of the view that its line asks for, as the
-    /// machine stands after it; empty where it asks for none, or there is nothing to be seen.
+    /// The picture of a line, or of a line and its block, in a page of that form: of the view that it
+    /// asks for, as the machine stands after it; empty where it asks for none, or there is nothing to be seen.
     ///
     /// # Errors
     ///
@@ -48,13 +47,13 @@ impl LastViews {
         &mut self,
         alloc: Global,
         machine: &Machine,
-        entry: &Entry<'_>,
+        typed: &[u8],
         form: PageForm,
     ) -> Result<Vec<u8>, AllocError>
         ensures { IfOk result (λ picture. IsPicture form
-            (view_asked (state_of machine.now.guest) entry.now.lines.now) picture.items) }
+            (view_asked (state_of machine.now.guest) typed.now) picture.items) }
     {
-        let view = items_drawn(alloc, machine, entry, form)?;
+        let view = items_drawn(alloc, machine, typed, form)?;
         self.picture_of_items(alloc, view, form)
     }
 
@@ -113,14 +112,14 @@ impl LastViews {
 fn items_drawn(
     alloc: Global,
     machine: &Machine,
-    entry: &Entry<'_>,
+    typed: &[u8],
     form: PageForm,
 ) -> Result<ViewItems, AllocError>
     ensures { IfOk result (λ view. asked_of view ≡ view_drawn form
-        (view_asked (state_of machine.now.guest) entry.now.lines.now)) }
+        (view_asked (state_of machine.now.guest) typed.now)) }
 {
     match form {
-        PageForm::Text(_) | PageForm::Html => items_for_lines(alloc, machine, entry.lines),
+        PageForm::Text(_) | PageForm::Html => items_for_lines(alloc, machine, typed),
         PageForm::Transcript => Ok(ViewItems::none(alloc)),
     }
 }

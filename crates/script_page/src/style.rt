@@ -43,6 +43,32 @@ pre.answer, pre.guest { margin: 0.15rem 0 0.3rem; padding: 0.3rem 0.6rem; backgr
 pre.steps { margin: 0 0 0.3rem; padding: 0 0.6rem; color: var(--soft); font: inherit; font-size: 0.85em; }
 pre.guest { border-left: 4px double var(--guest); white-space: pre-wrap; overflow-wrap: anywhere; }
 pre.guest::before { content: "the guest prints"; display: block; color: var(--guest); font-size: 0.85em; }
+.entries .remark { align-items: baseline; }
+.entries .remark + .remark { border-top: 0; padding-top: 0; }
+.remark h2, .remark h3, .remark p { margin: 0.2rem 0; max-width: 60rem; }
+.remark h3 { font-size: 1.05em; }
+.passed::before { content: "\2713  "; color: var(--guest); }
+.failed::before { content: "\2717  "; font-weight: 700; }
+.refused::before { content: "!  "; font-weight: 700; }
+pre.failed, pre.refused { border-left: 4px solid var(--change); font-weight: 700; }
+.summary { font-weight: 700; margin: 0.3rem 0; }
+mark { background: none; color: inherit; font-weight: 700; text-decoration: underline; }
+details.steps { margin: 0.15rem 0 0.3rem; overflow-x: auto; }
+details.steps summary { color: var(--soft); font-size: 0.85em; cursor: pointer; }
+table.trace { border-collapse: collapse; font-size: 0.9em; background: var(--panel); border-radius: 4px; }
+table.trace td, table.trace th { padding: 0.05rem 0.6rem; text-align: left; vertical-align: top; white-space: pre; }
+table.trace td:last-child { white-space: pre-wrap; overflow-wrap: anywhere; }
+table.trace tr.label th { padding-top: 0.3rem; border-top: 1px solid var(--line); }
+table.trace tr.more td { color: var(--soft); }
+table.trace tr[aria-current] { outline: 2px solid var(--edge); outline-offset: -2px; font-weight: 700; }
+@media (max-width: 46rem) {
+  table.trace, table.trace tbody { display: block; }
+  table.trace tr { display: flex; flex-wrap: wrap; padding: 0.1rem 0.3rem; }
+  table.trace td, table.trace th { padding: 0 0.3rem; white-space: pre-wrap; overflow-wrap: anywhere; min-width: 0; }
+  table.trace td:last-child { flex-basis: 100%; padding-left: 2rem; }
+  table.trace th, table.trace tr.more td { flex-basis: 100%; padding-left: 0.3rem; }
+  table.trace td:empty { display: none; }
+}
 figure { margin: 0.15rem 0 0.5rem; flex: 0 1 380px; min-width: 0; }
 figure svg { display: block; width: 380px; max-width: 100%; height: auto; }
 svg.patterns { position: absolute; width: 0; height: 0; }
@@ -76,6 +102,7 @@ svg rect.change { fill: none; stroke: var(--change); stroke-width: 2; }
   .typed, pre.answer { white-space: pre-wrap; overflow-wrap: anywhere; }
   pre.answer, pre.steps { padding-left: 1rem; }
   .legend { break-before: avoid; }
+  table.trace tr { break-inside: avoid; }
 }
 </style>
 </head>

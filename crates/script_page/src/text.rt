@@ -40,9 +40,9 @@ pub fn push_entry<W: Sink>(sink: &mut W, shown: &Shown<'_>) -> Result<(), WriteF
     push_all(sink, shown.picture.as_slice())
 }
 
-// The lines of a text, each under its number.
+/// Writes the lines of a text, each under its number.
 #[tactic(auto, using(crate::proofs::TextLemmas::text_steps))]
-fn push_numbered<W: Sink>(sink: &mut W, first: usize, text: &[u8]) -> Result<(), WriteFault>
+pub fn push_numbered<W: Sink>(sink: &mut W, first: usize, text: &[u8]) -> Result<(), WriteFault>
     ensures { Writes W.contents W.has_failed sink.old sink.new result
         (numbered_lines first (lines text.now)) }
 {
@@ -88,9 +88,9 @@ fn blanks_before(digits: &[u8]) -> &'static [u8]
     &b"     "[digits.len().min(5)..]
 }
 
-// The lines of a text, each after these signs.
+/// Writes the lines of a text, each after these signs.
 #[tactic(auto, using(crate::proofs::TextLemmas::text_steps))]
-fn push_behind<W: Sink>(sink: &mut W, front: &[u8], text: &[u8]) -> Result<(), WriteFault>
+pub fn push_behind<W: Sink>(sink: &mut W, front: &[u8], text: &[u8]) -> Result<(), WriteFault>
     ensures { Writes W.contents W.has_failed sink.old sink.new result
         (lines_behind front.now (lines text.now)) }
 {
@@ -101,7 +101,8 @@ fn push_behind<W: Sink>(sink: &mut W, front: &[u8], text: &[u8]) -> Result<(), W
     Ok(())
 }
 
-fn push_behind_front<W: Sink>(sink: &mut W, front: &[u8], line: &[u8]) -> Result<(), WriteFault>
+/// Writes a line after these signs.
+pub fn push_behind_front<W: Sink>(sink: &mut W, front: &[u8], line: &[u8]) -> Result<(), WriteFault>
     ensures { Writes W.contents W.has_failed sink.old sink.new result (shown_line_behind front.now line.now) }
 {
     push_all(sink, front)?;

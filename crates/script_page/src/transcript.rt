@@ -27,9 +27,9 @@ pub fn push_entry<W: Sink>(sink: &mut W, entry: &Entry<'_>) -> Result<(), WriteF
     push_side(sink, Side::Told, entry.answer.as_slice())
 }
 
-// Writes a text: the sign of its side before each line, and after the last `\` where it has no end.
+/// Writes a text: the sign of its side before each line, and after the last `\` where it has no end.
 #[tactic(auto, using(crate::proofs::TranscriptLemmas::side_steps))]
-fn push_side<W: Sink>(sink: &mut W, side: Side, text: &[u8]) -> Result<(), WriteFault>
+pub fn push_side<W: Sink>(sink: &mut W, side: Side, text: &[u8]) -> Result<(), WriteFault>
     ensures { Writes W.contents W.has_failed sink.old sink.new result (spelt_from side true text.now) }
 {
     let mut is_first = true;

@@ -6,8 +6,10 @@ use Rattle.script_page.proofs.html.push_entry.Goals as goal
 
 pub returns : goal.returns
 returns g c = record {
-  text = item_written _ _ _ _ _ _ _ (opening c.args.shown.now.number) (typed_lines (lines c.args.shown.now.lines.now)) (answers_html c.args.shown.now) (figure c.args.shown.now.picture.items)
-      c.in_ok-push_opening.ensures.text c.in_ok-push_typed.ensures.text c.in_ok-push_all.ensures.text c.in_ok-push_answers.ensures.text c.in_ok-push_figure.ensures.text c.in_ok-push_all-2.ensures.text;
+  text = rw (← c.as_slice.ensures.value) (item_written _ _ _ _ _ _ _ (opening c.args.shown.now.number) (typed_lines (lines c.args.shown.now.lines.now))
+      (answers_html c.args.shown.now) (figure c.as_slice.result.now)
+      c.in_ok-push_opening.ensures.text c.in_ok-push_typed.ensures.text c.in_ok-push_all.ensures.text c.in_ok-push_answers.ensures.text
+      c.in_ok-push_figure.ensures.text c.in_ok-push_all-2.ensures.text);
   flag = search rules;
   same_flag = search rules;
 }

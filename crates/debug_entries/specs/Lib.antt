@@ -1,0 +1,6 @@
+-- What a page shows of a line of a debugging script. Begin with Lines, then Html.
+pub use Rattle.script_page
+pub mod Html
+pub mod Lines
+pub mod Shown
+pub mod Text

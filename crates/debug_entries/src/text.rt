@@ -1,0 +1,66 @@
+//! A line of a debugging script as text for a terminal, and as a part of a transcript.
+
+ghost use Rattle.std.specs.Prelude.{◌≡◌};
+ghost use Rattle.profile.specs.Output.{Writes};
+ghost use Rattle.debug_entries.specs.Text.{answer_front, debug_entry_text, debug_transcript, shown_ending_text, shown_front_text, page_summary_text};
+
+use crate::lines::Verdict;
+use crate::shown::DebugShown;
+use profile::{Sink, WriteFault, push_all};
+use script_page::text::{push_behind, push_numbered};
+use script_page::transcript::{Side, push_side};
+
+/// Writes a line under its number, what the guest printed after a colon, or a trace after `|`, the
+/// answer with a sign before it where the line expects something, and how many steps it took.
+pub fn push_entry<W: Sink>(sink: &mut W, shown: &DebugShown<'_>) -> Result<(), WriteFault>
+    ensures { Writes W.contents W.has_failed sink.old sink.new result (debug_entry_text shown.now) }
+{
+    push_numbered(sink, shown.entry.number, shown.entry.lines)?;
+    push_front(sink, shown)?;
+    push_ending(sink, shown)?;
+    push_all(sink, shown.picture.as_slice())
+}
+
+fn push_front<W: Sink>(sink: &mut W, shown: &DebugShown<'_>) -> Result<(), WriteFault>
+    ensures { Writes W.contents W.has_failed sink.old sink.new result (shown_front_text shown.now) }
+{
+    push_behind(sink, b"     : ", shown.guest.as_slice())?;
+    push_behind(sink, b"     | ", shown.trace())
+}
+
+fn push_ending<W: Sink>(sink: &mut W, shown: &DebugShown<'_>) -> Result<(), WriteFault>
+    ensures { Writes W.contents W.has_failed sink.old sink.new result (shown_ending_text shown.now) }
+{
+    push_behind(sink, answer_front(shown.entry.verdict), shown.ending())?;
+    push_behind(sink, b"     = ", shown.entry.steps.as_slice())
+}
+
+fn answer_front(verdict: Verdict) -> &'static [u8]
+    ensures { result.now ≡ answer_front verdict }
+{
+    match verdict {
+        Verdict::Unchecked => b"       ",
+        Verdict::Passed => b"     + ",
+        Verdict::Failed => b"     ! ",
+        Verdict::Refused => b"     ? ",
+    }
+}
+
+/// Writes the summary, which stands after the last line, if there is one.
+pub fn push_summary<W: Sink>(sink: &mut W, summary: &[u8]) -> Result<(), WriteFault>
+    ensures { Writes W.contents W.has_failed sink.old sink.new result (page_summary_text summary.now) }
+{
+    if summary.is_empty() {
+        return Ok(());
+    }
+    push_all(sink, b"\n")?;
+    push_behind(sink, b"       ", summary)
+}
+
+/// Writes a line as a part of a transcript.
+pub fn push_transcript<W: Sink>(sink: &mut W, shown: &DebugShown<'_>) -> Result<(), WriteFault>
+    ensures { Writes W.contents W.has_failed sink.old sink.new result (debug_transcript shown.now) }
+{
+    push_side(sink, Side::Typed, shown.entry.lines)?;
+    push_side(sink, Side::Told, shown.entry.answer.as_slice())
+}

@@ -1,0 +1,3 @@
+-- A trace as a table. Begin with Rows, then Table.
+pub mod Rows
+pub mod Table
