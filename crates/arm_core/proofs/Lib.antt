@@ -1,4 +1,5 @@
 pub mod Comparing
+pub mod Exchanging
 pub mod Listing
 pub mod Lowest
 pub mod OperandWords

@@ -1,5 +1,6 @@
 -- The core without memory: its registers, its status, and what one instruction leaves of them. Begin
 -- with State, then Operate.
+pub mod Banks
 pub mod Conditions
 pub mod Effect
 pub mod Laws

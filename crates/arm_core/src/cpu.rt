@@ -1,53 +1,100 @@
 //! The core: registers of all banks, status and program counter.
 
-ghost use Rattle.std.specs.Prelude.{◌≡◌, ◌<◌, ◌≤◌, ◌^◌, ◌%◌, ℕ, slice_index};
+ghost use Rattle.std.specs.Prelude.{◌≡◌, ◌<◌, ◌≤◌, ◌+◌, ◌^◌, ◌%◌, ℕ, slice_index};
+ghost use Rattle.arm_core.specs.Banks.{exchanged_file, exchanged_place, first_own, own_ahead};
 ghost use Rattle.arm_core.specs.State.{IsCore, slot_of, register_in, with_register_in, register_of, with_register, r15_of, with_psr, with_pc, with_flags, with_overflow, with_mode, cpu_start_state};
 
 use crate::psr::{Mode, Psr};
+use arm_banks::{changed_place, exchange};
 use profile::memory_map::{ADDRESS_LIMIT, APPLICATION_START, SVC_STACK_END};
 use std::marker::Model;
 
 /// The core: the registers of all four modes, the status and the program counter, which is a
 /// multiple of 4 below 2^26.
+///
+/// The first 15 places of the file are R0 to R14 of the present mode. Those of them that the mode
+/// has for itself stand there in place of the ones of user mode, which stand where they would.
 #[derive(Clone, Copy, Debug)]
 pub struct Cpu {
     file: [u32; 26],
     psr: Psr,
-    pc: u32,
+    /// The program counter, in words.
+    at: u32,
 }
 
 impl Model for Cpu {
-    ghost use Rattle.std.specs.Prelude.{◌≡◌, ◌<◌, ◌^◌, ◌%◌};
+    ghost use Rattle.std.specs.Prelude.{◌≡◌, ◌<◌, ◌*◌, ◌/◌, ◌^◌, length};
+    ghost use Rattle.arm_banks.proofs.Exchanging.{quarter};
+    ghost use Rattle.arm_core.specs.Banks.{exchanged_file, file_comes_back};
     ghost use Rattle.arm_core.specs.State.{State};
 
     ghost Value = { State };
 
-    ghost view = { λ c. record { file = c.file; psr = c.psr; pc = c.pc } };
+    ghost view = { λ c. record { file = exchanged_file c.psr.mode c.file; psr = c.psr; pc = 4 * c.at } };
 
-    ghost invariant = { λ c. (c.pc < 2 ^ 26) × (c.pc % 4 ≡ 0) };
+    ghost invariant = { λ c. (c.at < 2 ^ 24) × (length c.file ≡ 26) };
 
-    ghost inverse = { λ s. record { file = s.file; psr = s.psr; pc = s.pc } };
+    ghost inverse = { λ s. record { file = exchanged_file s.psr.mode s.file; psr = s.psr; at = s.pc / 4 } };
+
+    ghost inverse_ok = { λ c h i. record {
+      file = file_comes_back c.psr.mode c.file h.1 i;
+      psr = c.psr;
+      at = quarter c.at i;
+    } };
 }
 
-/// Where R0 to R14 lie in the file, as a mode sees them.
-#[inline(always)]
+/// Where R0 to R14 of a mode lie while user mode is the present one.
 fn slot(mode: Mode, number: u32) -> usize
     requires { number < 15 }
     ensures place { result ≡ slot_of mode number }
     ensures bound { result < 26 }
 {
     let shared = number as usize;
-    // Nearly all steps are of user mode.
-    if mode == Mode::User {
-        return shared;
+    match mode {
+        Mode::FastInterrupt if shared >= 8 => shared + 7,
+        Mode::Interrupt if shared >= 13 => shared + 9,
+        Mode::Supervisor if shared >= 13 => shared + 11,
+        _ => shared,
     }
-    // Counted rather than matched: a match would take the test for user mode into its jump table.
-    let first_of_bank = if mode == Mode::FastInterrupt { 8 } else { 13 };
-    if shared >= first_of_bank {
-        shared + 2 * mode.number() as usize + 5
-    } else {
-        shared
+}
+
+/// The first register, up to R14, that a mode has for itself.
+#[inline(always)]
+fn first_own(mode: Mode) -> usize
+    ensures { result ≡ first_own mode }
+{
+    match mode {
+        Mode::User => 15,
+        Mode::FastInterrupt => 8,
+        Mode::Interrupt | Mode::Supervisor => 13,
     }
+}
+
+/// How far ahead of those of user mode the registers lie that a mode has for itself.
+#[inline(always)]
+fn own_ahead(mode: Mode) -> usize
+    ensures { result ≡ own_ahead mode }
+{
+    match mode {
+        Mode::User => 0,
+        Mode::FastInterrupt => 7,
+        Mode::Interrupt => 9,
+        Mode::Supervisor => 11,
+    }
+}
+
+/// Where R0 to R14 of a mode lie in the file while another, or the same, is the present one.
+#[tactic(auto, using(crate::proofs::Exchanging::present_place, crate::specs::Banks::own_bank))]
+#[inline(always)]
+fn place_of(present: Mode, mode: Mode, number: u32) -> usize
+    requires { number < 15 }
+    ensures place { result ≡ exchanged_place present (slot_of mode number) }
+    ensures bound { result < 26 }
+{
+    if mode == present {
+        return number as usize;
+    }
+    changed_place(first_own(present), own_ahead(present), slot(mode, number))
 }
 
 // Registers are words.
@@ -62,7 +109,6 @@ fn are_words(file: &[u32; 26])
 impl Cpu {
     /// The core as the machine starts: USR mode, all flags clear, the program counter at the start
     /// of the application space, every register 0 but R13 of SVC mode.
-    #[tactic(auto, unfolding(crate::specs::State::cpu_start_state))]
     pub fn new() -> Cpu
         ensures { result ≡ cpu_start_state }
     {
@@ -79,7 +125,7 @@ impl Cpu {
                 fast_interrupts_off: false,
                 mode: Mode::User,
             },
-            pc: APPLICATION_START,
+            at: APPLICATION_START / 4,
         }
     }
 
@@ -97,7 +143,7 @@ impl Cpu {
         requires { number < 15 }
         ensures { result ≡ register_in mode self.now number }
     {
-        self.file[slot(mode, number)]
+        self.file[place_of(self.psr.mode, mode, number)]
     }
 
     /// R0 to R15 of the present mode; R15 is the program counter with the status.
@@ -118,7 +164,7 @@ impl Cpu {
     pub(crate) fn r15(&self) -> u32
         ensures { result ≡ r15_of self.now }
     {
-        self.psr.bits() + self.pc
+        self.psr.bits() + 4 * self.at
     }
 
     /// The program counter.
@@ -128,7 +174,7 @@ impl Cpu {
         ensures below { result < 2 ^ 26 }
         ensures aligned { result % 4 ≡ 0 }
     {
-        self.pc
+        4 * self.at
     }
 
     /// The status.
@@ -145,7 +191,7 @@ impl Cpu {
         requires { number < 15 }
         ensures { self.new ≡ with_register_in mode self.old number value }
     {
-        self.file[slot(mode, number)] = value;
+        self.file[place_of(self.psr.mode, mode, number)] = value;
     }
 
     /// Sets one of R0 to R14 of the present mode.
@@ -158,11 +204,12 @@ impl Cpu {
     }
 
     /// Sets the program counter to bits 25 to 2 of an address; the other bits are left out.
+    #[tactic(auto, using(crate::proofs::Exchanging::counter))]
     #[inline(always)]
     pub fn set_pc(&mut self, address: u32)
         ensures { self.new ≡ with_pc self.old address }
     {
-        self.pc = address % ADDRESS_LIMIT / 4 * 4;
+        self.at = address % ADDRESS_LIMIT / 4;
     }
 
     /// Sets the whole status, the mode too.
@@ -170,6 +217,7 @@ impl Cpu {
     pub fn set_psr(&mut self, psr: Psr)
         ensures { self.new ≡ with_psr self.old psr }
     {
+        self.set_mode(psr.mode);
         self.psr = psr;
     }
 
@@ -193,10 +241,32 @@ impl Cpu {
     }
 
     /// Sets the mode.
+    #[tactic(auto, using(crate::proofs::Exchanging::same_mode))]
     #[inline(always)]
     pub fn set_mode(&mut self, mode: Mode)
         ensures { self.new ≡ with_mode self.old mode }
     {
+        if mode == self.psr.mode {
+            return;
+        }
+        self.change_banks(mode);
+    }
+
+    // The registers of another mode take the first places.
+    #[inline(never)]
+    fn change_banks(&mut self, mode: Mode)
+        ensures { self.new ≡ with_mode self.old mode }
+    {
+        exchange_bank(&mut self.file, self.psr.mode);
+        exchange_bank(&mut self.file, mode);
         self.psr.mode = mode;
     }
+}
+
+// The registers that a mode has for itself change places with those of user mode.
+#[tactic(auto, using(crate::specs::Banks::own_bank))]
+fn exchange_bank(file: &mut [u32; 26], mode: Mode)
+    ensures { file.new ≡ exchanged_file mode file.old }
+{
+    exchange(file, first_own(mode), own_ahead(mode));
 }

@@ -89,7 +89,7 @@ impl Cpu {
 
     /// Sets N and Z by a result, and C and V as they come with it.
     #[inline(always)]
-    pub(crate) fn set_flags_of(&mut self, result_of: Sum)
+    pub fn set_flags_of(&mut self, result_of: Sum)
         ensures { self.new ≡ with_result_flags self.old result_of }
     {
         self.set_flags(

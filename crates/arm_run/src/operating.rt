@@ -3,7 +3,6 @@
 ghost use Rattle.std.specs.Prelude.{◌≡◌, ◌<◌, ◌≤◌, ◌&&◌, false, not};
 ghost use Rattle.profile.specs.Word.{field};
 ghost use Rattle.arm_decode.specs.Refusals.{is_test};
-ghost use Rattle.arm_core.specs.Effect.{with_result_flags};
 ghost use Rattle.arm_core.specs.Operand.{rotated_immediate, shifted_value};
 ghost use Rattle.arm_core.specs.Operate.{sum_of_operation};
 ghost use Rattle.arm_ready.specs.Kinds.{OperatesByImmediate, OperatesByRegister, OperatesByShift};
@@ -101,23 +100,8 @@ fn operate(cpu: &mut Cpu, operation: Operation, sets_flags: bool, second: Shifte
         set_current(cpu, ready.rd, sum.value);
     }
     if sets_flags {
-        set_flags(cpu, sum);
+        cpu.set_flags_of(sum);
     }
-}
-
-/// The flags of a result.
-#[inline(always)]
-fn set_flags(cpu: &mut Cpu, sum: Sum)
-    ensures { cpu.new ≡ with_result_flags cpu.old sum }
-{
-    let psr = Psr {
-        negative: is_bit_set(sum.value, 31),
-        zero: sum.value == 0,
-        carry: sum.carry,
-        overflow: sum.overflow,
-        ..cpu.psr()
-    };
-    cpu.set_psr(psr);
 }
 
 /// The result of an operation with the flags C and V that come with it; a logical one takes C from

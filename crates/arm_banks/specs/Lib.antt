@@ -1,0 +1,2 @@
+-- A register file of which some registers have changed places with others.
+pub mod Banks
