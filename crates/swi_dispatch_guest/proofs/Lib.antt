@@ -11,6 +11,7 @@ pub mod NextEntry
 pub mod NextTurn
 pub mod OpenFrames
 pub mod Quiet
+pub mod QuietSteps
 pub mod RunEnds
 pub mod RunLoop
 pub mod Runs

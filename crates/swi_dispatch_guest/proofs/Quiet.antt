@@ -1,5 +1,5 @@
 -- Steps that the core does by itself print nothing and halt nothing: so many of them are a run.
-use Rattle.std.proofs.Common.{◌≡◌, ◌≢◌, ℕ, zero, suc, ◌+◌, Option, Some, None, List, [], Result, Ok, Err, refl, sym, ◌∙◌, ap, subst, arith, Bool, if◌then◌else◌}
+use Rattle.std.proofs.Common.{◌≡◌, ℕ, zero, suc, ◌+◌, Option, Some, None, List, [], Result, Ok, Err, refl, sym, ◌∙◌, ap, subst, arith, Bool, if◌then◌else◌}
 use Rattle.profile.specs.declared.stop.Stop.{Stop}
 use Rattle.profile.specs.declared.stop.Stop.TheVariants as stop
 use Rattle.address_map.specs.Bytes.{Bytes}
@@ -19,14 +19,6 @@ done_by : (images : List Entry) (s : MachineState) (r : Result (State × Bytes) 
 done_by images s (Ok w) s' h = (ap quiet (sym h.1), ap (λ (x : MachineState). x.halt) h.1)
 done_by images s (Err e) s' h = (ap (λ (t : Turn). outcome_of_turn images s (Err t)) (sym h.0) ∙ ap quiet (sym h.1), ap (λ (x : MachineState). x.halt) h.1)
 
-other_by : (s : MachineState) (r : Result (State × Bytes) Turn) (t : Turn) (s' : MachineState) → t ≢ turn.Done → Turned s r t s' → s' ≡ s
-other_by s (Ok w) t s' other h = absurd (other h.0)
-other_by s (Err e) t s' other h = h.1
-
--- a turn that isn't done changes nothing
-pub other_stays : (s : MachineState) (t : Turn) (s' : MachineState) → t ≢ turn.Done → TakesTurn s t s' → s' ≡ s
-other_stays s t s' other h = other_by s (result_of_instruction s) t s' other h
-
 pub done_awake : (s s' : MachineState) (t : Turn) → t ≡ turn.Done → s.halt ≡ None → TakesTurn s t s' → s'.halt ≡ None
 done_awake s s' t done awake h = (done_by [] s (result_of_instruction s) s' (subst (λ (x : Turn). TakesTurn s x s') done h)).1 ∙ awake
 
@@ -39,10 +31,6 @@ done_step images s s' awake h =
 pub ends_by : (breaks : List ℕ) (s : MachineState) (b : Bool) → is_among breaks s.cpu.pc ≡ b
     → stop_after breaks s None ≡ (if b then stop.Break s.cpu.pc else stop.Budget)
 ends_by breaks s b h = ap (λ (c : Bool). if c then stop.Break s.cpu.pc else stop.Budget) h
-
-pub ends_unwatched : (breaks : List ℕ) (s : MachineState) → breaks ≡ [] → stop_after breaks s None ≡ stop.Budget
-unfolding is_among
-ends_unwatched breaks s none = ap (λ (bs : List ℕ). stop_after bs s None) none
 
 quiet_one : (images : List Entry) (breaks : List ℕ) (s s' : MachineState) (x : Stop) → s.halt ≡ None → stop_after breaks s' None ≡ x → TakesTurn s turn.Done s'
     → ran images breaks 1 s ≡ quiet_run s' 1 x

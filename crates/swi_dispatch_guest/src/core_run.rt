@@ -10,6 +10,7 @@ ghost use Rattle.swi_dispatch_guest.specs.Step.{machine_step};
 use crate::guest::Guest;
 use crate::printing::Output;
 use arm_core::Turn;
+use arm_run::run;
 use image_loader::Images;
 use profile::Stop;
 use swi_dispatch_breaks::Breaks;
@@ -31,9 +32,8 @@ impl Guest {
 
     /// Takes up to so many steps, as long as each is an instruction that is done, and no further
     /// than to a break. Answers how many, and the turn that comes next where that is another, or
-    /// why a run of these steps ends. No other function asks the core, so that its code stands in
-    /// this loop. One count says when to look up from it: after each step where there are breaks,
-    /// else after the last.
+    /// why a run of these steps ends. No other function runs the core, so that its code stands in
+    /// one loop.
     pub fn take_instructions(&mut self, breaks: &Breaks, most: u64) -> (u64, Result<Turn, Stop>)
         requires some { 0 < most }
         requires awake { (state_of self.old).halt ≡ None }
@@ -45,26 +45,12 @@ impl Guest {
         ensures awake { (state_of self.new).halt ≡ None }
         ensures most { result.0 ≤ most }
     {
-        let stride = if breaks.is_empty() { most } else { 1 };
-        let mut rest = most;
-        let mut left = stride;
-        loop {
-            match self.instruction() {
-                Turn::Done => {}
-                turn => return (most - rest + (stride - left), Ok(turn)),
-            }
-            left -= 1;
-            if left == 0 {
-                let at = self.cpu().pc();
-                if breaks.has(at) {
-                    return (most - rest + stride, Err(Stop::Break(at)));
-                }
-                rest -= stride;
-                if rest == 0 {
-                    return (most, Err(Stop::Budget));
-                }
-                left = stride;
-            }
-        }
+        run(
+            &mut self.cpu,
+            &mut self.memory,
+            &mut self.ready,
+            breaks,
+            most,
+        )
     }
 }

@@ -7,7 +7,7 @@ use crate::halt::Halt;
 use crate::printing::Output;
 use address_map::AddressMap;
 use arm_core::{Cpu, Turn};
-use arm_step::step;
+use arm_ready::ReadyWords;
 use dynamic_areas::{Areas, start_memory};
 use flex_machine::flex_store::Flex;
 use image_loader::Images;
@@ -40,6 +40,8 @@ pub struct Guest {
     pub(crate) halt: Option<Halt>,
     /// What a call is tried on whose caller takes no error. It is no part of the guest's state.
     pub(crate) spare: Spare,
+    /// Words that were carried out, made ready. They are no part of the guest's state.
+    pub(crate) ready: ReadyWords,
 }
 
 impl Model for Guest {
@@ -93,6 +95,7 @@ impl Guest {
             flex: Flex::new(),
             halt: None,
             spare: Spare::new(alloc, config)?,
+            ready: ReadyWords::new(alloc)?,
         })
     }
 
@@ -127,14 +130,6 @@ impl Guest {
             Some(plan) => plan.given().text.as_slice(),
             None => &[],
         }
-    }
-
-    /// One instruction, as far as the core does it by itself; the answer is what it leaves to do.
-    #[inline(always)]
-    pub fn instruction(&mut self) -> Turn
-        ensures { TakesTurn (state_of self.old) result (state_of self.new) }
-    {
-        step(&mut self.cpu, &mut self.memory)
     }
 
     /// What a turn of the core leaves to do, and prints.
