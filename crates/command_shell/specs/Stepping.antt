@@ -1,12 +1,13 @@
 -- The lines that take steps, RUN and STEP, and those that set the breaks at which steps stop: BREAK
 -- and UNBREAK.
-use Rattle.std.specs.Prelude.{◌≡◌, ℕ, ◌-◌, ◌==◌, ◌&&◌, nat_le, min, List, ◌++◌, codes, Option, Some, Result, Ok, Err}
+use Rattle.std.specs.Prelude.{◌≡◌, ℕ, ◌-◌, ◌==◌, ◌&&◌, nat_le, min, List, ◌++◌, codes, Option, Some, None, Result, Ok, Err}
 use Rattle.std.specs.Io.KnownBytes.{Appends}
 use Rattle.profile.specs.Outcome.{bind}
 use Rattle.profile.specs.declared.stop.Stop.{Stop}
 use Rattle.debugger.specs.swi_dispatch.specs.swi_dispatch_breaks.specs.declared.breaks.BreakError.{BreakError}
 use Rattle.debugger.specs.swi_dispatch.specs.swi_dispatch_breaks.specs.declared.breaks.BreakError.TheVariants as break
 use Rattle.debugger.specs.swi_dispatch.specs.swi_dispatch_breaks.specs.Breaks.{with_break, without_break}
+use Rattle.swi_dispatch_guest.specs.MachineState.{MachineState}
 use Rattle.swi_dispatch_guest.specs.Run as machine
 use Rattle.command_shell.specs.Answers.{break_text, unbreak_text, refused_text, stop_text, stepped_text}
 use Rattle.command_shell.specs.State.{ScriptState, Answered, answer}
@@ -32,6 +33,17 @@ pub record IsAfterRun (s : ScriptState) (most : ℕ) (now : ScriptState) (before
   pub text : Appends before after (script_run s most).printed
   pub count : taken ≡ (script_run s most).taken
   pub stop : end ≡ (script_run s most).stop
+
+-- the state after so many steps that print nothing and don't halt the machine; the last stop stays
+abbrev pub script_after_quiet : ScriptState → MachineState → ℕ → ScriptState
+script_after_quiet s now taken =
+    record s { machine = now; is_fresh = s.is_fresh && (taken == 0); left = s.left - taken }
+
+-- Steps that print nothing left this.
+pub record IsAfterQuietSteps (s now : ScriptState) (taken : ℕ) (end : Stop) : Type 0 where
+  pub run : script_run s taken ≡ machine.quiet_run now.machine taken end
+  pub state : now ≡ script_after_quiet s now.machine taken
+  pub awake : now.machine.halt ≡ None
 
 -- RUN: all that is left of the budget may be used. What the guest prints comes first, then the stop
 -- line.

@@ -1,6 +1,7 @@
 //! Steps, the lines that take them, RUN and STEP, and those that set breaks: BREAK and UNBREAK.
 
-ghost use Rattle.std.specs.Prelude.{◌≡◌, ◌≤◌, min, true, List, IfOk, OnOk, OnErr};
+ghost use Rattle.std.specs.Prelude.{◌≡◌, ◌<◌, ◌≤◌, min, true, None, List, IfOk, OnOk, OnErr};
+ghost use Rattle.swi_dispatch_guest.specs.Parts.{state_of};
 ghost use Rattle.command_shell.specs.Stepping.{break_refusal_name};
 
 use crate::answers::{tell_break, tell_refused, tell_stepped, tell_stop, tell_unbreak};
@@ -13,7 +14,8 @@ impl Session {
     ghost use Rattle.image_loader.specs.Entries.{Entry};
     ghost use Rattle.command_shell.specs.Session.{script_state};
     ghost use Rattle.command_shell.specs.State.{IsAnswered};
-    ghost use Rattle.command_shell.specs.Stepping.{run_told, step_told, break_told, unbreak_told, IsAfterRun};
+    ghost use Rattle.command_shell.specs.Stepping.{run_told, step_told, break_told, unbreak_told};
+    ghost use Rattle.command_shell.specs.Stepping.{IsAfterQuietSteps, IsAfterRun};
 
     /// Takes so many steps, or as many as are left of the budget; fewer where the machine is halted
     /// or a break is reached. What the guest prints is written, and why the steps ended is the last
@@ -55,6 +57,22 @@ impl Session {
         self.left -= ran.taken;
         self.last = Some(ran.stop);
         Ok(ran)
+    }
+
+    /// Takes up to so many steps of a machine that isn't halted, as long as each is an instruction
+    /// that neither prints nor halts it, and no further than to a break. The stop is `Budget` where
+    /// another step may come next; the last stop that a line was answered with stays.
+    pub fn take_quiet_steps(&mut self, most: u64) -> Ran
+        requires some { 0 < most }
+        requires enough { most ≤ self.old.left }
+        requires awake { (state_of self.old.machine.guest).halt ≡ None }
+        ensures taken { (images : List Entry) → IsAfterQuietSteps (script_state self.old images)
+            (script_state self.new images) result.taken result.stop }
+        ensures count { result.taken ≤ most }
+    {
+        let ran = self.machine.run_quietly(&self.breaks, most);
+        self.left -= ran.taken;
+        ran
     }
 
     /// Takes all the steps that are left, and tells the stop.

@@ -1,5 +1,6 @@
 pub mod LineLemmas
 pub mod PlainLemmas
+pub mod QuietLemmas
 pub mod RunLemmas
 pub mod TellingLemmas
 pub mod TracedLemmas

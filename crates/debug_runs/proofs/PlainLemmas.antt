@@ -38,30 +38,30 @@ use Rattle.debug_tables.proofs.StubLemmas.{no_stub, real_steps}
 
 -- NO MODES
 
-abbrev no_modes : StepModes
+abbrev pub no_modes : StepModes
 no_modes = record { stubs = []; watches = [] }
 
 empty : {A : Type 0} (xs : List A) → (length xs == 0) ≡ true → xs ≡ []
 empty [] is = refl
 empty (x ∷ xs) is = let none = eqb-true (length (x ∷ xs)) 0 is in absurd (omega (arith, none))
 
-plain_modes : (modes : StepModes) → are_plain modes ≡ true → modes ≡ no_modes
+pub plain_modes : (modes : StepModes) → are_plain modes ≡ true → modes ≡ no_modes
 plain_modes modes is =
     let none = and_parts (length modes.stubs == 0) (length modes.watches == 0) is in
     let stubs = empty modes.stubs none.0 in
     let watches = empty modes.watches none.1 in
     λ i. record { stubs = stubs i; watches = watches i }
 
-plain_step : (s : ScriptState) → next_step no_modes s ≡ machine_step s.images s.machine
+pub plain_step : (s : ScriptState) → next_step no_modes s ≡ machine_step s.images s.machine
 plain_step s = real_steps [] s.images s.machine (no_stub s.machine (swi_ahead s.machine))
 
 -- RUN AND STEP
 
-and_true : (b : Bool) → b ≡ (b && true)
+pub and_true : (b : Bool) → b ≡ (b && true)
 and_true true = refl
 and_true false = refl
 
-stale : (b : Bool) (n : ℕ) → false ≡ (b && (suc n == 0))
+pub stale : (b : Bool) (n : ℕ) → false ≡ (b && (suc n == 0))
 stale true n = grind (arith, nat_tests)
 stale false n = refl
 
@@ -114,7 +114,7 @@ unfolding steps_run
 plain_first labels n s =
     ap (λ (o : StepOutcome). run_step [] goal.Nowhere s o o.printed (steps_run no_modes labels goal.Nowhere n None)) (plain_step s)
 
-ran_first : (images : List Entry) (breaks : List ℕ) (n : ℕ) (m : MachineState) → m.halt ≡ None
+pub ran_first : (images : List Entry) (breaks : List ℕ) (n : ℕ) (m : MachineState) → m.halt ≡ None
     → ran images breaks (suc n) m ≡ (let o = machine_step images m in go_on breaks o o.now.halt (ran images breaks n))
 unfolding ran
 ran_first images breaks n m awake =

@@ -41,7 +41,7 @@ step_on watches g s next o text f made is =
     ∙ ap (λ (x : Option RunEnd). run_behind text o.printed (run_unless next x (f next))) is
 
 -- the first of so many steps
-first_step_of : (modes : StepModes) (labels : List ImageLabels) (g : RunGoal) (n : ℕ) (told : Option ℕ) (s : ScriptState)
+pub first_step_of : (modes : StepModes) (labels : List ImageLabels) (g : RunGoal) (n : ℕ) (told : Option ℕ) (s : ScriptState)
     → steps_run modes labels g (suc n) told s
     ≡ run_step modes.watches g s (next_step modes s) (text_of_next modes labels told s) (steps_run modes labels g n (one_told told))
 unfolding steps_run
@@ -80,7 +80,7 @@ rest_behind old mid new text printed rest all is told = record {
   ended = is.ended;
 }
 
-rest_ends : (old new : Telling) (s : ScriptState) (e : RunEnd) (all : SteppingRun) → IsRest old new (run_ended s e) all → IsAfterStepping all s old new e
+pub rest_ends : (old new : Telling) (s : ScriptState) (e : RunEnd) (all : SteppingRun) → IsRest old new (run_ended s e) all → IsAfterStepping all s old new e
 rest_ends old new s e all is = record {
   state = is.now;
   told = record {

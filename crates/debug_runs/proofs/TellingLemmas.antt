@@ -82,7 +82,7 @@ pub untold_pushed : {U E : Type 0} (r : Result U E) (old new : Telling) (told : 
 untold_pushed r old new told printed piece is pushed =
     subst (λ (xs : List ℕ). OnOk r (IsToldOn old new (untold_text told xs) xs)) is pushed
 
-untold_none : (told : Option ℕ) → untold_text told [] ≡ []
+pub untold_none : (told : Option ℕ) → untold_text told [] ≡ []
 unfolding below_text
 untold_none None = refl
 untold_none (Some limit) = refl

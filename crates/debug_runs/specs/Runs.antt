@@ -1,6 +1,7 @@
 -- Runs of a debugger: steps one after another, until a goal is reached or the run is stopped, and
 -- what is told of each.
-use Rattle.std.specs.Prelude.{ℕ, zero, suc, Bool, false, ◌-◌, ◌==◌, ◌&&◌, ◌++◌, List, [], length, Option, Some, None, if◌then◌else◌}
+use Rattle.std.specs.Prelude.{ℕ, zero, suc, Bool, true, false, not, ◌-◌, ◌==◌, ◌&&◌, ◌++◌, List, [], length, Option, Some, None, if◌then◌else◌}
+use Rattle.profile.specs.declared.stop.Stop.{Stop}
 use Rattle.profile.specs.declared.stop.Stop.TheVariants as stop
 use Rattle.debug_labels.specs.Labels.{ImageLabels}
 use Rattle.swi_dispatch_guest.specs.declared.halt.Halt.{Halt}
@@ -8,8 +9,9 @@ use Rattle.swi_dispatch_guest.specs.MachineState.{MachineState, StepOutcome, sto
 use Rattle.swi_dispatch_guest.specs.Run.{is_among}
 use Rattle.command_shell.specs.Calls.{step_made}
 use Rattle.command_shell.specs.State.{ScriptState}
+use Rattle.debug_tables.specs.Modes.{are_plain}
 use Rattle.debug_tables.specs.Stubs.{stubbed_step}
-use Rattle.debug_runs.specs.Telling.{one_told, told_of_step, whole_step_text}
+use Rattle.debug_runs.specs.Telling.{is_step_told, one_told, told_of_step, whole_step_text}
 use Rattle.debug_tables.specs.WordWatches.{watch_hit}
 use Rattle.debug_tables.specs.declared.modes.StepModes.{StepModes}
 use Rattle.debug_runs.specs.declared.running.RunEnd.{RunEnd}
@@ -87,3 +89,18 @@ abbrev pub call_run : StepModes → List ImageLabels → RunGoal → ℕ → Opt
 call_run modes labels g most told s text o =
     run_step modes.watches g s o (told_of_step told text o.printed)
     (steps_run modes labels g (most - 1) (one_told told))
+
+-- whether nothing looks at the steps of a run: it has no goal, none of them is told, and there is no
+-- stub and no watch
+abbrev pub is_nowhere : RunGoal → Bool
+is_nowhere goal.Nowhere = true
+is_nowhere _ = false
+
+abbrev pub are_unseen : StepModes → RunGoal → Option ℕ → Bool
+are_unseen modes g told = is_nowhere g && (not (is_step_told told) && are_plain modes)
+
+-- why a run ends with steps of the machine's own run that stopped so; with no more of those another
+-- step may come
+abbrev pub quiet_end : Stop → Option RunEnd
+quiet_end stop.Budget = None
+quiet_end x = Some (end.Stopped x)

@@ -1,21 +1,22 @@
 //! Runs of a debugger, step by step.
 
-ghost use Rattle.std.specs.Prelude.{◌≡◌, ◌≤◌, ◌<◌, ◌-◌, ℕ, List, IfOk};
+ghost use Rattle.std.specs.Prelude.{◌≡◌, ◌≤◌, ◌<◌, ◌-◌, ℕ, List, None, IfOk};
 ghost use Rattle.image_loader.specs.Entries.{Entry};
 ghost use Rattle.address_map.specs.Memory.{bytes_of};
 ghost use Rattle.command_shell.specs.Calls.{first_step};
 ghost use Rattle.command_shell.specs.Session.{script_state};
 ghost use Rattle.command_shell.specs.State.{ScriptState};
-ghost use Rattle.debug_runs.specs.Runs.{call_run, end_after, is_reached, steps_run, watched_end};
+ghost use Rattle.debug_runs.specs.Runs.{are_unseen, call_run, end_after, is_reached, quiet_end};
+ghost use Rattle.debug_runs.specs.Runs.{is_nowhere, run_unless, steps_run, watched_end};
 ghost use Rattle.debug_runs.specs.Calls.{outside_text};
 ghost use Rattle.debug_runs.specs.Told.{IsAfterStepping};
 ghost use Rattle.debug_tables.specs.WordWatches.{watched_words};
 ghost use Rattle.swi_dispatch_guest.specs.Parts.{state_of};
 
 use crate::context::StepContext;
-use crate::telling::Telling;
+use crate::telling::{Telling, is_step_told};
 use command_shell::{OutsideCall, Session};
-use debug_tables::{WatchHit, WatchedWord, first_change};
+use debug_tables::{StepModes, WatchHit, WatchedWord, first_change};
 use debugger::swi_dispatch::Machine;
 use profile::memory_map::ADDRESS_LIMIT;
 use profile::{Stop, WriteFault};
@@ -67,8 +68,65 @@ pub(crate) fn take_steps(
         if let Some(end) = end_after(session, goal, words.as_slice()) {
             return Ok(end);
         }
+        let (taken, end) = take_unseen(telling, session, context, goal, left);
+        left -= taken;
+        if let Some(end) = end {
+            return Ok(end);
+        }
     }
     Ok(RunEnd::Stopped(Stop::Budget))
+}
+
+// Takes those of so many steps that come next and print nothing, as the machine's own run does, where
+// nothing looks at them. Answers how many, and why the run ends with them, if it does.
+fn take_unseen(
+    telling: &Telling,
+    session: &mut Session,
+    context: &StepContext<'_>,
+    goal: RunGoal,
+    most: u64,
+) -> (u64, Option<RunEnd>)
+    requires enough { most ≤ (script_state session.old context.now.images.now).left }
+    requires awake { (script_state session.old context.now.images.now).machine.halt ≡ None }
+    ensures rest { let modes = context.now.modes.now in let labels = context.now.labels.now in
+        let told = telling.now.told in
+        let now = script_state session.new context.now.images.now in
+        steps_run modes labels goal most told (script_state session.old context.now.images.now)
+        ≡ run_unless now result.1 (steps_run modes labels goal (most - result.0) told now) }
+    ensures count { result.0 ≤ most }
+    ensures enough { most - result.0 ≤ (script_state session.new context.now.images.now).left }
+{
+    if most == 0 {
+        return (0, None);
+    }
+    if !are_unseen(telling.told, context.modes, goal) {
+        return (0, None);
+    }
+    let ran = session.take_quiet_steps(most);
+    (ran.taken, quiet_end(ran.stop))
+}
+
+// Whether nothing looks at the steps of a run of which so many are told.
+fn are_unseen(told: Option<u64>, modes: &StepModes, goal: RunGoal) -> bool
+    ensures { result ≡ are_unseen modes.now goal told }
+{
+    is_nowhere(goal) && !is_step_told(told) && modes.is_plain()
+}
+
+fn is_nowhere(goal: RunGoal) -> bool
+    ensures { result ≡ is_nowhere goal }
+{
+    matches!(goal, RunGoal::Nowhere)
+}
+
+// Why a run ends with such steps; with no more of them another step may come.
+fn quiet_end(stop: Stop) -> Option<RunEnd>
+    ensures { result ≡ quiet_end stop }
+{
+    match stop {
+        Stop::Budget => None,
+        stop => Some(RunEnd::Stopped(stop)),
+    }
 }
 
 /// Takes so many steps at most, the first of which is a call from outside.

@@ -307,8 +307,8 @@ impl Telling {
     }
 }
 
-// Whether a step is told, where so many are.
-fn is_step_told(told: Option<u64>) -> bool
+/// Whether a step is told, where so many are.
+pub(crate) fn is_step_told(told: Option<u64>) -> bool
     ensures { result ≡ is_step_told told }
 {
     match told {

@@ -1,5 +1,5 @@
 -- The written machine at its start, and a run of no step.
-use Rattle.std.proofs.Common.{◌≡◌, ◌&&◌, ◌==◌, Bool, false, true, ℕ, List, IsSome, Option, Some, None, Result, Ok, Err, refl, ap, ◌∙◌, arith}
+use Rattle.std.proofs.Common.{◌≡◌, ◌&&◌, ◌==◌, Bool, false, true, ℕ, List, IsSome, Option, Some, None, Result, Ok, [], Err, refl, sym, subst, ap, ◌∙◌, arith}
 use Rattle.std.specs.Prelude.{IfOk, OnErr}
 use Rattle.std.proofs.lemmas.Bool.Decides.{nat_tests}
 use Rattle.image_loader.specs.Entries.{Entry}
@@ -11,7 +11,7 @@ use Rattle.swi_dispatch_guest.specs.declared.halt.Halt.{Halt}
 use Rattle.swi_dispatch_guest.specs.declared.running.Ran.{Ran}
 use Rattle.swi_dispatch_guest.specs.Ending.{Ends, StandsAfter}
 use Rattle.swi_dispatch_guest.specs.MachineState.{MachineState, machine_start, stop_of}
-use Rattle.swi_dispatch_guest.specs.Run.{Run, ran}
+use Rattle.swi_dispatch_guest.specs.Run.{Run, quiet_run, ran}
 use Rattle.swi_dispatch_guest.proofs.RunLoop.{ran-halted, ran-none}
 
 -- a machine that stands as it was made isn't halted
@@ -50,3 +50,10 @@ start_stays images breaks budget s t start b o0 o1 c0 c1 r was ends stands fresh
     let zero : (budget == 0) ≡ true = parts.1 in
     let none : budget ≡ 0 = grind (arith, nat_tests, zero) in
     none_ran images breaks budget s t o0 o1 c0 c1 r none ends stands ∙ was parts.0
+
+-- the same of a run that prints nothing
+pub quiet_start_stays : (breaks : List ℕ) (n : ℕ) (s t start : MachineState) (b : Bool) (x : Stop)
+    → ((images : List Entry) → ran images breaks n s ≡ quiet_run t n x) → n ≡ 0 → (b ≡ true → s ≡ start) → b ≡ true → t ≡ start
+quiet_start_stays breaks n s t start b x h none was fresh =
+    let at_none : ran [] breaks 0 s ≡ quiet_run t 0 x = subst (λ (k : ℕ). ran [] breaks k s ≡ quiet_run t k x) none (h []) in
+    ap (λ (r : Run). r.now) (sym at_none) ∙ still [] breaks s s.halt refl ∙ was fresh

@@ -1,10 +1,11 @@
 //! The machine: how it is made and booted, one step of it, and calls from outside.
 
-ghost use Rattle.std.specs.Prelude.{◌≡◌, ◌&&◌, ◌==◌, ◌≤◌, false, true, [], IfOk, IsSome, OnErr, OnOk, is_err};
+ghost use Rattle.std.specs.Prelude.{◌≡◌, ◌&&◌, ◌==◌, ◌<◌, ◌≤◌, false, true, None, [], List, IfOk, IsSome, OnErr, OnOk, is_err};
+ghost use Rattle.image_loader.specs.Entries.{Entry};
 ghost use Rattle.std.specs.Option.{option_map};
 ghost use Rattle.profile.specs.Outcome.{Leaves};
 ghost use Rattle.swi_dispatch_guest.specs.Ending.{Ends, StandsAfter};
-ghost use Rattle.swi_dispatch_guest.specs.Run.{ran};
+ghost use Rattle.swi_dispatch_guest.specs.Run.{last_or, quiet_last, quiet_run, ran};
 ghost use Rattle.swi_dispatch_guest.specs.Step.{machine_step, module_loaded, store_called};
 
 use crate::boot_error::BootError;
@@ -186,6 +187,33 @@ impl Machine {
             .run(images, breaks, &mut self.printed, sink, budget);
         self.known();
         ran
+    }
+
+    /// Takes up to so many steps of a machine that isn't halted, as long as each is an instruction
+    /// that neither prints nor halts it, and no further than to a break. A start on a break isn't
+    /// tested. The stop is `Budget` where another step may come next.
+    pub fn run_quietly(&mut self, breaks: &Breaks, most: u64) -> Ran
+        requires some { 0 < most }
+        requires awake { (state_of self.old.guest).halt ≡ None }
+        ensures ran { (images : List Entry) → ran images breaks.now result.taken (state_of self.old.guest)
+            ≡ quiet_run (state_of self.new.guest) result.taken result.stop }
+        ensures awake { (state_of self.new.guest).halt ≡ None }
+        ensures count { result.taken ≤ most }
+        ensures rest { HasRun self.old self.new (result.taken == 0) }
+        ensures printed { self.new.printed ≡ last_or self.old.printed (quiet_last result.taken) }
+        ensures kept { IsMachine self.new }
+    {
+        let (taken, next) = self.guest.take_instructions(breaks, most);
+        if taken > 0 {
+            self.is_fresh = false;
+            self.printed.clear();
+        }
+        self.known();
+        let stop = match next {
+            Ok(_) => Stop::Budget,
+            Err(stop) => stop,
+        };
+        Ran { stop, taken }
     }
 
     /// What holds of every machine, whatever its guest does. The call does nothing but say so.

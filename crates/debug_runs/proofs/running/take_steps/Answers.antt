@@ -5,6 +5,7 @@ use Rattle.swi_dispatch_guest.specs.Parts.{state_of}
 use Rattle.command_shell.specs.Session.{script_state}
 use Rattle.debug_runs.specs.Runs.{end_after, next_step, steps_run}
 use Rattle.debug_tables.specs.WordWatches.{watched_words}
+use Rattle.debug_runs.proofs.QuietLemmas.{goes_on_awake, unseen_goes_on, unseen_stops}
 use Rattle.debug_runs.proofs.RunLemmas.{enough_left, goes_on, runs_out, stops}
 use Rattle.debug_runs.proofs.running.take_steps.Goals as goal
 
@@ -21,10 +22,47 @@ loop-left-preserved c =
     ∙ ap (watched_words modes.watches) (c.memory.ensures.bytes ∙ ap (λ (m : MachineValue). (state_of m.guest).store.bytes) c.machine.ensures)) in
     let none : end_after modes.watches c.args.goal s next ≡ None = sym (c.end_after.ensures images s modes.watches words) ∙ c.in_default.is in
     record {
-      rest = goes_on c.args.telling.now c.loop-left.telling c.step.new.self modes labels c.args.goal c.loop-left.left s next all
-          c.loop-left.invariant.rest some c.in_ok-step.ensures.state c.in_ok-step.ensures.told c.in_ok-step.ensures.one_told none;
-      enough = enough_left c.loop-left.left s next (next_step modes s) c.loop-left.invariant.enough c.in_ok-step.ensures.state;
+      rest = unseen_goes_on c.args.telling.now c.step.new.self modes labels c.args.goal _ _ next _ all _
+          (goes_on c.args.telling.now c.loop-left.telling c.step.new.self modes labels c.args.goal c.loop-left.left s next all
+          c.loop-left.invariant.rest some c.in_ok-step.ensures.state c.in_ok-step.ensures.told c.in_ok-step.ensures.one_told none)
+          c.take_unseen-taken.ensures.rest c.in_default-end.is;
+      enough = c.take_unseen-taken.ensures.enough;
     }
+
+pub take_unseen-taken-requires-clause-awake : goal.take_unseen-taken-requires-clause-awake
+take_unseen-taken-requires-clause-awake c =
+    let images = c.args.context.now.images.now in
+    let modes = c.args.context.now.modes.now in
+    let s = script_state c.loop-left.session images in
+    let next = script_state c.step.new.session images in
+    let words = c.as_slice.ensures.value ∙ (c.words-words.ensures
+    ∙ ap (watched_words modes.watches) (c.memory.ensures.bytes ∙ ap (λ (m : MachineValue). (state_of m.guest).store.bytes) c.machine.ensures)) in
+    let none : end_after modes.watches c.args.goal s next ≡ None = sym (c.end_after.ensures images s modes.watches words) ∙ c.in_default.is in
+    goes_on_awake modes.watches c.args.goal s next none
+
+pub take_unseen-taken-requires-clause-enough : goal.take_unseen-taken-requires-clause-enough
+take_unseen-taken-requires-clause-enough c =
+    let images = c.args.context.now.images.now in
+    let modes = c.args.context.now.modes.now in
+    let s = script_state c.loop-left.session images in
+    enough_left c.loop-left.left s (script_state c.step.new.session images) (next_step modes s) c.loop-left.invariant.enough c.in_ok-step.ensures.state
+
+pub returns-in-Some-end : goal.returns-in-Some-end
+returns-in-Some-end c =
+    let images = c.args.context.now.images.now in
+    let modes = c.args.context.now.modes.now in
+    let labels = c.args.context.now.labels.now in
+    let s = script_state c.loop-left.session images in
+    let next = script_state c.step.new.session images in
+    let all = steps_run modes labels c.args.goal c.args.most c.args.telling.now.told (script_state c.args.session.now images) in
+    let some : 0 < c.loop-left.left = omega arith in
+    let words = c.as_slice.ensures.value ∙ (c.words-words.ensures
+    ∙ ap (watched_words modes.watches) (c.memory.ensures.bytes ∙ ap (λ (m : MachineValue). (state_of m.guest).store.bytes) c.machine.ensures)) in
+    let none : end_after modes.watches c.args.goal s next ≡ None = sym (c.end_after.ensures images s modes.watches words) ∙ c.in_default.is in
+    unseen_stops c.args.telling.now c.step.new.self modes labels c.args.goal _ _ next _ all _ c.in-Some-end.end
+    (goes_on c.args.telling.now c.loop-left.telling c.step.new.self modes labels c.args.goal c.loop-left.left s next all
+    c.loop-left.invariant.rest some c.in_ok-step.ensures.state c.in_ok-step.ensures.told c.in_ok-step.ensures.one_told none)
+    c.take_unseen-taken.ensures.rest c.in-Some-end.is
 
 pub returns-in-Some : goal.returns-in-Some
 returns-in-Some c =
