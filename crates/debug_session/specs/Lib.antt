@@ -1,7 +1,9 @@
 -- What the lines of a debugging script are answered. Begin with DebugScript.
+pub use Rattle.debug_modes
 pub mod AsBefore
 pub mod DebugScript
 pub mod DebugState
+pub mod Looking
 pub mod Naming
 pub mod Reports
 pub mod Session

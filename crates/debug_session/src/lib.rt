@@ -5,6 +5,7 @@
 mod answering;
 mod help;
 pub mod laws;
+mod looking;
 mod own_lines;
 pub mod reports;
 mod script_lines;

@@ -132,8 +132,12 @@ impl DebugSession {
         }
     }
 
-    // Begins anew on a fresh machine; images, labels, breaks and modes stay.
-    pub(crate) fn start_anew(&mut self) -> Result<(), AllocError>
+    /// Begins anew on a fresh machine; images, labels, breaks and modes stay.
+    ///
+    /// # Errors
+    ///
+    /// Memory ran out.
+    pub fn start_anew(&mut self) -> Result<(), AllocError>
         ensures made { OnOk result ((images : List Entry) → debug_state self.new images
             ≡ record (debug_state self.old images) {
               script = script_started_anew

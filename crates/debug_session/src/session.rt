@@ -1,6 +1,6 @@
 //! What a debugging script works on, and how its lines are answered, one after another.
 
-ghost use Rattle.std.specs.Prelude.{◌≡◌, ◌+◌, List, [], IfOk, IfErr, OnOk, length};
+ghost use Rattle.std.specs.Prelude.{◌≡◌, ◌+◌, false, List, [], IfOk, IfErr, OnOk, length};
 ghost use Rattle.command_shell.specs.Error.{IsLineError};
 ghost use Rattle.profile.specs.Output.{Writes};
 
@@ -30,7 +30,8 @@ pub struct DebugSetting {
 pub struct DebugSession {
     pub(crate) alloc: Global,
     pub(crate) setting: DebugSetting,
-    pub(crate) session: Session,
+    /// The script's own session, which a face may move on by itself.
+    pub session: Session,
     pub(crate) labels: LabelTable,
     pub(crate) modes: DebugModes,
     pub(crate) answer: Vec<u8>,
@@ -41,6 +42,7 @@ pub struct DebugSession {
 }
 
 impl DebugSession {
+    ghost use Rattle.command_shell.specs.Memory.{script_with_budget};
     ghost use Rattle.image_loader.specs.Entries.{Entry};
     ghost use Rattle.debug_session.specs.DebugScript.{debug_lines_told};
     ghost use Rattle.debug_session.specs.DebugState.{IsDebugged, debug_start_state};
@@ -83,6 +85,26 @@ impl DebugSession {
         ensures { (images : List Entry) → result ≡ (debug_state self.now images).has_quit }
     {
         self.has_quit
+    }
+
+    /// Lines are answered again, where QUIT was among those before.
+    pub fn go_on(&mut self)
+        ensures told { (images : List Entry) → debug_state self.new images
+            ≡ record (debug_state self.old images) { has_quit = false } }
+        ensures setting { self.new.setting ≡ self.old.setting }
+    {
+        self.has_quit = false;
+    }
+
+    /// The steps that come next may take the whole budget.
+    pub fn renew_budget(&mut self)
+        ensures told { (images : List Entry) → debug_state self.new images
+            ≡ record (debug_state self.old images) {
+              script = script_with_budget (debug_state self.old images).script self.old.setting.budget;
+            } }
+        ensures setting { self.new.setting ≡ self.old.setting }
+    {
+        self.session.set_budget(self.setting.budget);
     }
 
     /// The exit status of a program whose lines these were: without EXPECT lines that of the last

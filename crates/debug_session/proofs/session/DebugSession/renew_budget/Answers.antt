@@ -1,0 +1,8 @@
+use Rattle.std.proofs.Common.{ap}
+use Rattle.command_shell.specs.State.{ScriptState}
+use Rattle.debug_session.specs.Session.{debug_state}
+use Rattle.debug_session.proofs.session.DebugSession.renew_budget.Goals as goal
+
+pub returns-clause-told : goal.returns-clause-told
+returns-clause-told c images =
+    ap (λ (s : ScriptState). record (debug_state c.args.self.now images) { script = s }) (c.set_budget.ensures images)
