@@ -1,3 +1,4 @@
+pub mod Bindings
 pub mod FirstRefusals
 pub mod Kept
 pub mod OptionsLemmas

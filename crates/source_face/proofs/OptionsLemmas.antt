@@ -7,6 +7,7 @@ use Rattle.clap.specs.declared.error.kind.ErrorKind.{ErrorKind}
 use Rattle.clap.specs.declared.error.kind.ErrorKind.TheVariants.{OutOfMemory}
 use Rattle.clap.specs.declared.parser.matches.ArgMatches.{ArgMatches}
 use Rattle.clap.proofs.OnLiterals.{clap_on_literals}
+use Rattle.clap.proofs.WalkLemmas.{raw_values-rows}
 use Rattle.source_face.specs.declared.options.OptionsError.TheVariants.{Memory, Line}
 use Rattle.command_line.specs.Settings.{is_empty, is_memory}
 use Rattle.source_face.specs.Options.{is_source_command, options_refusal, rosm_source, source_word_rows}
@@ -45,3 +46,5 @@ module _ (a : App) (words : List (List ℕ)) (is : a ≡ rosm_source) where
     ap (λ x. is_empty (fault_of x words)) (sym is)
         ∙ has_fault (kind_of e) (fault_of a words) (h (ap is_simple_and_free is ∙ rosm_source_is_free)) other,
   )
+
+pub ruleset given_steps = (raw_values-rows)

@@ -7,6 +7,7 @@ use Rattle.assembler.specs.declared.error.AsmError.{AsmError}
 use Rattle.objasm_source.specs.declared.sources.LineRefusal.{LineRefusal}
 use Rattle.source_face.specs.AskedOptions.{AskedOptions}
 use Rattle.source_face.specs.Blocks.{block_conversion, converted_or_told, is_unrefused, refused_conversion}
+use Rattle.source_face.specs.Reports.{LineFiles}
 use Rattle.source_face.specs.Checking.{and_more, assembler_refusals, first_refusal, program_refusal, refusals_in_rounds, text_kept}
 
 some_more : (k : ℕ) (text : List ℕ) (origin : ℕ) (e : AsmError) (es : List AsmError) (found : Option AsmError)
@@ -47,14 +48,14 @@ is_empty_list : (errors : List AsmError) → (length errors == 0) ≡ true → e
 is_empty_list [] h = refl
 is_empty_list (e ∷ es) h = absurd (grind (arith, common_steps))
 
-unrefused : (asked : AskedOptions) (texts : List (List ℕ)) (body : List ℕ) (refused : List LineRefusal) (errors : List AsmError) (b : Bool)
+unrefused : (asked : AskedOptions) (files : LineFiles) (texts : List (List ℕ)) (body : List ℕ) (refused : List LineRefusal) (errors : List AsmError) (b : Bool)
     → is_unrefused refused errors ≡ b
-    → (if b then block_conversion asked body else refused_conversion asked texts refused errors).is_written ≡ true → is_unrefused refused errors ≡ true
-unrefused asked texts body refused errors true e h = e
-unrefused asked texts body refused errors false e h = absurd (true≢false (sym h))
+    → (if b then block_conversion asked body else refused_conversion files texts refused errors).is_written ≡ true → is_unrefused refused errors ≡ true
+unrefused asked files texts body refused errors true e h = e
+unrefused asked files texts body refused errors false e h = absurd (true≢false (sym h))
 
-pub written_is_unrefused : (asked : AskedOptions) (texts : List (List ℕ)) (body : List ℕ) (refused : List LineRefusal) (errors : List AsmError)
-    → (converted_or_told asked texts body refused errors).is_written ≡ true → errors ≡ []
-written_is_unrefused asked texts body refused errors h =
+pub written_is_unrefused : (asked : AskedOptions) (files : LineFiles) (texts : List (List ℕ)) (body : List ℕ) (refused : List LineRefusal) (errors : List AsmError)
+    → (converted_or_told asked files texts body refused errors).is_written ≡ true → errors ≡ []
+written_is_unrefused asked files texts body refused errors h =
     is_empty_list errors (second (length refused == 0) (length errors == 0)
-    (unrefused asked texts body refused errors (is_unrefused refused errors) refl h))
+    (unrefused asked files texts body refused errors (is_unrefused refused errors) refl h))

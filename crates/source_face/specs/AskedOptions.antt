@@ -1,8 +1,10 @@
 -- What a command line asks for.
-use Rattle.std.specs.Prelude.{ℕ, List}
+use Rattle.std.specs.Prelude.{ℕ, Bool, List}
 
 pub record AskedOptions : Type 0 where
   pub name : List ℕ
   pub origin : List ℕ
   pub address : ℕ
-  pub path : List ℕ
+  pub is_basic : Bool
+  pub files : List (List ℕ)
+  pub bindings : List (List ℕ)

@@ -4,9 +4,11 @@ use Rattle.std.specs.Str.Lines.{lines}
 use Rattle.assembler.specs.Passes.{means}
 use Rattle.source_face.specs.AskedOptions.{AskedOptions}
 use Rattle.source_choices.specs.Lines.{plain_source}
-use Rattle.source_face.specs.Blocks.{body_of_lines, conversion}
+use Rattle.source_face.specs.Blocks.{asked_source, body_of_lines, conversion}
 
 -- the assembler refuses no line of a block that is written, at its origin
 abbrev pub WrittenBlocksArePrograms : Type 0
-WrittenBlocksArePrograms = (asked : AskedOptions) (text : List ℕ) → (conversion asked text).is_written ≡ true
-    → is_ok (means (body_of_lines (lines (plain_source text))) asked.address) ≡ true
+WrittenBlocksArePrograms = (asked : AskedOptions) (paths texts bindings : List (List ℕ))
+    → (conversion asked paths texts bindings).is_written ≡ true
+    → is_ok (means (body_of_lines (lines (plain_source (asked_source asked paths texts bindings).text)))
+    asked.address) ≡ true

@@ -1,9 +1,11 @@
 -- The lines of a source that are refused, each with its file, its number and the word.
-use Rattle.std.specs.Prelude.{ℕ, suc, Bool, ◌+◌, ◌-◌, ◌^◌, ◌==◌, ◌&&◌, not, nat_lt, min, max, List, [], ◌∷◌, ◌++◌, length, take, codes, decimal, Option, Some, None, if◌then◌else◌}
+use Rattle.std.specs.Prelude.{ℕ, suc, Bool, ◌+◌, ◌-◌, ◌^◌, ◌==◌, ◌&&◌, not, nat_lt, min, max, List, [], ◌∷◌, ◌++◌, length, take, codes, decimal, slice_get, unwrap_or, Option, Some, None, if◌then◌else◌}
 use Rattle.std.specs.List.{prefix_len}
 use Rattle.assembler.specs.declared.error.AsmError.{AsmError}
 use Rattle.objasm_source.specs.declared.sources.LineRefusal.{LineRefusal}
 use Rattle.source_words.specs.Words.{after_blanks, is_end}
+use Rattle.source_files.specs.Joined.{origin_of_line}
+use Rattle.source_files.specs.declared.joined.LineOrigin.{LineOrigin}
 use Rattle.source_face.specs.Faults.{fault_of_line, line_fault_text, place_of_fault}
 use Rattle.source_face.specs.declared.faults.LineFault.{LineFault}
 
@@ -33,14 +35,27 @@ abbrev pub fault_report : LineFault → List ℕ → List ℕ
 fault_report f text =
     word_refused (place_of_fault f text) ++ (codes ": " ++ (line_fault_text f ++ codes "\n"))
 
+-- the paths of the files, and where each line is from
+pub record LineFiles : Type 0 where
+  pub paths : List (List ℕ)
+  pub origins : List LineOrigin
+
+abbrev pub line_files : List (List ℕ) → List LineOrigin → LineFiles
+line_files paths origins = record { paths = paths; origins = origins }
+
+-- the path of a file, or what is told in its place of names that the command line binds
+abbrev pub path_of_file : List (List ℕ) → ℕ → List ℕ
+path_of_file paths file = unwrap_or (slice_get paths file) (codes "--bind")
+
 -- `counter.s:12: LDRH: not understood`
-unfoldable pub refusal_report : List ℕ → ℕ → LineFault → List ℕ → List ℕ
-refusal_report path number f text = line_place path number ++ fault_report f text
+unfoldable pub refusal_report : List (List ℕ) → LineOrigin → LineFault → List ℕ → List ℕ
+refusal_report paths o f text = line_place (path_of_file paths o.file) o.line ++ fault_report f text
 
 -- 20 lines are told of
-abbrev pub line_report : List ℕ → ℕ → ℕ → Option LineFault → List ℕ → List ℕ
-line_report path told number None text = []
-line_report path told number (Some f) text = if nat_lt told 20 then refusal_report path number f text else []
+abbrev pub line_report : LineFiles → ℕ → ℕ → Option LineFault → List ℕ → List ℕ
+line_report files told number None text = []
+line_report files told number (Some f) text = if nat_lt told 20
+    then refusal_report files.paths (origin_of_line files.origins number) f text else []
 
 -- `counter.s: 5`
 abbrev pub count_report : List ℕ → ℕ → List ℕ
@@ -54,9 +69,9 @@ rest_report path count = count_report path count ++ codes " more lines are refus
 abbrev pub more_report : List ℕ → ℕ → List ℕ
 more_report path told = if nat_lt 20 told then rest_report path (told - 20) else []
 
-abbrev pub end_report : List ℕ → ℕ → ℕ → Option LineFault → List ℕ
-end_report path told number f =
-    line_report path told number f [] ++ more_report path (refused_count_after told f)
+abbrev pub end_report : LineFiles → ℕ → ℕ → Option LineFault → List ℕ
+end_report files told number f = line_report files told number f []
+    ++ more_report (path_of_file files.paths 0) (refused_count_after told f)
 
 -- the number of the line behind the last
 abbrev pub number_behind : ℕ → ℕ
@@ -64,10 +79,10 @@ number_behind number = min (number + 1) (2 ^ 64 - 1)
 
 -- What is told of a source from a line on, before which so many lines were refused. What the
 -- assembler refuses behind the last line, it refuses of the words that the last pool has.
-unfoldable pub reports_text : List ℕ → List LineRefusal → List AsmError → ℕ → ℕ → List (List ℕ) → List ℕ
-reports_text path refused errors told number [] =
-    end_report path told (number_behind number) (fault_of_line refused errors (number_behind number))
-reports_text path refused errors told number (text ∷ rest) =
-    line_report path told (suc number) (fault_of_line refused errors (suc number)) text
-    ++ reports_text path refused errors
+unfoldable pub reports_text : LineFiles → List LineRefusal → List AsmError → ℕ → ℕ → List (List ℕ) → List ℕ
+reports_text files refused errors told number [] =
+    end_report files told (number_behind number) (fault_of_line refused errors (number_behind number))
+reports_text files refused errors told number (text ∷ rest) =
+    line_report files told (suc number) (fault_of_line refused errors (suc number)) text
+    ++ reports_text files refused errors
     (refused_count_after told (fault_of_line refused errors (suc number))) (suc number) rest

@@ -4,15 +4,19 @@ ghost use Rattle.std.specs.Prelude.{◌≡◌, ◌<◌, ◌^◌, IfOk, OnOk};
 ghost use Rattle.std.specs.Io.KnownBytes.{Appends};
 ghost use Rattle.std.specs.Str.Lines.{lines};
 ghost use Rattle.profile.specs.Output.{Writes};
-ghost use Rattle.source_face.specs.Blocks.{block_text, conversion, converted_or_told, is_unrefused, source_body};
+ghost use Rattle.source_files.specs.Getting.{texts_of};
+ghost use Rattle.source_face.specs.Reports.{line_files};
+ghost use Rattle.source_face.specs.Blocks.{asked_source, block_text, conversion, conversion_of_joined, converted_or_told, is_unrefused, source_behind, source_body};
 
 use crate::checking::assembler_refusals;
 use crate::options::SourceOptions;
 use crate::reports::push_reports;
 use assembler::AsmError;
+use basic_source::listing_source;
 use objasm_source::{LineRefusal, ObjAsmSource, push_source, read_source};
 use profile::{Sink, WriteFault, push_all, push_parts};
 use source_choices::plain_source;
+use source_files::{JoinedSource, LineOrigin, binding_lines, file_text, joined_source};
 use std::alloc::{AllocError, Global};
 use view_items::TextSink;
 
@@ -45,27 +49,85 @@ impl From<WriteFault> for ConversionError {
     }
 }
 
-/// Writes the block that a source is, and answers true; or, where a line of it is refused, tells of
-/// all that are, and answers false. Nothing else is written.
+/// Writes the block that a source is, the first of these files with those that it asks for and the
+/// names that are bound, or the listing that the first is with these names, and answers true; or, where a line of it is refused, tells of all that are,
+/// and answers false. Nothing else is written.
 pub fn convert<W: Sink, E: Sink>(
     alloc: Global,
     wanted: &SourceOptions,
-    text: &[u8],
+    paths: &[&[u8]],
+    texts: &[&[u8]],
+    bindings: &[&[u8]],
     sink: &mut W,
     errors: &mut E,
 ) -> Result<bool, ConversionError>
-    ensures answer { IfOk result (λ is_written. is_written ≡ (conversion wanted.now text.now).is_written) }
+    ensures answer { IfOk result (λ is_written. is_written ≡ (conversion wanted.now (texts_of paths.now)
+        (texts_of texts.now) (texts_of bindings.now)).is_written) }
     ensures block { OnOk result (Appends (W.contents sink.old) (W.contents sink.new)
-        (conversion wanted.now text.now).block) }
+        (conversion wanted.now (texts_of paths.now) (texts_of texts.now) (texts_of bindings.now)).block) }
     ensures told { OnOk result (Appends (E.contents errors.old) (E.contents errors.new)
-        (conversion wanted.now text.now).told) }
+        (conversion wanted.now (texts_of paths.now) (texts_of texts.now) (texts_of bindings.now)).told) }
 {
-    let plain = plain_source(alloc, text)?;
+    let source = asked_source(alloc, wanted, paths, texts, bindings)?;
+    convert_joined(alloc, wanted, paths, &source, sink, errors)
+}
+
+// The lines of the files, or of the listing that the first is, behind those that bind names.
+#[tactic(auto, using(crate::proofs::Bindings::binding_steps))]
+fn asked_source(
+    alloc: Global,
+    wanted: &SourceOptions,
+    paths: &[&[u8]],
+    texts: &[&[u8]],
+    bindings: &[&[u8]],
+) -> Result<JoinedSource, AllocError>
+    ensures { IfOk result (λ source. source
+        ≡ asked_source wanted.now (texts_of paths.now) (texts_of texts.now) (texts_of bindings.now)) }
+{
+    let bound = binding_lines(alloc, bindings)?;
+    source_behind(alloc, wanted.is_basic, paths, texts, bound.as_slice())
+}
+
+fn source_behind(
+    alloc: Global,
+    is_basic: bool,
+    paths: &[&[u8]],
+    texts: &[&[u8]],
+    bound: &[u8],
+) -> Result<JoinedSource, AllocError>
+    ensures { IfOk result (λ source. source
+        ≡ source_behind is_basic (texts_of paths.now) (texts_of texts.now) bound.now) }
+{
+    if is_basic {
+        listing_source(alloc, texts.len(), bound, file_text(texts, 0))
+    } else {
+        joined_source(alloc, paths, texts, bound)
+    }
+}
+
+fn convert_joined<W: Sink, E: Sink>(
+    alloc: Global,
+    wanted: &SourceOptions,
+    paths: &[&[u8]],
+    source: &JoinedSource,
+    sink: &mut W,
+    errors: &mut E,
+) -> Result<bool, ConversionError>
+    ensures answer { IfOk result (λ is_written. is_written
+        ≡ (conversion_of_joined wanted.now (texts_of paths.now) source.now).is_written) }
+    ensures block { OnOk result (Appends (W.contents sink.old) (W.contents sink.new)
+        (conversion_of_joined wanted.now (texts_of paths.now) source.now).block) }
+    ensures told { OnOk result (Appends (E.contents errors.old) (E.contents errors.new)
+        (conversion_of_joined wanted.now (texts_of paths.now) source.now).told) }
+{
+    let plain = plain_source(alloc, source.text())?;
     let known = read_source(alloc, plain.as_slice())?;
     let body = source_body(alloc, &known, plain.as_slice())?;
     let found = assembler_refusals(alloc, body.as_slice(), wanted.address)?;
     Ok(push_conversion(
         wanted,
+        paths,
+        source.origins(),
         known.refused(),
         found.as_slice(),
         plain.as_slice(),
@@ -78,6 +140,8 @@ pub fn convert<W: Sink, E: Sink>(
 // Writes a block where nothing is refused, and else tells what is.
 fn push_conversion<W: Sink, E: Sink>(
     wanted: &SourceOptions,
+    paths: &[&[u8]],
+    origins: &[LineOrigin],
     refused: &[LineRefusal],
     found: &[AsmError],
     text: &[u8],
@@ -86,17 +150,22 @@ fn push_conversion<W: Sink, E: Sink>(
     errors: &mut E,
 ) -> Result<bool, WriteFault>
     ensures answer { IfOk result (λ is_written. is_written ≡ (converted_or_told wanted.now
-        (lines text.now) body.now refused.now found.now).is_written) }
+        (line_files (texts_of paths.now) origins.now) (lines text.now)
+        body.now refused.now found.now).is_written) }
     ensures block { OnOk result (Appends (W.contents sink.old) (W.contents sink.new)
-        (converted_or_told wanted.now (lines text.now) body.now refused.now found.now).block) }
+        (converted_or_told wanted.now
+        (line_files (texts_of paths.now) origins.now) (lines text.now)
+        body.now refused.now found.now).block) }
     ensures told { OnOk result (Appends (E.contents errors.old) (E.contents errors.new)
-        (converted_or_told wanted.now (lines text.now) body.now refused.now found.now).told) }
+        (converted_or_told wanted.now
+        (line_files (texts_of paths.now) origins.now) (lines text.now)
+        body.now refused.now found.now).told) }
 {
     if is_unrefused(refused, found) {
         push_block(wanted, body, sink)?;
         return Ok(true);
     }
-    push_reports(wanted.path.as_bytes(), refused, found, text, errors)?;
+    push_reports(paths, origins, refused, found, text, errors)?;
     Ok(false)
 }
 

@@ -1,7 +1,7 @@
 //! Old sources as assembler text: the face `source` of the program `rosm_tools`, which people type as
 //! `rosm_source`.
 //!
-//! `rosm_source [--name N] [--origin A] FILE >BLOCK`
+//! `rosm_source [--name N] [--origin A] [--bind NAME=VALUE].. [--basic] FILE.. >BLOCK`
 #![tactic(auto)]
 
 mod blocks;

@@ -2,11 +2,12 @@
 
 ghost use Rattle.std.specs.Prelude.{◌≡◌, ◌≢◌, IfOk, IfErr, OnOk, Err, map, option_map, true, false};
 ghost use Rattle.clap.specs.Words.{app_of, first_of, found_of, rows_of, rule_of, with_rule};
-ghost use Rattle.command_line.specs.Settings.{option_rule};
-ghost use Rattle.source_face.specs.Options.{is_source_command, named_options, one_file_rule, options_for, options_from, options_of_texts, options_refusal, rosm_source, source_word_rows};
+ghost use Rattle.command_line.specs.Settings.{file_rule, option_rule};
+ghost use Rattle.source_face.specs.Options.{basic_rule, bind_rule, is_flag_value, is_source_command, named_options, options_for, options_from, options_of_files, options_of_texts, options_refusal, rosm_source, source_word_rows, words_given};
 
 use clap::error::{Error, ErrorKind};
-use clap::{Arg, ArgMatches, Command};
+use clap::{Arg, ArgAction, ArgMatches, Command};
+use command_line::Files;
 use command_shell_lines::Origin;
 use image_loader::is_image_name;
 use std::alloc::{AllocError, Global};
@@ -21,8 +22,12 @@ pub struct SourceOptions {
     pub origin: String,
     /// The same as a number.
     pub address: u32,
-    /// The file of the source.
-    pub path: String,
+    /// Whether the first of the files is a listing of BASIC.
+    pub is_basic: bool,
+    /// The files: that of the source, and those that it asks for.
+    pub files: Files,
+    /// The names that get a value.
+    pub bindings: Files,
 }
 
 impl Model for SourceOptions {
@@ -35,7 +40,9 @@ impl Model for SourceOptions {
       name = string_bytes o.name;
       origin = string_bytes o.origin;
       address = o.address;
-      path = string_bytes o.path;
+      is_basic = o.is_basic;
+      files = o.files;
+      bindings = o.bindings;
     } };
 
     ghost invariant = { λ o. o.address < 2 ^ 26 };
@@ -86,8 +93,21 @@ fn options_from(alloc: Global, matches: &ArgMatches<'_>) -> Result<SourceOptions
         alloc,
         option_text(matches, "name"),
         option_text(matches, "origin"),
-        option_text(matches, "file"),
+        is_flag_value(option_text(matches, "basic")),
+        words_given(alloc, matches, "file")?,
+        words_given(alloc, matches, "bind")?,
     )
+}
+
+// The words that an option has, or that belong to none.
+#[tactic(auto, using(crate::proofs::OptionsLemmas::given_steps), unfolding(crate::specs::Options::words_given))]
+fn words_given(alloc: Global, matches: &ArgMatches<'_>, name: &str) -> Result<Files, AllocError>
+    ensures { IfOk result (λ given. given ≡ words_given name.now (rows_of (found_of matches.now))) }
+{
+    match matches.get_raw(name) {
+        Some(words) => Files::copied(alloc, words),
+        None => Ok(Files::none(alloc)),
+    }
 }
 
 // The text of an option, if it has one.
@@ -97,29 +117,64 @@ fn option_text<'a>(matches: &ArgMatches<'a>, name: &str) -> Option<&'a str>
     matches.get_str(name)
 }
 
+// A flag has the value `true` where it stands.
+fn is_flag_value(value: Option<&str>) -> bool
+    ensures { result ≡ is_flag_value (option_map (λ s. s.now) value.entry) }
+{
+    match value {
+        Some(value) => value.as_bytes() == b"true".as_slice(),
+        None => false,
+    }
+}
+
 fn options_of_texts(
     alloc: Global,
     name: Option<&str>,
     origin: Option<&str>,
-    path: Option<&str>,
+    is_basic: bool,
+    files: Files,
+    bindings: Files,
 ) -> Result<SourceOptions, OptionsError>
     ensures { result ≢ Err OptionsError.Memory
         → result ≡ options_of_texts (option_map (λ s. s.now) name.entry)
-        (option_map (λ s. s.now) origin.entry) (option_map (λ s. s.now) path.entry) }
+        (option_map (λ s. s.now) origin.entry) is_basic files bindings }
 {
-    match (name, origin, path) {
-        (Some(name), Some(origin), Some(path)) => named_options(alloc, name, origin, path),
+    match (name, origin) {
+        (Some(name), Some(origin)) => options_of_files(
+            alloc, name, origin, is_basic, files, bindings,
+        ),
         _ => Err(OptionsError::Line),
     }
+}
+
+// There has to be a file.
+fn options_of_files(
+    alloc: Global,
+    name: &str,
+    origin: &str,
+    is_basic: bool,
+    files: Files,
+    bindings: Files,
+) -> Result<SourceOptions, OptionsError>
+    ensures { result ≢ Err OptionsError.Memory
+        → result ≡ options_of_files name.now origin.now is_basic files bindings }
+{
+    if files.len() == 0 {
+        return Err(OptionsError::Line);
+    }
+    named_options(alloc, name, origin, is_basic, files, bindings)
 }
 
 fn named_options(
     alloc: Global,
     name: &str,
     origin: &str,
-    path: &str,
+    is_basic: bool,
+    files: Files,
+    bindings: Files,
 ) -> Result<SourceOptions, OptionsError>
-    ensures { result ≢ Err OptionsError.Memory → result ≡ named_options name.now origin.now path.now }
+    ensures { result ≢ Err OptionsError.Memory
+        → result ≡ named_options name.now origin.now is_basic files bindings }
 {
     if !is_image_name(name.as_bytes()) {
         return Err(OptionsError::Name);
@@ -131,7 +186,9 @@ fn named_options(
         name: String::from_str(alloc, name)?,
         origin: String::from_str(alloc, origin)?,
         address: place.address(),
-        path: String::from_str(alloc, path)?,
+        is_basic,
+        files,
+        bindings,
     })
 }
 
@@ -168,12 +225,33 @@ fn option<'a>(alloc: Global, name: &'a str, value: &'a str, default: &'a str) ->
         .default_value(default)
 }
 
-// The word that belongs to no option.
-fn file_word<'a>(alloc: Global) -> Arg<'a>
-    ensures rule { rule_of result ≡ one_file_rule }
+// `--bind NAME=VALUE`, as often as one likes.
+fn bind_option<'a>(alloc: Global) -> Arg<'a>
+    ensures rule { rule_of result ≡ bind_rule }
     ensures local { result.global ≡ false }
 {
-    Arg::new(alloc, "file")
+    Arg::new(alloc, "bind")
+        .long("bind")
+        .value_name("NAME=VALUE")
+        .action(ArgAction::Append)
+}
+
+// `--basic`.
+fn basic_flag<'a>(alloc: Global) -> Arg<'a>
+    ensures rule { rule_of result ≡ basic_rule }
+    ensures local { result.global ≡ false }
+{
+    Arg::new(alloc, "basic")
+        .long("basic")
+        .action(ArgAction::SetTrue)
+}
+
+// Each word that belongs to no option.
+fn file_words<'a>(alloc: Global) -> Arg<'a>
+    ensures rule { rule_of result ≡ file_rule }
+    ensures local { result.global ≡ false }
+{
+    Arg::new(alloc, "file").action(ArgAction::Append)
 }
 
 fn with_arg<'a>(command: Command<'a>, arg: Arg<'a>) -> Result<Command<'a>, AllocError>
@@ -189,7 +267,9 @@ fn command<'a>(alloc: Global) -> Result<Command<'a>, AllocError>
     let named = Command::new(alloc, "rosm_source");
     let name = with_arg(named, option(alloc, "name", "N", "program"))?;
     let origin = with_arg(name, option(alloc, "origin", "A", "&8000"))?;
-    with_arg(origin, file_word(alloc))
+    let bind = with_arg(origin, bind_option(alloc))?;
+    let basic = with_arg(bind, basic_flag(alloc))?;
+    with_arg(basic, file_words(alloc))
 }
 
 /// What is wrong with words that are no command line, in one line: clap's reason, which names the
@@ -209,7 +289,10 @@ pub fn line_reason(alloc: Global, words: &[&str]) -> Result<String, AllocError> 
 fn words_reason(alloc: Global, error: &Error) -> Result<String, AllocError> {
     match error.kind() {
         ErrorKind::OutOfMemory => return Err(AllocError),
-        ErrorKind::DisplayHelp => return String::from_str(alloc, "FILE is a source for ObjAsm"),
+        ErrorKind::DisplayHelp => return String::from_str(
+            alloc,
+            "FILE is a source for ObjAsm, or a listing in BASIC behind --basic, and each other a file that it asks for",
+        ),
         _ => {}
     }
     let text = format!(in alloc; "{error}")?;

@@ -8,8 +8,10 @@ use crate::blocks::{ConversionError, convert};
 use crate::options::SourceOptions;
 use crate::refusal::{SourceFileError, SourceRefusal};
 use crate::words::read_words;
+use command_line::Files;
 use command_shell_lines::{ReadingError, read_script};
 use profile::{Device, Sink};
+use std::alloc::{AllocError, Global};
 use std::env::Env;
 use std::fs::File;
 use std::io::BufWriter;
@@ -42,12 +44,24 @@ where
     E: Sink,
 {
     let alloc = rt.alloc();
-    let text = text_of(rt, wanted.path.as_str())?;
+    let owned = texts_of_files(rt, &wanted.files)?;
+    let texts = bytes_of_texts(alloc, owned.as_slice())?;
+    let paths = bytes_of_words(alloc, &wanted.files)?;
+    let bindings = bytes_of_words(alloc, &wanted.bindings)?;
     let Ok(buffered) = BufWriter::new(alloc, io::writer(rt)) else {
         return Err(SourceRefusal::Memory);
     };
     let mut writer = Device::new(buffered);
-    match convert(alloc, wanted, text.as_slice(), &mut writer, errors) {
+    let converted = convert(
+        alloc,
+        wanted,
+        paths.as_slice(),
+        texts.as_slice(),
+        bindings.as_slice(),
+        &mut writer,
+        errors,
+    );
+    match converted {
         Ok(is_written) => match writer.flush() {
             Ok(()) => Ok(is_written),
             Err(_) => Err(SourceRefusal::Write),
@@ -55,6 +69,37 @@ where
         Err(ConversionError::Memory) => Err(SourceRefusal::Memory),
         Err(ConversionError::Write) => Err(SourceRefusal::Write),
     }
+}
+
+// The bytes of all files.
+fn texts_of_files<'a, R>(rt: &R, files: &'a Files) -> Result<Vec<Vec<u8>>, SourceRefusal<'a>>
+where
+    R: AllocGlobal + fs::Files,
+{
+    let mut texts = Vec::new(rt.alloc());
+    for number in 0..files.len() {
+        let text = text_of(rt, files.get(number))?;
+        let Ok(_) = texts.push(text) else {
+            return Err(SourceRefusal::Memory);
+        };
+    }
+    Ok(texts)
+}
+
+fn bytes_of_texts(alloc: Global, texts: &[Vec<u8>]) -> Result<Vec<&[u8]>, AllocError> {
+    let mut all = Vec::new(alloc);
+    for text in texts {
+        all.push(text.as_slice())?;
+    }
+    Ok(all)
+}
+
+fn bytes_of_words(alloc: Global, words: &Files) -> Result<Vec<&[u8]>, AllocError> {
+    let mut all = Vec::new(alloc);
+    for number in 0..words.len() {
+        all.push(words.get(number).as_bytes())?;
+    }
+    Ok(all)
 }
 
 // The bytes of a file, at most as many as a script has.

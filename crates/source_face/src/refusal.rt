@@ -7,7 +7,8 @@ use std::io::ErrorKind;
 use thiserror::Error;
 
 /// The form of a command line, in one line.
-pub const USAGE: &str = "usage: rosm_source [--name N] [--origin A] FILE >BLOCK";
+pub const USAGE: &str =
+    "usage: rosm_source [--name N] [--origin A] [--bind NAME=VALUE].. [--basic] FILE.. >BLOCK";
 
 /// Why the file of a source can't be read.
 #[derive(Clone, Copy, Debug, PartialEq, Eq, Error)]

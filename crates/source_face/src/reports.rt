@@ -4,13 +4,15 @@ ghost use Rattle.std.specs.Prelude.{◌≡◌, ◌+◌, ◌-◌, min, length};
 ghost use Rattle.std.specs.List.{prefix_len};
 ghost use Rattle.std.specs.Str.Lines.{lines};
 ghost use Rattle.profile.specs.Output.{Writes};
-ghost use Rattle.source_face.specs.Reports.{count_report, refused_count_after, is_of_word, line_report, more_report, fault_report, line_place, refusal_report, reports_text, rest_report, word_len, word_refused};
+ghost use Rattle.source_files.specs.Getting.{texts_of};
+ghost use Rattle.source_face.specs.Reports.{count_report, refused_count_after, is_of_word, line_report, more_report, fault_report, line_files, line_place, path_of_file, refusal_report, reports_text, rest_report, word_len, word_refused};
 
 use crate::faults::{LineFault, fault_of_line, line_fault_text, place_of_fault};
 use assembler::AsmError;
 use itoa::Buffer;
 use objasm_source::LineRefusal;
 use profile::{Sink, WriteFault, push_all, push_parts};
+use source_files::joined::{LineOrigin, origin_of_line};
 use source_lines::source_words::words::{after_blanks, is_end};
 use text_lines::Lines;
 
@@ -21,26 +23,32 @@ const MOST_LINES: usize = 20;
 /// 20, and then how many more there are.
 #[tactic(auto, using(crate::proofs::ReportLoop::report_steps))]
 pub fn push_reports<W: Sink>(
-    path: &[u8],
+    paths: &[&[u8]],
+    origins: &[LineOrigin],
     refused: &[LineRefusal],
     errors: &[AsmError],
     text: &[u8],
     sink: &mut W,
 ) -> Result<(), WriteFault>
     ensures { Writes W.contents W.has_failed sink.old sink.new result
-        (reports_text path.now refused.now errors.now 0 0 (lines text.now)) }
+        (reports_text (line_files (texts_of paths.now) origins.now)
+        refused.now errors.now 0 0 (lines text.now)) }
 {
     let mut told = 0;
     let mut lines = Lines::new(text);
     while let Some(line) = lines.next_line() {
         let fault = fault_of_line(refused, errors, lines.number());
-        push_line_report(path, told, lines.number(), fault, line, sink)?;
+        push_line_report(paths, origins, told, lines.number(), fault, line, sink)?;
         told = refused_count_after(told, fault);
     }
     let number = lines.number().saturating_add(1);
     let fault = fault_of_line(refused, errors, number);
-    push_line_report(path, told, number, fault, b"", sink)?;
-    push_more(path, refused_count_after(told, fault), sink)
+    push_line_report(paths, origins, told, number, fault, b"", sink)?;
+    push_more(
+        path_of_file(paths, 0),
+        refused_count_after(told, fault),
+        sink,
+    )
 }
 
 // How many lines are refused, with one more.
@@ -54,7 +62,8 @@ fn refused_count_after(told: usize, fault: Option<LineFault>) -> usize
 }
 
 fn push_line_report<W: Sink>(
-    path: &[u8],
+    paths: &[&[u8]],
+    origins: &[LineOrigin],
     told: usize,
     number: usize,
     fault: Option<LineFault>,
@@ -62,10 +71,12 @@ fn push_line_report<W: Sink>(
     sink: &mut W,
 ) -> Result<(), WriteFault>
     ensures { Writes W.contents W.has_failed sink.old sink.new result
-        (line_report path.now told number fault text.now) }
+        (line_report (line_files (texts_of paths.now) origins.now) told number fault text.now) }
 {
     match fault {
-        Some(fault) if told < MOST_LINES => push_refusal(path, number, fault, text, sink),
+        Some(fault) if told < MOST_LINES => {
+            push_refusal(paths, origin_of_line(origins, number), fault, text, sink)
+        }
         _ => Ok(()),
     }
 }
@@ -73,17 +84,27 @@ fn push_line_report<W: Sink>(
 // `counter.s:12: LDRH: not understood`.
 #[tactic(auto, unfolding(crate::specs::Reports::refusal_report))]
 fn push_refusal<W: Sink>(
-    path: &[u8],
-    number: usize,
+    paths: &[&[u8]],
+    origin: LineOrigin,
     fault: LineFault,
     text: &[u8],
     sink: &mut W,
 ) -> Result<(), WriteFault>
     ensures { Writes W.contents W.has_failed sink.old sink.new result
-        (refusal_report path.now number fault text.now) }
+        (refusal_report (texts_of paths.now) origin fault text.now) }
 {
-    push_line_place(path, number, sink)?;
+    push_line_place(path_of_file(paths, origin.file), origin.line, sink)?;
     push_fault(fault, text, sink)
+}
+
+// The path of a file, or what is told in its place of names that the command line binds.
+fn path_of_file<'a>(paths: &[&'a [u8]], file: usize) -> &'a [u8]
+    ensures { result.now ≡ path_of_file (texts_of paths.now) file }
+{
+    match paths.get(file) {
+        Some(path) => path,
+        None => b"--bind",
+    }
 }
 
 // `counter.s:12: `.

@@ -5,7 +5,11 @@
 #![tactic(auto)]
 
 #[cfg(test)]
+mod basic;
+#[cfg(test)]
 mod choices;
+#[cfg(test)]
+mod files;
 #[cfg(test)]
 mod layouts;
 #[cfg(test)]

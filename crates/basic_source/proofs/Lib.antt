@@ -1,0 +1,3 @@
+pub mod Readings
+pub mod Scans
+pub mod Writings

@@ -1,0 +1,113 @@
+-- The loops that write a text piece by piece.
+use Rattle.std.proofs.Common.{◌≡◌, ◌<◌, ◌≤◌, ◌+◌, ◌-◌, ◌==◌, ℕ, suc, Bool, true, false, List, [], ◌∷◌, ◌++◌, length, Option, refl, sym, subst, arith}
+use Rattle.std.specs.Io.KnownBytes.{Appends}
+use Rattle.profile.specs.Output.{AddsAllBut}
+use Rattle.profile.proofs.OutputLemmas.{AddsAllBut-start, AddsAllBut-more, Appends-from_all_but}
+use Rattle.source_layout.specs.Lines.{bytes_before}
+use Rattle.basic_source.specs.Data.{text_piece, texts_within}
+use Rattle.basic_source.specs.Expressions.{basic_pieces_text}
+use Rattle.basic_source.specs.Operands.{basic_after_operand, operands_within, run_text}
+use Rattle.basic_source.specs.Pieces.{basic_piece_at, basic_piece_text}
+use Rattle.basic_source.specs.declared.pieces.BasicPiece.{BasicPiece}
+
+pub piece_start : (a : Option (List ℕ)) (count : ℕ) (loose : Bool) (text : List ℕ) → AddsAllBut a a (basic_pieces_text (count - 0) loose text) (basic_pieces_text count loose text)
+piece_start a count loose text =
+    let k : count - 0 ≡ count = omega arith in
+    subst (λ (n : ℕ). AddsAllBut a a (basic_pieces_text n loose text) (basic_pieces_text count loose text)) (sym k) (AddsAllBut-start a _)
+
+piece_ends : (count i : ℕ) (loose : Bool) (text : List ℕ) → count ≤ i → basic_pieces_text (count - i) loose text ≡ []
+unfolding basic_pieces_text
+piece_ends count i loose text h = let k : count - i ≡ 0 = omega arith in rw k refl
+
+piece_stops : (count i : ℕ) (loose : Bool) (text : List ℕ) → i < count → (length text == 0) ≡ true → basic_pieces_text (count - i) loose text ≡ []
+unfolding basic_pieces_text
+piece_stops count i loose text h e = let k : count - i ≡ suc (count - (i + 1)) = omega arith in rw (k, e) refl
+
+piece_goes_on : (count i : ℕ) (loose : Bool) (text next : List ℕ) (p : BasicPiece) → i < count → (length text == 0) ≡ false → (p, next) ≡ basic_piece_at text
+    → basic_pieces_text (count - i) loose text ≡ basic_piece_text loose p (bytes_before text next) ++ basic_pieces_text (count - (i + 1)) loose next
+unfolding basic_pieces_text
+piece_goes_on count i loose text next p h e r = let k : count - i ≡ suc (count - (i + 1)) = omega arith in rw (k, e, ← r) refl
+
+pub piece_more : (a b c : Option (List ℕ)) (count i : ℕ) (loose : Bool) (text next : List ℕ) (p : BasicPiece) (all : List ℕ)
+    → AddsAllBut a b (basic_pieces_text (count - i) loose text) all → Appends b c (basic_piece_text loose p (bytes_before text next))
+    → i < count → (length text == 0) ≡ false → (p, next) ≡ basic_piece_at text → AddsAllBut a c (basic_pieces_text (count - (i + 1)) loose next) all
+piece_more a b c count i loose text next p all done now h e r =
+    AddsAllBut-more a b c _ _ _ all done now (piece_goes_on count i loose text next p h e r)
+
+pub piece_stop : (a b : Option (List ℕ)) (count i : ℕ) (loose : Bool) (text all : List ℕ)
+    → AddsAllBut a b (basic_pieces_text (count - i) loose text) all → i < count → (length text == 0) ≡ true → Appends a b all
+piece_stop a b count i loose text all done h e = Appends-from_all_but a b _ all done (piece_stops count i loose text h e)
+
+pub piece_end : (a b : Option (List ℕ)) (count i : ℕ) (loose : Bool) (text all : List ℕ)
+    → AddsAllBut a b (basic_pieces_text (count - i) loose text) all → count ≤ i → Appends a b all
+piece_end a b count i loose text all done h = Appends-from_all_but a b _ all done (piece_ends count i loose text h)
+
+pub ruleset piece_steps = (piece_start, piece_more, piece_stop, piece_end)
+
+pub text_start : (a : Option (List ℕ)) (count : ℕ) (text : List ℕ) → AddsAllBut a a (texts_within (count - 0) text) (texts_within count text)
+text_start a count text =
+    let k : count - 0 ≡ count = omega arith in
+    subst (λ (n : ℕ). AddsAllBut a a (texts_within n text) (texts_within count text)) (sym k) (AddsAllBut-start a _)
+
+text_ends : (count i : ℕ) (text : List ℕ) → count ≤ i → texts_within (count - i) text ≡ []
+unfolding texts_within
+text_ends count i text h = let k : count - i ≡ 0 = omega arith in rw k refl
+
+text_stops : (count i : ℕ) (text : List ℕ) → i < count → (length text == 0) ≡ true → texts_within (count - i) text ≡ []
+unfolding texts_within
+text_stops count i text h e = let k : count - i ≡ suc (count - (i + 1)) = omega arith in rw (k, e) refl
+
+text_goes_on : (count i : ℕ) (text next : List ℕ) (p : BasicPiece) → i < count → (length text == 0) ≡ false → (p, next) ≡ basic_piece_at text
+    → texts_within (count - i) text ≡ text_piece p (bytes_before text next) ++ texts_within (count - (i + 1)) next
+unfolding texts_within
+text_goes_on count i text next p h e r = let k : count - i ≡ suc (count - (i + 1)) = omega arith in rw (k, e, ← r) refl
+
+pub text_more : (a b c : Option (List ℕ)) (count i : ℕ) (text next : List ℕ) (p : BasicPiece) (all : List ℕ)
+    → AddsAllBut a b (texts_within (count - i) text) all → Appends b c (text_piece p (bytes_before text next))
+    → i < count → (length text == 0) ≡ false → (p, next) ≡ basic_piece_at text → AddsAllBut a c (texts_within (count - (i + 1)) next) all
+text_more a b c count i text next p all done now h e r =
+    AddsAllBut-more a b c _ _ _ all done now (text_goes_on count i text next p h e r)
+
+pub text_stop : (a b : Option (List ℕ)) (count i : ℕ) (text all : List ℕ)
+    → AddsAllBut a b (texts_within (count - i) text) all → i < count → (length text == 0) ≡ true → Appends a b all
+text_stop a b count i text all done h e = Appends-from_all_but a b _ all done (text_stops count i text h e)
+
+pub text_end : (a b : Option (List ℕ)) (count i : ℕ) (text all : List ℕ)
+    → AddsAllBut a b (texts_within (count - i) text) all → count ≤ i → Appends a b all
+text_end a b count i text all done h = Appends-from_all_but a b _ all done (text_ends count i text h)
+
+pub ruleset text_steps = (text_start, text_more, text_stop, text_end)
+
+pub operand_start : (a : Option (List ℕ)) (count : ℕ) (text : List ℕ) → AddsAllBut a a (operands_within (count - 0) text) (operands_within count text)
+operand_start a count text =
+    let k : count - 0 ≡ count = omega arith in
+    subst (λ (n : ℕ). AddsAllBut a a (operands_within n text) (operands_within count text)) (sym k) (AddsAllBut-start a _)
+
+operand_ends : (count i : ℕ) (text : List ℕ) → count ≤ i → operands_within (count - i) text ≡ []
+unfolding operands_within
+operand_ends count i text h = let k : count - i ≡ 0 = omega arith in rw k refl
+
+operand_stops : (count i : ℕ) (text : List ℕ) → i < count → (length text == 0) ≡ true → operands_within (count - i) text ≡ []
+unfolding operands_within
+operand_stops count i text h e = let k : count - i ≡ suc (count - (i + 1)) = omega arith in rw (k, e) refl
+
+operand_goes_on : (count i : ℕ) (text next : List ℕ) → i < count → (length text == 0) ≡ false → next ≡ basic_after_operand text
+    → operands_within (count - i) text ≡ run_text (bytes_before text next) ++ operands_within (count - (i + 1)) next
+unfolding operands_within
+operand_goes_on count i text next h e r = let k : count - i ≡ suc (count - (i + 1)) = omega arith in rw (k, e, ← r) refl
+
+pub operand_more : (a b c : Option (List ℕ)) (count i : ℕ) (text next : List ℕ) (all : List ℕ)
+    → AddsAllBut a b (operands_within (count - i) text) all → Appends b c (run_text (bytes_before text next))
+    → i < count → (length text == 0) ≡ false → next ≡ basic_after_operand text → AddsAllBut a c (operands_within (count - (i + 1)) next) all
+operand_more a b c count i text next all done now h e r =
+    AddsAllBut-more a b c _ _ _ all done now (operand_goes_on count i text next h e r)
+
+pub operand_stop : (a b : Option (List ℕ)) (count i : ℕ) (text all : List ℕ)
+    → AddsAllBut a b (operands_within (count - i) text) all → i < count → (length text == 0) ≡ true → Appends a b all
+operand_stop a b count i text all done h e = Appends-from_all_but a b _ all done (operand_stops count i text h e)
+
+pub operand_end : (a b : Option (List ℕ)) (count i : ℕ) (text all : List ℕ)
+    → AddsAllBut a b (operands_within (count - i) text) all → count ≤ i → Appends a b all
+operand_end a b count i text all done h = Appends-from_all_but a b _ all done (operand_ends count i text h)
+
+pub ruleset operand_steps = (operand_start, operand_more, operand_stop, operand_end)

@@ -1,0 +1,16 @@
+//! A listing of BBC BASIC with its assembler, as a source for ObjAsm that says the same: a line for
+//! each statement.
+#![tactic(auto)]
+
+pub mod assignments;
+pub mod data;
+pub mod expressions;
+pub mod instructions;
+pub mod listing;
+pub mod operands;
+pub mod pieces;
+pub mod statements;
+pub mod words;
+
+pub use listing::listing_source;
+pub use statements::{Statement, read_statements};

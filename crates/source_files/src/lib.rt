@@ -1,0 +1,11 @@
+//! A source of several files as one text, and the file and the line that each of its lines is from.
+#![tactic(auto)]
+
+mod binding;
+mod getting;
+pub mod joined;
+mod passes;
+
+pub use binding::binding_lines;
+pub use joined::{JoinedSource, LineOrigin};
+pub use passes::{file_text, joined_source, push_file};

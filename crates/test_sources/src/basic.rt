@@ -1,0 +1,64 @@
+//! Listings in BASIC, by hand.
+
+use basic_source::listing_source;
+
+static LISTINGS: [(&str, &str); 6] = [
+    (
+        "   10REM >Own: x\n20DIM code% 1000:link=14:base%=&40000\n30FOR p%=0 TO 2 STEP 2:P%=code%\n40[OPT p%\n\
+        50.start% STMFD (R13)!,{R0,link}:SWI \"OS_Write0\" ; say: it\n60MOV R1,#base% DIV 2 \\ half\n70]\n80NEXT\n\
+        90SYS \"OS_File\",10,\"x:y\",code%\n100PRINT \"a:b\":END\n",
+        " ; >Own: x\n\n|link| RN 14\n|base%| EQU &40000\n\n\n\n|start%| STMFD R13!,{R0,|link|}\n \
+        SWI \"OS_Write0\"  ; say: it\n MOV R1,#|base%| / 2  ; half\n\n\n\n\n\n",
+    ),
+    (
+        "[\nEQUB 1\nEQUW &1234\n.d EQUD d\nEQUS \"a\"+CHR$0+\"b;:c\"\n=\"x\"\nDCD 5:ALIGN\n",
+        "\n DCB (1):AND:&FF\n DCB (&1234):AND:&FF,(&1234)/256:AND:&FF\n|d| DCD |d|\n DCB \"a\",0,\"b;:c\"\n DCB \"x\"\n \
+        DCD 5\n ALIGN \n",
+    ),
+    (
+        "a=TRUE:b=FALSE\n[\nMOV R0,#1<<4+1\nMOV R0,#%101 OR 2 AND 3\nMOV R0,#ASC\"A\"-64\nMOV R0,#(1 OR 2)*2\n",
+        "|a| EQU &FFFFFFFF\n|b| EQU 0\n\n MOV R0,#(((1):SHL:(4+1)))\n \
+        MOV R0,#(((2_101 ))):OR:((( 2 )):AND:(( 3)))\n MOV R0,#\"A\"-64\n MOV R0,#(((((((1 ))):OR:((( 2))))*2)))\n",
+    ),
+    (
+        "IF a THEN\n[\nNOP\n]\nELSE\n[:MOV R0,R1,LSL #2\n]\nENDIF\nIF a=1 THEN b=2\n",
+        " IF |a| \n\n NOP \n\n ELSE\n\n MOV R0,R1,LSL #2\n\n ENDIF\n IF  a=1 THEN b=2\n",
+    ),
+    (
+        "[OPT 3\nMOV R0,#FNx\nLDMIA sp!,{PC}^\n.a LDR R0,[R1,-R2,ROR#1]!\n. LDR R0,a\n",
+        "\n MOV R0,#|FNx|\n LDMIA |sp|!,{PC}^\n|a| LDR R0,[R1,-R2,ROR#1]!\n . LDR R0,a\n",
+    ),
+    (
+        "f=2:r=3\n[\nBL f\nSWI f\nBIC R0,r,R1\nEQUD f\n",
+        "|f| EQU 2\n|r| RN 3\n\n BL |f|\n SWI |f|\n BIC R0,|r|,R1\n DCD |f|\n",
+    ),
+];
+
+#[test]
+fn listings(rt: HostRuntime) {
+    for (listing, wanted) in LISTINGS {
+        let Ok(joined) = listing_source(rt.alloc(), 1, b"", listing.as_bytes()) else {
+            return;
+        };
+        assert!(rt; joined.text() == wanted.as_bytes(), "{listing}");
+    }
+}
+
+// A line is from the line of the listing on which its statement stands, and a name that the command
+// line binds from the file behind.
+#[test]
+fn lines_of_listings(rt: HostRuntime) {
+    let listing = b"10a=1:b=2\n\n20[OPT 2:MOV R0,#a:]\n";
+    let Ok(joined) = listing_source(rt.alloc(), 3, b"|x| EQU 5\n", listing) else {
+        return;
+    };
+    let wanted = b"|x| EQU 5\n|a| EQU 1\n|b| EQU 2\n\n MOV R0,#|a|\n\n";
+    assert!(rt; joined.text() == wanted.as_slice());
+    let found = joined.origins();
+    assert_eq!(rt; found.len(), 6usize);
+    for (origin, file, line) in [(0usize, 3, 1), (1, 0, 1), (2, 0, 1), (3, 0, 3), (5, 0, 3)] {
+        if let Some(found) = found.get(origin) {
+            assert_eq!(rt; (found.file, found.line), (file, line));
+        }
+    }
+}
