@@ -11,5 +11,6 @@ abbrev pub changed_place : ℕ → ℕ → ℕ → ℕ → ℕ
 changed_place first end ahead k = if nat_lt k first then k else (if nat_lt k end then k + ahead else (
     if nat_lt k (first + ahead) then k else (if nat_lt k (end + ahead) then k - ahead else k)))
 
-unfoldable pub exchanged : ℕ → ℕ → List ℕ → List ℕ
-exchanged first ahead file = map (λ k. slice_index file (changed_place first 15 ahead k)) (range_with_len 0 26)
+unfoldable pub bank_exchanged : ℕ → ℕ → List ℕ → List ℕ
+bank_exchanged first ahead file =
+    map (λ k. slice_index file (changed_place first 15 ahead k)) (range_with_len 0 26)

@@ -5,7 +5,7 @@
 #![tactic(auto)]
 
 ghost use Rattle.std.specs.Prelude.{◌≡◌, ◌<◌, ◌+◌, IsTrue};
-ghost use Rattle.arm_banks.specs.Banks.{changed_place, exchanged, is_bank};
+ghost use Rattle.arm_banks.specs.Banks.{changed_place, bank_exchanged, is_bank};
 
 /// The place that a place of the file changes with, where the registers from R`first` up to R14
 /// change with those `ahead` places on.
@@ -34,7 +34,7 @@ pub fn changed_place(first: usize, ahead: usize, place: usize) -> usize
 #[inline(always)]
 pub fn exchange(file: &mut [u32; 26], first: usize, ahead: usize)
     requires { IsTrue (is_bank first ahead) }
-    ensures { file.new ≡ exchanged first ahead file.old }
+    ensures { file.new ≡ bank_exchanged first ahead file.old }
 {
     for number in first..15 {
         let value = file[number];

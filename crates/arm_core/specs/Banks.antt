@@ -1,7 +1,7 @@
 -- A register file in which R0 to R14 of the present mode stand in the first 15 places, as the core keeps one: the registers that the
 -- mode has for itself have changed places with those of user mode.
 use Rattle.std.specs.Prelude.{◌≡◌, ℕ, List, length, refl, IsTrue}
-use Rattle.arm_banks.specs.Banks.{changed_place, exchanged, is_bank}
+use Rattle.arm_banks.specs.Banks.{changed_place, bank_exchanged, is_bank}
 use Rattle.arm_banks.proofs.Exchanging.{twice_exchanged}
 use Rattle.arm_core.specs.declared.psr.Mode.{Mode}
 use Rattle.arm_core.specs.declared.psr.Mode.TheVariants.{User, FastInterrupt, Interrupt, Supervisor}
@@ -24,7 +24,7 @@ abbrev pub exchanged_place : Mode → ℕ → ℕ
 exchanged_place m k = changed_place (first_own m) 15 (own_ahead m) k
 
 abbrev pub exchanged_file : Mode → List ℕ → List ℕ
-exchanged_file m file = exchanged (first_own m) (own_ahead m) file
+exchanged_file m file = bank_exchanged (first_own m) (own_ahead m) file
 
 -- So a core gives its fields back: exchanged once more, the file is as it was.
 pub own_bank : (m : Mode) → IsTrue (is_bank (first_own m) (own_ahead m))
@@ -34,5 +34,6 @@ own_bank FastInterrupt = refl
 own_bank Interrupt = refl
 own_bank Supervisor = refl
 
-pub file_comes_back : (m : Mode) (file : List ℕ) → length file ≡ 26 → exchanged_file m (exchanged_file m file) ≡ file
+pub file_comes_back : (m : Mode) (file : List ℕ) → length file ≡ 26 →
+    exchanged_file m (exchanged_file m file) ≡ file
 file_comes_back m file len = twice_exchanged (first_own m) (own_ahead m) file (own_bank m) len
