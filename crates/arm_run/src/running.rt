@@ -1,8 +1,9 @@
 //! Steps one after another, within a budget and up to a break.
 
-ghost use Rattle.std.specs.Prelude.{◌≡◌, ◌<◌, ◌≤◌, ◌^◌, ℕ, Bool, Err, IfOk, OnOk, IfSome, MatchOption};
+ghost use Rattle.std.specs.Prelude.{◌≡◌, ◌≢◌, ◌<◌, ◌≤◌, ◌^◌, ℕ, Bool, Err, IfOk, OnOk, IfSome, MatchOption};
 ghost use Rattle.address_map.specs.Memory.{bytes_of, is_owned, layout, class_of};
 ghost use Rattle.arm_core.specs.State.{State};
+ghost use Rattle.arm_core.specs.declared.turn.Turn.TheVariants.{Done};
 ghost use Rattle.arm_run.specs.Standing.{core_at, Acts, IsFetched, Refuses};
 ghost use Rattle.arm_run.specs.Runs.{AreDone, StopsBy};
 ghost use Rattle.arm_step.specs.Step.{result_of_step};
@@ -35,6 +36,7 @@ pub fn run(
     ensures next { IfOk result.1 (λ turn. Turns (cpu.new, bytes_of memory.new)
         (result_of_step (is_owned memory.old) cpu.new (bytes_of memory.new)) turn
         (cpu.new, bytes_of memory.new)) }
+    ensures other { IfOk result.1 (λ turn. turn ≢ Done) }
     ensures fewer { OnOk result.1 (result.0 < most) }
     ensures all { result.1 ≡ Err Stop.Budget → result.0 ≡ most }
     ensures most { result.0 ≤ most }

@@ -1,9 +1,10 @@
 //! The core while its position is kept beside it: any word by the way that is right for all, and
 //! the registers of the present mode.
 
-ghost use Rattle.std.specs.Prelude.{◌≡◌, ◌<◌, ◌≤◌, ◌+◌, ◌%◌, ◌^◌, IfSome};
+ghost use Rattle.std.specs.Prelude.{◌≡◌, ◌≢◌, ◌<◌, ◌≤◌, ◌+◌, ◌%◌, ◌^◌, IfSome};
 ghost use Rattle.address_map.specs.Memory.{bytes_of, is_owned, layout, class_of};
 ghost use Rattle.arm_core.specs.State.{register_in, with_register};
+ghost use Rattle.arm_core.specs.declared.turn.Turn.TheVariants.{Done};
 ghost use Rattle.arm_run.specs.Standing.{core_at, Acts, Refuses};
 ghost use Rattle.arm_step.specs.Step.{result_of_step};
 ghost use Rattle.arm_step.specs.Turns.{Turns};
@@ -79,6 +80,7 @@ pub(crate) fn turn_at(cpu: &mut Cpu, at: usize, memory: &mut AddressMap) -> Turn
     ensures turn { Turns (cpu.new, bytes_of memory.new)
         (result_of_step (is_owned memory.old) cpu.new (bytes_of memory.new))
         result (cpu.new, bytes_of memory.new) }
+    ensures other { result ≢ Done }
     ensures layout { layout memory.new ≡ layout memory.old }
     ensures marks { class_of memory.new ≡ class_of memory.old }
 {

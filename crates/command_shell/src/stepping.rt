@@ -1,7 +1,8 @@
 //! Steps, the lines that take them, RUN and STEP, and those that set breaks: BREAK and UNBREAK.
 
 ghost use Rattle.std.specs.Prelude.{◌≡◌, ◌<◌, ◌≤◌, min, true, None, List, IfOk, OnOk, OnErr};
-ghost use Rattle.swi_dispatch_guest.specs.Parts.{state_of};
+ghost use Rattle.profile.specs.declared.stop.Stop.TheVariants.{Budget};
+ghost use Rattle.swi_dispatch_guest.specs.Parts.{AwaitsOtherTurn, state_of};
 ghost use Rattle.command_shell.specs.Stepping.{break_refusal_name};
 
 use crate::answers::{tell_break, tell_refused, tell_stepped, tell_stop, tell_unbreak};
@@ -61,7 +62,8 @@ impl Session {
 
     /// Takes up to so many steps of a machine that isn't halted, as long as each is an instruction
     /// that neither prints nor halts it, and no further than to a break. The stop is `Budget` where
-    /// another step may come next; the last stop that a line was answered with stays.
+    /// another step may come next: after fewer steps than were asked for, one that is no such
+    /// instruction. The last stop that a line was answered with stays.
     pub fn take_quiet_steps(&mut self, most: u64) -> Ran
         requires some { 0 < most }
         requires enough { most ≤ self.old.left }
@@ -69,6 +71,8 @@ impl Session {
         ensures taken { (images : List Entry) → IsAfterQuietSteps (script_state self.old images)
             (script_state self.new images) result.taken result.stop }
         ensures count { result.taken ≤ most }
+        ensures further { result.stop ≡ Budget → result.taken < most
+            → AwaitsOtherTurn (state_of self.new.machine.guest) }
     {
         let ran = self.machine.run_quietly(&self.breaks, most);
         self.left -= ran.taken;

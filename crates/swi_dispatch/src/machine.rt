@@ -48,7 +48,7 @@ impl Model for Machine {
 impl Machine {
     ghost use Rattle.swi_dispatch.specs.Boot.{machine_after_boot};
     ghost use Rattle.swi_dispatch.specs.Value.{HasRun, IsAfterStep, IsBesides, IsMachine};
-    ghost use Rattle.swi_dispatch_guest.specs.Parts.{state_of};
+    ghost use Rattle.swi_dispatch_guest.specs.Parts.{AwaitsOtherTurn, state_of};
     ghost use Rattle.swi_dispatch_guest.specs.MachineState.{machine_start, quiet, stop_of};
 
     /// A machine of these sizes at its start: user mode at &8000, each register 0 but the stack
@@ -191,7 +191,8 @@ impl Machine {
 
     /// Takes up to so many steps of a machine that isn't halted, as long as each is an instruction
     /// that neither prints nor halts it, and no further than to a break. A start on a break isn't
-    /// tested. The stop is `Budget` where another step may come next.
+    /// tested. The stop is `Budget` where another step may come next: after fewer steps than were
+    /// asked for, one that is no such instruction.
     pub fn run_quietly(&mut self, breaks: &Breaks, most: u64) -> Ran
         requires some { 0 < most }
         requires awake { (state_of self.old.guest).halt ≡ None }
@@ -199,6 +200,8 @@ impl Machine {
             ≡ quiet_run (state_of self.new.guest) result.taken result.stop }
         ensures awake { (state_of self.new.guest).halt ≡ None }
         ensures count { result.taken ≤ most }
+        ensures further { result.stop ≡ Stop.Budget → result.taken < most
+            → AwaitsOtherTurn (state_of self.new.guest) }
         ensures rest { HasRun self.old self.new (result.taken == 0) }
         ensures printed { self.new.printed ≡ last_or self.old.printed (quiet_last result.taken) }
         ensures kept { IsMachine self.new }

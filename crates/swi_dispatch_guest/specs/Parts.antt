@@ -1,5 +1,5 @@
 -- The parts of a guest, and the written machine that they stand for.
-use Rattle.std.specs.Prelude.{◌≡◌, ◌≤◌, ◌<◌, length, ℕ, IfSome, Option, Some, None, Result, Ok, Err}
+use Rattle.std.specs.Prelude.{◌≡◌, ◌≢◌, ◌≤◌, ◌<◌, length, ℕ, IfSome, Option, Some, None, Result, Ok, Err}
 use Rattle.profile.specs.Sizes.{Sizes}
 use Rattle.address_map.specs.declared.map.AddressMap.{AddressMap}
 use Rattle.address_map.specs.Memory.{free_pages}
@@ -8,6 +8,7 @@ use Rattle.dynamic_areas.specs.Ground.{AreAreas, IsRecorded, system_pages_range}
 use Rattle.dynamic_areas.specs.Rooms.{IsAreaTable}
 use Rattle.flex_machine.specs.Ground.{HasFlex}
 use Rattle.arm_core.specs.declared.turn.Turn.{Turn}
+use Rattle.arm_core.specs.declared.turn.Turn.TheVariants.{Done}
 use Rattle.arm_core.specs.State.{IsCore, State}
 use Rattle.flex_machine.specs.module_world.specs.World.{World, world_of}
 use Rattle.instances_plans.specs.Plans.{Plan}
@@ -94,3 +95,10 @@ pub record IsState (s : MachineState) : Type 0 where
 -- the core takes a turn, and the rest of the machine stays
 abbrev pub TakesTurn : MachineState → Turn → MachineState → Type 0
 TakesTurn s t s' = Turned s (result_of_instruction s) t s'
+
+-- Another turn comes next than that of an instruction that is done: a software interrupt, the
+-- address that module code returns to, or a fault.
+pub record AwaitsOtherTurn (s : MachineState) : Type 0 where
+  pub turn : Turn
+  pub other : turn ≢ Done
+  pub takes : TakesTurn s turn s

@@ -1,6 +1,7 @@
 //! One step of a guest, and instructions that the core does by itself, one after another.
 
-ghost use Rattle.std.specs.Prelude.{◌≡◌, ◌<◌, ◌≤◌, None, Err, List, [], IfOk, OnOk};
+ghost use Rattle.std.specs.Prelude.{◌≡◌, ◌≢◌, ◌<◌, ◌≤◌, None, Err, List, [], IfOk, OnOk};
+ghost use Rattle.arm_core.specs.declared.turn.Turn.TheVariants.{Done};
 ghost use Rattle.image_loader.specs.Entries.{Entry};
 ghost use Rattle.swi_dispatch_guest.specs.Parts.{TakesTurn, state_of};
 ghost use Rattle.swi_dispatch_guest.specs.MachineState.{outcome_with};
@@ -40,6 +41,7 @@ impl Guest {
         ensures ran { (images : List Entry) → ran images breaks.now result.0 (state_of self.old)
             ≡ quiet_run (state_of self.new) result.0 (quiet_stop result.1) }
         ensures next { IfOk result.1 (λ turn. TakesTurn (state_of self.new) turn (state_of self.new)) }
+        ensures other { IfOk result.1 (λ turn. turn ≢ Done) }
         ensures fewer { OnOk result.1 (result.0 < most) }
         ensures all { result.1 ≡ Err Stop.Budget → result.0 ≡ most }
         ensures awake { (state_of self.new).halt ≡ None }

@@ -52,6 +52,7 @@ returns-in-None c =
       done = same_count _ _ _ _ _ _ _ refl (same_pair _ _ _ _ core bytes) so_far.done;
       ends = subst (λ (s : State). (taken ≡ 0) ⊎ (is_among c.args.breaks.now s.pc ≡ false)) (sym core) so_far.clear;
       next = turns_so _ _ (c.turn_at.new.cpu, bytes_of c.turn_at.new.memory) (c.turn_at.new.cpu, bytes_of c.turn_at.new.memory) c.turn_at.result owned c.turn_at.ensures.turn;
+      other = c.turn_at.ensures.other;
       fewer = fewer;
       all = λ is. cc;
       most = omega (arith, fewer);
@@ -72,6 +73,7 @@ returns-then-has c =
           (turns_so _ _ (core_at c.loop-next.cpu c.loop-next.at, bytes_of c.loop-next.memory) (core_at c.step_at.new.cpu c.in-Some.next, bytes_of c.step_at.new.memory) turn.Done owned c.in-Some.ensures.state));
       ends = (omega (arith, so_far.some, so_far.left), pc, ap (is_among c.args.breaks.now) (sym pc) ∙ sym c.has.ensures ∙ c.if-has.true);
       next = tt;
+      other = tt;
       fewer = tt;
       all = λ is. cc;
       most = most;
@@ -90,6 +92,7 @@ returns-then-rest-eq0 c =
           (turns_so _ _ (core_at c.loop-next.cpu c.loop-next.at, bytes_of c.loop-next.memory) (core_at c.step_at.new.cpu c.in-Some.next, bytes_of c.step_at.new.memory) turn.Done owned c.in-Some.ensures.state));
       ends = inr (ap (is_among c.args.breaks.now) (sym pc) ∙ sym c.has.ensures ∙ c.if-has.false);
       next = tt;
+      other = tt;
       fewer = tt;
       all = λ is. refl;
       most = omega arith;
