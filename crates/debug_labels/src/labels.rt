@@ -66,7 +66,7 @@ impl Model for LabelledImage {
 
 impl LabelledImage {
     // Whether the image has this name.
-    fn is_of(&self, image: &[u8]) -> bool
+    pub(crate) fn is_of(&self, image: &[u8]) -> bool
         ensures { result ≡ bytes_eq self.now.image image.now }
     {
         self.image.as_slice() == image

@@ -2,6 +2,7 @@
 //! lines with such words as lines with numbers, and places as text.
 #![tactic(auto)]
 
+mod images;
 mod labels;
 mod lines;
 mod places;
@@ -9,6 +10,7 @@ mod standing;
 mod views;
 mod words;
 
+pub use images::ImagePlace;
 pub use labels::LabelTable;
 pub use lines::may_name_places;
 pub use places::PlaceLabel;

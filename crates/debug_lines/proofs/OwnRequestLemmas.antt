@@ -7,9 +7,9 @@ use Rattle.command_shell_lines.specs.Numbers.{script_number}
 use Rattle.command_shell_lines.specs.Operands.{word_address, origin_of, count_up_to}
 use Rattle.command_shell_lines.specs.Requests.{Request, Unknown, is_same_word, request_of, words}
 use Rattle.image_loader.specs.Entries.{can_name_image}
-use Rattle.debug_lines.specs.DebugRequests.{DebugRequest, Script, Stepping, Mode, Remark, Put, Forget, SetPc, SetPsr, Reset, Quit, Expect, Repeat, View, NotKnown}
+use Rattle.debug_lines.specs.DebugRequests.{DebugRequest, Script, Stepping, Mode, Remark, Put, Counts, Forget, SetPc, SetPsr, Reset, Quit, Expect, Repeat, View, NotKnown}
 use Rattle.debug_lines.specs.DebugRequests.{expect_line, is_remark, is_repeatable, is_script_request, own_request_behind, simple_request, untraced_request}
-use Rattle.debug_lines.specs.DebugRequests.{Banks, Frames, Help, Labels, Stack, Where, forget_if_named, gosub_to, is_frames_word, mode_line, put_at}
+use Rattle.debug_lines.specs.DebugRequests.{Banks, Frames, Help, Labels, Stack, Where, gosub_to, is_frames_word, mode_line, of_image, put_at}
 use Rattle.debug_lines.specs.DebugRequests.{own_request_of_four, own_request_of_three, own_request_of_two, own_request_of_word}
 use Rattle.debug_lines.specs.DebugRequests.{own_request_of_words, set_pc_to, set_psr_to, set_request, stack_of, words_at}
 use Rattle.debug_lines.specs.DebugRequests.{line_behind_trace, simple_request_behind, trace_of_own, trace_of_words, trace_limit, trace_step, traced_request, traced_script, untraced_line}
@@ -37,10 +37,9 @@ unfolding asks_script
 own_stack (Some count) = refl
 own_stack None = refl
 
-own_forget : (b : Bool) (name : List ℕ) → asks_script (forget_if_named b name) ≡ false
+own_image : (name : List ℕ) (d : DebugRequest) → asks_script d ≡ false → asks_script (of_image name d) ≡ false
 unfolding asks_script
-own_forget true name = refl
-own_forget false name = refl
+own_image name d own = own_if (can_name_image name) d NotKnown own refl
 
 own_words_at : (address count : Option ℕ) → asks_script (words_at address count) ≡ false
 unfolding asks_script
@@ -96,8 +95,9 @@ own_two : (word other : List ℕ) → asks_script (own_request_of_two word other
 unfolding asks_script
 own_two word other =
     own_if (is_same_word word (codes "STACK")) _ _ (own_stack (count_up_to 1024 other))
-    (own_if (is_same_word word (codes "FORGET")) _ _ (own_forget (can_name_image other) other)
-    (own_if (is_same_word word (codes "GOSUB")) _ _ (own_gosub (origin_of other)) (own_mode (mode_of_two word other))))
+    (own_if (is_same_word word (codes "FORGET")) _ _ (own_image other (Forget other) refl)
+    (own_if (is_same_word word (codes "COUNTS")) _ _ (own_image other (Counts other) refl)
+    (own_if (is_same_word word (codes "GOSUB")) _ _ (own_gosub (origin_of other)) (own_mode (mode_of_two word other)))))
 
 own_set : (what value : List ℕ) → asks_script (set_request what value) ≡ false
 unfolding asks_script
@@ -171,6 +171,7 @@ traced_alone (SetPc address) r e = e
 traced_alone (SetPsr pattern) r e = e
 traced_alone (Put name address) r e = e
 traced_alone (Forget name) r e = e
+traced_alone (Counts name) r e = e
 traced_alone Reset r e = e
 traced_alone Quit r e = e
 traced_alone (Expect expected) r e = e

@@ -40,6 +40,8 @@ pub data DebugRequest : Type 0 where
   -- an image's bytes to an address
   Put : List ℕ → ℕ → DebugRequest
   Forget : List ℕ → DebugRequest
+  -- how often the steps of an image's words were taken
+  Counts : List ℕ → DebugRequest
   Reset : DebugRequest
   Quit : DebugRequest
   Expect : ExpectRequest → DebugRequest
@@ -80,9 +82,9 @@ abbrev pub stack_of : Option ℕ → DebugRequest
 stack_of (Some count) = View (Stack count)
 stack_of None = NotKnown
 
-abbrev pub forget_if_named : Bool → List ℕ → DebugRequest
-forget_if_named true name = Forget name
-forget_if_named false name = NotKnown
+-- where the name is one that an image can have
+abbrev pub of_image : List ℕ → DebugRequest → DebugRequest
+of_image name request = if can_name_image name then request else NotKnown
 
 abbrev pub gosub_to : Option ℕ → DebugRequest
 gosub_to (Some address) = Stepping false (Gosub address)
@@ -96,9 +98,10 @@ mode_line None = NotKnown
 abbrev pub own_request_of_two : List ℕ → List ℕ → DebugRequest
 own_request_of_two word other =
     if is_same_word word (codes "STACK") then stack_of (count_up_to 1024 other) else (
-    if is_same_word word (codes "FORGET") then forget_if_named (can_name_image other) other else (
+    if is_same_word word (codes "FORGET") then of_image other (Forget other) else (
+    if is_same_word word (codes "COUNTS") then of_image other (Counts other) else (
     if is_same_word word (codes "GOSUB") then gosub_to (origin_of other) else
-    mode_line (mode_of_two word other)))
+    mode_line (mode_of_two word other))))
 
 abbrev pub words_at : Option ℕ → Option ℕ → DebugRequest
 words_at (Some address) (Some count) = View (Words address count)
@@ -293,6 +296,7 @@ debug_request_of_command (command.SetPc address) = SetPc address
 debug_request_of_command (command.SetPsr pattern) = SetPsr pattern
 debug_request_of_command (command.Put name address) = Put name.now address
 debug_request_of_command (command.Forget name) = Forget name.now
+debug_request_of_command (command.Counts name) = Counts name.now
 debug_request_of_command command.Reset = Reset
 debug_request_of_command command.Quit = Quit
 debug_request_of_command (command.Expect expected) = Expect (expect_request_of expected)

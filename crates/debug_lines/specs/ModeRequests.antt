@@ -1,6 +1,7 @@
 -- The lines that change how later lines are answered: whether steps are told, and how many; stubs,
--- which stand for SWIs that the machine doesn't have; words that are watched.
-use Rattle.std.specs.Prelude.{ℕ, Bool, nat_le, List, [], ◌∷◌, length, codes, Option, Some, None, option_map, if◌then◌else◌}
+-- which stand for SWIs that the machine doesn't have; words that are watched; whether steps are
+-- counted.
+use Rattle.std.specs.Prelude.{ℕ, Bool, true, false, nat_le, List, [], ◌∷◌, length, codes, Option, Some, None, option_map, if◌then◌else◌}
 use Rattle.command_shell_lines.specs.Numbers.{script_number}
 use Rattle.command_shell_lines.specs.Operands.{cpu_register_named, origin_of}
 use Rattle.command_shell_lines.specs.Requests.{is_same_word, words}
@@ -19,14 +20,24 @@ pub data ModeRequest : Type 0 where
   -- the address of a word, a multiple of 4 below 2^26
   Watch : ℕ → ModeRequest
   Unwatch : ℕ → ModeRequest
+  -- whether steps are counted
+  Count : Bool → ModeRequest
+
+-- ON or OFF
+abbrev pub is_on_word : List ℕ → Option Bool
+is_on_word word =
+    if is_same_word word (codes "ON") then Some true else (
+    if is_same_word word (codes "OFF") then Some false else
+    None)
 
 -- a line of two words
 abbrev pub mode_of_two : List ℕ → List ℕ → Option ModeRequest
 mode_of_two word other =
     if is_same_word word (codes "UNSTUB") then option_map Unstub (script_number other) else (
     if is_same_word word (codes "WATCH") then option_map Watch (origin_of other) else (
-    if is_same_word word (codes "UNWATCH") then option_map Unwatch (origin_of other) else
-    None))
+    if is_same_word word (codes "UNWATCH") then option_map Unwatch (origin_of other) else (
+    if is_same_word word (codes "COUNT") then option_map Count (is_on_word other) else
+    None)))
 
 -- a register and its value
 abbrev pub stub_setting : Option ℕ → Option ℕ → Option StubSetting
@@ -72,3 +83,4 @@ mode_request_of (mode.Stub number settings) = Stub number settings.items
 mode_request_of (mode.Unstub number) = Unstub number
 mode_request_of (mode.Watch address) = Watch address
 mode_request_of (mode.Unwatch address) = Unwatch address
+mode_request_of (mode.Count is_on) = Count is_on

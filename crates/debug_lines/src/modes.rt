@@ -4,7 +4,7 @@ ghost use Rattle.std.specs.Prelude.{◌≡◌, option_map};
 ghost use Rattle.command_shell_lines.specs.Numbers.{script_number};
 ghost use Rattle.command_shell_lines.specs.Operands.{cpu_register_named, origin_of};
 ghost use Rattle.command_shell_lines.specs.Requests.{words};
-ghost use Rattle.debug_lines.specs.ModeRequests.{mode_of_two, mode_request_of, settings_in_limit, stub_request, stub_setting, stub_settings};
+ghost use Rattle.debug_lines.specs.ModeRequests.{mode_of_two, mode_request_of, settings_in_limit, stub_request, stub_setting, stub_settings, is_on_word};
 
 use crate::few_words::has_letters;
 use arrayvec::ArrayVec;
@@ -46,6 +46,8 @@ pub enum ModeCommand {
     Watch(WordAddress),
     /// `UNWATCH a`.
     Unwatch(WordAddress),
+    /// `COUNT ON` or `COUNT OFF`.
+    Count(bool),
 }
 
 /// What a line of two words asks for, where it changes a mode.
@@ -58,6 +60,21 @@ pub(crate) fn mode_of_two(word: &[u8], other: &[u8]) -> Option<ModeCommand>
         Some(ModeCommand::Watch(watch_address(other)?))
     } else if has_letters(word, b"UNWATCH") {
         Some(ModeCommand::Unwatch(watch_address(other)?))
+    } else if has_letters(word, b"COUNT") {
+        Some(ModeCommand::Count(is_on_word(other)?))
+    } else {
+        None
+    }
+}
+
+// What a word ON or OFF stands for.
+fn is_on_word(word: &[u8]) -> Option<bool>
+    ensures { result ≡ is_on_word word.now }
+{
+    if has_letters(word, b"ON") {
+        Some(true)
+    } else if has_letters(word, b"OFF") {
+        Some(false)
     } else {
         None
     }

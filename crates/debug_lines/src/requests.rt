@@ -6,7 +6,7 @@ ghost use Rattle.command_shell_lines.specs.Operands.{word_address, count_up_to, 
 ghost use Rattle.command_shell_lines.specs.Requests.{request_of, request_of_command, words};
 ghost use Rattle.image_loader.specs.Entries.{can_name_image};
 ghost use Rattle.debug_lines.specs.DebugRequests.{is_script_request, is_remark, untraced_request, expect_line, own_request_of_words};
-ghost use Rattle.debug_lines.specs.DebugRequests.{forget_if_named, is_frames_word, own_request_of_word, own_request_of_two, own_request_of_three, own_request_of_four};
+ghost use Rattle.debug_lines.specs.DebugRequests.{of_image, is_frames_word, own_request_of_word, own_request_of_two, own_request_of_three, own_request_of_four};
 ghost use Rattle.debug_lines.specs.DebugRequests.{gosub_to, mode_line, put_at, stack_of, words_at, set_request, set_psr_to, debug_request_of_command};
 ghost use Rattle.debug_lines.specs.Expectations.{expect_request};
 ghost use Rattle.debug_lines.specs.ModeRequests.{mode_request_of};
@@ -66,6 +66,8 @@ pub enum DebugCommand<'a> {
     Put(&'a [u8], u32),
     /// `FORGET name`, with a name that an image can have.
     Forget(&'a [u8]),
+    /// `COUNTS name`, with a name that an image can have.
+    Counts(&'a [u8]),
     /// `RESET`.
     Reset,
     /// `QUIT`.
@@ -206,7 +208,9 @@ fn command_of_two<'a>(word: &[u8], other: &'a [u8]) -> DebugCommand<'a>
     if has_letters(word, b"STACK") {
         stack_command(other)
     } else if has_letters(word, b"FORGET") {
-        forget_command(other)
+        of_image(other, DebugCommand::Forget(other))
+    } else if has_letters(word, b"COUNTS") {
+        of_image(other, DebugCommand::Counts(other))
     } else if has_letters(word, b"GOSUB") {
         gosub_command(other)
     } else {
@@ -223,11 +227,12 @@ fn stack_command(count: &[u8]) -> DebugCommand<'static>
     }
 }
 
-fn forget_command(name: &[u8]) -> DebugCommand<'_>
-    ensures { debug_request_of_command result ≡ forget_if_named (can_name_image name.now) name.now }
+fn of_image<'a>(name: &[u8], command: DebugCommand<'a>) -> DebugCommand<'a>
+    ensures { debug_request_of_command result
+        ≡ of_image name.now (debug_request_of_command command.entry) }
 {
     if is_image_name(name) {
-        DebugCommand::Forget(name)
+        command
     } else {
         DebugCommand::Unknown
     }

@@ -36,6 +36,7 @@ fn mode(line: &[u8]) -> Option<(u32, u32, usize)> {
         ModeCommand::Unstub(number) => Some((4, number, 0)),
         ModeCommand::Watch(address) => Some((5, address.address(), 0)),
         ModeCommand::Unwatch(address) => Some((6, address.address(), 0)),
+        ModeCommand::Count(is_on) => Some((7, u32::from(is_on), 0)),
     }
 }
 
@@ -77,7 +78,7 @@ fn lines_take_steps(rt: HostRuntime) -> Result<(), Fail> {
 
 #[test]
 fn lines_change_modes(rt: HostRuntime) -> Result<(), Fail> {
-    let lines: [(&[u8], (u32, u32, usize)); 13] = [
+    let lines: [(&[u8], (u32, u32, usize)); 15] = [
         (b"TRACE ON", (1, 1, 0)),
         (b"trace off", (1, 0, 0)),
         (b"TRACE LIMIT 5", (2, 5, 0)),
@@ -89,6 +90,8 @@ fn lines_change_modes(rt: HostRuntime) -> Result<(), Fail> {
         (b"UNSTUB 6", (4, 6, 0)),
         (b"WATCH &9000", (5, 0x9000, 0)),
         (b"UNWATCH &3FFFFFC", (6, 0x3FF_FFFC, 0)),
+        (b"COUNT ON", (7, 1, 0)),
+        (b"count off", (7, 0, 0)),
         (b"TRACE STUB 6 R0 1", (3, 6, 1)),
         (b"TRACE WATCH 4", (5, 4, 0)),
     ];
@@ -102,7 +105,7 @@ fn lines_change_modes(rt: HostRuntime) -> Result<(), Fail> {
 
 #[test]
 fn lines_ask_for_nothing(rt: HostRuntime) -> Result<(), Fail> {
-    let lines: [&[u8]; 38] = [
+    let lines: [&[u8]; 42] = [
         b"FINISH 1",
         b"GOSUB",
         b"GOSUB 2",
@@ -127,6 +130,10 @@ fn lines_ask_for_nothing(rt: HostRuntime) -> Result<(), Fail> {
         b"WATCH 2",
         b"WATCH &4000000",
         b"UNWATCH 6",
+        b"COUNT",
+        b"COUNT 1",
+        b"COUNTS",
+        b"COUNTS a b",
         b"LABELS 1",
         b"TRACE",
         b"TRACE -1",

@@ -3,10 +3,11 @@
 use Rattle.std.specs.Prelude.{◌≡◌, ℕ, Bool, true, false, ◌%◌, ◌^◌, ◌++◌, List, map, codes, Result, Ok, Err}
 use Rattle.std.specs.Fmt.{decimal}
 use Rattle.debug_runs.specs.command_shell.specs.Answers.{at_address_text, refused_text}
-use Rattle.debug_lines.specs.ModeRequests.{ModeRequest, Trace, TraceLimit, Unstub, Unwatch}
+use Rattle.debug_lines.specs.ModeRequests.{ModeRequest, Count, Trace, TraceLimit, Unstub, Unwatch}
 use Rattle.debug_lines.specs.ModeRequests as request
 use Rattle.debug_lines.specs.declared.modes.StubSetting.{StubSetting}
 use Rattle.debug_modes.specs.declared.modes.DebugModes.{DebugModes}
+use Rattle.debug_runs.specs.debug_counts.specs.Counts.{counts_begun, counts_stopped}
 use Rattle.debug_runs.specs.debug_tables.specs.StubNames.{stub_error_name}
 use Rattle.debug_runs.specs.debug_tables.specs.Stubs.{with_stub, without_stub}
 use Rattle.debug_runs.specs.debug_tables.specs.WordWatches.{watch_error_name, with_word_watch, without_word_watch}
@@ -89,6 +90,16 @@ abbrev pub unwatch_line_told : DebugModes → ℕ → ModeTold
 unwatch_line_told m address =
     watches_told m (change_text (codes "unwatch") address) (without_word_watch m.steps.watches address)
 
+-- COUNT ON, COUNT OFF
+abbrev pub counting_text : Bool → List ℕ
+counting_text true = codes "count on\n"
+counting_text false = codes "count off\n"
+
+abbrev pub counting_line_told : DebugModes → Bool → ModeTold
+counting_line_told m true = record { modes = record m { counts = counts_begun }; text = counting_text true }
+counting_line_told m false =
+    record { modes = record m { counts = counts_stopped m.counts }; text = counting_text false }
+
 -- a line that changes modes, on a machine
 abbrev pub mode_told : MachineState → DebugModes → ModeRequest → ModeTold
 mode_told s m (Trace is_on) = trace_line_told m is_on
@@ -97,3 +108,4 @@ mode_told s m (request.Stub number settings) = stub_line_told s m number setting
 mode_told s m (Unstub number) = unstub_line_told m number
 mode_told s m (request.Watch address) = watch_line_told m address
 mode_told s m (Unwatch address) = unwatch_line_told m address
+mode_told s m (Count is_on) = counting_line_told m is_on

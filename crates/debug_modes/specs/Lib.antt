@@ -2,5 +2,6 @@
 pub use Rattle.debug_lines
 pub use Rattle.debug_runs
 pub mod Changes
+pub mod Counting
 pub mod Modes
 pub mod Stepping

@@ -1,15 +1,21 @@
 -- The modes of a debugger, by which lines that take steps are answered.
 use Rattle.std.specs.Prelude.{ℕ, Bool, false, not, ◌||◌, [], Option, Some, None, if◌then◌else◌}
 use Rattle.debug_modes.specs.declared.modes.DebugModes.{DebugModes}
+use Rattle.debug_runs.specs.debug_counts.specs.Counts.{no_counts}
 use Rattle.debug_runs.specs.debug_tables.specs.Modes.{are_plain}
 
 -- as a debugger begins
 abbrev pub no_modes : DebugModes
-no_modes = record { steps = record { stubs = []; watches = [] }; is_tracing = false; limit = 1000 }
+no_modes = record {
+  steps = record { stubs = []; watches = [] };
+  counts = no_counts;
+  is_tracing = false;
+  limit = 1000;
+}
 
--- whether the lines of a script that take steps are answered otherwise than in a script
+-- whether the steps of the lines of a script are taken otherwise than in a script
 abbrev pub takes_over : DebugModes → Bool
-takes_over m = m.is_tracing || not (are_plain m.steps)
+takes_over m = m.is_tracing || (m.counts.is_on || not (are_plain m.steps))
 
 -- how many steps of a line are told, where they are
 abbrev pub told_of_line : DebugModes → Bool → Option ℕ

@@ -6,6 +6,12 @@ use Rattle.debug_lines.specs.SteppingRequests.{SteppingRequest}
 use Rattle.debug_modes.specs.Modes.{told_of_line}
 use Rattle.debug_modes.specs.declared.modes.DebugModes.{DebugModes}
 use Rattle.debug_runs.specs.Lines.{SteppingTold, stepping_told}
+use Rattle.debug_runs.specs.Places.{places_of_line}
+use Rattle.debug_runs.specs.debug_counts.specs.Counts.{steps_counted}
+
+-- the modes after a line, whose steps were counted
+abbrev pub modes_after : DebugModes → ScriptState → SteppingRequest → DebugModes
+modes_after m s request = record m { counts = steps_counted (places_of_line m.steps s request) m.counts }
 
 -- a line, traced or not, in the modes that are set
 abbrev pub stepping_in_modes : DebugModes → List ImageLabels → Bool → ScriptState → SteppingRequest → SteppingTold

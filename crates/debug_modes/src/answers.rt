@@ -31,8 +31,12 @@ pub(crate) fn limit_line(alloc: Global, limit: u32) -> Result<Vec<u8>, AllocErro
 }
 
 /// `refused NoStub`, and the like.
+///
+/// # Errors
+///
+/// `AllocError` where the host has no memory for the text.
 #[tactic(auto, unfolding(command_shell::specs::Answers::refused_text))]
-pub(crate) fn refused_line(alloc: Global, reason: &[u8]) -> Result<Vec<u8>, AllocError>
+pub fn refused_line(alloc: Global, reason: &[u8]) -> Result<Vec<u8>, AllocError>
     ensures { IfOk result (λ text. text.items ≡ refused_text reason.now) }
 {
     let mut text = Vec::from_slice(alloc, b"refused ")?;

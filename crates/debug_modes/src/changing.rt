@@ -1,8 +1,8 @@
 //! The lines that change modes.
 
-ghost use Rattle.std.specs.Prelude.{◌≡◌, ◌≤◌, IfOk, OnErr, length};
+ghost use Rattle.std.specs.Prelude.{◌≡◌, ◌≤◌, true, false, IfOk, OnErr, length};
 ghost use Rattle.debug_lines.specs.ModeRequests.{mode_request_of};
-ghost use Rattle.debug_modes.specs.Changes.{IsModeTold, limit_line_told, mode_told, stub_line_told, trace_line_told, unstub_line_told};
+ghost use Rattle.debug_modes.specs.Changes.{IsModeTold, counting_line_told, limit_line_told, mode_told, stub_line_told, trace_line_told, unstub_line_told};
 ghost use Rattle.debug_modes.specs.Changes.{unwatch_line_told, watch_line_told};
 ghost use Rattle.debug_runs.specs.swi_dispatch_guest.specs.Parts.{state_of};
 
@@ -28,7 +28,7 @@ impl DebugModes {
     ///
     /// # Errors
     ///
-    /// `AllocError` where the host has no memory for the answer; the modes stay then.
+    /// `AllocError` where the host has no memory for the answer, or for counts; the modes stay then.
     pub fn change(
         &mut self,
         alloc: Global,
@@ -49,6 +49,8 @@ impl DebugModes {
             ModeCommand::Unstub(number) => self.remove_stub(alloc, *number),
             ModeCommand::Watch(address) => self.add_watch(alloc, *address),
             ModeCommand::Unwatch(address) => self.remove_watch(alloc, *address),
+            ModeCommand::Count(true) => self.begin_counts(alloc),
+            ModeCommand::Count(false) => self.stop_counts(alloc),
         }
     }
 
@@ -70,6 +72,26 @@ impl DebugModes {
     {
         let text = limit_line(alloc, limit)?;
         self.limit = u64::from(limit);
+        Ok(text)
+    }
+
+    fn begin_counts(&mut self, alloc: Global) -> Result<Vec<u8>, AllocError>
+        ensures told { IfOk result (λ text.
+            IsModeTold (counting_line_told self.old true) self.new text.items) }
+        ensures same { OnErr result (self.new ≡ self.old) }
+    {
+        let text = Vec::from_slice(alloc, b"count on\n")?;
+        self.counts.begin()?;
+        Ok(text)
+    }
+
+    fn stop_counts(&mut self, alloc: Global) -> Result<Vec<u8>, AllocError>
+        ensures told { IfOk result (λ text.
+            IsModeTold (counting_line_told self.old false) self.new text.items) }
+        ensures same { OnErr result (self.new ≡ self.old) }
+    {
+        let text = Vec::from_slice(alloc, b"count off\n")?;
+        self.counts.stop();
         Ok(text)
     }
 

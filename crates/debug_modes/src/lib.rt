@@ -1,13 +1,15 @@
-//! The modes of a debugger, for `debug_session`: whether steps are told one by one, and how many, stubs
-//! and watches; the lines that change them, and lines that take steps in them.
+//! The modes of a debugger, for `debug_session`: whether steps are told one by one, and how many, stubs,
+//! watches and counts; the lines that change them, and lines that take steps in them.
 #![tactic(auto)]
 
 mod answers;
 mod changing;
+mod counting;
 mod modes;
 mod stepping;
 mod stub_lines;
 #[cfg(test)]
 mod tests;
 
+pub use answers::refused_line;
 pub use modes::DebugModes;

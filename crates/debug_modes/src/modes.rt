@@ -3,7 +3,9 @@
 ghost use Rattle.std.specs.Prelude.{◌≡◌};
 ghost use Rattle.debug_modes.specs.Modes.{no_modes, takes_over, told_of_line};
 
+use debug_runs::debug_counts::StepCounts;
 use debug_runs::debug_tables::StepModes;
+use std::alloc::Global;
 
 /// So many steps of a line are told where no line says otherwise.
 const FIRST_LIMIT: u64 = 1000;
@@ -13,6 +15,8 @@ const FIRST_LIMIT: u64 = 1000;
 pub struct DebugModes {
     /// What is done beside the steps.
     pub steps: StepModes,
+    /// How often steps were taken at each word of memory.
+    pub counts: StepCounts,
     /// Whether the steps of all lines are told one by one.
     pub(crate) is_tracing: bool,
     /// How many steps of a line are told at most.
@@ -20,22 +24,24 @@ pub struct DebugModes {
 }
 
 impl DebugModes {
-    /// Steps go as in a script, untold; 1,000 would be told of a line.
-    pub fn new() -> DebugModes
+    /// Steps go as in a script, untold and uncounted; 1,000 would be told of a line.
+    pub fn new(alloc: Global) -> DebugModes
         ensures { result ≡ no_modes }
     {
         DebugModes {
             steps: StepModes::new(),
+            counts: StepCounts::new(alloc),
             is_tracing: false,
             limit: FIRST_LIMIT,
         }
     }
 
-    /// Whether RUN, STEP, CALL and LOAD are answered otherwise than in a script.
+    /// Whether the steps of RUN, STEP, CALL and LOAD are taken otherwise than in a script. Where they
+    /// are only counted, the answer is the script's.
     pub fn takes_over(&self) -> bool
         ensures { result ≡ takes_over self.now }
     {
-        self.is_tracing || !self.steps.is_plain()
+        self.is_tracing || self.counts.is_on() || !self.steps.is_plain()
     }
 
     /// How many steps are told of a line, `None` where they are not told: told they are behind TRACE,

@@ -1,9 +1,9 @@
 //! Lines that take steps, in the modes that are set.
 
-ghost use Rattle.std.specs.Prelude.{◌≡◌, IfOk};
+ghost use Rattle.std.specs.Prelude.{◌≡◌, IfOk, OnOk};
 ghost use Rattle.debug_runs.specs.command_shell.specs.Session.{script_state};
 ghost use Rattle.debug_lines.specs.SteppingRequests.{stepping_request_of};
-ghost use Rattle.debug_modes.specs.Stepping.{stepping_in_modes};
+ghost use Rattle.debug_modes.specs.Stepping.{modes_after, stepping_in_modes};
 ghost use Rattle.debug_runs.specs.Told.{IsSteppingTold};
 
 use crate::modes::DebugModes;
@@ -15,7 +15,8 @@ use image_loader::Images;
 use std::alloc::{AllocError, Global};
 
 impl DebugModes {
-    /// Answers a line that takes steps, traced or not, with the stubs and watches that there are.
+    /// Answers a line that takes steps, traced or not, with the stubs and watches that there are, and
+    /// counts the steps where they are counted.
     ///
     /// # Errors
     ///
@@ -32,14 +33,16 @@ impl DebugModes {
         ensures told { let s = script_state session.old images.now in IfOk result (λ told. IsSteppingTold
             (stepping_in_modes self.old labels.now is_traced s (stepping_request_of command.now))
             (script_state session.new images.now) told.text.items told.printed.items told.ending.items) }
-        ensures modes { self.new ≡ self.old }
+        ensures modes { OnOk result (self.new ≡ modes_after self.old
+            (script_state session.old images.now) (stepping_request_of command.now)) }
     {
         let told = self.told(is_traced);
         answer_stepping(
             alloc,
             session,
             images,
-            &mut self.steps,
+            &self.steps,
+            &mut self.counts,
             labels,
             command,
             told,

@@ -64,7 +64,7 @@ fn lines_are_answered(rt: HostRuntime) -> Result<(), Fail> {
     let alloc = rt.alloc();
     let sizes = Config::new(5, 1, 1).ok_or("sizes")?;
     let machine = Machine::new(alloc, sizes)?;
-    let mut modes = DebugModes::new();
+    let mut modes = DebugModes::new(alloc);
     for (line, answer) in lines.iter() {
         assert!(rt; is_answer(alloc, &machine, &mut modes, line, answer)?);
     }
@@ -87,7 +87,7 @@ fn four_words_are_watched(rt: HostRuntime) -> Result<(), Fail> {
     let alloc = rt.alloc();
     let sizes = Config::new(5, 1, 1).ok_or("sizes")?;
     let machine = Machine::new(alloc, sizes)?;
-    let mut modes = DebugModes::new();
+    let mut modes = DebugModes::new(alloc);
     for (line, answer) in lines.iter() {
         assert!(rt; is_answer(alloc, &machine, &mut modes, line, answer)?);
     }
@@ -110,7 +110,7 @@ fn modes_take_over(rt: HostRuntime) -> Result<(), Fail> {
     let alloc = rt.alloc();
     let sizes = Config::new(5, 1, 1).ok_or("sizes")?;
     let machine = Machine::new(alloc, sizes)?;
-    let mut modes = DebugModes::new();
+    let mut modes = DebugModes::new(alloc);
     assert!(rt; !modes.takes_over());
     assert!(rt; modes.told(true) == Some(1000));
     for (line, answer, takes_over) in lines.iter() {
@@ -132,7 +132,7 @@ fn a_step_is_told(rt: HostRuntime) -> Result<(), Fail> {
     let mut session = Session::new(alloc, Machine::new(alloc, sizes)?, 100);
     let images = Images::new();
     let labels = LabelTable::new(alloc);
-    let mut modes = DebugModes::new();
+    let mut modes = DebugModes::new(alloc);
     let step = SteppingCommand::Step(1);
     let told = modes.answer(alloc, &mut session, &images, &labels, true, &step)?;
     let line = b"00008000 00000000 ANDEQ R0,R0,R0            skipped\n";

@@ -1,4 +1,5 @@
 pub mod LineLemmas
+pub mod PlaceLemmas
 pub mod PlainLemmas
 pub mod QuietLemmas
 pub mod RunLemmas

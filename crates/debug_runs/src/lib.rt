@@ -3,6 +3,7 @@
 #![tactic(auto)]
 
 mod context;
+mod counted;
 mod endings;
 mod labelling;
 pub mod laws;
@@ -13,6 +14,7 @@ mod stub_lines;
 mod telling;
 
 pub use command_shell;
+pub use debug_counts;
 pub use debug_labels;
 pub use debug_tables;
 pub use debugger;

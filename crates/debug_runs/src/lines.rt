@@ -9,16 +9,20 @@ ghost use Rattle.debug_runs.specs.Endings.{line_end_told};
 ghost use Rattle.debug_lines.specs.SteppingRequests.{Gosub, stepping_request_of};
 ghost use Rattle.debug_runs.specs.Lines.{call_line_told, finish_told, stepping_told};
 ghost use Rattle.debug_runs.specs.Lines.{told_if_awake, told_with_ending};
+ghost use Rattle.debug_runs.specs.Places.{places_if_awake, places_of_finish, places_of_line, places_of_outside, places_of_run};
 ghost use Rattle.debug_runs.specs.Runs.{steps_run};
+ghost use Rattle.debug_counts.specs.Counts.{steps_counted};
 ghost use Rattle.debug_runs.specs.Telling.{more_text};
 ghost use Rattle.debug_runs.specs.Told.{HasTold, IsSteppingTold};
 
 use crate::context::StepContext;
+use crate::counted::run_steps;
 use crate::endings::{EndKind, tell_line_end, tell_refused};
 use crate::routines::{caller_of, enter};
-use crate::running::{RunEnd, RunGoal, take_call, take_steps};
+use crate::running::{RunEnd, RunGoal, take_call};
 use crate::telling::Telling;
 use command_shell::{OutsideCall, Session};
+use debug_counts::StepCounts;
 use debug_labels::LabelTable;
 use debug_lines::SteppingCommand;
 use debug_tables::StepModes;
@@ -57,33 +61,19 @@ pub fn answer_stepping(
     alloc: Global,
     session: &mut Session,
     images: &Images,
-    modes: &mut StepModes,
+    modes: &StepModes,
+    counts: &mut StepCounts,
     labels: &LabelTable,
     line: &SteppingCommand<'_>,
     told: Option<u64>,
 ) -> Result<LineTold, AllocError>
     ensures told { let s = script_state session.old images.now in IfOk result (λ line_told. IsSteppingTold
-        (stepping_told modes.old labels.now told s (stepping_request_of line.now))
-        (script_state session.new images.now)
-        line_told.text.items line_told.printed.items line_told.ending.items) }
-    ensures modes { modes.new ≡ modes.old }
-{
-    answer_with(alloc, session, images, modes, labels, line, told)
-}
-
-fn answer_with<'a>(
-    alloc: Global,
-    session: &mut Session,
-    images: &'a Images,
-    modes: &'a StepModes,
-    labels: &'a LabelTable,
-    line: &SteppingCommand<'_>,
-    told: Option<u64>,
-) -> Result<LineTold, AllocError>
-    ensures { let s = script_state session.old images.now in IfOk result (λ line_told. IsSteppingTold
         (stepping_told modes.now labels.now told s (stepping_request_of line.now))
         (script_state session.new images.now)
         line_told.text.items line_told.printed.items line_told.ending.items) }
+    ensures counted { OnOk result (counts.new ≡ steps_counted
+        (places_of_line modes.now (script_state session.old images.now) (stepping_request_of line.now))
+        counts.old) }
 {
     let context = StepContext {
         images,
@@ -92,7 +82,7 @@ fn answer_with<'a>(
     };
     let mut telling = Telling::new(alloc, told);
     let mut ending = TextSink::new(alloc);
-    match tell_line(&mut telling, &mut ending, session, &context, line) {
+    match tell_line(&mut telling, &mut ending, session, &context, counts, line) {
         Ok(()) => Ok(LineTold {
             text: telling.text.into_bytes(),
             printed: telling.printed.into_bytes(),
@@ -107,50 +97,54 @@ fn tell_line(
     ending: &mut TextSink,
     session: &mut Session,
     context: &StepContext<'_>,
+    counts: &mut StepCounts,
     line: &SteppingCommand<'_>,
 ) -> Result<(), WriteFault>
-    ensures { let s = script_state session.old context.now.images.now in OnOk result (HasTold
+    ensures told { let s = script_state session.old context.now.images.now in OnOk result (HasTold
         (stepping_told context.now.modes.now context.now.labels.now telling.old.told s
         (stepping_request_of line.now))
         (script_state session.new context.now.images.now) telling.old telling.new ending.old ending.new) }
+    ensures counted { OnOk result (counts.new ≡ steps_counted
+        (places_of_line context.now.modes.now (script_state session.old context.now.images.now)
+        (stepping_request_of line.now)) counts.old) }
 {
     let left = session.left();
     match *line {
         SteppingCommand::Run => {
             let kind = EndKind::Steps(false);
-            tell_steps(
-                telling,
-                ending,
-                session,
-                context,
-                kind,
-                RunGoal::Nowhere,
-                left,
-            )
+            let goal = RunGoal::Nowhere;
+            tell_steps(telling, ending, session, context, counts, kind, goal, left)
         }
         SteppingCommand::Step(count) => {
             let count = u64::from(count);
             let kind = EndKind::Steps(count <= left);
             let most = count.min(left);
-            tell_steps(
+            let goal = RunGoal::Nowhere;
+            tell_steps(telling, ending, session, context, counts, kind, goal, most)
+        }
+        SteppingCommand::Call(number) => {
+            tell_call(
                 telling,
                 ending,
                 session,
                 context,
-                kind,
-                RunGoal::Nowhere,
-                most,
+                counts,
+                OutsideCall::Swi(number),
             )
         }
-        SteppingCommand::Call(number) => {
-            tell_call(telling, ending, session, context, OutsideCall::Swi(number))
-        }
         SteppingCommand::Load(text) => {
-            tell_call(telling, ending, session, context, OutsideCall::Load(text))
+            tell_call(
+                telling,
+                ending,
+                session,
+                context,
+                counts,
+                OutsideCall::Load(text),
+            )
         }
-        SteppingCommand::Finish => tell_finish(telling, ending, session, context),
+        SteppingCommand::Finish => tell_finish(telling, ending, session, context, counts),
         SteppingCommand::Gosub(address) => {
-            tell_gosub(telling, ending, session, context, address.address())
+            tell_gosub(telling, ending, session, context, counts, address.address())
         }
     }
 }
@@ -161,23 +155,27 @@ fn tell_steps(
     ending: &mut TextSink,
     session: &mut Session,
     context: &StepContext<'_>,
+    counts: &mut StepCounts,
     kind: EndKind,
     goal: RunGoal,
     most: u64,
 ) -> Result<(), WriteFault>
     requires { most ≤ (script_state session.old context.now.images.now).left }
-    ensures { let s = script_state session.old context.now.images.now in
+    ensures told { let s = script_state session.old context.now.images.now in
         let modes = context.now.modes.now in OnOk result (HasTold
         (told_if_awake telling.old.told s kind most
         (steps_run modes context.now.labels.now goal most telling.old.told s))
         (script_state session.new context.now.images.now) telling.old telling.new ending.old ending.new) }
+    ensures counted { let s = script_state session.old context.now.images.now in
+        OnOk result (counts.new ≡ steps_counted
+        (places_if_awake s most (places_of_run context.now.modes.now goal most s)) counts.old) }
 {
     if let Some(stop) = stop_within(session, most) {
         return tell_line_end(session, ending, kind, RunEnd::Stopped(stop));
     }
     let told = telling.told;
     let left = session.left();
-    let end = take_steps(telling, session, context, goal, most)?;
+    let end = run_steps(telling, session, context, counts, goal, most)?;
     tell_run_end(telling, ending, session, told, left, kind, end)
 }
 
@@ -187,13 +185,17 @@ fn tell_call(
     ending: &mut TextSink,
     session: &mut Session,
     context: &StepContext<'_>,
+    counts: &mut StepCounts,
     call: OutsideCall,
 ) -> Result<(), WriteFault>
-    ensures { let s = script_state session.old context.now.images.now in
+    ensures told { let s = script_state session.old context.now.images.now in
         OnOk result (HasTold
         (call_line_told context.now.modes.now context.now.labels.now telling.old.told s
         (outside_start_text call.entry s.machine) (first_step s call.entry))
         (script_state session.new context.now.images.now) telling.old telling.new ending.old ending.new) }
+    ensures counted { let s = script_state session.old context.now.images.now in
+        OnOk result (counts.new ≡ steps_counted
+        (places_of_outside context.now.modes.now s (first_step s call.entry)) counts.old) }
 {
     let left = session.left();
     if let Some(stop) = stop_within(session, left) {
@@ -201,7 +203,7 @@ fn tell_call(
     }
     let told = telling.told;
     let goal = RunGoal::Frames(session.machine().frames());
-    let end = take_call(telling, session, context, call, goal, left)?;
+    let end = take_call(telling, session, context, counts, call, goal, left)?;
     tell_run_end(telling, ending, session, told, left, EndKind::Call, end)
 }
 
@@ -210,19 +212,32 @@ fn tell_finish(
     ending: &mut TextSink,
     session: &mut Session,
     context: &StepContext<'_>,
+    counts: &mut StepCounts,
 ) -> Result<(), WriteFault>
-    ensures { let s = script_state session.old context.now.images.now in
+    ensures told { let s = script_state session.old context.now.images.now in
         OnOk result (HasTold
         (finish_told context.now.modes.now context.now.labels.now telling.old.told s
         (length s.machine.tables.frames))
         (script_state session.new context.now.images.now) telling.old telling.new ending.old ending.new) }
+    ensures counted { let s = script_state session.old context.now.images.now in
+        OnOk result (counts.new ≡ steps_counted
+        (places_of_finish context.now.modes.now s (length s.machine.tables.frames)) counts.old) }
 {
     match session.machine().frames() {
         0 => tell_refused(ending, b"NoFrame"),
         frames => {
             let goal = RunGoal::Frames(frames - 1);
             let left = session.left();
-            tell_steps(telling, ending, session, context, EndKind::Call, goal, left)
+            tell_steps(
+                telling,
+                ending,
+                session,
+                context,
+                counts,
+                EndKind::Call,
+                goal,
+                left,
+            )
         }
     }
 }
@@ -232,14 +247,18 @@ fn tell_gosub(
     ending: &mut TextSink,
     session: &mut Session,
     context: &StepContext<'_>,
+    counts: &mut StepCounts,
     address: u32,
 ) -> Result<(), WriteFault>
     requires aligned { address % 4 ≡ 0 }
     requires inside { address < 2 ^ 26 }
-    ensures { let s = script_state session.old context.now.images.now in
+    ensures told { let s = script_state session.old context.now.images.now in
         let modes = context.now.modes.now in OnOk result (HasTold
         (stepping_told modes context.now.labels.now telling.old.told s (Gosub address))
         (script_state session.new context.now.images.now) telling.old telling.new ending.old ending.new) }
+    ensures counted { OnOk result (counts.new ≡ steps_counted
+        (places_of_line context.now.modes.now (script_state session.old context.now.images.now)
+        (Gosub address)) counts.old) }
 {
     let left = session.left();
     let kind = EndKind::Routine(caller_of(session));
@@ -249,7 +268,7 @@ fn tell_gosub(
     let told = telling.told;
     let goal = RunGoal::Routine(session.machine().frames());
     enter(session, address);
-    let end = take_steps(telling, session, context, goal, left)?;
+    let end = run_steps(telling, session, context, counts, goal, left)?;
     tell_run_end(telling, ending, session, told, left, kind, end)
 }
 

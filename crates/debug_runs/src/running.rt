@@ -1,6 +1,6 @@
 //! Runs of a debugger, step by step.
 
-ghost use Rattle.std.specs.Prelude.{◌≡◌, ◌≤◌, ◌<◌, ◌-◌, ℕ, List, None, IfOk};
+ghost use Rattle.std.specs.Prelude.{◌≡◌, ◌≤◌, ◌<◌, ◌-◌, ℕ, List, None, IfOk, OnOk};
 ghost use Rattle.image_loader.specs.Entries.{Entry};
 ghost use Rattle.address_map.specs.Memory.{bytes_of};
 ghost use Rattle.command_shell.specs.Calls.{first_step};
@@ -9,13 +9,17 @@ ghost use Rattle.command_shell.specs.State.{ScriptState};
 ghost use Rattle.debug_runs.specs.Runs.{are_unseen, call_run, end_after, is_reached, quiet_end};
 ghost use Rattle.debug_runs.specs.Runs.{is_nowhere, run_unless, steps_run, watched_end};
 ghost use Rattle.debug_runs.specs.Calls.{outside_text};
+ghost use Rattle.debug_runs.specs.Places.{places_of_call};
 ghost use Rattle.debug_runs.specs.Told.{IsAfterStepping};
+ghost use Rattle.debug_counts.specs.Counts.{steps_counted};
 ghost use Rattle.debug_tables.specs.WordWatches.{watched_words};
 ghost use Rattle.swi_dispatch_guest.specs.Parts.{state_of};
 
 use crate::context::StepContext;
+use crate::counted::run_steps;
 use crate::telling::{Telling, is_step_told};
 use command_shell::{OutsideCall, Session};
+use debug_counts::StepCounts;
 use debug_tables::{StepModes, WatchHit, WatchedWord, first_change};
 use debugger::swi_dispatch::Machine;
 use profile::memory_map::ADDRESS_LIMIT;
@@ -46,7 +50,7 @@ pub enum RunEnd {
     Stopped(Stop),
 }
 
-/// Takes so many steps at most, until the goal is reached or the run is stopped.
+/// Takes so many steps at most, until the goal is reached or the run is stopped, and counts none.
 pub(crate) fn take_steps(
     telling: &mut Telling,
     session: &mut Session,
@@ -129,35 +133,40 @@ fn quiet_end(stop: Stop) -> Option<RunEnd>
     }
 }
 
-/// Takes so many steps at most, the first of which is a call from outside.
+/// Takes so many steps at most, the first of which is a call from outside, and counts the others
+/// where steps are counted.
 pub(crate) fn take_call(
     telling: &mut Telling,
     session: &mut Session,
     context: &StepContext<'_>,
+    counts: &mut StepCounts,
     call: OutsideCall,
     goal: RunGoal,
     most: u64,
 ) -> Result<RunEnd, WriteFault>
     requires some { 0 < most }
     requires enough { most ≤ (script_state session.old context.now.images.now).left }
-    ensures { let s = script_state session.old context.now.images.now in
+    ensures ran { let s = script_state session.old context.now.images.now in
         let o = first_step s call.entry in
         IfOk result (λ end. IsAfterStepping
         (call_run context.now.modes.now context.now.labels.now goal most telling.old.told s
         (outside_text call.entry s.machine o) o)
         (script_state session.new context.now.images.now) telling.old telling.new end) }
+    ensures counted { let s = script_state session.old context.now.images.now in
+        OnOk result (counts.new ≡ steps_counted
+        (places_of_call context.now.modes.now goal most s (first_step s call.entry)) counts.old) }
 {
     let words = context.modes.watches.words(session.machine().memory());
     telling.begin(session, context, call)?;
     match end_after(session, goal, words.as_slice()) {
         Some(end) => Ok(end),
-        None => take_steps(telling, session, context, goal, most - 1),
+        None => run_steps(telling, session, context, counts, goal, most - 1),
     }
 }
 
-// Why a run goes no further after a step before which the watched words were these, if it does not.
+/// Why a run goes no further after a step before which the watched words were these, if it does not.
 #[tactic(auto, unfolding(crate::specs::Runs::end_after))]
-fn end_after(session: &Session, goal: RunGoal, words: &[WatchedWord]) -> Option<RunEnd>
+pub(crate) fn end_after(session: &Session, goal: RunGoal, words: &[WatchedWord]) -> Option<RunEnd>
     ensures { (images : List Entry) → (before : ScriptState) → (watches : List ℕ)
         → words.now ≡ watched_words watches before.machine.store.bytes
         → result ≡ end_after watches goal before (script_state session.now images) }

@@ -9,7 +9,7 @@ use Rattle.debug_labels.specs.Words.{Naming}
 use Rattle.command_shell_lines.specs.Requests.{Request, Nothing, Hex, Asm, Boot, Run, Regs, Set, Poke, Call, Load, Step}
 use Rattle.command_shell_lines.specs.Requests.{Break, Unbreak, Mem, Code, Heap, Areas, Modules, Flex, Unknown}
 use Rattle.command_shell_lines.specs.Requests.{opens_block, request_of}
-use Rattle.debug_lines.specs.DebugRequests.{DebugRequest, Script, Stepping, Mode, Remark, View, SetPc, SetPsr, Put, Forget, Reset, Quit, Expect, Repeat, NotKnown}
+use Rattle.debug_lines.specs.DebugRequests.{DebugRequest, Script, Stepping, Mode, Remark, View, SetPc, SetPsr, Put, Forget, Counts, Reset, Quit, Expect, Repeat, NotKnown}
 use Rattle.debug_lines.specs.DebugRequests.{debug_opens_block, is_known, is_repeatable, is_script_request, own_request, own_request_by, repeated_at, repeated_behind, repeated_if, repeated_line, simple_request}
 use Rattle.debug_lines.specs.Repeats.{repeated_text}
 use Rattle.debug_lines.specs.SteppingRequests.{SteppingRequest}
@@ -70,6 +70,7 @@ request_alone c d number words (SetPc address) block other alone = refl
 request_alone c d number words (SetPsr pattern) block other alone = refl
 request_alone c d number words (Put name address) block other alone = refl
 request_alone c d number words (Forget name) block other alone = refl
+request_alone c d number words (Counts name) block other alone = refl
 request_alone c d number words Reset block other alone = refl
 request_alone c d number words Quit block other alone = refl
 request_alone c d number words (Expect expected) block other alone = refl

@@ -5,7 +5,7 @@ use Rattle.std.proofs.lemmas.Bool.{not-true}
 use Rattle.debug_labels.specs.Lines.{line_with_numbers}
 use Rattle.debug_labels.specs.Words.{Naming}
 use Rattle.command_shell_lines.specs.Requests.{Request, opens_block}
-use Rattle.debug_lines.specs.DebugRequests.{DebugRequest, Script, Stepping, Mode, Remark, View, SetPc, SetPsr, Put, Forget, Reset, Quit, Expect, Repeat, NotKnown, debug_opens_block, is_known, is_repeatable, own_request, own_request_by, repeated_line, simple_request}
+use Rattle.debug_lines.specs.DebugRequests.{DebugRequest, Script, Stepping, Mode, Remark, View, SetPc, SetPsr, Put, Forget, Counts, Reset, Quit, Expect, Repeat, NotKnown, debug_opens_block, is_known, is_repeatable, own_request, own_request_by, repeated_line, simple_request}
 use Rattle.debug_lines.specs.Repeats.{repeated_text}
 use Rattle.debug_session.specs.Naming.{if_repeatable, meant_request, repeated_with_places, unless_alone}
 
@@ -20,6 +20,7 @@ repeatable_alone (View shown) may = refl
 repeatable_alone (SetPc address) may = refl
 repeatable_alone (SetPsr pattern) may = refl
 repeatable_alone (Forget name) may = refl
+repeatable_alone (Counts name) may = refl
 repeatable_alone Reset may = refl
 repeatable_alone Quit may = refl
 repeatable_alone (Expect expected) may = refl
@@ -37,6 +38,7 @@ unknown_alone (View shown) none = refl
 unknown_alone (SetPc address) none = refl
 unknown_alone (SetPsr pattern) none = refl
 unknown_alone (Forget name) none = refl
+unknown_alone (Counts name) none = refl
 unknown_alone Reset none = refl
 unknown_alone Quit none = refl
 unknown_alone (Expect expected) none = refl

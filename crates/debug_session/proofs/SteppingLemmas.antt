@@ -63,14 +63,14 @@ written_both a b c form xs ys first next =
     subst (λ (text : List ℕ). Appends a c text) (answers_joined form xs ys)
     (Appends-join a b c (answer_in form xs) (answer_in form ys) first next)
 
--- what steps left, told from the state after them
-pub steps_told : (before after : Option (List ℕ)) (c : DebugSetting) (d now : DebugState) (mid : ScriptState) (modes : DebugModes)
+-- what steps left, told from the state and in the modes after them
+pub steps_told : (before after : Option (List ℕ)) (c : DebugSetting) (d now : DebugState) (mid : ScriptState) (modes kept : DebugModes)
     (s : ScriptState) (text text' printed printed' ending ending' : List ℕ)
-    → modes ≡ d.modes → mid ≡ s → text ≡ text' → printed ≡ printed' → ending ≡ ending'
+    → modes ≡ kept → mid ≡ s → text ≡ text' → printed ≡ printed' → ending ≡ ending'
     → IsDebugged before after now
     (stepping_told_by c (record d { script = mid; modes = modes }) mid text printed ending)
-    → IsDebugged before after now (stepping_told_by c d s text' printed' ending')
-steps_told before after c d now mid modes s text text' printed printed' ending ending' same is told prints ends written =
+    → IsDebugged before after now (stepping_told_by c (record d { modes = kept }) s text' printed' ending')
+steps_told before after c d now mid modes kept s text text' printed printed' ending ending' same is told prints ends written =
     subst (λ (x : DebugAnswered). IsDebugged before after now x) (rw (same, is, told, prints, ends) refl) written
 
 -- the bytes of an image written, or refused

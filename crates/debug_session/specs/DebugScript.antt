@@ -15,7 +15,7 @@ use Rattle.command_shell_lines.specs.Blocks.{block_lines, lines_after, lines_tak
 use Rattle.command_shell_lines.specs.Requests.{Request, Nothing, Hex, Asm, Run, Call, Load, Step, opens_block}
 use Rattle.debug_checks.specs.Checks.{Seen, check_told, status_after_pattern}
 use Rattle.debug_checks.specs.Endings.{ending_of, output_of}
-use Rattle.debug_lines.specs.DebugRequests.{DebugRequest, Script, Stepping, Mode, Remark, SetPc, SetPsr, Put, Forget, Reset, Quit, Expect, Repeat, NotKnown}
+use Rattle.debug_lines.specs.DebugRequests.{DebugRequest, Script, Stepping, Mode, Remark, SetPc, SetPsr, Put, Forget, Counts, Reset, Quit, Expect, Repeat, NotKnown}
 use Rattle.debug_lines.specs.DebugRequests.{debug_opens_block, debug_request, is_script_request}
 use Rattle.debug_lines.specs.DebugRequests.{ViewRequest, View, Words, Where, Banks, Stack, Frames, Labels, Help}
 use Rattle.swi_dispatch_guest.specs.MachineState.{MachineState}
@@ -24,8 +24,9 @@ use Rattle.debug_lines.specs.Expectations.{ExpectRequest}
 use Rattle.debug_lines.specs.ModeRequests.{ModeRequest}
 use Rattle.debug_lines.specs.SteppingRequests.{SteppingRequest, stepping_in}
 use Rattle.debug_modes.specs.Changes.{ModeTold, mode_told}
+use Rattle.debug_modes.specs.Counting.{counts_text}
 use Rattle.debug_modes.specs.Modes.{takes_over}
-use Rattle.debug_modes.specs.Stepping.{stepping_in_modes}
+use Rattle.debug_modes.specs.Stepping.{modes_after, stepping_in_modes}
 use Rattle.debug_lines.specs.Tidy.{tidied_line}
 use Rattle.debug_labels.specs.Labels.{ImageLabels, without_labels}
 use Rattle.debug_labels.specs.Views.{labels_text}
@@ -122,8 +123,10 @@ stepping_told_by c d now text printed ending = debug_answer
 -- It may take the whole budget, too.
 abbrev pub stepping_line_told : DebugSetting → DebugState → Bool → SteppingRequest → DebugAnswered
 stepping_line_told c d is_traced request =
-    let told = stepping_in_modes d.modes d.labels is_traced (script_with_budget d.script c.budget) request in
-    stepping_told_by c d told.now told.text told.printed told.ending
+    let s = script_with_budget d.script c.budget in
+    let told = stepping_in_modes d.modes d.labels is_traced s request in
+    let after = record d { modes = modes_after d.modes s request } in
+    stepping_told_by c after told.now told.text told.printed told.ending
 
 -- what a line of a script asks for, where modes are set in which its steps are answered otherwise
 abbrev pub stepping_now : DebugState → Request → Option SteppingRequest
@@ -174,6 +177,11 @@ forget_told c d name = view_told c
       labels = without_labels d.labels name;
     })
     (forget_text (is_some (bytes_of_image d.script.images name)) name)
+
+-- COUNTS
+abbrev pub counts_told : DebugSetting → DebugState → List ℕ → DebugAnswered
+counts_told c d name =
+    view_told c d (counts_text d.modes.counts (naming_of d) d.script.machine.store.bytes name)
 
 -- `put count at &9000`
 abbrev pub put_text : List ℕ → ℕ → List ℕ
@@ -233,6 +241,7 @@ simple_request_told c d number words (SetPsr pattern) block = machine_change_tol
     (script_with_status d.script (status_after_pattern pattern d.script.machine.cpu.psr))
 simple_request_told c d number words (Put name address) block = put_told c d name address
 simple_request_told c d number words (Forget name) block = forget_told c d name
+simple_request_told c d number words (Counts name) block = counts_told c d name
 simple_request_told c d number words Reset block = reset_told c d
 simple_request_told c d number words Quit block = debug_answer (record d { has_quit = true }) []
 simple_request_told c d number words (Expect expected) block =

@@ -262,6 +262,7 @@ impl DebugSession {
             }
             DebugCommand::Put(name, address) => self.put(images, sink, name, address),
             DebugCommand::Forget(name) => self.forget(images, sink, name),
+            DebugCommand::Counts(name) => self.counts(sink, name),
             DebugCommand::Reset => self.reset(sink),
             DebugCommand::Quit => {
                 self.has_quit = true;

@@ -19,6 +19,7 @@ lines of a debugging script:
   PUT name a                                 an image's bytes to an address
   STUB n R0 v .., UNSTUB n                   a SWI that the machine doesn't have
   WATCH a, UNWATCH a                         a run ends where the word changes
+  COUNT ON, COUNT OFF, COUNTS name           how often the steps of an image were taken
   label, image:label+4, R1, PC-4             in place of an address, or behind SET x, EXPECT x
   EXPECT R0 v, R13_svc v, PC v, FLAGS Zc     what should be so, or the script fails
   EXPECT WORD a v, BYTE a v, STEPS n, STEPS <= n

@@ -5,7 +5,6 @@ ghost use Rattle.std.specs.Option.{option_map};
 ghost use Rattle.image_loader.specs.Entries.{bytes_of_image};
 ghost use Rattle.command_shell.specs.Error.{IsLineError};
 ghost use Rattle.debug_checks.specs.Reasons.{reason_text};
-ghost use Rattle.command_shell.specs.Answers.{refused_text};
 ghost use Rattle.debug_session.specs.DebugScript.{forget_text, put_text};
 ghost use Rattle.profile.specs.Output.{Writes};
 
@@ -17,6 +16,7 @@ use command_shell::{RunError, tell_unknown};
 use command_shell_lines::Origin;
 use debug_checks::{Mismatch, SeenMachine, check, push_reason, status_with};
 use debug_lines::{DebugView, Expectation, StatusPattern};
+use debug_modes::refused_line;
 use debug_places::{names_on, show_frames, show_stack, show_where};
 use debug_views::{show_banks, show_words};
 use image_loader::Images;
@@ -119,14 +119,14 @@ impl DebugSession {
         ensures same_flag { OnOk result (W.has_failed sink.new ≡ W.has_failed sink.old) }
     {
         let Some(bytes) = images.get(name) else {
-            let text = refused_text(self.alloc, b"NoImage")?;
+            let text = refused_line(self.alloc, b"NoImage")?;
             return Ok(self.view(sink, text)?);
         };
         let done = put_text(self.alloc, name, address)?;
         match put_bytes(&mut self.session, address, bytes) {
             Ok(()) => Ok(self.view(sink, done)?),
             Err(fault) => {
-                let text = refused_text(self.alloc, fault.name().as_bytes())?;
+                let text = refused_line(self.alloc, fault.name().as_bytes())?;
                 Ok(self.view(sink, text)?)
             }
         }
@@ -301,16 +301,6 @@ fn put_text(alloc: Global, name: &[u8], address: u32) -> Result<Vec<u8>, AllocEr
     text.extend_from_slice(name)?;
     text.extend_from_slice(b" at &")?;
     text.extend_from_slice(HexText::number(address).as_slice())?;
-    text.push(b'\n')?;
-    Ok(text)
-}
-
-#[tactic(auto, unfolding(command_shell::specs::Answers::refused_text))]
-fn refused_text(alloc: Global, reason: &[u8]) -> Result<Vec<u8>, AllocError>
-    ensures { IfOk result (λ text. text.items ≡ refused_text reason.now) }
-{
-    let mut text = Vec::from_slice(alloc, b"refused ")?;
-    text.extend_from_slice(reason)?;
     text.push(b'\n')?;
     Ok(text)
 }

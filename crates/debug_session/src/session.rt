@@ -64,7 +64,7 @@ impl DebugSession {
             setting,
             session: Session::on_fresh_machine(alloc, setting.config, setting.budget)?,
             labels: LabelTable::new(alloc),
-            modes: DebugModes::new(),
+            modes: DebugModes::new(alloc),
             answer: Vec::new(alloc),
             output: Vec::new(alloc),
             steps: 0,

@@ -18,7 +18,7 @@ use profile::{Sink, WriteFault};
 
 impl DebugSession {
     ghost use Rattle.image_loader.specs.Entries.{Entry};
-    ghost use Rattle.debug_session.specs.DebugScript.{mode_line_told, script_line_told, stepping_line_told, stepping_now, stepping_told_by};
+    ghost use Rattle.debug_session.specs.DebugScript.{counts_told, mode_line_told, script_line_told, stepping_line_told, stepping_now, stepping_told_by};
     ghost use Rattle.debug_session.specs.DebugState.{IsDebugged};
     ghost use Rattle.debug_session.specs.Session.{debug_state};
 
@@ -112,6 +112,22 @@ impl DebugSession {
         self.answer = ending;
         self.output = printed;
         Ok(())
+    }
+
+    /// Shows how often the steps of the words of the image of that name were taken, where it stands now.
+    pub(crate) fn counts<W: Sink>(&mut self, sink: &mut W, name: &[u8]) -> Result<(), RunError>
+        ensures told { (images : List Entry) → OnOk result
+            (IsDebugged (W.contents sink.old) (W.contents sink.new) (debug_state self.new images)
+            (counts_told self.old.setting (debug_state self.old images) name.now)) }
+        ensures setting { self.new.setting ≡ self.old.setting }
+        ensures errors { IfErr result IsLineError }
+        ensures same_flag { OnOk result (W.has_failed sink.new ≡ W.has_failed sink.old) }
+    {
+        let machine = self.session.machine();
+        let text = self
+            .modes
+            .counts_text(self.alloc, &self.labels, machine, name)?;
+        Ok(self.view(sink, text)?)
     }
 
     /// Changes the modes, and tells what has become of them.

@@ -12,11 +12,14 @@ use Rattle.debug_runs.specs.Runs.{call_run}
 use Rattle.debug_runs.specs.declared.endings.EndKind.TheVariants as kind
 use Rattle.debug_runs.specs.declared.running.RunEnd.TheVariants as end
 use Rattle.debug_runs.specs.declared.running.RunGoal.TheVariants as goal_of
+use Rattle.debug_counts.specs.Counts.{steps_counted}
+use Rattle.debug_runs.specs.Places.{places_of_call}
+use Rattle.debug_runs.proofs.PlaceLemmas.{counts_awake, counts_refused}
 use Rattle.debug_runs.proofs.LineLemmas.{at_once, call_ran, goes, has_same, refused, run_tells}
 use Rattle.debug_runs.proofs.lines.tell_call.Goals as goal
 
-pub returns-in-Some : goal.returns-in-Some
-returns-in-Some c =
+pub returns-in-Some-clause-told : goal.returns-in-Some-clause-told
+returns-in-Some-clause-told c =
     let images = c.args.context.now.images.now in
     let s = script_state c.args.session.now images in
     let t = c.args.telling.now in
@@ -33,8 +36,8 @@ returns-in-Some c =
     (at_once c.tell_line_end.result a (script_state c.tell_line_end.new.session images) t c.args.ending.now c.tell_line_end.new.sink
     (c.tell_line_end.ensures images))
 
-pub returns : goal.returns
-returns c =
+pub returns-clause-told : goal.returns-clause-told
+returns-clause-told c =
     let images = c.args.context.now.images.now in
     let s = script_state c.args.session.now images in
     let t = c.args.telling.now in
@@ -52,7 +55,7 @@ returns c =
     let is : stop_before_step_by s.machine.halt s.left ≡ None =
     ap (stop_before_step_by s.machine.halt) (sym left) ∙ (sym (c.stop_within.ensures images) ∙ c.in_default.is) in
     let ran = call_ran modes labels t.told s mid text o c.frames.result c.left-left.result t c.take_call.new.telling c.in_ok-end.end
-    frames left c.in_ok-end.ensures in
+    frames left c.in_ok-end.ensures.ran in
     has_same c.tell_run_end.result (steps_line_told t.told s kind.Call r) (call_line_told modes labels t.told s start o) now
     t c.tell_run_end.new.telling c.args.ending.now c.tell_run_end.new.ending (goes t.told s kind.Call s.left r is)
     (run_tells c.tell_run_end.result t.told s mid now kind.Call r c.in_ok-end.end c.left-left.result
@@ -63,3 +66,31 @@ pub take_call-requires-clause-some : goal.take_call-requires-clause-some
 take_call-requires-clause-some c =
     let images = c.args.context.now.images.now in
     can_step (script_state c.args.session.now images).machine.halt c.left-left.result (sym (c.stop_within.ensures images) ∙ c.in_default.is)
+
+pub returns-in-Some-clause-counted : goal.returns-in-Some-clause-counted
+returns-in-Some-clause-counted c =
+    let images = c.args.context.now.images.now in
+    let s = script_state c.args.session.now images in
+    let o = first_step s c.args.call in
+    let is : stop_before_step_by s.machine.halt s.left ≡ Some c.in-Some.stop =
+    ap (stop_before_step_by s.machine.halt) (sym (c.left-left.ensures images)) ∙ (sym (c.stop_within.ensures images) ∙ c.in-Some.is) in
+    counts_refused c.tell_line_end.result s s.left
+    (places_of_call c.args.context.now.modes.now (goal_of.Frames (length s.machine.tables.frames)) s.left s o)
+    c.args.counts.now c.in-Some.stop is
+
+pub returns-clause-counted : goal.returns-clause-counted
+returns-clause-counted c =
+    let images = c.args.context.now.images.now in
+    let s = script_state c.args.session.now images in
+    let modes = c.args.context.now.modes.now in
+    let o = first_step s c.args.call in
+    let left = c.left-left.ensures images in
+    let frames : c.frames.result ≡ length s.machine.tables.frames =
+    c.frames.ensures.value ∙ ap (λ (m : MachineValue). length (state_of m.guest).tables.frames) c.machine.ensures in
+    let is : stop_before_step_by s.machine.halt s.left ≡ None =
+    ap (stop_before_step_by s.machine.halt) (sym left) ∙ (sym (c.stop_within.ensures images) ∙ c.in_default.is) in
+    let same : steps_counted (places_of_call modes (goal_of.Frames c.frames.result) c.left-left.result s o) c.args.counts.now
+    ≡ steps_counted (places_of_call modes (goal_of.Frames (length s.machine.tables.frames)) s.left s o) c.args.counts.now =
+    λ i. steps_counted (places_of_call modes (goal_of.Frames (frames i)) (left i) s o) c.args.counts.now in
+    counts_awake c.tell_run_end.result s s.left (places_of_call modes (goal_of.Frames (length s.machine.tables.frames)) s.left s o)
+    c.args.counts.now c.take_call.new.counts is (c.in_ok-end.ensures.counted ∙ same)

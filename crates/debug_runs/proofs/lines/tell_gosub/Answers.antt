@@ -15,11 +15,14 @@ use Rattle.debug_runs.specs.Told.{HasTold}
 use Rattle.debug_runs.specs.declared.endings.EndKind.TheVariants as kind
 use Rattle.debug_runs.specs.declared.running.RunEnd.TheVariants as end
 use Rattle.debug_runs.specs.declared.running.RunGoal.TheVariants as goal_of
+use Rattle.debug_counts.specs.Counts.{steps_counted}
+use Rattle.debug_runs.specs.Places.{places_if_awake, places_of_line, places_of_run}
+use Rattle.debug_runs.proofs.PlaceLemmas.{counts_awake, counts_refused, counts_same, gosub_places}
 use Rattle.debug_runs.proofs.LineLemmas.{at_once, goes, gosub_is, gosub_ran, has_same, refused, run_tells}
 use Rattle.debug_runs.proofs.lines.tell_gosub.Goals as goal
 
-pub returns-in-Some : goal.returns-in-Some
-returns-in-Some c =
+pub returns-in-Some-clause-told : goal.returns-in-Some-clause-told
+returns-in-Some-clause-told c =
     let images = c.args.context.now.images.now in
     let s = script_state c.args.session.now images in
     let t = c.args.telling.now in
@@ -35,8 +38,8 @@ returns-in-Some c =
     t t c.args.ending.now c.tell_line_end.new.sink (gosub_is modes labels t.told s c.args.address ∙ refused t.told s k s.left r c.in-Some.stop is)
     (at_once c.tell_line_end.result a now t c.args.ending.now c.tell_line_end.new.sink (c.tell_line_end.ensures images))
 
-pub returns : goal.returns
-returns c =
+pub returns-clause-told : goal.returns-clause-told
+returns-clause-told c =
     let images = c.args.context.now.images.now in
     let s = script_state c.args.session.now images in
     let t = c.args.telling.now in
@@ -44,16 +47,16 @@ returns c =
     let labels = c.args.context.now.labels.now in
     let k = kind.Routine (caller_in s) in
     let r = steps_run modes labels (goal_of.Routine (length s.machine.tables.frames)) s.left t.told (script_at_routine s c.args.address) in
-    let mid = script_state c.take_steps.new.session images in
+    let mid = script_state c.run_steps.new.session images in
     let now = script_state c.tell_run_end.new.session images in
     let left = c.left-left.ensures images in
     let frames = c.frames.ensures.value ∙ ap (λ (m : MachineValue). length (state_of m.guest).tables.frames) c.machine.ensures in
     let is : stop_before_step_by s.machine.halt s.left ≡ None =
     ap (stop_before_step_by s.machine.halt) (sym left) ∙ (sym (c.stop_within.ensures images) ∙ c.in_default.is) in
     let ran = gosub_ran modes labels t.told s (script_state c.enter.new.session images) mid c.args.address c.frames.result c.left-left.result
-    t c.take_steps.new.telling c.in_ok-end.end frames left (c.enter.ensures images) c.in_ok-end.ensures in
+    t c.run_steps.new.telling c.in_ok-end.end frames left (c.enter.ensures images) c.in_ok-end.ensures.ran in
     let told = run_tells c.tell_run_end.result t.told s mid now (kind.Routine c.caller_of.result) r c.in_ok-end.end c.left-left.result
-    t c.take_steps.new.telling c.tell_run_end.new.telling c.args.ending.now c.tell_run_end.new.ending
+    t c.run_steps.new.telling c.tell_run_end.new.telling c.args.ending.now c.tell_run_end.new.ending
     ran left (c.tell_run_end.ensures images) in
     has_same c.tell_run_end.result (steps_line_told t.told s k r) (stepping_told modes labels t.told s (Gosub c.args.address)) now
     t c.tell_run_end.new.telling c.args.ending.now c.tell_run_end.new.ending
@@ -61,9 +64,40 @@ returns c =
     (subst (λ (x : CallerState). OnOk c.tell_run_end.result (HasTold (steps_line_told t.told s (kind.Routine x) r) now
     t c.tell_run_end.new.telling c.args.ending.now c.tell_run_end.new.ending)) (c.caller_of.ensures images) told)
 
-pub take_steps-requires : goal.take_steps-requires
-take_steps-requires c =
+pub run_steps-requires : goal.run_steps-requires
+run_steps-requires c =
     let images = c.args.context.now.images.now in
     let left = c.left-left.ensures images in
     let same = ap (λ (w : ScriptState). w.left) (c.enter.ensures images) in
     omega (arith, left, same)
+
+pub returns-in-Some-clause-counted : goal.returns-in-Some-clause-counted
+returns-in-Some-clause-counted c =
+    let images = c.args.context.now.images.now in
+    let s = script_state c.args.session.now images in
+    let modes = c.args.context.now.modes.now in
+    let places = places_of_run modes (goal_of.Routine (length s.machine.tables.frames)) s.left (script_at_routine s c.args.address) in
+    let is : stop_before_step_by s.machine.halt s.left ≡ Some c.in-Some.stop =
+    ap (stop_before_step_by s.machine.halt) (sym (c.left-left.ensures images)) ∙ (sym (c.stop_within.ensures images) ∙ c.in-Some.is) in
+    counts_same c.tell_line_end.result (places_if_awake s s.left places) (places_of_line modes s (Gosub c.args.address))
+    c.args.counts.now c.args.counts.now (gosub_places modes s c.args.address)
+    (counts_refused c.tell_line_end.result s s.left places c.args.counts.now c.in-Some.stop is)
+
+pub returns-clause-counted : goal.returns-clause-counted
+returns-clause-counted c =
+    let images = c.args.context.now.images.now in
+    let s = script_state c.args.session.now images in
+    let modes = c.args.context.now.modes.now in
+    let left = c.left-left.ensures images in
+    let frames : c.frames.result ≡ length s.machine.tables.frames =
+    c.frames.ensures.value ∙ ap (λ (m : MachineValue). length (state_of m.guest).tables.frames) c.machine.ensures in
+    let entered = c.enter.ensures images in
+    let places = places_of_run modes (goal_of.Routine (length s.machine.tables.frames)) s.left (script_at_routine s c.args.address) in
+    let is : stop_before_step_by s.machine.halt s.left ≡ None =
+    ap (stop_before_step_by s.machine.halt) (sym left) ∙ (sym (c.stop_within.ensures images) ∙ c.in_default.is) in
+    let same : steps_counted (places_of_run modes (goal_of.Routine c.frames.result) c.left-left.result (script_state c.enter.new.session images)) c.args.counts.now
+    ≡ steps_counted places c.args.counts.now =
+    λ i. steps_counted (places_of_run modes (goal_of.Routine (frames i)) (left i) (entered i)) c.args.counts.now in
+    counts_same c.tell_run_end.result (places_if_awake s s.left places) (places_of_line modes s (Gosub c.args.address))
+    c.args.counts.now c.run_steps.new.counts (gosub_places modes s c.args.address)
+    (counts_awake c.tell_run_end.result s s.left places c.args.counts.now c.run_steps.new.counts is (c.in_ok-end.ensures.counted ∙ same))

@@ -10,11 +10,13 @@ use Rattle.debug_runs.specs.Lines.{call_line_told, finish_told, stepping_told, t
 use Rattle.debug_runs.specs.Runs.{steps_run}
 use Rattle.debug_runs.specs.declared.endings.EndKind.TheVariants as kind
 use Rattle.debug_runs.specs.declared.running.RunGoal.TheVariants as goal_of
+use Rattle.debug_runs.specs.Places.{places_if_awake, places_of_finish, places_of_line, places_of_outside, places_of_run}
+use Rattle.debug_runs.proofs.PlaceLemmas.{call_places, counts_same, finish_places, load_places, run_places, step_places}
 use Rattle.debug_runs.proofs.LineLemmas.{call_is, finish_is, has_same, load_is, run_is, step_is}
 use Rattle.debug_runs.proofs.lines.tell_line.Goals as goal
 
-pub returns-in-Run : goal.returns-in-Run
-returns-in-Run c =
+pub returns-in-Run-clause-told : goal.returns-in-Run-clause-told
+returns-in-Run-clause-told c =
     let images = c.args.context.now.images.now in
     let s = script_state c.args.session.now images in
     let t = c.args.telling.now in
@@ -29,10 +31,10 @@ returns-in-Run c =
     (stepping_told modes labels t.told s (stepping_request_of c.args.line.now)) (script_state c.tell_steps.new.session images)
     t c.tell_steps.new.telling c.args.ending.now c.tell_steps.new.ending
     (ap (λ (l : SteppingCommand). stepping_told modes labels t.told s (stepping_request_of l)) c.in-Run.is ∙ (run_is modes labels t.told s ∙ sym same))
-    c.tell_steps.ensures
+    c.tell_steps.ensures.told
 
-pub returns-in-Step : goal.returns-in-Step
-returns-in-Step c =
+pub returns-in-Step-clause-told : goal.returns-in-Step-clause-told
+returns-in-Step-clause-told c =
     let images = c.args.context.now.images.now in
     let s = script_state c.args.session.now images in
     let t = c.args.telling.now in
@@ -52,10 +54,10 @@ returns-in-Step c =
     (stepping_told modes labels t.told s (stepping_request_of c.args.line.now)) (script_state c.tell_steps-in-Step.new.session images)
     t c.tell_steps-in-Step.new.telling c.args.ending.now c.tell_steps-in-Step.new.ending
     (ap (λ (l : SteppingCommand). stepping_told modes labels t.told s (stepping_request_of l)) c.in-Step.is ∙ (step_is modes labels t.told s count ∙ sym same))
-    c.tell_steps-in-Step.ensures
+    c.tell_steps-in-Step.ensures.told
 
-pub returns-in-Call : goal.returns-in-Call
-returns-in-Call c =
+pub returns-in-Call-clause-told : goal.returns-in-Call-clause-told
+returns-in-Call-clause-told c =
     let images = c.args.context.now.images.now in
     let s = script_state c.args.session.now images in
     let t = c.args.telling.now in
@@ -67,10 +69,10 @@ returns-in-Call c =
     (stepping_told modes labels t.told s (stepping_request_of c.args.line.now)) (script_state c.tell_call.new.session images)
     t c.tell_call.new.telling c.args.ending.now c.tell_call.new.ending
     (ap (λ (l : SteppingCommand). stepping_told modes labels t.told s (stepping_request_of l)) c.in-Call.is ∙ call_is modes labels t.told s number)
-    c.tell_call.ensures
+    c.tell_call.ensures.told
 
-pub returns-in-Load : goal.returns-in-Load
-returns-in-Load c =
+pub returns-in-Load-clause-told : goal.returns-in-Load-clause-told
+returns-in-Load-clause-told c =
     let images = c.args.context.now.images.now in
     let s = script_state c.args.session.now images in
     let t = c.args.telling.now in
@@ -82,10 +84,10 @@ returns-in-Load c =
     (stepping_told modes labels t.told s (stepping_request_of c.args.line.now)) (script_state c.tell_call-in-Load.new.session images)
     t c.tell_call-in-Load.new.telling c.args.ending.now c.tell_call-in-Load.new.ending
     (ap (λ (l : SteppingCommand). stepping_told modes labels t.told s (stepping_request_of l)) c.in-Load.is ∙ load_is modes labels t.told s text)
-    c.tell_call-in-Load.ensures
+    c.tell_call-in-Load.ensures.told
 
-pub returns-in-Finish : goal.returns-in-Finish
-returns-in-Finish c =
+pub returns-in-Finish-clause-told : goal.returns-in-Finish-clause-told
+returns-in-Finish-clause-told c =
     let images = c.args.context.now.images.now in
     let s = script_state c.args.session.now images in
     let t = c.args.telling.now in
@@ -96,4 +98,71 @@ returns-in-Finish c =
     (stepping_told modes labels t.told s (stepping_request_of c.args.line.now)) (script_state c.tell_finish.new.session images)
     t c.tell_finish.new.telling c.args.ending.now c.tell_finish.new.ending
     (ap (λ (l : SteppingCommand). stepping_told modes labels t.told s (stepping_request_of l)) c.in-Finish.is ∙ finish_is modes labels t.told s)
-    c.tell_finish.ensures
+    c.tell_finish.ensures.told
+
+pub returns-in-Run-clause-counted : goal.returns-in-Run-clause-counted
+returns-in-Run-clause-counted c =
+    let images = c.args.context.now.images.now in
+    let s = script_state c.args.session.now images in
+    let modes = c.args.context.now.modes.now in
+    let left = c.left-left.ensures images in
+    let same : places_if_awake s c.left-left.result (places_of_run modes goal_of.Nowhere c.left-left.result s)
+    ≡ places_if_awake s s.left (places_of_run modes goal_of.Nowhere s.left s) =
+    λ i. places_if_awake s (left i) (places_of_run modes goal_of.Nowhere (left i) s) in
+    counts_same c.tell_steps.result
+    (places_if_awake s c.left-left.result (places_of_run modes goal_of.Nowhere c.left-left.result s))
+    (places_of_line modes s (stepping_request_of c.args.line.now)) c.args.counts.now c.tell_steps.new.counts
+    (ap (λ (l : SteppingCommand). places_of_line modes s (stepping_request_of l)) c.in-Run.is ∙ (run_places modes s ∙ sym same))
+    c.tell_steps.ensures.counted
+
+pub returns-in-Step-clause-counted : goal.returns-in-Step-clause-counted
+returns-in-Step-clause-counted c =
+    let images = c.args.context.now.images.now in
+    let s = script_state c.args.session.now images in
+    let modes = c.args.context.now.modes.now in
+    let left = c.left-left.ensures images in
+    let count = c.in-Step.count in
+    let counted : c.from-count.result ≡ count = c.from-count.ensures in
+    let most : c.min-most.result ≡ min count s.left =
+    c.min-most.ensures ∙ (ap (λ (n : ℕ). min n c.left-left.result) counted ∙ ap (min count) left) in
+    let same : places_if_awake s c.min-most.result (places_of_run modes goal_of.Nowhere c.min-most.result s)
+    ≡ places_if_awake s (min count s.left) (places_of_run modes goal_of.Nowhere (min count s.left) s) =
+    λ i. places_if_awake s (most i) (places_of_run modes goal_of.Nowhere (most i) s) in
+    counts_same c.tell_steps-in-Step.result
+    (places_if_awake s c.min-most.result (places_of_run modes goal_of.Nowhere c.min-most.result s))
+    (places_of_line modes s (stepping_request_of c.args.line.now)) c.args.counts.now c.tell_steps-in-Step.new.counts
+    (ap (λ (l : SteppingCommand). places_of_line modes s (stepping_request_of l)) c.in-Step.is ∙ (step_places modes s count ∙ sym same))
+    c.tell_steps-in-Step.ensures.counted
+
+pub returns-in-Call-clause-counted : goal.returns-in-Call-clause-counted
+returns-in-Call-clause-counted c =
+    let images = c.args.context.now.images.now in
+    let s = script_state c.args.session.now images in
+    let modes = c.args.context.now.modes.now in
+    counts_same c.tell_call.result
+    (places_of_outside modes s (store_called s.images s.machine c.in-Call.number))
+    (places_of_line modes s (stepping_request_of c.args.line.now)) c.args.counts.now c.tell_call.new.counts
+    (ap (λ (l : SteppingCommand). places_of_line modes s (stepping_request_of l)) c.in-Call.is ∙ call_places modes s c.in-Call.number)
+    c.tell_call.ensures.counted
+
+pub returns-in-Load-clause-counted : goal.returns-in-Load-clause-counted
+returns-in-Load-clause-counted c =
+    let images = c.args.context.now.images.now in
+    let s = script_state c.args.session.now images in
+    let modes = c.args.context.now.modes.now in
+    counts_same c.tell_call-in-Load.result
+    (places_of_outside modes s (module_loaded s.images s.machine c.in-Load.text.now))
+    (places_of_line modes s (stepping_request_of c.args.line.now)) c.args.counts.now c.tell_call-in-Load.new.counts
+    (ap (λ (l : SteppingCommand). places_of_line modes s (stepping_request_of l)) c.in-Load.is ∙ load_places modes s c.in-Load.text.now)
+    c.tell_call-in-Load.ensures.counted
+
+pub returns-in-Finish-clause-counted : goal.returns-in-Finish-clause-counted
+returns-in-Finish-clause-counted c =
+    let images = c.args.context.now.images.now in
+    let s = script_state c.args.session.now images in
+    let modes = c.args.context.now.modes.now in
+    counts_same c.tell_finish.result
+    (places_of_finish modes s (length s.machine.tables.frames))
+    (places_of_line modes s (stepping_request_of c.args.line.now)) c.args.counts.now c.tell_finish.new.counts
+    (ap (λ (l : SteppingCommand). places_of_line modes s (stepping_request_of l)) c.in-Finish.is ∙ finish_places modes s)
+    c.tell_finish.ensures.counted

@@ -1,5 +1,5 @@
 -- By the lemmas that are named.
-use Rattle.std.proofs.Common.{◌≡◌, None, Some, sym, ap, refl, ◌∙◌}
+use Rattle.std.proofs.Common.{◌≡◌, ◌-◌, None, Some, sym, ap, refl, ◌∙◌}
 use Rattle.debugger.specs.swi_dispatch.specs.Value.{MachineValue}
 use Rattle.swi_dispatch_guest.specs.Parts.{state_of}
 use Rattle.command_shell.specs.Calls.{first_step}
@@ -7,11 +7,13 @@ use Rattle.command_shell.specs.Session.{script_state}
 use Rattle.debug_runs.specs.Calls.{outside_text}
 use Rattle.debug_runs.specs.Runs.{end_after}
 use Rattle.debug_tables.specs.WordWatches.{watched_words}
+use Rattle.debug_runs.specs.Places.{places_of_call, places_of_run}
+use Rattle.debug_runs.proofs.PlaceLemmas.{counts_none_of_call, counts_same, places_behind_call}
 use Rattle.debug_runs.proofs.RunLemmas.{call_goes_on, call_stops, enough_left}
 use Rattle.debug_runs.proofs.running.take_call.Goals as goal
 
-pub returns-in-Some : goal.returns-in-Some
-returns-in-Some c =
+pub returns-in-Some-clause-ran : goal.returns-in-Some-clause-ran
+returns-in-Some-clause-ran c =
     let images = c.args.context.now.images.now in
     let modes = c.args.context.now.modes.now in
     let labels = c.args.context.now.labels.now in
@@ -24,8 +26,8 @@ returns-in-Some c =
     call_stops c.args.telling.now c.begin.new.self modes labels c.args.goal c.args.most s next (outside_text c.args.call s.machine o) o c.in-Some.end
     c.in_ok-begin.ensures.state c.in_ok-begin.ensures.told over
 
-pub returns-in-None : goal.returns-in-None
-returns-in-None c =
+pub returns-in-None-clause-ran : goal.returns-in-None-clause-ran
+returns-in-None-clause-ran c =
     let images = c.args.context.now.images.now in
     let modes = c.args.context.now.modes.now in
     let labels = c.args.context.now.labels.now in
@@ -35,12 +37,38 @@ returns-in-None c =
     let words = c.as_slice.ensures.value ∙ (c.words-words.ensures
     ∙ ap (watched_words modes.watches) (c.memory.ensures.bytes ∙ ap (λ (m : MachineValue). (state_of m.guest).store.bytes) c.machine.ensures)) in
     let none : end_after modes.watches c.args.goal s next ≡ None = sym (c.end_after.ensures images s modes.watches words) ∙ c.in-None.is in
-    call_goes_on c.take_steps.result c.args.telling.now c.begin.new.self c.take_steps.new.telling modes labels c.args.goal c.args.most _
-    s next (script_state c.take_steps.new.session images) (outside_text c.args.call s.machine o) o
-    c.in_ok-begin.ensures.state c.in_ok-begin.ensures.told c.in_ok-begin.ensures.one_told refl none c.take_steps.ensures
+    call_goes_on c.run_steps.result c.args.telling.now c.begin.new.self c.run_steps.new.telling modes labels c.args.goal c.args.most _
+    s next (script_state c.run_steps.new.session images) (outside_text c.args.call s.machine o) o
+    c.in_ok-begin.ensures.state c.in_ok-begin.ensures.told c.in_ok-begin.ensures.one_told refl none c.run_steps.ensures.ran
 
-pub take_steps-requires : goal.take_steps-requires
-take_steps-requires c =
+pub run_steps-requires : goal.run_steps-requires
+run_steps-requires c =
     let images = c.args.context.now.images.now in
     let s = script_state c.args.session.now images in
     enough_left c.args.most s (script_state c.begin.new.session images) (first_step s c.args.call) c.requires.enough c.in_ok-begin.ensures.state
+
+pub returns-in-Some-clause-counted : goal.returns-in-Some-clause-counted
+returns-in-Some-clause-counted c =
+    let images = c.args.context.now.images.now in
+    let modes = c.args.context.now.modes.now in
+    let s = script_state c.args.session.now images in
+    let next = script_state c.begin.new.session images in
+    let o = first_step s c.args.call in
+    let words = c.as_slice.ensures.value ∙ (c.words-words.ensures
+    ∙ ap (watched_words modes.watches) (c.memory.ensures.bytes ∙ ap (λ (m : MachineValue). (state_of m.guest).store.bytes) c.machine.ensures)) in
+    let over : end_after modes.watches c.args.goal s next ≡ Some c.in-Some.end = sym (c.end_after.ensures images s modes.watches words) ∙ c.in-Some.is in
+    counts_none_of_call modes c.args.goal c.args.most s next o c.args.counts.now c.in-Some.end c.in_ok-begin.ensures.state over
+
+pub returns-in-None-clause-counted : goal.returns-in-None-clause-counted
+returns-in-None-clause-counted c =
+    let images = c.args.context.now.images.now in
+    let modes = c.args.context.now.modes.now in
+    let s = script_state c.args.session.now images in
+    let next = script_state c.begin.new.session images in
+    let o = first_step s c.args.call in
+    let words = c.as_slice.ensures.value ∙ (c.words-words.ensures
+    ∙ ap (watched_words modes.watches) (c.memory.ensures.bytes ∙ ap (λ (m : MachineValue). (state_of m.guest).store.bytes) c.machine.ensures)) in
+    let none : end_after modes.watches c.args.goal s next ≡ None = sym (c.end_after.ensures images s modes.watches words) ∙ c.in-None.is in
+    counts_same c.run_steps.result (places_of_run modes c.args.goal (c.args.most - 1) next) (places_of_call modes c.args.goal c.args.most s o)
+    c.args.counts.now c.run_steps.new.counts
+    (places_behind_call modes c.args.goal c.args.most s next o c.in_ok-begin.ensures.state none) c.run_steps.ensures.counted

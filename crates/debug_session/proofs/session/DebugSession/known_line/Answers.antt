@@ -48,6 +48,13 @@ returns-in-Forget-clause-told g c =
     c.args.self.now.setting c.args.script.now.number c.args.words.now (block_lines c.args.script.now.left) _
     (simple_request c.args.line.now) c.in-Forget.ensures c.forget.ensures.told
 
+pub returns-in-Counts-clause-told : goal.returns-in-Counts-clause-told
+returns-in-Counts-clause-told g c =
+    asked_if c.counts.result (g.W.Sink.contents c.args.sink.now) (g.W.Sink.contents c.counts.new.sink)
+    (debug_state c.counts.new.self c.args.images.now) (debug_state c.args.self.now c.args.images.now)
+    c.args.self.now.setting c.args.script.now.number c.args.words.now (block_lines c.args.script.now.left) _
+    (simple_request c.args.line.now) c.in-Counts.ensures (c.counts.ensures.told c.args.images.now)
+
 pub returns-in-SetPc-clause-told : goal.returns-in-SetPc-clause-told
 returns-in-SetPc-clause-told g c =
     asked (g.W.Sink.contents c.args.sink.now) (g.W.Sink.contents c.args.sink.now)

@@ -1,0 +1,25 @@
+use Rattle.std.proofs.Common.{◌≡◌, ◌≤◌}
+use Rattle.command_shell.specs.Session.{script_state}
+use Rattle.debug_counts.specs.Counts.{steps_counted}
+use Rattle.debug_runs.specs.Places.{places_of_run}
+use Rattle.debug_runs.specs.Runs.{steps_run}
+use Rattle.debug_runs.proofs.RunLemmas.{IsRest}
+use Rattle.debug_runs.proofs.counted.take_counted.Given as goal
+
+-- what is told, and what the steps that are left tell, are all that the run tells, and so are the counts
+abbrev pub invariant-loop-left : goal.invariant-loop-left
+invariant-loop-left l =
+    let images = l.context.images.now in
+    let modes = l.context.modes.now in
+    let labels = l.context.labels.now in
+    let now = script_state l.session images in
+    record {
+      rest : IsRest l.fn.telling l.telling (steps_run modes labels l.goal l.left l.telling.told now)
+          (steps_run modes labels l.goal l.most l.fn.telling.told (script_state l.fn.session images));
+      enough : l.left ≤ now.left;
+      counted : steps_counted (places_of_run modes l.goal l.left now) l.counts
+          ≡ steps_counted (places_of_run modes l.goal l.most (script_state l.fn.session images)) l.fn.counts;
+    }
+
+abbrev pub decreases-loop-left : goal.decreases-loop-left
+decreases-loop-left l = l.left
