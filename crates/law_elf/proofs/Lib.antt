@@ -1,0 +1,4 @@
+pub mod LebLemmas
+pub mod StepLemmas
+pub mod RowLemmas
+pub mod SymbolLemmas

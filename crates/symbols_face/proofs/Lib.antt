@@ -1,0 +1,4 @@
+pub mod OptionsLemmas
+pub mod BlockLemmas
+pub mod RowLemmas
+pub mod MakingLemmas
