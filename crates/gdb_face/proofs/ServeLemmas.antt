@@ -7,9 +7,9 @@ use Rattle.std.specs.declared.io.buffered.BufWriter.{BufWriter}
 use Rattle.std.proofs.KnownBytes.{Appends-kept}
 use Rattle.profile.specs.declared.stop.Stop.{Stop}
 use Rattle.image_loader.specs.Entries.{Entry}
-use Rattle.gdb_session.specs.Runs.{begin_told, begun_anew}
-use Rattle.gdb_session.specs.State.{GdbState, gdb_start}
-use Rattle.gdb_session.specs.declared.session.GdbSetting.{GdbSetting}
+use Rattle.gdb_server.specs.gdb_session.specs.Runs.{begin_told, begun_anew}
+use Rattle.gdb_server.specs.gdb_session.specs.State.{GdbState, gdb_start}
+use Rattle.gdb_server.specs.gdb_session.specs.debug_session.specs.declared.session.DebugSetting.{DebugSetting}
 use Rattle.gdb_server.specs.Serving.{ServerState, Served, bytes_served}
 use Rattle.gdb_server.specs.Server.{IsServed}
 use Rattle.rosm_settings.specs.ImageFiles.{AddsFiles}
@@ -35,21 +35,21 @@ files_from_none of_file none paths images is added =
     subst (λ (o : List Entry). AddsFiles of_file o paths images) is added
 
 -- the session after the lines that a machine begins with
-pub session_begun : (setting own : GdbSetting) (start first : List ℕ) (images : List Entry) (old now : GdbState)
-    → own ≡ setting → first ≡ start → old ≡ gdb_start setting.config images setting.budget
+pub session_begun : (setting own : DebugSetting) (start first : List ℕ) (images : List Entry) (old now : GdbState)
+    → own ≡ setting → first ≡ start → old ≡ gdb_start setting images
     → now ≡ begun_anew old (begin_told own first old)
-    → now ≡ begun_anew (gdb_start setting.config images setting.budget) (start_told setting start images)
+    → now ≡ begun_anew (gdb_start setting images) (start_told setting start images)
 session_begun setting own start first images old now of_setting of_start of_old is =
-    is ∙ ap (λ (u : GdbSetting). begun_anew old (begin_told u first old)) of_setting
+    is ∙ ap (λ (u : DebugSetting). begun_anew old (begin_told u first old)) of_setting
     ∙ ap (λ (lines : List ℕ). begun_anew old (begin_told setting lines old)) of_start
     ∙ ap (λ (g : GdbState). begun_anew g (begin_told setting start g)) of_old
 
 -- what the lines that a machine begins with are answered
-pub start_text : (setting own : GdbSetting) (start first : List ℕ) (images : List Entry) (old : GdbState) (text : List ℕ)
-    → own ≡ setting → first ≡ start → old ≡ gdb_start setting.config images setting.budget
+pub start_text : (setting own : DebugSetting) (start first : List ℕ) (images : List Entry) (old : GdbState) (text : List ℕ)
+    → own ≡ setting → first ≡ start → old ≡ gdb_start setting images
     → text ≡ (begin_told own first old).text → text ≡ (start_told setting start images).text
 start_text setting own start first images old text of_setting of_start of_old is =
-    is ∙ ap (λ (u : GdbSetting). (begin_told u first old).text) of_setting
+    is ∙ ap (λ (u : DebugSetting). (begin_told u first old).text) of_setting
     ∙ ap (λ (lines : List ℕ). (begin_told setting lines old).text) of_start
     ∙ ap (λ (g : GdbState). (begin_told setting start g).text) of_old
 
@@ -60,28 +60,28 @@ served_text None told before mid after now served kept = tt
 served_text (Some bytes) told before mid after now served kept = Appends-kept before mid after (told bytes).text served.text kept
 
 served_stop : (all : Option (List ℕ)) (told : List ℕ → Served) (before mid : Option (List ℕ)) (now : ServerState) (last : Option Stop)
-    → IfSome all (λ bytes. IsServed before mid now (told bytes)) → last ≡ now.session.script.last
-    → IfSome all (λ bytes. last ≡ (told bytes).state.session.script.last)
+    → IfSome all (λ bytes. IsServed before mid now (told bytes)) → last ≡ now.session.debug.script.last
+    → IfSome all (λ bytes. last ≡ (told bytes).state.session.debug.script.last)
 served_stop None told before mid now last served is = tt
 served_stop (Some bytes) told before mid now last served is =
-    is ∙ ap (λ (u : ServerState). u.session.script.last) served.state
+    is ∙ ap (λ (u : ServerState). u.session.debug.script.last) served.state
 
-served_as : (setting wanted : GdbSetting) (first start : List ℕ) (s begun : ServerState) (all before mid : Option (List ℕ))
+served_as : (setting wanted : DebugSetting) (first start : List ℕ) (s begun : ServerState) (all before mid : Option (List ℕ))
     (now : ServerState) → setting ≡ wanted → first ≡ start → s ≡ begun
     → IfSome all (λ bytes. IsServed before mid now (bytes_served setting first bytes s))
     → IfSome all (λ bytes. IsServed before mid now (bytes_served wanted start bytes begun))
 served_as setting wanted first start s begun all before mid now of_setting of_start of_state served =
     subst (λ (u : ServerState). IfSome all (λ bytes. IsServed before mid now (bytes_served wanted start bytes u))) of_state
     (subst (λ (lines : List ℕ). IfSome all (λ bytes. IsServed before mid now (bytes_served wanted lines bytes s))) of_start
-    (subst (λ (u : GdbSetting). IfSome all (λ bytes. IsServed before mid now (bytes_served u first bytes s))) of_setting served))
+    (subst (λ (u : DebugSetting). IfSome all (λ bytes. IsServed before mid now (bytes_served u first bytes s))) of_setting served))
 
 pub serves_gdb : {F : Type 0} (of_file : F → Option (List ℕ)) (wanted : WantedGdb) (images : List Entry) (start first : List ℕ)
-    (setting : GdbSetting) (s now : ServerState) (input begins before mid after told_before told_after : Option (List ℕ)) (untold : Bool)
+    (setting : DebugSetting) (s now : ServerState) (input begins before mid after told_before told_after : Option (List ℕ)) (untold : Bool)
     (last : Option Stop) → AddsFiles of_file [] wanted.settings.files images → AreFirstLines of_file wanted start
     → (untold ≡ false → Appends told_before told_after (start_told (setting_wanted wanted) start images).text)
     → setting ≡ setting_wanted wanted → first ≡ start → s ≡ server_begun (setting_wanted wanted) start images
     → begins ≡ before → IfSome input (λ bytes. IsServed begins mid now (bytes_served setting first bytes s)) → Keeps mid after
-    → last ≡ now.session.script.last
+    → last ≡ now.session.debug.script.last
     → ServesGdb of_file wanted input before after told_before told_after untold last
 serves_gdb of_file wanted images start first setting s now input begins before mid after told_before told_after untold last
     files lines told of_setting of_start of_state same served kept is =
@@ -110,5 +110,5 @@ stops_with_gdb of_file of_reader wanted reader input before after told_before to
   files = serves.files;
   lines = serves.lines;
   stop = subst (λ (all : Option (List ℕ)). IfSome all (λ bytes.
-      last ≡ (gdb_told (setting_wanted wanted) serves.start serves.images bytes).state.session.script.last)) of_input serves.stop;
+      last ≡ (gdb_told (setting_wanted wanted) serves.start serves.images bytes).state.session.debug.script.last)) of_input serves.stop;
 }

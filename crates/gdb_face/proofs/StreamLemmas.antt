@@ -7,13 +7,13 @@ use Rattle.std.proofs.KnownBytes.{Appends-kept, Appends-trans, Consumes-nil, Con
 use Rattle.profile.specs.Output.{AddsFront}
 use Rattle.profile.proofs.OutputLemmas.{Appends-nothing}
 use Rattle.command_shell.proofs.FrontLemmas.{AddsFront-start}
-use Rattle.gdb_session.specs.declared.session.GdbSetting.{GdbSetting}
+use Rattle.gdb_server.specs.gdb_session.specs.debug_session.specs.declared.session.DebugSetting.{DebugSetting}
 use Rattle.gdb_server.specs.Serving.{ServerState, Served, bytes_served}
 use Rattle.gdb_server.specs.Server.{IsServed}
 use Rattle.gdb_server.proofs.ServingLemmas.{front_after, served_append, served_ended, served_none}
 use Rattle.gdb_face.specs.Streams.{AnswersFront, AnswersInput}
 
-pub answers_none : (setting : GdbSetting) (start : List ℕ) (input held : Option (List ℕ)) (s : ServerState)
+pub answers_none : (setting : DebugSetting) (start : List ℕ) (input held : Option (List ℕ)) (s : ServerState)
     → AnswersInput setting start input input held held s s
 answers_none setting start input held s =
     let none = served_none setting start [] s refl in
@@ -26,7 +26,7 @@ answers_none setting start input held s =
       };
     }
 
-pub answers_more : (setting : GdbSetting) (start : List ℕ) (input left rest before here after handed : Option (List ℕ))
+pub answers_more : (setting : DebugSetting) (start : List ℕ) (input left rest before here after handed : Option (List ℕ))
     (old s now : ServerState) (piece : List ℕ) → AnswersInput setting start input left before here old s → Consumes left rest piece
     → IsServed here after now (bytes_served setting start piece s) → Keeps after handed
     → AnswersInput setting start input rest before handed old now
@@ -48,7 +48,7 @@ answers_more setting start input left rest before here after handed old s now pi
       };
     }
 
-pub front_of_answers : (setting : GdbSetting) (start : List ℕ) (input left before after : Option (List ℕ)) (old now : ServerState)
+pub front_of_answers : (setting : DebugSetting) (start : List ℕ) (input left before after : Option (List ℕ)) (old now : ServerState)
     → AnswersInput setting start input left before after old now → AnswersFront setting start input left before after old
 front_of_answers setting start input left before after old now answers = record {
   read = answers.read;
@@ -57,7 +57,24 @@ front_of_answers setting start input left before after old now answers = record 
       (front_after before after after (bytes_served setting start answers.read old).text [] answers.served.text (AddsFront-start after []));
 }
 
-pub front_of_piece : (setting : GdbSetting) (start : List ℕ) (input left rest before here after : Option (List ℕ))
+-- a read that fails takes nothing
+keeps_nothing : (left rest : Option (List ℕ)) → Keeps left rest → Consumes left rest []
+keeps_nothing None rest is = tt
+keeps_nothing (Some xs) None is = absurd is
+keeps_nothing (Some xs) (Some ys) is = sym is
+
+pub front_where_reading_fails : (setting : DebugSetting) (start : List ℕ) (input left rest before after : Option (List ℕ)) (old now : ServerState)
+    → AnswersInput setting start input left before after old now → Keeps left rest → AnswersFront setting start input rest before after old
+front_where_reading_fails setting start input left rest before after old now answers keeps =
+    let front = front_of_answers setting start input left before after old now answers in
+    record {
+      read = front.read;
+      of_input = subst (λ (bytes : List ℕ). Consumes input rest bytes) (append-nil front.read)
+          (Consumes-trans input left rest front.read [] front.of_input (keeps_nothing left rest keeps));
+      front = front.front;
+    }
+
+pub front_of_piece : (setting : DebugSetting) (start : List ℕ) (input left rest before here after : Option (List ℕ))
     (old s : ServerState) (piece : List ℕ) → AnswersInput setting start input left before here old s → Consumes left rest piece
     → AddsFront here after (bytes_served setting start piece s).text → AnswersFront setting start input rest before after old
 front_of_piece setting start input left rest before here after old s piece so_far takes front =
@@ -73,7 +90,7 @@ front_of_piece setting start input left rest before here after old s piece so_fa
     }
 
 -- nothing is left, or the debugger is gone
-pub all_answered : (setting : GdbSetting) (start : List ℕ) (input left before after : Option (List ℕ)) (old now : ServerState)
+pub all_answered : (setting : DebugSetting) (start : List ℕ) (input left before after : Option (List ℕ)) (old now : ServerState)
     → AnswersInput setting start input left before after old now → (IsAtEnd left) ⊎ (now.session.has_ended ≡ true)
     → IfSome input (λ all. IsServed before after now (bytes_served setting start all old))
 all_answered setting start None left before after old now answers end = tt
@@ -92,7 +109,7 @@ all_answered setting start (Some all) (Some rest) before after old now answers (
     subst (λ (x : Served). IsServed before after now x) (sym whole) answers.served
 
 -- the same by a setting and first lines that are those
-pub answers_go_on : (setting own : GdbSetting) (start lines : List ℕ) (input left rest before here after handed : Option (List ℕ))
+pub answers_go_on : (setting own : DebugSetting) (start lines : List ℕ) (input left rest before here after handed : Option (List ℕ))
     (old s now : ServerState) (piece : List ℕ) → own ≡ setting → lines ≡ start
     → AnswersInput setting start input left before here old s → Consumes left rest piece
     → IsServed here after now (bytes_served own lines piece s) → Keeps after handed
@@ -100,16 +117,16 @@ pub answers_go_on : (setting own : GdbSetting) (start lines : List ℕ) (input l
 answers_go_on setting own start lines input left rest before here after handed old s now piece of_setting of_start so_far takes served kept =
     answers_more setting start input left rest before here after handed old s now piece so_far takes
     (subst (λ (x : List ℕ). IsServed here after now (bytes_served setting x piece s)) of_start
-    (subst (λ (u : GdbSetting). IsServed here after now (bytes_served u lines piece s)) of_setting served)) kept
+    (subst (λ (u : DebugSetting). IsServed here after now (bytes_served u lines piece s)) of_setting served)) kept
 
-pub front_goes_on : (setting own : GdbSetting) (start lines : List ℕ) (input left rest before here after : Option (List ℕ))
+pub front_goes_on : (setting own : DebugSetting) (start lines : List ℕ) (input left rest before here after : Option (List ℕ))
     (old s : ServerState) (piece : List ℕ) → own ≡ setting → lines ≡ start
     → AnswersInput setting start input left before here old s → Consumes left rest piece
     → AddsFront here after (bytes_served own lines piece s).text → AnswersFront setting start input rest before after old
 front_goes_on setting own start lines input left rest before here after old s piece of_setting of_start so_far takes front =
     front_of_piece setting start input left rest before here after old s piece so_far takes
     (subst (λ (x : List ℕ). AddsFront here after (bytes_served setting x piece s).text) of_start
-    (subst (λ (u : GdbSetting). AddsFront here after (bytes_served u lines piece s).text) of_setting front))
+    (subst (λ (u : DebugSetting). AddsFront here after (bytes_served u lines piece s).text) of_setting front))
 
 -- a flag that would stay up is down
 pub flag_kept : (first mid last : Bool) → mid ≡ first → last ≡ false → (mid ≡ true → last ≡ true) → last ≡ first

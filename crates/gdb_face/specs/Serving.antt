@@ -3,35 +3,36 @@ use Rattle.std.specs.Prelude.{◌≡◌, ℕ, true, false, Bool, List, [], Optio
 use Rattle.std.specs.Io.KnownBytes.{Appends}
 use Rattle.profile.specs.declared.stop.Stop.{Stop}
 use Rattle.image_loader.specs.Entries.{Entry}
-use Rattle.command_shell.specs.State.{Answered}
+use Rattle.gdb_server.specs.gdb_session.specs.debug_session.specs.DebugState.{DebugAnswered}
 use Rattle.gdb_packets.specs.Reading.{reading_start}
-use Rattle.gdb_session.specs.Runs.{begin_told, begun_anew}
-use Rattle.gdb_session.specs.State.{GdbState, gdb_start}
-use Rattle.gdb_session.specs.declared.session.GdbSetting.{GdbSetting}
+use Rattle.gdb_server.specs.gdb_session.specs.Runs.{begin_told, begun_anew}
+use Rattle.gdb_server.specs.gdb_session.specs.State.{GdbState, debug_setting, gdb_start}
+use Rattle.gdb_server.specs.gdb_session.specs.debug_session.specs.declared.session.DebugSetting.{DebugSetting}
 use Rattle.gdb_server.specs.Serving.{ServerState, Served, bytes_served}
 use Rattle.rosm_settings.specs.ImageFiles.{AddsFiles}
 use Rattle.gdb_face.specs.Start.{AreFirstLines}
 use Rattle.gdb_face.specs.declared.words.WantedGdb.{WantedGdb}
 
 -- a machine of the sizes, and a run's budget, that are asked for
-abbrev pub setting_wanted : WantedGdb → GdbSetting
-setting_wanted wanted = record { config = wanted.settings.config; budget = wanted.settings.budget }
+abbrev pub setting_wanted : WantedGdb → DebugSetting
+setting_wanted wanted =
+    debug_setting (record { config = wanted.settings.config; budget = wanted.settings.budget })
 
 -- what the lines that a machine begins with are answered, where the files' images are there
-abbrev pub start_told : GdbSetting → List ℕ → List Entry → Answered
-start_told setting start images = begin_told setting start (gdb_start setting.config images setting.budget)
+abbrev pub start_told : DebugSetting → List ℕ → List Entry → DebugAnswered
+start_told setting start images = begin_told setting start (gdb_start setting images)
 
 -- a server before the first byte
 abbrev pub server_before_bytes : GdbState → ServerState
 server_before_bytes session = record { session = session; reading = reading_start; has_acks = true; last = [] }
 
 -- and after the lines that a machine begins with
-abbrev pub server_begun : GdbSetting → List ℕ → List Entry → ServerState
+abbrev pub server_begun : DebugSetting → List ℕ → List Entry → ServerState
 server_begun setting start images = server_before_bytes
-    (begun_anew (gdb_start setting.config images setting.budget) (start_told setting start images))
+    (begun_anew (gdb_start setting images) (start_told setting start images))
 
 -- what all that GDB sends is answered
-abbrev pub gdb_told : GdbSetting → List ℕ → List Entry → List ℕ → Served
+abbrev pub gdb_told : DebugSetting → List ℕ → List Entry → List ℕ → Served
 gdb_told setting start images input = bytes_served setting start input (server_begun setting start images)
 
 -- With the files' images there, and the first lines answered, all that GDB sends is answered: the answers
@@ -46,7 +47,7 @@ pub record ServesGdb {F : Type 0} (of_file : F → Option (List ℕ)) (wanted : 
   pub first : untold ≡ false → Appends told_before told_after (start_told (setting_wanted wanted) start images).text
   pub text : IfSome input (λ bytes. Appends before after (gdb_told (setting_wanted wanted) start images bytes).text)
   pub stop : IfSome input (λ bytes.
-      last ≡ (gdb_told (setting_wanted wanted) start images bytes).state.session.script.last)
+      last ≡ (gdb_told (setting_wanted wanted) start images bytes).state.session.debug.script.last)
 
 -- The last stop is that of a machine on which all that a reader tells was served.
 pub record StopsWithGdb {F R : Type 0} (of_file : F → Option (List ℕ)) (of_reader : R → Option (List ℕ))
@@ -57,4 +58,4 @@ pub record StopsWithGdb {F R : Type 0} (of_file : F → Option (List ℕ)) (of_r
   pub files : AddsFiles of_file [] wanted.settings.files images
   pub lines : AreFirstLines of_file wanted start
   pub stop : IfSome (of_reader reader) (λ bytes.
-      last ≡ (gdb_told (setting_wanted wanted) start images bytes).state.session.script.last)
+      last ≡ (gdb_told (setting_wanted wanted) start images bytes).state.session.debug.script.last)

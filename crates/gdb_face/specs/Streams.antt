@@ -5,7 +5,7 @@ use Rattle.std.specs.Io.KnownBytes.{Consumes, IsAtEnd}
 use Rattle.profile.specs.Output.{AddsFront}
 use Rattle.command_shell.specs.declared.error.RunError.{RunError}
 use Rattle.command_shell.specs.declared.error.RunError.TheVariants as run
-use Rattle.gdb_session.specs.declared.session.GdbSetting.{GdbSetting}
+use Rattle.gdb_server.specs.gdb_session.specs.debug_session.specs.declared.session.DebugSetting.{DebugSetting}
 use Rattle.gdb_server.specs.Serving.{ServerState, bytes_served}
 use Rattle.gdb_server.specs.Server.{IsServed}
 use Rattle.gdb_face.specs.declared.serve.ServeError.{ServeError}
@@ -19,20 +19,20 @@ serve_error run.WriteFault = why.WriteFault
 serve_error run.ScriptTooLong = why.TooMuch
 
 -- So much of the input was read, and all of it is answered; the server stands behind it.
-pub record AnswersInput (setting : GdbSetting) (start : List ℕ) (input left before after : Option (List ℕ))
+pub record AnswersInput (setting : DebugSetting) (start : List ℕ) (input left before after : Option (List ℕ))
     (old now : ServerState) : Type 0 where
   pub read : List ℕ
   pub of_input : Consumes input left read
   pub served : IsServed before after now (bytes_served setting start read old)
 
 -- And that is all of it, unless the debugger is gone.
-pub record EndsWithInput (setting : GdbSetting) (start : List ℕ) (input left before after : Option (List ℕ))
+pub record EndsWithInput (setting : DebugSetting) (start : List ℕ) (input left before after : Option (List ℕ))
     (old now : ServerState) : Type 0 where
   pub answers : AnswersInput setting start input left before after old now
   pub ends : now.session.has_ended ≡ false → IsAtEnd left
 
 -- So much of the input was read, and a front of its answers stands written.
-pub record AnswersFront (setting : GdbSetting) (start : List ℕ) (input left before after : Option (List ℕ))
+pub record AnswersFront (setting : DebugSetting) (start : List ℕ) (input left before after : Option (List ℕ))
     (old : ServerState) : Type 0 where
   pub read : List ℕ
   pub of_input : Consumes input left read

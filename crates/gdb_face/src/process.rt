@@ -13,7 +13,7 @@ use crate::start::{start_lines, take_files};
 use crate::words::{WantedGdb, read_words};
 use command_line::stop_status;
 use gdb_server::GdbServer;
-use gdb_session::{GdbSession, GdbSetting};
+use gdb_server::gdb_session::{GdbSession, GdbSetting};
 use image_loader::Images;
 use profile::{Device, Sink, Source, Stop, push_all};
 use std::env::Env;

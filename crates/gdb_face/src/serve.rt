@@ -84,18 +84,18 @@ pub fn serve<R: Source, W: Write>(
     ensures whole { OnOk result (IfSome (R.remaining reader.old) (λ input.
         IsServed (W.contents (device_inner writer.old)) (W.contents (device_inner writer.new))
         (server_state server.new images.new)
-        (bytes_served server.old.session.setting server.old.session.start.items input
+        (bytes_served server.old.session.debug.setting server.old.session.start.items input
         (server_state server.old images.old)))) }
-    ensures read { OnOk result (EndsWithInput server.old.session.setting server.old.session.start.items
+    ensures read { OnOk result (EndsWithInput server.old.session.debug.setting server.old.session.start.items
         (R.remaining reader.old) (R.remaining reader.new)
         (W.contents (device_inner writer.old)) (W.contents (device_inner writer.new))
         (server_state server.old images.old) (server_state server.new images.new)) }
     ensures read_fault { result ≡ Err ServeError.ReadFault → (R.has_failed reader.new ≡ true)
-        × AnswersInput server.old.session.setting server.old.session.start.items
+        × AnswersInput server.old.session.debug.setting server.old.session.start.items
         (R.remaining reader.old) (R.remaining reader.new)
         (W.contents (device_inner writer.old)) (W.contents (device_inner writer.new))
         (server_state server.old images.old) (server_state server.new images.new) }
-    ensures front { OnErr result (AnswersFront server.old.session.setting server.old.session.start.items
+    ensures front { OnErr result (AnswersFront server.old.session.debug.setting server.old.session.start.items
         (R.remaining reader.old) (R.remaining reader.new)
         (W.contents (device_inner writer.old)) (W.contents (device_inner writer.new))
         (server_state server.old images.old)) }

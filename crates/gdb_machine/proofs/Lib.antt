@@ -1,3 +1,4 @@
 pub mod MemoryLemmas
 pub mod RegisterLemmas
 pub mod WatchLemmas
+pub mod WriteLemmas

@@ -1,6 +1,8 @@
 -- What GDB sees of a machine. Begin with Registers.
 pub mod Changes
 pub mod Description
+pub mod Laws
+pub mod Libraries
 pub mod Memory
 pub mod Registers
 pub mod Stops

@@ -41,16 +41,19 @@ signal_of_fault fault.UserBankWriteback = signal.Illegal
 abbrev pub signal_of : GdbStop → Option Signal
 signal_of reason.Stepped = Some signal.Trap
 signal_of (reason.Watched address) = Some signal.Trap
+signal_of reason.Library = Some signal.Trap
 signal_of reason.Asked = Some signal.Interrupt
 signal_of (reason.Ran (stop.Break address)) = Some signal.Trap
 signal_of (reason.Ran stop.Budget) = Some signal.Steps
 signal_of (reason.Ran (stop.Fault f)) = Some (signal_of_fault f)
 signal_of (reason.Ran stop.Exit) = None
 
--- what reached it: a break, or a byte that is watched, by its address
+-- what reached it: a break, or a byte that is watched, by its address; or that GDB has to ask for the list
+-- of libraries
 abbrev pub reached_text : GdbStop → List ℕ
 reached_text (reason.Ran (stop.Break address)) = codes "swbreak:;"
 reached_text (reason.Watched address) = codes "watch:" ++ encode_lower (to_be_bytes w32 address) ++ codes ";"
+reached_text reason.Library = codes "library:;"
 reached_text (reason.Ran stop.Budget) = []
 reached_text (reason.Ran (stop.Fault f)) = []
 reached_text (reason.Ran stop.Exit) = []

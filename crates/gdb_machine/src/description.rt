@@ -91,7 +91,8 @@ pub fn description_part(alloc: Global, range: ByteRange) -> Result<Vec<u8>, Allo
     part(alloc, DESCRIPTION, range)
 }
 
-fn part(alloc: Global, text: &[u8], range: ByteRange) -> Result<Vec<u8>, AllocError>
+/// Bytes of a text, so told.
+pub(crate) fn part(alloc: Global, text: &[u8], range: ByteRange) -> Result<Vec<u8>, AllocError>
     ensures { IfOk result (λ told. told.items ≡ part_of text.now range) }
 {
     let start = (range.start as usize).min(text.len());

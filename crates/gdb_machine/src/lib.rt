@@ -4,6 +4,8 @@
 
 mod changes;
 mod description;
+mod laws;
+mod libraries;
 mod memory;
 mod registers;
 mod stops;
@@ -11,6 +13,8 @@ mod watches;
 
 pub use changes::{RegisterWrite, register_write};
 pub use description::description_part;
+pub use laws::register_writes_are_read;
+pub use libraries::{libraries_part, library_lines};
 pub use memory::{known_bytes, memory_told};
 pub use registers::{all_registers, one_register, register_shown};
 pub use stops::{GdbStop, Signal, stop_packet};

@@ -60,6 +60,8 @@ pub enum GdbStop {
     Asked,
     /// The byte at this address, which is watched, has changed.
     Watched(u32),
+    /// Other modules are there than GDB was told of.
+    Library,
 }
 
 impl GdbStop {
@@ -68,7 +70,7 @@ impl GdbStop {
         ensures { result ≡ signal_of self }
     {
         match self {
-            GdbStop::Stepped | GdbStop::Watched(_) => Some(Signal::Trap),
+            GdbStop::Stepped | GdbStop::Watched(_) | GdbStop::Library => Some(Signal::Trap),
             GdbStop::Asked => Some(Signal::Interrupt),
             GdbStop::Ran(Stop::Break(_)) => Some(Signal::Trap),
             GdbStop::Ran(Stop::Budget) => Some(Signal::Steps),
@@ -110,12 +112,13 @@ pub fn stop_packet(alloc: Global, cpu: &Cpu, why: GdbStop) -> Result<Vec<u8>, Al
     Ok(packet)
 }
 
-// What reached the program: a break, or a byte that is watched.
+// What reached the program: a break, or a byte that is watched; or that other modules are there.
 fn reached(alloc: Global, why: GdbStop) -> Result<Vec<u8>, AllocError>
     ensures { IfOk result (λ text. text.items ≡ reached_text why) }
 {
     match why {
         GdbStop::Ran(Stop::Break(_)) => Vec::from_slice(alloc, b"swbreak:;"),
+        GdbStop::Library => Vec::from_slice(alloc, b"library:;"),
         GdbStop::Watched(address) => {
             let mut text = Vec::from_slice(alloc, b"watch:")?;
             text.extend_from_slice(encode(alloc, address.to_be_bytes())?.as_bytes())?;

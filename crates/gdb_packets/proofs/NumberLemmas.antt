@@ -13,7 +13,7 @@ pub some_digits : (text : List ℕ) → 0 < length text → packet_number text �
 some_digits [] some = absurd (omega (arith, some))
 some_digits (digit ∷ digits) some = refl
 
-onto : (value digit : ℕ) (digits : List ℕ)
+pub onto : (value digit : ℕ) (digits : List ℕ)
     → number_onto value (digit ∷ digits) ≡ option_and_then (λ next. number_onto next digits) (with_digit value (digit_value digit))
 unfolding number_onto
 onto value digit digits = refl

@@ -50,7 +50,7 @@ byte_read_as packet total b more false is below room =
     (ap (λ (n : ℕ). heard (within (packet ++ b ∷ []) n) more)
     (let e : (total + b) % 256 ≡ (total + (0 + b)) % 256 = omega arith in e)))
 
-both_true : (p q : Bool) → (p && q) ≡ true → (p ≡ true) × (q ≡ true)
+pub both_true : (p q : Bool) → (p && q) ≡ true → (p ≡ true) × (q ≡ true)
 both_true true true e = (refl, refl)
 both_true true false e = absurd (cc)
 both_true false q e = absurd (cc)

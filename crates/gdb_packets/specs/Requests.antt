@@ -33,8 +33,9 @@ pub data GdbRequest : Type 0 where
   RemovePoint : PointKind → ByteRange → GdbRequest
   Supported : GdbRequest
   NoAcks : GdbRequest
-  -- so many bytes of the target's description, from there on
+  -- so many bytes of the target's description, from there on, or of the list of its libraries
   Description : ByteRange → GdbRequest
+  Libraries : ByteRange → GdbRequest
   Thread : GdbRequest
   IsAttached : GdbRequest
   CurrentThread : GdbRequest
@@ -273,6 +274,15 @@ supported_or None other = other
 unfoldable pub about_session : List ℕ → GdbRequest
 about_session packet = supported_or (behind_opening (codes "qSupported:") packet) (about_attachment packet)
 
+abbrev pub libraries_or : Option (List ℕ) → GdbRequest → GdbRequest
+libraries_or (Some range) other = of_range (byte_range_of range) Libraries
+libraries_or None other = other
+
+-- the list of libraries has no name of its own between the colons
+unfoldable pub about_libraries : List ℕ → GdbRequest
+about_libraries packet =
+    libraries_or (behind_opening (codes "qXfer:libraries:read::") packet) (about_session packet)
+
 abbrev pub line_or_description : Option (List ℕ) → Option (List ℕ) → GdbRequest → GdbRequest
 line_or_description (Some pairs) description other = Line pairs
 line_or_description None (Some range) other = of_range (byte_range_of range) Description
@@ -281,7 +291,7 @@ line_or_description None None other = other
 unfoldable pub about_target : List ℕ → GdbRequest
 about_target packet = line_or_description
     (behind_opening (codes "qRcmd,") packet) (behind_opening (codes "qXfer:features:read:target.xml:") packet)
-    (about_session packet)
+    (about_libraries packet)
 
 abbrev pub actions_or : Option (List ℕ) → GdbRequest → GdbRequest
 actions_or (Some actions) other = actions_request actions
@@ -322,6 +332,7 @@ gdb_request (request.RemovePoint kind range) = RemovePoint kind range
 gdb_request request.Supported = Supported
 gdb_request request.NoAcks = NoAcks
 gdb_request (request.Description range) = Description range
+gdb_request (request.Libraries range) = Libraries range
 gdb_request request.Thread = Thread
 gdb_request request.IsAttached = IsAttached
 gdb_request request.CurrentThread = CurrentThread

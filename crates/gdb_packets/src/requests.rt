@@ -68,6 +68,8 @@ pub enum Request<'a> {
     NoAcks,
     /// `qXfer:features:read:target.xml`: bytes of the target's description.
     Description(ByteRange),
+    /// `qXfer:libraries:read`: bytes of the list of its libraries.
+    Libraries(ByteRange),
     /// `H`, `T`: a thread is meant or asked after; there is one.
     Thread,
     /// `qAttached`.

@@ -4,7 +4,7 @@ ghost use Rattle.std.specs.Prelude.{◌≡◌, option_map};
 ghost use Rattle.gdb_packets.specs.Requests.{gdb_request, action_request, action_for_thread, actions_request};
 ghost use Rattle.gdb_packets.specs.Requests.{is_known_packet, host_answer_request, host_answer_flagged, parts_around};
 ghost use Rattle.gdb_packets.specs.Requests.{whole_word_request, opened_request, word_request};
-ghost use Rattle.gdb_packets.specs.Requests.{about_attachment, about_process, about_session, about_target};
+ghost use Rattle.gdb_packets.specs.Requests.{about_attachment, about_libraries, about_process, about_session, about_target};
 
 use crate::numbers::number_of;
 use crate::parts::{behind_opening, byte_range_of, is_thread, parts_around};
@@ -62,10 +62,23 @@ fn about_target(packet: &[u8]) -> Request<'_>
         return Request::Line(pairs);
     }
     let Some(range) = behind_opening(b"qXfer:features:read:target.xml:", packet) else {
-        return about_session(packet);
+        return about_libraries(packet);
     };
     match byte_range_of(range) {
         Some(range) => Request::Description(range),
+        None => Request::Unknown,
+    }
+}
+
+#[tactic(auto, unfolding(crate::specs::Requests::about_libraries))]
+fn about_libraries(packet: &[u8]) -> Request<'static>
+    ensures { gdb_request result ≡ about_libraries packet.now }
+{
+    let Some(range) = behind_opening(b"qXfer:libraries:read::", packet) else {
+        return about_session(packet);
+    };
+    match byte_range_of(range) {
+        Some(range) => Request::Libraries(range),
         None => Request::Unknown,
     }
 }

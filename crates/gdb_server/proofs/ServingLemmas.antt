@@ -13,16 +13,16 @@ use Rattle.profile.proofs.OutputLemmas.{AddsAllBut-more, AddsAllBut-start, Appen
 use Rattle.gdb_server.specs.Server.{IsServed}
 use Rattle.gdb_server.specs.Serving.{ServerState, Served, asked_to_stop, byte_served, bytes_served, piece_served, then_served}
 use Rattle.gdb_server.specs.Serving.{text_packet, text_packets, told_packets}
-use Rattle.gdb_session.specs.declared.session.GdbSetting.{GdbSetting}
+use Rattle.gdb_session.specs.debug_session.specs.declared.session.DebugSetting.{DebugSetting}
 
-served_cons : (setting : GdbSetting) (start : List ℕ) (byte : ℕ) (bytes : List ℕ) (s : ServerState) → s.session.has_ended ≡ false
+served_cons : (setting : DebugSetting) (start : List ℕ) (byte : ℕ) (bytes : List ℕ) (s : ServerState) → s.session.has_ended ≡ false
     → bytes_served setting start (byte ∷ bytes) s
     ≡ then_served (byte_served setting start s byte) (bytes_served setting start bytes)
 unfolding bytes_served
 served_cons setting start byte bytes s goes = rw goes refl
 
 -- one more byte
-pub served_more : (setting : GdbSetting) (start bytes : List ℕ) (i : ℕ) (s : ServerState) → i < length bytes → s.session.has_ended ≡ false
+pub served_more : (setting : DebugSetting) (start bytes : List ℕ) (i : ℕ) (s : ServerState) → i < length bytes → s.session.has_ended ≡ false
     → bytes_served setting start (drop i bytes) s
     ≡ then_served (byte_served setting start s (get_or bytes i 0)) (bytes_served setting start (drop (i + 1) bytes))
 served_more setting start bytes i s below goes =
@@ -32,19 +32,19 @@ served_more setting start bytes i s below goes =
     ∙ ap (λ (n : ℕ). then_served (byte_served setting start s (get_or bytes i 0)) (bytes_served setting start (drop n bytes))) next
 
 -- the session has ended, or there is no more byte
-pub served_ended : (setting : GdbSetting) (start bytes : List ℕ) (s : ServerState) → s.session.has_ended ≡ true
+pub served_ended : (setting : DebugSetting) (start bytes : List ℕ) (s : ServerState) → s.session.has_ended ≡ true
     → bytes_served setting start bytes s ≡ record { state = s; text = [] }
 unfolding bytes_served
 served_ended setting start [] s ended = refl
 served_ended setting start (byte ∷ bytes) s ended = rw ended refl
 
-pub served_none : (setting : GdbSetting) (start bytes : List ℕ) (s : ServerState) → bytes ≡ []
+pub served_none : (setting : DebugSetting) (start bytes : List ℕ) (s : ServerState) → bytes ≡ []
     → bytes_served setting start bytes s ≡ record { state = s; text = [] }
 unfolding bytes_served
 served_none setting start bytes s none = rw none refl
 
 -- pieces, one after another
-pub served_append : (setting : GdbSetting) (start first next : List ℕ) (s : ServerState)
+pub served_append : (setting : DebugSetting) (start first next : List ℕ) (s : ServerState)
     → bytes_served setting start (first ++ next) s
     ≡ then_served (bytes_served setting start first s) (bytes_served setting start next)
 served_append setting start [] next s =
@@ -149,7 +149,7 @@ pub front_of_part : (a b : Option (List ℕ)) (text : List ℕ) → AddsPart a b
 front_of_part a b text part = record { rest = part.missing; front = part.front }
 
 -- the byte 3
-pub stop_served : (setting : GdbSetting) (start : List ℕ) (s now : ServerState) (byte : ℕ) (x : Option (List ℕ))
+pub stop_served : (setting : DebugSetting) (start : List ℕ) (s now : ServerState) (byte : ℕ) (x : Option (List ℕ))
     → Some piece.Stop ≡ (byte_taken s.reading byte).piece
     → now ≡ record s { session = asked_to_stop s.session; reading = (byte_taken s.reading byte).now }
     → IsServed x x now (byte_served setting start s byte)
@@ -157,7 +157,7 @@ stop_served setting start s now byte x stops is =
     subst (λ (p : Option Piece). IsServed x x now (piece_served setting start (record s { reading = (byte_taken s.reading byte).now }) p))
     stops (record { text = Appends-nothing x; state = is })
 
-pub ends_served : (setting : GdbSetting) (start bytes : List ℕ) (s : ServerState) (before here : Option (List ℕ)) (all : Served)
+pub ends_served : (setting : DebugSetting) (start bytes : List ℕ) (s : ServerState) (before here : Option (List ℕ)) (all : Served)
     → AddsAllBut before here (bytes_served setting start bytes s).text all.text → (bytes_served setting start bytes s).state ≡ all.state
     → bytes_served setting start bytes s ≡ record { state = s; text = [] } → IsServed before here s all
 ends_served setting start bytes s before here all text state none = record {

@@ -5,7 +5,7 @@ use Rattle.std.specs.Prelude.{ℕ, zero, suc, ◌+◌, ◌/◌, Bool, true, fals
 use Rattle.hex.specs.Hex.{encode_lower}
 use Rattle.gdb_session.specs.Requests.{gdb_answered}
 use Rattle.gdb_session.specs.State.{GdbState, GdbAnswered}
-use Rattle.gdb_session.specs.declared.session.GdbSetting.{GdbSetting}
+use Rattle.gdb_session.specs.debug_session.specs.declared.session.DebugSetting.{DebugSetting}
 use Rattle.gdb_packets.specs.Frames.{packet_frame}
 use Rattle.gdb_packets.specs.Reading.{Reading, Taken, reading_start, byte_taken}
 use Rattle.gdb_packets.specs.Requests as request
@@ -67,7 +67,7 @@ request_served s asked a = record {
   text = ack_text s.has_acks ++ answer_text a;
 }
 
-abbrev pub packet_served : GdbSetting → List ℕ → ServerState → Served
+abbrev pub packet_served : DebugSetting → List ℕ → ServerState → Served
 packet_served setting start s = request_served s (packet_request s.reading.packet)
     (gdb_answered setting start s.session (packet_request s.reading.packet))
 
@@ -78,7 +78,7 @@ spoilt_text false = packet_frame (codes "E16")
 abbrev pub asked_to_stop : GdbState → GdbState
 asked_to_stop g = record g { is_asked = g.is_running }
 
-abbrev pub piece_served : GdbSetting → List ℕ → ServerState → Option Piece → Served
+abbrev pub piece_served : DebugSetting → List ℕ → ServerState → Option Piece → Served
 piece_served setting start s None = record { state = s; text = [] }
 piece_served setting start s (Some piece.Packet) = packet_served setting start s
 piece_served setting start s (Some piece.Spoilt) = record { state = s; text = spoilt_text s.has_acks }
@@ -86,7 +86,7 @@ piece_served setting start s (Some piece.Again) = record { state = s; text = s.l
 piece_served setting start s (Some piece.Stop) =
     record { state = record s { session = asked_to_stop s.session }; text = [] }
 
-abbrev pub byte_served : GdbSetting → List ℕ → ServerState → ℕ → Served
+abbrev pub byte_served : DebugSetting → List ℕ → ServerState → ℕ → Served
 byte_served setting start s byte =
     piece_served setting start (record s { reading = (byte_taken s.reading byte).now }) (byte_taken s.reading byte).piece
 
@@ -94,7 +94,7 @@ abbrev pub then_served : Served → (ServerState → Served) → Served
 then_served first next = record { state = (next first.state).state; text = first.text ++ (next first.state).text }
 
 -- all bytes, up to the one that ends the session
-unfoldable pub bytes_served : GdbSetting → List ℕ → List ℕ → ServerState → Served
+unfoldable pub bytes_served : DebugSetting → List ℕ → List ℕ → ServerState → Served
 bytes_served setting start [] s = record { state = s; text = [] }
 bytes_served setting start (byte ∷ bytes) s = if s.session.has_ended then record { state = s; text = [] }
     else then_served (byte_served setting start s byte) (bytes_served setting start bytes)

@@ -4,5 +4,6 @@
 mod laws;
 mod server;
 
+pub use gdb_session;
 pub use laws::pieces_are_served;
 pub use server::GdbServer;

@@ -46,7 +46,7 @@ impl GdbServer {
           has_acks = true;
           last = [];
         } }
-        ensures setting { result.session.setting ≡ session.setting }
+        ensures setting { result.session.debug.setting ≡ session.debug.setting }
         ensures start { result.session.start.items ≡ session.start.items }
     {
         GdbServer {
@@ -78,12 +78,12 @@ impl GdbServer {
     ) -> Result<(), RunError>
         ensures told { OnOk result (IsServed (W.contents sink.old) (W.contents sink.new)
             (server_state self.new images.new)
-            (bytes_served self.old.session.setting self.old.session.start.items
+            (bytes_served self.old.session.debug.setting self.old.session.start.items
             bytes.now (server_state self.old images.old))) }
         ensures front { OnErr result (AddsFront (W.contents sink.old) (W.contents sink.new)
-            (bytes_served self.old.session.setting self.old.session.start.items
+            (bytes_served self.old.session.debug.setting self.old.session.start.items
             bytes.now (server_state self.old images.old)).text) }
-        ensures setting { self.new.session.setting ≡ self.old.session.setting }
+        ensures setting { self.new.session.debug.setting ≡ self.old.session.debug.setting }
         ensures start { self.new.session.start.items ≡ self.old.session.start.items }
         ensures errors { IfErr result IsLineError }
         ensures same_flag { OnOk result (W.has_failed sink.new ≡ W.has_failed sink.old) }
@@ -105,12 +105,12 @@ impl GdbServer {
     ) -> Result<(), RunError>
         ensures told { OnOk result (IsServed (W.contents sink.old) (W.contents sink.new)
             (server_state self.new images.new)
-            (byte_served self.old.session.setting self.old.session.start.items
+            (byte_served self.old.session.debug.setting self.old.session.start.items
             (server_state self.old images.old) byte)) }
         ensures front { OnErr result (AddsFront (W.contents sink.old) (W.contents sink.new)
-            (byte_served self.old.session.setting self.old.session.start.items
+            (byte_served self.old.session.debug.setting self.old.session.start.items
             (server_state self.old images.old) byte).text) }
-        ensures setting { self.new.session.setting ≡ self.old.session.setting }
+        ensures setting { self.new.session.debug.setting ≡ self.old.session.debug.setting }
         ensures start { self.new.session.start.items ≡ self.old.session.start.items }
         ensures errors { IfErr result IsLineError }
         ensures same_flag { OnOk result (W.has_failed sink.new ≡ W.has_failed sink.old) }
@@ -130,12 +130,12 @@ impl GdbServer {
     fn take_packet<W: Sink>(&mut self, images: &mut Images, sink: &mut W) -> Result<(), RunError>
         ensures told { OnOk result (IsServed (W.contents sink.old) (W.contents sink.new)
             (server_state self.new images.new)
-            (packet_served self.old.session.setting self.old.session.start.items
+            (packet_served self.old.session.debug.setting self.old.session.start.items
             (server_state self.old images.old))) }
         ensures front { OnErr result (AddsFront (W.contents sink.old) (W.contents sink.new)
-            (packet_served self.old.session.setting self.old.session.start.items
+            (packet_served self.old.session.debug.setting self.old.session.start.items
             (server_state self.old images.old)).text) }
-        ensures setting { self.new.session.setting ≡ self.old.session.setting }
+        ensures setting { self.new.session.debug.setting ≡ self.old.session.debug.setting }
         ensures start { self.new.session.start.items ≡ self.old.session.start.items }
         ensures errors { IfErr result IsLineError }
         ensures same_flag { OnOk result (W.has_failed sink.new ≡ W.has_failed sink.old) }
@@ -163,9 +163,9 @@ impl GdbServer {
     // Answers the packet that came, and keeps the answer as it is written.
     fn answer_packet(&mut self, images: &mut Images) -> Result<(), RunError>
         ensures state { OnOk result (server_state self.new images.new
-            ≡ (packet_served self.old.session.setting self.old.session.start.items
+            ≡ (packet_served self.old.session.debug.setting self.old.session.start.items
             (server_state self.old images.old)).state) }
-        ensures setting { self.new.session.setting ≡ self.old.session.setting }
+        ensures setting { self.new.session.debug.setting ≡ self.old.session.debug.setting }
         ensures start { self.new.session.start.items ≡ self.old.session.start.items }
         ensures errors { IfErr result IsLineError }
     {

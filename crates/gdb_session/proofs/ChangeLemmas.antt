@@ -13,7 +13,7 @@ use Rattle.gdb_session.specs.Requests.{act_told, gdb_change_told}
 use Rattle.gdb_session.specs.Session.{IsGdbAnswered}
 use Rattle.gdb_session.specs.State.{GdbState, GdbAnswered}
 use Rattle.gdb_session.specs.declared.session.GdbAnswer.{GdbAnswer}
-use Rattle.gdb_session.specs.declared.session.GdbSetting.{GdbSetting}
+use Rattle.debug_session.specs.declared.session.DebugSetting.{DebugSetting}
 
 pub write_read : {U : Type 0} (n : ℕ) (out : List ℕ) (r : Result U FromHexError) (done : U) (read : Result (List ℕ) FromHexError)
     → MatchResult read (λ bytes. (r ≡ Ok done) × (out ≡ bytes)) (λ e. r ≡ Err e) → r ≡ Ok done
@@ -33,7 +33,7 @@ answer_known now (Ok answer) reply told none packet is = record {
 answer_known now (Err e) reply told none packet is = tt
 
 -- a request that none of the calls of its own answers is a change
-pub other_act : (setting : GdbSetting) (start : List ℕ) (g : GdbState) (request : Request)
+pub other_act : (setting : DebugSetting) (start : List ℕ) (g : GdbState) (request : Request)
     → (request ≡ asked.Continue → ⊥) → (request ≡ asked.Step → ⊥) → ((asks : Bool) → request ≡ asked.HostAnswer asks → ⊥)
     → ((pairs : Bor (List ℕ)) → request ≡ asked.Line pairs → ⊥) → (request ≡ asked.RunProgram → ⊥) → (request ≡ asked.Restart → ⊥)
     → gdb_change_told g (gdb_request request) ≡ act_told setting start g (gdb_request request)
@@ -53,6 +53,7 @@ other_act setting start g (asked.RemovePoint kind range) c s h l p r = refl
 other_act setting start g asked.Supported c s h l p r = refl
 other_act setting start g asked.NoAcks c s h l p r = refl
 other_act setting start g (asked.Description range) c s h l p r = refl
+other_act setting start g (asked.Libraries range) c s h l p r = refl
 other_act setting start g asked.Thread c s h l p r = refl
 other_act setting start g asked.IsAttached c s h l p r = refl
 other_act setting start g asked.CurrentThread c s h l p r = refl

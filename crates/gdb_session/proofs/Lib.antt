@@ -3,3 +3,4 @@ pub mod LookLemmas
 pub mod RunLemmas
 pub mod SliceLemmas
 pub mod WatchLemmas
+pub mod WriteLemmas

@@ -26,7 +26,7 @@ script_with_change s (change.Status status) = script_with_status s status
 script_with_change s (change.Banked mode n value) = script_with_bank_register s mode n value
 
 abbrev pub register_changed : GdbState → Option RegisterWrite → GdbAnswered
-register_changed g (Some c) = packet_reply (with_script g (script_with_change g.script c)) (codes "OK")
+register_changed g (Some c) = packet_reply (with_script g (script_with_change g.debug.script c)) (codes "OK")
 register_changed g None = packet_reply g (codes "E16")
 
 abbrev pub write_wanted : ℕ → Result (List ℕ) FromHexError → Option RegisterWrite
@@ -62,7 +62,8 @@ break_set g (Err error) = packet_reply g (break_refusal error)
 -- `Z0 a,4`: an instruction has four bytes
 abbrev pub add_break_told : GdbState → ByteRange → GdbAnswered
 add_break_told g range =
-    if range.count == 4 then break_set g (script_with_break g.script range.start) else packet_reply g (codes "E16")
+    if range.count == 4 then break_set g (script_with_break g.debug.script range.start)
+    else packet_reply g (codes "E16")
 
 abbrev pub break_cleared : GdbState → Result ScriptState BreakError → GdbAnswered
 break_cleared g (Ok s) = packet_reply (with_script g s) (codes "OK")
@@ -70,7 +71,7 @@ break_cleared g (Err error) = packet_reply g (codes "OK")
 
 -- `z0`; one that isn't there is gone
 abbrev pub remove_break_told : GdbState → ByteRange → GdbAnswered
-remove_break_told g range = break_cleared g (script_without_break g.script range.start)
+remove_break_told g range = break_cleared g (script_without_break g.debug.script range.start)
 
 abbrev pub watch_refusal : WatchError → List ℕ
 watch_refusal watch.WatchTableFull = codes "E1c"

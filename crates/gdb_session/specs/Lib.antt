@@ -1,5 +1,6 @@
 -- What GDB's requests do, and what they are answered. Begin with Requests.
 pub use Rattle.command_shell
+pub use Rattle.debug_session
 pub use Rattle.gdb_machine
 pub use Rattle.gdb_packets
 pub mod Changes

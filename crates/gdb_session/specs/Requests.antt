@@ -10,7 +10,7 @@ use Rattle.gdb_session.specs.Looks.{look_reply}
 use Rattle.gdb_session.specs.Runs as runs
 use Rattle.gdb_session.specs.State.{GdbState, GdbAnswered, packet_reply, no_reply}
 use Rattle.gdb_session.specs.Stores.{store_told}
-use Rattle.gdb_session.specs.declared.session.GdbSetting.{GdbSetting}
+use Rattle.debug_session.specs.declared.session.DebugSetting.{DebugSetting}
 
 abbrev pub add_point_told : GdbState → PointKind → ByteRange → GdbAnswered
 add_point_told g point.Break range = changes.add_break_told g range
@@ -36,7 +36,7 @@ gdb_change_told g request.Detach = packet_reply (changes.at_session_end g) (code
 gdb_change_told g other = no_reply (changes.at_session_end g)
 
 -- a request that doesn't only look; `start` are the lines that a machine begins with
-abbrev pub act_told : GdbSetting → List ℕ → GdbState → GdbRequest → GdbAnswered
+abbrev pub act_told : DebugSetting → List ℕ → GdbState → GdbRequest → GdbAnswered
 act_told setting start g request.Continue = runs.continue_told setting g
 act_told setting start g request.Step = runs.gdb_step_told setting g
 act_told setting start g (request.HostAnswer asks) = runs.host_answered g asks
@@ -45,9 +45,9 @@ act_told setting start g request.RunProgram = runs.run_program_told setting star
 act_told setting start g request.Restart = runs.restart_told setting start g
 act_told setting start g other = gdb_change_told g other
 
-abbrev pub look_or_act : Option (List ℕ) → GdbSetting → List ℕ → GdbState → GdbRequest → GdbAnswered
+abbrev pub look_or_act : Option (List ℕ) → DebugSetting → List ℕ → GdbState → GdbRequest → GdbAnswered
 look_or_act (Some reply) setting start g asked = packet_reply g reply
 look_or_act None setting start g asked = act_told setting start g asked
 
-unfoldable pub gdb_answered : GdbSetting → List ℕ → GdbState → GdbRequest → GdbAnswered
+unfoldable pub gdb_answered : DebugSetting → List ℕ → GdbState → GdbRequest → GdbAnswered
 gdb_answered setting start g asked = look_or_act (look_reply g asked) setting start g asked

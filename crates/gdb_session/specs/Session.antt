@@ -1,7 +1,7 @@
 -- The state of a session with GDB, as the code holds it: the session and the images.
 use Rattle.std.specs.Prelude.{◌≡◌, ℕ, List, ◌++◌, option_map}
 use Rattle.image_loader.specs.Entries.{Entry}
-use Rattle.command_shell.specs.Session.{script_state}
+use Rattle.debug_session.specs.Session.{debug_state}
 use Rattle.gdb_machine.specs.declared.stops.GdbStop.{GdbStop}
 use Rattle.gdb_session.specs.Runs.{StepsTaken}
 use Rattle.gdb_session.specs.State.{GdbState, GdbAnswered, with_script}
@@ -10,8 +10,9 @@ use Rattle.gdb_session.specs.declared.session.GdbSession.{GdbSession}
 
 abbrev pub gdb_state : GdbSession → List Entry → GdbState
 gdb_state s images = record {
-  script = script_state s.session images;
+  debug = debug_state s.debug images;
   watches = s.watches;
+  libraries = s.libraries.items;
   is_running = s.is_running;
   is_asked = s.is_asked;
   stop = s.stop;

@@ -22,9 +22,9 @@ impl GdbSession {
         request: &Request<'_>,
     ) -> Result<GdbAnswer, RunError>
         ensures told { IfOk result (λ answer. IsGdbAnswered (gdb_state self.new images.new) answer
-            (act_told self.old.setting self.old.start.items (gdb_state self.old images.old)
+            (act_told self.old.debug.setting self.old.start.items (gdb_state self.old images.old)
             (gdb_request request.now))) }
-        ensures setting { self.new.setting ≡ self.old.setting }
+        ensures setting { self.new.debug.setting ≡ self.old.debug.setting }
         ensures start { self.new.start.items ≡ self.old.start.items }
         ensures errors { IfErr result IsLineError }
     {
@@ -66,7 +66,7 @@ impl GdbSession {
           told = [];
           reply = option_map (λ text. text.now) reply;
         } ≡ gdb_change_told (gdb_state self.old images) (gdb_request request.now)) }
-        ensures setting { self.new.setting ≡ self.old.setting }
+        ensures setting { self.new.debug.setting ≡ self.old.debug.setting }
         ensures start { self.new.start.items ≡ self.old.start.items }
         ensures errors { IfErr result IsLineError }
     {

@@ -28,7 +28,7 @@ impl GdbSession {
     pub(crate) fn set_register(&mut self, number: u32, pairs: &[u8]) -> &'static [u8]
         ensures told { (images : List Entry) → packet_reply (gdb_state self.new images) result.now
             ≡ set_register_told (gdb_state self.old images) number pairs.now }
-        ensures setting { self.new.setting ≡ self.old.setting }
+        ensures setting { self.new.debug.setting ≡ self.old.debug.setting }
         ensures start { self.new.start.items ≡ self.old.start.items }
     {
         match wanted_write(number, pairs) {
@@ -44,16 +44,16 @@ impl GdbSession {
         requires { CanBeMade change }
         ensures told { (images : List Entry) → gdb_state self.new images
             ≡ with_script (gdb_state self.old images)
-            (script_with_change (gdb_state self.old images).script change) }
-        ensures setting { self.new.setting ≡ self.old.setting }
+            (script_with_change (gdb_state self.old images).debug.script change) }
+        ensures setting { self.new.debug.setting ≡ self.old.debug.setting }
         ensures start { self.new.start.items ≡ self.old.start.items }
     {
         match change {
-            RegisterWrite::Present(number, value) => self.session.set_register(number, value),
-            RegisterWrite::Place(address) => self.session.set_pc(address),
-            RegisterWrite::Status(status) => self.session.set_psr(status),
+            RegisterWrite::Present(number, value) => self.debug.session.set_register(number, value),
+            RegisterWrite::Place(address) => self.debug.session.set_pc(address),
+            RegisterWrite::Status(status) => self.debug.session.set_psr(status),
             RegisterWrite::Banked(mode, number, value) => {
-                self.session.set_register_in(mode, number, value);
+                self.debug.session.set_register_in(mode, number, value);
             }
         }
     }
@@ -67,7 +67,7 @@ impl GdbSession {
         ensures told { (images : List Entry) → IfOk result (λ reply.
             packet_reply (gdb_state self.new images) reply.now
             ≡ store_pairs_told (gdb_state self.old images) range pairs.now) }
-        ensures setting { self.new.setting ≡ self.old.setting }
+        ensures setting { self.new.debug.setting ≡ self.old.debug.setting }
         ensures start { self.new.start.items ≡ self.old.start.items }
         ensures errors { IfErr result IsLineError }
     {
@@ -81,7 +81,7 @@ impl GdbSession {
     pub(crate) fn add_point(&mut self, kind: PointKind, range: ByteRange) -> &'static [u8]
         ensures told { (images : List Entry) → packet_reply (gdb_state self.new images) result.now
             ≡ add_point_told (gdb_state self.old images) kind range }
-        ensures setting { self.new.setting ≡ self.old.setting }
+        ensures setting { self.new.debug.setting ≡ self.old.debug.setting }
         ensures start { self.new.start.items ≡ self.old.start.items }
     {
         match kind {
@@ -95,13 +95,13 @@ impl GdbSession {
     fn add_break(&mut self, range: ByteRange) -> &'static [u8]
         ensures told { (images : List Entry) → packet_reply (gdb_state self.new images) result.now
             ≡ add_break_told (gdb_state self.old images) range }
-        ensures setting { self.new.setting ≡ self.old.setting }
+        ensures setting { self.new.debug.setting ≡ self.old.debug.setting }
         ensures start { self.new.start.items ≡ self.old.start.items }
     {
         if range.count != 4 {
             return b"E16";
         }
-        match self.session.insert_break(range.start) {
+        match self.debug.session.insert_break(range.start) {
             Ok(()) => b"OK",
             Err(error) => break_refusal(error),
         }
@@ -110,7 +110,7 @@ impl GdbSession {
     fn add_watch(&mut self, range: ByteRange) -> &'static [u8]
         ensures told { (images : List Entry) → packet_reply (gdb_state self.new images) result.now
             ≡ add_watch_told (gdb_state self.old images) range }
-        ensures setting { self.new.setting ≡ self.old.setting }
+        ensures setting { self.new.debug.setting ≡ self.old.debug.setting }
         ensures start { self.new.start.items ≡ self.old.start.items }
     {
         match self.watches.add(range) {
@@ -123,12 +123,12 @@ impl GdbSession {
     pub(crate) fn remove_point(&mut self, kind: PointKind, range: ByteRange)
         ensures told { (images : List Entry) → packet_reply (gdb_state self.new images) (codes "OK")
             ≡ remove_point_told (gdb_state self.old images) kind range }
-        ensures setting { self.new.setting ≡ self.old.setting }
+        ensures setting { self.new.debug.setting ≡ self.old.debug.setting }
         ensures start { self.new.start.items ≡ self.old.start.items }
     {
         match kind {
             PointKind::Break => {
-                let _removed = self.session.remove_break(range.start);
+                let _removed = self.debug.session.remove_break(range.start);
             }
             PointKind::StoreWatch | PointKind::LoadWatch | PointKind::AccessWatch => {
                 self.watches.remove(range);

@@ -11,5 +11,8 @@ mod storing;
 
 pub use gdb_machine::{GdbStop, Signal};
 pub use gdb_packets;
-pub use laws::{looking_changes_nothing, slices_are_one_run};
+pub use laws::{
+    looking_changes_nothing, looking_lines_leave_the_machine, registers_are_read,
+    slices_are_one_run, writes_are_whole,
+};
 pub use session::{GdbAnswer, GdbSession, GdbSetting};

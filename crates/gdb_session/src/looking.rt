@@ -5,13 +5,15 @@ ghost use Rattle.gdb_packets.specs.Requests.{gdb_request};
 ghost use Rattle.gdb_session.specs.Looks.{fixed_reply as fixed_told};
 
 use crate::session::GdbSession;
-use gdb_machine::{all_registers, description_part, memory_told, one_register, stop_packet};
+use gdb_machine::{
+    all_registers, description_part, libraries_part, memory_told, one_register, stop_packet,
+};
 use gdb_packets::{PointKind, Request};
 use std::alloc::AllocError;
 
 /// What the other side may ask for.
-const SUPPORTED: &[u8] =
-    b"PacketSize=4000;QStartNoAckMode+;vContSupported+;swbreak+;hwbreak+;qXfer:features:read+";
+const SUPPORTED: &[u8] = b"PacketSize=4000;QStartNoAckMode+;vContSupported+;swbreak+;hwbreak+;\
+    qXfer:features:read+;qXfer:libraries:read+";
 
 impl GdbSession {
     ghost use Rattle.image_loader.specs.Entries.{Entry};
@@ -23,7 +25,7 @@ impl GdbSession {
         ensures { (images : List Entry) → IfOk result (λ reply. option_map (λ packet. packet.items) reply
             ≡ look_reply (gdb_state self.now images) (gdb_request request.now)) }
     {
-        let machine = self.session.machine();
+        let machine = self.debug.session.machine();
         match request {
             Request::Reason => Ok(Some(stop_packet(self.alloc, machine.cpu(), self.stop)?)),
             Request::Registers => Ok(Some(all_registers(self.alloc, machine.cpu())?)),
@@ -32,6 +34,10 @@ impl GdbSession {
             }
             Request::Memory(range) => Ok(Some(memory_told(self.alloc, machine.memory(), *range)?)),
             Request::Description(range) => Ok(Some(description_part(self.alloc, *range)?)),
+            Request::Libraries(range) => {
+                let part = libraries_part(self.alloc, machine.instances(), *range)?;
+                Ok(Some(part))
+            }
             _ => self.fixed(fixed_reply(request)),
         }
     }

@@ -1,10 +1,8 @@
 //! Requests that take steps. A run goes in slices: after each the other side is asked whether the user
 //! wants the program to stop, by a call of GDB's that any GDB answers at once.
 
-ghost use Rattle.std.specs.Prelude.{◌≡◌, ◌++◌, ◌&&◌, ◌||◌, nat_lt, [], List, IfErr, IfOk, OnOk, codes};
+ghost use Rattle.std.specs.Prelude.{◌≡◌, ◌++◌, ◌&&◌, ◌||◌, nat_lt, [], List, Some, IfErr, IfOk, OnOk, codes};
 ghost use Rattle.command_shell.specs.Answers.{stop_text};
-ghost use Rattle.command_shell.specs.Script.{request_told};
-ghost use Rattle.command_shell_lines.specs.Requests.{request_of};
 ghost use Rattle.command_shell.specs.Error.{IsLineError};
 ghost use Rattle.profile.specs.Output.{Writes};
 ghost use Rattle.view_items.specs.TextSink.{sink_text_of};
@@ -14,9 +12,10 @@ use crate::changing::decoded;
 use crate::session::{GdbAnswer, GdbSession};
 use command_shell::{RunError, tell_stop};
 use command_shell_lines::text_lines::Lines;
-use gdb_machine::{GdbStop, SeenByte, first_changed, stop_packet};
+use gdb_machine::{GdbStop, SeenByte, first_changed, library_lines, stop_packet};
 use image_loader::Images;
 use profile::{Sink, Stop, WriteFault, push_all};
+use std::alloc::AllocError;
 use view_items::TextSink;
 
 /// How many steps are taken before the other side is asked.
@@ -27,24 +26,55 @@ const ASK: &[u8] = b"Fisatty,0";
 
 impl GdbSession {
     ghost use Rattle.image_loader.specs.Entries.{Entry};
-    ghost use Rattle.gdb_session.specs.Runs.{asking, begin_told, begun_anew, continue_told, gdb_step_told};
+    ghost use Rattle.gdb_session.specs.Runs.{after_begin, asking, begin_told, begun_anew, continue_told, gdb_step_told};
     ghost use Rattle.gdb_session.specs.Runs.{gdb_stop_told, host_answered, monitor_told, restart_told};
     ghost use Rattle.gdb_session.specs.Runs.{run_program_told, slice_told};
-    ghost use Rattle.gdb_session.specs.Runs.{line_done, steps_watching, watched_steps};
-    ghost use Rattle.gdb_session.specs.State.{with_script};
+    ghost use Rattle.gdb_session.specs.Runs.{first_slice_told, further_told, has_other_libraries};
+    ghost use Rattle.gdb_session.specs.Runs.{line_decoded, steps_watching, watched_steps};
+    ghost use Rattle.gdb_session.specs.State.{with_libraries_told};
     ghost use Rattle.gdb_session.specs.Session.{gdb_state, IsAfterSteps, IsGdbAnswered};
 
     /// Begins a run.
     pub(crate) fn run_on(&mut self, images: &Images) -> Result<GdbAnswer, RunError>
         ensures told { IfOk result (λ answer. IsGdbAnswered (gdb_state self.new images.now) answer
-            (continue_told self.old.setting (gdb_state self.old images.now))) }
-        ensures setting { self.new.setting ≡ self.old.setting }
+            (continue_told self.old.debug.setting (gdb_state self.old images.now))) }
+        ensures setting { self.new.debug.setting ≡ self.old.debug.setting }
         ensures start { self.new.start.items ≡ self.old.start.items }
         ensures errors { IfErr result IsLineError }
     {
-        self.session.set_budget(self.setting.budget);
+        self.debug.renew_budget();
         self.is_asked = false;
+        self.first_slice(images)
+    }
+
+    // The steps of the first slice, unless GDB has to be told of other modules first.
+    fn first_slice(&mut self, images: &Images) -> Result<GdbAnswer, RunError>
+        ensures told { IfOk result (λ answer. IsGdbAnswered (gdb_state self.new images.now) answer
+            (first_slice_told (gdb_state self.old images.now))) }
+        ensures setting { self.new.debug.setting ≡ self.old.debug.setting }
+        ensures start { self.new.start.items ≡ self.old.start.items }
+        ensures errors { IfErr result IsLineError }
+    {
+        let is_other = self.take_libraries()?;
+        if is_other {
+            return self.stopped(TextSink::new(self.alloc), GdbStop::Library);
+        }
         self.slice(images)
+    }
+
+    // Takes in which modules are there, and whether GDB was told of others last.
+    fn take_libraries(&mut self) -> Result<bool, AllocError>
+        ensures other { (images : List Entry) → IfOk result (λ other. other
+            ≡ has_other_libraries (gdb_state self.old images)) }
+        ensures state { (images : List Entry) → OnOk result (gdb_state self.new images
+            ≡ with_libraries_told (gdb_state self.old images)) }
+        ensures setting { self.new.debug.setting ≡ self.old.debug.setting }
+        ensures start { self.new.start.items ≡ self.old.start.items }
+    {
+        let now = library_lines(self.alloc, self.debug.session.machine().instances())?;
+        let is_same = now.as_slice() == self.libraries.as_slice();
+        self.libraries = now;
+        Ok(!is_same)
     }
 
     /// Goes on with a run, once the other side has answered, unless the user wants it to stop.
@@ -55,7 +85,7 @@ impl GdbSession {
     ) -> Result<GdbAnswer, RunError>
         ensures told { IfOk result (λ answer. IsGdbAnswered (gdb_state self.new images.now) answer
             (host_answered (gdb_state self.old images.now) asks)) }
-        ensures setting { self.new.setting ≡ self.old.setting }
+        ensures setting { self.new.debug.setting ≡ self.old.debug.setting }
         ensures start { self.new.start.items ≡ self.old.start.items }
         ensures errors { IfErr result IsLineError }
     {
@@ -80,17 +110,33 @@ impl GdbSession {
     fn slice(&mut self, images: &Images) -> Result<GdbAnswer, RunError>
         ensures told { IfOk result (λ answer. IsGdbAnswered (gdb_state self.new images.now) answer
             (slice_told (gdb_state self.old images.now))) }
-        ensures setting { self.new.setting ≡ self.old.setting }
+        ensures setting { self.new.debug.setting ≡ self.old.debug.setting }
         ensures start { self.new.start.items ≡ self.old.start.items }
         ensures errors { IfErr result IsLineError }
     {
         let mut told = TextSink::new(self.alloc);
         let stop = self.take_steps(images, &mut told, SLICE)?;
-        if may_go_on(stop, self.session.left()) {
-            self.ask(told)
+        if may_go_on(stop, self.debug.session.left()) {
+            self.go_further(told)
         } else {
             self.stopped(told, stop)
         }
+    }
+
+    // The run may go on, after it printed so much.
+    fn go_further(&mut self, told: TextSink) -> Result<GdbAnswer, RunError>
+        ensures told { (images : List Entry) → IfOk result (λ answer.
+            IsGdbAnswered (gdb_state self.new images) answer
+            (further_told (gdb_state self.old images) (sink_text_of told))) }
+        ensures setting { self.new.debug.setting ≡ self.old.debug.setting }
+        ensures start { self.new.start.items ≡ self.old.start.items }
+        ensures errors { IfErr result IsLineError }
+    {
+        let is_other = self.take_libraries()?;
+        if is_other {
+            return self.stopped(told, GdbStop::Library);
+        }
+        self.ask(told)
     }
 
     // The run is under way, and the other side is asked.
@@ -98,7 +144,7 @@ impl GdbSession {
         ensures told { (images : List Entry) → IfOk result (λ answer.
             IsGdbAnswered (gdb_state self.new images) answer
             (asking (gdb_state self.old images) (sink_text_of told))) }
-        ensures setting { self.new.setting ≡ self.old.setting }
+        ensures setting { self.new.debug.setting ≡ self.old.debug.setting }
         ensures start { self.new.start.items ≡ self.old.start.items }
         ensures errors { IfErr result IsLineError }
     {
@@ -113,13 +159,13 @@ impl GdbSession {
     /// Takes one step.
     pub(crate) fn step(&mut self, images: &Images) -> Result<GdbAnswer, RunError>
         ensures told { IfOk result (λ answer. IsGdbAnswered (gdb_state self.new images.now) answer
-            (gdb_step_told self.old.setting (gdb_state self.old images.now))) }
-        ensures setting { self.new.setting ≡ self.old.setting }
+            (gdb_step_told self.old.debug.setting (gdb_state self.old images.now))) }
+        ensures setting { self.new.debug.setting ≡ self.old.debug.setting }
         ensures start { self.new.start.items ≡ self.old.start.items }
         ensures errors { IfErr result IsLineError }
     {
         let mut told = TextSink::new(self.alloc);
-        self.session.set_budget(self.setting.budget);
+        self.debug.renew_budget();
         let stop = self.take_steps(images, &mut told, 1)?;
         self.stopped(told, stepped(stop))
     }
@@ -129,11 +175,11 @@ impl GdbSession {
         ensures told { (images : List Entry) → IfOk result (λ answer.
             IsGdbAnswered (gdb_state self.new images) answer
             (gdb_stop_told (gdb_state self.old images) (sink_text_of printed) stop)) }
-        ensures setting { self.new.setting ≡ self.old.setting }
+        ensures setting { self.new.debug.setting ≡ self.old.debug.setting }
         ensures start { self.new.start.items ≡ self.old.start.items }
         ensures errors { IfErr result IsLineError }
     {
-        let cpu = self.session.machine().cpu();
+        let cpu = self.debug.session.machine().cpu();
         let mut told = printed;
         push_stop(&mut told, stop, cpu.pc())?;
         let reply = stop_packet(self.alloc, cpu, stop)?;
@@ -156,16 +202,16 @@ impl GdbSession {
         ensures taken { IfOk result (λ stop.
             IsAfterSteps (gdb_state self.old images.now) (gdb_state self.new images.now)
             (sink_text_of printed.old) (sink_text_of printed.new) stop
-            (steps_watching self.old.watches (gdb_state self.old images.now).script count)) }
-        ensures setting { self.new.setting ≡ self.old.setting }
+            (steps_watching self.old.watches (gdb_state self.old images.now).debug.script count)) }
+        ensures setting { self.new.debug.setting ≡ self.old.debug.setting }
         ensures start { self.new.start.items ≡ self.old.start.items }
         ensures errors { IfErr result IsLineError }
     {
         if self.watches.is_empty() {
-            let ran = self.session.take_steps(images, printed, count)?;
+            let ran = self.debug.session.take_steps(images, printed, count)?;
             return Ok(GdbStop::Ran(ran.stop));
         }
-        let map = self.session.machine().memory();
+        let map = self.debug.session.machine().memory();
         let seen = self.watches.seen_bytes(self.alloc, map)?;
         Ok(self.take_watched(images, printed, count, seen.as_slice())?)
     }
@@ -180,14 +226,14 @@ impl GdbSession {
         ensures taken { IfOk result (λ stop.
             IsAfterSteps (gdb_state self.old images.now) (gdb_state self.new images.now)
             (sink_text_of printed.old) (sink_text_of printed.new) stop
-            (watched_steps seen.now count (gdb_state self.old images.now).script)) }
-        ensures setting { self.new.setting ≡ self.old.setting }
+            (watched_steps seen.now count (gdb_state self.old images.now).debug.script)) }
+        ensures setting { self.new.debug.setting ≡ self.old.debug.setting }
         ensures start { self.new.start.items ≡ self.old.start.items }
     {
         let mut left = count;
         while left > 0 {
-            let ran = self.session.take_steps(images, printed, 1)?;
-            if let Some(address) = first_changed(self.session.machine().memory(), seen) {
+            let ran = self.debug.session.take_steps(images, printed, 1)?;
+            if let Some(address) = first_changed(self.debug.session.machine().memory(), seen) {
                 return Ok(GdbStop::Watched(address));
             }
             let stop = GdbStop::Ran(ran.stop);
@@ -199,19 +245,18 @@ impl GdbSession {
         Ok(GdbStop::Ran(Stop::Budget))
     }
 
-    /// Answers a line of a script, which may take the whole budget.
+    /// Answers a line of a debugging script, which may take the whole budget.
     pub(crate) fn answer_line(
         &mut self,
         images: &mut Images,
         pairs: &[u8],
     ) -> Result<GdbAnswer, RunError>
         ensures told { IfOk result (λ answer. IsGdbAnswered (gdb_state self.new images.new) answer
-            (monitor_told self.old.setting (gdb_state self.old images.old) pairs.now)) }
-        ensures setting { self.new.setting ≡ self.old.setting }
+            (monitor_told self.old.debug.setting (gdb_state self.old images.old) pairs.now)) }
+        ensures setting { self.new.debug.setting ≡ self.old.debug.setting }
         ensures start { self.new.start.items ≡ self.old.start.items }
         ensures errors { IfErr result IsLineError }
     {
-        self.session.set_budget(self.setting.budget);
         match decoded(self.alloc, pairs)? {
             Some(line) => self.answer_decoded(images, line.as_slice()),
             None => Ok(self.with_reply(Vec::from_slice(self.alloc, b"E16")?)),
@@ -220,17 +265,16 @@ impl GdbSession {
 
     fn answer_decoded(&mut self, images: &mut Images, line: &[u8]) -> Result<GdbAnswer, RunError>
         ensures told { IfOk result (λ answer. IsGdbAnswered (gdb_state self.new images.new) answer
-            (line_done (gdb_state self.old images.old)
-            (request_told (gdb_state self.old images.old).script 0 (request_of line.now) []))) }
-        ensures setting { self.new.setting ≡ self.old.setting }
+            (line_decoded self.old.debug.setting (gdb_state self.old images.old) (Some line.now))) }
+        ensures setting { self.new.debug.setting ≡ self.old.debug.setting }
         ensures start { self.new.start.items ≡ self.old.start.items }
         ensures errors { IfErr result IsLineError }
     {
         let reply = Vec::from_slice(self.alloc, b"OK")?;
         let mut told = TextSink::new(self.alloc);
         let mut none = Lines::new(b"");
-        self.session
-            .answer_line(images, &mut told, line, &mut none)?;
+        self.debug.go_on();
+        self.debug.answer_line(images, &mut told, line, &mut none)?;
         Ok(GdbAnswer {
             told: told.into_bytes(),
             reply: Some(reply),
@@ -244,11 +288,11 @@ impl GdbSession {
     /// `Memory`.
     pub fn begin(&mut self, images: &mut Images) -> Result<Vec<u8>, RunError>
         ensures told { IfOk result (λ text. text.items
-            ≡ (begin_told self.old.setting self.old.start.items (gdb_state self.old images.old)).text) }
+            ≡ (begin_told self.old.debug.setting self.old.start.items (gdb_state self.old images.old)).text) }
         ensures state { OnOk result (gdb_state self.new images.new
             ≡ begun_anew (gdb_state self.old images.old)
-            (begin_told self.old.setting self.old.start.items (gdb_state self.old images.old))) }
-        ensures setting { self.new.setting ≡ self.old.setting }
+            (begin_told self.old.debug.setting self.old.start.items (gdb_state self.old images.old))) }
+        ensures setting { self.new.debug.setting ≡ self.old.debug.setting }
         ensures start { self.new.start.items ≡ self.old.start.items }
         ensures errors { IfErr result IsLineError }
     {
@@ -262,19 +306,20 @@ impl GdbSession {
     // A fresh machine, and the lines that it begins with.
     fn begin_anew(&mut self, images: &mut Images) -> Result<TextSink, RunError>
         ensures told { IfOk result (λ text. sink_text_of text
-            ≡ (begin_told self.old.setting self.old.start.items (gdb_state self.old images.old)).text) }
+            ≡ (begin_told self.old.debug.setting self.old.start.items (gdb_state self.old images.old)).text) }
         ensures state { OnOk result (gdb_state self.new images.new
-            ≡ with_script (gdb_state self.old images.old)
-            (begin_told self.old.setting self.old.start.items (gdb_state self.old images.old)).state) }
-        ensures setting { self.new.setting ≡ self.old.setting }
+            ≡ after_begin (gdb_state self.old images.old)
+            (begin_told self.old.debug.setting self.old.start.items (gdb_state self.old images.old))) }
+        ensures setting { self.new.debug.setting ≡ self.old.debug.setting }
         ensures start { self.new.start.items ≡ self.old.start.items }
         ensures errors { IfErr result IsLineError }
     {
-        self.session
-            .start_anew(self.setting.config, self.setting.budget)?;
+        self.debug.start_anew()?;
+        self.debug.go_on();
         let mut told = TextSink::new(self.alloc);
         let mut lines = Lines::new(self.start.as_slice());
-        self.session.answer_lines(images, &mut told, &mut lines)?;
+        self.debug.answer_lines(images, &mut told, &mut lines)?;
+        self.libraries = Vec::new(self.alloc);
         Ok(told)
     }
 
@@ -282,8 +327,8 @@ impl GdbSession {
     /// the machine begins with are answered is left out.
     pub(crate) fn run_program(&mut self, images: &mut Images) -> Result<GdbAnswer, RunError>
         ensures told { IfOk result (λ answer. IsGdbAnswered (gdb_state self.new images.new) answer
-            (run_program_told self.old.setting self.old.start.items (gdb_state self.old images.old))) }
-        ensures setting { self.new.setting ≡ self.old.setting }
+            (run_program_told self.old.debug.setting self.old.start.items (gdb_state self.old images.old))) }
+        ensures setting { self.new.debug.setting ≡ self.old.debug.setting }
         ensures start { self.new.start.items ≡ self.old.start.items }
         ensures errors { IfErr result IsLineError }
     {
@@ -294,8 +339,8 @@ impl GdbSession {
     /// Begins anew without a packet.
     pub(crate) fn restart(&mut self, images: &mut Images) -> Result<GdbAnswer, RunError>
         ensures told { IfOk result (λ answer. IsGdbAnswered (gdb_state self.new images.new) answer
-            (restart_told self.old.setting self.old.start.items (gdb_state self.old images.old))) }
-        ensures setting { self.new.setting ≡ self.old.setting }
+            (restart_told self.old.debug.setting self.old.start.items (gdb_state self.old images.old))) }
+        ensures setting { self.new.debug.setting ≡ self.old.debug.setting }
         ensures start { self.new.start.items ≡ self.old.start.items }
         ensures errors { IfErr result IsLineError }
     {

@@ -2,8 +2,10 @@
 
 ghost use Rattle.std.specs.Prelude.{◌≡◌, ◌&&◌, false, true, [], Some, List, IfOk, IfErr};
 ghost use Rattle.command_shell.specs.Error.{IsLineError};
+ghost use Rattle.gdb_session.specs.State.{debug_setting as debug_setting_told};
 
-use command_shell::{RunError, Session};
+use command_shell::RunError;
+use debug_session::{DebugSession, DebugSetting, ReportForm};
 use gdb_machine::{GdbStop, Watches};
 use gdb_packets::Request;
 use image_loader::Images;
@@ -19,15 +21,16 @@ pub struct GdbSetting {
     pub budget: u64,
 }
 
-/// A session with GDB: a session of scripts, and what GDB has asked for.
+/// A session with GDB: a session of debugging scripts, and what GDB has asked for.
 #[derive(Drop)]
 pub struct GdbSession {
     pub(crate) alloc: Global,
-    pub(crate) setting: GdbSetting,
     // The lines that a machine begins with.
     pub(crate) start: Vec<u8>,
-    pub(crate) session: Session,
+    pub(crate) debug: DebugSession,
     pub(crate) watches: Watches,
+    // The lines of the modules that GDB was told are there.
+    pub(crate) libraries: Vec<u8>,
     pub(crate) is_running: bool,
     pub(crate) is_asked: bool,
     pub(crate) stop: GdbStop,
@@ -48,7 +51,7 @@ impl GdbSession {
     ghost use Rattle.gdb_packets.specs.Requests.{gdb_request};
     ghost use Rattle.gdb_session.specs.Requests.{gdb_answered};
     ghost use Rattle.gdb_session.specs.Session.{gdb_state, IsGdbAnswered};
-    ghost use Rattle.gdb_session.specs.State.{gdb_start};
+    ghost use Rattle.gdb_session.specs.State.{debug_setting, gdb_start};
 
     /// A session on a fresh machine, whose first lines have not been answered yet.
     ///
@@ -57,18 +60,18 @@ impl GdbSession {
     /// Memory ran out.
     pub fn new(alloc: Global, setting: GdbSetting, start: &[u8]) -> Result<GdbSession, AllocError>
         ensures state { IfOk result (λ session. (images : List Entry)
-            → gdb_state session images ≡ gdb_start setting.config images setting.budget) }
-        ensures setting { IfOk result (λ session. session.setting ≡ setting) }
+            → gdb_state session images ≡ gdb_start (debug_setting setting) images) }
+        ensures setting { IfOk result (λ session. session.debug.setting ≡ debug_setting setting) }
         ensures start { IfOk result (λ session. session.start.items ≡ start.now) }
     {
         let start = Vec::from_slice(alloc, start)?;
-        let session = Session::on_fresh_machine(alloc, setting.config, setting.budget)?;
+        let debug = DebugSession::new(alloc, debug_setting(setting))?;
         Ok(GdbSession {
             alloc,
-            setting,
             start,
-            session,
+            debug,
             watches: Watches::new(),
+            libraries: Vec::new(alloc),
             is_running: false,
             is_asked: false,
             stop: GdbStop::Stepped,
@@ -85,16 +88,16 @@ impl GdbSession {
 
     /// The last stop of the machine, if there was one.
     pub fn last(&self) -> Option<Stop>
-        ensures { (images : List Entry) → result ≡ (gdb_state self.now images).script.last }
+        ensures { (images : List Entry) → result ≡ (gdb_state self.now images).debug.script.last }
     {
-        self.session.last()
+        self.debug.session.last()
     }
 
     /// The user wants the program to stop, where it is running.
     pub fn ask_to_stop(&mut self)
         ensures asked { (images : List Entry) → gdb_state self.new images
             ≡ record (gdb_state self.old images) { is_asked = (gdb_state self.old images).is_running } }
-        ensures setting { self.new.setting ≡ self.old.setting }
+        ensures setting { self.new.debug.setting ≡ self.old.debug.setting }
         ensures start { self.new.start.items ≡ self.old.start.items }
     {
         self.is_asked = self.is_running;
@@ -112,9 +115,9 @@ impl GdbSession {
         request: &Request<'_>,
     ) -> Result<GdbAnswer, RunError>
         ensures told { IfOk result (λ answer. IsGdbAnswered (gdb_state self.new images.new) answer
-            (gdb_answered self.old.setting self.old.start.items (gdb_state self.old images.old)
+            (gdb_answered self.old.debug.setting self.old.start.items (gdb_state self.old images.old)
             (gdb_request request.now))) }
-        ensures setting { self.new.setting ≡ self.old.setting }
+        ensures setting { self.new.debug.setting ≡ self.old.debug.setting }
         ensures start { self.new.start.items ≡ self.old.start.items }
         ensures errors { IfErr result IsLineError }
     {
@@ -133,5 +136,16 @@ impl GdbSession {
             told: Vec::new(self.alloc),
             reply: Some(reply),
         }
+    }
+}
+
+// What lines are answered with: as answers.
+fn debug_setting(setting: GdbSetting) -> DebugSetting
+    ensures { result ≡ debug_setting_told setting }
+{
+    DebugSetting {
+        config: setting.config,
+        budget: setting.budget,
+        form: ReportForm::Answers,
     }
 }

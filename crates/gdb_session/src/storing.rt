@@ -18,13 +18,13 @@ impl GdbSession {
     pub(crate) fn store(&mut self, range: ByteRange, bytes: &[u8]) -> &'static [u8]
         ensures told { (images : List Entry) → packet_reply (gdb_state self.new images) result.now
             ≡ store_told (gdb_state self.old images) range bytes.now }
-        ensures setting { self.new.setting ≡ self.old.setting }
+        ensures setting { self.new.debug.setting ≡ self.old.debug.setting }
         ensures start { self.new.start.items ≡ self.old.start.items }
     {
         if bytes.len() != range.count as usize {
             return b"E16";
         }
-        match put_bytes(&mut self.session, range.start, bytes) {
+        match put_bytes(&mut self.debug.session, range.start, bytes) {
             Ok(()) => b"OK",
             Err(fault) => store_refusal(fault),
         }

@@ -5,4 +5,6 @@
 #[cfg(test)]
 mod frames;
 #[cfg(test)]
+mod lines;
+#[cfg(test)]
 mod sessions;

@@ -3,7 +3,7 @@
 //! lowest byte first. A stop tells R11, R13, R14, the program counter and the status.
 
 use gdb_server::GdbServer;
-use gdb_session::{GdbSession, GdbSetting};
+use gdb_server::gdb_session::{GdbSession, GdbSetting};
 use image_loader::Images;
 use profile::{Config, MemorySink};
 use std::alloc::Global;
@@ -57,7 +57,7 @@ fn push_frame(bytes: &mut Vec<u8>, packet: &str) -> Result<(), Fail> {
 }
 
 /// The first packet of a session that isn't answered as it should be, by a server that sends no `+`.
-fn first_wrong<'a>(
+pub fn first_wrong<'a>(
     alloc: Global,
     start: &str,
     session: &[(&'a str, &[&str])],

@@ -1,9 +1,9 @@
 use Rattle.std.proofs.Common.{ℕ, List, ap, subst, ◌∙◌}
 use Rattle.std.specs.Io.KnownBytes.{Appends}
 use Rattle.image_loader.specs.Entries.{Entry}
-use Rattle.gdb_session.specs.Session.{gdb_state}
-use Rattle.gdb_session.specs.declared.session.GdbSession.{GdbSession}
-use Rattle.gdb_session.specs.declared.session.GdbSetting.{GdbSetting}
+use Rattle.gdb_server.specs.gdb_session.specs.Session.{gdb_state}
+use Rattle.gdb_server.specs.gdb_session.specs.declared.session.GdbSession.{GdbSession}
+use Rattle.gdb_server.specs.gdb_session.specs.debug_session.specs.declared.session.DebugSetting.{DebugSetting}
 use Rattle.gdb_server.specs.Server.{server_state}
 use Rattle.gdb_face.specs.Serving.{server_before_bytes, setting_wanted}
 use Rattle.gdb_face.proofs.ServeLemmas.{buffer_begins, files_from_none, serves_gdb, session_begun, start_text}
@@ -12,28 +12,28 @@ use Rattle.gdb_face.proofs.process.serve_to_stream.Goals as goal
 pub returns-in-Ok-unbuffered-clause-serves : goal.returns-in-Ok-unbuffered-clause-serves
 returns-in-Ok-unbuffered-clause-serves g c =
     let wanted = c.args.wanted.now in
-    let setting : GdbSetting = setting_wanted wanted in
+    let setting : DebugSetting = setting_wanted wanted in
     let images : List Entry = c.take_files.new.images in
     let start : List ℕ = c.in_ok-start.start.items in
     let session : GdbSession = c.in_ok-session.session in
     let first = c.in_ok-session.ensures.start ∙ c.as_slice.ensures.value in
-    serves_gdb g.F.File.Read.remaining wanted images start c.new-server.result.session.start.items c.new-server.result.session.setting
+    serves_gdb g.F.File.Read.remaining wanted images start c.new-server.result.session.start.items c.new-server.result.session.debug.setting
     (server_state c.new-server.result c.begin.new.images) (server_state c.serve.new.server c.serve.new.images) _ _ _ _ _ _ _ _ _
     (files_from_none g.F.File.Read.remaining c.new-images.result wanted.settings.files images c.new-images.ensures
     c.in_ok-take_files.ensures.added)
     c.in_ok-start.ensures.start
     (λ heard. subst (λ (text : List ℕ). Appends (g.E.Sink.contents c.args.errors.now) (g.E.Sink.contents c.tell.new.errors) text)
     (c.as_slice-2.ensures.value
-    ∙ start_text setting session.setting start session.start.items images (gdb_state session images) c.in_ok-told.told.items
+    ∙ start_text setting session.debug.setting start session.start.items images (gdb_state session images) c.in_ok-told.told.items
     c.in_ok-session.ensures.setting first (c.in_ok-session.ensures.state images) c.in_ok-told.ensures.told)
     (c.tell.ensures heard))
     (c.new-server.ensures.setting ∙ c.begin.ensures.setting ∙ c.in_ok-session.ensures.setting)
     (c.new-server.ensures.start ∙ c.begin.ensures.start ∙ first)
     (c.new-server.ensures.state c.begin.new.images
-    ∙ ap server_before_bytes (session_begun setting session.setting start session.start.items images (gdb_state session images)
+    ∙ ap server_before_bytes (session_begun setting session.debug.setting start session.start.items images (gdb_state session images)
     (gdb_state c.begin.new.self c.begin.new.images) c.in_ok-session.ensures.setting first (c.in_ok-session.ensures.state images)
     c.in_ok-told.ensures.state))
     (buffer_begins g.W.Write.contents _ _ c.args.stream c.new-writer.ensures.inner c.in-Ok.ensures.inner c.in-Ok.ensures.empty)
     c.in_ok-serve.ensures.whole c.in-Ok-unbuffered.ensures.bytes
     (c.last.ensures c.serve.new.images
-    ∙ ap (λ (x : GdbSession). (gdb_state x c.serve.new.images).script.last) c.session.ensures)
+    ∙ ap (λ (x : GdbSession). (gdb_state x c.serve.new.images).debug.script.last) c.session.ensures)

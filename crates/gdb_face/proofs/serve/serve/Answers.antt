@@ -1,10 +1,10 @@
 use Rattle.std.proofs.Common.{◌≡◌, true, inr, refl, sym, ap, ◌∙◌}
 use Rattle.std.proofs.lemmas.Bool.{both_ways}
 use Rattle.command_shell.proofs.ImageLemmas.{at_err}
-use Rattle.gdb_session.specs.Session.{gdb_state}
-use Rattle.gdb_session.specs.declared.session.GdbSession.{GdbSession}
+use Rattle.gdb_server.specs.gdb_session.specs.Session.{gdb_state}
+use Rattle.gdb_server.specs.gdb_session.specs.declared.session.GdbSession.{GdbSession}
 use Rattle.gdb_server.specs.Server.{server_state}
-use Rattle.gdb_face.proofs.StreamLemmas.{all_answered, answers_go_on, answers_none, flag_kept, front_goes_on, front_of_answers}
+use Rattle.gdb_face.proofs.StreamLemmas.{all_answered, answers_go_on, answers_none, flag_kept, front_goes_on, front_of_answers, front_where_reading_fails}
 use Rattle.gdb_face.proofs.serve.serve.Goals as goal
 
 pub loop-pulls-init : goal.loop-pulls-init
@@ -32,6 +32,11 @@ returns-then-has_ended-clause-read g c =
       answers = c.loop-pulls.invariant.answers;
       ends = λ goes. absurd (both_ways c.loop-pulls.server.session.has_ended goes ended);
     }
+
+pub returns-in_err-count-clause-front : goal.returns-in_err-count-clause-front
+returns-in_err-count-clause-front g c =
+    at_err _ _ (front_where_reading_fails _ _ _ _ _ _ _ _ (server_state c.loop-pulls.server c.loop-pulls.images)
+    c.loop-pulls.invariant.answers c.in_err-count.ensures.bytes)
 
 pub returns-in_err-take-clause-front : goal.returns-in_err-take-clause-front
 returns-in_err-take-clause-front g c =

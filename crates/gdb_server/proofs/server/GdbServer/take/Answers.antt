@@ -5,13 +5,13 @@ use Rattle.profile.specs.Output.{AddsFront}
 use Rattle.profile.proofs.OutputLemmas.{AddsAllBut-more}
 use Rattle.gdb_server.specs.Server.{IsServed, server_state}
 use Rattle.gdb_server.specs.Serving.{ServerState, Served, byte_served, bytes_served}
-use Rattle.gdb_session.specs.declared.session.GdbSetting.{GdbSetting}
+use Rattle.gdb_session.specs.debug_session.specs.declared.session.DebugSetting.{DebugSetting}
 use Rattle.gdb_server.proofs.ServingLemmas.{ends_served, front_more, served_ended, served_more, served_none}
 use Rattle.gdb_server.proofs.server.GdbServer.take.Goals as goal
 
 pub returns-then-has_ended-clause-told : goal.returns-then-has_ended-clause-told
 returns-then-has_ended-clause-told g c =
-    let setting : GdbSetting = c.args.self.now.session.setting in
+    let setting : DebugSetting = c.args.self.now.session.debug.setting in
     let start = c.args.self.now.session.start.items in
     let bytes = c.args.bytes.now in
     let s : ServerState = server_state c.loop-byte.self c.loop-byte.images in
@@ -22,7 +22,7 @@ returns-then-has_ended-clause-told g c =
 
 pub loop-byte-preserved : goal.loop-byte-preserved
 loop-byte-preserved g c =
-    let setting : GdbSetting = c.args.self.now.session.setting in
+    let setting : DebugSetting = c.args.self.now.session.debug.setting in
     let start : List ℕ = c.args.self.now.session.start.items in
     let bytes : List ℕ = c.args.bytes.now in
     let i = c.loop-byte.invariant in
@@ -34,7 +34,7 @@ loop-byte-preserved g c =
     let before = g.W.Sink.contents c.loop-byte.sink in
     let after = g.W.Sink.contents c.take_byte.new.sink in
     let told = subst (λ (x : List ℕ). IsServed before after now (byte_served setting x s byte)) i.start
-    (subst (λ (u : GdbSetting). IsServed before after now (byte_served u c.loop-byte.self.session.start.items s byte)) i.setting
+    (subst (λ (u : DebugSetting). IsServed before after now (byte_served u c.loop-byte.self.session.start.items s byte)) i.setting
     c.in_ok-take_byte.ensures.told) in
     let more = served_more setting start bytes index s c.loop-byte-test.true goes in
     let first : Served = byte_served setting start s byte in
@@ -54,7 +54,7 @@ loop-byte-preserved g c =
 
 pub returns-clause-told : goal.returns-clause-told
 returns-clause-told g c =
-    let setting : GdbSetting = c.args.self.now.session.setting in
+    let setting : DebugSetting = c.args.self.now.session.debug.setting in
     let start = c.args.self.now.session.start.items in
     let bytes = c.args.bytes.now in
     let s : ServerState = server_state c.loop-byte.self c.loop-byte.images in
@@ -65,7 +65,7 @@ returns-clause-told g c =
 
 pub returns-in_err-take_byte-clause-front : goal.returns-in_err-take_byte-clause-front
 returns-in_err-take_byte-clause-front g c =
-    let setting : GdbSetting = c.args.self.now.session.setting in
+    let setting : DebugSetting = c.args.self.now.session.debug.setting in
     let start : List ℕ = c.args.self.now.session.start.items in
     let bytes : List ℕ = c.args.bytes.now in
     let i = c.loop-byte.invariant in
@@ -76,7 +76,7 @@ returns-in_err-take_byte-clause-front g c =
     let before = g.W.Sink.contents c.loop-byte.sink in
     let after = g.W.Sink.contents c.take_byte.new.sink in
     let front = subst (λ (x : List ℕ). AddsFront before after (byte_served setting x s byte).text) i.start
-    (subst (λ (u : GdbSetting). AddsFront before after (byte_served u c.loop-byte.self.session.start.items s byte).text) i.setting
+    (subst (λ (u : DebugSetting). AddsFront before after (byte_served u c.loop-byte.self.session.start.items s byte).text) i.setting
     c.in_err-take_byte.ensures.front) in
     let first : Served = byte_served setting start s byte in
     at_err _ _ (front_more (g.W.Sink.contents c.args.sink.now) before after (bytes_served setting start (drop index bytes) s).text

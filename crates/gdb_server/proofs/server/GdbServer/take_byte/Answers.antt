@@ -18,5 +18,5 @@ returns-in-Some-Stop-clause-told g c =
     let is : record s { session = gdb_state c.ask_to_stop.new.self images; reading = c.take.new.self }
     ≡ record s { session = asked_to_stop s.session; reading = (byte_taken s.reading c.args.byte).now } =
     λ i. record s { session = asked i; reading = read i } in
-    stop_served c.args.self.now.session.setting c.args.self.now.session.start.items s _ c.args.byte (g.W.Sink.contents c.args.sink.now)
+    stop_served c.args.self.now.session.debug.setting c.args.self.now.session.start.items s _ c.args.byte (g.W.Sink.contents c.args.sink.now)
     stops is

@@ -1,11 +1,10 @@
 use Rattle.std.proofs.Common.{◌≡◌, ap, subst, ◌∙◌}
 use Rattle.std.specs.Prelude.{codes, IfOk, option_map, Some, None}
-use Rattle.command_shell.specs.State.{ScriptState}
 use Rattle.hex.specs.Hex.{decode_of}
 use Rattle.gdb_session.specs.Changes.{bytes_of_pairs}
-use Rattle.gdb_session.specs.Runs.{line_decoded, with_whole_budget}
+use Rattle.gdb_session.specs.Runs.{line_decoded}
 use Rattle.gdb_session.specs.Session.{gdb_state, IsGdbAnswered}
-use Rattle.gdb_session.specs.State.{GdbState, GdbAnswered, packet_reply, with_script}
+use Rattle.gdb_session.specs.State.{GdbState, GdbAnswered}
 use Rattle.gdb_session.specs.declared.session.GdbAnswer.{GdbAnswer}
 use Rattle.gdb_session.proofs.RunLemmas.{replied}
 use Rattle.gdb_session.proofs.session.GdbSession.answer_line.Goals as goal
@@ -17,17 +16,14 @@ returns-in-Some-clause-told c =
     let line : Some c.as_slice.result.now ≡ bytes_of_pairs (decode_of c.args.pairs.now) = ap Some c.as_slice.ensures.value ∙ there in
     subst (λ (a : GdbAnswered). IfOk c.answer_decoded.result
     (λ (answer : GdbAnswer). IsGdbAnswered (gdb_state c.answer_decoded.new.self c.answer_decoded.new.images) answer a))
-    (ap (λ (s : ScriptState). line_decoded (with_script g s) (Some c.as_slice.result.now)) (c.set_budget.ensures c.args.images.now)
-    ∙ ap (line_decoded (with_whole_budget c.args.self.now.setting g)) line)
+    (ap (line_decoded c.args.self.now.debug.setting g) line)
     c.answer_decoded.ensures.told
 
 pub returns-in_ok-from_slice-in-None-clause-told : goal.returns-in_ok-from_slice-in-None-clause-told
 returns-in_ok-from_slice-in-None-clause-told c =
     let g : GdbState = gdb_state c.args.self.now c.args.images.now in
     let there : None ≡ bytes_of_pairs (decode_of c.args.pairs.now) = rw c.in-None.is at c.in_ok-line.ensures in
-    let here : GdbState = gdb_state (record c.args.self.now { session = c.set_budget.new.self }) c.args.images.now in
     let packet : option_map (λ reply. reply.items) c.with_reply.result.reply ≡ Some (codes "E16") = rw c.with_reply.ensures.reply (ap Some c.in_ok-from_slice-in-None.ensures.items) in
-    subst (λ (a : GdbAnswered). IsGdbAnswered here c.with_reply.result a)
-    (ap (λ (s : ScriptState). packet_reply (with_script g s) (codes "E16")) (c.set_budget.ensures c.args.images.now)
-    ∙ ap (line_decoded (with_whole_budget c.args.self.now.setting g)) there)
-    (replied here c.with_reply.result (codes "E16") c.with_reply.ensures.told packet)
+    subst (λ (a : GdbAnswered). IsGdbAnswered g c.with_reply.result a)
+    (ap (line_decoded c.args.self.now.debug.setting g) there)
+    (replied g c.with_reply.result (codes "E16") c.with_reply.ensures.told packet)

@@ -9,19 +9,19 @@ use Rattle.gdb_session.proofs.session.GdbSession.make_change.Goals as goal
 pub returns-in-Present-clause-told : goal.returns-in-Present-clause-told
 returns-in-Present-clause-told c images =
     ap (λ (s : ScriptState). with_script (gdb_state c.args.self.now images) s) (c.set_register.ensures images
-    ∙ ap (λ (d : RegisterWrite). script_with_change (gdb_state c.args.self.now images).script d) (sym c.in-Present.is))
+    ∙ ap (λ (d : RegisterWrite). script_with_change (gdb_state c.args.self.now images).debug.script d) (sym c.in-Present.is))
 
 pub returns-in-Place-clause-told : goal.returns-in-Place-clause-told
 returns-in-Place-clause-told c images =
     ap (λ (s : ScriptState). with_script (gdb_state c.args.self.now images) s) (c.set_pc.ensures images
-    ∙ ap (λ (d : RegisterWrite). script_with_change (gdb_state c.args.self.now images).script d) (sym c.in-Place.is))
+    ∙ ap (λ (d : RegisterWrite). script_with_change (gdb_state c.args.self.now images).debug.script d) (sym c.in-Place.is))
 
 pub returns-in-Status-clause-told : goal.returns-in-Status-clause-told
 returns-in-Status-clause-told c images =
     ap (λ (s : ScriptState). with_script (gdb_state c.args.self.now images) s) (c.set_psr.ensures images
-    ∙ ap (λ (d : RegisterWrite). script_with_change (gdb_state c.args.self.now images).script d) (sym c.in-Status.is))
+    ∙ ap (λ (d : RegisterWrite). script_with_change (gdb_state c.args.self.now images).debug.script d) (sym c.in-Status.is))
 
 pub returns-in-Banked-clause-told : goal.returns-in-Banked-clause-told
 returns-in-Banked-clause-told c images =
     ap (λ (s : ScriptState). with_script (gdb_state c.args.self.now images) s) (c.set_register_in.ensures images
-    ∙ ap (λ (d : RegisterWrite). script_with_change (gdb_state c.args.self.now images).script d) (sym c.in-Banked.is))
+    ∙ ap (λ (d : RegisterWrite). script_with_change (gdb_state c.args.self.now images).debug.script d) (sym c.in-Banked.is))

@@ -15,7 +15,7 @@ pub returns-in-Some-clause-taken : goal.returns-in-Some-clause-taken
 returns-in-Some-clause-taken c =
     let images = c.args.images.now in
     let here : GdbState = gdb_state c.loop-left.self images in
-    let now : GdbState = gdb_state (record c.loop-left.self { session = c.take_steps.new.self }) images in
+    let now : GdbState = gdb_state (record c.loop-left.self { debug = record c.loop-left.self.debug { session = c.take_steps.new.self } }) images in
     let bytes = c.memory.ensures.bytes ∙ ap (λ (m : MachineValue). (state_of m.guest).store.bytes) c.machine.ensures in
     let changed = subst (λ (b : Bytes). first_changed b c.args.seen.now ≡ Some c.in-Some.address) bytes
     (sym c.first_changed.ensures ∙ c.in-Some.is) in
@@ -28,7 +28,7 @@ pub returns-then-not-goes_on-clause-taken : goal.returns-then-not-goes_on-clause
 returns-then-not-goes_on-clause-taken c =
     let images = c.args.images.now in
     let here : GdbState = gdb_state c.loop-left.self images in
-    let now : GdbState = gdb_state (record c.loop-left.self { session = c.take_steps.new.self }) images in
+    let now : GdbState = gdb_state (record c.loop-left.self { debug = record c.loop-left.self.debug { session = c.take_steps.new.self } }) images in
     let bytes = c.memory.ensures.bytes ∙ ap (λ (m : MachineValue). (state_of m.guest).store.bytes) c.machine.ensures in
     let same = subst (λ (b : Bytes). first_changed b c.args.seen.now ≡ None) bytes
     (sym c.first_changed.ensures ∙ none_else c.first_changed.result c.in_default.not-Some) in
@@ -42,7 +42,7 @@ pub loop-left-preserved : goal.loop-left-preserved
 loop-left-preserved c =
     let images = c.args.images.now in
     let here : GdbState = gdb_state c.loop-left.self images in
-    let now : GdbState = gdb_state (record c.loop-left.self { session = c.take_steps.new.self }) images in
+    let now : GdbState = gdb_state (record c.loop-left.self { debug = record c.loop-left.self.debug { session = c.take_steps.new.self } }) images in
     let bytes = c.memory.ensures.bytes ∙ ap (λ (m : MachineValue). (state_of m.guest).store.bytes) c.machine.ensures in
     let same = subst (λ (b : Bytes). first_changed b c.args.seen.now ≡ None) bytes
     (sym c.first_changed.ensures ∙ none_else c.first_changed.result c.in_default.not-Some) in
