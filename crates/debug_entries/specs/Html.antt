@@ -78,7 +78,7 @@ entry_html_by sort.Subheading s = remark_html s.entry.number sort.Subheading
 entry_html_by sort.Paragraph s = remark_html s.entry.number sort.Paragraph
     (remark_text sort.Paragraph s.entry.line.now s.entry.words.items)
 
-abbrev pub debug_entry_html : DebugShown → List ℕ
+unfoldable pub debug_entry_html : DebugShown → List ℕ
 debug_entry_html s = entry_html_by (sort_of_words s.entry.line.now s.entry.words.items) s
 
 -- what stands after the last line

@@ -25,7 +25,7 @@ shown_ending_text s =
     lines_behind (answer_front s.entry.verdict) (lines (drop s.entry.front s.entry.answer.items))
     ++ lines_behind (codes "     = ") (lines s.entry.steps.items)
 
-abbrev pub debug_entry_text : DebugShown → List ℕ
+unfoldable pub debug_entry_text : DebugShown → List ℕ
 debug_entry_text s = numbered_lines s.entry.number (lines s.entry.lines.now)
     ++ (shown_front_text s ++ (shown_ending_text s ++ s.picture.items))
 
@@ -33,6 +33,6 @@ abbrev pub page_summary_text : List ℕ → List ℕ
 page_summary_text summary =
     if length summary == 0 then [] else codes "\n" ++ lines_behind (codes "       ") (lines summary)
 
-abbrev pub debug_transcript : DebugShown → List ℕ
+unfoldable pub debug_transcript : DebugShown → List ℕ
 debug_transcript s =
     spelt_from side.Typed true s.entry.lines.now ++ spelt_from side.Told true s.entry.answer.items

@@ -15,6 +15,7 @@ use trace_page::push_table;
 
 /// Writes a line: a heading, a paragraph, or what is asked for with its answer, which tells whether
 /// what it expects is so. Nothing of a script or of a guest is taken for HTML's own.
+#[tactic(auto, unfolding(crate::specs::Html::debug_entry_html))]
 pub fn push_entry<W: Sink>(sink: &mut W, shown: &DebugShown<'_>) -> Result<(), WriteFault>
     ensures { Writes W.contents W.has_failed sink.old sink.new result (debug_entry_html shown.now) }
 {

@@ -12,6 +12,7 @@ use script_page::transcript::{Side, push_side};
 
 /// Writes a line under its number, what the guest printed after a colon, or a trace after `|`, the
 /// answer with a sign before it where the line expects something, and how many steps it took.
+#[tactic(auto, unfolding(crate::specs::Text::debug_entry_text))]
 pub fn push_entry<W: Sink>(sink: &mut W, shown: &DebugShown<'_>) -> Result<(), WriteFault>
     ensures { Writes W.contents W.has_failed sink.old sink.new result (debug_entry_text shown.now) }
 {
@@ -58,6 +59,7 @@ pub fn push_summary<W: Sink>(sink: &mut W, summary: &[u8]) -> Result<(), WriteFa
 }
 
 /// Writes a line as a part of a transcript.
+#[tactic(auto, unfolding(crate::specs::Text::debug_transcript))]
 pub fn push_transcript<W: Sink>(sink: &mut W, shown: &DebugShown<'_>) -> Result<(), WriteFault>
     ensures { Writes W.contents W.has_failed sink.old sink.new result (debug_transcript shown.now) }
 {

@@ -1,9 +1,12 @@
--- The words of the program: its own, `--tap` and `--script` with the path that follows it, and all
--- others, which are the words of `rosm`.
+-- The words of the program: its own, which are those that ask for a form, and `--script` with the path
+-- that follows it; and all others, which are the words of `rosm`.
 use Rattle.std.specs.Prelude.{ℕ, ◌||◌, ◌&&◌, Bool, true, false, List, [], ◌∷◌, Option, Some, None, codes, if◌then◌else◌}
 use Rattle.std.specs.Str.{bytes_eq}
-use Rattle.debug_session.specs.declared.reports.ReportForm.{ReportForm}
-use Rattle.debug_session.specs.declared.reports.ReportForm.TheVariants as form
+use Rattle.debug_page.specs.debug_session.specs.declared.reports.ReportForm.{ReportForm}
+use Rattle.debug_page.specs.debug_session.specs.declared.reports.ReportForm.TheVariants as form
+use Rattle.debug_page.specs.debug_entries.specs.script_page.specs.declared.form.PageForm.TheVariants as page
+use Rattle.debug_face.specs.declared.options.WantedForm.{WantedForm}
+use Rattle.debug_face.specs.declared.options.WantedForm.TheVariants as wanted
 use Rattle.debug_face.specs.declared.options.WordKind.{WordKind}
 use Rattle.debug_face.specs.declared.options.WordKind.TheVariants as kind
 
@@ -11,10 +14,23 @@ use Rattle.debug_face.specs.declared.options.WordKind.TheVariants as kind
 abbrev pub is_dashes : List ℕ → Bool
 is_dashes word = bytes_eq word (codes "--")
 
+-- the form that a word asks for; a text has lines of 100 characters
+abbrev pub form_named : List ℕ → Option WantedForm
+form_named word =
+    if bytes_eq word (codes "--tap") then Some (wanted.Lines form.Tap) else (
+    if bytes_eq word (codes "--text") then Some (wanted.Page (page.Text 100)) else (
+    if bytes_eq word (codes "--html") then Some (wanted.Page page.Html) else (
+    if bytes_eq word (codes "--transcript") then Some (wanted.Page page.Transcript) else None)))
+
+abbrev pub kind_of_other : List ℕ → WordKind
+kind_of_other word = if bytes_eq word (codes "--script") then kind.Script else kind.Other
+
+abbrev pub kind_by_form : Option WantedForm → List ℕ → WordKind
+kind_by_form (Some wanted_form) word = kind.Form wanted_form
+kind_by_form None word = kind_of_other word
+
 abbrev pub kind_of_word : List ℕ → WordKind
-kind_of_word word =
-    if bytes_eq word (codes "--tap") then kind.Tap else (
-    if bytes_eq word (codes "--script") then kind.Script else kind.Other)
+kind_of_word word = kind_by_form (form_named word) word
 
 -- what a word is, by whether `--` came before it, and whether the word before it was `--script`
 abbrev pub kind_at : Bool → Bool → List ℕ → WordKind
@@ -23,7 +39,7 @@ kind_at are_files false word = if are_files then kind.Other else kind_of_word wo
 
 -- words by what they are, each list in order; whether a path is missing after the last
 pub record DebugWords : Type 0 where
-  pub taps : List (List ℕ)
+  pub forms : List WantedForm
   pub paths : List (List ℕ)
   pub others : List (List ℕ)
   pub lacks_path : Bool
@@ -37,14 +53,14 @@ are_files_after are_files kind.Other word = are_files || is_dashes word
 are_files_after are_files _ word = are_files
 
 abbrev pub with_debug_word : WordKind → List ℕ → DebugWords → DebugWords
-with_debug_word kind.Tap word more = record more { taps = word ∷ more.taps }
+with_debug_word (kind.Form wanted_form) word more = record more { forms = wanted_form ∷ more.forms }
 with_debug_word kind.Script word more = more
 with_debug_word kind.Path word more = record more { paths = word ∷ more.paths }
 with_debug_word kind.Other word more = record more { others = word ∷ more.others }
 
 unfoldable pub words_from : Bool → Bool → List (List ℕ) → DebugWords
 words_from are_files after_script [] =
-    record { taps = []; paths = []; others = []; lacks_path = after_script }
+    record { forms = []; paths = []; others = []; lacks_path = after_script }
 words_from are_files after_script (word ∷ rest) =
     with_debug_word (kind_at are_files after_script word) word
     (words_from (are_files_after are_files (kind_at are_files after_script word) word)
@@ -53,8 +69,8 @@ words_from are_files after_script (word ∷ rest) =
 abbrev pub words_told : List (List ℕ) → DebugWords
 words_told words = words_from false false words
 
--- the form of the answers: `--tap` at most once
-abbrev pub form_of_taps : List (List ℕ) → Option ReportForm
-form_of_taps [] = Some form.Answers
-form_of_taps (tap ∷ []) = Some form.Tap
-form_of_taps (tap ∷ again ∷ more) = None
+-- the form that is wanted: one at most is asked for
+abbrev pub form_of_all : List WantedForm → Option WantedForm
+form_of_all [] = Some (wanted.Lines form.Answers)
+form_of_all (asked ∷ []) = Some asked
+form_of_all (asked ∷ again ∷ more) = None

@@ -1,15 +1,28 @@
-//! The words that are the program's own: `--tap`, and `--script` with the path that follows it.
+//! The words that are the program's own: those that ask for a form, and `--script` with the path that
+//! follows it.
 
 ghost use Rattle.std.specs.Prelude.{◌≡◌, [], false, map, IfOk};
-ghost use Rattle.debug_face.specs.Options.{is_dashes, kind_at, kind_of_word, words_told, DebugWords};
+ghost use Rattle.debug_face.specs.Options.{form_named, is_dashes, kind_at, kind_of_other, kind_of_word, words_told, DebugWords};
 
+use debug_page::debug_entries::script_page::PageForm;
+use debug_page::debug_session::ReportForm;
 use std::alloc::{AllocError, Global};
+use view_pictures::LINE_WIDTH;
+
+/// What is written.
+#[derive(Clone, Copy, Debug, PartialEq, Eq)]
+pub enum WantedForm {
+    /// The answers, in that form, each as soon as its line is read.
+    Lines(ReportForm),
+    /// The page of a script.
+    Page(PageForm),
+}
 
 /// What a word is.
 #[derive(Clone, Copy, Debug, PartialEq, Eq)]
 pub enum WordKind {
-    /// `--tap`.
-    Tap,
+    /// `--tap`, `--text`, `--html` or `--transcript`.
+    Form(WantedForm),
     /// `--script`, which a path follows.
     Script,
     /// The path of a script.
@@ -21,8 +34,8 @@ pub enum WordKind {
 /// The words of a command line by what they are, each list in order.
 #[derive(Drop)]
 pub struct PartedDebugWords<'a> {
-    /// Words `--tap`.
-    pub taps: Vec<&'a str>,
+    /// The forms that are asked for.
+    pub forms: Vec<WantedForm>,
     /// The paths of scripts.
     pub paths: Vec<&'a str>,
     /// Words of `rosm`.
@@ -41,7 +54,7 @@ pub fn part_words<'a>(
     words: &[&'a str],
 ) -> Result<PartedDebugWords<'a>, AllocError> {
     let mut parted = PartedDebugWords {
-        taps: Vec::new(alloc),
+        forms: Vec::new(alloc),
         paths: Vec::new(alloc),
         others: Vec::new(alloc),
         lacks_path: false,
@@ -52,7 +65,7 @@ pub fn part_words<'a>(
         are_files = are_files || (kind == WordKind::Other && is_dashes(word));
         parted.lacks_path = kind == WordKind::Script;
         match kind {
-            WordKind::Tap => parted.taps.push(*word)?,
+            WordKind::Form(form) => parted.forms.push(form)?,
             WordKind::Script => {}
             WordKind::Path => parted.paths.push(*word)?,
             WordKind::Other => parted.others.push(*word)?,
@@ -77,13 +90,37 @@ fn kind_at(are_files: bool, after_script: bool, word: &str) -> WordKind
 fn kind_of_word(word: &str) -> WordKind
     ensures { result ≡ kind_of_word word.now }
 {
-    let word = word.as_bytes();
-    if word == b"--tap".as_slice() {
-        WordKind::Tap
-    } else if word == b"--script".as_slice() {
+    match form_named(word) {
+        Some(form) => WordKind::Form(form),
+        None => kind_of_other(word),
+    }
+}
+
+fn kind_of_other(word: &str) -> WordKind
+    ensures { result ≡ kind_of_other word.now }
+{
+    if word.as_bytes() == b"--script".as_slice() {
         WordKind::Script
     } else {
         WordKind::Other
+    }
+}
+
+// The form that a word asks for, if it is one that does.
+fn form_named(word: &str) -> Option<WantedForm>
+    ensures { result ≡ form_named word.now }
+{
+    let word = word.as_bytes();
+    if word == b"--tap".as_slice() {
+        Some(WantedForm::Lines(ReportForm::Tap))
+    } else if word == b"--text".as_slice() {
+        Some(WantedForm::Page(PageForm::Text(LINE_WIDTH)))
+    } else if word == b"--html".as_slice() {
+        Some(WantedForm::Page(PageForm::Html))
+    } else if word == b"--transcript".as_slice() {
+        Some(WantedForm::Page(PageForm::Transcript))
+    } else {
+        None
     }
 }
 

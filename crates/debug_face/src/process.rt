@@ -1,20 +1,24 @@
 //! The standard streams of the process, and its exit status.
 
-ghost use Rattle.std.specs.Prelude.{◌≡◌};
+ghost use Rattle.std.specs.Prelude.{◌≡◌, IfOk};
 ghost use Rattle.std.specs.Process.{exit_status};
 ghost use Rattle.debug_face.specs.Endings.{ending_status};
+ghost use Rattle.debug_face.specs.Talking.{IsStatusOfScript};
 
+use crate::options::WantedForm;
+use crate::pages::show_script;
 use crate::refusal::DebugRefusal;
-use crate::talk::talk;
+use crate::talk::{hand_on, talk};
 use crate::words::{WantedSession, read_words};
-use debug_session::{DebugSetting, DebugTyping};
+use debug_page::debug_session::{DebugSetting, DebugTyping, ReportForm};
 use image_loader::Images;
 use profile::{Device, Sink, Source};
 use rosm_settings::SettingsRefusal;
 use rosm_settings::image_files::{FileError, add_files};
+use std::alloc::Global;
 use std::env::Env;
 use std::fs::File;
-use std::io::BufWriter;
+use std::io::{BufWriter, Write};
 use std::process::ExitCode;
 use std::{fs, io};
 
@@ -35,7 +39,7 @@ where
 }
 
 // Answers the lines of the script that is asked for, or of standard input, which may be a terminal,
-// on standard output, and gives the exit status that they end with. The first file that gives no
+// on standard output, or writes their page, and gives the exit status that they end with. The first file that gives no
 // image, or the script's file that can't be read, is told before any line is answered.
 fn debug_on_standard_streams<'a, R, E>(
     rt: &R,
@@ -52,17 +56,10 @@ where
     match &wanted.script {
         None => {
             let mut input = Device::new(rt.reader());
-            answer(rt, wanted, &mut images, &mut input, errors, is_terminal)
+            answer(rt, wanted, images, &mut input, errors, is_terminal)
         }
         Some(path) => match File::open(rt, path.as_str()) {
-            Ok(file) => answer(
-                rt,
-                wanted,
-                &mut images,
-                &mut Device::new(file),
-                errors,
-                false,
-            ),
+            Ok(file) => answer(rt, wanted, images, &mut Device::new(file), errors, false),
             Err(error) => Err(DebugRefusal::File(path.as_str(), FileError::from(error))),
         },
     }
@@ -83,10 +80,11 @@ where
     }
 }
 
+// Answers what a reader gives on a fresh machine, on standard output.
 fn answer<'a, R, S, E>(
     rt: &R,
     wanted: &'a WantedSession,
-    images: &mut Images,
+    mut images: Images,
     reader: &mut S,
     errors: &mut E,
     is_terminal: bool,
@@ -97,17 +95,59 @@ where
     E: Sink,
 {
     let alloc = rt.alloc();
-    let setting = DebugSetting {
-        config: wanted.settings.config,
-        budget: wanted.settings.budget,
-        form: wanted.form,
-    };
-    let typing = DebugTyping::new(alloc, setting)?;
     let Ok(buffered) = BufWriter::new(alloc, io::writer(rt)) else {
         return Err(DebugRefusal::Memory);
     };
     let mut writer = Device::new(buffered);
-    Ok(talk(typing, images, reader, &mut writer, errors, is_terminal)?)
+    match wanted.form {
+        WantedForm::Lines(form) => answer_lines(
+            alloc,
+            setting_of(wanted, form),
+            &mut images,
+            reader,
+            &mut writer,
+            errors,
+            is_terminal,
+        ),
+        WantedForm::Page(form) => {
+            let setting = setting_of(wanted, ReportForm::Answers);
+            let status = show_script(alloc, images, setting, form, reader, &mut writer)?;
+            hand_on(&mut writer)?;
+            Ok(status)
+        }
+    }
+}
+
+// Answers the lines that a reader gives, on a fresh machine.
+fn answer_lines<'a, S, W, E>(
+    alloc: Global,
+    setting: DebugSetting,
+    images: &mut Images,
+    reader: &mut S,
+    writer: &mut Device<W>,
+    errors: &mut E,
+    is_terminal: bool,
+) -> Result<u8, DebugRefusal<'a>>
+where
+    S: Source,
+    W: Write,
+    E: Sink,
+    ensures { IfOk result (IsStatusOfScript setting images.old (S.remaining reader.old)) }
+{
+    let typing = DebugTyping::new(alloc, setting)?;
+    Ok(talk(typing, images, reader, writer, errors, is_terminal)?)
+}
+
+fn setting_of(wanted: &WantedSession, form: ReportForm) -> DebugSetting
+    ensures config { result.config ≡ wanted.now.settings.config }
+    ensures budget { result.budget ≡ wanted.now.settings.budget }
+    ensures form { result.form ≡ form }
+{
+    DebugSetting {
+        config: wanted.settings.config,
+        budget: wanted.settings.budget,
+        form,
+    }
 }
 
 // The exit status, with one line on standard error where the program is refused.

@@ -4,15 +4,15 @@
 ghost use Rattle.std.specs.Prelude.{◌≡◌};
 
 use command_line::SettingsError;
-use command_shell::RunError;
+use debug_page::debug_entries::script_page::command_shell::RunError;
 use rosm_settings::SettingsRefusal;
 use rosm_settings::image_files::FileError;
 use std::alloc::AllocError;
 use thiserror::Error;
 
 /// The form of a command line, in one line.
-pub const USAGE: &str = "usage: rosm_debug [--script FILE] [--tap] \
-[--pages N] [--app N] [--rma N] [--budget N] [FILE...] <SCRIPT";
+pub const USAGE: &str = "usage: rosm_debug [--script FILE] \
+[--tap | --text | --html | --transcript] [--pages N] [--app N] [--rma N] [--budget N] [FILE...] <SCRIPT";
 
 /// Why the program ends without having answered all lines. The text is one line.
 #[derive(Debug, PartialEq, Eq, Drop, Error)]

@@ -1,11 +1,14 @@
 //! A session: what is read is answered as it comes, line by line.
 
-ghost use Rattle.std.specs.Prelude.{◌≡◌, IfErr, IfOk, OnOk};
-ghost use Rattle.profile.specs.Output.{Writes};
+ghost use Rattle.std.specs.Prelude.{◌≡◌, ◌⊎◌, true, false, IfOk, OnOk};
+ghost use Rattle.std.specs.Io.KnownBytes.{IsAtEnd, Keeps};
+ghost use Rattle.profile.specs.Devices.{device_inner};
+ghost use Rattle.debug_page.specs.debug_session.specs.declared.reports.ReportForm.TheVariants.{Answers};
+ghost use Rattle.debug_face.specs.Talking.{DebugsInput, HasTalked, IsStatusOfInput, TakesPiece};
 
-use command_shell::RunError;
-use debug_session::reports::push_missing_end;
-use debug_session::{DebugTyping, ReportForm};
+use debug_page::debug_entries::script_page::command_shell::RunError;
+use debug_page::debug_session::reports::push_missing_end;
+use debug_page::debug_session::{DebugTyping, ReportForm};
 use image_loader::Images;
 use profile::{Device, Sink, Source, WriteFault, push_all};
 use std::io::Write;
@@ -23,46 +26,104 @@ const PIECE: usize = 4096;
 /// `ReadFault`, `WriteFault`, `ScriptTooLong` and `Memory`, when a part of the answers may stand
 /// written.
 pub fn talk<R: Source, W: Write, E: Sink>(
-    mut typing: DebugTyping,
+    typing: DebugTyping,
     images: &mut Images,
     reader: &mut R,
     writer: &mut Device<W>,
     errors: &mut E,
     is_terminal: bool,
-) -> Result<u8, RunError> {
-    let form = typing.session().form();
-    let mut piece = [0u8; PIECE];
-    for _pulls in 0..u64::MAX {
-        if typing.session().has_quit() {
-            break;
-        }
-        push_prompt(writer, is_terminal, typing.is_in_block())?;
-        hand_on(writer)?;
-        match reader.pull(&mut piece) {
-            Ok(0) => break,
-            Ok(count) => {
-                let begins = typing.missing_ends(&piece[..count])?;
-                tell_missing_ends(writer, errors, form, begins.as_slice())?;
-                typing.take(images, writer, &piece[..count])?;
-            }
-            Err(_) => return Err(RunError::ReadFault),
-        }
-    }
-    if !typing.session().has_quit() {
-        let begins = typing.missing_ends_at_end()?;
-        tell_missing_ends(writer, errors, form, begins.as_slice())?;
-    }
+) -> Result<u8, RunError>
+    ensures text { OnOk result (DebugsInput typing images.old is_terminal (R.remaining reader.old)
+        (W.contents (device_inner writer.old)) (W.contents (device_inner writer.new))) }
+    ensures status { IfOk result (IsStatusOfInput typing images.old (R.remaining reader.old)) }
+{
+    let mut typing = typing;
+    answer_pieces(&mut typing, images, reader, writer, errors, is_terminal)?;
+    tell_missing_at_end(&typing, writer, errors)?;
     let session = typing.end(images, writer)?;
     session.tell_summary(writer)?;
     hand_on(writer)?;
     Ok(session.status())
 }
 
-fn hand_on<W: Write>(writer: &mut Device<W>) -> Result<(), RunError> {
+// Answers all lines that are whole.
+fn answer_pieces<R: Source, W: Write, E: Sink>(
+    typing: &mut DebugTyping,
+    images: &mut Images,
+    reader: &mut R,
+    writer: &mut Device<W>,
+    errors: &mut E,
+    is_terminal: bool,
+) -> Result<(), RunError>
+    ensures talked { OnOk result (HasTalked typing.old typing.new images.old images.new
+        (R.remaining reader.old) (R.remaining reader.new)
+        (W.contents (device_inner writer.old)) (W.contents (device_inner writer.new)) is_terminal) }
+    ensures ends { OnOk result ((IsAtEnd (R.remaining reader.new)) ⊎ (typing.new.session.has_quit ≡ true)) }
+{
+    let mut piece = [0u8; PIECE];
+    for _pulls in 0..u64::MAX {
+        if typing.session().has_quit() {
+            return Ok(());
+        }
+        push_prompt(writer, is_terminal, typing.is_in_block())?;
+        hand_on(writer)?;
+        let Ok(count) = reader.pull(&mut piece) else {
+            return Err(RunError::ReadFault);
+        };
+        if count == 0 {
+            return Ok(());
+        }
+        answer_piece(typing, images, writer, errors, &piece[..count])?;
+    }
+    Err(RunError::ScriptTooLong)
+}
+
+/// Hands on what a writer holds back.
+///
+/// # Errors
+///
+/// `WriteFault`.
+pub fn hand_on<W: Write>(writer: &mut Device<W>) -> Result<(), RunError>
+    ensures { Keeps (W.contents (device_inner writer.old)) (W.contents (device_inner writer.new)) }
+{
     match writer.flush() {
         Ok(()) => Ok(()),
         Err(_) => Err(RunError::WriteFault),
     }
+}
+
+// Tells of blocks that turn out to lack their END, and answers what is whole then.
+fn answer_piece<W: Sink, E: Sink>(
+    typing: &mut DebugTyping,
+    images: &mut Images,
+    sink: &mut W,
+    errors: &mut E,
+    piece: &[u8],
+) -> Result<(), RunError>
+    ensures taken { OnOk result (TakesPiece typing.old typing.new images.old images.new
+        (W.contents sink.old) (W.contents sink.new) piece.now) }
+    ensures setting { typing.new.session.setting ≡ typing.old.session.setting }
+{
+    let begins = typing.missing_ends(piece)?;
+    let form = typing.session().form();
+    tell_missing_ends(sink, errors, form, begins.as_slice())?;
+    typing.take(images, sink, piece)
+}
+
+fn tell_missing_at_end<W: Sink, E: Sink>(
+    typing: &DebugTyping,
+    sink: &mut W,
+    errors: &mut E,
+) -> Result<(), RunError>
+    ensures { OnOk result (typing.now.session.setting.form ≡ Answers
+        → W.contents sink.new ≡ W.contents sink.old) }
+{
+    if typing.session().has_quit() {
+        return Ok(());
+    }
+    let begins = typing.missing_ends_at_end()?;
+    let form = typing.session().form();
+    Ok(tell_missing_ends(sink, errors, form, begins.as_slice())?)
 }
 
 // Standard error may be closed: what it is told is no answer.
@@ -71,14 +132,25 @@ fn tell_missing_ends<W: Sink, E: Sink>(
     errors: &mut E,
     form: ReportForm,
     begins: &[usize],
+) -> Result<(), WriteFault>
+    ensures { OnOk result (form ≡ Answers → W.contents sink.new ≡ W.contents sink.old) }
+{
+    match form {
+        ReportForm::Answers => {
+            let _ = push_missing_ends(errors, b"rosm_debug: ", begins);
+            Ok(())
+        }
+        ReportForm::Tap => push_missing_ends(sink, b"# ", begins),
+    }
+}
+
+fn push_missing_ends<W: Sink>(
+    sink: &mut W,
+    front: &[u8],
+    begins: &[usize],
 ) -> Result<(), WriteFault> {
     for begin in begins {
-        match form {
-            ReportForm::Answers => {
-                let _ = push_missing_end(errors, b"rosm_debug: ", *begin);
-            }
-            ReportForm::Tap => push_missing_end(sink, b"# ", *begin)?,
-        }
+        push_missing_end(sink, front, *begin)?;
     }
     Ok(())
 }
@@ -88,7 +160,9 @@ fn push_prompt<W: Sink>(
     sink: &mut W,
     is_terminal: bool,
     is_in_block: bool,
-) -> Result<(), WriteFault> {
+) -> Result<(), WriteFault>
+    ensures { OnOk result (is_terminal ≡ false → W.contents sink.new ≡ W.contents sink.old) }
+{
     if !is_terminal {
         return Ok(());
     }

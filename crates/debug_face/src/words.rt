@@ -1,22 +1,25 @@
 //! The words behind the face's own: those that it alone takes, and those that `rosm` takes too.
 
 ghost use Rattle.std.specs.Prelude.{◌≡◌, drop, map, string_bytes, IfOk};
-ghost use Rattle.debug_face.specs.Options.{form_of_taps};
+ghost use Rattle.debug_face.specs.Options.{form_of_all};
 
-use crate::options::part_words;
+use crate::options::{WantedForm, part_words};
 use crate::refusal::DebugRefusal;
 use command_line::{Settings, SettingsError, line_reason, settings, sizes_reason};
-use debug_session::ReportForm;
+use debug_page::debug_session::ReportForm;
 use std::alloc::{AllocError, Global};
 use std::env;
 use std::env::Env;
 use std::io::ErrorKind;
 
+// What is wrong with more forms than one.
+const FORM_REASON: &str = "--tap, --text, --html or --transcript once at most";
+
 /// What the words ask for.
 #[derive(Drop)]
 pub struct WantedSession {
-    /// The form of the answers.
-    pub form: ReportForm,
+    /// What is written.
+    pub form: WantedForm,
     /// The file of the script, if it isn't standard input.
     pub script: Option<String>,
     /// The machine, what each line may take, and the files.
@@ -27,7 +30,7 @@ pub struct WantedSession {
 ///
 /// # Errors
 ///
-/// `NotText`, `Line`, `Sizes` and `Memory`, as for the program `rosm`; a second `--tap` or script,
+/// `NotText`, `Line`, `Sizes` and `Memory`, as for the program `rosm`; a second form or script,
 /// or a script without a path, is `Line` too.
 pub fn read_words<R: Env + AllocGlobal>(rt: &R) -> Result<WantedSession, DebugRefusal<'static>> {
     let alloc = rt.alloc();
@@ -66,8 +69,8 @@ fn refused_line(alloc: Global, reason: &str) -> DebugRefusal<'static> {
 fn wanted_of(alloc: Global, words: &[String]) -> Result<WantedSession, DebugRefusal<'static>> {
     let texts = texts_of(alloc, words)?;
     let parted = part_words(alloc, texts.as_slice())?;
-    let Some(form) = form_of(parted.taps.as_slice()) else {
-        return Err(refused_line(alloc, "--tap once at most"));
+    let Some(form) = form_of(parted.forms.as_slice()) else {
+        return Err(refused_line(alloc, FORM_REASON));
     };
     if parted.lacks_path {
         return Err(refused_line(alloc, "--script takes the path of a file"));
@@ -85,13 +88,13 @@ fn wanted_of(alloc: Global, words: &[String]) -> Result<WantedSession, DebugRefu
     })
 }
 
-// The form of the answers; `None` where it is asked for more than once.
-fn form_of(taps: &[&str]) -> Option<ReportForm>
-    ensures { result ≡ form_of_taps (map (λ w. w.now) taps.now) }
+// What is written; `None` where more than one form is asked for.
+fn form_of(forms: &[WantedForm]) -> Option<WantedForm>
+    ensures { result ≡ form_of_all forms.now }
 {
-    match taps {
-        [] => Some(ReportForm::Answers),
-        [_tap] => Some(ReportForm::Tap),
+    match forms {
+        [] => Some(WantedForm::Lines(ReportForm::Answers)),
+        [form] => Some(*form),
         _ => None,
     }
 }

@@ -5,4 +5,8 @@
 #![tactic(auto)]
 
 #[cfg(test)]
+mod debug_pages;
+#[cfg(test)]
 mod pages;
+#[cfg(test)]
+mod traces;

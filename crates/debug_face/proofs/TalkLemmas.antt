@@ -1,0 +1,247 @@
+-- Pieces of an input that are answered one after another, up to its end.
+use Rattle.std.proofs.Common.{◌≡◌, ◌⊎◌, inl, inr, ℕ, Bool, true, false, List, [], ◌++◌, length, Option, None, Some, IfSome, append_assoc, append-nil, ap, sym, subst, refl, take, Result, Ok, Err, ◌∙◌}
+use Rattle.std.specs.Prelude.{OnOk}
+use Rattle.std.specs.Io.KnownBytes.{Appends, Consumes, IsAtEnd, Keeps}
+use Rattle.std.specs.Str.Lines.{lines}
+use Rattle.std.proofs.KnownBytes.{Consumes-nil, Consumes-trans}
+use Rattle.image_loader.specs.Entries.{Entry}
+use Rattle.profile.specs.Output.{AddsAllBut}
+use Rattle.profile.proofs.OutputLemmas.{AddsAllBut-more, AddsAllBut-start, Appends-from_all_but, Appends-join}
+use Rattle.debug_page.specs.debug_session.specs.DebugScript.{debug_lines_told, debug_script_told, then_summary}
+use Rattle.debug_page.specs.debug_session.specs.DebugState.{DebugAnswered, DebugState, IsDebugged, debug_start_state}
+use Rattle.debug_page.specs.debug_session.specs.Reports.{debug_status, summary_text}
+use Rattle.debug_page.specs.debug_session.specs.Session.{debug_state}
+use Rattle.debug_page.specs.debug_session.specs.Typing.{IsTaken}
+use Rattle.debug_page.specs.debug_session.specs.declared.reports.ReportForm.TheVariants.{Answers}
+use Rattle.debug_page.specs.debug_session.specs.declared.session.DebugSession.{DebugSession}
+use Rattle.debug_page.specs.debug_session.specs.declared.session.DebugSetting.{DebugSetting}
+use Rattle.debug_page.specs.debug_session.specs.declared.typing.DebugTyping.{DebugTyping}
+use Rattle.debug_page.specs.debug_session.proofs.LineLemmas.{none_told}
+use Rattle.debug_page.specs.debug_session.proofs.TakenLemmas.{piece_told}
+use Rattle.debug_face.specs.Talking.{DebugsInput, HasTalked, IsPlainTalk, IsStatusOfInput, IsStatusOfScript, TakesPiece, debug_bytes_told}
+
+-- WRITERS
+
+keeps_nothing : (a b : Option (List ℕ)) → Keeps a b → Appends a b []
+keeps_nothing None b kept = tt
+keeps_nothing (Some a) None kept = absurd kept
+keeps_nothing (Some a) (Some b) kept = kept ∙ sym (append-nil a)
+
+appends_kept : (a b c : Option (List ℕ)) (text : List ℕ) → Appends a b text → Keeps b c → Appends a c text
+appends_kept a b c text done kept =
+    subst (λ (xs : List ℕ). Appends a c xs) (append-nil text) (Appends-join a b c text [] done (keeps_nothing b c kept))
+
+-- PIECES
+
+pub talked_none : (t : DebugTyping) (images : List Entry) (input held : Option (List ℕ)) (is_terminal : Bool)
+    → HasTalked t t images images input input held held is_terminal
+talked_none t images input held is_terminal = record {
+  read = [];
+  of_input = Consumes-nil input;
+  setting = refl;
+  state = λ rest. refl;
+  text = λ plain rest. AddsAllBut-start held (debug_bytes_told t images rest).text;
+}
+
+-- one piece more, before which a prompt may stand
+pub talked_more : (old t now : DebugTyping) (images images_t images_now : List Entry)
+    (input left next before here prompted handed after : Option (List ℕ)) (is_terminal : Bool) (piece : List ℕ)
+    → HasTalked old t images images_t input left before here is_terminal → Consumes left next piece
+    → (is_terminal ≡ false → prompted ≡ here) → Keeps prompted handed
+    → TakesPiece t now images_t images_now handed after piece → now.session.setting ≡ t.session.setting
+    → HasTalked old now images images_now input next before after is_terminal
+talked_more old t now images images_t images_now input left next before here prompted handed after is_terminal piece so_far takes prompt kept taken setting =
+    let told : (rest : List ℕ) → debug_bytes_told t images_t (piece ++ rest) ≡ _ =
+    λ rest. piece_told t now images_t images_now taken.between after piece rest taken.taken setting in
+    record {
+      read = so_far.read ++ piece;
+      of_input = Consumes-trans input left next so_far.read piece so_far.of_input takes;
+      setting = setting ∙ so_far.setting;
+      state = λ rest.
+          ap (λ (bytes : List ℕ). (debug_bytes_told old images bytes).state) (append_assoc so_far.read piece rest)
+          ∙ so_far.state (piece ++ rest) ∙ ap (λ (a : DebugAnswered). a.state) (told rest);
+      text = λ plain rest.
+          let whole = so_far.text plain (piece ++ rest) in
+          let stands = subst (λ (w : Option (List ℕ)). AddsAllBut before w (debug_bytes_told t images_t (piece ++ rest)).text
+          (debug_bytes_told old images (so_far.read ++ (piece ++ rest))).text) (sym (prompt plain.prompts)) whole in
+          let there = AddsAllBut-more before prompted handed (debug_bytes_told t images_t (piece ++ rest)).text []
+          (debug_bytes_told t images_t (piece ++ rest)).text (debug_bytes_told old images (so_far.read ++ (piece ++ rest))).text
+          stands (keeps_nothing prompted handed kept) refl in
+          let form = ap (λ (c : DebugSetting). c.form) so_far.setting ∙ plain.form in
+          let answered : List ℕ = (debug_lines_told t.session.setting t.number (debug_state t.session images_t)
+          (lines (take taken.taken.count (t.pending.items ++ piece)))).text in
+          let appended = subst (λ (w : Option (List ℕ)). Appends w after answered) (taken.plain form) taken.taken.told.text in
+          subst (λ (bytes : List ℕ). AddsAllBut before after (debug_bytes_told now images_now rest).text
+          (debug_bytes_told old images bytes).text) (sym (append_assoc so_far.read piece rest))
+          (AddsAllBut-more before handed after (debug_bytes_told t images_t (piece ++ rest)).text answered (debug_bytes_told now images_now rest).text
+          (debug_bytes_told old images (so_far.read ++ (piece ++ rest))).text there appended
+          (ap (λ (a : DebugAnswered). a.text) (told rest)));
+    }
+
+-- a piece that was taken, behind what stands before it
+pub takes_so : {A E : Type 0} (r : Result A E) (old now : DebugTyping) (images images_now : List Entry)
+    (before between after : Option (List ℕ)) (piece : List ℕ) → (old.session.setting.form ≡ Answers → between ≡ before)
+    → OnOk r (IsTaken old now images images_now between after (old.pending.items ++ piece))
+    → OnOk r (TakesPiece old now images images_now before after piece)
+takes_so (Ok a) old now images images_now before between after piece plain taken = record { between = between; plain = plain; taken = taken }
+takes_so (Err e) old now images images_now before between after piece plain taken = tt
+
+-- no piece more, before which a prompt may stand all the same
+pub talked_still : (old t : DebugTyping) (images images_t : List Entry)
+    (input left next before here prompted handed : Option (List ℕ)) (is_terminal : Bool) (piece : List ℕ)
+    → HasTalked old t images images_t input left before here is_terminal → Consumes left next piece → piece ≡ []
+    → (is_terminal ≡ false → prompted ≡ here) → Keeps prompted handed
+    → HasTalked old t images images_t input next before handed is_terminal
+talked_still old t images images_t input left next before here prompted handed is_terminal piece so_far takes none prompt kept = record {
+  read = so_far.read;
+  of_input = subst (λ (xs : List ℕ). Consumes input next xs) (append-nil so_far.read)
+      (Consumes-trans input left next so_far.read [] so_far.of_input (subst (λ (xs : List ℕ). Consumes left next xs) none takes));
+  setting = so_far.setting;
+  state = so_far.state;
+  text = λ plain rest.
+      let told = (debug_bytes_told t images_t rest).text in
+      let all = (debug_bytes_told old images (so_far.read ++ rest)).text in
+      let stands : AddsAllBut before prompted told all =
+      subst (λ (w : Option (List ℕ)). AddsAllBut before w told all) (sym (prompt plain.prompts)) (so_far.text plain rest) in
+      AddsAllBut-more before prompted handed told [] told all stands (keeps_nothing prompted handed kept) refl;
+}
+
+-- the same where a read gives no bytes
+pub talked_still_by : (old t : DebugTyping) (images images_t : List Entry)
+    (input left next before here prompted handed : Option (List ℕ)) (is_terminal : Bool) (count : ℕ) (buffer : List ℕ)
+    → HasTalked old t images images_t input left before here is_terminal → Consumes left next (take count buffer) → count ≡ 0
+    → (is_terminal ≡ false → prompted ≡ here) → Keeps prompted handed
+    → HasTalked old t images images_t input next before handed is_terminal
+talked_still_by old t images images_t input left next before here prompted handed is_terminal count buffer so_far takes none prompt kept =
+    talked_still old t images images_t input left next before here prompted handed is_terminal (take count buffer) so_far takes
+    (ap (λ (n : ℕ). take n buffer) none) prompt kept
+
+-- THE END
+
+-- All of the input was read, or nothing more of it is answered.
+record HasEnded (old now : DebugTyping) (images images_now : List Entry) (before after : Option (List ℕ)) (is_terminal : Bool)
+    (bytes : List ℕ) : Type 0 where
+  state : (debug_bytes_told old images bytes).state ≡ (debug_bytes_told now images_now []).state
+  text : IsPlainTalk old is_terminal → AddsAllBut before after (debug_bytes_told now images_now []).text (debug_bytes_told old images bytes).text
+
+ended_by : (old now : DebugTyping) (images images_now : List Entry) (before after : Option (List ℕ)) (is_terminal : Bool)
+    (bytes read rest : List ℕ) → bytes ≡ read ++ rest
+    → debug_bytes_told now images_now rest ≡ debug_bytes_told now images_now []
+    → (debug_bytes_told old images (read ++ rest)).state ≡ (debug_bytes_told now images_now rest).state
+    → (IsPlainTalk old is_terminal
+    → AddsAllBut before after (debug_bytes_told now images_now rest).text (debug_bytes_told old images (read ++ rest)).text)
+    → HasEnded old now images images_now before after is_terminal bytes
+ended_by old now images images_now before after is_terminal bytes read rest all nothing state text = record {
+  state =
+      ap (λ (xs : List ℕ). (debug_bytes_told old images xs).state) all ∙ state ∙ ap (λ (a : DebugAnswered). a.state) nothing;
+  text = λ plain.
+      subst (λ (xs : List ℕ). AddsAllBut before after (debug_bytes_told now images_now []).text (debug_bytes_told old images xs).text)
+      (sym all)
+      (subst (λ (a : DebugAnswered). AddsAllBut before after a.text (debug_bytes_told old images (read ++ rest)).text) nothing
+      (text plain));
+}
+
+-- nothing is answered after QUIT
+quit_told : (t : DebugTyping) (images : List Entry) (rest : List ℕ) → t.session.has_quit ≡ true
+    → debug_bytes_told t images rest ≡ debug_bytes_told t images []
+quit_told t images rest quit =
+    let d : DebugState = debug_state t.session images in
+    none_told (length (lines (t.pending.items ++ rest))) t.session.setting t.number d (lines (t.pending.items ++ rest)) quit
+    ∙ sym (none_told (length (lines (t.pending.items ++ []))) t.session.setting t.number d (lines (t.pending.items ++ [])) quit)
+
+has_ended : (old now : DebugTyping) (images images_now : List Entry) (input left before after : Option (List ℕ)) (is_terminal : Bool)
+    → HasTalked old now images images_now input left before after is_terminal
+    → (IsAtEnd left) ⊎ (now.session.has_quit ≡ true)
+    → IfSome input (HasEnded old now images images_now before after is_terminal)
+has_ended old now images images_now None left before after is_terminal talked ends = tt
+has_ended old now images images_now (Some bytes) None before after is_terminal talked ends = absurd talked.of_input
+has_ended old now images images_now (Some bytes) (Some rest) before after is_terminal talked (inl end) =
+    ended_by old now images images_now before after is_terminal bytes talked.read rest talked.of_input
+    (ap (debug_bytes_told now images_now) end) (talked.state rest) (λ plain. talked.text plain rest)
+has_ended old now images images_now (Some bytes) (Some rest) before after is_terminal talked (inr quit) =
+    ended_by old now images images_now before after is_terminal bytes talked.read rest talked.of_input
+    (quit_told now images_now rest quit) (talked.state rest) (λ plain. talked.text plain rest)
+
+-- what is answered of what waits, where nothing follows it
+waiting_told : (t : DebugTyping) (images : List Entry)
+    → debug_bytes_told t images [] ≡ debug_lines_told t.session.setting t.number (debug_state t.session images) (lines t.pending.items)
+waiting_told t images =
+    ap (λ (xs : List ℕ). debug_lines_told t.session.setting t.number (debug_state t.session images) (lines xs)) (append-nil t.pending.items)
+
+status_by : (old now : DebugTyping) (images images_now : List Entry) (before after : Option (List ℕ)) (is_terminal : Bool)
+    (bytes : List ℕ) (end : DebugState) (status : ℕ) → HasEnded old now images images_now before after is_terminal bytes
+    → end ≡ (debug_lines_told now.session.setting now.number (debug_state now.session images_now) (lines now.pending.items)).state
+    → status ≡ debug_status end → status ≡ debug_status (debug_bytes_told old images bytes).state
+status_by old now images images_now before after is_terminal bytes end status ended told is =
+    is ∙ ap debug_status (told ∙ sym (ended.state ∙ ap (λ (a : DebugAnswered). a.state) (waiting_told now images_now)))
+
+pub talk_status : (old now : DebugTyping) (images images_now : List Entry) (input left before after : Option (List ℕ)) (is_terminal : Bool)
+    (end : DebugState) (status : ℕ) → HasTalked old now images images_now input left before after is_terminal
+    → (IsAtEnd left) ⊎ (now.session.has_quit ≡ true)
+    → end ≡ (debug_lines_told now.session.setting now.number (debug_state now.session images_now) (lines now.pending.items)).state
+    → status ≡ debug_status end → IsStatusOfInput old images input status
+talk_status old now images images_now None left before after is_terminal end status talked ends told is = tt
+talk_status old now images images_now (Some bytes) left before after is_terminal end status talked ends told is =
+    status_by old now images images_now before after is_terminal bytes end status
+    (has_ended old now images images_now (Some bytes) left before after is_terminal talked ends) told is
+
+text_by : (old now : DebugTyping) (images images_now : List Entry) (before here told_at summed after : Option (List ℕ))
+    (is_terminal : Bool) (bytes : List ℕ) (end : DebugState)
+    → HasEnded old now images images_now before here is_terminal bytes → now.session.setting ≡ old.session.setting
+    → IsDebugged here told_at end
+    (debug_lines_told now.session.setting now.number (debug_state now.session images_now) (lines now.pending.items))
+    → Appends told_at summed (summary_text now.session.setting.form end.tally) → Keeps summed after → IsPlainTalk old is_terminal
+    → Appends before after (then_summary old.session.setting (debug_bytes_told old images bytes)).text
+text_by old now images images_now before here told_at summed after is_terminal bytes end ended setting told summary kept plain =
+    let last : DebugAnswered = debug_bytes_told now images_now [] in
+    let all : DebugAnswered = debug_bytes_told old images bytes in
+    let waiting : IsDebugged here told_at end last =
+    subst (λ (a : DebugAnswered). IsDebugged here told_at end a) (sym (waiting_told now images_now)) told in
+    let whole : Appends before told_at all.text =
+    Appends-from_all_but before told_at [] all.text
+    (AddsAllBut-more before here told_at last.text last.text [] all.text (ended.text plain) waiting.text (sym (append-nil last.text)))
+    refl in
+    let at_end : end ≡ all.state = waiting.state ∙ sym ended.state in
+    let summed_up : Appends told_at summed (summary_text old.session.setting.form all.state.tally) =
+    subst (λ (c : DebugSetting). Appends told_at summed (summary_text c.form all.state.tally)) setting
+    (subst (λ (d : DebugState). Appends told_at summed (summary_text now.session.setting.form d.tally)) at_end summary) in
+    appends_kept before summed after _
+    (Appends-join before told_at summed all.text (summary_text old.session.setting.form all.state.tally) whole summed_up) kept
+
+-- at the end, behind comments of the protocol if there are any
+pub talk_text : (old now : DebugTyping) (images images_now : List Entry) (input left before here commented told_at summed after : Option (List ℕ))
+    (is_terminal : Bool) (end : DebugState) (own : DebugSetting) → HasTalked old now images images_now input left before here is_terminal
+    → (IsAtEnd left) ⊎ (now.session.has_quit ≡ true)
+    → (IsPlainTalk old is_terminal → commented ≡ here)
+    → IsDebugged commented told_at end
+    (debug_lines_told now.session.setting now.number (debug_state now.session images_now) (lines now.pending.items))
+    → own ≡ now.session.setting → Appends told_at summed (summary_text own.form end.tally) → Keeps summed after
+    → DebugsInput old images is_terminal input before after
+talk_text old now images images_now None left before here commented told_at summed after is_terminal end own talked ends none told same summary kept = tt
+talk_text old now images images_now (Some bytes) left before here commented told_at summed after is_terminal end own talked ends none told same summary kept =
+    λ plain.
+    text_by old now images images_now before here told_at summed after is_terminal bytes end
+    (has_ended old now images images_now (Some bytes) left before here is_terminal talked ends) talked.setting
+    (subst (λ (w : Option (List ℕ)). IsDebugged w told_at end
+    (debug_lines_told now.session.setting now.number (debug_state now.session images_now) (lines now.pending.items))) (none plain) told)
+    (subst (λ (c : DebugSetting). Appends told_at summed (summary_text c.form end.tally)) same summary) kept plain
+
+-- A WHOLE SCRIPT
+
+script_told_by : (c : DebugSetting) (t : DebugTyping) (images : List Entry) (bytes : List ℕ) → t.session.setting ≡ c
+    → debug_state t.session images ≡ debug_start_state c images → t.pending.items ≡ [] → t.number ≡ 0
+    → debug_bytes_told t images bytes ≡ debug_lines_told c 0 (debug_start_state c images) (lines bytes)
+script_told_by c t images bytes setting state pending number =
+    let d : DebugState = debug_state t.session images in
+    ap (λ (xs : List ℕ). debug_lines_told t.session.setting t.number d (lines (xs ++ bytes))) pending
+    ∙ ap (λ (n : ℕ). debug_lines_told t.session.setting n d (lines bytes)) number
+    ∙ ap (λ (s : DebugState). debug_lines_told t.session.setting 0 s (lines bytes)) state
+    ∙ ap (λ (x : DebugSetting). debug_lines_told x 0 (debug_start_state c images) (lines bytes)) setting
+
+pub status_of_script : (c : DebugSetting) (t : DebugTyping) (images : List Entry) (input : Option (List ℕ)) (status : ℕ)
+    → t.session.setting ≡ c → debug_state t.session images ≡ debug_start_state c images → t.pending.items ≡ [] → t.number ≡ 0
+    → IsStatusOfInput t images input status → IsStatusOfScript c images input status
+unfolding debug_script_told
+status_of_script c t images None status setting state pending number is = tt
+status_of_script c t images (Some bytes) status setting state pending number is =
+    is ∙ ap (λ (a : DebugAnswered). debug_status a.state) (script_told_by c t images bytes setting state pending number)

@@ -1,0 +1,3 @@
+pub mod AnsweringLemmas
+pub mod PageLemmas
+pub mod ReadingLemmas

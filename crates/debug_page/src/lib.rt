@@ -1,0 +1,13 @@
+//! A debugging script and its answers as a page, for `rosm_debug`: headings and paragraphs, each line
+//! with what it was answered, traces as tables, pictures of views, and whether what lines expect is
+//! so.
+#![tactic(auto)]
+
+mod answering;
+mod page;
+mod reading;
+pub mod style;
+
+pub use debug_entries;
+pub use debug_session;
+pub use page::push_debug_page;
