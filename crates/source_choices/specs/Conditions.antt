@@ -1,7 +1,7 @@
 -- Conditions (ARM Assembler manual, "Conditional assembly", "Expressions and operators"): a number
--- that isn't 0, two numbers compared, `{TRUE}`, a name that is defined, each after `:LNOT:` or not,
--- and two of these joined.
-use Rattle.std.specs.Prelude.{ℕ, Bool, not, ◌==◌, ◌&&◌, ◌||◌, nat_lt, nat_le, List, [], ◌∷◌, codes, Option, Some, None, is_some, Result, Ok, Err, if◌then◌else◌}
+-- that isn't 0, two numbers or two texts compared, `{TRUE}`, a name that is defined, each after
+-- `:LNOT:` or not, and two of these joined.
+use Rattle.std.specs.Prelude.{ℕ, Bool, not, ◌==◌, ◌&&◌, ◌||◌, List, codes, Option, Some, None, is_some, Result, Ok, Err, if◌then◌else◌}
 use Rattle.assembler_names.specs.Words.{after_word, byte, is_same_name, word}
 use Rattle.profile.specs.Outcome.{bind as ◌>>=◌}
 use Rattle.source_words.specs.Expressions.{source_sum}
@@ -10,8 +10,8 @@ use Rattle.source_words.specs.Sums.{plain_number}
 use Rattle.source_words.specs.Words.{ReadOrRefused, after_blanks, is_end, name_at, refusal_at}
 use Rattle.source_words.specs.declared.refusal.WordRefusal.{WordRefusal}
 use Rattle.source_words.specs.declared.refusal.Why.TheVariants.{NotANumber, NotUnderstood}
-use Rattle.source_choices.specs.declared.conditions.Relation.{Relation}
-use Rattle.source_choices.specs.declared.conditions.Relation.TheVariants as relation
+use Rattle.source_choices.specs.Relations.{holds, relation_at, text_comparison}
+use Rattle.source_choices.specs.declared.relations.Relation.{Relation}
 
 abbrev pub number_or_refusal : List ℕ → List ℕ → Option ℕ → ReadOrRefused ℕ
 number_or_refusal text rest (Some n) = Ok (n, rest)
@@ -22,37 +22,6 @@ abbrev pub number_of_sum_at : NameLookup → ℕ → List ℕ → ReadOrRefused 
 number_of_sum_at names here text = do
   value ← source_sum names here text
   number_or_refusal text value.1 (plain_number value.0)
-
-abbrev pub holds : Relation → ℕ → ℕ → Bool
-holds relation.Equal a b = a == b
-holds relation.Different a b = not (a == b)
-holds relation.Below a b = nat_lt a b
-holds relation.AtMost a b = nat_le a b
-holds relation.Above a b = nat_lt b a
-holds relation.AtLeast a b = nat_le b a
-
--- behind `<`: `>` (62) or `=` (61) or nothing
-abbrev pub relation_after_less : List ℕ → Relation × List ℕ
-relation_after_less [] = (relation.Below, [])
-relation_after_less (c ∷ rest) = if c == 62 then (relation.Different, rest) else (
-    if c == 61 then (relation.AtMost, rest) else (relation.Below, c ∷ rest))
-
-abbrev pub relation_after_more : List ℕ → Relation × List ℕ
-relation_after_more [] = (relation.Above, [])
-relation_after_more (c ∷ rest) = if c == 61 then (relation.AtLeast, rest) else (relation.Above, c ∷ rest)
-
--- `=` and `==` are one
-abbrev pub relation_after_equal : List ℕ → Relation × List ℕ
-relation_after_equal [] = (relation.Equal, [])
-relation_after_equal (c ∷ rest) = (relation.Equal, if c == 61 then rest else c ∷ rest)
-
--- `=` is 61, `<` 60, `>` 62
-abbrev pub relation_at : List ℕ → Option (Relation × List ℕ)
-relation_at [] = None
-relation_at (c ∷ rest) =
-    if c == 61 then Some (relation_after_equal rest) else (
-    if c == 60 then Some (relation_after_less rest) else (
-    if c == 62 then Some (relation_after_more rest) else None))
 
 abbrev pub comparison_with : NameLookup → ℕ → ℕ → List ℕ → Option (Relation × List ℕ) → ReadOrRefused Bool
 comparison_with names here n rest None = Ok (not (n == 0), rest)
@@ -91,15 +60,19 @@ abbrev pub is_defined : NameLookup → List ℕ → Option (List ℕ × List ℕ
 is_defined names text (Some n) = Ok (is_some (names n.0), n.1)
 is_defined names text None = Err (refusal_at NotUnderstood text)
 
+abbrev pub truth_by_texts : NameLookup → ℕ → List ℕ → Option (Bool × List ℕ) → ReadOrRefused Bool
+truth_by_texts names here text (Some b) = Ok b
+truth_by_texts names here text None = comparison names here text
+
 abbrev pub truth_by_byte : NameLookup → ℕ → List ℕ → Option (List ℕ) → ReadOrRefused Bool
 truth_by_byte names here text (Some rest) = constant_truth rest
-truth_by_byte names here text None = comparison names here text
+truth_by_byte names here text None = truth_by_texts names here text (text_comparison text)
 
 abbrev pub truth_by_operator : NameLookup → ℕ → List ℕ → Option (List ℕ) → ReadOrRefused Bool
 truth_by_operator names here text (Some rest) = is_defined names rest (name_at (after_blanks rest))
 truth_by_operator names here text None = truth_by_byte names here text (byte 123 (after_blanks text))
 
--- `{TRUE}` (123 is the brace), `:DEF:` and a name, or numbers
+-- `{TRUE}` (123 is the brace), `:DEF:` and a name, texts or numbers
 unfoldable pub plain_truth : NameLookup → ℕ → List ℕ → ReadOrRefused Bool
 plain_truth names here text = truth_by_operator names here text (after_operator (codes "DEF") text)
 

@@ -1,7 +1,5 @@
--- Variables and conditions of a source for ObjAsm. Begin with Lines.
-pub use Rattle.source_layout
-pub mod Knowledge
-pub mod Values
+-- Conditions of a source for ObjAsm. Begin with Conditions.
+pub use Rattle.source_words
+pub mod Relations
 pub mod Conditions
-pub mod Choices
-pub mod Lines
+pub mod Texts

@@ -1,40 +1,15 @@
-//! Conditions: numbers that are compared, and what is defined.
+//! Conditions: numbers and texts that are compared, and what is defined.
 
 ghost use Rattle.std.specs.Prelude.{◌≡◌, option_map};
-ghost use Rattle.assembler_names.specs.Words.{read_of};
-ghost use Rattle.source_choices.specs.Conditions.{after_operator, comparison, condition_of_text, constant_truth, holds, inverted_truth, is_defined, number_of_sum_at, plain_truth, relation_after_equal, relation_after_less, relation_after_more, relation_at, signed_truth, truth_at_end};
+ghost use Rattle.source_choices.specs.Conditions.{after_operator, comparison, condition_of_text, constant_truth, inverted_truth, is_defined, number_of_sum_at, plain_truth, signed_truth, truth_at_end, truth_by_texts};
+ghost use Rattle.source_choices.specs.Relations.{text_comparison};
 ghost use Rattle.source_words.specs.Names.{meaning_of_name};
 ghost use Rattle.source_words.specs.Words.{after_blanks, name_at, reading};
 
-use assembler_names::words::{Read, after_word, byte, is_name, word};
+use crate::relations::{relation_at, text_comparison};
+use assembler_names::words::{after_word, byte, is_name, word};
 use source_words::words::{after_blanks, is_end, name_at};
 use source_words::{Names, ReadOrRefused, Why, WordRefusal, source_sum};
-
-/// How two numbers are compared.
-#[derive(Clone, Copy, Debug, PartialEq, Eq)]
-pub enum Relation {
-    Equal,
-    Different,
-    Below,
-    AtMost,
-    Above,
-    AtLeast,
-}
-
-impl Relation {
-    fn holds(self, one: u32, other: u32) -> bool
-        ensures { result ≡ holds self one other }
-    {
-        match self {
-            Relation::Equal => one == other,
-            Relation::Different => one != other,
-            Relation::Below => one < other,
-            Relation::AtMost => one <= other,
-            Relation::Above => one > other,
-            Relation::AtLeast => one >= other,
-        }
-    }
-}
 
 /// Whether the condition that a text is holds.
 #[tactic(auto, unfolding(crate::specs::Conditions::condition_of_text))]
@@ -80,7 +55,7 @@ fn inverted_truth<'t>(names: &Names, here: usize, text: &'t [u8]) -> ReadOrRefus
     Ok((!holds, rest))
 }
 
-// `{TRUE}`, `:DEF:` and a name, or numbers.
+// `{TRUE}`, `:DEF:` and a name, texts or numbers.
 #[tactic(auto, unfolding(crate::specs::Conditions::plain_truth))]
 fn plain_truth<'t>(names: &Names, here: usize, text: &'t [u8]) -> ReadOrRefused<'t, bool>
     ensures { reading result ≡ plain_truth (meaning_of_name names.now) here text.now }
@@ -90,6 +65,16 @@ fn plain_truth<'t>(names: &Names, here: usize, text: &'t [u8]) -> ReadOrRefused<
     }
     match byte(b'{', after_blanks(text)) {
         Some(rest) => constant_truth(rest),
+        None => texts_or_numbers(names, here, text),
+    }
+}
+
+fn texts_or_numbers<'t>(names: &Names, here: usize, text: &'t [u8]) -> ReadOrRefused<'t, bool>
+    ensures { reading result
+        ≡ truth_by_texts (meaning_of_name names.now) here text.now (text_comparison text.now) }
+{
+    match text_comparison(text) {
+        Some(compared) => Ok(compared),
         None => comparison(names, here, text),
     }
 }
@@ -105,8 +90,8 @@ fn is_defined<'t>(names: &Names, text: &'t [u8]) -> ReadOrRefused<'t, bool>
     }
 }
 
-// What follows `:NAME:`, before which blanks may stand.
-fn after_operator<'t>(name: &[u8], text: &'t [u8]) -> Option<&'t [u8]>
+/// What follows `:NAME:`, before which blanks may stand.
+pub fn after_operator<'t>(name: &[u8], text: &'t [u8]) -> Option<&'t [u8]>
     ensures { option_map (λ rest. rest.now) result ≡ after_operator name.now text.now }
 {
     let inner = byte(b':', after_blanks(text))?;
@@ -154,44 +139,5 @@ fn number_of_sum_at<'t>(names: &Names, here: usize, text: &'t [u8]) -> ReadOrRef
     match sum.plain_number() {
         Some(number) => Ok((number, rest)),
         None => Err(WordRefusal::at(Why::NotANumber, text)),
-    }
-}
-
-fn relation_at(text: &[u8]) -> Read<'_, Relation>
-    ensures { read_of result ≡ relation_at text.now }
-{
-    match text {
-        [b'=', rest @ ..] => Some(relation_after_equal(rest)),
-        [b'<', rest @ ..] => Some(relation_after_less(rest)),
-        [b'>', rest @ ..] => Some(relation_after_more(rest)),
-        _ => None,
-    }
-}
-
-fn relation_after_equal(text: &[u8]) -> (Relation, &[u8])
-    ensures { (result.0, result.1.now) ≡ relation_after_equal text.now }
-{
-    match text {
-        [b'=', rest @ ..] => (Relation::Equal, rest),
-        _ => (Relation::Equal, text),
-    }
-}
-
-fn relation_after_less(text: &[u8]) -> (Relation, &[u8])
-    ensures { (result.0, result.1.now) ≡ relation_after_less text.now }
-{
-    match text {
-        [b'>', rest @ ..] => (Relation::Different, rest),
-        [b'=', rest @ ..] => (Relation::AtMost, rest),
-        _ => (Relation::Below, text),
-    }
-}
-
-fn relation_after_more(text: &[u8]) -> (Relation, &[u8])
-    ensures { (result.0, result.1.now) ≡ relation_after_more text.now }
-{
-    match text {
-        [b'=', rest @ ..] => (Relation::AtLeast, rest),
-        _ => (Relation::Above, text),
     }
 }

@@ -1,13 +1,9 @@
-//! The lines of a source for ObjAsm that its conditions take, with values for its variables.
+//! Conditions of a source for ObjAsm: what is compared, and what is defined; and texts that are
+//! joined.
 #![tactic(auto)]
 
-pub mod choices;
 pub mod conditions;
-pub mod directives;
-pub mod lines;
-pub mod plain;
-pub mod values;
+pub mod relations;
+pub mod texts;
 
-pub use choices::SourceChoices;
-pub use lines::{push_taken_lines, read_choices};
-pub use plain::plain_source;
+pub use source_words;

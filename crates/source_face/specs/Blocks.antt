@@ -8,13 +8,14 @@ use Rattle.objasm_source.specs.Knowledge.{SourceKnowledge}
 use Rattle.objasm_source.specs.Sources.{read_source}
 use Rattle.objasm_source.specs.Writing.{first_pool, source_text}
 use Rattle.objasm_source.specs.declared.sources.LineRefusal.{LineRefusal}
-use Rattle.source_choices.specs.Lines.{plain_source}
 use Rattle.source_face.specs.AskedOptions.{AskedOptions}
 use Rattle.source_face.specs.Checking.{assembler_refusals}
 use Rattle.source_face.specs.Reports.{LineFiles, line_files, reports_text}
 use Rattle.source_files.specs.Binding.{binding_line}
 use Rattle.source_files.specs.Joined.{JoinedText}
 use Rattle.source_files.specs.Passes.{file_text, joined_source}
+use Rattle.source_text.specs.Plain.{plain_source}
+use Rattle.source_text.specs.Reading.{read_text}
 
 -- what is written, whether it is a block, and what is told
 pub record Conversion : Type 0 where
@@ -67,10 +68,14 @@ conversion_of_source asked files texts s =
 abbrev pub conversion_of_lines : AskedOptions → LineFiles → List (List ℕ) → Conversion
 conversion_of_lines asked files texts = conversion_of_source asked files texts (read_source texts)
 
+-- what the lines that are read of a source are converted to
+abbrev pub conversion_of_read : AskedOptions → List (List ℕ) → JoinedText → Conversion
+conversion_of_read asked paths j =
+    conversion_of_lines asked (line_files paths j.origins) (lines (plain_source j.text))
+
 -- what a joined text is converted to
 abbrev pub conversion_of_joined : AskedOptions → List (List ℕ) → JoinedText → Conversion
-conversion_of_joined asked paths j =
-    conversion_of_lines asked (line_files paths j.origins) (lines (plain_source j.text))
+conversion_of_joined asked paths j = conversion_of_read asked paths (read_text j)
 
 -- the lines of the files, or of the listing that the first is, behind those that bind names
 abbrev pub source_behind : Bool → List (List ℕ) → List (List ℕ) → List ℕ → JoinedText

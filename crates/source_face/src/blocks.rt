@@ -6,7 +6,7 @@ ghost use Rattle.std.specs.Str.Lines.{lines};
 ghost use Rattle.profile.specs.Output.{Writes};
 ghost use Rattle.source_files.specs.Getting.{texts_of};
 ghost use Rattle.source_face.specs.Reports.{line_files};
-ghost use Rattle.source_face.specs.Blocks.{asked_source, block_text, conversion, conversion_of_joined, converted_or_told, is_unrefused, source_behind, source_body};
+ghost use Rattle.source_face.specs.Blocks.{asked_source, block_text, conversion, conversion_of_joined, conversion_of_read, converted_or_told, is_unrefused, source_behind, source_body};
 
 use crate::checking::assembler_refusals;
 use crate::options::SourceOptions;
@@ -15,8 +15,8 @@ use assembler::AsmError;
 use basic_source::listing_source;
 use objasm_source::{LineRefusal, ObjAsmSource, push_source, read_source};
 use profile::{Sink, WriteFault, push_all, push_parts};
-use source_choices::plain_source;
 use source_files::{JoinedSource, LineOrigin, binding_lines, file_text, joined_source};
+use source_text::{plain_source, read_text};
 use std::alloc::{AllocError, Global};
 use view_items::TextSink;
 
@@ -119,6 +119,26 @@ fn convert_joined<W: Sink, E: Sink>(
         (conversion_of_joined wanted.now (texts_of paths.now) source.now).block) }
     ensures told { OnOk result (Appends (E.contents errors.old) (E.contents errors.new)
         (conversion_of_joined wanted.now (texts_of paths.now) source.now).told) }
+{
+    let read = read_text(alloc, source)?;
+    convert_read(alloc, wanted, paths, &read, sink, errors)
+}
+
+// Of the lines that are read of a source.
+fn convert_read<W: Sink, E: Sink>(
+    alloc: Global,
+    wanted: &SourceOptions,
+    paths: &[&[u8]],
+    source: &JoinedSource,
+    sink: &mut W,
+    errors: &mut E,
+) -> Result<bool, ConversionError>
+    ensures answer { IfOk result (λ is_written. is_written
+        ≡ (conversion_of_read wanted.now (texts_of paths.now) source.now).is_written) }
+    ensures block { OnOk result (Appends (W.contents sink.old) (W.contents sink.new)
+        (conversion_of_read wanted.now (texts_of paths.now) source.now).block) }
+    ensures told { OnOk result (Appends (E.contents errors.old) (E.contents errors.new)
+        (conversion_of_read wanted.now (texts_of paths.now) source.now).told) }
 {
     let plain = plain_source(alloc, source.text())?;
     let known = read_source(alloc, plain.as_slice())?;

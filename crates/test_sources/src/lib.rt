@@ -7,8 +7,6 @@
 #[cfg(test)]
 mod basic;
 #[cfg(test)]
-mod choices;
-#[cfg(test)]
 mod files;
 #[cfg(test)]
 mod layouts;
@@ -18,5 +16,7 @@ mod lines;
 mod mnemonics;
 #[cfg(test)]
 mod sources;
+#[cfg(test)]
+mod texts;
 #[cfg(test)]
 mod words;

@@ -1,0 +1,37 @@
+-- Operands with values for the names of variables (ARM Assembler manual, "Variables").
+use Rattle.std.specs.Prelude.{ℕ, zero, suc, ◌==◌, List, [], ◌++◌, length, Option, Some, None, if◌then◌else◌}
+use Rattle.source_layout.specs.Layouts.{label_and_rest}
+use Rattle.source_layout.specs.Lines.{bytes_before}
+use Rattle.source_text.specs.Knowledge.{TextState}
+use Rattle.source_text.specs.Lookups.{variable_here}
+use Rattle.source_variables.specs.Pieces.{after_operand_piece, after_work_word}
+use Rattle.source_variables.specs.Variables.{operand_value}
+use Rattle.source_variables.specs.declared.variables.VariableValue.{VariableValue}
+
+abbrev pub value_or_bytes : TextState → List ℕ → Option VariableValue → List ℕ
+value_or_bytes s bytes (Some v) = operand_value s.texts v
+value_or_bytes s bytes None = bytes
+
+-- a piece, or the value of the variable that it is
+abbrev pub operand_piece : TextState → List ℕ → List ℕ
+operand_piece s bytes = value_or_bytes s bytes (variable_here s bytes)
+
+abbrev pub operand_pieces_next : (List ℕ → List ℕ) → TextState → List ℕ → List ℕ → List ℕ
+operand_pieces_next others s text rest = operand_piece s (bytes_before text rest) ++ others rest
+
+-- the pieces of a text; the count, which is never used up, is the length of a text that holds them
+unfoldable pub operand_pieces : ℕ → TextState → List ℕ → List ℕ
+operand_pieces zero s text = []
+operand_pieces (suc n) s text = if length text == 0 then []
+    else operand_pieces_next (operand_pieces n s) s text (after_operand_piece text)
+
+-- a text with values for the names of variables
+abbrev pub text_with_operands : TextState → List ℕ → List ℕ
+text_with_operands s text = operand_pieces (length text) s text
+
+abbrev pub operands_after_work : TextState → List ℕ → List ℕ → List ℕ
+operands_after_work s text operands = bytes_before text operands ++ text_with_operands s operands
+
+-- a line with values for the names of variables
+abbrev pub line_with_operands : TextState → List ℕ → List ℕ
+line_with_operands s text = operands_after_work s text (after_work_word (label_and_rest text).1)

@@ -1,0 +1,6 @@
+-- Variables of the assembler. Begin with Variables.
+pub use Rattle.source_layout
+pub mod Places
+pub mod Variables
+pub mod Works
+pub mod Pieces

@@ -1,0 +1,45 @@
+-- The pieces of a line in which names may have values.
+use Rattle.std.specs.Prelude.{ℕ, Bool, not, ◌==◌, List, [], ◌∷◌, take, drop, length, Option, Some, None, if◌then◌else◌}
+use Rattle.std.specs.List.{prefix_len}
+use Rattle.assembler_names.specs.Words.{after_word, byte, word}
+use Rattle.source_layout.specs.References.{after_quote, is_quote}
+use Rattle.source_words.specs.Words.{after_blanks}
+
+-- all but `$` (36)
+abbrev pub is_before_sign : ℕ → Bool
+is_before_sign c = not (c == 36)
+
+abbrev pub bytes_before_sign : List ℕ → List ℕ
+bytes_before_sign text = take (prefix_len is_before_sign text) text
+
+abbrev pub from_sign : List ℕ → List ℕ
+from_sign text = drop (prefix_len is_before_sign text) text
+
+abbrev pub after_byte_or : List ℕ → Option (List ℕ) → List ℕ
+after_byte_or text (Some rest) = rest
+after_byte_or text None = text
+
+-- what follows a dot (46) that ends a name, if there is one
+abbrev pub after_dot : List ℕ → List ℕ
+after_dot text = after_byte_or text (byte 46 text)
+
+-- what follows a second `$`, if there is one
+abbrev pub after_second_sign : List ℕ → List ℕ
+after_second_sign text = after_byte_or text (byte 36 text)
+
+-- what follows the front of a text: a comment (59 is `;`), what stands between quotes or bars, a word
+-- or a byte
+abbrev pub after_operand_byte : ℕ → List ℕ → List ℕ
+after_operand_byte c rest = if c == 59 then [] else (if is_quote c then after_quote c rest else (
+    if length (word (c ∷ rest)) == 0 then rest else after_word (c ∷ rest)))
+
+unfoldable pub after_operand_piece : List ℕ → List ℕ
+after_operand_piece [] = []
+after_operand_piece (c ∷ rest) = after_operand_byte c rest
+
+abbrev pub after_work_at : List ℕ → List ℕ
+after_work_at text = if length (word text) == 0 then drop 1 text else after_word text
+
+-- what follows the word that names what a line asks for, or its sign
+abbrev pub after_work_word : List ℕ → List ℕ
+after_work_word text = after_work_at (after_blanks text)

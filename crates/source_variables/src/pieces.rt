@@ -1,0 +1,86 @@
+//! The pieces of a line in which names may have values.
+
+ghost use Rattle.std.specs.Prelude.{◌≡◌, ◌≤◌, length};
+ghost use Rattle.std.specs.List.{prefix_len};
+ghost use Rattle.source_variables.specs.Pieces.{after_dot, after_operand_piece, after_second_sign, after_work_word, bytes_before_sign, from_sign, is_before_sign};
+
+use assembler_names::words::{after_word, byte, word};
+use source_layout::references::{after_quote, is_quote};
+use source_mnemonics::spellings::behind;
+use source_words::words::after_blanks;
+
+/// What follows a dot that ends a name, if there is one.
+pub fn after_dot(text: &[u8]) -> &[u8]
+    ensures { result.now ≡ after_dot text.now }
+{
+    match byte(b'.', text) {
+        Some(rest) => rest,
+        None => text,
+    }
+}
+
+/// What follows a second `$`, if there is one.
+pub fn after_second_sign(text: &[u8]) -> &[u8]
+    ensures { result.now ≡ after_second_sign text.now }
+{
+    match byte(b'$', text) {
+        Some(rest) => rest,
+        None => text,
+    }
+}
+
+/// What stands before the next `$`.
+pub fn bytes_before_sign(text: &[u8]) -> &[u8]
+    ensures { result.now ≡ bytes_before_sign text.now }
+{
+    &text[..len_before_sign(text)]
+}
+
+/// The next `$`, and what follows it.
+pub fn from_sign(text: &[u8]) -> &[u8]
+    ensures { result.now ≡ from_sign text.now }
+{
+    &text[len_before_sign(text)..]
+}
+
+fn len_before_sign(text: &[u8]) -> usize
+    ensures length { result ≡ prefix_len is_before_sign text.now }
+    ensures within { result ≤ length text.now }
+{
+    text.iter()
+        .take_while(|byte| is_before_sign(**byte))
+        .count()
+}
+
+fn is_before_sign(c: u8) -> bool
+    ensures { result ≡ is_before_sign c }
+{
+    c != b'$'
+}
+
+/// What follows the word that names what a line asks for, or its sign.
+pub fn after_work_word(text: &[u8]) -> &[u8]
+    ensures { result.now ≡ after_work_word text.now }
+{
+    let place = after_blanks(text);
+    if word(place).is_empty() {
+        behind(place, 1)
+    } else {
+        after_word(place)
+    }
+}
+
+/// What follows the front of a text: a comment, what stands between quotes or bars, a word or a
+/// byte.
+#[tactic(auto, unfolding(crate::specs::Pieces::after_operand_piece))]
+pub fn after_operand_piece(text: &[u8]) -> &[u8]
+    ensures { result.now ≡ after_operand_piece text.now }
+{
+    match text {
+        [] => text,
+        [b';', ..] => b"",
+        [c, rest @ ..] if is_quote(*c) => after_quote(*c, rest),
+        [_, rest @ ..] if word(text).is_empty() => rest,
+        _ => after_word(text),
+    }
+}
