@@ -16,6 +16,8 @@ pub enum Face {
     Gdb,
     /// `source`.
     Source,
+    /// `symbols`.
+    Symbols,
 }
 
 // A word with more bytes than this names no face.
@@ -39,6 +41,8 @@ fn face_of(word: &[u8]) -> Option<Face>
         Some(Face::Gdb)
     } else if word == b"source".as_slice() {
         Some(Face::Source)
+    } else if word == b"symbols".as_slice() {
+        Some(Face::Symbols)
     } else {
         None
     }
@@ -49,7 +53,7 @@ pub fn refuse<R: Eprint>(rt: &R) -> ExitCode
     ensures { exit_status result ≡ 2 }
 {
     let _ = eprintln!(rt;
-        "rosm_tools: the first word is debug, gdb or source; usage: rosm_tools (debug | gdb | source) [WORD...]"
+        "rosm_tools: the first word is debug, gdb, source or symbols; usage: rosm_tools (debug | gdb | source | symbols) [WORD...]"
     );
     ExitCode::from(2)
 }
