@@ -106,3 +106,11 @@ fetch_refused m a below h =
     let within : nat_le (2 ^ 26) a ≡ false = grind (arith, nat_tests) in
     let none : is_mapped m a ≡ false = ap is_some h in
     rw (within, none) refl
+
+-- the word at a place that is known
+pub word_known : (m : AddressMap) (a k w : ℕ) → a % 4 ≡ 0 → place m a ≡ Some k → w ≡ word_in m.store.items k → word_loaded (bytes_of m) a ≡ Ok w
+word_known m a k w aligned h is =
+    let start : word_start a ≡ a = omega (arith, aligned) in
+    let there : place m (word_start a) ≡ Some k = ap (place m) start ∙ h in
+    let below : word_start a < 2 ^ 26 = omega (arith, start, place_below m a k h) in
+    sym (word_read m a k (fetch_clear m (word_start a) k below there) there) ∙ ap Ok (sym is)

@@ -1,8 +1,8 @@
 //! Faster ways to memory for the core: bytes of a page lent where they stand, and words whose place
 //! is known.
 
-ghost use Rattle.std.specs.Prelude.{ℕ, ◌≡◌, ◌≤◌, ◌<◌, ◌+◌, ◌*◌, ◌%◌, ◌^◌, MatchOption, Some, false, length};
-ghost use Rattle.address_map.specs.Bytes.{with_word_at};
+ghost use Rattle.std.specs.Prelude.{ℕ, ◌≡◌, ◌≤◌, ◌<◌, ◌+◌, ◌*◌, ◌%◌, ◌^◌, MatchOption, Some, Ok, false, length};
+ghost use Rattle.address_map.specs.Bytes.{with_word_at, word_loaded};
 ghost use Rattle.address_map.specs.Lent.{IsLent, any_owned};
 
 use crate::map::AddressMap;
@@ -21,6 +21,17 @@ impl AddressMap {
     {
         let place = self.translate(addr)?;
         Some(self.store.lend(place, len as usize))
+    }
+
+    /// The word at an address whose place in the store is known, as `translate` tells it.
+    #[tactic(auto, using(crate::proofs::Loads::place_fits_word, crate::proofs::Loads::word_known))]
+    #[inline(always)]
+    pub fn word_at(&self, addr: u32, at: usize) -> u32
+        requires aligned { addr % 4 ≡ 0 }
+        requires there { place self.now addr ≡ Some at }
+        ensures { word_loaded (bytes_of self.now) addr ≡ Ok result }
+    {
+        self.store.read_word(at)
     }
 
     /// Writes a word, owned or not, at an address whose place in the store is known, as `translate`

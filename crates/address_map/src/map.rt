@@ -300,7 +300,7 @@ impl AddressMap {
             (λ fault. refused ≡ Some fault) }
     {
         let place = self.readable(addr)?;
-        if !self.class_at(place).is_plain() {
+        if !self.marks.is_plain(place / 4) {
             return Err(Fault::OwnedWord);
         }
         Ok(place)

@@ -17,6 +17,7 @@ pub struct Marks {
 
 impl Marks {
     ghost use Rattle.address_map.specs.Marks.{class_at};
+    ghost use Rattle.address_map.specs.Memory.{is_plain};
 
     /// The classes of four words for each of that many bytes, all plain.
     pub(crate) fn new(alloc: Global, bytes: usize) -> Result<Marks, AllocError>
@@ -49,6 +50,18 @@ impl Marks {
             2 => Class::FlexHeader,
             _ => Class::Anchor,
         }
+    }
+
+    /// Whether a word is plain. Mostly all four are that share its byte.
+    #[inline(always)]
+    pub(crate) fn is_plain(&self, word: usize) -> bool
+        requires { word / 4 < length self.now.bytes }
+        ensures { result ≡ is_plain (class_at self.now word) }
+    {
+        if self.bytes.get(word / 4) == 0 {
+            return true;
+        }
+        self.class(word).is_plain()
     }
 
     /// Whether all words of the bytes from `first` up to `end` are plain.

@@ -1,12 +1,12 @@
-use Rattle.std.proofs.Common.{◌≡◌, ◌/◌, true, false}
+use Rattle.std.proofs.Common.{◌≡◌, ◌/◌, true, false, arith}
 use Rattle.address_map.specs.Marks.{class_at}
 use Rattle.address_map.specs.Memory.{is_plain}
 use Rattle.address_map.proofs.Loads.{place_fits}
 use Rattle.address_map.proofs.Words.{store_by_class}
 use Rattle.address_map.proofs.map.AddressMap.writable.Goals as goal
 
-pub class_at-requires : goal.class_at-requires
-class_at-requires c = place_fits c.args.self.now c.args.addr _ c.in_ok-place.ensures.1
+pub is_plain-requires : goal.is_plain-requires
+is_plain-requires c = let m = c.args.self.now in omega (arith, place_fits m c.args.addr _ c.in_ok-place.ensures.1, m.marks_fit)
 
 pub returns-then-not-is_plain : goal.returns-then-not-is_plain
 returns-then-not-is_plain c =
