@@ -146,6 +146,15 @@ impl Cpu {
         self.file[place_of(self.psr.mode, mode, number)]
     }
 
+    /// R0 to R14 of the present mode.
+    #[inline(always)]
+    pub fn current(&self, number: u8) -> u32
+        requires { number < 15 }
+        ensures { result ≡ register_in self.now.psr.mode self.now number }
+    {
+        self.file[number as usize]
+    }
+
     /// R0 to R15 of the present mode; R15 is the program counter with the status.
     #[inline(always)]
     pub fn register(&self, number: u32) -> u32
@@ -192,6 +201,15 @@ impl Cpu {
         ensures { self.new ≡ with_register_in mode self.old number value }
     {
         self.file[place_of(self.psr.mode, mode, number)] = value;
+    }
+
+    /// Sets one of R0 to R14 of the present mode.
+    #[inline(always)]
+    pub fn set_current(&mut self, number: u8, value: u32)
+        requires { number < 15 }
+        ensures { self.new ≡ with_register self.old number value }
+    {
+        self.file[number as usize] = value;
     }
 
     /// Sets one of R0 to R14 of the present mode.
