@@ -73,7 +73,7 @@ impl ReadyWords {
         self.entries[place].word == word
     }
 
-    #[inline(never)]
+    #[cold]
     fn keep(&mut self, place: usize, word: u32)
         requires { place < 1024 }
         ensures { (default : ReadyWord) → (slice_index_or self.new place default).word ≡ word }

@@ -2,27 +2,15 @@
 use Rattle.std.proofs.Common.{◌≡◌, ◌≢◌, ◌<◌, ◌+◌, ◌*◌, ◌/◌, ◌%◌, ◌^◌, ℕ, Bool, true, false, nat_eq, Result, Ok, Err, refl, sym, ◌∙◌, ap, subst, arith, if◌then◌else◌}
 use Rattle.std.proofs.lemmas.Bool.Decides.{nat_tests}
 use Rattle.profile.specs.declared.fault.Fault.{Fault}
-use Rattle.profile.specs.declared.fault.Fault.TheVariants as fault
 use Rattle.address_map.specs.Bytes.{Bytes, word_loaded}
 use Rattle.arm_core.specs.State.{State}
 use Rattle.arm_core.specs.declared.turn.Turn.{Turn}
 use Rattle.arm_core.specs.declared.turn.Turn.TheVariants as turn
 use Rattle.arm_step.specs.Step.{executed_if_fetched, result_of_word, result_of_step}
-use Rattle.arm_step.specs.Turns.{Turns}
-use Rattle.arm_run.specs.Standing.{core_at, IsFetched, Refuses}
-use Rattle.arm_run.proofs.Carried.{refuses_by}
-
-gate_not_done : turn.Gate ≢ turn.Done
-gate_not_done e = cc
-
-fault_not_done : (f : Fault) → turn.Fault f ≢ turn.Done
-fault_not_done f e = cc
+use Rattle.arm_run.specs.Standing.{core_at, IsFetched}
 
 counter : (at : ℕ) → at < 2 ^ 24 → at % 2 ^ 24 * 4 ≡ at * 4
 counter at h = omega arith
-
-is_gate : (at : ℕ) → at < 2 ^ 24 → at * 4 ≡ 0x03800000 → nat_eq (at % 2 ^ 24 * 4) 0x03800000 ≡ true
-is_gate at h e = grind (arith, nat_tests)
 
 no_gate : (at : ℕ) → at < 2 ^ 24 → at * 4 ≢ 0x03800000 → nat_eq (at % 2 ^ 24 * 4) 0x03800000 ≡ false
 no_gate at h e = grind (arith, nat_tests)
@@ -30,26 +18,8 @@ no_gate at h e = grind (arith, nat_tests)
 abbrev at_gate : (ℕ → Bool) → State → Bytes → Bool → Result (State × Bytes) Turn
 at_gate owned t b gate = if gate then Err turn.Gate else executed_if_fetched owned t b (word_loaded b t.pc)
 
-pub refuses_gate : (owned : ℕ → Bool) (s : State) (at : ℕ) (b : Bytes) → at < 2 ^ 24 → at * 4 ≡ 0x03800000 → Refuses owned (core_at s at) b
-unfolding result_of_step
-refuses_gate owned s at b h e = record {
-  turn = turn.Gate;
-  other = gate_not_done;
-  comes = refuses_by (result_of_step owned (core_at s at) b) (core_at s at, b) turn.Gate (ap (at_gate owned (core_at s at) b) (is_gate at h e));
-}
-
 loaded_there : (b : Bytes) (at : ℕ) (r : Result ℕ Fault) → at < 2 ^ 24 → r ≡ word_loaded b (at * 4) → word_loaded b (at % 2 ^ 24 * 4) ≡ r
 loaded_there b at r h e = ap (word_loaded b) (counter at h) ∙ sym e
-
-pub refuses_unmapped : (owned : ℕ → Bool) (s : State) (at : ℕ) (b : Bytes) (r : Result ℕ Fault) (f : Fault) → at < 2 ^ 24 → at * 4 ≢ 0x03800000 → r ≡ word_loaded b (at * 4) → r ≡ Err f
-    → Refuses owned (core_at s at) b
-unfolding result_of_step
-refuses_unmapped owned s at b r f h other e is = record {
-  turn = turn.Fault fault.FetchUnmapped;
-  other = fault_not_done _;
-  comes = refuses_by (result_of_step owned (core_at s at) b) (core_at s at, b) (turn.Fault fault.FetchUnmapped)
-      (ap (at_gate owned (core_at s at) b) (no_gate at h other) ∙ ap (executed_if_fetched owned (core_at s at) b) (loaded_there b at r h e ∙ is));
-}
 
 pub fetches : (at w : ℕ) (b : Bytes) (r : Result ℕ Fault) → at < 2 ^ 24 → at * 4 ≢ 0x03800000 → r ≡ word_loaded b (at * 4) → r ≡ Ok w → IsFetched b at w
 unfolding result_of_step

@@ -18,9 +18,6 @@ stands s at = with_counter s _ _ (omega arith)
 pub stands_there : (s : State) (pc : ℕ) → pc ≡ s.pc → pc < 2 ^ 26 → pc % 4 ≡ 0 → core_at s (pc / 4) ≡ s
 stands_there s pc e below aligned = let same : pc / 4 % 2 ^ 24 * 4 ≡ s.pc = omega arith in with_counter s _ _ same
 
-pub turned_round : (s : State) (at : ℕ) → core_at s (at % 2 ^ 24) ≡ core_at s at
-turned_round s at = with_counter s _ _ (omega arith)
-
 pub next_position : (s : State) (at : ℕ) → with_next_pc (core_at s at) ≡ core_at s (at + 1)
 next_position s at = with_counter s _ _ (omega arith)
 
@@ -49,9 +46,3 @@ other_slowly owned s t s' at b b' u stood other h =
             (subst (λ (w : State × Bytes). Turns (t, b) (result_of_step owned t b) u w) same h);
       },
     )
-
-pub acts_round : (owned : ℕ → Bool) (s s' : State) (at : ℕ) (b b' : Bytes) (next : Option ℕ) → Acts owned s (at % 2 ^ 24) b next s' b' → Acts owned s at b next s' b'
-acts_round owned s s' at b b' (Some next) h =
-    subst (λ (x : State). Turns (x, b) (result_of_step owned x b) turn.Done (core_at s' next, b')) (turned_round s at) h
-acts_round owned s s' at b b' None h =
-    (sym (turned_round s' at) ∙ h.0 ∙ turned_round s at, h.1, subst (λ (x : State). Refuses owned x b) (turned_round s at) h.2)

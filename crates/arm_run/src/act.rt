@@ -5,7 +5,7 @@ ghost use Rattle.address_map.specs.Memory.{bytes_of, is_owned, layout, class_of}
 ghost use Rattle.arm_ready.specs.Kinds.{KindMeans};
 ghost use Rattle.arm_run.specs.Standing.{Acts, IsFetched};
 
-use crate::blocks::{load_block, load_block_with_pc, store_block};
+use crate::blocks::{load_block, load_block_with_pc, store_block, store_block_keeping_base};
 use crate::branching::{branch_if, link, move_to_pc, move_to_pc_s, target};
 use crate::multiplying::multiply;
 use crate::operating::{operate_immediate, operate_register, operate_shifted};
@@ -420,9 +420,9 @@ pub(crate) fn act(
             cpu, at, memory, true, POST, ready,
         ),
         ReadyKind::LoadBeside => return load_beside(cpu, at, memory, ready),
-        ReadyKind::StoreDown => return store_block(cpu, at, memory, false, false, ready),
+        ReadyKind::StoreDown => return store_block_keeping_base(cpu, at, memory, false, ready),
         ReadyKind::StoreDownBack => return store_block(cpu, at, memory, false, true, ready),
-        ReadyKind::StoreUp => return store_block(cpu, at, memory, true, false, ready),
+        ReadyKind::StoreUp => return store_block_keeping_base(cpu, at, memory, true, ready),
         ReadyKind::StoreUpBack => return store_block(cpu, at, memory, true, true, ready),
         ReadyKind::LoadDown => return load_block(cpu, at, memory, false, false, ready),
         ReadyKind::LoadDownBack => return load_block(cpu, at, memory, false, true, ready),

@@ -106,10 +106,13 @@ fn free_place(memory: &AddressMap, first: u32, count: u32) -> Option<usize>
     if !are_in_page(first, count) {
         return None;
     }
-    match memory.translate(first) {
-        Some(at) if !memory.owns_any(first, at, count) => Some(at),
-        _ => None,
+    let Some(at) = memory.translate(first) else {
+        return None;
+    };
+    if memory.owns_any(first, at, count) {
+        return None;
     }
+    Some(at)
 }
 
 /// Places the words of some bytes in the registers of a list without R15.
@@ -125,7 +128,7 @@ fn place_words(cpu: &mut Cpu, list: u32, bytes: &[u8])
     let mut rest = u64::from(list);
     while rest != 0 {
         let (register, others) = split_lowest(rest);
-        cpu.set_register(register.number(), word_in(bytes, at));
+        cpu.set_current(register.number() as u8, word_in(bytes, at));
         at += 4;
         rest = others;
     }
@@ -169,7 +172,7 @@ fn put_words(cpu: &Cpu, memory: &mut AddressMap, list: u32, first: u32, at: usiz
     let mut rest = u64::from(list);
     while rest != 0 {
         let (register, others) = split_lowest(rest);
-        let value = cpu.register_in(cpu.psr().mode, register.number());
+        let value = cpu.current(register.number() as u8);
         memory.put_word_at(first + offset as u32, at + offset, value);
         offset += 4;
         rest = others;
@@ -323,6 +326,7 @@ pub(crate) fn load_block_with_pc(
 
 /// STM without R15: where the program goes on, or `None` where another turn comes.
 #[tactic(auto, using(crate::proofs::Blocked::stores_block, crate::proofs::Transferred::acts_from))]
+#[inline(always)]
 pub(crate) fn store_block(
     cpu: &mut Cpu,
     at: usize,
@@ -344,4 +348,25 @@ pub(crate) fn store_block(
         return Some(at + 1);
     }
     slowly(cpu, at, memory)
+}
+
+/// STM without R15 that keeps its base, which few programs have: where the program goes on, or
+/// `None` where another turn comes.
+pub(crate) fn store_block_keeping_base(
+    cpu: &mut Cpu,
+    at: usize,
+    memory: &mut AddressMap,
+    is_up: bool,
+    ready: &Ready,
+) -> Option<usize>
+    requires known { MovesBlock false is_up false false ready.now }
+    requires at { at < 2 ^ 24 }
+    requires fetched { IsFetched (bytes_of memory.old) at ready.now.word }
+    ensures state { Acts (is_owned memory.old) cpu.old at (bytes_of memory.old)
+        result cpu.new (bytes_of memory.new) }
+    ensures within { IfSome result (λ next. next ≤ 2 ^ 24) }
+    ensures layout { layout memory.new ≡ layout memory.old }
+    ensures marks { class_of memory.new ≡ class_of memory.old }
+{
+    store_block(cpu, at, memory, is_up, false, ready)
 }

@@ -9,5 +9,6 @@ mod operating;
 mod running;
 mod standing;
 mod transferring;
+mod window;
 
 pub use running::run;

@@ -22,7 +22,7 @@ pub(crate) fn current(cpu: &Cpu, number: u8) -> u32
     requires { number < 15 }
     ensures { result ≡ register_in cpu.now.psr.mode cpu.now number }
 {
-    cpu.register_in(cpu.psr().mode, u32::from(number))
+    cpu.current(number)
 }
 
 /// Sets one of R0 to R14 of the present mode.
@@ -31,7 +31,7 @@ pub(crate) fn set_current(cpu: &mut Cpu, number: u8, value: u32)
     requires { number < 15 }
     ensures { cpu.new ≡ with_register cpu.old number value }
 {
-    cpu.set_register(u32::from(number), value);
+    cpu.set_current(number, value);
 }
 
 /// The core stands at a position.
@@ -56,7 +56,7 @@ pub(crate) fn position(cpu: &Cpu) -> usize
 /// A step at a position, by the way that is right for every word. Where it isn't done, nothing is
 /// changed but where the core stands.
 #[tactic(auto, using(crate::proofs::Positions::done_slowly, crate::proofs::Positions::other_slowly))]
-#[inline(never)]
+#[cold]
 pub(crate) fn slowly(cpu: &mut Cpu, at: usize, memory: &mut AddressMap) -> Option<usize>
     ensures state { Acts (is_owned memory.old) cpu.old at (bytes_of memory.old)
         result cpu.new (bytes_of memory.new) }
@@ -72,7 +72,7 @@ pub(crate) fn slowly(cpu: &mut Cpu, at: usize, memory: &mut AddressMap) -> Optio
 }
 
 /// The turn at a position where no instruction is done. The core stands there then.
-#[inline(never)]
+#[cold]
 pub(crate) fn turn_at(cpu: &mut Cpu, at: usize, memory: &mut AddressMap) -> Turn
     requires { Refuses (is_owned memory.old) (core_at cpu.old at) (bytes_of memory.old) }
     ensures core { cpu.new ≡ core_at cpu.old at }

@@ -12,14 +12,14 @@ loop-rest-preserved c =
     let so_far = c.loop-rest.invariant in
     let more = length_next _ _ _ c.split_lowest-register.ensures.registers in
     let below = c.split_lowest-register.ensures.below so_far.bits in
-    let set = c.set_register.ensures ∙ ap (λ (p : Psr). with_register_in p.mode c.loop-rest.cpu c.number.result c.word_in.result) so_far.status
+    let set = c.set_current.ensures ∙ ap (λ (p : Psr). with_register_in p.mode c.loop-rest.cpu c.number.result c.word_in.result) so_far.status
     ∙ ap (λ (r : ℕ). with_register_in c.args.cpu.now.psr.mode c.loop-rest.cpu r c.word_in.result) c.number.ensures.value in
     record {
       placed = λ p. so_far.placed p
-          ∙ loaded_low c.args.cpu.now.psr.mode (core_at c.loop-rest.cpu p) (core_at c.set_register.new.self p) c.loop-rest.rest c.split_lowest-register.result.1
+          ∙ loaded_low c.args.cpu.now.psr.mode (core_at c.loop-rest.cpu p) (core_at c.set_current.new.self p) c.loop-rest.rest c.split_lowest-register.result.1
           c.split_lowest-register.result.0 c.word_in.result c.loop-rest.at c.args.bytes.now c.split_lowest-register.ensures.registers
           c.word_in.ensures below (ap (λ (s : State). core_at s p) set);
-      status = ap (λ (s : State). s.psr) c.set_register.ensures ∙ so_far.status;
+      status = ap (λ (s : State). s.psr) c.set_current.ensures ∙ so_far.status;
       room = omega (arith, so_far.room, more);
       bits = c.split_lowest-register.ensures.low so_far.bits;
     }

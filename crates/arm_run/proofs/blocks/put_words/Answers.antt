@@ -3,7 +3,6 @@ use Rattle.address_map.proofs.Lending.{page_fits, place_ahead}
 use Rattle.address_map.specs.Memory.{bytes_of}
 use Rattle.arm_core.specs.Listed.{registers_of_list}
 use Rattle.arm_core.specs.State.{register_in}
-use Rattle.arm_core.specs.declared.psr.Psr.{Psr}
 use Rattle.arm_core.proofs.Listing.{few_of_all}
 use Rattle.arm_core.proofs.Lowest.{length_next}
 use Rattle.arm_step.proofs.PageBlocks.{put_next, put_end}
@@ -28,11 +27,11 @@ loop-rest-preserved c =
     let s = c.args.cpu.now in
     let so_far = c.loop-rest.invariant in
     let more = length_next _ _ _ c.split_lowest-register.ensures.registers in
-    let value = c.register_in-value.ensures ∙ ap (λ (p : Psr). register_in p.mode s c.number.result) c.psr.ensures ∙ ap (λ (n : ℕ). register_in s.psr.mode s n) c.number.ensures.value in
+    let value = c.current-value.ensures ∙ ap (λ (n : ℕ). register_in s.psr.mode s n) c.number.ensures.value in
     record {
       stored = so_far.stored
           ∙ put_next c.loop-rest.memory c.put_word_at.new.self (register_in s.psr.mode s) c.args.first c.loop-rest.offset c.loop-rest.rest c.split_lowest-register.result.1
-          c.split_lowest-register.result.0 c.register_in-value.result c.put_word_at.ensures.layout c.put_word_at.ensures.bytes
+          c.split_lowest-register.result.0 c.current-value.result c.put_word_at.ensures.layout c.put_word_at.ensures.bytes
           c.split_lowest-register.ensures.registers value;
       layout = c.put_word_at.ensures.layout ∙ so_far.layout;
       marks = c.put_word_at.ensures.marks ∙ so_far.marks;

@@ -30,6 +30,8 @@ loop-next-init c =
       left = omega arith;
       within = some.1;
       rest = omega arith;
+      position = omega (arith, c.position-at.ensures.within);
+      open = c.closed.ensures c.args.memory.now;
       layout = refl;
       marks = refl;
     }
@@ -121,6 +123,8 @@ loop-next-preserved-then-left-eq0 c =
       left = omega arith;
       within = omega (arith, one, more);
       rest = omega (arith, so_far.rest);
+      position = c.in-Some.ensures.within;
+      open = c.step_at.ensures.open;
       layout = c.step_at.ensures.layout ∙ so_far.layout;
       marks = c.step_at.ensures.marks ∙ so_far.marks;
     }
@@ -143,6 +147,11 @@ loop-next-preserved c =
       left = omega (arith, so_far.left);
       within = so_far.within;
       rest = so_far.rest;
+      position = c.in-Some.ensures.within;
+      open = c.step_at.ensures.open;
       layout = c.step_at.ensures.layout ∙ so_far.layout;
       marks = c.step_at.ensures.marks ∙ so_far.marks;
     }
+
+pub step_at-requires : goal.step_at-requires
+step_at-requires c = record { at = c.loop-next.invariant.position; open = c.loop-next.invariant.open }

@@ -1,8 +1,9 @@
 use Rattle.std.proofs.Common.{◌≡◌, ◌≤◌, ◌<◌, ◌⊎◌, ◌+◌, ◌-◌, ◌*◌, ◌%◌, ◌^◌, false, List, []}
-use Rattle.address_map.specs.Memory.{bytes_of, class_of, is_owned, layout}
+use Rattle.address_map.specs.Memory.{bytes_of, class_of, is_owned, layout, place}
 use Rattle.swi_dispatch_breaks.specs.Breaks.{is_among}
 use Rattle.arm_run.specs.Runs.{AreDone}
 use Rattle.arm_run.specs.Standing.{core_at}
+use Rattle.arm_run.specs.Windows.{IsOpen}
 use Rattle.arm_run.proofs.running.run.Given as goal
 
 -- so far each step was an instruction that was done, and none led to a break
@@ -15,6 +16,8 @@ invariant-loop-next l = record {
   left : l.left ≤ l.stride;
   within : l.stride ≤ l.rest;
   rest : l.rest ≤ l.most;
+  position : l.at ≤ 2 ^ 24;
+  open : IsOpen (place l.memory) l.window;
   layout : layout l.memory ≡ layout l.fn.memory;
   marks : class_of l.memory ≡ class_of l.fn.memory;
 }
