@@ -82,7 +82,7 @@ leads_on_acts owned s s' at w b fetched leads = leads_acts owned s s' at (at + 1
 pub refuses_by : (r : Result (State × Bytes) Turn) (old : State × Bytes) (u : Turn) → r ≡ Err u → Turns old r u old
 refuses_by r old u e = subst (λ (x : Result (State × Bytes) Turn). Turns old x u old) (sym e) (refl, refl)
 
-no_swi_done : (n : ℕ) → turn.Swi n ≢ turn.Done
+pub no_swi_done : (n : ℕ) → turn.Swi n ≢ turn.Done
 no_swi_done n e = cc
 
 pub interrupts : (owned : ℕ → Bool) (s : State) (at : ℕ) (b : Bytes) (r : ReadyWord) → IsFetched b at r.word → Does condition.Always (action.SoftwareInterrupt (field r.word 0 24)) r
@@ -94,3 +94,20 @@ interrupts owned s at b r fetched d = record {
   comes = refuses_by (result_of_step owned (core_at s at) b) (core_at s at, b) _
       (fetched owned s ∙ carried owned (core_at s at) b condition.Always (action.SoftwareInterrupt (field r.word 0 24)) r d refl);
 }
+
+-- the turn of a SWI that was fetched
+pub interrupt_comes : (at w n : ℕ) (b : Bytes) (r : ReadyWord) → IsFetched b at w → r.word ≡ w → n ≡ w % 2 ^ 24 → Does condition.Always (action.SoftwareInterrupt (field r.word 0 24)) r
+    → (owned : ℕ → Bool) (s : State) → result_of_step owned (core_at s at) b ≡ Err (turn.Swi n)
+unfolding result_of_action
+interrupt_comes at w n b r fetched same is d owned s =
+    let there : IsFetched b at r.word = subst (λ (x : ℕ). IsFetched b at x) (sym same) fetched in
+    let number : field r.word 0 24 ≡ n = omega (arith, same, is) in
+    there owned s ∙ carried owned (core_at s at) b condition.Always (action.SoftwareInterrupt (field r.word 0 24)) r d refl
+    ∙ ap (λ (k : ℕ). let e : Result (State × Bytes) Turn = Err (turn.Swi k) in e) number
+
+pub turns_swi : (owned : ℕ → Bool) (s t : State) (at n : ℕ) (b : Bytes) → t ≡ core_at s at → ((o : ℕ → Bool) (x : State) → result_of_step o (core_at x at) b ≡ Err (turn.Swi n))
+    → Turns (t, b) (result_of_step owned t b) (turn.Swi n) (t, b)
+turns_swi owned s t at n b stood comes =
+    refuses_by (result_of_step owned t b) (t, b) (turn.Swi n) (ap (λ (x : State). result_of_step owned x b) stood ∙ comes owned s)
+
+pub ruleset swis = (no_swi_done, turns_swi)

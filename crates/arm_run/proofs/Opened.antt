@@ -21,10 +21,10 @@ none_open w first stir m = record {
   stir = omega (arith, stir);
 }
 
-pub in_window : (m : AddressMap) (w : Window) (at r : ℕ) → IsOpen (place m) w → at ≤ 2 ^ 24 → (r + w.first) % 2 ^ 64 ≡ at → r < 1024 → IsIn w at
-in_window m w at r o small e near = record {
-  from = omega (arith, o.first, small, e, near);
-  below = omega (arith, o.first, small, e, near);
+pub in_window : (w : Window) (at r : ℕ) → w.first ≤ 2 ^ 30 → at ≤ 2 ^ 24 → (r + w.first) % 2 ^ 64 ≡ at → r < 1024 → IsIn w at
+in_window w at r first small e near = record {
+  from = omega (arith, first, small, e, near);
+  below = omega (arith, first, small, e, near);
 }
 
 pub in_limit : (m : AddressMap) (w : Window) (at : ℕ) → IsOpen (place m) w → at ≤ 2 ^ 24 → IsIn w at → at < 2 ^ 24

@@ -51,7 +51,10 @@ pub fn run(
     loop {
         match step_at(cpu, at, memory, ready, &mut window) {
             Some(next) => at = next,
-            None => return (most - rest + (stride - left), Ok(turn_at(cpu, at, memory))),
+            None => return (
+                most - rest + (stride - left),
+                Ok(turn_at(cpu, at, memory, ready, &window)),
+            ),
         }
         left -= 1;
         if left == 0 {
@@ -81,11 +84,11 @@ fn step_at(
     window: &mut Window,
 ) -> Option<usize>
     requires at { at ≤ 2 ^ 24 }
-    requires open { IsOpen (place memory.old) window.old }
+    requires window { IsOpen (place memory.old) window.old }
     ensures state { Acts (is_owned memory.old) cpu.old at (bytes_of memory.old)
         result cpu.new (bytes_of memory.new) }
     ensures within { IfSome result (λ next. next ≤ 2 ^ 24) }
-    ensures open { IsOpen (place memory.new) window.new }
+    ensures window { IsOpen (place memory.new) window.new }
     ensures layout { layout memory.new ≡ layout memory.old }
     ensures marks { class_of memory.new ≡ class_of memory.old }
 {

@@ -1,16 +1,20 @@
 //! The core while its position is kept beside it: any word by the way that is right for all, and
 //! the registers of the present mode.
 
-ghost use Rattle.std.specs.Prelude.{◌≡◌, ◌≢◌, ◌<◌, ◌≤◌, ◌+◌, ◌%◌, ◌^◌, IfSome};
-ghost use Rattle.address_map.specs.Memory.{bytes_of, is_owned, layout, class_of};
-ghost use Rattle.arm_core.specs.State.{register_in, with_register};
+ghost use Rattle.std.specs.Prelude.{◌≡◌, ◌≢◌, ◌<◌, ◌≤◌, ◌+◌, ◌%◌, ◌^◌, ℕ, Bool, ⊤, Err, IfSome, MatchOption};
+ghost use Rattle.address_map.specs.Memory.{bytes_of, is_owned, layout, place, class_of};
+ghost use Rattle.arm_core.specs.State.{State, register_in, with_register};
+ghost use Rattle.arm_core.specs.declared.turn.Turn.{Turn};
 ghost use Rattle.arm_core.specs.declared.turn.Turn.TheVariants.{Done};
 ghost use Rattle.arm_run.specs.Standing.{core_at, Acts, Refuses};
+ghost use Rattle.arm_run.specs.Windows.{IsOpen};
 ghost use Rattle.arm_step.specs.Step.{result_of_step};
 ghost use Rattle.arm_step.specs.Turns.{Turns};
 
+use crate::window::Window;
 use address_map::AddressMap;
 use arm_core::{Cpu, Turn};
+use arm_ready::{ReadyKind, ReadyWords};
 use arm_step::step;
 
 /// How many words the address space has.
@@ -71,10 +75,40 @@ pub(crate) fn slowly(cpu: &mut Cpu, at: usize, memory: &mut AddressMap) -> Optio
     }
 }
 
+/// The number of the SWI at a position, if its word is made ready as one.
+#[tactic(auto, using(crate::proofs::Opened::reaching, crate::proofs::Opened::staying, crate::proofs::Carried::interrupt_comes))]
+#[inline(always)]
+fn interrupt_at(memory: &AddressMap, ready: &ReadyWords, window: &Window, at: usize) -> Option<u32>
+    requires window { IsOpen (place memory.now) window.now }
+    requires at { at ≤ 2 ^ 24 }
+    ensures { MatchOption result ⊤ (λ number. (owned : ℕ → Bool) (s : State) →
+        result_of_step owned (core_at s at) (bytes_of memory.now) ≡ Err (Turn.Swi number)) }
+{
+    if !window.holds(at) {
+        return None;
+    }
+    let word = window.word(memory, at);
+    let entry = ready.at(window.entry(at));
+    entry.known();
+    if entry.word != word || !matches!(entry.kind, ReadyKind::Interrupt) {
+        return None;
+    }
+    Some(word % (1 << 24))
+}
+
 /// The turn at a position where no instruction is done. The core stands there then.
+#[tactic(auto, using(crate::proofs::Carried::swis))]
 #[cold]
-pub(crate) fn turn_at(cpu: &mut Cpu, at: usize, memory: &mut AddressMap) -> Turn
-    requires { Refuses (is_owned memory.old) (core_at cpu.old at) (bytes_of memory.old) }
+pub(crate) fn turn_at(
+    cpu: &mut Cpu,
+    at: usize,
+    memory: &mut AddressMap,
+    ready: &ReadyWords,
+    window: &Window,
+) -> Turn
+    requires refuses { Refuses (is_owned memory.old) (core_at cpu.old at) (bytes_of memory.old) }
+    requires window { IsOpen (place memory.old) window.now }
+    requires at { at ≤ 2 ^ 24 }
     ensures core { cpu.new ≡ core_at cpu.old at }
     ensures bytes { bytes_of memory.new ≡ bytes_of memory.old }
     ensures turn { Turns (cpu.new, bytes_of memory.new)
@@ -85,5 +119,8 @@ pub(crate) fn turn_at(cpu: &mut Cpu, at: usize, memory: &mut AddressMap) -> Turn
     ensures marks { class_of memory.new ≡ class_of memory.old }
 {
     stand(cpu, at);
+    if let Some(number) = interrupt_at(memory, ready, window, at) {
+        return Turn::Swi(number);
+    }
     step(cpu, memory)
 }

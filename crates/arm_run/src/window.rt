@@ -47,16 +47,27 @@ impl Window {
     #[tactic(auto, using(crate::proofs::Opened::reaching))]
     #[inline(always)]
     pub(crate) fn reach(&mut self, memory: &AddressMap, at: usize) -> bool
-        requires open { IsOpen (place memory.now) self.old }
+        requires window { IsOpen (place memory.now) self.old }
         requires at { at ≤ 2 ^ 24 }
-        ensures open { IsOpen (place memory.now) self.new }
+        ensures window { IsOpen (place memory.now) self.new }
         ensures there { result ≡ true → IsIn self.new at }
         ensures below { result ≡ true → at < 2 ^ 24 }
     {
-        if at.wrapping_sub(self.first) < WORDS {
+        if self.holds(at) {
             return true;
         }
         self.open(memory, at)
+    }
+
+    /// Whether a position lies in it.
+    #[tactic(auto, using(crate::proofs::Opened::reaching))]
+    #[inline(always)]
+    pub(crate) fn holds(&self, at: usize) -> bool
+        requires first { self.now.first ≤ 2 ^ 30 }
+        requires at { at ≤ 2 ^ 24 }
+        ensures { result ≡ true → IsIn self.now at }
+    {
+        at.wrapping_sub(self.first) < WORDS
     }
 
     /// Moves to the page of a position, if that is mapped and isn't the gate's.
@@ -64,7 +75,7 @@ impl Window {
     #[cold]
     fn open(&mut self, memory: &AddressMap, at: usize) -> bool
         requires { IsOpen (place memory.now) self.old }
-        ensures open { IsOpen (place memory.now) self.new }
+        ensures window { IsOpen (place memory.now) self.new }
         ensures there { result ≡ true → IsIn self.new at }
         ensures below { result ≡ true → at < 2 ^ 24 }
     {
@@ -93,7 +104,7 @@ impl Window {
     #[tactic(auto, using(crate::proofs::Opened::looking))]
     #[inline(always)]
     pub(crate) fn word(&self, memory: &AddressMap, at: usize) -> u32
-        requires open { IsOpen (place memory.now) self.now }
+        requires window { IsOpen (place memory.now) self.now }
         requires there { IsIn self.now at }
         requires below { at < 2 ^ 24 }
         ensures { IsFetched (bytes_of memory.now) at result }

@@ -31,7 +31,7 @@ loop-next-init c =
       within = some.1;
       rest = omega arith;
       position = omega (arith, c.position-at.ensures.within);
-      open = c.closed.ensures c.args.memory.now;
+      window = c.closed-window.ensures c.args.memory.now;
       layout = refl;
       marks = refl;
     }
@@ -39,7 +39,11 @@ loop-next-init c =
 pub turn_at-requires : goal.turn_at-requires
 turn_at-requires c =
     let acts = c.in-None.ensures.state in
-    refuses_so _ _ _ _ _ _ (is_owned-same _ _ c.step_at.ensures.marks) acts.0 acts.1 acts.2
+    record {
+      refuses = refuses_so _ _ _ _ _ _ (is_owned-same _ _ c.step_at.ensures.marks) acts.0 acts.1 acts.2;
+      window = c.step_at.ensures.window;
+      at = c.loop-next.invariant.position;
+    }
 
 pub returns-in-None : goal.returns-in-None
 returns-in-None c =
@@ -124,7 +128,7 @@ loop-next-preserved-then-left-eq0 c =
       within = omega (arith, one, more);
       rest = omega (arith, so_far.rest);
       position = c.in-Some.ensures.within;
-      open = c.step_at.ensures.open;
+      window = c.step_at.ensures.window;
       layout = c.step_at.ensures.layout ∙ so_far.layout;
       marks = c.step_at.ensures.marks ∙ so_far.marks;
     }
@@ -148,10 +152,10 @@ loop-next-preserved c =
       within = so_far.within;
       rest = so_far.rest;
       position = c.in-Some.ensures.within;
-      open = c.step_at.ensures.open;
+      window = c.step_at.ensures.window;
       layout = c.step_at.ensures.layout ∙ so_far.layout;
       marks = c.step_at.ensures.marks ∙ so_far.marks;
     }
 
 pub step_at-requires : goal.step_at-requires
-step_at-requires c = record { at = c.loop-next.invariant.position; open = c.loop-next.invariant.open }
+step_at-requires c = record { at = c.loop-next.invariant.position; window = c.loop-next.invariant.window }

@@ -17,7 +17,7 @@ invariant-loop-next l = record {
   within : l.stride ≤ l.rest;
   rest : l.rest ≤ l.most;
   position : l.at ≤ 2 ^ 24;
-  open : IsOpen (place l.memory) l.window;
+  window : IsOpen (place l.memory) l.window;
   layout : layout l.memory ≡ layout l.fn.memory;
   marks : class_of l.memory ≡ class_of l.fn.memory;
 }
