@@ -25,3 +25,6 @@ pub fetches : (at w : ℕ) (b : Bytes) (r : Result ℕ Fault) → at < 2 ^ 24 �
 unfolding result_of_step
 fetches at w b r h other e is owned s =
     ap (at_gate owned (core_at s at) b) (no_gate at h other) ∙ ap (executed_if_fetched owned (core_at s at) b) (loaded_there b at r h e ∙ is)
+
+pub fetched_by : (b : Bytes) (at w : ℕ) → at < 2 ^ 24 → word_loaded b (at * 4) ≡ Ok w → at * 4 ≢ 0x03800000 → IsFetched b at w
+fetched_by b at w h e other = fetches at w b (word_loaded b (at * 4)) h other refl e

@@ -4,7 +4,6 @@ pub mod Carried
 pub mod Fetching
 pub mod Jumped
 pub mod Multiplied
-pub mod Opened
 pub mod OperandsRead
 pub mod Positions
 pub mod StepByStep

@@ -9,6 +9,5 @@ mod operating;
 mod running;
 mod standing;
 mod transferring;
-mod window;
 
 pub use running::run;

@@ -5,16 +5,16 @@ ghost use Rattle.address_map.specs.Memory.{bytes_of, is_owned, layout, place, cl
 ghost use Rattle.arm_core.specs.declared.turn.Turn.TheVariants.{Done};
 ghost use Rattle.arm_run.specs.Standing.{Acts};
 ghost use Rattle.arm_run.specs.Runs.{AreDone, StopsBy};
-ghost use Rattle.arm_run.specs.Windows.{IsOpen};
+ghost use Rattle.arm_window.specs.Windows.{IsOpen};
 ghost use Rattle.arm_step.specs.Step.{result_of_step};
 ghost use Rattle.arm_step.specs.Turns.{Turns};
 
 use crate::act::act;
-use crate::standing::{position, slowly, stand, turn_at};
-use crate::window::Window;
+use crate::standing::{fetch, position, slowly, stand, turn_at};
 use address_map::AddressMap;
 use arm_core::{Cpu, Turn};
 use arm_ready::ReadyWords;
+use arm_window::Window;
 use profile::Stop;
 use swi_dispatch_breaks::Breaks;
 
@@ -74,7 +74,7 @@ pub fn run(
 
 /// A step at a position. Answers where the program goes on, or `None` where another turn comes than
 /// that of an instruction that is done; nothing is changed then.
-#[tactic(auto, using(crate::proofs::Opened::staying))]
+#[tactic(auto, using(arm_window::proofs::Opened::stays_open))]
 #[inline(always)]
 fn step_at(
     cpu: &mut Cpu,
@@ -95,7 +95,7 @@ fn step_at(
     if !window.reach(memory, at) {
         return slowly(cpu, at, memory);
     }
-    let word = window.word(memory, at);
+    let word = fetch(memory, window, at);
     let place = window.entry(at);
     ready.prepare(place, word);
     let entry = ready.at(place);

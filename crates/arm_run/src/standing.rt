@@ -6,16 +6,16 @@ ghost use Rattle.address_map.specs.Memory.{bytes_of, is_owned, layout, place, cl
 ghost use Rattle.arm_core.specs.State.{State, register_in, with_register};
 ghost use Rattle.arm_core.specs.declared.turn.Turn.{Turn};
 ghost use Rattle.arm_core.specs.declared.turn.Turn.TheVariants.{Done};
-ghost use Rattle.arm_run.specs.Standing.{core_at, Acts, Refuses};
-ghost use Rattle.arm_run.specs.Windows.{IsOpen};
+ghost use Rattle.arm_run.specs.Standing.{core_at, Acts, IsFetched, Refuses};
+ghost use Rattle.arm_window.specs.Windows.{IsIn, IsOpen};
 ghost use Rattle.arm_step.specs.Step.{result_of_step};
 ghost use Rattle.arm_step.specs.Turns.{Turns};
 
-use crate::window::Window;
 use address_map::AddressMap;
 use arm_core::{Cpu, Turn};
 use arm_ready::{ReadyKind, ReadyWords};
 use arm_step::step;
+use arm_window::Window;
 
 /// How many words the address space has.
 pub(crate) const POSITIONS: usize = 1 << 24;
@@ -75,8 +75,20 @@ pub(crate) fn slowly(cpu: &mut Cpu, at: usize, memory: &mut AddressMap) -> Optio
     }
 }
 
+/// The word at a position in a window.
+#[tactic(auto, using(crate::proofs::Fetching::fetched_by))]
+#[inline(always)]
+pub(crate) fn fetch(memory: &AddressMap, window: &Window, at: usize) -> u32
+    requires window { IsOpen (place memory.now) window.now }
+    requires there { IsIn window.now at }
+    requires below { at < 2 ^ 24 }
+    ensures { IsFetched (bytes_of memory.now) at result }
+{
+    window.word(memory, at)
+}
+
 /// The number of the SWI at a position, if its word is made ready as one.
-#[tactic(auto, using(crate::proofs::Opened::reaching, crate::proofs::Opened::staying, crate::proofs::Carried::interrupt_comes))]
+#[tactic(auto, using(arm_window::proofs::Opened::in_limit, crate::proofs::Carried::interrupt_comes))]
 #[inline(always)]
 fn interrupt_at(memory: &AddressMap, ready: &ReadyWords, window: &Window, at: usize) -> Option<u32>
     requires window { IsOpen (place memory.now) window.now }
@@ -87,7 +99,7 @@ fn interrupt_at(memory: &AddressMap, ready: &ReadyWords, window: &Window, at: us
     if !window.holds(at) {
         return None;
     }
-    let word = window.word(memory, at);
+    let word = fetch(memory, window, at);
     let entry = ready.at(window.entry(at));
     entry.known();
     if entry.word != word || !matches!(entry.kind, ReadyKind::Interrupt) {

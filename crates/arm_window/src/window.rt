@@ -1,39 +1,42 @@
-//! The page that a run of steps is in: where its words lie in the store, so that a word is fetched
-//! without a look-up of its page.
+//! A window: where the words of a page lie.
 
-ghost use Rattle.std.specs.Prelude.{◌≡◌, ◌≤◌, ◌<◌, ◌+◌, ◌^◌, true};
+ghost use Rattle.std.specs.Prelude.{◌≡◌, ◌≢◌, ◌≤◌, ◌<◌, ◌+◌, ◌*◌, ◌^◌, Ok, true};
+ghost use Rattle.address_map.specs.Bytes.{word_loaded};
 ghost use Rattle.address_map.specs.Memory.{bytes_of, place};
-ghost use Rattle.arm_run.specs.Standing.{IsFetched};
 
-use crate::standing::POSITIONS;
 use address_map::AddressMap;
-use profile::memory_map::{PAGE_SIZE, RETURN_GATE};
+use profile::memory_map::{ADDRESS_LIMIT, PAGE_SIZE, RETURN_GATE};
 
 /// How many words a page has.
 const WORDS: usize = 1024;
+
+/// How many positions there are, words of the address space.
+const POSITIONS: usize = ADDRESS_LIMIT as usize / 4;
 
 /// Where no page begins.
 const NOWHERE: usize = 1 << 30;
 
 /// Where the words of a page lie. No window is opened on the page of the gate.
 #[derive(Clone, Copy)]
-pub(crate) struct Window {
+pub struct Window {
     /// The position of the first word.
     first: usize,
     /// Where that lies in the store.
     place: usize,
-    /// What keeps ready words at equal places of two pages mostly apart.
+    /// What keeps apart, mostly, what is kept for words at equal places of two pages.
     stir: usize,
+    pub ghost low: { first ≤ 2 ^ 30 },
+    pub ghost stirred: { stir < 1024 },
 }
 
 impl Window {
     ghost use Rattle.address_map.specs.declared.map.AddressMap.{AddressMap};
-    ghost use Rattle.arm_run.specs.Windows.{IsOpen, IsIn};
+    ghost use Rattle.arm_window.specs.Windows.{IsOpen, IsIn};
 
     /// A window of no page.
     #[tactic(auto, using(crate::proofs::Opened::none_open))]
     #[inline(always)]
-    pub(crate) fn closed() -> Window
+    pub fn closed() -> Window
         ensures { (m : AddressMap) → IsOpen (place m) result }
     {
         Window {
@@ -46,7 +49,7 @@ impl Window {
     /// Whether it is the window of a position. If it isn't it is opened there, where it can be.
     #[tactic(auto, using(crate::proofs::Opened::reaching))]
     #[inline(always)]
-    pub(crate) fn reach(&mut self, memory: &AddressMap, at: usize) -> bool
+    pub fn reach(&mut self, memory: &AddressMap, at: usize) -> bool
         requires window { IsOpen (place memory.now) self.old }
         requires at { at ≤ 2 ^ 24 }
         ensures window { IsOpen (place memory.now) self.new }
@@ -62,9 +65,8 @@ impl Window {
     /// Whether a position lies in it.
     #[tactic(auto, using(crate::proofs::Opened::reaching))]
     #[inline(always)]
-    pub(crate) fn holds(&self, at: usize) -> bool
-        requires first { self.now.first ≤ 2 ^ 30 }
-        requires at { at ≤ 2 ^ 24 }
+    pub fn holds(&self, at: usize) -> bool
+        requires { at ≤ 2 ^ 24 }
         ensures { result ≡ true → IsIn self.now at }
     {
         at.wrapping_sub(self.first) < WORDS
@@ -103,21 +105,21 @@ impl Window {
     /// The word at a position.
     #[tactic(auto, using(crate::proofs::Opened::looking))]
     #[inline(always)]
-    pub(crate) fn word(&self, memory: &AddressMap, at: usize) -> u32
+    pub fn word(&self, memory: &AddressMap, at: usize) -> u32
         requires window { IsOpen (place memory.now) self.now }
         requires there { IsIn self.now at }
         requires below { at < 2 ^ 24 }
-        ensures { IsFetched (bytes_of memory.now) at result }
+        ensures word { word_loaded (bytes_of memory.now) (at * 4) ≡ Ok result }
+        ensures gate { at * 4 ≢ 0x03800000 }
     {
         memory.word_at(at as u32 * 4, self.place + 4 * (at - self.first))
     }
 
-    /// Where the ready word of a position is kept.
+    /// A number below 1024 for a position, at which something may be kept for its word.
     #[tactic(auto, using(crate::proofs::Opened::kept_below))]
     #[inline(always)]
-    pub(crate) fn entry(&self, at: usize) -> usize
-        requires there { IsIn self.now at }
-        requires stir { self.now.stir < 1024 }
+    pub fn entry(&self, at: usize) -> usize
+        requires { IsIn self.now at }
         ensures { result < 1024 }
     {
         (at - self.first) ^ self.stir
