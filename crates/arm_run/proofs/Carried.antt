@@ -1,5 +1,5 @@
 -- What a word does whose instruction is known, and where branches lead.
-use Rattle.std.proofs.Common.{◌≡◌, ◌≢◌, ◌<◌, ◌≤◌, ◌+◌, ◌*◌, ◌/◌, ◌%◌, ◌^◌, ℕ, Bool, true, false, Result, Ok, Err, refl, sym, ◌∙◌, ap, subst, arith, if◌then◌else◌}
+use Rattle.std.proofs.Common.{◌≡◌, ◌≢◌, ◌+◌, ◌*◌, ◌/◌, ◌%◌, ◌^◌, ℕ, Bool, true, false, Result, Ok, Err, refl, sym, ◌∙◌, ap, subst, arith, if◌then◌else◌}
 use Rattle.profile.specs.Word.{field}
 use Rattle.profile.specs.declared.fault.Fault.{Fault}
 use Rattle.address_map.specs.Bytes.{Bytes}
@@ -10,7 +10,7 @@ use Rattle.arm_decode.specs.declared.action.Action.TheVariants as action
 use Rattle.arm_decode.specs.declared.condition.Condition.{Condition}
 use Rattle.arm_decode.specs.declared.condition.Condition.TheVariants as condition
 use Rattle.arm_core.specs.Conditions.{condition_holds}
-use Rattle.arm_core.specs.State.{State, with_pc, with_register}
+use Rattle.arm_core.specs.State.{State, with_register}
 use Rattle.arm_core.specs.Effect.{with_next_pc}
 use Rattle.arm_core.specs.Psr.{psr_bits}
 use Rattle.arm_core.specs.declared.turn.Turn.{Turn}
@@ -19,7 +19,7 @@ use Rattle.arm_step.specs.Step.{acted_if_decoded, result_of_action, result_of_wo
 use Rattle.arm_step.specs.Turns.{Turns}
 use Rattle.arm_ready.specs.Kinds.{Does, Branches}
 use Rattle.arm_ready.specs.ReadyWord.{ReadyWord}
-use Rattle.arm_run.specs.Standing.{core_at, LeadsTo, LeadsOn, IsFetched, Refuses, Acts}
+use Rattle.arm_run.specs.Standing.{core_at, LeadsTo, LeadsOn, IsFetched, Refuses}
 use Rattle.arm_run.proofs.Positions.{with_counter, next_position}
 
 abbrev if_carried : (ℕ → Bool) → State → Bytes → Result (Condition × Action) Fault → Bool → Result (State × Bytes) Turn

@@ -1,12 +1,12 @@
 -- What is fetched at a position.
-use Rattle.std.proofs.Common.{◌≡◌, ◌≢◌, ◌<◌, ◌+◌, ◌*◌, ◌/◌, ◌%◌, ◌^◌, ℕ, Bool, true, false, nat_eq, Result, Ok, Err, refl, sym, ◌∙◌, ap, subst, arith, if◌then◌else◌}
+use Rattle.std.proofs.Common.{◌≡◌, ◌≢◌, ◌<◌, ◌*◌, ◌%◌, ◌^◌, ℕ, Bool, false, nat_eq, Result, Ok, Err, refl, sym, ◌∙◌, ap, arith, if◌then◌else◌}
 use Rattle.std.proofs.lemmas.Bool.Decides.{nat_tests}
 use Rattle.profile.specs.declared.fault.Fault.{Fault}
 use Rattle.address_map.specs.Bytes.{Bytes, word_loaded}
 use Rattle.arm_core.specs.State.{State}
 use Rattle.arm_core.specs.declared.turn.Turn.{Turn}
 use Rattle.arm_core.specs.declared.turn.Turn.TheVariants as turn
-use Rattle.arm_step.specs.Step.{executed_if_fetched, result_of_word, result_of_step}
+use Rattle.arm_step.specs.Step.{executed_if_fetched, result_of_step}
 use Rattle.arm_run.specs.Standing.{core_at, IsFetched}
 
 counter : (at : ℕ) → at < 2 ^ 24 → at % 2 ^ 24 * 4 ≡ at * 4

@@ -1,6 +1,5 @@
 -- MOV to R15 leads there.
-use Rattle.std.proofs.Common.{◌≡◌, ◌<◌, ◌+◌, ◌*◌, ◌/◌, ◌%◌, ◌^◌, ℕ, Bool, true, false, nat_eq, Result, Ok, refl, sym, ◌∙◌, ap, subst, arith, if◌then◌else◌}
-use Rattle.profile.specs.Word.{field, bit_of}
+use Rattle.std.proofs.Common.{◌≡◌, ◌+◌, ◌*◌, ◌/◌, ◌%◌, ◌^◌, ℕ, Bool, true, false, Result, Ok, refl, sym, ◌∙◌, ap, subst, arith, if◌then◌else◌}
 use Rattle.profile.specs.declared.shift.Shifted.{Shifted}
 use Rattle.profile.specs.declared.word.Sum.{Sum}
 use Rattle.address_map.specs.Bytes.{Bytes}
@@ -12,8 +11,8 @@ use Rattle.arm_decode.specs.declared.condition.Condition.TheVariants as conditio
 use Rattle.arm_decode.specs.declared.operand.Operand.{Operand}
 use Rattle.arm_decode.specs.declared.operand.Operand.TheVariants as operand
 use Rattle.arm_decode.specs.declared.operation.Operation.{Operation}
-use Rattle.arm_core.specs.Effect.{plain_operand, with_next_pc, with_status}
-use Rattle.arm_core.specs.Operand.{operand_of, words_ahead, unshifted_value}
+use Rattle.arm_core.specs.Effect.{plain_operand, with_status}
+use Rattle.arm_core.specs.Operand.{operand_of, words_ahead}
 use Rattle.arm_core.specs.Operate.{sum_of_operation, state_after_result, state_after_operate}
 use Rattle.arm_core.specs.State.{State, register_in, with_pc}
 use Rattle.arm_core.specs.declared.turn.Turn.{Turn}

@@ -1,5 +1,5 @@
 -- Positions as program counters, and the steps that are taken there by the way that is right for every word.
-use Rattle.std.proofs.Common.{◌≡◌, ◌≢◌, ◌<◌, ◌≤◌, ◌+◌, ◌*◌, ◌/◌, ◌%◌, ◌^◌, ℕ, Bool, Option, Some, None, Result, Ok, Err, refl, sym, ◌∙◌, ap, subst, arith}
+use Rattle.std.proofs.Common.{◌≡◌, ◌≢◌, ◌<◌, ◌+◌, ◌*◌, ◌/◌, ◌%◌, ◌^◌, ℕ, Bool, Result, Ok, Err, sym, ◌∙◌, ap, subst, arith}
 use Rattle.address_map.specs.Bytes.{Bytes}
 use Rattle.arm_core.specs.State.{State, with_pc}
 use Rattle.arm_core.specs.Effect.{with_next_pc}
@@ -7,7 +7,7 @@ use Rattle.arm_core.specs.declared.turn.Turn.{Turn}
 use Rattle.arm_core.specs.declared.turn.Turn.TheVariants as turn
 use Rattle.arm_step.specs.Step.{result_of_step}
 use Rattle.arm_step.specs.Turns.{Turns}
-use Rattle.arm_run.specs.Standing.{core_at, Acts, Refuses}
+use Rattle.arm_run.specs.Standing.{core_at, Refuses}
 
 pub with_counter : (s : State) (p q : ℕ) → p ≡ q → (let t : State = record s { pc = p } in let u : State = record s { pc = q } in t ≡ u)
 with_counter s p q e = ap (λ (x : ℕ). let t : State = record s { pc = x } in t) e

@@ -1,5 +1,5 @@
 -- Steps one after another, one more at a time.
-use Rattle.std.proofs.Common.{◌≡◌, ◌⊎◌, ◌+◌, ℕ, zero, suc, Bool, false, List, [], refl, sym, ◌∙◌, ap, subst, add-one}
+use Rattle.std.proofs.Common.{◌≡◌, ◌⊎◌, ◌+◌, ℕ, Bool, false, List, [], sym, ◌∙◌, ap, subst, add-one}
 use Rattle.address_map.specs.Bytes.{Bytes}
 use Rattle.arm_core.specs.State.{State}
 use Rattle.arm_core.specs.declared.turn.Turn.{Turn}
@@ -7,7 +7,7 @@ use Rattle.arm_core.specs.declared.turn.Turn.TheVariants as turn
 use Rattle.arm_step.specs.Step.{result_of_step}
 use Rattle.arm_step.specs.Turns.{Turns}
 use Rattle.swi_dispatch_breaks.specs.Breaks.{is_among}
-use Rattle.arm_run.specs.Runs.{AreDone, IsOneMore}
+use Rattle.arm_run.specs.Runs.{AreDone}
 use Rattle.arm_run.specs.Standing.{Refuses}
 
 pub none_done : (owned : ℕ → Bool) (breaks : List ℕ) (n : ℕ) (old new : State × Bytes) → n ≡ 0 → new ≡ old → AreDone owned breaks n old new

@@ -1,5 +1,5 @@
 -- Data processing leads on.
-use Rattle.std.proofs.Common.{◌≡◌, ◌<◌, ◌+◌, ◌%◌, ◌^◌, ℕ, Bool, true, false, not, ◌&&◌, nat_eq, Result, Ok, refl, sym, ◌∙◌, ap, subst, arith}
+use Rattle.std.proofs.Common.{◌≡◌, ◌<◌, ◌+◌, ℕ, Bool, true, false, not, ◌&&◌, nat_eq, Result, Ok, refl, sym, ◌∙◌, ap, subst}
 use Rattle.profile.specs.Word.{field}
 use Rattle.profile.specs.declared.shift.Shifted.{Shifted}
 use Rattle.profile.specs.declared.word.Sum.{Sum}
@@ -12,7 +12,7 @@ use Rattle.arm_decode.specs.declared.condition.Condition.TheVariants as conditio
 use Rattle.arm_decode.specs.declared.operand.Operand.{Operand}
 use Rattle.arm_decode.specs.declared.operand.Operand.TheVariants as operand
 use Rattle.arm_decode.specs.declared.operation.Operation.{Operation}
-use Rattle.arm_core.specs.Effect.{plain_operand, with_next_pc}
+use Rattle.arm_core.specs.Effect.{plain_operand}
 use Rattle.arm_core.specs.Operand.{operand_of, words_ahead, rotated_immediate, unshifted_value, shifted_value}
 use Rattle.arm_core.specs.Operate.{sum_of_operation, state_after_result, state_after_operate}
 use Rattle.arm_core.specs.State.{State, register_in}

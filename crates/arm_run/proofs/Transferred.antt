@@ -1,5 +1,5 @@
 -- LDR and STR lead on.
-use Rattle.std.proofs.Common.{◌≡◌, ◌<◌, ◌≤◌, ◌+◌, ◌-◌, ◌*◌, ◌/◌, ◌%◌, ◌^◌, ℕ, Bool, true, false, nat_eq, Option, Some, Result, Ok, Err, refl, sym, ◌∙◌, ap, subst, arith, if◌then◌else◌}
+use Rattle.std.proofs.Common.{◌≡◌, ◌<◌, ◌+◌, ◌-◌, ◌*◌, ◌%◌, ◌^◌, ℕ, Bool, true, false, nat_eq, Option, Result, Ok, refl, sym, ◌∙◌, ap, subst, arith, if◌then◌else◌}
 use Rattle.std.proofs.lemmas.Bool.Decides.{nat_tests}
 use Rattle.profile.specs.Outcome.{bind}
 use Rattle.profile.specs.Word.{field, bit_of}
@@ -23,7 +23,7 @@ use Rattle.arm_core.specs.State.{State, register_in, with_register}
 use Rattle.arm_core.specs.declared.turn.Turn.{Turn}
 use Rattle.arm_core.specs.declared.turn.Turn.TheVariants as turn
 use Rattle.arm_step.specs.Step.{or_fault, result_of_action, result_of_step, result_of_word}
-use Rattle.arm_step.specs.Transfers.{address_by, moved_base, moved_by, offset_amount, result_of_load, result_of_store, result_of_transfer, transfer_address, value_loaded, value_stored, with_base}
+use Rattle.arm_step.specs.Transfers.{address_by, moved_base, moved_by, result_of_load, result_of_store, result_of_transfer, transfer_address, value_loaded, value_stored, with_base}
 use Rattle.arm_step.specs.Turns.{Turns}
 use Rattle.arm_ready.specs.Kinds.{Transfers, TransfersByNumber, TransfersByRegister}
 use Rattle.arm_ready.specs.ReadyWord.{ReadyWord}

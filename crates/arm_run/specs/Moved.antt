@@ -1,6 +1,6 @@
 -- What LDR and STR leave, but for the position of the core, where neither the base nor the register that is loaded or stored is R15, and the
 -- base is changed by a sum.
-use Rattle.std.specs.Prelude.{◌≡◌, ◌+◌, ◌%◌, ◌^◌, ℕ, Bool, true, false, if◌then◌else◌, Ok}
+use Rattle.std.specs.Prelude.{◌≡◌, ◌+◌, ◌%◌, ◌^◌, ℕ, Bool, true, false, Ok}
 use Rattle.address_map.specs.Bytes.{Bytes}
 use Rattle.arm_decode.specs.Refusals.{writes_base}
 use Rattle.arm_decode.specs.declared.address.Indexing.{Indexing}

@@ -1,11 +1,11 @@
-use Rattle.std.proofs.Common.{◌≡◌, ◌+◌, ◌∙◌, ℕ, refl, sym, ap, length}
+use Rattle.std.proofs.Common.{◌≡◌, ◌+◌, ◌∙◌, ℕ, sym, ap, length}
 use Rattle.address_map.specs.Memory.{bytes_of}
 use Rattle.arm_core.specs.Listed.{registers_of_list}
-use Rattle.arm_core.specs.State.{State, with_register}
+use Rattle.arm_core.specs.State.{with_register}
 use Rattle.arm_ready.specs.ReadyWord.{ReadyWord}
 use Rattle.arm_step.specs.PageWords.{words_in}
 use Rattle.arm_step.specs.Words.{words_loaded}
-use Rattle.arm_run.specs.Blocked.{block_first, with_block_base_after}
+use Rattle.arm_run.specs.Blocked.{with_block_base_after}
 use Rattle.arm_run.proofs.Blocked.{is_block_loaded, base_written, base_left, placed_so}
 use Rattle.arm_run.proofs.blocks.load_registers.Goals as goal
 use Rattle.arm_run.proofs.blocks.load_registers.Goals.{then-writes_back, else-writes_back}

@@ -1,11 +1,11 @@
-use Rattle.std.proofs.Common.{◌≡◌, ◌+◌, ◌∙◌, ℕ, refl, sym, ap, length, true}
+use Rattle.std.proofs.Common.{◌≡◌, ◌+◌, ◌∙◌, ℕ, sym, ap, length, true}
 use Rattle.address_map.specs.Memory.{bytes_of}
 use Rattle.arm_core.specs.Listed.{registers_of_list}
 use Rattle.arm_core.specs.State.{State, with_register}
 use Rattle.arm_ready.specs.ReadyWord.{ReadyWord}
 use Rattle.arm_step.specs.PageWords.{words_in}
 use Rattle.arm_step.specs.Words.{words_loaded}
-use Rattle.arm_run.specs.Blocked.{block_first, with_block_base_after}
+use Rattle.arm_run.specs.Blocked.{with_block_base_after}
 use Rattle.arm_run.specs.Standing.{core_at}
 use Rattle.arm_run.proofs.Blocked.{is_block_loaded, base_written_at, base_left_at, each_so}
 use Rattle.arm_run.proofs.blocks.load_registers_with_pc.Goals as goal

@@ -1,6 +1,5 @@
-use Rattle.std.proofs.Common.{ℕ, ap, sym, ◌∙◌, arith, length}
+use Rattle.std.proofs.Common.{ℕ, ap, sym, ◌∙◌, arith}
 use Rattle.arm_core.specs.State.{State, with_register_in}
-use Rattle.arm_core.specs.declared.psr.Mode.{Mode}
 use Rattle.arm_core.specs.declared.psr.Psr.{Psr}
 use Rattle.arm_core.proofs.Lowest.{length_next}
 use Rattle.arm_step.proofs.PageBlocks.{loaded_low, loaded_end}

@@ -1,4 +1,4 @@
-use Rattle.std.proofs.Common.{◌≡◌, ◌+◌, ◌*◌, ◌%◌, ◌^◌, ◌∙◌, ℕ, ap}
+use Rattle.std.proofs.Common.{◌+◌, ◌*◌, ◌%◌, ◌^◌, ◌∙◌, ℕ, ap}
 use Rattle.arm_core.specs.Psr.{psr_bits}
 use Rattle.arm_core.specs.State.{with_register}
 use Rattle.arm_ready.specs.ReadyWord.{ReadyWord}

@@ -1,12 +1,10 @@
-use Rattle.std.proofs.Common.{◌≡◌, ◌<◌, ◌≤◌, ◌⊎◌, ◌+◌, ◌-◌, ◌*◌, ◌%◌, ◌^◌, ◌∙◌, ℕ, Bool, List, [], true, false, inl, inr, refl, sym, ap, subst, arith}
-use Rattle.address_map.specs.Bytes.{Bytes}
-use Rattle.address_map.specs.Memory.{bytes_of, class_of, is_owned}
+use Rattle.std.proofs.Common.{◌≡◌, ◌<◌, ◌≤◌, ◌⊎◌, ◌+◌, ◌-◌, ◌*◌, ◌%◌, ◌^◌, ◌∙◌, ℕ, [], false, inl, inr, refl, sym, ap, subst, arith}
+use Rattle.address_map.specs.Memory.{bytes_of, is_owned}
 use Rattle.address_map.proofs.Words.{is_owned-same}
 use Rattle.arm_core.specs.State.{State}
 use Rattle.arm_core.specs.declared.turn.Turn.TheVariants as turn
 use Rattle.swi_dispatch_breaks.specs.Breaks.{is_among}
-use Rattle.arm_run.specs.Runs.{AreDone}
-use Rattle.arm_run.specs.Standing.{core_at, Refuses}
+use Rattle.arm_run.specs.Standing.{core_at}
 use Rattle.arm_run.proofs.StepByStep.{none_done, one_more_done, same_count, same_pair, none_among, refuses_so, turns_so}
 use Rattle.arm_run.proofs.running.run.Goals as goal
 use Rattle.arm_run.proofs.running.run.Goals.{then-is_empty, else-is_empty}

@@ -1,4 +1,4 @@
-use Rattle.std.proofs.Common.{◌≡◌, ◌≤◌, ◌<◌, ◌⊎◌, ◌+◌, ◌-◌, ◌*◌, ◌%◌, ◌^◌, false, List, []}
+use Rattle.std.proofs.Common.{◌≡◌, ◌≤◌, ◌<◌, ◌⊎◌, ◌+◌, ◌-◌, ◌*◌, ◌%◌, ◌^◌, false, []}
 use Rattle.address_map.specs.Memory.{bytes_of, class_of, is_owned, layout, place}
 use Rattle.swi_dispatch_breaks.specs.Breaks.{is_among}
 use Rattle.arm_run.specs.Runs.{AreDone}
