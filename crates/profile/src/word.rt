@@ -1,6 +1,6 @@
 //! Words: numbers below 2^32, their bits, and their sums with carry and signed overflow.
 
-ghost use Rattle.std.specs.Prelude.{◌≡◌, ◌<◌, ◌^◌};
+ghost use Rattle.std.specs.Prelude.{◌≡◌, ◌<◌, ◌+◌, ◌%◌, ◌^◌, true};
 ghost use Rattle.std.specs.Int.{bit_not, w32};
 ghost use Rattle.profile.specs.Word.{bit_of};
 ghost use Rattle.profile.specs.Sums.{sum_of, difference_of};
@@ -42,5 +42,27 @@ pub fn add(left: u32, right: u32, carry: bool) -> Sum
 pub fn subtract(left: u32, right: u32, carry: bool) -> Sum
     ensures { result ≡ difference_of left right carry }
 {
-    add(left, !right, carry)
+    if !carry {
+        return add(left, !right, false);
+    }
+    let value = left.wrapping_sub(right);
+    Sum {
+        value,
+        carry: left >= right,
+        overflow: has_other_sign(left, right, value),
+    }
+}
+
+/// Whether a difference has another sign than the exact signed one, which the comparison of the two
+/// words tells.
+#[inline(always)]
+fn has_other_sign(left: u32, right: u32, value: u32) -> bool
+    requires { (value + right) % 2 ^ 32 ≡ left }
+    ensures { result ≡ (difference_of left right true).overflow }
+{
+    if left.cast_signed() < right.cast_signed() {
+        value < 1 << 31
+    } else {
+        value >= 1 << 31
+    }
 }
