@@ -8,7 +8,7 @@ ghost use Rattle.byte_writes.specs.Put.{word_count as word_count_told, words_fau
 ghost use Rattle.command_shell.specs.Session.{script_state};
 ghost use Rattle.image_loader.specs.Entries.{Entry};
 ghost use Rattle.profile.specs.Outcome.{Leaves};
-ghost use Rattle.swi_dispatch_guest.specs.Parts.{state_of};
+ghost use Rattle.debugger.specs.swi_dispatch_guest.specs.Parts.{state_of};
 
 use address_map::AddressMap;
 use command_shell::Session;

@@ -15,9 +15,9 @@ use Rattle.assembler.specs.declared.error.AsmError.{AsmError}
 use Rattle.debugger.specs.Flex.{flex_text}
 use Rattle.debugger.specs.Heap.{heap_blocks_text}
 use Rattle.debugger.specs.swi_dispatch.specs.Boot.{machine_after_boot}
-use Rattle.swi_dispatch_guest.specs.Writes.{machine_after_poke}
-use Rattle.swi_dispatch_guest.specs.MachineState.{MachineState, StepOutcome}
-use Rattle.swi_dispatch_guest.specs.Step.{machine_step, module_loaded, store_called}
+use Rattle.debugger.specs.swi_dispatch_guest.specs.Writes.{machine_after_poke}
+use Rattle.debugger.specs.swi_dispatch_guest.specs.MachineState.{MachineState, StepOutcome}
+use Rattle.debugger.specs.swi_dispatch_guest.specs.Step.{machine_step, module_loaded, store_called}
 use Rattle.debugger.specs.swi_dispatch.specs.declared.boot_error.BootError.{BootError}
 use Rattle.debugger.specs.swi_dispatch.specs.swi_dispatch_breaks.specs.Breaks.{with_break, without_break}
 use Rattle.debugger.specs.swi_dispatch.specs.swi_dispatch_breaks.specs.declared.breaks.BreakError.{BreakError}

@@ -11,7 +11,7 @@ use Rattle.command_shell_lines.specs.Requests.{Request, Nothing, Hex, Asm, Boot,
 use Rattle.command_shell_lines.specs.Requests.{Break, Unbreak, Mem, Code, Heap, Areas, Modules, Flex, Unknown}
 use Rattle.command_shell_lines.specs.Requests.{opens_block, request_of, is_end_of_block}
 use Rattle.image_loader.specs.Entries.{Entry}
-use Rattle.swi_dispatch_guest.specs.MachineState.{machine_start}
+use Rattle.debugger.specs.swi_dispatch_guest.specs.MachineState.{machine_start}
 use Rattle.debugger.specs.swi_dispatch.specs.Value.{MachineValue}
 use Rattle.command_shell.specs.declared.session.Session.{Session}
 use Rattle.command_shell.specs.Session.{script_state, state_on}
@@ -21,7 +21,7 @@ use Rattle.command_shell.specs.State.{ScriptState, Answered, answer, then_answer
 use Rattle.profile.proofs.OutputLemmas.{AddsAllBut-start, Appends-from_all_but}
 use Rattle.command_shell.proofs.FrontLemmas.{AddsFront-from_all_but}
 use Rattle.command_shell.proofs.FrontLemmas.{AddsFront-start, IsFront-same}
-use Rattle.swi_dispatch_guest.specs.Parts.{state_of}
+use Rattle.debugger.specs.swi_dispatch_guest.specs.Parts.{state_of}
 
 -- an answer, and then the lines that are left
 after_told : Answered → ℕ → List (List ℕ) → Answered

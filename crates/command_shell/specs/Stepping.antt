@@ -7,8 +7,8 @@ use Rattle.profile.specs.declared.stop.Stop.{Stop}
 use Rattle.debugger.specs.swi_dispatch.specs.swi_dispatch_breaks.specs.declared.breaks.BreakError.{BreakError}
 use Rattle.debugger.specs.swi_dispatch.specs.swi_dispatch_breaks.specs.declared.breaks.BreakError.TheVariants as break
 use Rattle.debugger.specs.swi_dispatch.specs.swi_dispatch_breaks.specs.Breaks.{with_break, without_break}
-use Rattle.swi_dispatch_guest.specs.MachineState.{MachineState}
-use Rattle.swi_dispatch_guest.specs.Run as machine
+use Rattle.debugger.specs.swi_dispatch_guest.specs.MachineState.{MachineState}
+use Rattle.debugger.specs.swi_dispatch_guest.specs.Run as machine
 use Rattle.command_shell.specs.Answers.{break_text, unbreak_text, refused_text, stop_text, stepped_text}
 use Rattle.command_shell.specs.State.{ScriptState, Answered, answer}
 

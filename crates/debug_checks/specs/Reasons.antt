@@ -7,7 +7,7 @@ use Rattle.debug_checks.specs.Checks.{Seen, no_line_reason, output_reason, place
 use Rattle.debug_checks.specs.declared.checks.Mismatch.{Mismatch}
 use Rattle.debug_checks.specs.declared.checks.Mismatch.TheVariants as reason
 use Rattle.debug_checks.specs.declared.checks.SeenMachine.{SeenMachine}
-use Rattle.swi_dispatch_guest.specs.Parts.{state_of}
+use Rattle.debugger.specs.swi_dispatch_guest.specs.Parts.{state_of}
 
 abbrev pub or_unmapped : (ℕ → List ℕ) → Option ℕ → List ℕ
 or_unmapped text (Some value) = text value

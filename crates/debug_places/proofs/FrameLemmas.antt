@@ -8,7 +8,7 @@ use Rattle.debugger.specs.swi_dispatch.specs.instances_table.specs.Lookup.{insta
 use Rattle.debugger.specs.swi_dispatch.specs.instances_table.specs.Modules.{Module}
 use Rattle.debugger.proofs.ModuleLemmas.{all_shown, next_shown}
 use Rattle.debug_places.specs.Frames.{frame_lines, frame_text, full_name_at, full_name_if, full_name_within}
-use Rattle.swi_dispatch_guest.specs.MachineState.{MachineState}
+use Rattle.debugger.specs.swi_dispatch_guest.specs.MachineState.{MachineState}
 
 -- what the instances that are left tell of a slot
 abbrev pub names_from : ℕ → ℕ → Option Module → List ℕ

@@ -20,12 +20,12 @@ use Rattle.debug_labels.specs.Places.{place_of}
 use Rattle.debug_labels.specs.Views.{spaced_place_text}
 use Rattle.debug_labels.specs.Words.{Naming}
 use Rattle.debug_places.specs.Places.{naming_on, where_text}
-use Rattle.swi_dispatch_guest.specs.swi_dispatch_frames.specs.instances_plans.specs.declared.code.CodeKind.TheVariants.{Initialise, Finalise}
-use Rattle.swi_dispatch_guest.specs.swi_dispatch_frames.specs.declared.frame.Frame.{Frame}
-use Rattle.swi_dispatch_guest.specs.swi_dispatch_frames.specs.declared.frame.FrameKind.{FrameKind}
-use Rattle.swi_dispatch_guest.specs.swi_dispatch_frames.specs.declared.frame.FrameKind.TheVariants.{Swi, Entry}
-use Rattle.swi_dispatch_guest.specs.MachineState.{MachineState}
-use Rattle.swi_dispatch_guest.specs.Step.{without_x}
+use Rattle.debugger.specs.swi_dispatch_guest.specs.swi_dispatch_frames.specs.instances_plans.specs.declared.code.CodeKind.TheVariants.{Initialise, Finalise}
+use Rattle.debugger.specs.swi_dispatch_guest.specs.swi_dispatch_frames.specs.declared.frame.Frame.{Frame}
+use Rattle.debugger.specs.swi_dispatch_guest.specs.swi_dispatch_frames.specs.declared.frame.FrameKind.{FrameKind}
+use Rattle.debugger.specs.swi_dispatch_guest.specs.swi_dispatch_frames.specs.declared.frame.FrameKind.TheVariants.{Swi, Entry}
+use Rattle.debugger.specs.swi_dispatch_guest.specs.MachineState.{MachineState}
+use Rattle.debugger.specs.swi_dispatch_guest.specs.Step.{without_x}
 
 -- `SWI &40000`
 abbrev pub frame_kind_text : FrameKind → List ℕ

@@ -9,7 +9,7 @@ ghost use Rattle.debug_places.specs.Frames.{frame_kind_text, frame_line, frame_l
 ghost use Rattle.debug_places.specs.Frames.{frame_text, frames_text, full_name_at, full_name_of_slot, full_name_text};
 ghost use Rattle.debug_places.specs.Frames.{full_name_within, is_call_entered, is_called_by_instruction};
 ghost use Rattle.debug_places.specs.Places.{naming_on};
-ghost use Rattle.swi_dispatch_guest.specs.Parts.{state_of};
+ghost use Rattle.debugger.specs.swi_dispatch_guest.specs.Parts.{state_of};
 
 use crate::names::names_on;
 use crate::standing::show_where;

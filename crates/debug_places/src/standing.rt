@@ -2,7 +2,7 @@
 
 ghost use Rattle.profile.specs.Output.{Writes};
 ghost use Rattle.debug_places.specs.Places.{where_text};
-ghost use Rattle.swi_dispatch_guest.specs.Parts.{state_of};
+ghost use Rattle.debugger.specs.swi_dispatch_guest.specs.Parts.{state_of};
 
 use crate::names::names_on;
 use debug_labels::LabelTable;

@@ -2,8 +2,8 @@
 use Rattle.std.proofs.Common.{◌≡◌, ◌<◌, ℕ, zero, suc, ◌-◌, false, length, List, [], ◌∷◌, Option, Some, None, Result, arith, refl, subst, sym, ap, ◌∙◌}
 use Rattle.std.specs.Prelude.{OnOk, min}
 use Rattle.profile.specs.declared.stop.Stop.{Stop}
-use Rattle.swi_dispatch_guest.specs.MachineState.{StepOutcome}
-use Rattle.swi_dispatch_guest.specs.Step.{module_loaded, store_called}
+use Rattle.debugger.specs.swi_dispatch_guest.specs.MachineState.{StepOutcome}
+use Rattle.debugger.specs.swi_dispatch_guest.specs.Step.{module_loaded, store_called}
 use Rattle.command_shell.specs.Calls.{step_made, stop_before_step_by}
 use Rattle.command_shell.specs.State.{ScriptState}
 use Rattle.debug_counts.proofs.CountLemmas.{uncounted}

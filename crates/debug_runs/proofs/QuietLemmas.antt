@@ -5,11 +5,11 @@ use Rattle.std.proofs.lemmas.Bool.Decides.{nat_tests}
 use Rattle.profile.specs.declared.stop.Stop.{Stop}
 use Rattle.profile.specs.declared.stop.Stop.TheVariants as stop
 use Rattle.debug_labels.specs.Labels.{ImageLabels}
-use Rattle.swi_dispatch_guest.specs.declared.halt.Halt.{Halt}
-use Rattle.swi_dispatch_guest.specs.MachineState.{MachineState, StepOutcome}
-use Rattle.swi_dispatch_guest.specs.Run.{Run, count_after, go_on, is_among, quiet_run, ran, run_after_steps}
-use Rattle.swi_dispatch_guest.specs.Step.{machine_step}
-use Rattle.swi_dispatch_guest.proofs.RunLoop.{ran-none}
+use Rattle.debugger.specs.swi_dispatch_guest.specs.declared.halt.Halt.{Halt}
+use Rattle.debugger.specs.swi_dispatch_guest.specs.MachineState.{MachineState, StepOutcome}
+use Rattle.debugger.specs.swi_dispatch_guest.specs.Run.{Run, count_after, go_on, is_among, quiet_run, ran, run_after_steps}
+use Rattle.debugger.specs.swi_dispatch_guest.specs.Step.{machine_step}
+use Rattle.debugger.specs.swi_dispatch_guest.proofs.RunLoop.{ran-none}
 use Rattle.command_shell.specs.Calls.{step_made}
 use Rattle.command_shell.specs.State.{ScriptState}
 use Rattle.command_shell.specs.Stepping.{IsAfterQuietSteps, script_after_quiet}

@@ -8,10 +8,10 @@ use Rattle.profile.specs.declared.stop.Stop.TheVariants as stop
 use Rattle.address_map.specs.Bytes.{Bytes}
 use Rattle.debug_labels.specs.Labels.{ImageLabels}
 use Rattle.debug_labels.specs.Standing.{first_of}
-use Rattle.swi_dispatch_guest.specs.declared.halt.Halt.{Halt}
-use Rattle.swi_dispatch_guest.specs.declared.halt.Halt.TheVariants as halt
-use Rattle.swi_dispatch_guest.specs.MachineState.{StepOutcome, stop_of}
-use Rattle.swi_dispatch_guest.specs.Run.{count_after}
+use Rattle.debugger.specs.swi_dispatch_guest.specs.declared.halt.Halt.{Halt}
+use Rattle.debugger.specs.swi_dispatch_guest.specs.declared.halt.Halt.TheVariants as halt
+use Rattle.debugger.specs.swi_dispatch_guest.specs.MachineState.{StepOutcome, stop_of}
+use Rattle.debugger.specs.swi_dispatch_guest.specs.Run.{count_after}
 use Rattle.command_shell.specs.Calls.{step_made}
 use Rattle.command_shell.specs.State.{ScriptState}
 use Rattle.view_items.specs.TextSink.{sink_text_of}

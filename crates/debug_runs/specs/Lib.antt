@@ -4,7 +4,7 @@ pub use Rattle.debug_counts
 pub use Rattle.debug_labels
 pub use Rattle.debug_tables
 pub use Rattle.debugger
-pub use Rattle.swi_dispatch_guest
+pub use Rattle.debugger.specs.swi_dispatch_guest
 pub use Rattle.trace_text
 pub mod Calls
 pub mod Endings

@@ -13,7 +13,7 @@ ghost use Rattle.debug_runs.specs.Places.{places_of_call};
 ghost use Rattle.debug_runs.specs.Told.{IsAfterStepping};
 ghost use Rattle.debug_counts.specs.Counts.{steps_counted};
 ghost use Rattle.debug_tables.specs.WordWatches.{watched_words};
-ghost use Rattle.swi_dispatch_guest.specs.Parts.{state_of};
+ghost use Rattle.debugger.specs.swi_dispatch_guest.specs.Parts.{state_of};
 
 use crate::context::StepContext;
 use crate::counted::run_steps;

@@ -3,7 +3,7 @@
 ghost use Rattle.std.specs.Io.KnownBytes.{Appends};
 ghost use Rattle.std.specs.Prelude.{◌≡◌, ◌<◌, ◌++◌, [], List, Some, IfOk, OnOk};
 ghost use Rattle.command_shell.specs.Session.{script_state};
-ghost use Rattle.swi_dispatch_guest.specs.Parts.{state_of};
+ghost use Rattle.debugger.specs.swi_dispatch_guest.specs.Parts.{state_of};
 ghost use Rattle.trace_text.specs.Start.{known_in};
 ghost use Rattle.trace_text.specs.Step.{known_outside};
 ghost use Rattle.image_loader.specs.Entries.{Entry};
@@ -38,7 +38,7 @@ pub(crate) struct Telling {
 
 impl Telling {
     ghost use Rattle.command_shell.specs.Calls.{first_step, step_made};
-    ghost use Rattle.swi_dispatch_guest.specs.Step.{machine_step};
+    ghost use Rattle.debugger.specs.swi_dispatch_guest.specs.Step.{machine_step};
     ghost use Rattle.trace_text.specs.Step.{step_text};
     ghost use Rattle.debug_runs.specs.Calls.{outside_text};
     ghost use Rattle.debug_runs.specs.Runs.{next_step, text_of_next};

@@ -12,8 +12,8 @@ use Rattle.debugger.specs.swi_dispatch.specs.swi_dispatch_breaks.specs.declared.
 use Rattle.image_loader.specs.Entries.{bytes_of_image, refusal_for}
 use Rattle.image_loader.specs.declared.error.ImageError.{ImageError}
 use Rattle.profile.specs.declared.fault.Fault.{Fault}
-use Rattle.swi_dispatch_guest.specs.MachineState.{MachineState}
-use Rattle.swi_dispatch_guest.specs.Writes.{machine_after_poke}
+use Rattle.debugger.specs.swi_dispatch_guest.specs.MachineState.{MachineState}
+use Rattle.debugger.specs.swi_dispatch_guest.specs.Writes.{machine_after_poke}
 use Rattle.command_shell.specs.Answers.{break_text, unbreak_text}
 use Rattle.command_shell.specs.Images.{asm_block, boot_done, boot_found, hex_block, image_added, image_opened, image_sized}
 use Rattle.command_shell.specs.Memory.{poke_done, script_with_budget}

@@ -18,7 +18,7 @@ use Rattle.debug_checks.specs.Endings.{ending_of, output_of}
 use Rattle.debug_lines.specs.DebugRequests.{DebugRequest, Script, Stepping, Mode, Remark, SetPc, SetPsr, Put, Forget, Counts, Reset, Quit, Expect, Repeat, NotKnown}
 use Rattle.debug_lines.specs.DebugRequests.{debug_opens_block, debug_request, is_script_request}
 use Rattle.debug_lines.specs.DebugRequests.{ViewRequest, View, Words, Where, Banks, Stack, Frames, Labels, Help}
-use Rattle.swi_dispatch_guest.specs.MachineState.{MachineState}
+use Rattle.debugger.specs.swi_dispatch_guest.specs.MachineState.{MachineState}
 use Rattle.command_shell_lines.specs.Requests.{request_of}
 use Rattle.debug_lines.specs.Expectations.{ExpectRequest}
 use Rattle.debug_lines.specs.ModeRequests.{ModeRequest}

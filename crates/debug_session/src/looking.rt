@@ -2,7 +2,7 @@
 //! tally; and how it reads and answers a line.
 
 ghost use Rattle.std.specs.Prelude.{◌≡◌, List, IfOk};
-ghost use Rattle.swi_dispatch_guest.specs.Parts.{state_of};
+ghost use Rattle.debugger.specs.swi_dispatch_guest.specs.Parts.{state_of};
 
 use crate::reports::CheckTally;
 use crate::session::DebugSession;

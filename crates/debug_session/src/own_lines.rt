@@ -33,7 +33,7 @@ impl DebugSession {
     ghost use Rattle.debug_session.specs.DebugScript.{checked_told, forget_told, machine_change_told, put_told, reset_told, seen_of, unknown_told, view_text, view_told};
     ghost use Rattle.debug_session.specs.DebugState.{IsDebugged};
     ghost use Rattle.debug_session.specs.Session.{debug_state};
-    ghost use Rattle.swi_dispatch_guest.specs.Parts.{state_of};
+    ghost use Rattle.debugger.specs.swi_dispatch_guest.specs.Parts.{state_of};
 
     /// Writes what a line shows that only looks.
     fn show_view<W: Sink>(&self, sink: &mut W, view: DebugView) -> Result<(), WriteFault>

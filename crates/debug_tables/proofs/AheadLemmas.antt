@@ -20,8 +20,8 @@ use Rattle.debugger.specs.swi_dispatch.specs.arm_step.specs.Step.{result_of_word
 use Rattle.debugger.specs.swi_dispatch.specs.arm_step.specs.Transfers.{result_of_transfer}
 use Rattle.debugger.specs.swi_dispatch.specs.arm_step.specs.Blocks.{result_of_block_transfer}
 use Rattle.debug_tables.specs.Stubs.{swi_next, swi_decoded, swi_fetched, swi_in_action, swi_in_turn, swi_in_word, swi_unless_halted}
-use Rattle.swi_dispatch_guest.specs.MachineState.{stop_of}
-use Rattle.swi_dispatch_guest.specs.declared.halt.Halt.{Halt}
+use Rattle.debugger.specs.swi_dispatch_guest.specs.MachineState.{stop_of}
+use Rattle.debugger.specs.swi_dispatch_guest.specs.declared.halt.Halt.{Halt}
 
 none_in_memory : (r : Result (State × Bytes) Fault) → swi_in_turn (or_fault r) ≡ None
 none_in_memory (Ok w) = refl

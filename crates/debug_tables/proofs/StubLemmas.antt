@@ -2,12 +2,12 @@
 use Rattle.std.proofs.lemmas.List.{drop_more}
 use Rattle.std.proofs.Common.{◌≡◌, ℕ, ◌+◌, ◌-◌, ◌<◌, drop, get_or, length, Bool, true, false, List, [], ◌∷◌, Option, Some, None, if◌then◌else◌, refl, sym, ap, ◌∙◌}
 use Rattle.image_loader.specs.Entries.{Entry}
-use Rattle.swi_dispatch_guest.specs.MachineState.{MachineState, quiet}
+use Rattle.debugger.specs.swi_dispatch_guest.specs.MachineState.{MachineState, quiet}
 use Rattle.arm_core.specs.declared.psr.Psr.{Psr}
-use Rattle.swi_dispatch_guest.specs.Run.{count_after}
-use Rattle.swi_dispatch_guest.specs.Step.{machine_step, result_of_instruction, without_x}
-use Rattle.swi_dispatch_guest.specs.Writes.{machine_with_register}
-use Rattle.swi_dispatch_guest.specs.declared.halt.Halt.{Halt}
+use Rattle.debugger.specs.swi_dispatch_guest.specs.Run.{count_after}
+use Rattle.debugger.specs.swi_dispatch_guest.specs.Step.{machine_step, result_of_instruction, without_x}
+use Rattle.debugger.specs.swi_dispatch_guest.specs.Writes.{machine_with_register}
+use Rattle.debugger.specs.swi_dispatch_guest.specs.declared.halt.Halt.{Halt}
 use Rattle.command_shell.specs.Calls.{step_made}
 use Rattle.command_shell.specs.Memory.{script_with_budget, script_with_machine, script_with_register}
 use Rattle.command_shell.specs.State.{ScriptState}

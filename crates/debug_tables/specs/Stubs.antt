@@ -21,10 +21,10 @@ use Rattle.arm_decode.specs.declared.action.Action.TheVariants as action
 use Rattle.arm_decode.specs.declared.condition.Condition.{Condition}
 use Rattle.image_loader.specs.Entries.{Entry}
 use Rattle.debugger.specs.swi_dispatch.specs.instances_table.specs.Lookup.{handler_of}
-use Rattle.swi_dispatch_guest.specs.MachineState.{MachineState, StepOutcome, quiet}
-use Rattle.swi_dispatch_guest.specs.Step.{machine_step, result_of_instruction, without_x}
-use Rattle.swi_dispatch_guest.specs.Writes.{machine_at, machine_with_bank_register, machine_with_register, machine_with_status}
-use Rattle.swi_dispatch_guest.specs.declared.halt.Halt.{Halt}
+use Rattle.debugger.specs.swi_dispatch_guest.specs.MachineState.{MachineState, StepOutcome, quiet}
+use Rattle.debugger.specs.swi_dispatch_guest.specs.Step.{machine_step, result_of_instruction, without_x}
+use Rattle.debugger.specs.swi_dispatch_guest.specs.Writes.{machine_at, machine_with_bank_register, machine_with_register, machine_with_status}
+use Rattle.debugger.specs.swi_dispatch_guest.specs.declared.halt.Halt.{Halt}
 use Rattle.command_shell.specs.Memory.{script_at, script_with_bank_register, script_with_budget, script_with_register}
 use Rattle.command_shell.specs.Memory.{script_with_status}
 use Rattle.command_shell.specs.State.{ScriptState}

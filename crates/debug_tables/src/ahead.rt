@@ -3,7 +3,7 @@
 ghost use Rattle.std.specs.Prelude.{◌≡◌};
 ghost use Rattle.address_map.specs.Memory.{bytes_of};
 ghost use Rattle.debug_tables.specs.Stubs.{is_known_swi, swi_ahead, swi_next, swi_in_action, swi_in_word};
-ghost use Rattle.swi_dispatch_guest.specs.Parts.{state_of};
+ghost use Rattle.debugger.specs.swi_dispatch_guest.specs.Parts.{state_of};
 
 use address_map::AddressMap;
 use arm_core::condition::is_met;

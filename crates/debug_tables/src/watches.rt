@@ -71,7 +71,7 @@ impl Model for WordWatches {
 }
 
 impl WordWatches {
-    ghost use Rattle.swi_dispatch_guest.specs.Run.{is_among};
+    ghost use Rattle.debugger.specs.swi_dispatch_guest.specs.Run.{is_among};
     ghost use Rattle.debug_tables.specs.WordWatches.{with_word_watch, without_word_watch};
 
     /// No watch.
@@ -135,7 +135,7 @@ impl WordWatches {
         self.addresses.iter().position(|at| *at == address)
     }
 
-    #[tactic(auto, unfolding(swi_dispatch_guest::specs::Run::is_among))]
+    #[tactic(auto, unfolding(debugger::specs::swi_dispatch_guest::specs::Run::is_among))]
     fn has(&self, address: u32) -> bool
         ensures { result ≡ is_among self.now address }
     {

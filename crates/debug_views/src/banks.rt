@@ -3,7 +3,7 @@
 ghost use Rattle.std.specs.Prelude.{◌≡◌, ◌<◌};
 ghost use Rattle.profile.specs.Output.{Writes};
 ghost use Rattle.debug_views.specs.Banks.{bank_line_from_8, bank_line_from_13, banked_name, banked_register_text, banks_text, mode_suffix, registers_from_8_text};
-ghost use Rattle.swi_dispatch_guest.specs.Parts.{state_of};
+ghost use Rattle.debugger.specs.swi_dispatch_guest.specs.Parts.{state_of};
 
 use debugger::arm_step::{Cpu, Mode};
 use debugger::mode_name;

@@ -3,7 +3,7 @@
 ghost use Rattle.address_map.specs.Memory.{bytes_of};
 ghost use Rattle.profile.specs.Output.{Writes};
 ghost use Rattle.debug_views.specs.Words.{spaced_word_text, spaced_words_text, words_line, memory_words_text};
-ghost use Rattle.swi_dispatch_guest.specs.Parts.{state_of};
+ghost use Rattle.debugger.specs.swi_dispatch_guest.specs.Parts.{state_of};
 
 use address_map::AddressMap;
 use debugger::swi_dispatch::Machine;

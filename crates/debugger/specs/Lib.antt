@@ -2,6 +2,7 @@
 pub use Rattle.address_map
 pub use Rattle.swi_dispatch.specs.flex_store
 pub use Rattle.swi_dispatch
+pub use Rattle.swi_dispatch.specs.swi_dispatch_guest
 pub mod Areas
 pub mod Code
 pub mod Flex

@@ -3,7 +3,7 @@
 ghost use Rattle.std.specs.List.{flat_map};
 ghost use Rattle.profile.specs.Output.{Writes};
 ghost use Rattle.debugger.specs.Areas.{area_text, areas_text, area_extent_text, pool_text};
-ghost use Rattle.swi_dispatch_guest.specs.Parts.{state_of};
+ghost use Rattle.swi_dispatch.specs.swi_dispatch_guest.specs.Parts.{state_of};
 
 use itoa::Buffer;
 use profile::memory_map::PAGE_SIZE;

@@ -7,7 +7,7 @@ ghost use Rattle.address_map.specs.Items.{size_of};
 ghost use Rattle.swi_dispatch.specs.os_heap.specs.Calls.{items_of};
 ghost use Rattle.swi_dispatch.specs.os_heap.specs.Store.{store_of, find_heap, IsSound};
 ghost use Rattle.debugger.specs.Heap.{use_text, limits_text, heap_item_text, heap_items_text, heap_text, heap_blocks_text};
-ghost use Rattle.swi_dispatch_guest.specs.Parts.{state_of};
+ghost use Rattle.swi_dispatch.specs.swi_dispatch_guest.specs.Parts.{state_of};
 
 use address_map::{AddressMap, Item};
 use itoa::Buffer;

@@ -6,7 +6,7 @@ ghost use Rattle.profile.specs.Output.{Writes};
 ghost use Rattle.swi_dispatch.specs.instances_table.specs.Lookup.{told_of_place};
 ghost use Rattle.debugger.specs.Modules.{instance_line, instances_text, module_line, module_text, modules_text, one_text};
 ghost use Rattle.debugger.specs.Modules.{preferred_text};
-ghost use Rattle.swi_dispatch_guest.specs.Parts.{state_of};
+ghost use Rattle.swi_dispatch.specs.swi_dispatch_guest.specs.Parts.{state_of};
 
 use address_map::AddressMap;
 use itoa::Buffer;

@@ -7,11 +7,11 @@ use Rattle.command_shell.specs.Stepping.{script_after_run, script_run}
 use Rattle.image_loader.specs.Entries.{Entry}
 use Rattle.profile.specs.declared.stop.Stop.TheVariants as stop
 use Rattle.gdb_machine.specs.declared.stops.GdbStop.TheVariants as reason
-use Rattle.swi_dispatch_guest.specs.declared.halt.Halt.{Halt}
-use Rattle.swi_dispatch_guest.specs.MachineState.{MachineState, StepOutcome}
-use Rattle.swi_dispatch_guest.specs.Run.{Run, go_on, is_among, ran, resting, run_after_steps, run_unless_halted, then_run}
-use Rattle.swi_dispatch_guest.specs.Step.{machine_step}
-use Rattle.swi_dispatch_guest.proofs.Runs.{halt-no_budget, runs_on}
+use Rattle.debugger.specs.swi_dispatch_guest.specs.declared.halt.Halt.{Halt}
+use Rattle.debugger.specs.swi_dispatch_guest.specs.MachineState.{MachineState, StepOutcome}
+use Rattle.debugger.specs.swi_dispatch_guest.specs.Run.{Run, go_on, is_among, ran, resting, run_after_steps, run_unless_halted, then_run}
+use Rattle.debugger.specs.swi_dispatch_guest.specs.Step.{machine_step}
+use Rattle.debugger.specs.swi_dispatch_guest.proofs.Runs.{halt-no_budget, runs_on}
 use Rattle.gdb_session.specs.Laws.{GdbSlicesAreOneRun}
 use Rattle.gdb_session.specs.Runs.{printed_before, steps_taken}
 

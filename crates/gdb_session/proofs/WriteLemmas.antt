@@ -13,7 +13,7 @@ use Rattle.address_map.specs.Bytes.{ok_unless_fault, with_bytes_at}
 use Rattle.arm_core.specs.State.{IsCore, State}
 use Rattle.byte_writes.specs.Put.{put_fault, script_after_put, script_with_bytes}
 use Rattle.command_shell.specs.State.{ScriptState}
-use Rattle.swi_dispatch_guest.specs.Writes.{machine_with_register}
+use Rattle.debugger.specs.swi_dispatch_guest.specs.Writes.{machine_with_register}
 use Rattle.debug_session.specs.declared.session.DebugSetting.{DebugSetting}
 use Rattle.gdb_machine.specs.Changes.{core_with_change, register_write}
 use Rattle.gdb_machine.specs.Registers.{register_shown}

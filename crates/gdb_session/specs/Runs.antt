@@ -10,7 +10,7 @@ use Rattle.command_shell.specs.Stepping.{script_run, script_after_run}
 use Rattle.debug_session.specs.DebugScript.{debug_line_told, debug_lines_told}
 use Rattle.debug_session.specs.DebugState.{DebugAnswered, DebugState}
 use Rattle.debug_session.specs.declared.session.DebugSetting.{DebugSetting}
-use Rattle.swi_dispatch_guest.specs.Run.{Run}
+use Rattle.debugger.specs.swi_dispatch_guest.specs.Run.{Run}
 use Rattle.std.specs.Str.{bytes_eq}
 use Rattle.std.specs.Str.Lines.{lines}
 use Rattle.hex.specs.Hex.{decode_of}

@@ -15,5 +15,6 @@ pub mod reading;
 
 pub use answers::{Found, Start, Told};
 pub use instances::Instances;
+pub use instances_actions::module_world;
 pub use instances_plans::{Advance, Code, CodeKind, Ended, Outcome, Plan};
 pub use instances_table::{Handler, InstanceInfo, InstanceTable, ModuleInfo, Place};

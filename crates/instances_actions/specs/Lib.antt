@@ -1,4 +1,5 @@
 -- What each action of a plan does. Begin with Actions.
+pub use Rattle.module_world
 pub mod Actions
 pub mod Asked
 pub mod Codes

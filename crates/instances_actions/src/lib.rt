@@ -11,4 +11,5 @@ pub mod removal;
 pub use acting::act;
 pub use adding::{give_up, insert, instantiate};
 pub use code::code_of;
+pub use module_world;
 pub use removal::{free_private, remove};

@@ -9,3 +9,4 @@
 pub mod calls;
 
 pub use calls::call_flex;
+pub use flex_machine;

@@ -6,10 +6,10 @@ use Rattle.profile.specs.Outcome.{Leaves}
 use Rattle.address_map.specs.declared.map.AddressMap.{AddressMap}
 use Rattle.address_map.specs.Memory.{free_pages}
 use Rattle.arm_core.specs.State.{State}
-use Rattle.flex_machine.specs.flex_store.specs.declared.flex.Flex.{Flex}
-use Rattle.flex_machine.specs.module_world.proofs.Worlds.{few_records}
-use Rattle.flex_machine.specs.module_world.specs.Sound.{IsWorld}
-use Rattle.flex_machine.specs.module_world.specs.World.{World, world_of}
+use Rattle.swi_dispatch_flex.specs.flex_machine.specs.flex_store.specs.declared.flex.Flex.{Flex}
+use Rattle.swi_dispatch_flex.specs.flex_machine.specs.module_world.proofs.Worlds.{few_records}
+use Rattle.swi_dispatch_flex.specs.flex_machine.specs.module_world.specs.Sound.{IsWorld}
+use Rattle.swi_dispatch_flex.specs.flex_machine.specs.module_world.specs.World.{World, world_of}
 use Rattle.instances_plans.specs.declared.given.Given.{Given}
 use Rattle.instances_plans.specs.Plans.{Plan}
 use Rattle.instances_table.specs.declared.parts.Image.{Image}

@@ -8,7 +8,7 @@ use Rattle.instances_table.specs.declared.parts.Image.{Image}
 use Rattle.instances_table.specs.Modules.{Module, slots_of}
 use Rattle.address_map.specs.declared.map.AddressMap.{AddressMap}
 use Rattle.dynamic_areas.specs.Areas.{Land}
-use Rattle.flex_machine.specs.flex_frame.proofs.Keeping.{keeps_then}
+use Rattle.swi_dispatch_flex.specs.flex_machine.specs.flex_frame.proofs.Keeping.{keeps_then}
 use Rattle.os_heap.specs.Store.{AreClasses, store_of}
 use Rattle.profile.specs.Outcome.{Gives}
 use Rattle.profile.specs.declared.error.ErrorNumber.{ErrorNumber}
@@ -18,8 +18,8 @@ use Rattle.instances_plans.specs.declared.code.Outcome.{Outcome as CodeOutcome}
 use Rattle.instances_plans.specs.declared.code.Outcome.TheVariants.{Well}
 use Rattle.instances_plans.specs.Carrying.{Carried, Doing, carry_of_plan, carried_by, carried_from}
 use Rattle.instances_plans.specs.Plans.{Plan, plan_after_code}
-use Rattle.flex_machine.specs.module_world.specs.Sound.{IsWorld}
-use Rattle.flex_machine.specs.module_world.specs.World.{World, world_of}
+use Rattle.swi_dispatch_flex.specs.flex_machine.specs.module_world.specs.Sound.{IsWorld}
+use Rattle.swi_dispatch_flex.specs.flex_machine.specs.module_world.specs.World.{World, world_of}
 use Rattle.swi_dispatch_plans.specs.instances.specs.Turns.{IsUnderWay, MayGoOn, module_doing}
 use Rattle.swi_dispatch_plans.specs.instances.specs.instances_actions.specs.Pending.{pending_of}
 use Rattle.arm_core.specs.State.{State}
@@ -36,8 +36,8 @@ use Rattle.swi_dispatch_guest.specs.Carried.{CodeUnderWay, IsCarriedNext}
 use Rattle.swi_dispatch_guest.specs.OpenFrames.{AreFrames}
 use Rattle.swi_dispatch_guest.specs.Parts.{IsWellFormed, Parts, parts_world}
 use Rattle.swi_dispatch_guest.specs.Returns.{outcome_of_halt}
-use Rattle.flex_machine.specs.Ground.{HasFlex}
-use Rattle.flex_machine.specs.flex_frame.specs.Keeping.{KeepsFlex}
+use Rattle.swi_dispatch_flex.specs.flex_machine.specs.Ground.{HasFlex}
+use Rattle.swi_dispatch_flex.specs.flex_machine.specs.flex_frame.specs.Keeping.{KeepsFlex}
 use Rattle.swi_dispatch_guest.proofs.CarriedFrames.{AreBeneath, opened_frames}
 use Rattle.swi_dispatch_guest.proofs.Kept.{flex_by}
 use Rattle.swi_dispatch_guest.proofs.OpenFrames.{frames_kept}

@@ -25,12 +25,12 @@ use Rattle.dynamic_areas.proofs.HeapCalls.{areas_written}
 use Rattle.dynamic_areas.proofs.SystemWrites.{kept_classes, system_kept}
 use Rattle.swi_dispatch_guest.specs.declared.halt.Halt.{Halt}
 use Rattle.swi_dispatch_guest.specs.MachineState.{MachineState, Tables, with_memory}
-use Rattle.flex_machine.proofs.Kept.{flex_frame, flex_stored}
-use Rattle.flex_machine.specs.Ground.{HasFlex}
-use Rattle.flex_machine.specs.flex_store.specs.declared.flex.Flex.{Flex}
+use Rattle.swi_dispatch_flex.specs.flex_machine.proofs.Kept.{flex_frame, flex_stored}
+use Rattle.swi_dispatch_flex.specs.flex_machine.specs.Ground.{HasFlex}
+use Rattle.swi_dispatch_flex.specs.flex_machine.specs.flex_store.specs.declared.flex.Flex.{Flex}
 use Rattle.dynamic_areas.specs.Areas.{Land}
-use Rattle.flex_machine.specs.flex_frame.proofs.Writes.{system_keeps}
-use Rattle.flex_machine.specs.flex_frame.specs.Keeping.{KeepsFlex}
+use Rattle.swi_dispatch_flex.specs.flex_machine.specs.flex_frame.proofs.Writes.{system_keeps}
+use Rattle.swi_dispatch_flex.specs.flex_machine.specs.flex_frame.specs.Keeping.{KeepsFlex}
 use Rattle.instances_table.specs.Modules.{slots_of}
 use Rattle.swi_dispatch_plans.specs.instances.specs.Turns.{MayGoOn}
 use Rattle.swi_dispatch_plans.specs.instances.proofs.GoingOn.{may_go_on_kept}

@@ -13,7 +13,7 @@ use Rattle.instances_plans.specs.Plans.{Plan, first_action}
 use Rattle.instances_table.specs.declared.parts.Place.{Place}
 use Rattle.instances_table.specs.Lookup.{place_of_slot}
 use Rattle.instances_table.specs.Modules.{Module}
-use Rattle.flex_machine.specs.module_world.specs.World.{World}
+use Rattle.swi_dispatch_flex.specs.flex_machine.specs.module_world.specs.World.{World}
 use Rattle.swi_dispatch_plans.specs.instances.specs.Turns.{module_doing}
 use Rattle.swi_dispatch_plans.specs.instances.specs.instances_actions.specs.Codes.{code_among, code_at, code_to_enter}
 use Rattle.swi_dispatch_plans.specs.instances.specs.instances_actions.specs.Codes.{entered_at, entered_in, entry_offset}

@@ -8,7 +8,7 @@ use Rattle.os_heap.specs.Store.{Store, store_of}
 use Rattle.dynamic_areas.specs.Areas.{Land}
 use Rattle.dynamic_areas.specs.Ground.{Estate, IsEstate, estate_of}
 use Rattle.dynamic_areas.proofs.HeapCalls.{pool_is}
-use Rattle.flex_machine.specs.module_world.specs.World.{World}
+use Rattle.swi_dispatch_flex.specs.flex_machine.specs.module_world.specs.World.{World}
 use Rattle.swi_dispatch_answers.specs.declared.refusal.Refusal.{Refusal}
 use Rattle.swi_dispatch_plans.specs.swi_dispatch_store.specs.Leaving.{LeavesSound}
 use Rattle.swi_dispatch_plans.specs.swi_dispatch_modules.specs.Leaving.{LeavesWorld}

@@ -5,7 +5,7 @@ use Rattle.profile.specs.Outcome.{bind}
 use Rattle.profile.specs.declared.error.ErrorNumber.{ErrorNumber}
 use Rattle.image_loader.specs.Entries.{Entry}
 use Rattle.instances_plans.specs.Plans.{Plan}
-use Rattle.flex_machine.specs.module_world.specs.World.{World}
+use Rattle.swi_dispatch_flex.specs.flex_machine.specs.module_world.specs.World.{World}
 use Rattle.swi_dispatch_plans.specs.instances.specs.Adding.{copying, inserting, loading}
 use Rattle.swi_dispatch_frames.specs.declared.call.Call.{Call}
 use Rattle.swi_dispatch_guest.specs.Gates.{ended_of, state_with_code_entered}

@@ -13,7 +13,7 @@ use Rattle.arm_core.specs.declared.psr.Mode.TheVariants.{Supervisor}
 use Rattle.arm_core.specs.State.{State, register_of, with_mode}
 use Rattle.os_heap.specs.Store.{Store}
 use Rattle.dynamic_areas.specs.Ground.{Estate}
-use Rattle.flex_machine.specs.module_world.specs.World.{World}
+use Rattle.swi_dispatch_flex.specs.flex_machine.specs.module_world.specs.World.{World}
 use Rattle.swi_dispatch_answers.specs.declared.refusal.Refusal.{Refusal}
 use Rattle.swi_dispatch_answers.specs.declared.refusal.Refusal.TheVariants as refusal
 use Rattle.swi_dispatch_answers.specs.declared.strings.TextEnd.TheVariants as end

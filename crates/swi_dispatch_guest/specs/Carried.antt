@@ -5,9 +5,9 @@ use Rattle.address_map.specs.declared.map.AddressMap.{AddressMap}
 use Rattle.arm_core.specs.State.{State}
 use Rattle.dynamic_areas.specs.Areas.{Land}
 use Rattle.os_heap.specs.Store.{AreClasses, store_of}
-use Rattle.flex_machine.specs.flex_frame.specs.Keeping.{KeepsFlex}
-use Rattle.flex_machine.specs.module_world.specs.Sound.{IsWorld}
-use Rattle.flex_machine.specs.module_world.specs.World.{world_of}
+use Rattle.swi_dispatch_flex.specs.flex_machine.specs.flex_frame.specs.Keeping.{KeepsFlex}
+use Rattle.swi_dispatch_flex.specs.flex_machine.specs.module_world.specs.Sound.{IsWorld}
+use Rattle.swi_dispatch_flex.specs.flex_machine.specs.module_world.specs.World.{world_of}
 use Rattle.instances_plans.specs.declared.code.Code.{Code}
 use Rattle.instances_plans.specs.declared.code.Outcome.{Outcome as CodeOutcome}
 use Rattle.instances_plans.specs.Carrying.{carry_of_plan}

@@ -11,7 +11,7 @@ pub use Rattle.arm_step
 pub use Rattle.os_heap.specs.os_heap_lists
 pub use Rattle.os_heap
 pub use Rattle.dynamic_areas
-pub use Rattle.flex_machine.specs.flex_store
+pub use Rattle.swi_dispatch_flex.specs.flex_machine.specs.flex_store
 pub use Rattle.instances_table
 pub mod Additions
 pub mod Answers

@@ -3,8 +3,8 @@
 
 ghost use Rattle.std.specs.Prelude.{◌≡◌, ◌<◌, ◌^◌, false, true, Ok, OnErr};
 ghost use Rattle.module_header.specs.Header.{header_of};
-ghost use Rattle.flex_machine.specs.module_world.specs.rma.specs.Copies.{may_be_copied};
-ghost use Rattle.flex_machine.specs.module_world.specs.rma.specs.NewImages.{may_be_in_place};
+ghost use Rattle.swi_dispatch_flex.specs.flex_machine.specs.module_world.specs.rma.specs.Copies.{may_be_copied};
+ghost use Rattle.swi_dispatch_flex.specs.flex_machine.specs.module_world.specs.rma.specs.NewImages.{may_be_in_place};
 
 use crate::guest::Guest;
 use crate::module_steps::carry_next;

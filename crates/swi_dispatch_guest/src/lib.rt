@@ -21,7 +21,6 @@ pub mod store_calls;
 
 pub use arm_step;
 pub use dynamic_areas;
-pub use flex_machine::flex_store;
 pub use guest::{Guest, without_x_bit};
 pub use halt::Halt;
 pub use instances_table;
@@ -32,5 +31,6 @@ pub use running::Ran;
 pub use swi_dispatch_answers;
 pub use swi_dispatch_answers::{Refusal, TextEnd};
 pub use swi_dispatch_breaks::{BreakError, Breaks};
+pub use swi_dispatch_flex::flex_machine::flex_store;
 pub use swi_dispatch_frames::{CodeKind, Frame, FrameKind};
 pub use swi_dispatch_plans::instances;

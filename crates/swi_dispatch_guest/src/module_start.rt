@@ -4,7 +4,7 @@
 ghost use Rattle.std.specs.Prelude.{◌≡◌, ◌<◌, ◌≤◌, ◌^◌, false, length};
 
 use crate::guest::Guest;
-use flex_machine::module_world::put_text;
+use swi_dispatch_flex::flex_machine::module_world::put_text;
 use swi_dispatch_frames::Call;
 use swi_dispatch_plans::instances::Start;
 use swi_dispatch_plans::{Opening, enter_as_user};

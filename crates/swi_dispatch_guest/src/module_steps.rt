@@ -2,7 +2,7 @@
 //! ends (RISC OS 3 Programmer's Reference Manual, "Modules" and "OS_Module").
 
 ghost use Rattle.std.specs.Prelude.{◌≡◌, ◌<◌, false, length, IfOk};
-ghost use Rattle.flex_machine.specs.module_world.specs.World.{world_of};
+ghost use Rattle.swi_dispatch_flex.specs.flex_machine.specs.module_world.specs.World.{world_of};
 ghost use Rattle.os_heap.specs.Store.{AreClasses};
 ghost use Rattle.swi_dispatch_plans.specs.instances.specs.Turns.{IsUnderWay};
 ghost use Rattle.swi_dispatch_plans.specs.Trials.{world_carried};

@@ -4,15 +4,15 @@ use Rattle.std.proofs.Common.{◌≡◌, ℕ, List, Option, refl, arith}
 use Rattle.address_map.proofs.InRange.{range_inside}
 use Rattle.address_map.specs.declared.map.AddressMap.{AddressMap}
 use Rattle.address_map.specs.Bytes.{AreMapped}
-use Rattle.module_world.specs.rma.specs.os_heap.specs.Store.{AreClasses, Store, store_of}
-use Rattle.module_world.specs.rma.specs.dynamic_areas.specs.Areas.{Land}
-use Rattle.module_world.specs.rma.specs.dynamic_areas.specs.Ground.{AreAreas, IsEstate, estate_of}
-use Rattle.module_world.specs.rma.specs.dynamic_areas.proofs.HeapCalls.{system_mapped}
+use Rattle.instances.specs.module_world.specs.rma.specs.os_heap.specs.Store.{AreClasses, Store, store_of}
+use Rattle.instances.specs.module_world.specs.rma.specs.dynamic_areas.specs.Areas.{Land}
+use Rattle.instances.specs.module_world.specs.rma.specs.dynamic_areas.specs.Ground.{AreAreas, IsEstate, estate_of}
+use Rattle.instances.specs.module_world.specs.rma.specs.dynamic_areas.proofs.HeapCalls.{system_mapped}
 use Rattle.instances_plans.specs.Plans.{Plan}
 use Rattle.instances_table.specs.Modules.{Module, slots_of}
 use Rattle.instances.proofs.GoingOn.{may_go_on_kept}
 use Rattle.instances.specs.Turns.{MayGoOn}
-use Rattle.module_world.specs.World.{world_of}
+use Rattle.instances.specs.module_world.specs.World.{world_of}
 use Rattle.swi_dispatch_store.proofs.Leaving.{leaves_memory}
 use Rattle.swi_dispatch_store.specs.Leaving.{LeavesSound}
 use Rattle.swi_dispatch_modules.specs.Leaving.{LeavesWorld}

@@ -5,8 +5,8 @@ use Rattle.profile.specs.Outcome.{bind}
 use Rattle.swi_dispatch_store.specs.swi_dispatch_answers.specs.arm_core.specs.State.{State, register_of, with_register}
 use Rattle.swi_dispatch_store.specs.swi_dispatch_answers.specs.declared.refusal.Refusal.{Refusal}
 use Rattle.swi_dispatch_store.specs.swi_dispatch_answers.specs.Refusals.{or_error}
-use Rattle.module_world.specs.rma.specs.Calls.{rma_described, rma_claimed, rma_freed, rma_extended}
-use Rattle.module_world.specs.World.{World}
+use Rattle.instances.specs.module_world.specs.rma.specs.Calls.{rma_described, rma_claimed, rma_freed, rma_extended}
+use Rattle.instances.specs.module_world.specs.World.{World}
 
 -- reason 5, describe: the largest block and all that is free go to R2 and R3
 abbrev pub with_room_told : State → ℕ × ℕ → State

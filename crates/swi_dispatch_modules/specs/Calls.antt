@@ -9,7 +9,7 @@ use Rattle.profile.specs.declared.reason.ModuleReason.TheVariants as reason
 use Rattle.swi_dispatch_store.specs.swi_dispatch_answers.specs.arm_core.specs.State.{State, register_of}
 use Rattle.swi_dispatch_store.specs.swi_dispatch_answers.specs.declared.refusal.Refusal.{Refusal}
 use Rattle.swi_dispatch_store.specs.swi_dispatch_answers.specs.Refusals.{system_error}
-use Rattle.module_world.specs.World.{World}
+use Rattle.instances.specs.module_world.specs.World.{World}
 use Rattle.swi_dispatch_modules.specs.Area.{area_described, block_claimed, block_extended, rma_block_after_free}
 use Rattle.swi_dispatch_modules.specs.Naming.{instance_found, instance_preferred, instance_renamed, instance_told}
 

@@ -3,7 +3,7 @@ use Rattle.std.specs.Prelude.{◌≡◌, List, Option}
 use Rattle.swi_dispatch_store.specs.swi_dispatch_answers.specs.address_map.specs.declared.map.AddressMap.{AddressMap}
 use Rattle.swi_dispatch_store.specs.dynamic_areas.specs.Areas.{Land}
 use Rattle.swi_dispatch_store.specs.Leaving.{LeavesSound}
-use Rattle.module_world.specs.World.{world_of}
+use Rattle.instances.specs.module_world.specs.World.{world_of}
 use Rattle.instances.specs.Turns.{MayGoOn}
 use Rattle.instances_plans.specs.Plans.{Plan}
 use Rattle.instances_table.specs.Modules.{Module, slots_of}

@@ -11,7 +11,7 @@ use Rattle.swi_dispatch_store.specs.swi_dispatch_answers.specs.Strings.{string_i
 use Rattle.instances.specs.declared.answers.Found.{Found}
 use Rattle.instances.specs.declared.answers.Told.{Told}
 use Rattle.instances.specs.Reading.{instance_looked_up, instance_info}
-use Rattle.module_world.specs.World.{World}
+use Rattle.instances.specs.module_world.specs.World.{World}
 use Rattle.instances_table.specs.declared.parts.Place.{Place}
 use Rattle.instances_table.specs.Changes.{preferring, modules_after_rename}
 

@@ -3,18 +3,18 @@
 
 ghost use Rattle.std.specs.Prelude.{◌≡◌, List};
 ghost use Rattle.profile.specs.Outcome.{Leaves};
-ghost use Rattle.module_world.specs.rma.specs.os_heap.specs.Store.{AreClasses, IsSound, store_of};
-ghost use Rattle.module_world.specs.rma.specs.dynamic_areas.specs.Areas.{Land};
-ghost use Rattle.module_world.specs.rma.specs.dynamic_areas.specs.Ground.{IsEstate, estate_of};
+ghost use Rattle.instances.specs.module_world.specs.rma.specs.os_heap.specs.Store.{AreClasses, IsSound, store_of};
+ghost use Rattle.instances.specs.module_world.specs.rma.specs.dynamic_areas.specs.Areas.{Land};
+ghost use Rattle.instances.specs.module_world.specs.rma.specs.dynamic_areas.specs.Ground.{IsEstate, estate_of};
 ghost use Rattle.instances_table.specs.Modules.{Module};
-ghost use Rattle.module_world.specs.World.{world_of};
+ghost use Rattle.instances.specs.module_world.specs.World.{world_of};
 ghost use Rattle.swi_dispatch_store.specs.Leaving.{LeavesSound};
 ghost use Rattle.swi_dispatch_modules.specs.Area.{area_described, block_claimed, block_extended, rma_block_after_free};
 
 use arm_core::Cpu;
-use module_world::rma::Rma;
-use module_world::rma::address_map::AddressMap;
-use module_world::rma::dynamic_areas::Areas;
+use instances::module_world::rma::Rma;
+use instances::module_world::rma::address_map::AddressMap;
+use instances::module_world::rma::dynamic_areas::Areas;
 use swi_dispatch_store::swi_dispatch_answers::Refusal;
 
 /// Reason 5: the largest free block and all that is free go to R2 and R3.

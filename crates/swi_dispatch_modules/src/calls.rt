@@ -2,9 +2,9 @@
 
 ghost use Rattle.std.specs.Prelude.{◌≡◌};
 ghost use Rattle.profile.specs.Outcome.{Leaves};
-ghost use Rattle.module_world.specs.rma.specs.os_heap.specs.Store.{AreClasses};
-ghost use Rattle.module_world.specs.rma.specs.dynamic_areas.specs.Ground.{IsEstate, estate_of};
-ghost use Rattle.module_world.specs.World.{world_of};
+ghost use Rattle.instances.specs.module_world.specs.rma.specs.os_heap.specs.Store.{AreClasses};
+ghost use Rattle.instances.specs.module_world.specs.rma.specs.dynamic_areas.specs.Ground.{IsEstate, estate_of};
+ghost use Rattle.instances.specs.module_world.specs.World.{world_of};
 ghost use Rattle.swi_dispatch_modules.specs.Calls.{result_of_module_call};
 ghost use Rattle.swi_dispatch_modules.specs.Leaving.{LeavesWorld};
 
@@ -13,7 +13,7 @@ use crate::naming::{find_instance, prefer_instance, rename_instance, tell_instan
 use address_map::AddressMap;
 use arm_core::Cpu;
 use instances::Instances;
-use module_world::rma::dynamic_areas::Areas;
+use instances::module_world::rma::dynamic_areas::Areas;
 use profile::{ErrorNumber, ModuleReason};
 use swi_dispatch_store::swi_dispatch_answers::Refusal;
 

@@ -6,11 +6,11 @@ ghost use Rattle.std.specs.Prelude.{◌≡◌, Option};
 ghost use Rattle.profile.specs.Outcome.{Leaves};
 ghost use Rattle.address_map.specs.Bytes.{AreMapped};
 ghost use Rattle.address_map.specs.Memory.{is_mapped};
-ghost use Rattle.module_world.specs.rma.specs.dynamic_areas.specs.Areas.{Land};
+ghost use Rattle.instances.specs.module_world.specs.rma.specs.dynamic_areas.specs.Areas.{Land};
 ghost use Rattle.instances_plans.specs.Plans.{Plan};
 ghost use Rattle.instances_table.specs.Modules.{slots_of};
 ghost use Rattle.instances.specs.Turns.{MayGoOn};
-ghost use Rattle.module_world.specs.World.{world_of};
+ghost use Rattle.instances.specs.module_world.specs.World.{world_of};
 ghost use Rattle.swi_dispatch_modules.specs.Naming.{instance_found, instance_preferred, instance_renamed, instance_told};
 
 use address_map::AddressMap;

@@ -2,7 +2,7 @@
 use Rattle.std.proofs.Common.{◌≡◌, ℕ, false, Ok, Err, List, [], ◌∷◌, sym, subst, ◌∙◌}
 use Rattle.std.specs.Prelude.{IfOk, Result}
 use Rattle.std.proofs.lemmas.Bool.{true≢false}
-use Rattle.module_world.specs.Sound.{IsWorld}
+use Rattle.swi_dispatch_modules.specs.instances.specs.module_world.specs.Sound.{IsWorld}
 use Rattle.instances_plans.specs.Plans.{Plan}
 use Rattle.instances_table.specs.Modules.{slots_of}
 use Rattle.profile.specs.declared.error.ErrorNumber.{ErrorNumber}

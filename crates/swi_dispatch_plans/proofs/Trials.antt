@@ -5,8 +5,8 @@ use Rattle.std.proofs.lemmas.Bool.{false≢true, true≢false}
 use Rattle.address_map.specs.Bytes.{Bytes}
 use Rattle.address_map.specs.declared.map.AddressMap.{AddressMap}
 use Rattle.address_map.specs.Memory.{Layout, byte_at, bytes_of, class_of, layout}
-use Rattle.module_world.specs.World.{World, world_of}
-use Rattle.module_world.specs.dynamic_areas.specs.Areas.{Land}
+use Rattle.swi_dispatch_modules.specs.instances.specs.module_world.specs.World.{World, world_of}
+use Rattle.swi_dispatch_modules.specs.instances.specs.module_world.specs.dynamic_areas.specs.Areas.{Land}
 use Rattle.instances_plans.specs.declared.code.Code.{Code}
 use Rattle.instances_plans.specs.declared.code.Ended.{Ended}
 use Rattle.instances_plans.specs.declared.code.Ended.TheVariants as ended

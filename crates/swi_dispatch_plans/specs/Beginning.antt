@@ -2,8 +2,8 @@
 use Rattle.std.specs.Prelude.{◌≡◌, ◌<◌, ◌+◌, length, ℕ, true, false, IfOk, None, Result, List, [], ◌∷◌}
 use Rattle.std.specs.Prelude.{if◌then◌else◌}
 use Rattle.std.specs.List.{All}
-use Rattle.module_world.specs.Sound.{IsWorld}
-use Rattle.module_world.specs.dynamic_areas.specs.Ground.{IsEstate}
+use Rattle.swi_dispatch_modules.specs.instances.specs.module_world.specs.Sound.{IsWorld}
+use Rattle.swi_dispatch_modules.specs.instances.specs.module_world.specs.dynamic_areas.specs.Ground.{IsEstate}
 use Rattle.instances_plans.specs.Doable.{is_used}
 use Rattle.instances_plans.specs.Plans.{Plan}
 use Rattle.instances_table.specs.Changes.{modules_of_title}

@@ -9,8 +9,8 @@ use Rattle.profile.specs.declared.error.ErrorNumber.TheVariants.{BadPointer, Bad
 use Rattle.address_map.specs.Bytes.{bytes_between}
 use Rattle.arm_core.specs.State.{register_of}
 use Rattle.image_loader.specs.Entries.{Entry, bytes_of_image}
-use Rattle.module_world.specs.rma.specs.Copies.{may_be_copied}
-use Rattle.module_world.specs.rma.specs.NewImages.{may_be_in_place}
+use Rattle.swi_dispatch_modules.specs.instances.specs.module_world.specs.rma.specs.Copies.{may_be_copied}
+use Rattle.swi_dispatch_modules.specs.instances.specs.module_world.specs.rma.specs.NewImages.{may_be_in_place}
 use Rattle.instances_plans.specs.Plans.{Plan}
 use Rattle.instances_table.specs.Changes.{modules_of_title}
 use Rattle.instances_table.specs.Modules.{slots_of}

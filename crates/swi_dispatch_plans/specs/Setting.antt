@@ -3,8 +3,8 @@ use Rattle.std.specs.Prelude.{ℕ, Option, Result, List}
 use Rattle.profile.specs.declared.error.ErrorNumber.{ErrorNumber}
 use Rattle.address_map.specs.declared.map.AddressMap.{AddressMap}
 use Rattle.arm_core.specs.State.{State}
-use Rattle.module_world.specs.World.{World, world_of}
-use Rattle.module_world.specs.dynamic_areas.specs.Areas.{Land}
+use Rattle.swi_dispatch_modules.specs.instances.specs.module_world.specs.World.{World, world_of}
+use Rattle.swi_dispatch_modules.specs.instances.specs.module_world.specs.dynamic_areas.specs.Areas.{Land}
 use Rattle.instances_plans.specs.Plans.{Plan}
 use Rattle.instances_table.specs.Modules.{Module}
 use Rattle.swi_dispatch_answers.specs.Strings.{string_in}

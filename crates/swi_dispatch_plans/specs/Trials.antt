@@ -1,7 +1,7 @@
 -- A call under way that is tried on a copy: what it comes to, and the error that it would end with
 -- (this project's own).
 use Rattle.std.specs.Prelude.{ℕ, Option, Some, None, option_map}
-use Rattle.module_world.specs.World.{World}
+use Rattle.swi_dispatch_modules.specs.instances.specs.module_world.specs.World.{World}
 use Rattle.instances_plans.specs.declared.code.Code.{Code}
 use Rattle.instances_plans.specs.Carrying.{Carried, carry_of_plan}
 use Rattle.instances_plans.specs.Plans.{Plan}

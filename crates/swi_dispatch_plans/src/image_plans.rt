@@ -5,8 +5,8 @@ ghost use Rattle.std.specs.Prelude.{◌≡◌, ◌≤◌, length, true, IfOk, Ok
 ghost use Rattle.profile.specs.Outcome.{bind};
 ghost use Rattle.address_map.specs.Bytes.{AreMapped};
 ghost use Rattle.module_header.specs.Header.{header_of};
-ghost use Rattle.module_world.specs.rma.specs.Copies.{may_be_copied};
-ghost use Rattle.module_world.specs.rma.specs.NewImages.{may_be_in_place};
+ghost use Rattle.swi_dispatch_modules.specs.instances.specs.module_world.specs.rma.specs.Copies.{may_be_copied};
+ghost use Rattle.swi_dispatch_modules.specs.instances.specs.module_world.specs.rma.specs.NewImages.{may_be_in_place};
 ghost use Rattle.swi_dispatch_plans.specs.Beginning.{CanBegin, IsFree, SparesTitle};
 ghost use Rattle.swi_dispatch_plans.specs.ImagePlans.{SparesRange, copy_asked, image_header_in, insertion_asked};
 ghost use Rattle.swi_dispatch_plans.specs.ImagePlans.{instantiation_planned, load_asked, loading_of, may_add};
@@ -17,9 +17,9 @@ use crate::planner::Planner;
 use image_loader::Images;
 use instances_plans::Plan;
 use module_header::Header;
-use module_world::rma::Rma;
 use profile::ErrorNumber;
 use swi_dispatch_answers::words::{name_part, text_part};
+use swi_dispatch_modules::instances::module_world::rma::Rma;
 
 /// What a load is given.
 #[derive(Clone, Copy)]

@@ -8,10 +8,10 @@ use Rattle.profile.specs.declared.stop.Stop.{Stop}
 use Rattle.address_map.specs.Bytes.{Bytes}
 use Rattle.arm_core.specs.State.{State}
 use Rattle.assembler_text.specs.Printing.{print}
-use Rattle.swi_dispatch_guest.specs.swi_dispatch_frames.specs.Frames.{innermost_frame}
-use Rattle.swi_dispatch_guest.specs.swi_dispatch_frames.specs.declared.frame.Frame.{Frame}
-use Rattle.swi_dispatch_guest.specs.MachineState.{MachineState, StepOutcome, stop_of}
-use Rattle.swi_dispatch_guest.specs.Step.{without_x}
+use Rattle.debugger.specs.swi_dispatch_guest.specs.swi_dispatch_frames.specs.Frames.{innermost_frame}
+use Rattle.debugger.specs.swi_dispatch_guest.specs.swi_dispatch_frames.specs.declared.frame.Frame.{Frame}
+use Rattle.debugger.specs.swi_dispatch_guest.specs.MachineState.{MachineState, StepOutcome, stop_of}
+use Rattle.debugger.specs.swi_dispatch_guest.specs.Step.{without_x}
 use Rattle.trace_changes.specs.Status.{following_word}
 use Rattle.trace_effects.specs.Cause.{cause_of, swi_of_cause}
 use Rattle.trace_effects.specs.Stored.{stored_words}

@@ -3,8 +3,8 @@
 ghost use Rattle.std.specs.Prelude.{◌≡◌, OnOk};
 ghost use Rattle.std.specs.Io.KnownBytes.{Appends};
 ghost use Rattle.profile.specs.Output.{Writes};
-ghost use Rattle.swi_dispatch_guest.specs.MachineState.{outcome_with};
-ghost use Rattle.swi_dispatch_guest.specs.Parts.{state_of};
+ghost use Rattle.debugger.specs.swi_dispatch_guest.specs.MachineState.{outcome_with};
+ghost use Rattle.debugger.specs.swi_dispatch_guest.specs.Parts.{state_of};
 ghost use Rattle.trace_store_text.specs.FrameWords.{entered_word};
 ghost use Rattle.trace_text.specs.Below.{error_words, frames_kept, has_error, left_word_kept, prints_word};
 ghost use Rattle.trace_text.specs.Columns.{below_text};

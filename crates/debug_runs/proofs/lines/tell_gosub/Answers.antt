@@ -2,7 +2,7 @@
 use Rattle.std.proofs.Common.{◌≡◌, Some, None, length, sym, ap, subst, ◌∙◌, arith}
 use Rattle.std.specs.Prelude.{OnOk}
 use Rattle.debugger.specs.swi_dispatch.specs.Value.{MachineValue}
-use Rattle.swi_dispatch_guest.specs.Parts.{state_of}
+use Rattle.debugger.specs.swi_dispatch_guest.specs.Parts.{state_of}
 use Rattle.command_shell.specs.Calls.{stop_before_step_by}
 use Rattle.command_shell.specs.Session.{script_state}
 use Rattle.command_shell.specs.State.{ScriptState}

@@ -1,4 +1,4 @@
-use Rattle.module_world.specs.rma.specs.os_heap.specs.Store.{store_of}
+use Rattle.instances.specs.module_world.specs.rma.specs.os_heap.specs.Store.{store_of}
 use Rattle.swi_dispatch_modules.proofs.Leaving.{named_left, nothing_left, private_room, world_left}
 use Rattle.swi_dispatch_modules.proofs.calls.call_module.Goals as goal
 

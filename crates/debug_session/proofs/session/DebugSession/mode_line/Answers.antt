@@ -3,7 +3,7 @@ use Rattle.debug_lines.specs.ModeRequests.{mode_request_of}
 use Rattle.debug_modes.specs.Changes.{ModeTold, mode_told}
 use Rattle.debug_modes.specs.declared.modes.DebugModes.{DebugModes}
 use Rattle.debugger.specs.swi_dispatch.specs.Value.{MachineValue}
-use Rattle.swi_dispatch_guest.specs.Parts.{state_of}
+use Rattle.debugger.specs.swi_dispatch_guest.specs.Parts.{state_of}
 use Rattle.debug_session.specs.DebugState.{DebugState}
 use Rattle.debug_session.specs.Session.{debug_state}
 use Rattle.debug_session.specs.declared.session.DebugSession.{DebugSession}

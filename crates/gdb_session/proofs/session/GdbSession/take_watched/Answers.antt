@@ -3,8 +3,8 @@ use Rattle.std.specs.Prelude.{Some, None}
 use Rattle.address_map.specs.Bytes.{Bytes}
 use Rattle.debugger.specs.swi_dispatch.specs.Value.{MachineValue}
 use Rattle.gdb_machine.specs.Watches.{first_changed}
-use Rattle.swi_dispatch_guest.proofs.GateLemmas.{none_else}
-use Rattle.swi_dispatch_guest.specs.Parts.{state_of}
+use Rattle.debugger.specs.swi_dispatch_guest.proofs.GateLemmas.{none_else}
+use Rattle.debugger.specs.swi_dispatch_guest.specs.Parts.{state_of}
 use Rattle.view_items.specs.TextSink.{sink_text_of}
 use Rattle.gdb_session.specs.Session.{gdb_state}
 use Rattle.gdb_session.specs.State.{GdbState}

@@ -1,5 +1,5 @@
 use Rattle.std.proofs.Common.{◌≡◌, Ok, refl, subst, sym, true}
-use Rattle.flex_machine.specs.module_world.specs.rma.specs.NewImages.{may_be_in_place}
+use Rattle.swi_dispatch_flex.specs.flex_machine.specs.module_world.specs.rma.specs.NewImages.{may_be_in_place}
 use Rattle.swi_dispatch_plans.specs.instances.proofs.NamedByCalls.{inserting_names, named_given}
 use Rattle.swi_dispatch_plans.specs.ImagePlans.{SparesRange, image_header_in}
 use Rattle.swi_dispatch_plans.specs.Beginning.{IsFree}
