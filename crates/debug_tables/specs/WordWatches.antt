@@ -6,7 +6,7 @@ use Rattle.std.specs.Result.{result_ok}
 use Rattle.profile.specs.Digits.{hex_number, hex_word}
 use Rattle.address_map.specs.Bytes.{Bytes, word_loaded}
 use Rattle.debug_labels.specs.Standing.{first_of}
-use Rattle.debugger.specs.swi_dispatch_guest.specs.Run.{is_among}
+unfoldable pub use Rattle.debugger.specs.swi_dispatch_guest.specs.Run.{is_among}
 use Rattle.debug_tables.specs.declared.watches.WordWatchError.{WordWatchError}
 use Rattle.debug_tables.specs.declared.watches.WordWatchError.TheVariants.{WatchTableFull, NoWatch}
 use Rattle.debug_tables.specs.declared.watches.WatchHit.{WatchHit}

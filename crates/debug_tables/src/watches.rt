@@ -135,7 +135,7 @@ impl WordWatches {
         self.addresses.iter().position(|at| *at == address)
     }
 
-    #[tactic(auto, unfolding(debugger::specs::swi_dispatch_guest::specs::Run::is_among))]
+    #[tactic(auto, unfolding(crate::specs::WordWatches::is_among))]
     fn has(&self, address: u32) -> bool
         ensures { result ≡ is_among self.now address }
     {
