@@ -74,6 +74,7 @@ impl ReadyWords {
     }
 
     #[cold]
+    #[inline(never)]
     fn keep(&mut self, place: usize, word: u32)
         requires { place < 1024 }
         ensures { (default : ReadyWord) → (slice_index_or self.new place default).word ≡ word }

@@ -92,8 +92,10 @@ fn step_at(
     ensures layout { layout memory.new ≡ layout memory.old }
     ensures marks { class_of memory.new ≡ class_of memory.old }
 {
+    // Made anew: of an answer handed on as it is the compiler would ask at each step what it was.
     if !window.reach(memory, at) {
-        return slowly(cpu, at, memory);
+        let next = slowly(cpu, at, memory)?;
+        return Some(next);
     }
     let word = fetch(memory, window, at);
     let place = window.entry(at);

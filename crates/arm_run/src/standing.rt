@@ -61,6 +61,7 @@ pub(crate) fn position(cpu: &Cpu) -> usize
 /// changed but where the core stands.
 #[tactic(auto, using(crate::proofs::Positions::done_slowly, crate::proofs::Positions::other_slowly))]
 #[cold]
+#[inline(never)]
 pub(crate) fn slowly(cpu: &mut Cpu, at: usize, memory: &mut AddressMap) -> Option<usize>
     ensures state { Acts (is_owned memory.old) cpu.old at (bytes_of memory.old)
         result cpu.new (bytes_of memory.new) }
@@ -111,6 +112,7 @@ fn interrupt_at(memory: &AddressMap, ready: &ReadyWords, window: &Window, at: us
 /// The turn at a position where no instruction is done. The core stands there then.
 #[tactic(auto, using(crate::proofs::Carried::swis))]
 #[cold]
+#[inline(never)]
 pub(crate) fn turn_at(
     cpu: &mut Cpu,
     at: usize,

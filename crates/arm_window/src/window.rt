@@ -75,6 +75,7 @@ impl Window {
     /// Moves to the page of a position, if that is mapped and isn't the gate's.
     #[tactic(auto, using(crate::proofs::Opened::opening))]
     #[cold]
+    #[inline(never)]
     fn open(&mut self, memory: &AddressMap, at: usize) -> bool
         requires { IsOpen (place memory.now) self.old }
         ensures window { IsOpen (place memory.now) self.new }
