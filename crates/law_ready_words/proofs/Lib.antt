@@ -1,0 +1,3 @@
+pub mod PlainLemmas
+pub mod TransferLemmas
+pub mod BlockLemmas

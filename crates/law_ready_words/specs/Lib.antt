@@ -1,0 +1,3 @@
+-- What words made ready do. Begin with Effects, then Laws.
+pub mod Effects
+pub mod Laws
