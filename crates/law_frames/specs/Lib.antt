@@ -1,0 +1,2 @@
+-- Which frames of module code a step leaves open.
+pub mod Frames

@@ -1,0 +1,4 @@
+//! Law: which frames of module code a step leaves open.
+#![tactic(auto)]
+
+pub mod laws;
