@@ -1,13 +1,12 @@
-//! A source without numbered labels and layouts.
+//! A source without numbered labels, layouts, and what asks where lines stand.
 
 ghost use Rattle.std.specs.Prelude.{◌≡◌, IfOk};
 ghost use Rattle.source_text.specs.Plain.{plain_source};
 
-use source_layout::{push_without_layout, read_layout};
+use source_places::{placed_source, source_without_layout};
 use std::alloc::{AllocError, Global};
-use view_items::TextSink;
 
-/// A source without numbered labels and layouts, line for line.
+/// A source without numbered labels, layouts, and what asks where lines stand, line for line.
 ///
 /// # Errors
 ///
@@ -15,10 +14,6 @@ use view_items::TextSink;
 pub fn plain_source(alloc: Global, text: &[u8]) -> Result<Vec<u8>, AllocError>
     ensures { IfOk result (λ plain. plain.items ≡ plain_source text.now) }
 {
-    let layout = read_layout(alloc, text)?;
-    let mut sink = TextSink::new(alloc);
-    match push_without_layout(&layout, text, &mut sink) {
-        Ok(()) => Ok(sink.into_bytes()),
-        Err(_) => Err(AllocError),
-    }
+    let text = source_without_layout(alloc, text)?;
+    placed_source(alloc, text.as_slice())
 }

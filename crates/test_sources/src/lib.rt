@@ -15,6 +15,8 @@ mod lines;
 #[cfg(test)]
 mod mnemonics;
 #[cfg(test)]
+mod places;
+#[cfg(test)]
 mod sources;
 #[cfg(test)]
 mod texts;

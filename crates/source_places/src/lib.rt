@@ -1,0 +1,15 @@
+//! A source for ObjAsm without what asks where lines stand: halfwords, alignments by other numbers
+//! than 4, and distances of labels in products and the like.
+#![tactic(auto)]
+
+pub mod knowledge;
+pub mod numbers;
+pub mod placing;
+pub mod seen;
+pub mod settling;
+pub mod sizes;
+pub mod units;
+pub mod ways;
+pub mod works;
+
+pub use settling::{placed_source, source_without_layout};

@@ -1,0 +1,65 @@
+//! What asks where lines stand, by hand.
+
+use source_places::placed_source;
+
+static SOURCES: [(&str, &str); 10] = [
+    // Halfwords: the lower byte first, at an even place.
+    (
+        " DCW 1,&1234, -2 ; three\nx DCW 65535\n = 1\n DCW 5\n DCWU 6\n",
+        " DCB &1,&0,&34,&12,&FE,&FF ; three\nx DCB &FF,&FF\n = 1\n DCB &0,&5,&0\n DCB &6,&0\n",
+    ),
+    (
+        " = 1\ny DCWU &102\nz DCDU &1020304,y-z\n",
+        " = 1\ny DCB &2,&1\nz DCB &4,&3,&2,&1,&FE,&FF,&FF,&FF\n",
+    ),
+    // A label behind a zero byte, a number that is none of two bytes, an address, and no number.
+    (
+        " = 1\nx DCW 5\n DCWU 65536\n DCWU x\n DCWU 1,\n DCW\n",
+        " = 1\nx DCW 5\n DCWU 65536\n DCWU x\n DCWU 1,\n DCW\n",
+    ),
+    // Alignments.
+    (
+        " = \"abc\"\na ALIGN 16 ; to 16\nb ALIGN 16\n % 1\n ALIGN 8,2\n ALIGN\n ALIGN 4,1\n ALIGN 1\n ALIGN 12\n",
+        " = \"abc\"\na SPACE &D ; to 16\nb SPACE &0\n % 1\n SPACE &1\n ALIGN\n SPACE &1\n SPACE &0\n ALIGN 12\n",
+    ),
+    // Distances are numbers, and addresses are none.
+    (
+        "start MOV r0,#(end-start)/4\n DCB (end-table):SHR:1, 3 ; c\ntable DCD 1,2\nend\nn EQU (end - table) / 4\n \
+        LDR r1,=(.-start):MOD:16\n LDR r2,[r3,#n*4]\n % end-table\n MOV r0,#end/4\n B start\n",
+        "start MOV r0,#&4\n DCB &4, 3 ; c\ntable DCD 1,2\nend\nn EQU &2\n \
+        LDR r1,=&0\n LDR r2,[r3,#n*4]\n % &8\n MOV r0,#end/4\n B start\n",
+    ),
+    // Words of a pool, of which a MOV needs none, stand between.
+    (
+        " LDR r0,=&101\n LDR r0,=5\na\n LTORG\nb DCB (b-a)/2\n LDR r0,=a\n END\n",
+        " LDR r0,=&101\n LDR r0,=5\na\n LTORG\nb DCB &2\n LDR r0,=a\n END\n",
+    ),
+    // A text with a quote, NOP, ADR, a name before its use.
+    (
+        "a = \"x\"\"y\",0\nb ADR r0,a\n NOP\nc\n MOV r0,#(b-a)*1\n MOV r1,#(c-b)*k\nk EQU 3\n",
+        "a = \"x\"\"y\",0\nb ADR r0,a\n NOP\nc\n MOV r0,#&4\n MOV r1,#&18\nk EQU 3\n",
+    ),
+    // What settles late: a size that a distance says, behind which stands what it counts.
+    (
+        "a % (d-c)*2\nb DCB (b-a)/1\nc\n DCW 7\nd\n",
+        "a % &6\nb DCB &6\nc\n DCB &0,&7,&0\nd\n",
+    ),
+    // Loads by a distance: one below 0 is a number.
+    (
+        "x DCD 5\n LDR r0,[pc,#x-.-8] ; 5\n LDR r1,[pc,#y-.-8]\n NOP\n STR r0,[r1,#-4]!\ny DCD 1\n LDR r2,[pc,#z-.-8]\nz\n",
+        "x DCD 5\n LDR r0,[pc,#&FFFFFFF4] ; 5\n LDR r1,[pc,#y-.-8]\n NOP\n STR r0,[r1,#-4]!\ny DCD 1\n \
+        LDR r2,[pc,#&FFFFFFFC]\nz\n",
+    ),
+    // What doesn't settle stays.
+    ("a % (b-a)/1+1\nb DCW 1\n", "a % (b-a)/1+1\nb DCW 1\n"),
+];
+
+#[test]
+fn places(rt: HostRuntime) {
+    for (source, wanted) in SOURCES {
+        let Ok(placed) = placed_source(rt.alloc(), source.as_bytes()) else {
+            return;
+        };
+        assert!(rt; placed.as_slice() == wanted.as_bytes(), "{source}");
+    }
+}
