@@ -12,14 +12,14 @@ use Rattle.debug_lines.specs.DebugRequests.{expect_line, is_remark, is_repeatabl
 use Rattle.debug_lines.specs.DebugRequests.{Banks, Frames, Help, Labels, Stack, Where, gosub_to, is_frames_word, mode_line, of_image, put_at}
 use Rattle.debug_lines.specs.DebugRequests.{own_request_of_four, own_request_of_three, own_request_of_two, own_request_of_word}
 use Rattle.debug_lines.specs.DebugRequests.{own_request_of_words, set_pc_to, set_psr_to, set_request, stack_of, words_at}
-use Rattle.debug_lines.specs.DebugRequests.{line_behind_trace, simple_request_behind, trace_of_own, trace_of_words, trace_limit, trace_step, traced_request, traced_script, untraced_line}
+use Rattle.debug_lines.specs.DebugRequests.{line_behind_trace, simple_request_behind, trace_of_own, trace_of_words, trace_last, trace_limit, trace_step, traced_request, traced_script, untraced_line}
 use Rattle.debug_lines.specs.Expectations.{ExpectRequest, expect_request, text_behind}
 use Rattle.debug_lines.specs.ModeRequests.{ModeRequest, Trace, mode_of_two, stub_request}
 use Rattle.debug_lines.specs.Status.{status_of_two, status_of_word}
 use Rattle.debug_lines.specs.SteppingRequests.{Finish, SteppingRequest, stepping_in}
 use Rattle.debug_lines.specs.declared.status.StatusPattern.{StatusPattern}
 
-unfoldable asks_script : DebugRequest → Bool
+unfoldable pub asks_script : DebugRequest → Bool
 asks_script (Script request) = true
 asks_script _ = false
 
@@ -127,7 +127,7 @@ own_of_words (word ∷ first ∷ second ∷ []) = own_three word first second
 own_of_words (word ∷ first ∷ second ∷ third ∷ []) = own_four word first second third
 own_of_words (word ∷ first ∷ second ∷ third ∷ fourth ∷ more) = refl
 
-own_behind : (expected stub : Option (List ℕ)) (line : List ℕ) → asks_script (own_request_behind expected stub line) ≡ false
+pub own_behind : (expected stub : Option (List ℕ)) (line : List ℕ) → asks_script (own_request_behind expected stub line) ≡ false
 own_behind (Some expected) stub line = own_expect (expect_request expected)
 own_behind None (Some stub) line = own_mode (stub_request stub)
 own_behind None None line = own_of_words (words line)
@@ -179,7 +179,7 @@ traced_alone (Repeat count line) r e = absurd (cc)
 traced_alone NotKnown r e = e
 
 -- and TRACE alone asks for nothing of a script's
-unfoldable some_asks_script : Option DebugRequest → Bool
+unfoldable pub some_asks_script : Option DebugRequest → Bool
 some_asks_script (Some d) = asks_script d
 some_asks_script None = false
 
@@ -193,19 +193,26 @@ unfolding some_asks_script asks_script
 own_limit (Some limit) = refl
 own_limit None = refl
 
+own_last : (o : Option ℕ) → some_asks_script (trace_last o) ≡ false
+unfolding some_asks_script asks_script
+own_last (Some count) = refl
+own_last None = refl
+
 some_if : (b : Bool) (x y : Option DebugRequest) → some_asks_script x ≡ false → some_asks_script y ≡ false
     → some_asks_script (if b then x else y) ≡ false
 some_if true x y first other = first
 some_if false x y first other = other
 
-own_trace : (ws : List (List ℕ)) → some_asks_script (trace_of_words ws) ≡ false
+pub own_trace : (ws : List (List ℕ)) → some_asks_script (trace_of_words ws) ≡ false
 unfolding some_asks_script asks_script
 own_trace [] = refl
 own_trace (word ∷ []) =
     some_if (is_same_word word (codes "ON")) (Some (Mode (Trace true))) _ refl
     (some_if (is_same_word word (codes "OFF")) (Some (Mode (Trace false))) _ refl (own_step (script_number word)))
-own_trace (word ∷ limit ∷ []) = some_if (is_same_word word (codes "LIMIT")) _ None (own_limit (script_number limit)) refl
-own_trace (word ∷ limit ∷ other ∷ more) = refl
+own_trace (word ∷ count ∷ []) =
+    some_if (is_same_word word (codes "LIMIT")) _ _ (own_limit (script_number count))
+    (some_if (is_same_word word (codes "LAST")) _ None (own_last (count_up_to 64 count)) refl)
+own_trace (word ∷ count ∷ other ∷ more) = refl
 
 trace_alone : (o : Option DebugRequest) (d : DebugRequest) (r : Request) → some_asks_script o ≡ false
     → Script r ≡ trace_of_own o d → Script r ≡ traced_request d

@@ -14,7 +14,7 @@ use Rattle.debug_lines.specs.declared.requests.DebugView.TheVariants as view
 use Rattle.debug_lines.specs.Expectations.{ExpectRequest, expect_request, expect_request_of, text_behind}
 use Rattle.debug_lines.specs.ModeRequests.{ModeRequest, Trace, TraceLimit, mode_of_two, mode_request_of, stub_request}
 use Rattle.debug_lines.specs.Status.{status_of_word, status_of_two}
-use Rattle.debug_lines.specs.SteppingRequests.{SteppingRequest, Step, Finish, Gosub, stepping_in, stepping_request_of}
+use Rattle.debug_lines.specs.SteppingRequests.{SteppingRequest, Step, Finish, Gosub, RunLast, stepping_in, stepping_request_of}
 use Rattle.debug_lines.specs.Tidy.{tidied_line}
 
 -- what only looks
@@ -207,10 +207,16 @@ abbrev pub trace_limit : Option ℕ → Option DebugRequest
 trace_limit (Some limit) = Some (Mode (TraceLimit limit))
 trace_limit None = None
 
--- TRACE LIMIT n
+abbrev pub trace_last : Option ℕ → Option DebugRequest
+trace_last (Some count) = Some (Stepping true (RunLast count))
+trace_last None = None
+
+-- TRACE LIMIT n, TRACE LAST n
 abbrev pub trace_of_two : List ℕ → List ℕ → Option DebugRequest
-trace_of_two word limit =
-    if is_same_word word (codes "LIMIT") then trace_limit (script_number limit) else None
+trace_of_two word count =
+    if is_same_word word (codes "LIMIT") then trace_limit (script_number count) else (
+    if is_same_word word (codes "LAST") then trace_last (count_up_to 64 count) else
+    None)
 
 abbrev pub trace_of_words : List (List ℕ) → Option DebugRequest
 trace_of_words (word ∷ []) = trace_of_word word

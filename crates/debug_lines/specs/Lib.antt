@@ -7,6 +7,7 @@ pub mod ErrorNumbers
 pub mod Expectations
 pub mod FewWords
 pub mod ModeRequests
+pub mod Openers
 pub mod Registers
 pub mod Repeats
 pub mod Spelling

@@ -1,5 +1,6 @@
 -- The lines that take steps: those of a script; FINISH, which takes them until the innermost frame has
--- gone back; and GOSUB, which calls the routine at an address, a multiple of 4 below 2^26.
+-- gone back; GOSUB, which calls the routine at an address, a multiple of 4 below 2^26; and TRACE LAST,
+-- a RUN of which the last steps are told.
 use Rattle.std.specs.Prelude.{ℕ, List, Option, Some, None}
 use Rattle.command_shell_lines.specs.Requests as script
 use Rattle.debug_lines.specs.declared.stepping.SteppingCommand.{SteppingCommand}
@@ -12,6 +13,8 @@ pub data SteppingRequest : Type 0 where
   Load : List ℕ → SteppingRequest
   Finish : SteppingRequest
   Gosub : ℕ → SteppingRequest
+  -- how many of its last steps are told at most
+  RunLast : ℕ → SteppingRequest
 
 -- what a line of a script asks for that takes steps
 abbrev pub stepping_in : script.Request → Option SteppingRequest
@@ -29,3 +32,4 @@ stepping_request_of (stepping.Call number) = Call number
 stepping_request_of (stepping.Load text) = Load text.now
 stepping_request_of stepping.Finish = Finish
 stepping_request_of (stepping.Gosub address) = Gosub address
+stepping_request_of (stepping.RunLast count) = RunLast count

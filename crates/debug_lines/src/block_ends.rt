@@ -6,7 +6,7 @@ ghost use Rattle.debug_lines.specs.DebugRequests.{debug_opens_block, debug_reque
 ghost use Rattle.debug_lines.specs.BlockEnds.{begins_at_end, begins_told, is_outside_blocks, missing_ends_if, place_after};
 ghost use Rattle.debug_lines.specs.BlockEnds.{begin_if, place_at_opening, place_in_block, place_when_told};
 
-use crate::whole_requests::opens_block;
+use crate::openers::opens_block;
 use command_shell_lines::{ScriptCommand, command_of, is_block_end};
 use std::alloc::{AllocError, Global};
 use text_lines::cut_line;
@@ -71,11 +71,22 @@ impl BlockReading {
         ensures { OnOk result (blocks_read self.new ≡ blocks_after_line (blocks_read self.old) line.now) }
     {
         self.number = self.number.saturating_add(1);
-        let next = self.place.after(alloc, self.number, line)?;
-        let begin = self.place.told_at(line);
-        self.push_begin(begin)?;
-        self.place = next;
-        Ok(())
+        match self.place {
+            BlockPlace::Outside => {
+                self.place = place_at_opening(opens_block(alloc, line)?, self.number);
+                Ok(())
+            }
+            BlockPlace::Within(begin) => {
+                let ends = is_block_end(line);
+                let goes_on = is_outside_blocks(line);
+                self.place = place_in_block(ends, goes_on, begin);
+                self.push_begin(begin_if(ends, goes_on, begin))
+            }
+            BlockPlace::Told => {
+                self.place = place_when_told(is_block_end(line));
+                Ok(())
+            }
+        }
     }
 
     fn push_begin(&mut self, begin: Option<usize>) -> Result<(), AllocError>
@@ -117,33 +128,6 @@ impl BlockReading {
 }
 
 impl BlockPlace {
-    // Where the reading stands after a line of that number.
-    fn after(self, alloc: Global, number: usize, line: &[u8]) -> Result<BlockPlace, AllocError>
-        ensures { IfOk result (λ place. place ≡ place_after self number line.now) }
-    {
-        match self {
-            BlockPlace::Outside => Ok(place_at_opening(opens_block(alloc, line)?, number)),
-            BlockPlace::Within(begin) => Ok(place_in_block(
-                is_block_end(line),
-                is_outside_blocks(line),
-                begin,
-            )),
-            BlockPlace::Told => Ok(place_when_told(is_block_end(line))),
-        }
-    }
-
-    // The line at which the block begins that turns out to lack its END at this line.
-    fn told_at(self, line: &[u8]) -> Option<usize>
-        ensures { option_to_list result ≡ begins_told self line.now }
-    {
-        match self {
-            BlockPlace::Within(begin) => {
-                begin_if(is_block_end(line), is_outside_blocks(line), begin)
-            }
-            BlockPlace::Outside | BlockPlace::Told => None,
-        }
-    }
-
     // The line at which the block begins that is open at the script's end.
     fn told_at_end(self) -> Option<usize>
         ensures { option_to_list result ≡ begins_at_end self }

@@ -7,6 +7,7 @@ mod error_names;
 mod expectations;
 mod few_words;
 mod modes;
+mod openers;
 mod registers;
 mod repeats;
 mod requests;

@@ -2,14 +2,12 @@
 
 ghost use Rattle.std.specs.Prelude.{◌≡◌, ◌==◌, option_map, true, IfSome};
 ghost use Rattle.std.specs.List.{position};
-ghost use Rattle.command_shell_lines.specs.Numbers.{script_number};
 ghost use Rattle.debug_lines.specs.DebugRequests.{debug_opens_block, is_known, is_repeatable, own_request};
 ghost use Rattle.debug_lines.specs.DebugRequests.{repeated_at, repeated_if, repeated_line, simple_request};
 ghost use Rattle.debug_lines.specs.Repeats.{count_and_line, counted_text, counted_text_at, repeated_text};
 
 use crate::expectations::text_behind;
-use crate::requests::DebugCommand;
-use crate::tracing::{is_repeatable, opens_simple_block, simple_command};
+use crate::tracing::{opens_simple_block, simple_command};
 use command_shell_lines::number_of;
 
 /// A tidy line, and how often it is to be answered.
@@ -57,7 +55,7 @@ fn repeated_if(count: Option<u32>, line: &[u8]) -> Option<RepeatedLine<'_>>
     ensures alone { IfSome result (λ repeated. is_repeatable (simple_request repeated.line.now) ≡ true) }
 {
     match count {
-        Some(count) if count > 0 && is_repeatable(&simple_command(line)) => Some(RepeatedLine {
+        Some(count) if count > 0 && simple_command(line).is_repeatable() => Some(RepeatedLine {
             count,
             line,
         }),
@@ -110,14 +108,14 @@ pub(crate) fn opens_own_block(tidied: &[u8]) -> bool
 pub fn is_repeatable_line(tidied: &[u8]) -> bool
     ensures { result ≡ is_repeatable (simple_request tidied.now) }
 {
-    is_repeatable(&simple_command(tidied))
+    simple_command(tidied).is_repeatable()
 }
 
 /// Whether a tidy line that is no REPEAT means something.
 pub fn is_known_line(tidied: &[u8]) -> bool
     ensures { result ≡ is_known (simple_request tidied.now) }
 {
-    !matches!(simple_command(tidied), DebugCommand::Unknown)
+    simple_command(tidied).is_known()
 }
 
 /// Whether a tidy line means something.

@@ -50,7 +50,7 @@ pub enum DebugCommand<'a> {
     /// A line of a script, as it stands or made tidy.
     Script(ScriptCommand<'a>),
     /// A line that takes steps, and whether they are told one by one: FINISH and GOSUB, and behind
-    /// TRACE the lines of a script too. `TRACE n` is `TRACE STEP n`.
+    /// TRACE the lines of a script too. `TRACE n` is `TRACE STEP n`, and `TRACE LAST n` a RUN.
     Stepping(bool, SteppingCommand<'a>),
     /// A line that changes how later lines are answered.
     Mode(ModeCommand),
@@ -80,6 +80,7 @@ pub enum DebugCommand<'a> {
 
 impl DebugCommand<'_> {
     ghost use Rattle.debug_lines.specs.DebugRequests.{debug_opens_block, debug_request_of_command};
+    ghost use Rattle.debug_lines.specs.DebugRequests.{is_known, is_repeatable};
 
     /// Whether the lines that follow are a block of the line's own.
     pub fn opens_block(&self) -> bool
@@ -90,6 +91,24 @@ impl DebugCommand<'_> {
             _ => false,
         }
     }
+
+    /// Whether the line means something.
+    pub(crate) fn is_known(&self) -> bool
+        ensures { result ≡ is_known (debug_request_of_command self.now) }
+    {
+        !matches!(self, DebugCommand::Unknown)
+    }
+
+    /// Whether the line may stand behind REPEAT: it asks for something, and opens no block.
+    pub(crate) fn is_repeatable(&self) -> bool
+        ensures { result ≡ is_repeatable (debug_request_of_command self.now) }
+    {
+        match self {
+            DebugCommand::Script(command) => !command.opens_block(),
+            DebugCommand::Remark | DebugCommand::Unknown => false,
+            _ => true,
+        }
+    }
 }
 
 /// Whether a line is one of a script as it stands. What it asks for is `command_of` then, and else
@@ -97,7 +116,14 @@ impl DebugCommand<'_> {
 pub fn is_script_line(line: &[u8]) -> bool
     ensures { result ≡ is_script_request (request_of line.now) }
 {
-    is_known(&command_of(line))
+    is_script_command(&command_of(line))
+}
+
+/// Whether a line that was read as one of a script is one.
+pub(crate) fn is_script_command(command: &ScriptCommand) -> bool
+    ensures { result ≡ is_script_request (request_of_command command.now) }
+{
+    !matches!(command, ScriptCommand::Unknown)
 }
 
 /// What a tidy line asks for that is neither a REPEAT nor a TRACE.
@@ -109,7 +135,7 @@ pub(crate) fn untraced_command(tidied: &[u8]) -> DebugCommand<'_>
         return DebugCommand::Remark;
     }
     let command = command_of(tidied);
-    if is_known(&command) {
+    if is_script_command(&command) {
         return DebugCommand::Script(command);
     }
     if let Some(text) = text_behind(b"EXPECT ", tidied) {
@@ -119,12 +145,6 @@ pub(crate) fn untraced_command(tidied: &[u8]) -> DebugCommand<'_>
     } else {
         command_of_words(tidied)
     }
-}
-
-fn is_known(command: &ScriptCommand) -> bool
-    ensures { result ≡ is_script_request (request_of_command command.now) }
-{
-    !matches!(command, ScriptCommand::Unknown)
 }
 
 fn is_remark(line: &[u8]) -> bool

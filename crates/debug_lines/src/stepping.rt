@@ -21,6 +21,8 @@ pub enum SteppingCommand<'a> {
     Finish,
     /// `GOSUB a`, with a multiple of 4 below 2^26.
     Gosub(Origin),
+    /// `TRACE LAST n`: RUN, of which the last steps are told, 1 to 64 of them.
+    RunLast(u32),
 }
 
 /// What a line of a script asks for, where it takes steps: RUN, STEP, CALL and LOAD do.

@@ -21,6 +21,7 @@ fn stepping(line: &[u8]) -> Option<(bool, u32, u32)> {
         }
         SteppingCommand::Finish => Some((is_traced, 5, 0)),
         SteppingCommand::Gosub(address) => Some((is_traced, 6, address.address())),
+        SteppingCommand::RunLast(count) => Some((is_traced, 7, count)),
     }
 }
 
@@ -50,7 +51,7 @@ fn last_setting(line: &[u8]) -> Option<StubSetting> {
 
 #[test]
 fn lines_take_steps(rt: HostRuntime) -> Result<(), Fail> {
-    let lines: [(&[u8], (bool, u32, u32)); 12] = [
+    let lines: [(&[u8], (bool, u32, u32)); 14] = [
         (b"FINISH", (false, 5, 0)),
         (b"gosub &8000", (false, 6, 0x8000)),
         (b"TRACE RUN", (true, 1, 0)),
@@ -63,6 +64,8 @@ fn lines_take_steps(rt: HostRuntime) -> Result<(), Fail> {
         (b"TRACE FINISH", (true, 5, 0)),
         (b"Trace Gosub &3FFFFFC", (true, 6, 0x3FF_FFFC)),
         (b"TRACE STEP &FFFFFFFF", (true, 2, 0xFFFF_FFFF)),
+        (b"trace last 1", (true, 7, 1)),
+        (b"TRACE LAST &40", (true, 7, 64)),
     ];
     for (line, told) in lines.iter() {
         assert!(rt; stepping(line) == Some(*told));
@@ -105,7 +108,7 @@ fn lines_change_modes(rt: HostRuntime) -> Result<(), Fail> {
 
 #[test]
 fn lines_ask_for_nothing(rt: HostRuntime) -> Result<(), Fail> {
-    let lines: [&[u8]; 42] = [
+    let lines: [&[u8]; 46] = [
         b"FINISH 1",
         b"GOSUB",
         b"GOSUB 2",
@@ -140,6 +143,10 @@ fn lines_ask_for_nothing(rt: HostRuntime) -> Result<(), Fail> {
         b"TRACE LIMIT",
         b"TRACE LIMIT &100000000",
         b"TRACE LIMIT 1 2",
+        b"TRACE LAST",
+        b"TRACE LAST 0",
+        b"TRACE LAST 65",
+        b"TRACE LAST 1 RUN",
         b"TRACE ASM a 0",
         b"TRACE HEX a",
         b"TRACE TRACE RUN",

@@ -95,7 +95,8 @@ fn in_word(byte: u8) -> TidyState
     }
 }
 
-fn is_blank(byte: u8) -> bool
+/// A space or a tab.
+pub(crate) fn is_blank(byte: u8) -> bool
     ensures { result ≡ is_blank byte }
 {
     byte == b' ' || byte == b'\t'

@@ -2,7 +2,7 @@
 
 ghost use Rattle.std.specs.Prelude.{◌≡◌, option_map};
 ghost use Rattle.command_shell_lines.specs.Requests.{words};
-ghost use Rattle.debug_lines.specs.DebugRequests.{debug_opens_block, debug_request_of_command, is_repeatable, simple_request};
+ghost use Rattle.debug_lines.specs.DebugRequests.{debug_opens_block, debug_request_of_command, simple_request};
 ghost use Rattle.debug_lines.specs.DebugRequests.{trace_of_two, trace_of_word, trace_of_words, trace_request, traced_request, untraced_line};
 
 use crate::expectations::text_behind;
@@ -10,7 +10,10 @@ use crate::few_words::{FewWords, few_words, has_letters};
 use crate::modes::ModeCommand;
 use crate::requests::{DebugCommand, untraced_command};
 use crate::stepping::{SteppingCommand, stepping_in};
-use command_shell_lines::number_of;
+use command_shell_lines::{count_up_to, number_of};
+
+/// The most of a run's last steps that a line tells.
+const MAX_LAST_STEPS: u32 = 64;
 
 /// What a tidy line asks for that is no REPEAT.
 #[tactic(auto, unfolding(crate::specs::DebugRequests::simple_request))]
@@ -40,17 +43,6 @@ pub(crate) fn opens_simple_block(tidied: &[u8]) -> bool
     simple_command(tidied).opens_block()
 }
 
-/// Whether what a line asks for may stand behind REPEAT: it is something, and no block.
-pub(crate) fn is_repeatable(command: &DebugCommand<'_>) -> bool
-    ensures { result ≡ is_repeatable (debug_request_of_command command.now) }
-{
-    match command {
-        DebugCommand::Script(command) => !command.opens_block(),
-        DebugCommand::Remark | DebugCommand::Unknown => false,
-        _ => true,
-    }
-}
-
 // What a line asks for by what stands behind the word TRACE.
 fn trace_command(text: &[u8]) -> DebugCommand<'_>
     ensures { debug_request_of_command result ≡ trace_request text.now }
@@ -67,7 +59,7 @@ fn own_trace(text: &[u8]) -> Option<DebugCommand<'static>>
 {
     match few_words(text) {
         FewWords::One(word) => trace_of_word(word),
-        FewWords::Two(word, limit) => trace_of_two(word, limit),
+        FewWords::Two(word, count) => trace_of_two(word, count),
         _ => None,
     }
 }
@@ -85,12 +77,15 @@ fn trace_of_word(word: &[u8]) -> Option<DebugCommand<'static>>
     }
 }
 
-fn trace_of_two(word: &[u8], limit: &[u8]) -> Option<DebugCommand<'static>>
-    ensures { option_map debug_request_of_command result ≡ trace_of_two word.now limit.now }
+fn trace_of_two(word: &[u8], count: &[u8]) -> Option<DebugCommand<'static>>
+    ensures { option_map debug_request_of_command result ≡ trace_of_two word.now count.now }
 {
     if has_letters(word, b"LIMIT") {
-        let limit = number_of(limit)?;
+        let limit = number_of(count)?;
         Some(DebugCommand::Mode(ModeCommand::TraceLimit(limit)))
+    } else if has_letters(word, b"LAST") {
+        let count = count_up_to(MAX_LAST_STEPS, count)?;
+        Some(DebugCommand::Stepping(true, SteppingCommand::RunLast(count)))
     } else {
         None
     }

@@ -2,13 +2,10 @@
 //! bit.
 
 ghost use Rattle.std.specs.Prelude.{◌≡◌, IfOk};
-ghost use Rattle.debug_lines.specs.DebugRequests.{debug_request, debug_opens_block};
 ghost use Rattle.debug_lines.specs.WholeDebugRequests.{AreWholeDebugRequests, is_debug_block_open_after};
 
-use crate::repeats::opens_own_block;
-use crate::requests::is_script_line;
-use crate::tidy::tidied;
-use command_shell_lines::{command_of, is_block_end};
+use crate::openers::opens_block;
+use command_shell_lines::is_block_end;
 use std::alloc::{AllocError, Global};
 use text_lines::cut_line;
 
@@ -43,19 +40,4 @@ fn is_open_after(alloc: Global, is_open: bool, line: &[u8]) -> Result<bool, Allo
     } else {
         opens_block(alloc, line)
     }
-}
-
-/// Whether a line opens a block.
-///
-/// # Errors
-///
-/// `AllocError` where the host has no memory for the line made tidy.
-pub(crate) fn opens_block(alloc: Global, line: &[u8]) -> Result<bool, AllocError>
-    ensures { IfOk result (λ opens. opens ≡ debug_opens_block (debug_request line.now)) }
-{
-    if is_script_line(line) {
-        return Ok(command_of(line).opens_block());
-    }
-    let tidy = tidied(alloc, line)?;
-    Ok(opens_own_block(&tidy))
 }
