@@ -1,3 +1,5 @@
+pub mod BreakLemmas
+pub mod LastLemmas
 pub mod LineLemmas
 pub mod PlaceLemmas
 pub mod PlainLemmas

@@ -12,7 +12,8 @@ use Rattle.command_shell.specs.State.{Answered, IsAnswered, ScriptState}
 use Rattle.view_items.specs.TextSink.{sink_text_of}
 use Rattle.view_items.specs.declared.text_sink.TextSink.{TextSink}
 use Rattle.debug_runs.specs.Endings.{line_end_told}
-use Rattle.debug_lines.specs.SteppingRequests.{Run, Step, Call, Load, Finish, Gosub}
+use Rattle.debug_lines.specs.SteppingRequests.{Run, Step, Call, Load, Finish, Gosub, RunLast}
+use Rattle.debug_runs.specs.LastSteps.{last_run}
 use Rattle.debug_runs.specs.Lines.{SteppingTold, call_line_told, finish_told, stepping_told, steps_line_told, told_at_once, told_if_awake, told_unless, told_with_ending}
 use Rattle.debug_runs.specs.Routines.{caller_in, script_at_routine}
 use Rattle.debug_runs.specs.Runs.{SteppingRun, call_run, steps_run}
@@ -149,3 +150,15 @@ finish_some modes labels told s zero some = absurd (omega (arith, some))
 finish_some modes labels told s (suc outer) some =
     let less : outer ≡ suc outer - 1 = omega arith in
     ap (λ (n : ℕ). told_if_awake told s kind.Call s.left (steps_run modes labels (goal.Frames n) s.left told s)) less
+
+-- TRACE LAST
+pub run_last_is : (modes : StepModes) (labels : List ImageLabels) (told : Option ℕ) (s : ScriptState) (count : ℕ)
+    → stepping_told modes labels told s (RunLast count) ≡ told_if_awake None s (kind.Steps false) s.left (last_run modes labels count s.left s)
+unfolding stepping_told
+run_last_is modes labels told s count = refl
+
+-- its run, by what was found before it
+pub last_ran : (modes : StepModes) (labels : List ImageLabels) (count left : ℕ) (s now : ScriptState) (old new : Telling) (e : RunEnd) → left ≡ s.left
+    → IsAfterStepping (last_run modes labels count left s) now old new e → IsAfterStepping (last_run modes labels count s.left s) now old new e
+last_ran modes labels count left s now old new e is ran =
+    subst (λ (n : ℕ). IsAfterStepping (last_run modes labels count n s) now old new e) is ran

@@ -8,7 +8,7 @@ use Rattle.command_shell.specs.Calls.{step_made, stop_before_step_by}
 use Rattle.command_shell.specs.State.{ScriptState}
 use Rattle.debug_counts.proofs.CountLemmas.{uncounted}
 use Rattle.debug_counts.specs.Counts.{CountTable, step_counted, steps_counted}
-use Rattle.debug_lines.specs.SteppingRequests.{Run, Step, Call, Load, Finish, Gosub}
+use Rattle.debug_lines.specs.SteppingRequests.{Run, Step, Call, Load, Finish, Gosub, RunLast}
 use Rattle.debug_runs.proofs.TellingLemmas.{whatever}
 use Rattle.debug_runs.specs.Places.{places_if_awake, places_of_call, places_of_finish, places_of_line, places_of_outside, places_of_run, places_unless, places_unless_stopped}
 use Rattle.debug_runs.specs.Routines.{script_at_routine}
@@ -125,6 +125,11 @@ pub gosub_places : (modes : StepModes) (s : ScriptState) (address : ℕ)
     ≡ places_if_awake s s.left (places_of_run modes (goal.Routine (length s.machine.tables.frames)) s.left (script_at_routine s address))
 unfolding places_of_line
 gosub_places modes s address = refl
+
+pub last_places : (modes : StepModes) (s : ScriptState) (count : ℕ)
+    → places_of_line modes s (RunLast count) ≡ places_if_awake s s.left (places_of_run modes goal.Nowhere s.left s)
+unfolding places_of_line
+last_places modes s count = refl
 
 -- FINISH where no frame is open, and where one is
 pub finish_none_places : {U E : Type 0} (r : Result U E) (modes : StepModes) (s : ScriptState) (frames : ℕ) (c : CountTable) → frames ≡ 0

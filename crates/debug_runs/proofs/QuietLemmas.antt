@@ -1,19 +1,26 @@
 -- What the machine's own run takes of a run at whose steps nothing looks.
-use Rattle.std.proofs.Common.{◌≡◌, ◌≤◌, ℕ, zero, suc, ◌+◌, ◌-◌, ◌==◌, ◌&&◌, ◌++◌, Bool, true, false, not, List, [], ◌∷◌, Option, Some, None, if◌then◌else◌, ap, arith, refl, subst, sym, ◌∙◌}
-use Rattle.std.proofs.lemmas.Bool.{and_parts}
+use Rattle.std.proofs.Common.{◌≡◌, ◌≤◌, ◌<◌, ℕ, zero, suc, ◌+◌, ◌-◌, ◌==◌, ◌&&◌, ◌++◌, ◌⊎◌, inl, inr, Bool, true, false, not, List, [], ◌∷◌, Option, Some, None, if◌then◌else◌, ap, arith, length, refl, subst, sym, ◌∙◌}
+use Rattle.std.proofs.lemmas.Bool.{and_parts, eqb-true, ltb-true, ne_eqb}
 use Rattle.std.proofs.lemmas.Bool.Decides.{nat_tests}
+use Rattle.std.proofs.lemmas.List.{length-append}
+use Rattle.std.specs.Prelude.{nat_lt}
+use Rattle.profile.specs.MemoryMap.{return_gate}
 use Rattle.profile.specs.declared.stop.Stop.{Stop}
 use Rattle.profile.specs.declared.stop.Stop.TheVariants as stop
 use Rattle.debug_labels.specs.Labels.{ImageLabels}
+use Rattle.image_loader.specs.Entries.{Entry}
+use Rattle.law_frames.proofs.Keeping.{only_the_gate_closes}
+use Rattle.debugger.specs.swi_dispatch_guest.specs.swi_dispatch_frames.specs.declared.frame.Frame.{Frame}
 use Rattle.debugger.specs.swi_dispatch_guest.specs.declared.halt.Halt.{Halt}
 use Rattle.debugger.specs.swi_dispatch_guest.specs.MachineState.{MachineState, StepOutcome}
-use Rattle.debugger.specs.swi_dispatch_guest.specs.Run.{Run, count_after, go_on, is_among, quiet_run, ran, run_after_steps}
+use Rattle.debugger.specs.swi_dispatch_guest.specs.Run.{Run, count_after, go_on, is_among, quiet_run, ran, resting, run_after_steps}
 use Rattle.debugger.specs.swi_dispatch_guest.specs.Step.{machine_step}
 use Rattle.debugger.specs.swi_dispatch_guest.proofs.RunLoop.{ran-none}
 use Rattle.command_shell.specs.Calls.{step_made}
 use Rattle.command_shell.specs.State.{ScriptState}
 use Rattle.command_shell.specs.Stepping.{IsAfterQuietSteps, script_after_quiet}
-use Rattle.debug_runs.specs.Runs.{SteppingRun, are_unseen, end_after, is_nowhere, next_step, quiet_end, run_behind, run_end_by, run_ended, run_step, run_unless, steps_run, text_of_next}
+use Rattle.debug_runs.specs.Quiet.{IsAfterQuietUpTo, stay_open}
+use Rattle.debug_runs.specs.Runs.{SteppingRun, are_unseen, end_after, end_of_unseen, is_reached, next_step, routine_end, run_behind, run_end_by, run_ended, run_step, run_unless, steps_run, text_of_next}
 use Rattle.debug_runs.specs.Telling.{is_step_told, one_told, told_of_step, untold_text, whole_step_text}
 use Rattle.debug_runs.specs.declared.running.RunEnd.{RunEnd}
 use Rattle.debug_runs.specs.declared.running.RunEnd.TheVariants as end
@@ -57,37 +64,84 @@ nothing_in : (xs ys : List ℕ) → xs ++ ys ≡ [] → (xs ≡ []) × (ys ≡ [
 nothing_in [] ys is = (refl, is)
 nothing_in (x ∷ xs) ys is = absurd (cc)
 
+-- its first step is the last, or else leads to none of the stops, and such a run goes on from there
+record FirstQuiet (images : List Entry) (stops : List ℕ) (o : StepOutcome) (k : ℕ) (now : MachineState) (x : Stop) : Type 0 where
+  awake : o.now.halt ≡ None
+  silent : o.printed ≡ []
+  next : ((k ≡ 0) × (o.now ≡ now)) ⊎ ((is_among stops o.now.cpu.pc ≡ false) × IsQuiet (ran images stops k o.now) now k x)
+
+first_at : (images : List Entry) (stops : List ℕ) (o : StepOutcome) (k : ℕ) (now : MachineState) (x : Stop) (among : Bool) → o.now.halt ≡ None
+    → is_among stops o.now.cpu.pc ≡ among
+    → IsQuiet (if among then record { now = o.now; printed = o.printed; last = Some o.printed; taken = 1; stop = stop.Break o.now.cpu.pc }
+    else run_after_steps o.printed (Some o.printed) 1 (ran images stops k o.now)) now (suc k) x
+    → FirstQuiet images stops o k now x
+first_at images stops o k now x true awake among is =
+    let counted : 1 ≡ suc k = is.taken in
+    let none : k ≡ 0 = omega (arith, counted) in
+    record { awake = awake; silent = is.printed; next = inl (none, is.machine) }
+first_at images stops o k now x false awake among is =
+    let q : Run = ran images stops k o.now in
+    let silent = nothing_in o.printed q.printed is.printed in
+    let counted : 1 + q.taken ≡ suc k = is.taken in
+    let taken : q.taken ≡ k = omega (arith, counted) in
+    record {
+      awake = awake;
+      silent = silent.0;
+      next = inr (among, record { machine = is.machine; printed = silent.1; taken = taken; stop = is.stop });
+    }
+
+first_by : (images : List Entry) (stops : List ℕ) (o : StepOutcome) (k : ℕ) (now : MachineState) (x : Stop) (h : Option Halt) → now.halt ≡ None
+    → o.now.halt ≡ h → IsQuiet (go_on stops o h (ran images stops k)) now (suc k) x → FirstQuiet images stops o k now x
+first_by images stops o k now x (Some h) still halted is =
+    let none : Some h ≡ None = sym halted ∙ ap (λ (m : MachineState). m.halt) is.machine ∙ still in absurd (cc)
+first_by images stops o k now x None still awake is =
+    first_at images stops o k now x (is_among stops o.now.cpu.pc) awake refl is
+
+first_quiet : (images : List Entry) (stops : List ℕ) (k : ℕ) (m now : MachineState) (x : Stop) → m.halt ≡ None → now.halt ≡ None
+    → IsQuiet (ran images stops (suc k) m) now (suc k) x → FirstQuiet images stops (machine_step images m) k now x
+first_quiet images stops k m now x awake still is =
+    let o = machine_step images m in
+    first_by images stops o k now x o.now.halt still refl
+    (subst (λ (q : Run). IsQuiet q now (suc k) x) (ran_first images stops k m awake) is)
+
+-- no step is left
+rested : (images : List Entry) (stops : List ℕ) (m now : MachineState) (x : Stop) → m.halt ≡ None → IsQuiet (ran images stops 0 m) now 0 x → m ≡ now
+rested images stops m now x awake is =
+    let none : IsQuiet (resting m stop.Budget) now 0 x =
+    subst (λ (q : Run). IsQuiet q now 0 x) (ran-none images stops m awake) is in none.machine
+
 -- STEP BY STEP
 
-abbrev rest_of : List ImageLabels → Option ℕ → ℕ → ScriptState → SteppingRun
-rest_of labels told n s = steps_run no_modes labels goal.Nowhere n told s
+abbrev rest_of : List ImageLabels → RunGoal → Option ℕ → ℕ → ScriptState → SteppingRun
+rest_of labels g told n s = steps_run no_modes labels g n told s
 
 -- where it leads, and what then is left
-abbrev left_of : List ImageLabels → Option ℕ → ScriptState → Stop → ℕ → SteppingRun
-left_of labels told now x m = run_unless now (quiet_end x) (rest_of labels told m now)
+abbrev left_of : List ImageLabels → RunGoal → Option ℕ → ScriptState → ℕ → SteppingRun
+left_of labels g told now m = run_unless now (end_after [] g now now) (rest_of labels g told m now)
 
-first_unseen : (labels : List ImageLabels) (told : Option ℕ) (n : ℕ) (s : ScriptState)
-    → rest_of labels told (suc n) s
-    ≡ (let o = machine_step s.images s.machine in run_step [] goal.Nowhere s o
-    (told_of_step told (whole_step_text [] labels s.machine o) o.printed) (rest_of labels (one_told told) n))
-first_unseen labels told n s =
-    first_step_of no_modes labels goal.Nowhere n told s
-    ∙ ap (λ (o : StepOutcome). run_step [] goal.Nowhere s o
-    (told_of_step told (whole_step_text [] labels s.machine o) o.printed) (rest_of labels (one_told told) n)) (plain_step s)
+first_unseen : (labels : List ImageLabels) (g : RunGoal) (told : Option ℕ) (n : ℕ) (s : ScriptState)
+    → rest_of labels g told (suc n) s
+    ≡ (let o = machine_step s.images s.machine in run_step [] g s o
+    (told_of_step told (whole_step_text [] labels s.machine o) o.printed) (rest_of labels g (one_told told) n))
+first_unseen labels g told n s =
+    first_step_of no_modes labels g n told s
+    ∙ ap (λ (o : StepOutcome). run_step [] g s o
+    (told_of_step told (whole_step_text [] labels s.machine o) o.printed) (rest_of labels g (one_told told) n)) (plain_step s)
 
 -- a step that prints nothing tells nothing
-abbrev silent_behind : ScriptState → StepOutcome → (ScriptState → SteppingRun) → SteppingRun
-silent_behind s o f = (let after = step_made s o in run_unless after (end_after [] goal.Nowhere s after) (f after))
+abbrev silent_behind : RunGoal → ScriptState → StepOutcome → (ScriptState → SteppingRun) → SteppingRun
+silent_behind g s o f = (let after = step_made s o in run_unless after (end_after [] g s after) (f after))
 
-step_silent : (labels : List ImageLabels) (told : Option ℕ) (n : ℕ) (s : ScriptState) → is_step_told told ≡ false
+step_silent : (labels : List ImageLabels) (g : RunGoal) (told : Option ℕ) (most : ℕ) (s : ScriptState) → is_step_told told ≡ false → 0 < most
     → (machine_step s.images s.machine).printed ≡ []
-    → rest_of labels told (suc n) s ≡ silent_behind s (machine_step s.images s.machine) (rest_of labels told n)
-step_silent labels told n s untold silent =
+    → rest_of labels g told most s ≡ silent_behind g s (machine_step s.images s.machine) (rest_of labels g told (most - 1))
+step_silent labels g told most s untold some silent =
     let o = machine_step s.images s.machine in
+    let split : most ≡ suc (most - 1) = omega (arith, some) in
     let text = silent_step told (whole_step_text [] labels s.machine o) o.printed untold silent in
     let same = stays_untold told untold in
-    first_unseen labels told n s
-    ∙ (λ i. run_behind (text i) (silent i) (silent_behind s o (rest_of labels (same i) n)))
+    ap (λ (n : ℕ). rest_of labels g told n s) split ∙ first_unseen labels g told (most - 1) s
+    ∙ (λ i. run_behind (text i) (silent i) (silent_behind g s o (rest_of labels g (same i) (most - 1))))
 
 -- the states
 made_one : (s : ScriptState) (o : StepOutcome) (now : MachineState) (k : ℕ) → o.now.halt ≡ None
@@ -98,114 +152,191 @@ made_one s o now k awake =
     let left : (s.left - count_after o.now.halt) - k ≡ s.left - suc k = omega (arith, one) in
     λ i. record s { machine = now; is_fresh = fresh i; left = left i }
 
-made_last : (s : ScriptState) (o : StepOutcome) (k : ℕ) → o.now.halt ≡ None → k ≡ 0
-    → step_made s o ≡ script_after_quiet s o.now (suc k)
-made_last s o k awake none =
+made_last : (s : ScriptState) (o : StepOutcome) → o.now.halt ≡ None → step_made s o ≡ script_after_quiet s o.now 1
+made_last s o awake =
     let one = ap count_after awake in
-    let fresh : false ≡ (s.is_fresh && (suc k == 0)) = stale s.is_fresh k in
-    let left : s.left - count_after o.now.halt ≡ s.left - suc k = omega (arith, one, none) in
+    let fresh : false ≡ (s.is_fresh && (1 == 0)) = stale s.is_fresh 0 in
+    let left : s.left - count_after o.now.halt ≡ s.left - 1 = omega (arith, one) in
     λ i. record s { machine = o.now; is_fresh = fresh i; left = left i }
+
+-- with no watch the state before the step doesn't matter
+end_by_any : (g : RunGoal) (a b after : ScriptState) (h : Option Halt) → run_end_by [] g a after h ≡ run_end_by [] g b after h
+end_by_any g a b after (Some h) = refl
+end_by_any g a b after None = refl
+
+end_any : (g : RunGoal) (a b after : ScriptState) → end_after [] g a after ≡ end_after [] g b after
+unfolding end_after
+end_any g a b after = end_by_any g a b after after.machine.halt
+
+-- no end where it goes on
+goes_by : (s after : ScriptState) (g : RunGoal) (h : Option Halt) (reached among : Bool) → h ≡ None → reached ≡ false → among ≡ false
+    → is_reached g after.machine ≡ reached → is_among after.breaks after.machine.cpu.pc ≡ among → run_end_by [] g s after h ≡ None
+goes_by s after g (Some h) reached among awake short clear is at = absurd (cc)
+goes_by s after g None reached among awake short clear is at =
+    ap (λ (b : Bool). if b then Some end.Reached else (if is_among after.breaks after.machine.cpu.pc then Some (end.Stopped (stop.Break after.machine.cpu.pc)) else None)) (is ∙ short)
+    ∙ ap (λ (b : Bool). if b then Some (end.Stopped (stop.Break after.machine.cpu.pc)) else None) (at ∙ clear)
+
+no_end : (s after : ScriptState) (g : RunGoal) → after.machine.halt ≡ None → is_reached g after.machine ≡ false
+    → is_among after.breaks after.machine.cpu.pc ≡ false → end_after [] g s after ≡ None
+unfolding end_after
+no_end s after g awake short clear =
+    goes_by s after g after.machine.halt false false awake refl refl short clear
 
 -- WHAT IS LEFT
 
-ends_at : (s after : ScriptState) (among : Bool) → after.machine.halt ≡ None → is_among after.breaks after.machine.cpu.pc ≡ among
-    → end_after [] goal.Nowhere s after ≡ (if among then Some (end.Stopped (stop.Break after.machine.cpu.pc)) else None)
-unfolding end_after
-ends_at s after among awake is =
-    ap (λ (h : Option Halt). run_end_by [] goal.Nowhere s after h) awake
-    ∙ ap (λ (b : Bool). if b then Some (end.Stopped (stop.Break after.machine.cpu.pc)) else None) is
+-- what holds of the machine from step to step, as long as it comes to none of the stops: the goal isn't reached then
+abbrev StaysShort : List Entry → List ℕ → RunGoal → (MachineState → Type 0) → Type 0
+StaysShort images stops g P = (m : MachineState) → P m → is_among stops (machine_step images m).now.cpu.pc ≡ false
+    → P (machine_step images m).now × (is_reached g (machine_step images m).now ≡ false)
 
-quiet_at : (labels : List ImageLabels) (told : Option ℕ) (k most : ℕ) (s : ScriptState) (now : MachineState) (x : Stop) (among : Bool)
-    → (let o = machine_step s.images s.machine in let after = step_made s o in
-    is_step_told told ≡ false → suc k ≤ most → o.now.halt ≡ None → is_among s.breaks o.now.cpu.pc ≡ among
-    → (IsQuiet (ran s.images s.breaks k o.now) now k x → rest_of labels told (most - 1) after ≡ left_of labels told (script_after_quiet after now k) x (most - 1 - k))
-    → IsQuiet (if among then record { now = o.now; printed = o.printed; last = Some o.printed; taken = 1; stop = stop.Break o.now.cpu.pc }
-    else run_after_steps o.printed (Some o.printed) 1 (ran s.images s.breaks k o.now)) now (suc k) x
-    → rest_of labels told most s ≡ left_of labels told (script_after_quiet s now (suc k)) x (most - suc k))
-quiet_at labels told k most s now x true untold few awake among further is =
+abbrev Covers : List ℕ → List ℕ → Type 0
+Covers breaks stops = (at : ℕ) → is_among stops at ≡ false → is_among breaks at ≡ false
+
+quiet_last_step : (labels : List ImageLabels) (g : RunGoal) (told : Option ℕ) (most : ℕ) (s : ScriptState) (now : MachineState) → is_step_told told ≡ false
+    → 0 < most → (machine_step s.images s.machine).now.halt ≡ None → (machine_step s.images s.machine).printed ≡ [] → (machine_step s.images s.machine).now ≡ now
+    → rest_of labels g told most s ≡ left_of labels g told (script_after_quiet s now 1) (most - 1)
+quiet_last_step labels g told most s now untold some awake silent is =
     let o = machine_step s.images s.machine in
     let after = step_made s o in
-    let split : most ≡ suc (most - 1) = omega (arith, few) in
-    let counted : 1 ≡ suc k = is.taken in
-    let none : k ≡ 0 = omega (arith, counted) in
-    let state : after ≡ script_after_quiet s now (suc k) =
-    made_last s o k awake none ∙ ap (λ (m : MachineState). script_after_quiet s m (suc k)) is.machine in
-    ap (λ (n : ℕ). rest_of labels told n s) split ∙ step_silent labels told (most - 1) s untold is.printed
-    ∙ ap (λ (e : Option RunEnd). run_unless after e (rest_of labels told (most - 1) after)) (ends_at s after true awake among)
-    ∙ ap (λ (w : ScriptState). run_ended w (end.Stopped (stop.Break o.now.cpu.pc))) state
-    ∙ ap (λ (y : Stop). left_of labels told (script_after_quiet s now (suc k)) y (most - suc k)) is.stop
-quiet_at labels told k most s now x false untold few awake among further is =
+    let made : after ≡ script_after_quiet s now 1 = made_last s o awake ∙ ap (λ (m : MachineState). script_after_quiet s m 1) is in
+    step_silent labels g told most s untold some silent
+    ∙ ap (λ (e : Option RunEnd). run_unless after e (rest_of labels g told (most - 1) after)) (end_any g s after after)
+    ∙ ap (λ (w : ScriptState). left_of labels g told w (most - 1)) made
+
+quiet_on : (labels : List ImageLabels) (g : RunGoal) (told : Option ℕ) (stops : List ℕ) (P : MachineState → Type 0) (k most : ℕ) (s : ScriptState) (now : MachineState) (x : Stop)
+    → is_step_told told ≡ false → suc k ≤ most → s.machine.halt ≡ None → now.halt ≡ None → Covers s.breaks stops → StaysShort s.images stops g P → P s.machine
+    → IsQuiet (ran s.images stops (suc k) s.machine) now (suc k) x
+    → rest_of labels g told most s ≡ left_of labels g told (script_after_quiet s now (suc k)) (most - suc k)
+quiet_on labels g told stops P zero most s now x untold few awake still covers short holds is =
+    let o = machine_step s.images s.machine in
+    let first = first_quiet s.images stops 0 s.machine now x awake still is in
+    let some : 0 < most = omega (arith, few) in
+    elim first.next [
+      | inl last ↦ quiet_last_step labels g told most s now untold some first.awake first.silent last.1
+      | inr more ↦ quiet_last_step labels g told most s now untold some first.awake first.silent (rested s.images stops o.now now x first.awake more.1)
+    ]
+quiet_on labels g told stops P (suc k) most s now x untold few awake still covers short holds is =
     let o = machine_step s.images s.machine in
     let after = step_made s o in
-    let split : most ≡ suc (most - 1) = omega (arith, few) in
-    let silent = nothing_in o.printed (ran s.images s.breaks k o.now).printed is.printed in
-    let counted : 1 + (ran s.images s.breaks k o.now).taken ≡ suc k = is.taken in
-    let taken : (ran s.images s.breaks k o.now).taken ≡ k = omega (arith, counted) in
-    let fewer : most - 1 - k ≡ most - suc k = omega arith in
-    ap (λ (n : ℕ). rest_of labels told n s) split ∙ step_silent labels told (most - 1) s untold silent.0
-    ∙ ap (λ (e : Option RunEnd). run_unless after e (rest_of labels told (most - 1) after)) (ends_at s after false awake among)
-    ∙ further (record { machine = is.machine; printed = silent.1; taken = taken; stop = is.stop })
-    ∙ (λ i. left_of labels told (made_one s o now k awake i) x (fewer i))
-
-quiet_by : (labels : List ImageLabels) (told : Option ℕ) (k most : ℕ) (s : ScriptState) (now : MachineState) (x : Stop) (h : Option Halt)
-    → (let o = machine_step s.images s.machine in let after = step_made s o in
-    is_step_told told ≡ false → suc k ≤ most → now.halt ≡ None → o.now.halt ≡ h
-    → (o.now.halt ≡ None → IsQuiet (ran s.images s.breaks k o.now) now k x
-    → rest_of labels told (most - 1) after ≡ left_of labels told (script_after_quiet after now k) x (most - 1 - k))
-    → IsQuiet (go_on s.breaks o h (ran s.images s.breaks k)) now (suc k) x
-    → rest_of labels told most s ≡ left_of labels told (script_after_quiet s now (suc k)) x (most - suc k))
-quiet_by labels told k most s now x (Some h) untold few awake halted further is =
-    let none : Some h ≡ None = sym halted ∙ ap (λ (m : MachineState). m.halt) is.machine ∙ awake in absurd (cc)
-quiet_by labels told k most s now x None untold few awake halted further is =
-    quiet_at labels told k most s now x (is_among s.breaks (machine_step s.images s.machine).now.cpu.pc) untold few halted refl (further halted) is
-
-quiet_on : (labels : List ImageLabels) (told : Option ℕ) (n most : ℕ) (s : ScriptState) (now : MachineState) (x : Stop)
-    → is_step_told told ≡ false → n ≤ most → s.machine.halt ≡ None → now.halt ≡ None → IsQuiet (ran s.images s.breaks n s.machine) now n x
-    → rest_of labels told most s ≡ left_of labels told (script_after_quiet s now n) x (most - n)
-quiet_on labels told zero most s now x untold few awake still is =
-    let none : IsQuiet (record { now = s.machine; printed = []; last = None; taken = 0; stop = stop.Budget }) now 0 x =
-    subst (λ (q : Run). IsQuiet q now 0 x) (ran-none s.images s.breaks s.machine awake) is in
-    let fresh : s.is_fresh ≡ (s.is_fresh && (0 == 0)) = and_true s.is_fresh in
-    let left : s.left ≡ s.left - 0 = omega arith in
-    let all : most ≡ most - 0 = omega arith in
-    let state : s ≡ script_after_quiet s now 0 = λ i. record s { machine = none.machine i; is_fresh = fresh i; left = left i } in
-    (λ i. run_unless (state i) None (rest_of labels told (all i) (state i)))
-    ∙ ap (λ (y : Stop). left_of labels told (script_after_quiet s now 0) y (most - 0)) none.stop
-quiet_on labels told (suc k) most s now x untold few awake still is =
-    let o = machine_step s.images s.machine in
-    let fewer : k ≤ most - 1 = omega (arith, few) in
-    quiet_by labels told k most s now x o.now.halt untold few still refl
-    (λ on more. quiet_on labels told k (most - 1) (step_made s o) now x untold fewer on still more)
-    (subst (λ (q : Run). IsQuiet q now (suc k) x) (ran_first s.images s.breaks k s.machine awake) is)
+    let first = first_quiet s.images stops (suc k) s.machine now x awake still is in
+    let some : 0 < most = omega (arith, few) in
+    let fewer : suc k ≤ most - 1 = omega (arith, few) in
+    let rest : most - 1 - suc k ≡ most - suc (suc k) = omega arith in
+    elim first.next [
+      | inl last ↦ absurd (let none : suc k ≡ 0 = last.0 in omega (arith, none))
+      | inr more ↦ (let kept = short s.machine holds more.0 in
+          step_silent labels g told most s untold some first.silent
+          ∙ ap (λ (e : Option RunEnd). run_unless after e (rest_of labels g told (most - 1) after))
+          (no_end s after g first.awake kept.1 (covers o.now.cpu.pc more.0))
+          ∙ quiet_on labels g told stops P k (most - 1) after now x untold fewer first.awake still covers short kept.0 more.1
+          ∙ (λ i. left_of labels g told (made_one s o now (suc k) first.awake i) (rest i)))
+    ]
 
 -- A RUN AT WHOSE STEPS NOTHING LOOKS
-
-nowhere : (g : RunGoal) → is_nowhere g ≡ true → g ≡ goal.Nowhere
-nowhere goal.Nowhere is = refl
-nowhere (goal.Frames count) is = absurd (cc)
-nowhere (goal.Routine count) is = absurd (cc)
 
 untold_by : (b : Bool) → not b ≡ true → b ≡ false
 untold_by true is = absurd (cc)
 untold_by false is = refl
 
-abbrev RunsOnAfter : List ImageLabels → Option ℕ → ℕ → ℕ → ScriptState → ScriptState → Stop → StepModes → RunGoal → Type 0
-RunsOnAfter labels told most n s now x modes g = steps_run modes labels g most told s
-    ≡ run_unless now (quiet_end x) (steps_run modes labels g (most - n) told now)
+abbrev pub GoesOnAfter : List ImageLabels → RunGoal → Option ℕ → ℕ → ℕ → ScriptState → ScriptState → StepModes → Type 0
+GoesOnAfter labels g told most n s now modes = steps_run modes labels g most told s
+    ≡ run_unless now (end_of_unseen g now n) (steps_run modes labels g (most - n) told now)
 
-pub unseen_run : (modes : StepModes) (labels : List ImageLabels) (g : RunGoal) (told : Option ℕ) (most n : ℕ) (s now : ScriptState) (x : Stop)
-    → are_unseen modes g told ≡ true → n ≤ most → s.machine.halt ≡ None → IsAfterQuietSteps s now n x
-    → steps_run modes labels g most told s ≡ run_unless now (quiet_end x) (steps_run modes labels g (most - n) told now)
-unseen_run modes labels g told most n s now x unseen few awake after =
-    let parts = and_parts (is_nowhere g) (not (is_step_told told) && are_plain modes) unseen in
-    let rest = and_parts (not (is_step_told told)) (are_plain modes) parts.1 in
-    let quiet : IsQuiet (ran s.images s.breaks n s.machine) now.machine n x =
-    subst (λ (q : Run). IsQuiet q now.machine n x) (sym after.run) (is_quiet now.machine n x) in
-    let plain : RunsOnAfter labels told most n s now x no_modes goal.Nowhere =
-    quiet_on labels told n most s now.machine x (untold_by (is_step_told told) rest.0) few awake after.awake quiet
-    ∙ ap (λ (w : ScriptState). left_of labels told w x (most - n)) (sym after.state) in
-    subst (λ (m : StepModes). RunsOnAfter labels told most n s now x m g) (sym (plain_modes modes rest.1))
-    (subst (λ (r : RunGoal). RunsOnAfter labels told most n s now x no_modes r) (sym (nowhere g parts.0)) plain)
+plain_run : (labels : List ImageLabels) (g : RunGoal) (told : Option ℕ) (stops : List ℕ) (P : MachineState → Type 0) (most n : ℕ) (s now : ScriptState) (x : Stop)
+    → is_step_told told ≡ false → n ≤ most → s.machine.halt ≡ None → now.machine.halt ≡ None → Covers s.breaks stops → StaysShort s.images stops g P → P s.machine
+    → IsQuiet (ran s.images stops n s.machine) now.machine n x → now ≡ script_after_quiet s now.machine n
+    → GoesOnAfter labels g told most n s now no_modes
+plain_run labels g told stops P most zero s now x untold few awake still covers short holds is state =
+    let same : s.machine ≡ now.machine = rested s.images stops s.machine now.machine x awake is in
+    let fresh : s.is_fresh ≡ (s.is_fresh && (0 == 0)) = and_true s.is_fresh in
+    let left : s.left ≡ s.left - 0 = omega arith in
+    let all : most ≡ most - 0 = omega arith in
+    let start : s ≡ script_after_quiet s now.machine 0 = λ i. record s { machine = same i; is_fresh = fresh i; left = left i } in
+    let whole : s ≡ now = start ∙ sym state in
+    λ i. rest_of labels g told (all i) (whole i)
+plain_run labels g told stops P most (suc k) s now x untold few awake still covers short holds is state =
+    quiet_on labels g told stops P k most s now.machine x untold few awake still covers short holds is
+    ∙ ap (λ (w : ScriptState). left_of labels g told w (most - suc k)) (sym state)
+
+unseen_run : (modes : StepModes) (labels : List ImageLabels) (g : RunGoal) (told : Option ℕ) (stops : List ℕ) (P : MachineState → Type 0) (most n : ℕ) (s now : ScriptState) (x : Stop)
+    → are_unseen modes told ≡ true → n ≤ most → s.machine.halt ≡ None → now.machine.halt ≡ None → Covers s.breaks stops → StaysShort s.images stops g P → P s.machine
+    → ran s.images stops n s.machine ≡ quiet_run now.machine n x → now ≡ script_after_quiet s now.machine n
+    → GoesOnAfter labels g told most n s now modes
+unseen_run modes labels g told stops P most n s now x unseen few awake still covers short holds run state =
+    let parts = and_parts (not (is_step_told told)) (are_plain modes) unseen in
+    let quiet : IsQuiet (ran s.images stops n s.machine) now.machine n x =
+    subst (λ (q : Run). IsQuiet q now.machine n x) (sym run) (is_quiet now.machine n x) in
+    subst (λ (m : StepModes). GoesOnAfter labels g told most n s now m) (sym (plain_modes modes parts.1))
+    (plain_run labels g told stops P most n s now x (untold_by (is_step_told told) parts.0) few awake still covers short holds quiet state)
+
+-- without a goal
+pub nowhere_run : (modes : StepModes) (labels : List ImageLabels) (told : Option ℕ) (most n : ℕ) (s now : ScriptState) (x : Stop)
+    → are_unseen modes told ≡ true → n ≤ most → s.machine.halt ≡ None → IsAfterQuietSteps s now n x
+    → GoesOnAfter labels goal.Nowhere told most n s now modes
+nowhere_run modes labels told most n s now x unseen few awake after =
+    unseen_run modes labels goal.Nowhere told s.breaks (λ (m : MachineState). Unit {0}) most n s now x unseen few awake after.awake
+    (λ at clear. clear) (λ m holds clear. (tt, refl)) tt after.run after.state
+
+-- until a routine has come back, where the run stops at the address to which it goes back
+elsewhere : (stops : List ℕ) (address at : ℕ) → is_among stops address ≡ true → is_among stops at ≡ false → (at ≡ address → ⊥)
+elsewhere stops address at ahead clear here =
+    let no : true ≡ false = sym ahead ∙ (ap (is_among stops) (sym here) ∙ clear) in absurd (cc)
+
+not_back : (count : ℕ) (m : MachineState) → (m.cpu.pc ≡ routine_end → ⊥) → is_reached (goal.Routine count) m ≡ false
+not_back count m other =
+    ap (λ (b : Bool). b && (length m.tables.frames == count)) (ne_eqb m.cpu.pc routine_end other)
+
+pub routine_run : (modes : StepModes) (labels : List ImageLabels) (count : ℕ) (told : Option ℕ) (most n : ℕ) (s now : ScriptState)
+    → are_unseen modes told ≡ true → n ≤ most → s.machine.halt ≡ None → IsAfterQuietUpTo routine_end s now n
+    → GoesOnAfter labels (goal.Routine count) told most n s now modes
+routine_run modes labels count told most n s now unseen few awake after =
+    unseen_run modes labels (goal.Routine count) told after.stops (λ (m : MachineState). Unit {0}) most n s now after.ends unseen few awake after.awake
+    after.breaks
+    (λ m holds clear. (
+      tt,
+      not_back count (machine_step s.images m).now
+          (elsewhere after.stops routine_end (machine_step s.images m).now.cpu.pc after.ahead clear),
+    ))
+    tt after.run after.state
+
+-- until so many frames are open, where the run stops at the return gate
+record IsOpenBefore (count : ℕ) (m : MachineState) : Type 0 where
+  other : m.cpu.pc ≡ return_gate → ⊥
+  more : count < length m.tables.frames
+
+stays_open : (images : List Entry) (stops : List ℕ) (count : ℕ) (m : MachineState) → is_among stops return_gate ≡ true → IsOpenBefore count m
+    → is_among stops (machine_step images m).now.cpu.pc ≡ false
+    → IsOpenBefore count (machine_step images m).now × (is_reached (goal.Frames count) (machine_step images m).now ≡ false)
+stays_open images stops count m ahead is clear =
+    let t = (machine_step images m).now in
+    let kept = only_the_gate_closes images m is.other in
+    let longer : length t.tables.frames ≡ length (m.tables.frames ++ kept.opened) = ap (λ (xs : List Frame). length xs) kept.are in
+    let more : count < length t.tables.frames = omega (arith, is.more, longer, length-append m.tables.frames kept.opened) in
+    let short : length t.tables.frames ≡ count → ⊥ = λ same. omega (arith, same, more) in
+    (record { other = elsewhere stops return_gate t.cpu.pc ahead clear; more = more }, ne_eqb (length t.tables.frames) count short)
+
+open_by : (at : Bool) (count : ℕ) (m : MachineState) → (m.cpu.pc == return_gate) ≡ at → (if at then false else nat_lt count (length m.tables.frames)) ≡ true
+    → IsOpenBefore count m
+open_by true count m gate is = absurd (cc)
+open_by false count m gate is = record {
+  other = λ here. let no : true ≡ false = sym (ap (λ (n : ℕ). n == return_gate) here) ∙ gate in absurd (cc);
+  more = ltb-true count (length m.tables.frames) is;
+}
+
+pub frames_run : (modes : StepModes) (labels : List ImageLabels) (count : ℕ) (told : Option ℕ) (most n : ℕ) (s now : ScriptState)
+    → are_unseen modes told ≡ true → n ≤ most → s.machine.halt ≡ None → stay_open count s.machine ≡ true → IsAfterQuietUpTo return_gate s now n
+    → GoesOnAfter labels (goal.Frames count) told most n s now modes
+frames_run modes labels count told most n s now unseen few awake stays after =
+    unseen_run modes labels (goal.Frames count) told after.stops (IsOpenBefore count) most n s now after.ends unseen few awake after.awake
+    after.breaks (λ m holds clear. stays_open s.images after.stops count m after.ahead holds clear)
+    (open_by (s.machine.cpu.pc == return_gate) count s.machine refl stays) after.run after.state
+
+-- why it ends with them
+pub no_end_of_none : (g : RunGoal) (now : ScriptState) (n : ℕ) → n ≡ 0 → end_of_unseen g now n ≡ None
+no_end_of_none g now n none = ap (end_of_unseen g now) none
+
+pub end_of_some : (g : RunGoal) (now : ScriptState) (n : ℕ) → 0 < n → end_of_unseen g now n ≡ end_after [] g now now
+end_of_some g now n some = let split : n ≡ suc (n - 1) = omega (arith, some) in ap (end_of_unseen g now) split
 
 -- none are taken so
 pub none_unseen : (modes : StepModes) (labels : List ImageLabels) (g : RunGoal) (told : Option ℕ) (most : ℕ) (s : ScriptState)

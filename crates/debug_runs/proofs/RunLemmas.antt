@@ -28,13 +28,13 @@ use Rattle.debug_runs.specs.declared.telling.Telling.{Telling}
 use Rattle.debug_tables.specs.declared.watches.WatchHit.{WatchHit}
 
 -- a step after which a run ends, and one after which it goes on
-step_over : (watches : List ℕ) (g : RunGoal) (s next : ScriptState) (o : StepOutcome) (text : List ℕ) (f : ScriptState → SteppingRun) (e : RunEnd)
+pub step_over : (watches : List ℕ) (g : RunGoal) (s next : ScriptState) (o : StepOutcome) (text : List ℕ) (f : ScriptState → SteppingRun) (e : RunEnd)
     → next ≡ step_made s o → end_after watches g s next ≡ Some e → run_step watches g s o text f ≡ run_behind text o.printed (run_ended next e)
 step_over watches g s next o text f e made is =
     ap (λ (w : ScriptState). run_behind text o.printed (run_unless w (end_after watches g s w) (f w))) (sym made)
     ∙ ap (λ (x : Option RunEnd). run_behind text o.printed (run_unless next x (f next))) is
 
-step_on : (watches : List ℕ) (g : RunGoal) (s next : ScriptState) (o : StepOutcome) (text : List ℕ) (f : ScriptState → SteppingRun)
+pub step_on : (watches : List ℕ) (g : RunGoal) (s next : ScriptState) (o : StepOutcome) (text : List ℕ) (f : ScriptState → SteppingRun)
     → next ≡ step_made s o → end_after watches g s next ≡ None → run_step watches g s o text f ≡ run_behind text o.printed (f next)
 step_on watches g s next o text f made is =
     ap (λ (w : ScriptState). run_behind text o.printed (run_unless w (end_after watches g s w) (f w))) (sym made)
@@ -47,12 +47,12 @@ pub first_step_of : (modes : StepModes) (labels : List ImageLabels) (g : RunGoal
 unfolding steps_run
 first_step_of modes labels g n told s = refl
 
-no_step : (modes : StepModes) (labels : List ImageLabels) (g : RunGoal) (told : Option ℕ) (s : ScriptState)
+pub no_step : (modes : StepModes) (labels : List ImageLabels) (g : RunGoal) (told : Option ℕ) (s : ScriptState)
     → steps_run modes labels g 0 told s ≡ run_ended s (end.Stopped stop.Budget)
 unfolding steps_run
 no_step modes labels g told s = refl
 
-first_of_left : (modes : StepModes) (labels : List ImageLabels) (g : RunGoal) (left : ℕ) (told : Option ℕ) (s : ScriptState) → 0 < left
+pub first_of_left : (modes : StepModes) (labels : List ImageLabels) (g : RunGoal) (left : ℕ) (told : Option ℕ) (s : ScriptState) → 0 < left
     → steps_run modes labels g left told s
     ≡ run_step modes.watches g s (next_step modes s) (text_of_next modes labels told s) (steps_run modes labels g (left - 1) (one_told told))
 first_of_left modes labels g left told s some =

@@ -9,8 +9,9 @@ use Rattle.command_shell.specs.Calls.{step_made, stop_before_step_by}
 use Rattle.command_shell.specs.State.{ScriptState}
 use Rattle.trace_text.specs.Step.{call_start_text, load_start_text}
 use Rattle.debug_runs.specs.Endings.{line_end_told}
+use Rattle.debug_runs.specs.LastSteps.{last_run}
 use Rattle.debug_runs.specs.Laws.{IsSameLine}
-use Rattle.debug_lines.specs.SteppingRequests.{SteppingRequest, Run, Step, Call, Load, Finish, Gosub}
+use Rattle.debug_lines.specs.SteppingRequests.{SteppingRequest, Run, Step, Call, Load, Finish, Gosub, RunLast}
 use Rattle.debug_runs.specs.Lines.{call_line_told, finish_told, stepping_told, told_if_awake, told_unless}
 use Rattle.debug_runs.specs.Routines.{caller_in, script_at_routine}
 use Rattle.debug_runs.specs.Runs.{SteppingRun, call_run, end_after, next_step, run_behind, run_unless, steps_run, text_of_next}
@@ -103,3 +104,12 @@ same_line modes labels told untold s (Gosub address) =
     let from = script_at_routine s address in
     same_if_awake told untold s (kind.Routine (caller_in s)) s.left (steps_run modes labels g s.left told from) (steps_run modes labels g s.left untold from)
     (same_steps modes labels g s.left told untold from)
+same_line modes labels told untold s (RunLast count) = record { now = refl; printed = refl; ending = refl }
+
+-- TRACE LAST is a RUN.
+pub last_is_run : (modes : StepModes) (labels : List ImageLabels) (told : Option ℕ) (count : ℕ) (s : ScriptState)
+    → IsSameLine (stepping_told modes labels told s (RunLast count)) (stepping_told modes labels None s Run)
+unfolding stepping_told
+last_is_run modes labels told count s =
+    same_if_awake None None s (kind.Steps false) s.left (last_run modes labels count s.left s)
+    (steps_run modes labels goal.Nowhere s.left None s) (record { now = refl; printed = refl; ended = refl })

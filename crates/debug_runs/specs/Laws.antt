@@ -1,11 +1,15 @@
 -- What a trace and a debugger's modes leave as it is.
-use Rattle.std.specs.Prelude.{◌≡◌, ℕ, true, false, List, ◌++◌, None, Some, IsSome}
+use Rattle.std.specs.Prelude.{◌≡◌, ◌≤◌, ℕ, true, false, List, ◌++◌, Option, None, Some, IsSome}
+use Rattle.std.specs.List.{flat_map}
 use Rattle.debug_labels.specs.Labels.{ImageLabels}
 use Rattle.command_shell.specs.Script.{request_told}
 use Rattle.command_shell.specs.State.{Answered, ScriptState}
 use Rattle.debug_lines.specs.command_shell_lines.specs.Requests as script
-use Rattle.debug_lines.specs.SteppingRequests.{SteppingRequest, Run, Step, Call, Load}
+use Rattle.debug_lines.specs.SteppingRequests.{SteppingRequest, Run, Step, Call, Load, RunLast}
+use Rattle.debug_runs.specs.LastSteps.{texts_of_run, whole_text}
 use Rattle.debug_runs.specs.Lines.{SteppingTold, stepping_told}
+use Rattle.debug_runs.specs.Runs.{steps_run}
+use Rattle.debug_runs.specs.declared.running.RunGoal.TheVariants.{Nowhere}
 use Rattle.debug_tables.specs.Modes.{are_plain}
 use Rattle.debug_tables.specs.declared.modes.StepModes.{StepModes}
 
@@ -19,6 +23,19 @@ pub record IsSameLine (t u : SteppingTold) : Type 0 where
 abbrev pub TracedLineIsTheLine : Type 0
 TracedLineIsTheLine = (modes : StepModes) (labels : List ImageLabels) (limit : ℕ) (s : ScriptState) (r : SteppingRequest)
     → IsSameLine (stepping_told modes labels (Some limit) s r) (stepping_told modes labels None s r)
+
+-- TRACE LAST is a RUN: it leaves the same state, prints the same and has the same ending.
+abbrev pub LastStepsAreOfTheRun : Type 0
+LastStepsAreOfTheRun =
+    (modes : StepModes) (labels : List ImageLabels) (told : Option ℕ) (count : ℕ) (s : ScriptState)
+    → IsSameLine (stepping_told modes labels told s (RunLast count)) (stepping_told modes labels None s Run)
+
+-- The steps of which it tells the last ones are those that a trace of the whole run tells.
+abbrev pub TextsAreOfTheTrace : Type 0
+TextsAreOfTheTrace =
+    (modes : StepModes) (labels : List ImageLabels) (most limit : ℕ) (s : ScriptState) → most ≤ limit
+    → (steps_run modes labels Nowhere most (Some limit) s).text
+    ≡ flat_map whole_text (texts_of_run modes labels most s)
 
 -- a line's answer: what is told, and behind it the ending
 pub record IsAnswer (t : SteppingTold) (a : Answered) : Type 0 where

@@ -8,9 +8,11 @@ pub use Rattle.debugger.specs.swi_dispatch_guest
 pub use Rattle.trace_text
 pub mod Calls
 pub mod Endings
+pub mod LastSteps
 pub mod Laws
 pub mod Lines
 pub mod Places
+pub mod Quiet
 pub mod Routines
 pub mod Runs
 pub mod Telling

@@ -4,7 +4,7 @@
 use Rattle.std.specs.Prelude.{ℕ, zero, suc, false, ◌-◌, ◌++◌, min, nat_le, List, [], codes, length, Option, Some, None}
 use Rattle.profile.specs.declared.stop.Stop.{Stop}
 use Rattle.debug_labels.specs.Labels.{ImageLabels}
-use Rattle.debug_lines.specs.SteppingRequests.{SteppingRequest, Run, Step, Call, Load, Finish, Gosub}
+use Rattle.debug_lines.specs.SteppingRequests.{SteppingRequest, Run, Step, Call, Load, Finish, Gosub, RunLast}
 use Rattle.debugger.specs.swi_dispatch_guest.specs.MachineState.{StepOutcome}
 use Rattle.debugger.specs.swi_dispatch_guest.specs.Step.{module_loaded, store_called}
 use Rattle.command_shell.specs.Answers.{refused_text}
@@ -12,6 +12,7 @@ use Rattle.command_shell.specs.Calls.{stop_before_step_by}
 use Rattle.command_shell.specs.State.{ScriptState, Answered, answer}
 use Rattle.trace_text.specs.Step.{call_start_text, load_start_text}
 use Rattle.debug_runs.specs.Endings.{line_end_told}
+use Rattle.debug_runs.specs.LastSteps.{last_run}
 use Rattle.debug_runs.specs.Routines.{caller_in, script_at_routine}
 use Rattle.debug_runs.specs.Runs.{SteppingRun, call_run, steps_run}
 use Rattle.debug_runs.specs.Telling.{call_text_behind, more_text}
@@ -74,3 +75,5 @@ stepping_told modes labels told s Finish = finish_told modes labels told s (leng
 stepping_told modes labels told s (Gosub address) =
     told_if_awake told s (kind.Routine (caller_in s)) s.left
     (steps_run modes labels (goal.Routine (length s.machine.tables.frames)) s.left told (script_at_routine s address))
+stepping_told modes labels told s (RunLast count) =
+    told_if_awake None s (kind.Steps false) s.left (last_run modes labels count s.left s)

@@ -2,7 +2,7 @@
 -- of a call from outside itself, which stands at no address.
 use Rattle.std.specs.Prelude.{ℕ, zero, suc, ◌-◌, min, List, [], ◌∷◌, length, Option, Some, None}
 use Rattle.profile.specs.declared.stop.Stop.{Stop}
-use Rattle.debug_lines.specs.SteppingRequests.{SteppingRequest, Run, Step, Call, Load, Finish, Gosub}
+use Rattle.debug_lines.specs.SteppingRequests.{SteppingRequest, Run, Step, Call, Load, Finish, Gosub, RunLast}
 use Rattle.debugger.specs.swi_dispatch_guest.specs.MachineState.{StepOutcome}
 use Rattle.debugger.specs.swi_dispatch_guest.specs.Step.{module_loaded, store_called}
 use Rattle.command_shell.specs.Calls.{step_made, stop_before_step_by}
@@ -56,3 +56,4 @@ places_of_line modes s (Load text) = places_of_outside modes s (module_loaded s.
 places_of_line modes s Finish = places_of_finish modes s (length s.machine.tables.frames)
 places_of_line modes s (Gosub address) = places_if_awake s s.left
     (places_of_run modes (goal.Routine (length s.machine.tables.frames)) s.left (script_at_routine s address))
+places_of_line modes s (RunLast count) = places_if_awake s s.left (places_of_run modes goal.Nowhere s.left s)

@@ -1,6 +1,6 @@
 -- Runs of a debugger: steps one after another, until a goal is reached or the run is stopped, and
 -- what is told of each.
-use Rattle.std.specs.Prelude.{ℕ, zero, suc, Bool, true, false, not, ◌-◌, ◌==◌, ◌&&◌, ◌++◌, List, [], length, Option, Some, None, if◌then◌else◌}
+use Rattle.std.specs.Prelude.{ℕ, zero, suc, Bool, false, not, ◌-◌, ◌==◌, ◌&&◌, ◌++◌, List, [], length, Option, Some, None, if◌then◌else◌}
 use Rattle.profile.specs.declared.stop.Stop.{Stop}
 use Rattle.profile.specs.declared.stop.Stop.TheVariants as stop
 use Rattle.debug_labels.specs.Labels.{ImageLabels}
@@ -90,17 +90,12 @@ call_run modes labels g most told s text o =
     run_step modes.watches g s o (told_of_step told text o.printed)
     (steps_run modes labels g (most - 1) (one_told told))
 
--- whether nothing looks at the steps of a run: it has no goal, none of them is told, and there is no
--- stub and no watch
-abbrev pub is_nowhere : RunGoal → Bool
-is_nowhere goal.Nowhere = true
-is_nowhere _ = false
+-- whether nothing looks at the steps of a run: none of them is told, and there is no stub and no watch
+abbrev pub are_unseen : StepModes → Option ℕ → Bool
+are_unseen modes told = not (is_step_told told) && are_plain modes
 
-abbrev pub are_unseen : StepModes → RunGoal → Option ℕ → Bool
-are_unseen modes g told = is_nowhere g && (not (is_step_told told) && are_plain modes)
-
--- why a run ends with steps of the machine's own run that stopped so; with no more of those another
--- step may come
-abbrev pub quiet_end : Stop → Option RunEnd
-quiet_end stop.Budget = None
-quiet_end x = Some (end.Stopped x)
+-- Why a run ends with so many steps at which nothing looked, if it does: that is tested after the last of
+-- them alone, by the state that they left.
+abbrev pub end_of_unseen : RunGoal → ScriptState → ℕ → Option RunEnd
+end_of_unseen g now zero = None
+end_of_unseen g now (suc n) = end_after [] g now now

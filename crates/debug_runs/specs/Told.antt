@@ -19,6 +19,13 @@ pub record IsAfterStepping (r : SteppingRun) (now : ScriptState) (old new : Tell
   pub told : IsToldOn old new r.text r.printed
   pub ended : e ≡ r.ended
 
+-- a run left this of which no step is told
+pub record IsAfterUntold (r : SteppingRun) (now : ScriptState) (old new : List ℕ)
+    (e : RunEnd) : Type 0 where
+  pub state : now ≡ r.now
+  pub all_printed : new ≡ old ++ r.printed
+  pub ended : e ≡ r.ended
+
 -- a line left this
 pub record IsSteppingTold (t : SteppingTold) (now : ScriptState) (text printed ending : List ℕ) : Type 0 where
   pub state : now ≡ t.now

@@ -75,14 +75,15 @@ fn take_counted(
     Ok(RunEnd::Stopped(Stop::Budget))
 }
 
-// The address at which the next step begins.
-fn place_of(session: &Session) -> u32
+/// The address at which the next step begins.
+pub(crate) fn place_of(session: &Session) -> u32
     ensures { (images : List Entry) → result ≡ (script_state session.now images).machine.cpu.pc }
 {
     session.machine().cpu().pc()
 }
 
-fn count_at(counts: &mut StepCounts, place: u32) -> Result<(), WriteFault>
+/// Counts a step at an address, where steps are counted.
+pub(crate) fn count_at(counts: &mut StepCounts, place: u32) -> Result<(), WriteFault>
     ensures { OnOk result (counts.new ≡ step_counted counts.old place) }
 {
     match counts.count(place) {

@@ -6,7 +6,7 @@ ghost use Rattle.command_shell.specs.Calls.{first_step, stop_before_step_by};
 ghost use Rattle.command_shell.specs.Session.{script_state};
 ghost use Rattle.debug_runs.specs.Calls.{outside_start_text};
 ghost use Rattle.debug_runs.specs.Endings.{line_end_told};
-ghost use Rattle.debug_lines.specs.SteppingRequests.{Gosub, stepping_request_of};
+ghost use Rattle.debug_lines.specs.SteppingRequests.{Gosub, RunLast, stepping_request_of};
 ghost use Rattle.debug_runs.specs.Lines.{call_line_told, finish_told, stepping_told};
 ghost use Rattle.debug_runs.specs.Lines.{told_if_awake, told_with_ending};
 ghost use Rattle.debug_runs.specs.Places.{places_if_awake, places_of_finish, places_of_line, places_of_outside, places_of_run};
@@ -18,6 +18,7 @@ ghost use Rattle.debug_runs.specs.Told.{HasTold, IsSteppingTold};
 use crate::context::StepContext;
 use crate::counted::run_steps;
 use crate::endings::{EndKind, tell_line_end, tell_refused};
+use crate::last::run_last;
 use crate::routines::{caller_of, enter};
 use crate::running::{RunEnd, RunGoal, take_call};
 use crate::telling::Telling;
@@ -46,7 +47,8 @@ pub struct LineTold {
 /// Answers a line that takes steps. RUN takes all that are left, STEP so many, or as many as are left;
 /// CALL and LOAD go on until the module code that they enter has gone back, FINISH until the innermost
 /// frame of module code has, and GOSUB until its routine has: R14 is &03FFFFFC in it, with the status;
-/// afterwards R14 and the program counter are as they were.
+/// afterwards R14 and the program counter are as they were. TRACE LAST is a RUN, of which so many
+/// steps are told, the last ones: `.. 64540 steps before` stands before them, where there were more.
 ///
 /// With `Some`, traced, so many steps are told at most, and what is told ends with how many more
 /// were taken, `.. 64540 steps more`; with `None` what the guest prints stands as it is. A run
@@ -123,28 +125,19 @@ fn tell_line(
             tell_steps(telling, ending, session, context, counts, kind, goal, most)
         }
         SteppingCommand::Call(number) => {
-            tell_call(
-                telling,
-                ending,
-                session,
-                context,
-                counts,
-                OutsideCall::Swi(number),
-            )
+            let call = OutsideCall::Swi(number);
+            tell_call(telling, ending, session, context, counts, call)
         }
         SteppingCommand::Load(text) => {
-            tell_call(
-                telling,
-                ending,
-                session,
-                context,
-                counts,
-                OutsideCall::Load(text),
-            )
+            let call = OutsideCall::Load(text);
+            tell_call(telling, ending, session, context, counts, call)
         }
         SteppingCommand::Finish => tell_finish(telling, ending, session, context, counts),
         SteppingCommand::Gosub(address) => {
             tell_gosub(telling, ending, session, context, counts, address.address())
+        }
+        SteppingCommand::RunLast(count) => {
+            tell_last(telling, ending, session, context, counts, count)
         }
     }
 }
@@ -228,16 +221,8 @@ fn tell_finish(
         frames => {
             let goal = RunGoal::Frames(frames - 1);
             let left = session.left();
-            tell_steps(
-                telling,
-                ending,
-                session,
-                context,
-                counts,
-                EndKind::Call,
-                goal,
-                left,
-            )
+            let kind = EndKind::Call;
+            tell_steps(telling, ending, session, context, counts, kind, goal, left)
         }
     }
 }
@@ -270,6 +255,32 @@ fn tell_gosub(
     enter(session, address);
     let end = run_steps(telling, session, context, counts, goal, left)?;
     tell_run_end(telling, ending, session, told, left, kind, end)
+}
+
+// RUN, of which so many steps are told, the last ones.
+fn tell_last(
+    telling: &mut Telling,
+    ending: &mut TextSink,
+    session: &mut Session,
+    context: &StepContext<'_>,
+    counts: &mut StepCounts,
+    count: u32,
+) -> Result<(), WriteFault>
+    ensures told { let s = script_state session.old context.now.images.now in
+        let modes = context.now.modes.now in OnOk result (HasTold
+        (stepping_told modes context.now.labels.now telling.old.told s (RunLast count))
+        (script_state session.new context.now.images.now) telling.old telling.new ending.old ending.new) }
+    ensures counted { OnOk result (counts.new ≡ steps_counted
+        (places_of_line context.now.modes.now (script_state session.old context.now.images.now)
+        (RunLast count)) counts.old) }
+{
+    let left = session.left();
+    let kind = EndKind::Steps(false);
+    if let Some(stop) = stop_within(session, left) {
+        return tell_line_end(session, ending, kind, RunEnd::Stopped(stop));
+    }
+    let end = run_last(telling, session, context, counts, count, left)?;
+    tell_run_end(telling, ending, session, None, left, kind, end)
 }
 
 // How a run ended of which so many steps were to be told, and before which so many were left.

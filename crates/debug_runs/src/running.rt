@@ -6,8 +6,8 @@ ghost use Rattle.address_map.specs.Memory.{bytes_of};
 ghost use Rattle.command_shell.specs.Calls.{first_step};
 ghost use Rattle.command_shell.specs.Session.{script_state};
 ghost use Rattle.command_shell.specs.State.{ScriptState};
-ghost use Rattle.debug_runs.specs.Runs.{are_unseen, call_run, end_after, is_reached, quiet_end};
-ghost use Rattle.debug_runs.specs.Runs.{is_nowhere, run_unless, steps_run, watched_end};
+ghost use Rattle.debug_runs.specs.Runs.{are_unseen, call_run, end_after, end_of_unseen, is_reached};
+ghost use Rattle.debug_runs.specs.Runs.{run_unless, steps_run, watched_end};
 ghost use Rattle.debug_runs.specs.Calls.{outside_text};
 ghost use Rattle.debug_runs.specs.Places.{places_of_call};
 ghost use Rattle.debug_runs.specs.Told.{IsAfterStepping};
@@ -17,6 +17,7 @@ ghost use Rattle.debugger.specs.swi_dispatch_guest.specs.Parts.{state_of};
 
 use crate::context::StepContext;
 use crate::counted::run_steps;
+use crate::quiet::take_quietly;
 use crate::telling::{Telling, is_step_told};
 use command_shell::{OutsideCall, Session};
 use debug_counts::StepCounts;
@@ -103,33 +104,29 @@ fn take_unseen(
     if most == 0 {
         return (0, None);
     }
-    if !are_unseen(telling.told, context.modes, goal) {
+    if !are_unseen(telling.told, context.modes) {
         return (0, None);
     }
-    let ran = session.take_quiet_steps(most);
-    (ran.taken, quiet_end(ran.stop))
+    let taken = take_quietly(session, goal, most);
+    (taken, end_of_unseen(session, goal, taken))
 }
 
 // Whether nothing looks at the steps of a run of which so many are told.
-fn are_unseen(told: Option<u64>, modes: &StepModes, goal: RunGoal) -> bool
-    ensures { result ≡ are_unseen modes.now goal told }
+fn are_unseen(told: Option<u64>, modes: &StepModes) -> bool
+    ensures { result ≡ are_unseen modes.now told }
 {
-    is_nowhere(goal) && !is_step_told(told) && modes.is_plain()
+    !is_step_told(told) && modes.is_plain()
 }
 
-fn is_nowhere(goal: RunGoal) -> bool
-    ensures { result ≡ is_nowhere goal }
+// Why a run ends with so many steps at which nothing looked, if it does.
+fn end_of_unseen(session: &Session, goal: RunGoal, taken: u64) -> Option<RunEnd>
+    ensures { (images : List Entry)
+        → result ≡ end_of_unseen goal (script_state session.now images) taken }
 {
-    matches!(goal, RunGoal::Nowhere)
-}
-
-// Why a run ends with such steps; with no more of them another step may come.
-fn quiet_end(stop: Stop) -> Option<RunEnd>
-    ensures { result ≡ quiet_end stop }
-{
-    match stop {
-        Stop::Budget => None,
-        stop => Some(RunEnd::Stopped(stop)),
+    if taken == 0 {
+        None
+    } else {
+        end_after(session, goal, &[])
     }
 }
 

@@ -15,6 +15,7 @@ lines of a debugging script:
   RESET                                      a fresh machine; images, labels, breaks, modes stay
   FORGET name, REPEAT n line                 an image goes; a line, n times
   TRACE line, TRACE n, TRACE ON, TRACE OFF   steps told one by one; TRACE LIMIT n of a line
+  TRACE LAST n                               RUN, of which the last n steps are told
   FINISH, GOSUB a                            until a frame has gone back; a routine called
   PUT name a                                 an image's bytes to an address
   STUB n R0 v .., UNSTUB n                   a SWI that the machine doesn't have

@@ -1,0 +1,111 @@
+//! A run whose last steps are told, once it has ended.
+
+ghost use Rattle.std.specs.Prelude.{◌≡◌, ◌≤◌, ◌<◌, ◌+◌, ◌^◌, ◌++◌, None, List, IfOk, OnOk};
+ghost use Rattle.image_loader.specs.Entries.{Entry};
+ghost use Rattle.command_shell.specs.Calls.{step_made};
+ghost use Rattle.command_shell.specs.Session.{script_state};
+ghost use Rattle.debug_counts.specs.Counts.{steps_counted};
+ghost use Rattle.debug_runs.specs.LastSteps.{last_run, text_of_step, texts_of_run, with_step, with_steps};
+ghost use Rattle.debug_runs.specs.Places.{places_of_run};
+ghost use Rattle.debug_runs.specs.Runs.{next_step, steps_run};
+ghost use Rattle.debug_runs.specs.Told.{IsAfterStepping, IsAfterUntold};
+ghost use Rattle.debug_runs.specs.declared.running.RunGoal.TheVariants.{Nowhere};
+ghost use Rattle.view_items.specs.TextSink.{sink_text_of};
+
+use crate::context::StepContext;
+use crate::counted::{count_at, place_of};
+use crate::last_steps::{KeptStep, LastSteps};
+use crate::running::{RunEnd, RunGoal, end_after};
+use crate::telling::Telling;
+use command_shell::Session;
+use debug_counts::StepCounts;
+use profile::{Stop, WriteFault, push_all};
+use std::alloc::Global;
+use view_items::TextSink;
+
+/// Takes so many steps at most, until the run is stopped, and tells so many of them, the last ones.
+/// Counts the steps where they are counted.
+pub(crate) fn run_last(
+    telling: &mut Telling,
+    session: &mut Session,
+    context: &StepContext<'_>,
+    counts: &mut StepCounts,
+    count: u32,
+    most: u64,
+) -> Result<RunEnd, WriteFault>
+    requires { most ≤ (script_state session.old context.now.images.now).left }
+    ensures ran { let images = context.now.images.now in
+        IfOk result (λ end. IsAfterStepping
+        (last_run context.now.modes.now context.now.labels.now count most (script_state session.old images))
+        (script_state session.new images) telling.old telling.new end) }
+    ensures counted { OnOk result (counts.new ≡ steps_counted
+        (places_of_run context.now.modes.now Nowhere most (script_state session.old context.now.images.now))
+        counts.old) }
+{
+    let alloc = telling.alloc;
+    let mut last = LastSteps::new(alloc, count);
+    let printed = &mut telling.printed;
+    let end = take_last(alloc, printed, session, context, counts, &mut last, most)?;
+    last.tell(&mut telling.text)?;
+    Ok(end)
+}
+
+// Takes the steps one by one, and keeps the last ones.
+fn take_last(
+    alloc: Global,
+    printed: &mut TextSink,
+    session: &mut Session,
+    context: &StepContext<'_>,
+    counts: &mut StepCounts,
+    last: &mut LastSteps,
+    most: u64,
+) -> Result<RunEnd, WriteFault>
+    requires enough { most ≤ (script_state session.old context.now.images.now).left }
+    requires few { last.old.before + most < 2 ^ 64 }
+    ensures ran { let images = context.now.images.now in
+        let s = script_state session.old images in IfOk result (λ end. IsAfterUntold
+        (steps_run context.now.modes.now context.now.labels.now Nowhere most None s)
+        (script_state session.new images) (sink_text_of printed.old) (sink_text_of printed.new) end) }
+    ensures last { let s = script_state session.old context.now.images.now in OnOk result (last.new
+        ≡ with_steps last.old (texts_of_run context.now.modes.now context.now.labels.now most s)) }
+    ensures counted { OnOk result (counts.new ≡ steps_counted
+        (places_of_run context.now.modes.now Nowhere most (script_state session.old context.now.images.now))
+        counts.old) }
+{
+    let mut left = most;
+    while left > 0 {
+        let words = context.modes.watches.words(session.machine().memory());
+        let place = place_of(session);
+        take_one(alloc, printed, session, context, last)?;
+        count_at(counts, place)?;
+        left -= 1;
+        if let Some(end) = end_after(session, RunGoal::Nowhere, words.as_slice()) {
+            return Ok(end);
+        }
+    }
+    Ok(RunEnd::Stopped(Stop::Budget))
+}
+
+// Takes a step, and keeps it among the last ones.
+fn take_one(
+    alloc: Global,
+    printed: &mut TextSink,
+    session: &mut Session,
+    context: &StepContext<'_>,
+    last: &mut LastSteps,
+) -> Result<(), WriteFault>
+    requires some { 0 < (script_state session.old context.now.images.now).left }
+    requires few { last.old.before + 1 < 2 ^ 64 }
+    ensures state { let s = script_state session.old context.now.images.now in OnOk result
+        (script_state session.new context.now.images.now
+        ≡ step_made s (next_step context.now.modes.now s)) }
+    ensures printed { let s = script_state session.old context.now.images.now in OnOk result
+        (sink_text_of printed.new
+        ≡ sink_text_of printed.old ++ (next_step context.now.modes.now s).printed) }
+    ensures last { let s = script_state session.old context.now.images.now in OnOk result (last.new
+        ≡ with_step last.old (text_of_step context.now.modes.now context.now.labels.now s)) }
+{
+    let step = KeptStep::take(alloc, session, context)?;
+    push_all(printed, step.printed())?;
+    last.add(step)
+}
