@@ -1,11 +1,11 @@
 -- Pieces of HTML that begin with a text of their own, written one after another.
-use Rattle.std.proofs.Common.{ℕ, List, ◌++◌, Option}
+use Rattle.std.proofs.Common.{ℕ, List, Option}
 use Rattle.std.specs.Prelude.{codes}
 use Rattle.std.specs.Fmt.{decimal}
 use Rattle.std.specs.Io.KnownBytes.{Appends}
 use Rattle.page_markup.specs.Escape.{escaped_bytes}
 use Rattle.script_page.proofs.HtmlLemmas.{five, four}
-use Rattle.trace_page.specs.Table.{table_html}
+use Rattle.answer_page.specs.Table.{table_html}
 use Rattle.view_pictures.proofs.LegendLemmas.{three_pieces}
 use Rattle.debug_entries.specs.Html.{remark_opening, summary_item, told_parts, trace_html}
 

@@ -1,1 +1,2 @@
 pub mod HtmlLemmas
+pub mod TextLemmas

@@ -1,14 +1,18 @@
 -- A line of a debugging script as HTML.
-use Rattle.std.specs.Prelude.{ℕ, ◌==◌, List, [], ◌∷◌, ◌++◌, codes, drop, length, take, if◌then◌else◌}
+use Rattle.std.specs.Prelude.{ℕ, ◌==◌, List, [], ◌++◌, codes, drop, length, take, if◌then◌else◌}
 use Rattle.std.specs.Fmt.{decimal}
 use Rattle.std.specs.Str.Lines.{lines}
 use Rattle.page_markup.specs.Escape.{escaped_bytes}
 use Rattle.script_page.specs.HtmlPage.{answer_part, figure, guest_part, item_html, opening, typed_lines}
-use Rattle.trace_page.specs.Table.{table_html}
+use Rattle.answer_page.specs.Table.{table_html}
+use Rattle.answer_page.specs.Counts.{counts_html, is_counted}
+use Rattle.answer_page.specs.Marks.{registers_html}
 use Rattle.debug_entries.specs.Lines.{remark_text, sort_of_words}
 use Rattle.debug_entries.specs.Shown.{trace_part}
 use Rattle.debug_entries.specs.declared.lines.LineSort.{LineSort}
 use Rattle.debug_entries.specs.declared.lines.LineSort.TheVariants as sort
+use Rattle.debug_entries.specs.declared.lines.LineUse.{LineUse}
+use Rattle.debug_entries.specs.declared.lines.LineUse.TheVariants as use_of
 use Rattle.debug_entries.specs.declared.lines.Verdict.{Verdict}
 use Rattle.debug_entries.specs.declared.lines.Verdict.TheVariants as verdict
 use Rattle.debug_entries.specs.declared.shown.DebugShown.{DebugShown}
@@ -55,10 +59,22 @@ abbrev pub shown_front : DebugShown → List ℕ
 shown_front s = guest_part s.guest.items
     ++ trace_if_any (trace_part s.entry.used (take s.entry.front s.entry.answer.items))
 
+-- An answer to COUNTS has bars, unless it is a refusal.
+abbrev pub counted_answer : List ℕ → List ℕ → List ℕ
+counted_answer class answer = if is_counted answer then counts_html answer else answer_part class answer
+
+-- In an answer to REGS what isn't as it was in the one before is marked.
+abbrev pub answer_by_use : LineUse → Verdict → List ℕ → List ℕ → List ℕ
+answer_by_use use_of.Registers v answer before = registers_html answer before
+answer_by_use use_of.Counts v answer before = counted_answer (class_of_verdict v) answer
+answer_by_use _ v answer before = answer_part (class_of_verdict v) answer
+
+abbrev pub shown_answer : DebugShown → List ℕ
+shown_answer s = answer_by_use s.entry.used s.entry.verdict
+    (drop s.entry.front s.entry.answer.items) s.entry.before.items
+
 abbrev pub shown_ending : DebugShown → List ℕ
-shown_ending s =
-    answer_part (class_of_verdict s.entry.verdict) (drop s.entry.front s.entry.answer.items)
-    ++ answer_part (codes "steps") s.entry.steps.items
+shown_ending s = shown_answer s ++ answer_part (codes "steps") s.entry.steps.items
 
 unfoldable pub told_parts : List ℕ → List ℕ → List ℕ
 told_parts front ending = codes "<div class=\"told\">" ++ (front ++ (ending ++ codes "</div>"))

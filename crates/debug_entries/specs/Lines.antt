@@ -38,6 +38,8 @@ remark_text sort.Request line words = []
 abbrev pub has_front : LineUse → Bool
 has_front use_of.Steps = true
 has_front use_of.Trace = true
+has_front use_of.Registers = false
+has_front use_of.Counts = false
 has_front use_of.Other = false
 
 -- how long the front of an answer is, by the answer's ending

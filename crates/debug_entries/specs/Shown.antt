@@ -8,12 +8,16 @@ use Rattle.debug_entries.specs.declared.shown.DebugShown.{DebugShown}
 abbrev pub printed_part : LineUse → List ℕ → List ℕ
 printed_part use_of.Steps front = front
 printed_part use_of.Trace front = []
+printed_part use_of.Registers front = []
+printed_part use_of.Counts front = []
 printed_part use_of.Other front = []
 
 -- the front, where it is a trace
 abbrev pub trace_part : LineUse → List ℕ → List ℕ
 trace_part use_of.Trace front = front
 trace_part use_of.Steps front = []
+trace_part use_of.Registers front = []
+trace_part use_of.Counts front = []
 trace_part use_of.Other front = []
 
 abbrev pub has_drawn : DebugShown → Bool

@@ -19,6 +19,8 @@ pub struct DebugEntry<'a> {
     pub answer: Vec<u8>,
     /// How much of the answer stands before its ending: what the guest printed, or a trace.
     pub front: usize,
+    /// The answer to REGS before this one, where this is one too.
+    pub before: Vec<u8>,
     /// Whether what it expects is so.
     pub verdict: Verdict,
     /// How many steps it took, as `12 steps`, where it took more than one.

@@ -2,16 +2,16 @@
 
 ghost use Rattle.std.specs.Prelude.{◌≡◌};
 ghost use Rattle.profile.specs.Output.{Writes};
-ghost use Rattle.debug_entries.specs.Html.{class_of_verdict, debug_entry_html, entry_html_by, remark_html, remark_opening, request_html, shown_ending, shown_front};
-ghost use Rattle.debug_entries.specs.Html.{summary_html, summary_item, tag_back, tag_front, told_parts, trace_html, trace_if_any};
+ghost use Rattle.debug_entries.specs.Html.{class_of_verdict, counted_answer, debug_entry_html, entry_html_by, remark_html, remark_opening, request_html};
+ghost use Rattle.debug_entries.specs.Html.{shown_answer, shown_ending, shown_front, summary_html, summary_item, tag_back, tag_front, told_parts, trace_html, trace_if_any};
 
-use crate::lines::{LineSort, Verdict, remark_text, sort_of};
+use crate::lines::{LineSort, LineUse, Verdict, remark_text, sort_of};
 use crate::shown::DebugShown;
+use answer_page::{is_counted, push_counts, push_registers, push_table};
 use page_markup::markup::push_decimal;
 use page_markup::push_escaped;
 use profile::{Sink, WriteFault, push_all};
 use script_page::html::{push_figure, push_guest, push_opening, push_part, push_typed};
-use trace_page::push_table;
 
 /// Writes a line: a heading, a paragraph, or what is asked for with its answer, which tells whether
 /// what it expects is so. Nothing of a script or of a guest is taken for HTML's own.
@@ -142,8 +142,32 @@ fn push_trace<W: Sink>(sink: &mut W, trace: &[u8]) -> Result<(), WriteFault>
 fn push_ending<W: Sink>(sink: &mut W, shown: &DebugShown<'_>) -> Result<(), WriteFault>
     ensures { Writes W.contents W.has_failed sink.old sink.new result (shown_ending shown.now) }
 {
-    push_part(sink, class_of(shown.entry.verdict), shown.ending())?;
+    push_answer(sink, shown)?;
     push_part(sink, b"steps", shown.entry.steps.as_slice())
+}
+
+fn push_answer<W: Sink>(sink: &mut W, shown: &DebugShown<'_>) -> Result<(), WriteFault>
+    ensures { Writes W.contents W.has_failed sink.old sink.new result (shown_answer shown.now) }
+{
+    let entry = &shown.entry;
+    match entry.used {
+        LineUse::Registers => push_registers(sink, shown.ending(), entry.before.as_slice()),
+        LineUse::Counts => push_counted(sink, class_of(entry.verdict), shown.ending()),
+        LineUse::Steps | LineUse::Trace | LineUse::Other => {
+            push_part(sink, class_of(entry.verdict), shown.ending())
+        }
+    }
+}
+
+fn push_counted<W: Sink>(sink: &mut W, class: &[u8], answer: &[u8]) -> Result<(), WriteFault>
+    ensures { Writes W.contents W.has_failed sink.old sink.new result
+        (counted_answer class.now answer.now) }
+{
+    if is_counted(answer) {
+        push_counts(sink, answer)
+    } else {
+        push_part(sink, class, answer)
+    }
 }
 
 fn class_of(verdict: Verdict) -> &'static [u8]

@@ -30,6 +30,10 @@ pub enum LineUse {
     Steps,
     /// It takes steps that are told one by one.
     Trace,
+    /// REGS: what isn't as it was in the last such answer is marked.
+    Registers,
+    /// COUNTS: each count has a bar.
+    Counts,
     /// Any other.
     Other,
 }
@@ -112,7 +116,7 @@ impl LineUse {
     {
         match self {
             LineUse::Steps | LineUse::Trace => true,
-            LineUse::Other => false,
+            LineUse::Registers | LineUse::Counts | LineUse::Other => false,
         }
     }
 }

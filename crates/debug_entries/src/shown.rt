@@ -1,6 +1,6 @@
 //! What a page shows of a line, beside its answer.
 
-ghost use Rattle.std.specs.Prelude.{◌≡◌, ◌≤◌, IfOk, length, take, drop};
+ghost use Rattle.std.specs.Prelude.{◌≡◌, IfOk, take, drop};
 ghost use Rattle.script_page.specs.GuestText.{guest_text};
 ghost use Rattle.debug_entries.specs.Shown.{has_drawn, printed_part, trace_part};
 

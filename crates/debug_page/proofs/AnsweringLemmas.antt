@@ -15,8 +15,9 @@ left_behind_line all behind line opens passed first counted =
     ∙ sym (left_cut opens behind)
 
 -- a place, by its parts
-pub place_is : (p q : PagePlace) → p.number ≡ q.number → p.state ≡ q.state → p.left ≡ q.left → p ≡ q
-place_is p q number state left = λ i. record { number = number i; state = state i; left = left i }
+pub place_is : (p q : PagePlace) → p.number ≡ q.number → p.state ≡ q.state → p.left ≡ q.left → p.registers ≡ q.registers → p ≡ q
+place_is p q number state left registers =
+    λ i. record { number = number i; state = state i; left = left i; registers = registers i }
 
 pub with_block : (c : DebugSetting) (d : DebugState) (number : ℕ) (line : List ℕ) (behind : List (List ℕ))
     → told_with_block c d number line behind ≡ debug_line_told c d number line (block_lines behind)

@@ -95,13 +95,13 @@ pub record DebugPageSoFar (front : List ℕ) (c : DebugSetting) (images : List E
 
 -- before the first line
 pub starts_so : (a : DebugAnswering) (s : DebugSession) (c : DebugSetting) (images : List Entry) (script : List ℕ) → a.session ≡ s
-    → a.images ≡ images → a.place ≡ record { left = lines script; number = 0 }
+    → a.images ≡ images → a.place ≡ record { left = lines script; number = 0 } → a.registers.items ≡ []
     → ((images : List Entry) → debug_state s images ≡ debug_start_state c images)
     → place_of_answering a ≡ start_place c images script
-starts_so a s c images script session its_images place state =
+starts_so a s c images script session its_images place registers state =
     place_is (place_of_answering a) (start_place c images script) (ap (λ (p : ReadingPlace). p.number) place)
     ((λ i. debug_state (session i) (its_images i)) ∙ state images)
-    (ap (λ (p : ReadingPlace). p.left) place)
+    (ap (λ (p : ReadingPlace). p.left) place) registers
 
 pub page_starts : (front : List ℕ) (c : DebugSetting) (images : List Entry) (f : PageForm) (script : List ℕ) (a : DebugAnswering) (links : List PictureLink)
     (before after : Option (List ℕ)) → links ≡ []

@@ -9,7 +9,7 @@ ghost use Rattle.debug_session.specs.Session.{debug_state};
 ghost use Rattle.debug_page.specs.Answering.{place_of_answering, told_with_block, IsNextDebugEntry};
 ghost use Rattle.debug_entries.specs.script_page.specs.view_reading.specs.swi_dispatch_guest.specs.Parts.{state_of};
 
-use crate::reading::{use_of, verdict_between, words_of};
+use crate::reading::{last_registers_before, use_of, verdict_between, words_of};
 use debug_entries::script_page::front_lines::cut_lines;
 use debug_entries::script_page::view_reading::Machine;
 use debug_entries::{DebugEntry, front_length, steps_words};
@@ -19,29 +19,37 @@ use std::alloc::{AllocError, Global};
 use text_lines::Lines;
 use view_items::TextSink;
 
-/// A debugging script under way: what its lines work on, and those that are left, as lines and as they
-/// stand.
+/// A debugging script under way: what its lines work on, those that are left, as lines and as they
+/// stand, and the last answer to REGS.
 #[derive(Drop)]
 pub struct DebugAnswering<'a> {
     session: DebugSession,
     images: Images,
     place: Lines<'a>,
     rest: &'a [u8],
+    registers: Vec<u8>,
 }
 
 impl<'a> DebugAnswering<'a> {
     /// Before the first line of a script.
-    pub fn new(session: DebugSession, images: Images, script: &'a [u8]) -> DebugAnswering<'a>
+    pub fn new(
+        alloc: Global,
+        session: DebugSession,
+        images: Images,
+        script: &'a [u8],
+    ) -> DebugAnswering<'a>
         ensures session { result.session ≡ session }
         ensures images { result.images ≡ images }
         ensures place { result.place ≡ record { left = lines script.entry.now; number = 0 } }
         ensures rest { result.rest.now ≡ script.entry.now }
+        ensures registers { result.registers.items ≡ [] }
     {
         DebugAnswering {
             session,
             images,
             place: Lines::new(script),
             rest: script,
+            registers: Vec::new(alloc),
         }
     }
 
@@ -89,6 +97,7 @@ impl<'a> DebugAnswering<'a> {
         let (lines, rest) = cut_lines(self.rest, self.place.number() - number);
         self.rest = rest;
         let front = front_length(used, answer.as_slice(), self.session.answer());
+        let before = last_registers_before(alloc, &mut self.registers, used, answer.as_slice())?;
         let verdict = verdict_between(tally, self.session.tally());
         let steps = steps_words(alloc, used, self.session.steps())?;
         Ok(Some(DebugEntry {
@@ -99,6 +108,7 @@ impl<'a> DebugAnswering<'a> {
             used,
             answer,
             front,
+            before,
             verdict,
             steps,
         }))
@@ -115,6 +125,7 @@ impl<'a> DebugAnswering<'a> {
         ensures number { OnOk result (self.new.place.number
             ≡ self.old.place.number + lines_taken (line_opens line.now) self.old.place.left) }
         ensures rest { self.new.rest.now ≡ self.old.rest.now }
+        ensures registers { self.new.registers.items ≡ self.old.registers.items }
         ensures setting { self.new.session.setting ≡ self.old.session.setting }
     {
         let mut answer = TextSink::new(alloc);

@@ -81,7 +81,7 @@ fn push_between<W: Sink>(
     ensures same_flag { OnOk result (W.has_failed sink.new ≡ W.has_failed sink.old) }
 {
     let session = DebugSession::new(alloc, setting)?;
-    let mut answering = DebugAnswering::new(session, images, script);
+    let mut answering = DebugAnswering::new(alloc, session, images, script);
     let mut views = LastViews::new(alloc);
     let mut links = Vec::new(alloc);
     let mut is_drawn = false;

@@ -1,9 +1,9 @@
 //! What a line of a debugging script is read as, and how it ended.
 
-ghost use Rattle.std.specs.Prelude.{◌≡◌, IfOk, List};
+ghost use Rattle.std.specs.Prelude.{◌≡◌, IfOk, OnOk, List};
 ghost use Rattle.command_shell_lines.specs.Requests.{request_of_command};
 ghost use Rattle.debug_lines.specs.DebugRequests.{debug_request_of_command};
-ghost use Rattle.debug_page.specs.Reading.{use_of_request, use_of_script, use_of_steps, use_of_words, verdict_between, words_of_line};
+ghost use Rattle.debug_page.specs.Reading.{last_registers_after, last_registers_before, use_of_request, use_of_script, use_of_steps, use_of_words, verdict_between, words_of_line};
 ghost use Rattle.debug_session.specs.Session.{debug_state};
 ghost use Rattle.image_loader.specs.Entries.{Entry};
 
@@ -12,6 +12,7 @@ use debug_entries::{LineUse, Verdict};
 use debug_lines::{DebugCommand, is_script_line, simple_command, tidied};
 use debug_session::{CheckTally, DebugSession};
 use std::alloc::{AllocError, Global};
+use std::mem::replace;
 
 /// What a line is read as: one of a script as it stands, any other made tidy, with numbers in place of
 /// words that name places where it means nothing without.
@@ -49,6 +50,7 @@ fn use_of_commands(
 {
     match own {
         DebugCommand::Stepping(is_traced, _) => use_of_steps(session, *is_traced),
+        DebugCommand::Counts(_) => LineUse::Counts,
         _ => use_of_script(session, command),
     }
 }
@@ -70,7 +72,33 @@ fn use_of_script(session: &DebugSession, command: &ScriptCommand<'_>) -> LineUse
         | ScriptCommand::Step(_)
         | ScriptCommand::Call(_)
         | ScriptCommand::Load(_) => use_of_steps(session, false),
+        ScriptCommand::Regs => LineUse::Registers,
         _ => LineUse::Other,
+    }
+}
+
+/// The last answer to REGS, where this line asks for the registers too, whose answer is the last from
+/// then on.
+///
+/// # Errors
+///
+/// Memory ran out.
+pub fn last_registers_before(
+    alloc: Global,
+    registers: &mut Vec<u8>,
+    used: LineUse,
+    answer: &[u8],
+) -> Result<Vec<u8>, AllocError>
+    ensures before { IfOk result (λ before. before.items ≡ last_registers_before registers.old.items used) }
+    ensures after { OnOk result (registers.new.items
+        ≡ last_registers_after registers.old.items used answer.now) }
+{
+    match used {
+        LineUse::Registers => {
+            let last = Vec::from_slice(alloc, answer)?;
+            Ok(replace(registers, last))
+        }
+        _ => Ok(Vec::new(alloc)),
     }
 }
 

@@ -7,13 +7,6 @@ pub const DEBUG_BACK: &[u8] = br##"</main>
 <output>no step is picked</output> <button type="button">next (n)</button></nav>
 <script>
 (() => {
-  const style = document.createElement("style");
-  style.textContent = `.picker { position: sticky; bottom: 0; display: flex; gap: 0.8rem; justify-content: center;
-    align-items: baseline; padding: 0.3rem; background: var(--panel); border-top: 1px solid var(--line); }
-    .picker[hidden] { display: none; }
-    .picker button { font: inherit; color: inherit; background: var(--paper); border: 1px solid var(--edge); }
-    @media print { .picker { display: none; } }`;
-  document.head.append(style);
   const steps = [...document.querySelectorAll("table.trace tr")].filter(row => row.cells.length == 4 && row.cells[0].textContent);
   const picker = document.querySelector(".picker"), [previous, next] = picker.querySelectorAll("button");
   let place = -1;

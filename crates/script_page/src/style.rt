@@ -60,6 +60,18 @@ table.trace td, table.trace th { padding: 0.05rem 0.6rem; text-align: left; vert
 table.trace td:last-child { white-space: pre-wrap; overflow-wrap: anywhere; }
 table.trace tr.label th { padding-top: 0.3rem; border-top: 1px solid var(--line); }
 table.trace tr.more td { color: var(--soft); }
+table.counts { border-collapse: collapse; font-size: 0.9em; background: var(--panel); border-radius: 4px;
+  margin: 0.15rem 0 0.3rem; }
+table.counts td { padding: 0.05rem 0.6rem; white-space: pre; }
+table.counts td:first-child { text-align: right; }
+table.counts tr.more td { text-align: left; color: var(--soft); }
+svg.bar { display: block; width: 9rem; height: 0.8em; }
+svg.bar rect { fill: var(--edge); stroke: none; }
+.picker { position: sticky; bottom: 0; display: flex; gap: 0.8rem; justify-content: center; align-items: baseline;
+  padding: 0.3rem; background: var(--panel); border-top: 1px solid var(--line); }
+.picker[hidden] { display: none; }
+.picker button { font: inherit; color: inherit; background: var(--paper); border: 1px solid var(--edge);
+  border-radius: 4px; }
 table.trace tr[aria-current] { outline: 2px solid var(--edge); outline-offset: -2px; font-weight: 700; }
 @media (max-width: 46rem) {
   table.trace, table.trace tbody { display: block; }
@@ -68,6 +80,8 @@ table.trace tr[aria-current] { outline: 2px solid var(--edge); outline-offset: -
   table.trace td:last-child { flex-basis: 100%; padding-left: 2rem; }
   table.trace th, table.trace tr.more td { flex-basis: 100%; padding-left: 0.3rem; }
   table.trace td:empty { display: none; }
+  table.counts td { padding: 0.05rem 0.3rem; white-space: pre-wrap; overflow-wrap: anywhere; }
+  svg.bar { width: 3rem; }
 }
 figure { margin: 0.15rem 0 0.5rem; flex: 0 1 380px; min-width: 0; }
 figure svg { display: block; width: 380px; max-width: 100%; height: auto; }
@@ -102,7 +116,8 @@ svg rect.change { fill: none; stroke: var(--change); stroke-width: 2; }
   .typed, pre.answer { white-space: pre-wrap; overflow-wrap: anywhere; }
   pre.answer, pre.steps { padding-left: 1rem; }
   .legend { break-before: avoid; }
-  table.trace tr { break-inside: avoid; }
+  table.trace tr, table.counts tr { break-inside: avoid; }
+  .picker { display: none; }
 }
 </style>
 </head>

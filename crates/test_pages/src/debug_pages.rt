@@ -135,3 +135,26 @@ fn a_transcript_ends_with_the_summary(rt: HostRuntime) {
     let wanted = "> EXPECT R0 0\npass\n1 passed, 0 failed\n";
     assert!(rt; written.bytes() == wanted.as_bytes());
 }
+
+const TWICE: &str = "    1  REGS
+       R0  00000000 R1  00000000 R2  00000000 R3  00000000
+       R4  00000000 R5  00000000 R6  00000000 R7  00000000
+       R8  00000000 R9  00000000 R10 00000000 R11 00000000
+       R12 00000000 R13 00000000 R14 00000000 R15 00008000
+       PSR nzcvif USR
+    2  SET R6 &1234
+    3  regs
+       R0  00000000 R1  00000000 R2  00000000 R3  00000000
+       R4  00000000 R5  00000000 R6  00001234 R7  00000000
+                                     ^^^^^^^^
+       R8  00000000 R9  00000000 R10 00000000 R11 00000000
+       R12 00000000 R13 00000000 R14 00000000 R15 00008000
+       PSR nzcvif USR
+";
+
+#[test]
+fn registers_stand_beside_the_last(rt: HostRuntime) {
+    let script = "REGS\nSET R6 &1234\nregs\n";
+    let (written, _status) = page(&rt, script, PageForm::Text(100));
+    assert!(rt; written.bytes() == TWICE.as_bytes());
+}

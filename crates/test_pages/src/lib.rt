@@ -7,6 +7,8 @@
 #[cfg(test)]
 mod debug_pages;
 #[cfg(test)]
+mod marks;
+#[cfg(test)]
 mod pages;
 #[cfg(test)]
 mod traces;

@@ -25,7 +25,7 @@ loop-links-init g c =
       page = page_starts c.args.front.now c.args.setting c.args.images c.args.form c.args.script.now a
           c.new-links.result.items (g.W.Sink.contents c.args.sink.now) (g.W.Sink.contents c.push_front.new.sink) (search rules)
           (starts_so a c.in_ok-session.session c.args.setting c.args.images c.args.script.now start.session start.images start.place
-          session.state) c.in_ok-push_front.ensures.text;
+          start.registers session.state) c.in_ok-push_front.ensures.text;
       rest = rest;
       setting = ap (λ (s : DebugSession). s.setting) start.session ∙ session.setting;
       same_flag = c.in_ok-push_front.ensures.same_flag;

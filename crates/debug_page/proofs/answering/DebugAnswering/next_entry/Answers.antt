@@ -8,7 +8,7 @@ use Rattle.text_lines.specs.Lines.{ReadingPlace}
 use Rattle.debug_page.proofs.AnsweringLemmas.{left_behind_line, place_is}
 use Rattle.debug_page.specs.Answering.{place_after_entry, place_of_answering, told_with_block}
 use Rattle.debug_entries.specs.Lines.{front_length, steps_words}
-use Rattle.debug_page.specs.Reading.{use_of_words, verdict_between, words_of_line}
+use Rattle.debug_page.specs.Reading.{last_registers_after, last_registers_before, use_of_words, verdict_between, words_of_line}
 use Rattle.debug_page.specs.declared.answering.DebugAnswering.{DebugAnswering}
 use Rattle.debug_page.proofs.answering.DebugAnswering.next_entry.Goals as goal
 
@@ -34,22 +34,26 @@ returns-clause-some c =
     let used : c.use_of-used.result ≡ use_of_words before.session.modes (words_of_line here line) =
     c.use_of-used.ensures ∙ ap (use_of_words before.session.modes) words in
     let text : c.in_ok-answer.answer.items ≡ first.text = told.told.text ∙ ap (λ (t : DebugAnswered). t.text) same in
+    let registers : c.last_registers_before.new.registers.items ≡ last_registers_after before.registers.items c.use_of-used.result first.text =
+    c.in_ok-before.ensures.after ∙ (λ i. last_registers_after (told.registers i) c.use_of-used.result ((c.as_slice-3.ensures.value ∙ text) i)) in
+    let ended : DebugAnswering = record middle { registers = c.last_registers_before.new.registers } in
     record {
       behind = behind;
       going = sym (c.has_quit.ensures before.images) ∙ c.if-has_quit.false;
       first = c.in-Some.ensures.line;
       number = ap (λ (n : ℕ). n + 1) c.number-number.ensures;
       own = c.cut_lines.ensures.first ∙ (λ i. take (passed i) (all i));
-      place = place_is (place_of_answering middle) (place_after_entry (place_of_answering before) line behind first)
+      place = place_is (place_of_answering ended) (place_after_entry (place_of_answering before) c.use_of-used.result line behind first)
           number
           (told.told.state ∙ ap (λ (t : DebugAnswered). t.state) same)
-          told.left;
+          told.left registers;
       told = record {
         words = c.in_ok-words.ensures before.images;
         used = used;
         answer = text;
         front = c.front_length-front.ensures.value
             ∙ (λ i. front_length c.use_of-used.result ((c.as_slice-2.ensures.value ∙ text) i) (c.answer.ensures middle.images i));
+        before = c.in_ok-before.ensures.before ∙ ap (λ (last : List ℕ). last_registers_before last c.use_of-used.result) told.registers;
         verdict = c.verdict_between-verdict.ensures
             ∙ (λ i. verdict_between (c.tally-tally.ensures before.images i) (c.tally.ensures middle.images i));
         steps = c.in_ok-steps.ensures ∙ ap (steps_words c.use_of-used.result) (c.steps.ensures middle.images);

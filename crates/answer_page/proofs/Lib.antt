@@ -1,0 +1,5 @@
+pub mod BesideLemmas
+pub mod MarkLemmas
+pub mod PieceLemmas
+pub mod RowLemmas
+pub mod TableLemmas
