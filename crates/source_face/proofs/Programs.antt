@@ -4,11 +4,10 @@ use Rattle.std.proofs.lemmas.Grind.{common_steps}
 use Rattle.std.specs.Prelude.{is_ok, ◌==◌, ◌&&◌, if◌then◌else◌}
 use Rattle.assembler.specs.Passes.{means}
 use Rattle.assembler.specs.declared.error.AsmError.{AsmError}
-use Rattle.objasm_source.specs.declared.sources.LineRefusal.{LineRefusal}
+use Rattle.source_conversion.specs.Checking.{and_more, assembler_refusals, first_refusal, program_refusal, refusals_in_rounds, text_kept}
+use Rattle.source_conversion.specs.Conversion.{SourceConversion, is_unrefused}
 use Rattle.source_face.specs.AskedOptions.{AskedOptions}
-use Rattle.source_face.specs.Blocks.{block_conversion, converted_or_told, is_unrefused, refused_conversion}
-use Rattle.source_face.specs.Reports.{LineFiles}
-use Rattle.source_face.specs.Checking.{and_more, assembler_refusals, first_refusal, program_refusal, refusals_in_rounds, text_kept}
+use Rattle.source_face.specs.Blocks.{block_conversion, converted_or_told, refused_conversion}
 
 some_more : (k : ℕ) (text : List ℕ) (origin : ℕ) (e : AsmError) (es : List AsmError) (found : Option AsmError)
     → ((f : AsmError) → refusals_in_rounds k text origin (e ∷ (es ++ f ∷ [])) ≢ [])
@@ -48,14 +47,13 @@ is_empty_list : (errors : List AsmError) → (length errors == 0) ≡ true → e
 is_empty_list [] h = refl
 is_empty_list (e ∷ es) h = absurd (grind (arith, common_steps))
 
-unrefused : (asked : AskedOptions) (files : LineFiles) (texts : List (List ℕ)) (body : List ℕ) (refused : List LineRefusal) (errors : List AsmError) (b : Bool)
-    → is_unrefused refused errors ≡ b
-    → (if b then block_conversion asked body else refused_conversion files texts refused errors).is_written ≡ true → is_unrefused refused errors ≡ true
-unrefused asked files texts body refused errors true e h = e
-unrefused asked files texts body refused errors false e h = absurd (true≢false (sym h))
+unrefused : (asked : AskedOptions) (paths : List (List ℕ)) (s : SourceConversion) (b : Bool) → is_unrefused s ≡ b
+    → (if b then block_conversion asked s.body else refused_conversion paths s).is_written ≡ true → is_unrefused s ≡ true
+unrefused asked paths s true e h = e
+unrefused asked paths s false e h = absurd (true≢false (sym h))
 
-pub written_is_unrefused : (asked : AskedOptions) (files : LineFiles) (texts : List (List ℕ)) (body : List ℕ) (refused : List LineRefusal) (errors : List AsmError)
-    → (converted_or_told asked files texts body refused errors).is_written ≡ true → errors ≡ []
-written_is_unrefused asked files texts body refused errors h =
-    is_empty_list errors (second (length refused == 0) (length errors == 0)
-    (unrefused asked files texts body refused errors (is_unrefused refused errors) refl h))
+pub written_is_unrefused : (asked : AskedOptions) (paths : List (List ℕ)) (s : SourceConversion)
+    → (converted_or_told asked paths s).is_written ≡ true → s.errors ≡ []
+written_is_unrefused asked paths s h =
+    is_empty_list s.errors (second (length s.refused == 0) (length s.errors == 0)
+    (unrefused asked paths s (is_unrefused s) refl h))

@@ -1,9 +1,6 @@
 -- A source as a block of a script, or the lines that are refused. Begin with Blocks.
 pub mod AskedOptions
 pub mod Options
-pub mod Checking
-pub mod Faults
-pub mod Reports
 pub mod Blocks
 pub mod Endings
 pub mod Laws

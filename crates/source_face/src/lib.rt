@@ -5,13 +5,10 @@
 #![tactic(auto)]
 
 mod blocks;
-mod checking;
-mod faults;
 pub mod laws;
 mod options;
 mod process;
 mod refusal;
-mod reports;
 mod words;
 
 pub use process::run;

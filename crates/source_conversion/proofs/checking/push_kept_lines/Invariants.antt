@@ -1,8 +1,8 @@
 use Rattle.std.proofs.Common.{◌≡◌, length}
 use Rattle.std.specs.Str.Lines.{lines}
 use Rattle.profile.specs.Output.{AddsAllBut}
-use Rattle.source_face.specs.Checking.{lines_kept}
-use Rattle.source_face.proofs.checking.push_kept_lines.Given as goal
+use Rattle.source_conversion.specs.Checking.{lines_kept}
+use Rattle.source_conversion.proofs.checking.push_kept_lines.Given as goal
 
 -- what stands written, and the lines that are left, is all
 abbrev pub invariant-loop-line : goal.invariant-loop-line

@@ -5,7 +5,7 @@ ghost use Rattle.std.specs.List.{prefix_len};
 ghost use Rattle.std.specs.Str.Lines.{lines};
 ghost use Rattle.profile.specs.Output.{Writes};
 ghost use Rattle.source_files.specs.Getting.{texts_of};
-ghost use Rattle.source_face.specs.Reports.{count_report, refused_count_after, is_of_word, line_report, more_report, fault_report, line_files, line_place, path_of_file, refusal_report, reports_text, rest_report, word_len, word_refused};
+ghost use Rattle.source_conversion.specs.Reports.{count_report, refused_count_after, is_of_word, line_report, more_report, fault_report, line_files, line_place, path_of_file, refusal_report, reports_text, rest_report, word_len, word_refused};
 
 use crate::faults::{LineFault, fault_of_line, line_fault_text, place_of_fault};
 use assembler::AsmError;
@@ -20,10 +20,12 @@ use text_lines::Lines;
 const MOST_LINES: usize = 20;
 
 /// Tells of a source's lines that are refused, by its reading or by the assembler, in their order: of
-/// 20, and then how many more there are.
+/// 20, and then how many more there are. `mark` stands between the path of a line's file and its
+/// number.
 #[tactic(auto, using(crate::proofs::ReportLoop::report_steps))]
-pub fn push_reports<W: Sink>(
+pub(crate) fn push_reports<W: Sink>(
     paths: &[&[u8]],
+    mark: &[u8],
     origins: &[LineOrigin],
     refused: &[LineRefusal],
     errors: &[AsmError],
@@ -31,19 +33,28 @@ pub fn push_reports<W: Sink>(
     sink: &mut W,
 ) -> Result<(), WriteFault>
     ensures { Writes W.contents W.has_failed sink.old sink.new result
-        (reports_text (line_files (texts_of paths.now) origins.now)
+        (reports_text (line_files (texts_of paths.now) mark.now origins.now)
         refused.now errors.now 0 0 (lines text.now)) }
 {
     let mut told = 0;
     let mut lines = Lines::new(text);
     while let Some(line) = lines.next_line() {
         let fault = fault_of_line(refused, errors, lines.number());
-        push_line_report(paths, origins, told, lines.number(), fault, line, sink)?;
+        push_line_report(
+            paths,
+            mark,
+            origins,
+            told,
+            lines.number(),
+            fault,
+            line,
+            sink,
+        )?;
         told = refused_count_after(told, fault);
     }
     let number = lines.number().saturating_add(1);
     let fault = fault_of_line(refused, errors, number);
-    push_line_report(paths, origins, told, number, fault, b"", sink)?;
+    push_line_report(paths, mark, origins, told, number, fault, b"", sink)?;
     push_more(
         path_of_file(paths, 0),
         refused_count_after(told, fault),
@@ -63,6 +74,7 @@ fn refused_count_after(told: usize, fault: Option<LineFault>) -> usize
 
 fn push_line_report<W: Sink>(
     paths: &[&[u8]],
+    mark: &[u8],
     origins: &[LineOrigin],
     told: usize,
     number: usize,
@@ -71,11 +83,18 @@ fn push_line_report<W: Sink>(
     sink: &mut W,
 ) -> Result<(), WriteFault>
     ensures { Writes W.contents W.has_failed sink.old sink.new result
-        (line_report (line_files (texts_of paths.now) origins.now) told number fault text.now) }
+        (line_report (line_files (texts_of paths.now) mark.now origins.now) told number fault text.now) }
 {
     match fault {
         Some(fault) if told < MOST_LINES => {
-            push_refusal(paths, origin_of_line(origins, number), fault, text, sink)
+            push_refusal(
+                paths,
+                mark,
+                origin_of_line(origins, number),
+                fault,
+                text,
+                sink,
+            )
         }
         _ => Ok(()),
     }
@@ -85,15 +104,16 @@ fn push_line_report<W: Sink>(
 #[tactic(auto, unfolding(crate::specs::Reports::refusal_report))]
 fn push_refusal<W: Sink>(
     paths: &[&[u8]],
+    mark: &[u8],
     origin: LineOrigin,
     fault: LineFault,
     text: &[u8],
     sink: &mut W,
 ) -> Result<(), WriteFault>
     ensures { Writes W.contents W.has_failed sink.old sink.new result
-        (refusal_report (texts_of paths.now) origin fault text.now) }
+        (refusal_report (texts_of paths.now) mark.now origin fault text.now) }
 {
-    push_line_place(path_of_file(paths, origin.file), origin.line, sink)?;
+    push_line_place(path_of_file(paths, origin.file), mark, origin.line, sink)?;
     push_fault(fault, text, sink)
 }
 
@@ -107,19 +127,20 @@ fn path_of_file<'a>(paths: &[&'a [u8]], file: usize) -> &'a [u8]
     }
 }
 
-// `counter.s:12: `.
-fn push_line_place<W: Sink>(path: &[u8], number: usize, sink: &mut W) -> Result<(), WriteFault>
-    ensures { Writes W.contents W.has_failed sink.old sink.new result (line_place path.now number) }
+// `counter.s:12: `, where the mark before the number is `:`.
+fn push_line_place<W: Sink>(
+    path: &[u8],
+    mark: &[u8],
+    number: usize,
+    sink: &mut W,
+) -> Result<(), WriteFault>
+    ensures { Writes W.contents W.has_failed sink.old sink.new result (line_place path.now mark.now number) }
 {
     let mut digits = Buffer::new();
     push_all(sink, path)?;
     push_parts(
         sink,
-        &[
-            b":".as_slice(),
-            digits.format(number).as_bytes(),
-            b": ".as_slice(),
-        ],
+        &[mark, digits.format(number).as_bytes(), b": ".as_slice()],
     )
 }
 

@@ -1,16 +1,16 @@
 use Rattle.std.proofs.Common.{◌≡◌, length}
 use Rattle.std.specs.Str.Lines.{lines}
 use Rattle.profile.specs.Output.{AddsAllBut}
-use Rattle.source_face.specs.Reports.{line_files, reports_text}
+use Rattle.source_conversion.specs.Reports.{line_files, reports_text}
 use Rattle.source_files.specs.Getting.{texts_of}
-use Rattle.source_face.proofs.reports.push_reports.Given as goal
+use Rattle.source_conversion.proofs.reports.push_reports.Given as goal
 
 -- what stands written, and what is told from here on, is all
 abbrev pub invariant-loop-line : goal.invariant-loop-line
 invariant-loop-line g l = record {
   text : AddsAllBut (g.W.Sink.contents l.fn.sink) (g.W.Sink.contents l.sink)
-      (reports_text (line_files (texts_of l.paths) l.origins) l.refused l.errors l.told l.lines.number l.lines.left)
-      (reports_text (line_files (texts_of l.paths) l.origins) l.refused l.errors 0 0 (lines l.text));
+      (reports_text (line_files (texts_of l.paths) l.mark l.origins) l.refused l.errors l.told l.lines.number l.lines.left)
+      (reports_text (line_files (texts_of l.paths) l.mark l.origins) l.refused l.errors 0 0 (lines l.text));
   same_flag : g.W.Sink.has_failed l.sink ≡ g.W.Sink.has_failed l.fn.sink;
 }
 

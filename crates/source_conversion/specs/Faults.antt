@@ -7,8 +7,8 @@ use Rattle.objasm_source.specs.declared.sources.LineRefusal.{LineRefusal}
 use Rattle.source_lines.specs.Works.{label_at}
 use Rattle.source_words.specs.declared.refusal.Why.{Why}
 use Rattle.source_words.specs.declared.refusal.Why.TheVariants as why
-use Rattle.source_face.specs.declared.faults.LineFault.{LineFault}
-use Rattle.source_face.specs.declared.faults.LineFault.TheVariants as fault
+use Rattle.source_conversion.specs.declared.faults.LineFault.{LineFault}
+use Rattle.source_conversion.specs.declared.faults.LineFault.TheVariants as fault
 
 abbrev pub source_fault : List LineRefusal → ℕ → Option LineFault
 source_fault refused number = option_map (λ r. fault.Word r.refusal) (find (λ r. r.line == number) refused)

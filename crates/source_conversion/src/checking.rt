@@ -3,7 +3,7 @@
 ghost use Rattle.std.specs.Prelude.{◌≡◌, ◌<◌, ◌^◌, ◌++◌, ◌∷◌, [], Some, IfOk, OnOk};
 ghost use Rattle.std.specs.Str.Lines.{lines};
 ghost use Rattle.profile.specs.Output.{Writes};
-ghost use Rattle.source_face.specs.Checking.{assembler_refusals, first_refusal, kept_line, lines_kept, refusal_count, text_kept};
+ghost use Rattle.source_conversion.specs.Checking.{assembler_refusals, first_refusal, kept_line, lines_kept, refusal_count, text_kept};
 
 use assembler::{AsmError, assemble};
 use assembler_names::words::word;

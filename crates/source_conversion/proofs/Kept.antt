@@ -4,7 +4,7 @@ use Rattle.std.specs.Io.KnownBytes.{Appends}
 use Rattle.profile.specs.Output.{AddsAllBut}
 use Rattle.profile.proofs.OutputLemmas.{AddsAllBut-more, Appends-from_all_but}
 use Rattle.assembler.specs.declared.error.AsmError.{AsmError}
-use Rattle.source_face.specs.Checking.{kept_line, lines_kept}
+use Rattle.source_conversion.specs.Checking.{kept_line, lines_kept}
 
 more : (refused : List AsmError) (n m : ℕ) (line : List ℕ) (left rest : List (List ℕ)) → left ≡ line ∷ rest → m ≡ n + 1
     → lines_kept refused n left ≡ (kept_line refused m line ++ 10 ∷ []) ++ lines_kept refused m rest

@@ -1,6 +1,6 @@
 use Rattle.std.proofs.Common.{refl}
-use Rattle.source_face.proofs.FirstRefusals.{none_refused, told_refused}
-use Rattle.source_face.proofs.checking.first_refusal.Goals as goal
+use Rattle.source_conversion.proofs.FirstRefusals.{none_refused, told_refused}
+use Rattle.source_conversion.proofs.checking.first_refusal.Goals as goal
 
 pub returns-in-Ok : goal.returns-in-Ok
 returns-in-Ok c = none_refused _ _ _ _ _ (c.in-Ok.ensures.below c.requires) refl

@@ -1,7 +1,7 @@
 -- The loop that has a text assembled until nothing is refused.
 use Rattle.std.proofs.Common.{◌≡◌, ◌<◌, ◌≤◌, ℕ, suc, ◌+◌, ◌-◌, List, [], ◌∷◌, ◌++◌, Option, Some, None, refl, arith}
 use Rattle.assembler.specs.declared.error.AsmError.{AsmError}
-use Rattle.source_face.specs.Checking.{first_refusal, refusals_in_rounds, text_kept}
+use Rattle.source_conversion.specs.Checking.{first_refusal, refusals_in_rounds, text_kept}
 
 pub rounds_start : (count : ℕ) (text : List ℕ) (origin : ℕ) (refused : List AsmError)
     → refusals_in_rounds (count - 0) text origin refused ≡ refusals_in_rounds count text origin refused

@@ -3,7 +3,7 @@ use Rattle.std.proofs.Common.{◌≡◌, ◌≢◌, ◌∙◌, ◌<◌, ℕ, Lis
 use Rattle.std.specs.Prelude.{IfOk, OnOk}
 use Rattle.assembler.specs.Passes.{means}
 use Rattle.assembler.specs.declared.error.AsmError.{AsmError}
-use Rattle.source_face.specs.Checking.{first_refusal, program_refusal}
+use Rattle.source_conversion.specs.Checking.{first_refusal, program_refusal}
 
 pub none_refused : (r : Result (List ℕ) AsmError) (text : List ℕ) (origin : ℕ) (program : List ℕ) (memory : AsmError)
     → (r ≢ Err memory → r ≡ means text origin) → r ≡ Ok program → None ≡ first_refusal text origin

@@ -6,8 +6,8 @@ use Rattle.objasm_source.specs.declared.sources.LineRefusal.{LineRefusal}
 use Rattle.source_words.specs.Words.{after_blanks, is_end}
 use Rattle.source_files.specs.Joined.{origin_of_line}
 use Rattle.source_files.specs.declared.joined.LineOrigin.{LineOrigin}
-use Rattle.source_face.specs.Faults.{fault_of_line, line_fault_text, place_of_fault}
-use Rattle.source_face.specs.declared.faults.LineFault.{LineFault}
+use Rattle.source_conversion.specs.Faults.{fault_of_line, line_fault_text, place_of_fault}
+use Rattle.source_conversion.specs.declared.faults.LineFault.{LineFault}
 
 -- how many lines are refused, with one more
 abbrev pub refused_count_after : ℕ → Option LineFault → ℕ
@@ -26,36 +26,39 @@ abbrev pub word_refused : List ℕ → List ℕ
 word_refused text = if is_end text then codes "the end of the line"
     else take (min (max (word_len (after_blanks text)) 1) (length (after_blanks text))) (after_blanks text)
 
--- `counter.s:12: `
-abbrev pub line_place : List ℕ → ℕ → List ℕ
-line_place path number = path ++ (codes ":" ++ (decimal number ++ codes ": "))
+-- `counter.s:12: `, where the mark before the number is `:`
+abbrev pub line_place : List ℕ → List ℕ → ℕ → List ℕ
+line_place path mark number = path ++ (mark ++ (decimal number ++ codes ": "))
 
 -- `LDRH: not understood` and the end of the line
 abbrev pub fault_report : LineFault → List ℕ → List ℕ
 fault_report f text =
     word_refused (place_of_fault f text) ++ (codes ": " ++ (line_fault_text f ++ codes "\n"))
 
--- the paths of the files, and where each line is from
+-- the paths of the files, what stands between a path and the number of a line, and where each line is
+-- from
 pub record LineFiles : Type 0 where
   pub paths : List (List ℕ)
+  pub mark : List ℕ
   pub origins : List LineOrigin
 
-abbrev pub line_files : List (List ℕ) → List LineOrigin → LineFiles
-line_files paths origins = record { paths = paths; origins = origins }
+abbrev pub line_files : List (List ℕ) → List ℕ → List LineOrigin → LineFiles
+line_files paths mark origins = record { paths = paths; mark = mark; origins = origins }
 
 -- the path of a file, or what is told in its place of names that the command line binds
 abbrev pub path_of_file : List (List ℕ) → ℕ → List ℕ
 path_of_file paths file = unwrap_or (slice_get paths file) (codes "--bind")
 
 -- `counter.s:12: LDRH: not understood`
-unfoldable pub refusal_report : List (List ℕ) → LineOrigin → LineFault → List ℕ → List ℕ
-refusal_report paths o f text = line_place (path_of_file paths o.file) o.line ++ fault_report f text
+unfoldable pub refusal_report : List (List ℕ) → List ℕ → LineOrigin → LineFault → List ℕ → List ℕ
+refusal_report paths mark o f text =
+    line_place (path_of_file paths o.file) mark o.line ++ fault_report f text
 
 -- 20 lines are told of
 abbrev pub line_report : LineFiles → ℕ → ℕ → Option LineFault → List ℕ → List ℕ
 line_report files told number None text = []
 line_report files told number (Some f) text = if nat_lt told 20
-    then refusal_report files.paths (origin_of_line files.origins number) f text else []
+    then refusal_report files.paths files.mark (origin_of_line files.origins number) f text else []
 
 -- `counter.s: 5`
 abbrev pub count_report : List ℕ → ℕ → List ℕ

@@ -1,6 +1,6 @@
 use Rattle.std.proofs.Common.{◌∙◌}
-use Rattle.source_face.proofs.Kept.{kept_more}
-use Rattle.source_face.proofs.checking.push_kept_lines.Goals as goal
+use Rattle.source_conversion.proofs.Kept.{kept_more}
+use Rattle.source_conversion.proofs.checking.push_kept_lines.Goals as goal
 
 pub loop-line-preserved : goal.loop-line-preserved
 loop-line-preserved g c = record {

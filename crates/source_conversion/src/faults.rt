@@ -1,7 +1,7 @@
 //! Why a line of a source is refused, by the source's reading or by the assembler.
 
 ghost use Rattle.std.specs.Prelude.{◌≡◌};
-ghost use Rattle.source_face.specs.Faults.{assembler_fault, fault_of_line, is_fault_told, place_of_fault, source_fault, statement_place, line_fault_text, why_text, statement_reason_text};
+ghost use Rattle.source_conversion.specs.Faults.{assembler_fault, fault_of_line, is_fault_told, place_of_fault, source_fault, statement_place, line_fault_text, why_text, statement_reason_text};
 
 use assembler::AsmError;
 use assembler_names::Reason;

@@ -1,6 +1,6 @@
 use Rattle.std.proofs.Common.{◌≡◌, ◌-◌, []}
-use Rattle.source_face.specs.Checking.{refusals_in_rounds}
-use Rattle.source_face.proofs.checking.assembler_refusals.Given as goal
+use Rattle.source_conversion.specs.Checking.{refusals_in_rounds}
+use Rattle.source_conversion.proofs.checking.assembler_refusals.Given as goal
 
 -- what was found, and what the rounds that are left find, is all
 abbrev pub invariant-loop-round : goal.invariant-loop-round

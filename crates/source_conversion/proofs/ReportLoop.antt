@@ -6,9 +6,9 @@ use Rattle.profile.specs.Output.{AddsAllBut}
 use Rattle.profile.proofs.OutputLemmas.{AddsAllBut-more, Appends-from_all_but}
 use Rattle.assembler.specs.declared.error.AsmError.{AsmError}
 use Rattle.objasm_source.specs.declared.sources.LineRefusal.{LineRefusal}
-use Rattle.source_face.specs.Faults.{fault_of_line}
-use Rattle.source_face.specs.Reports.{LineFiles, refused_count_after, line_report, more_report, path_of_file, reports_text}
-use Rattle.source_face.specs.declared.faults.LineFault.{LineFault}
+use Rattle.source_conversion.specs.Faults.{fault_of_line}
+use Rattle.source_conversion.specs.Reports.{LineFiles, refused_count_after, line_report, more_report, path_of_file, reports_text}
+use Rattle.source_conversion.specs.declared.faults.LineFault.{LineFault}
 
 more : (files : LineFiles) (refused : List LineRefusal) (errors : List AsmError) (told next n m : ℕ) (f : Option LineFault) (text : List ℕ) (left rest : List (List ℕ))
     → left ≡ text ∷ rest → m ≡ n + 1 → f ≡ fault_of_line refused errors m → next ≡ refused_count_after told f

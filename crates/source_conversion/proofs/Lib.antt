@@ -1,0 +1,5 @@
+pub mod FirstRefusals
+pub mod Kept
+pub mod NamingLemmas
+pub mod ReportLoop
+pub mod Rounds

@@ -1,0 +1,6 @@
+-- A source as assembler text, and all lines of it that are refused. Begin with Conversion.
+pub mod Checking
+pub mod Faults
+pub mod Reports
+pub mod Conversion
+pub mod Naming
