@@ -4,11 +4,12 @@ use Rattle.std.specs.List.{list_any}
 use Rattle.source_layout.specs.Lines.{bytes_before}
 use Rattle.basic_source.specs.Expressions.{is_that_name, loose_within, name_within}
 use Rattle.basic_source.specs.Operands.{basic_after_operand, is_register_in, register_within}
-use Rattle.basic_source.specs.Pieces.{is_loose, basic_piece_at}
+use Rattle.basic_pieces.specs.Pieces.{is_loose, basic_piece_at}
 use Rattle.basic_source.specs.Assignments.{is_register, statement_uses}
-use Rattle.basic_source.specs.Statements.{after_first, end_within, basic_statement_of}
+use Rattle.basic_source.specs.Wanted.{is_mentioned, assembler_mentions, statement_wants, wanted_by}
+use Rattle.basic_source.specs.Statements.{BasicStatement, after_first, end_within, basic_statement_of}
 use Rattle.basic_source.specs.declared.statements.Statement.{Statement}
-use Rattle.basic_source.specs.declared.pieces.BasicPiece.{BasicPiece}
+use Rattle.basic_pieces.specs.declared.pieces.BasicPiece.{BasicPiece}
 
 pub loose_start : (count : ℕ) (text : List ℕ) → loose_within (count - 0) text ≡ loose_within count text
 loose_start count text = let k : count - 0 ≡ count = omega arith in rw k refl
@@ -106,3 +107,13 @@ pub uses_any : (name : List ℕ) (all : List Statement) → list_any (λ s. stat
 unfolding is_register
 uses_any name [] = refl
 uses_any name (s ∷ rest) = uses_first name (statement_uses name (basic_statement_of s)) _ _ (uses_any name rest)
+
+pub mentioned_any : (name : List ℕ) (all : List Statement) → list_any (λ s. assembler_mentions name (basic_statement_of s)) all ≡ is_mentioned (map basic_statement_of all) name
+unfolding is_mentioned
+mentioned_any name [] = refl
+mentioned_any name (s ∷ rest) = uses_first name (assembler_mentions name (basic_statement_of s)) _ _ (mentioned_any name rest)
+
+pub wanted_any : (whole : List BasicStatement) (name : List ℕ) (all : List Statement) → list_any (λ s. statement_wants whole name (basic_statement_of s)) all ≡ wanted_by whole name (map basic_statement_of all)
+unfolding wanted_by
+wanted_any whole name [] = refl
+wanted_any whole name (s ∷ rest) = uses_first name (statement_wants whole name (basic_statement_of s)) _ _ (wanted_any whole name rest)

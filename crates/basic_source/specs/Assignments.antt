@@ -1,13 +1,14 @@
--- Statements outside the assembler: a variable is a name for a number, or for a register where the
--- assembler has it as one; conditions choose lines; others are left out.
-use Rattle.std.specs.Prelude.{ℕ, Bool, true, false, ◌==◌, ◌&&◌, ◌||◌, ◌-◌, List, [], ◌∷◌, ◌++◌, take, length, codes, Option, Some, None, is_some, if◌then◌else◌}
+-- Statements outside the assembler: a variable that the assembler needs is a name for a number, or for
+-- a register where the assembler has it as one; conditions choose lines; all else is BASIC's own.
+use Rattle.std.specs.Prelude.{ℕ, Bool, true, false, not, ◌==◌, ◌&&◌, ◌||◌, ◌-◌, List, [], ◌∷◌, ◌++◌, take, length, codes, Option, Some, None, if◌then◌else◌}
 use Rattle.std.specs.List.{ends_with}
 use Rattle.assembler_names.specs.Words.{is_same_name, word}
 use Rattle.source_words.specs.Words.{after_blanks, symbol}
-use Rattle.basic_source.specs.Expressions.{expression_text}
+use Rattle.basic_source.specs.Expressions.{ends_after, expression_text}
 use Rattle.basic_source.specs.Instructions.{assembler_text, uses_register}
-use Rattle.basic_source.specs.Statements.{BasicStatement}
-use Rattle.basic_source.specs.Words.{after_keyword, basic_name}
+use Rattle.basic_source.specs.Statements.{BasicStatement, opens_assembler}
+use Rattle.basic_source.specs.Wanted.{assignment_at, is_needed}
+use Rattle.basic_pieces.specs.Words.{after_keyword, basic_name, is_text_name}
 
 abbrev pub statement_uses : List ℕ → BasicStatement → Bool
 statement_uses name s = s.is_assembler && uses_register name (after_blanks s.text)
@@ -24,70 +25,64 @@ abbrev pub assigned_text : List BasicStatement → List ℕ → List ℕ → Lis
 assigned_text all name value = (codes "|" ++ (name ++ codes "|")) ++ (meaning_word (is_register all name)
     ++ expression_text (after_blanks value))
 
-abbrev pub assigned_or_copied : List BasicStatement → List ℕ → List ℕ → Option (List ℕ) → List ℕ
-assigned_or_copied all name text (Some value) = assigned_text all name value
-assigned_or_copied all name text None = codes " " ++ text
+-- strings are no numbers
+abbrev pub wanted_text : List BasicStatement → List ℕ → List ℕ → List ℕ
+wanted_text all name value = if is_needed all name && not (is_text_name name) then assigned_text all name value else []
 
--- `=` is 61
-abbrev pub named_or_copied : List BasicStatement → List ℕ → List ℕ → List ℕ → List ℕ
-named_or_copied all name rest text = assigned_or_copied all name text (symbol 61 rest)
+abbrev pub text_of_assignment : List BasicStatement → Option (List ℕ × List ℕ) → List ℕ
+text_of_assignment all (Some a) = wanted_text all a.0 a.1
+text_of_assignment all None = []
 
-abbrev pub assignment_of : List BasicStatement → List ℕ → Option (List ℕ × List ℕ) → List ℕ
-assignment_of all text (Some n) = named_or_copied all n.0 n.1 text
-assignment_of all text None = codes " " ++ text
-
--- `x=5`; what is none is copied, and refused by what reads it
+-- `x=5`, where the assembler needs x; all else is BASIC's own
 abbrev pub assignment_text : List BasicStatement → List ℕ → List ℕ
-assignment_text all text = assignment_of all text (basic_name text)
+assignment_text all text = text_of_assignment all (assignment_at text)
 
 abbrev pub up_to_then : List ℕ → List ℕ
 up_to_then text = take (length text - 4) text
 
--- what follows IF, of which THEN ends the line
+-- what follows IF: a condition over lines, of which THEN ends the line, or one that is BASIC's own
+-- unless the assembler stands on the line
 abbrev pub basic_condition_text : List ℕ → List ℕ
-basic_condition_text text = codes " IF " ++ (if ends_with (λ a b. a == b) text (codes "THEN")
-    then expression_text (after_blanks (up_to_then text)) else text)
+basic_condition_text text = if ends_with (λ a b. a == b) text (codes "THEN")
+    then codes " IF " ++ expression_text (after_blanks (up_to_then text)) else (
+    if opens_assembler text then codes " IF " ++ text else [])
 
-abbrev pub basic_begins : List ℕ → List ℕ → Bool
-basic_begins keyword text = is_some (after_keyword keyword text)
+abbrev pub name_at_end : Option (List ℕ × List ℕ) → Option (List ℕ)
+name_at_end None = None
+name_at_end (Some n) = ends_after n.0 n.1
 
--- P% and O% say where the assembler is
-abbrev pub is_place_variable : List ℕ → Bool
-is_place_variable text = basic_begins (codes "P%") text || basic_begins (codes "O%") text
+abbrev pub name_behind : Option (List ℕ) → Option (List ℕ)
+name_behind None = None
+name_behind (Some value) = name_at_end (basic_name (after_blanks value))
 
-abbrev pub is_end_word : List ℕ → Bool
-is_end_word name = is_same_name name (codes "END") || is_same_name name (codes "QUIT")
+-- the name that stands alone behind `=` (61)
+unfoldable pub room_name : List ℕ → Option (List ℕ)
+room_name text = name_behind (symbol 61 text)
 
--- `DIM`, and the loop that reads the assembler more than once
-unfoldable pub is_loop_or_room : List ℕ → Bool
-is_loop_or_room text = basic_begins (codes "DIM") text || (basic_begins (codes "FOR") text || basic_begins (codes "NEXT") text)
+abbrev pub place_of_room : List BasicStatement → Option (List ℕ) → List ℕ
+place_of_room all (Some name) = if is_needed all name then codes "|" ++ (name ++ codes "| EQU .") else []
+place_of_room all None = []
 
-unfoldable pub is_for_people : List ℕ → Bool
-is_for_people text = basic_begins (codes "PRINT") text || basic_begins (codes "ON") text
-
-unfoldable pub is_of_system : List ℕ → Bool
-is_of_system text = basic_begins (codes "*") text || (basic_begins (codes "SYS") text || basic_begins (codes "OSCLI") text)
-
-abbrev pub is_unheard : List ℕ → Bool
-is_unheard text = is_loop_or_room text || (is_for_people text || is_of_system text)
-
--- what neither lays down anything nor gives a name a value
-abbrev pub basic_is_left_out : List ℕ → Bool
-basic_is_left_out text = is_unheard text || (is_end_word (word text) || is_place_variable text)
+-- what follows `P%`: the name of the room where the assembler is stands for the place
+unfoldable pub room_place_text : List BasicStatement → List ℕ → List ℕ
+room_place_text all text = place_of_room all (room_name text)
 
 abbrev pub other_command : List BasicStatement → List ℕ → List ℕ
 other_command all text =
     if is_same_name (word text) (codes "ELSE") || is_same_name (word text) (codes "ENDIF")
     then codes " " ++ word text else assignment_text all text
 
+abbrev pub place_or : List BasicStatement → List ℕ → Option (List ℕ) → List ℕ
+place_or all text (Some rest) = room_place_text all rest
+place_or all text None = other_command all text
+
 abbrev pub condition_or : List BasicStatement → List ℕ → Option (List ℕ) → List ℕ
 condition_or all text (Some rest) = basic_condition_text rest
-condition_or all text None = other_command all text
+condition_or all text None = place_or all text (after_keyword (codes "P%") text)
 
 abbrev pub remark_or : List BasicStatement → List ℕ → Option (List ℕ) → List ℕ
 remark_or all text (Some rest) = codes " ;" ++ rest
-remark_or all text None = if basic_is_left_out text then []
-    else condition_or all text (after_keyword (codes "IF") text)
+remark_or all text None = condition_or all text (after_keyword (codes "IF") text)
 
 abbrev pub basic_command_text : List BasicStatement → List ℕ → List ℕ
 basic_command_text all text = remark_or all text (after_keyword (codes "REM") text)

@@ -3,10 +3,10 @@ use Rattle.std.specs.Prelude.{ℕ, zero, suc, Bool, true, false, ◌==◌, List,
 use Rattle.assembler_names.specs.Words.{byte}
 use Rattle.source_layout.specs.Lines.{bytes_before}
 use Rattle.source_words.specs.Words.{after_blanks}
-use Rattle.basic_source.specs.Words.{basic_name}
-use Rattle.basic_source.specs.Pieces.{is_loose, basic_name_text, basic_piece_at, basic_piece_text}
-use Rattle.basic_source.specs.declared.pieces.BasicPiece.{BasicPiece}
-use Rattle.basic_source.specs.declared.pieces.BasicPiece.TheVariants as pieces
+use Rattle.basic_pieces.specs.Words.{basic_name}
+use Rattle.basic_pieces.specs.Pieces.{is_loose, basic_name_text, basic_piece_at, basic_piece_text}
+use Rattle.basic_pieces.specs.declared.pieces.BasicPiece.{BasicPiece}
+use Rattle.basic_pieces.specs.declared.pieces.BasicPiece.TheVariants as pieces
 
 abbrev pub basic_pieces_next : (List ℕ → List ℕ) → Bool → List ℕ → BasicPiece × List ℕ → List ℕ
 basic_pieces_next others loose text p = basic_piece_text loose p.0 (bytes_before text p.1) ++ others p.1

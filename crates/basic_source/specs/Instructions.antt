@@ -4,7 +4,7 @@ use Rattle.assembler_names.specs.Words.{after_word, word}
 use Rattle.source_words.specs.Words.{after_blanks}
 use Rattle.basic_source.specs.Data.{basic_data_text, basic_data_work}
 use Rattle.basic_source.specs.Operands.{has_register, basic_operands_text}
-use Rattle.basic_source.specs.Words.{after_keyword, basic_name}
+use Rattle.basic_pieces.specs.Words.{after_keyword, basic_name}
 use Rattle.basic_source.specs.declared.data.BasicData.{BasicData}
 
 abbrev pub basic_instruction_text : List ℕ → List ℕ

@@ -1,11 +1,11 @@
 -- A listing of BBC BASIC as a source for ObjAsm. Begin with Listing.
-pub use Rattle.source_layout
-pub mod Words
-pub mod Pieces
+pub use Rattle.basic_pieces
 pub mod Expressions
 pub mod Operands
 pub mod Instructions
+pub mod Repeats
 pub mod Data
 pub mod Assignments
 pub mod Statements
 pub mod Listing
+pub mod Wanted

@@ -2,10 +2,11 @@
 -- with numbers or without, statements between colons, and between `[` and `]` those of the
 -- assembler, where `;` or `\` basic_begins a comment that takes the rest of the line.
 use Rattle.std.specs.Prelude.{ℕ, zero, suc, Bool, true, false, not, ◌==◌, ◌&&◌, ◌||◌, List, [], ◌∷◌, ◌++◌, length, codes, Option, Some, None, is_some, if◌then◌else◌}
+use Rattle.std.specs.List.{list_any}
 use Rattle.source_layout.specs.Lines.{bytes_before}
 use Rattle.source_layout.specs.References.{after_quote}
 use Rattle.source_words.specs.Words.{after_blanks}
-use Rattle.basic_source.specs.Words.{after_digits, after_keyword}
+use Rattle.basic_pieces.specs.Words.{after_digits, after_keyword}
 use Rattle.basic_source.specs.declared.statements.Statement.{Statement}
 
 -- the line on which it stands, whether it is one of the assembler, its text and its comment
@@ -59,8 +60,18 @@ end_within (suc n) inside text = end_or (end_within n inside) text (after_first 
 unfoldable pub statement_end : Bool → List ℕ → List ℕ
 statement_end inside text = end_within (length text) inside text
 
+-- `[` (91) is in the text
+abbrev pub opens_assembler : List ℕ → Bool
+opens_assembler text = list_any (λ c. c == 91) text
+
+-- IF and ON, where no assembler is on the line
+unfoldable pub is_chosen_line : List ℕ → Bool
+is_chosen_line text = (is_some (after_keyword (codes "IF") text) || is_some (after_keyword (codes "ON") text))
+    && not (opens_assembler text)
+
 abbrev pub takes_line : List ℕ → Bool
-takes_line text = is_some (after_keyword (codes "REM") text) || is_some (after_keyword (codes "*") text)
+takes_line text = is_some (after_keyword (codes "REM") text) || (is_some (after_keyword (codes "*") text)
+    || is_chosen_line text)
 
 -- where the statement at the front of a text ends
 abbrev pub end_of_statement : Bool → List ℕ → List ℕ

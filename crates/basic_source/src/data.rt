@@ -5,11 +5,12 @@ ghost use Rattle.profile.specs.Output.{Writes};
 ghost use Rattle.assembler_names.specs.Words.{read_of};
 ghost use Rattle.source_words.specs.Words.{after_blanks};
 ghost use Rattle.basic_source.specs.Expressions.{expression_text};
-ghost use Rattle.basic_source.specs.Data.{basic_byte_text, basic_data_text, basic_data_work, half_text, named_data, named_data_and_rest, second_byte_text, text_piece, basic_texts_of};
+ghost use Rattle.basic_source.specs.Data.{after_front_of_texts, basic_byte_text, basic_data_text, basic_data_work, front_of_texts, half_text, named_data, named_data_and_rest, second_byte_text, text_piece, basic_texts_of};
 
 use crate::expressions::push_expression;
-use crate::pieces::{BasicPiece, basic_piece_at, push_piece};
+use crate::repeats::{push_repeats, repeat_at};
 use assembler_names::words::{Read, after_word, is_name, word};
+use basic_pieces::pieces::{BasicPiece, basic_piece_at, push_piece};
 use profile::{Sink, WriteFault, push_all};
 use source_layout::lines::bytes_before;
 use source_words::words::after_blanks;
@@ -123,11 +124,33 @@ fn push_texts<W: Sink>(text: &[u8], sink: &mut W) -> Result<(), WriteFault>
         if rest.is_empty() {
             return Ok(());
         }
-        let (piece, next) = basic_piece_at(rest);
-        push_text_piece(piece, bytes_before(rest, next), sink)?;
-        rest = next;
+        push_front_of_texts(rest, sink)?;
+        rest = after_front_of_texts(rest);
     }
     Ok(())
+}
+
+// STRING$, or a piece.
+fn push_front_of_texts<W: Sink>(text: &[u8], sink: &mut W) -> Result<(), WriteFault>
+    ensures { Writes W.contents W.has_failed sink.old sink.new result (front_of_texts text.now) }
+{
+    match repeat_at(text) {
+        Some((count, item, _)) => push_repeats(count, item, sink),
+        None => {
+            let (piece, next) = basic_piece_at(text);
+            push_text_piece(piece, bytes_before(text, next), sink)
+        }
+    }
+}
+
+// What follows that.
+fn after_front_of_texts(text: &[u8]) -> &[u8]
+    ensures { result.now ≡ after_front_of_texts text.now }
+{
+    match repeat_at(text) {
+        Some((_, _, rest)) => rest,
+        None => basic_piece_at(text).1,
+    }
 }
 
 // A piece of a text: what `+` joins are items, and a character that has a number is the number.

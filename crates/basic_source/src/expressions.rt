@@ -4,9 +4,9 @@ ghost use Rattle.std.specs.Prelude.{◌≡◌, option_map};
 ghost use Rattle.profile.specs.Output.{Writes};
 ghost use Rattle.basic_source.specs.Expressions.{ends_after, expression_text, has_loose, basic_has_name, is_that_name, basic_operand_text, parenthesised_name, pieces_of};
 
-use crate::pieces::{BasicPiece, basic_piece_at, is_loose, push_name, push_piece};
-use crate::words::basic_name;
 use assembler_names::words::byte;
+use basic_pieces::pieces::{BasicPiece, basic_piece_at, is_loose, push_name, push_piece};
+use basic_pieces::words::basic_name;
 use profile::{Sink, WriteFault, push_all};
 use source_layout::lines::bytes_before;
 use source_words::words::after_blanks;
@@ -31,7 +31,8 @@ fn parenthesised_name(text: &[u8]) -> Option<&[u8]>
     ends_after(name, byte(b')', rest)?)
 }
 
-fn ends_after<'t>(name: &'t [u8], rest: &[u8]) -> Option<&'t [u8]>
+/// A name, where nothing follows it but blanks.
+pub fn ends_after<'t>(name: &'t [u8], rest: &[u8]) -> Option<&'t [u8]>
     ensures { option_map (λ n. n.now) result ≡ ends_after name.now rest.now }
 {
     if after_blanks(rest).is_empty() {

@@ -6,8 +6,8 @@ ghost use Rattle.basic_source.specs.Instructions.{assembler_text, body_uses, bas
 
 use crate::data::{basic_data_work, push_data};
 use crate::operands::{has_register, push_operands};
-use crate::words::{after_keyword, basic_name};
 use assembler_names::words::{after_word, word};
+use basic_pieces::words::{after_keyword, basic_name};
 use profile::{Sink, WriteFault, push_parts};
 use source_words::words::after_blanks;
 

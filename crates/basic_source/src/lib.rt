@@ -8,9 +8,9 @@ pub mod expressions;
 pub mod instructions;
 pub mod listing;
 pub mod operands;
-pub mod pieces;
+pub mod repeats;
 pub mod statements;
-pub mod words;
+pub mod wanted;
 
 pub use listing::listing_source;
 pub use statements::{Statement, read_statements};

@@ -2,9 +2,9 @@
 
 ghost use Rattle.std.specs.Prelude.{◌≡◌, length, map, option_map, IfOk, OnOk};
 ghost use Rattle.std.specs.Str.Lines.{lines};
-ghost use Rattle.basic_source.specs.Statements.{BasicStatement, after_byte, after_end, after_first, after_number, comment_at, end_of_statement, ends_statement, is_inside_after, lines_read, line_read, no_statement, read_statements, statement_end, basic_statement_of, takes_line, with_statement};
+ghost use Rattle.basic_source.specs.Statements.{BasicStatement, after_byte, after_end, after_first, after_number, comment_at, end_of_statement, ends_statement, is_inside_after, lines_read, line_read, no_statement, read_statements, statement_end, basic_statement_of, takes_line, with_statement, is_chosen_line, opens_assembler};
 
-use crate::words::{after_digits, after_keyword};
+use basic_pieces::words::{after_digits, after_keyword};
 use source_layout::lines::bytes_before;
 use source_layout::references::after_quote;
 use source_words::words::after_blanks;
@@ -166,11 +166,28 @@ fn end_of_statement(is_inside: bool, text: &[u8]) -> &[u8]
     }
 }
 
-// REM and `*` take the rest of their line.
+// REM and `*` take the rest of their line, and so do IF and ON where no assembler is on it.
 fn takes_line(text: &[u8]) -> bool
     ensures { result ≡ takes_line text.now }
 {
-    after_keyword(b"REM", text).is_some() || after_keyword(b"*", text).is_some()
+    after_keyword(b"REM", text).is_some()
+        || after_keyword(b"*", text).is_some()
+        || is_chosen_line(text)
+}
+
+#[tactic(auto, unfolding(crate::specs::Statements::is_chosen_line))]
+fn is_chosen_line(text: &[u8]) -> bool
+    ensures { result ≡ is_chosen_line text.now }
+{
+    (after_keyword(b"IF", text).is_some() || after_keyword(b"ON", text).is_some())
+        && !opens_assembler(text)
+}
+
+/// Whether `[` stands on a line.
+pub fn opens_assembler(text: &[u8]) -> bool
+    ensures { result ≡ opens_assembler text.now }
+{
+    text.iter().any(|byte| *byte == b'[')
 }
 
 #[tactic(auto, using(crate::proofs::Scans::end_steps), unfolding(crate::specs::Statements::statement_end))]

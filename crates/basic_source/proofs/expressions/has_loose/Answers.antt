@@ -1,6 +1,6 @@
 use Rattle.std.proofs.Common.{◌≡◌, ◌<◌, ◌==◌, ◌∙◌, true, false, length, sym, arith}
 use Rattle.basic_source.specs.Expressions.{has_loose}
-use Rattle.basic_source.specs.Pieces.{is_loose}
+use Rattle.basic_pieces.specs.Pieces.{is_loose}
 use Rattle.basic_source.proofs.Scans.{loose_found, loose_more}
 use Rattle.basic_source.proofs.expressions.has_loose.Goals as goal
 

@@ -2,7 +2,7 @@
 
 ghost use Rattle.std.specs.Prelude.{◌≡◌, ◌≤◌, length, option_map};
 ghost use Rattle.std.specs.List.{prefix_len};
-ghost use Rattle.basic_source.specs.Words.{after_digits, after_keyword, after_sign, basic_name, is_digit, name_or_none};
+ghost use Rattle.basic_pieces.specs.Words.{after_digits, after_keyword, after_sign, basic_name, is_digit, is_text_name, name_or_none};
 
 use assembler_names::labels::begins_with_digit;
 use assembler_names::words::{after_word, word};
@@ -67,4 +67,11 @@ pub fn is_digit(c: u8) -> bool
     ensures { result ≡ is_digit c }
 {
     c.is_ascii_digit()
+}
+
+/// Whether a name is a string's.
+pub fn is_text_name(name: &[u8]) -> bool
+    ensures { result ≡ is_text_name name.now }
+{
+    name.ends_with(b"$")
 }

@@ -1,7 +1,7 @@
 -- The words of BBC BASIC (BBC BASIC Reference Manual, "Variables", "Keywords"): a keyword is taken
 -- from the front of a longer word too, and a name may end in the sign of its kind.
-use Rattle.std.specs.Prelude.{ℕ, Bool, ◌==◌, ◌&&◌, ◌||◌, nat_le, List, [], ◌∷◌, drop, length, Option, Some, None, if◌then◌else◌}
-use Rattle.std.specs.List.{prefix_len, starts_with}
+use Rattle.std.specs.Prelude.{ℕ, Bool, ◌==◌, ◌&&◌, ◌||◌, nat_le, List, [], ◌∷◌, drop, length, codes, Option, Some, None, if◌then◌else◌}
+use Rattle.std.specs.List.{ends_with, prefix_len, starts_with}
 use Rattle.assembler_names.specs.Labels.{begins_with_digit}
 use Rattle.assembler_names.specs.Words.{after_word, word}
 use Rattle.source_layout.specs.Lines.{bytes_before}
@@ -31,3 +31,6 @@ is_digit c = nat_le 48 c && nat_le c 57
 -- what follows the digits at the front of a text, of which there may be none
 abbrev pub after_digits : List ℕ → List ℕ
 after_digits text = drop (prefix_len is_digit text) text
+
+abbrev pub is_text_name : List ℕ → Bool
+is_text_name name = ends_with (λ a b. a == b) name (codes "$")

@@ -2,7 +2,7 @@
 
 ghost use Rattle.std.specs.Prelude.{◌≡◌, option_map};
 ghost use Rattle.profile.specs.Output.{Writes};
-ghost use Rattle.basic_source.specs.Pieces.{closing_text, constant_or_name, digits_or_word, is_kept, is_loose, is_machine_register, less_piece, looseness, more_piece, name_or_byte, basic_name_text, opening_text, basic_operator_at, operator_text, basic_piece_after, basic_piece_at, basic_piece_text, basic_sign_text};
+ghost use Rattle.basic_pieces.specs.Pieces.{begins_keyword, closing_text, constant_or_name, digits_or_word, is_kept, is_loose, is_machine_register, keyword_or_name, less_piece, looseness, more_piece, name_or_byte, basic_name_text, opening_text, basic_operator_at, operator_text, basic_piece_after, basic_piece_at, basic_piece_text, basic_sign_text};
 
 use crate::words::{after_digits, after_keyword, basic_name, is_digit};
 use assembler_names::names::register_named;
@@ -139,10 +139,27 @@ fn digits_or_word<'t>(c: u8, rest: &'t [u8], text: &'t [u8]) -> (BasicPiece, &'t
     if is_digit(c) {
         return (BasicPiece::Bytes, after_digits(rest));
     }
+    keyword_or_name(c, rest, text)
+}
+
+// The first letter tells most names from keywords: all pieces of a listing are looked at often.
+fn keyword_or_name<'t>(c: u8, rest: &'t [u8], text: &'t [u8]) -> (BasicPiece, &'t [u8])
+    ensures { (result.0, result.1.now) ≡ keyword_or_name c rest.now text.now }
+{
+    if !begins_keyword(c) {
+        return name_or_byte(rest, text);
+    }
     match basic_operator_at(text) {
         Some((operator, after)) => (BasicPiece::Operator(operator), after),
         None => constant_or_name(rest, text),
     }
+}
+
+// The first letters of the operators and constants.
+fn begins_keyword(c: u8) -> bool
+    ensures { result ≡ begins_keyword c }
+{
+    matches!(c, b'A' | b'D' | b'E' | b'F' | b'M' | b'N' | b'O' | b'T')
 }
 
 /// The operator that is a word at the front of a text, and what follows it.
@@ -246,13 +263,15 @@ fn openings(count: u32) -> &'static [u8]
     }
 }
 
-/// Writes a name: the machine's registers and the shifts are themselves, others stand between bars,
-/// so that none is taken for a register of ObjAsm.
+/// Writes a name: the machine's registers and the shifts are themselves, `P%` is the place, and others
+/// stand between bars, so that none is taken for a register of ObjAsm.
 pub fn push_name<W: Sink>(name: &[u8], sink: &mut W) -> Result<(), WriteFault>
     ensures { Writes W.contents W.has_failed sink.old sink.new result (basic_name_text name.now) }
 {
     if is_kept(name) {
         push_all(sink, name)
+    } else if name == b"P%".as_slice() {
+        push_all(sink, b".")
     } else {
         push_parts(sink, &[b"|".as_slice(), name, b"|".as_slice()])
     }

@@ -3,15 +3,15 @@
 -- shifts, then sums, then products; in ObjAsm shifts join more tightly than sums, and AND, OR and EOR
 -- as sums do. So an expression with one of these operators gets parentheses: three round all of it
 -- and round what stands in parentheses, and about an operator as many as it is looser than sums.
-use Rattle.std.specs.Prelude.{ℕ, Bool, false, not, ◌==◌, ◌&&◌, ◌||◌, nat_lt, List, [], ◌∷◌, ◌++◌, drop, codes, Option, Some, None, is_some, if◌then◌else◌}
+use Rattle.std.specs.Prelude.{ℕ, Bool, false, not, ◌==◌, ◌&&◌, ◌||◌, nat_lt, List, [], ◌∷◌, ◌++◌, drop, codes, bytes_eq, Option, Some, None, is_some, if◌then◌else◌}
 use Rattle.assembler_names.specs.Names.{register_named}
 use Rattle.assembler_names.specs.Words.{after_word, is_same_name}
 use Rattle.source_layout.specs.References.{after_quote}
-use Rattle.basic_source.specs.Words.{after_digits, after_keyword, basic_name, is_digit}
-use Rattle.basic_source.specs.declared.pieces.BasicOperator.{BasicOperator}
-use Rattle.basic_source.specs.declared.pieces.BasicOperator.TheVariants as operators
-use Rattle.basic_source.specs.declared.pieces.BasicPiece.{BasicPiece}
-use Rattle.basic_source.specs.declared.pieces.BasicPiece.TheVariants as pieces
+use Rattle.basic_pieces.specs.Words.{after_digits, after_keyword, basic_name, is_digit}
+use Rattle.basic_pieces.specs.declared.pieces.BasicOperator.{BasicOperator}
+use Rattle.basic_pieces.specs.declared.pieces.BasicOperator.TheVariants as operators
+use Rattle.basic_pieces.specs.declared.pieces.BasicPiece.{BasicPiece}
+use Rattle.basic_pieces.specs.declared.pieces.BasicPiece.TheVariants as pieces
 
 -- by how many steps an operator joins more loosely than sums
 abbrev pub looseness : BasicOperator → ℕ
@@ -71,9 +71,18 @@ abbrev pub operator_or_name : List ℕ → List ℕ → Option (BasicOperator ×
 operator_or_name rest text (Some o) = (pieces.Operator o.0, o.1)
 operator_or_name rest text None = constant_or_name rest text
 
+-- the first letters of the operators and constants: A, D, E, F, M, N, O, T
+abbrev pub begins_keyword : ℕ → Bool
+begins_keyword c = c == 65 || (c == 68 || (c == 69 || (c == 70
+    || (c == 77 || (c == 78 || (c == 79 || c == 84))))))
+
+abbrev pub keyword_or_name : ℕ → List ℕ → List ℕ → BasicPiece × List ℕ
+keyword_or_name c rest text = if begins_keyword c then operator_or_name rest text (basic_operator_at text)
+    else name_or_byte rest text
+
 abbrev pub digits_or_word : ℕ → List ℕ → List ℕ → BasicPiece × List ℕ
 digits_or_word c rest text = if is_digit c then (pieces.Bytes, after_digits rest)
-    else operator_or_name rest text (basic_operator_at text)
+    else keyword_or_name c rest text
 
 -- behind `<`, of which a second is 60
 abbrev pub less_piece : List ℕ → BasicPiece × List ℕ
@@ -129,9 +138,10 @@ is_kept name = is_machine_register name || (is_same_name name (codes "LSL")
     || (is_same_name name (codes "ASL") || (is_same_name name (codes "LSR") || (is_same_name name (codes "ASR")
     || (is_same_name name (codes "ROR") || is_same_name name (codes "RRX"))))))
 
--- R0 to R15, PC and the shifts are themselves, other names stand between bars
+-- R0 to R15, PC and the shifts are themselves, `P%` is the place, other names stand between bars
 abbrev pub basic_name_text : List ℕ → List ℕ
-basic_name_text name = if is_kept name then name else codes "|" ++ (name ++ codes "|")
+basic_name_text name = if is_kept name then name else (
+    if bytes_eq name (codes "P%") then codes "." else codes "|" ++ (name ++ codes "|"))
 
 abbrev pub basic_piece_text : Bool → BasicPiece → List ℕ → List ℕ
 basic_piece_text loose pieces.Bytes bytes = bytes
