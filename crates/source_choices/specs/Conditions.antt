@@ -1,15 +1,17 @@
 -- Conditions (ARM Assembler manual, "Conditional assembly", "Expressions and operators"): a number
--- that isn't 0, two numbers or two texts compared, `{TRUE}`, a name that is defined, each after
--- `:LNOT:` or not, and two of these joined.
-use Rattle.std.specs.Prelude.{ℕ, Bool, not, ◌==◌, ◌&&◌, ◌||◌, List, codes, Option, Some, None, is_some, Result, Ok, Err, if◌then◌else◌}
+-- that isn't 0, two numbers or two texts compared, `{TRUE}`, a name that is defined, or a condition in
+-- parentheses, each after `:LNOT:` or not, and as many of these joined as one likes, from the left.
+use Rattle.std.specs.Prelude.{ℕ, zero, suc, Bool, not, ◌==◌, ◌&&◌, ◌||◌, List, length, codes, Option, Some, None, is_some, Result, Ok, Err, if◌then◌else◌}
 use Rattle.assembler_names.specs.Words.{after_word, byte, is_same_name, word}
 use Rattle.profile.specs.Outcome.{bind as ◌>>=◌}
 use Rattle.source_words.specs.Expressions.{source_sum}
 use Rattle.source_words.specs.Names.{NameLookup}
 use Rattle.source_words.specs.Sums.{plain_number}
-use Rattle.source_words.specs.Words.{ReadOrRefused, after_blanks, is_end, name_at, refusal_at}
+use Rattle.source_words.specs.Words.{ReadOrRefused, after_blanks, is_end, name_at, refusal_at, symbol_needed}
 use Rattle.source_words.specs.declared.refusal.WordRefusal.{WordRefusal}
-use Rattle.source_words.specs.declared.refusal.Why.TheVariants.{NotANumber, NotUnderstood}
+use Rattle.source_words.specs.declared.refusal.Why.TheVariants.{NotANumber, NotUnderstood, TooDeep}
+use Rattle.source_choices.specs.declared.conditions.Joining.{Joining}
+use Rattle.source_choices.specs.declared.conditions.Joining.TheVariants as joining
 use Rattle.source_choices.specs.Relations.{holds, relation_at, text_comparison}
 use Rattle.source_choices.specs.declared.relations.Relation.{Relation}
 
@@ -60,53 +62,105 @@ abbrev pub is_defined : NameLookup → List ℕ → Option (List ℕ × List ℕ
 is_defined names text (Some n) = Ok (is_some (names n.0), n.1)
 is_defined names text None = Err (refusal_at NotUnderstood text)
 
-abbrev pub truth_by_texts : NameLookup → ℕ → List ℕ → Option (Bool × List ℕ) → ReadOrRefused Bool
-truth_by_texts names here text (Some b) = Ok b
-truth_by_texts names here text None = comparison names here text
+-- how a condition is read, and what follows it
+abbrev pub TruthReading : Type 0
+TruthReading = List ℕ → ReadOrRefused Bool
 
-abbrev pub truth_by_byte : NameLookup → ℕ → List ℕ → Option (List ℕ) → ReadOrRefused Bool
-truth_by_byte names here text (Some rest) = constant_truth rest
-truth_by_byte names here text None = truth_by_texts names here text (text_comparison text)
+-- what follows `(`: a condition and `)`, which is 41
+abbrev pub truth_in_parentheses : TruthReading → List ℕ → ReadOrRefused Bool
+truth_in_parentheses inner text = do
+  b ← inner text
+  close ← symbol_needed 41 b.1
+  Ok (b.0, close.1)
 
-abbrev pub truth_by_operator : NameLookup → ℕ → List ℕ → Option (List ℕ) → ReadOrRefused Bool
-truth_by_operator names here text (Some rest) = is_defined names rest (name_at (after_blanks rest))
-truth_by_operator names here text None = truth_by_byte names here text (byte 123 (after_blanks text))
+abbrev pub truth_behind_opening : TruthReading → WordRefusal → Option (List ℕ) → ReadOrRefused Bool
+truth_behind_opening inner refusal (Some rest) = truth_in_parentheses inner rest
+truth_behind_opening inner refusal None = Err refusal
 
--- `{TRUE}` (123 is the brace), `:DEF:` and a name, texts or numbers
-unfoldable pub plain_truth : NameLookup → ℕ → List ℕ → ReadOrRefused Bool
-plain_truth names here text = truth_by_operator names here text (after_operator (codes "DEF") text)
+-- a parenthesis (40) may begin a number, as in `(a + 1) * 2 = 6`, and where it doesn't, a condition
+abbrev pub truth_of_numbers_or : TruthReading → List ℕ → ReadOrRefused Bool → ReadOrRefused Bool
+truth_of_numbers_or inner text (Ok b) = Ok b
+truth_of_numbers_or inner text (Err refusal) =
+    truth_behind_opening inner refusal (byte 40 (after_blanks text))
 
-abbrev pub inverted_truth : NameLookup → ℕ → List ℕ → ReadOrRefused Bool
-inverted_truth names here text = do
-  b ← plain_truth names here text
+abbrev pub truth_by_numbers : NameLookup → ℕ → TruthReading → List ℕ → ReadOrRefused Bool
+truth_by_numbers names here inner text = truth_of_numbers_or inner text (comparison names here text)
+
+abbrev pub truth_by_texts : NameLookup → ℕ → TruthReading → List ℕ → Option (Bool × List ℕ) →
+    ReadOrRefused Bool
+truth_by_texts names here inner text (Some b) = Ok b
+truth_by_texts names here inner text None = truth_by_numbers names here inner text
+
+abbrev pub truth_by_byte : NameLookup → ℕ → TruthReading → List ℕ → Option (List ℕ) → ReadOrRefused Bool
+truth_by_byte names here inner text (Some rest) = constant_truth rest
+truth_by_byte names here inner text None = truth_by_texts names here inner text (text_comparison text)
+
+abbrev pub truth_by_operator : NameLookup → ℕ → TruthReading → List ℕ → Option (List ℕ) → ReadOrRefused Bool
+truth_by_operator names here inner text (Some rest) = is_defined names rest (name_at (after_blanks rest))
+truth_by_operator names here inner text None =
+    truth_by_byte names here inner text (byte 123 (after_blanks text))
+
+-- `{TRUE}` (123 is the brace), `:DEF:` and a name, texts or numbers, or a condition in parentheses
+unfoldable pub plain_truth : NameLookup → ℕ → TruthReading → List ℕ → ReadOrRefused Bool
+plain_truth names here inner text =
+    truth_by_operator names here inner text (after_operator (codes "DEF") text)
+
+abbrev pub inverted_truth : NameLookup → ℕ → TruthReading → List ℕ → ReadOrRefused Bool
+inverted_truth names here inner text = do
+  b ← plain_truth names here inner text
   Ok (not b.0, b.1)
 
-abbrev pub truth_by_not : NameLookup → ℕ → List ℕ → Option (List ℕ) → ReadOrRefused Bool
-truth_by_not names here text (Some rest) = inverted_truth names here rest
-truth_by_not names here text None = plain_truth names here text
+abbrev pub truth_by_not : NameLookup → ℕ → TruthReading → List ℕ → Option (List ℕ) → ReadOrRefused Bool
+truth_by_not names here inner text (Some rest) = inverted_truth names here inner rest
+truth_by_not names here inner text None = plain_truth names here inner text
 
 -- the same after `:LNOT:` or not
-abbrev pub signed_truth : NameLookup → ℕ → List ℕ → ReadOrRefused Bool
-signed_truth names here text = truth_by_not names here text (after_operator (codes "LNOT") text)
+abbrev pub signed_truth : NameLookup → ℕ → TruthReading → List ℕ → ReadOrRefused Bool
+signed_truth names here inner text = truth_by_not names here inner text (after_operator (codes "LNOT") text)
+
+abbrev pub truth_of_two : Joining → Bool → Bool → Bool
+truth_of_two joining.And a b = a && b
+truth_of_two joining.Or a b = a || b
+
+abbrev pub joining_or : Joining → Option (Joining × List ℕ) → Option (List ℕ) → Option (Joining × List ℕ)
+joining_or j others (Some rest) = Some (j, rest)
+joining_or j others None = others
+
+-- how what follows is joined, and what that is
+abbrev pub joining_at : List ℕ → Option (Joining × List ℕ)
+joining_at text = joining_or joining.And (joining_or joining.Or None (after_operator (codes "LOR") text))
+    (after_operator (codes "LAND") text)
+
+abbrev pub next_truth : (Bool → List ℕ → ReadOrRefused Bool) → TruthReading → Bool → List ℕ →
+    Option (Joining × List ℕ) → ReadOrRefused Bool
+next_truth others signed b text None = Ok (b, text)
+next_truth others signed b text (Some j) = do
+  other ← signed j.1
+  others (truth_of_two j.0 b other.0) other.1
+
+-- the truths after one, as many as are joined; the count, which is never used up, is the length of a
+-- text that holds them
+unfoldable pub more_truths : ℕ → TruthReading → Bool → List ℕ → ReadOrRefused Bool
+more_truths zero signed b text = Ok (b, text)
+more_truths (suc n) signed b text = next_truth (more_truths n signed) signed b text (joining_at text)
+
+-- truths that are joined from the left
+abbrev pub joined_truths : TruthReading → List ℕ → ReadOrRefused Bool
+joined_truths signed text = do
+  first ← signed text
+  more_truths (length first.1) signed first.0 first.1
+
+-- a condition in which so many parentheses stand within one another, with the one around it
+unfoldable pub condition_within : NameLookup → ℕ → ℕ → List ℕ → ReadOrRefused Bool
+condition_within names here zero text = Err (refusal_at TooDeep text)
+condition_within names here (suc n) text =
+    joined_truths (signed_truth names here (condition_within names here n)) text
 
 abbrev pub truth_at_end : Bool → List ℕ → Result Bool WordRefusal
 truth_at_end b text = if is_end text then Ok b else Err (refusal_at NotUnderstood text)
 
-abbrev pub joined_by_or : NameLookup → ℕ → Bool → List ℕ → Option (List ℕ) → Result Bool WordRefusal
-joined_by_or names here first rest None = truth_at_end first rest
-joined_by_or names here first rest (Some text) = do
-  second ← signed_truth names here text
-  truth_at_end (first || second.0) second.1
-
-abbrev pub joined_by_and : NameLookup → ℕ → Bool → List ℕ → Option (List ℕ) → Result Bool WordRefusal
-joined_by_and names here first rest None =
-    joined_by_or names here first rest (after_operator (codes "LOR") rest)
-joined_by_and names here first rest (Some text) = do
-  second ← signed_truth names here text
-  truth_at_end (first && second.0) second.1
-
--- the condition that a text is
+-- the condition that a text is, in which up to 8 parentheses stand within one another
 unfoldable pub condition_of_text : NameLookup → ℕ → List ℕ → Result Bool WordRefusal
 condition_of_text names here text = do
-  first ← signed_truth names here text
-  joined_by_and names here first.0 first.1 (after_operator (codes "LAND") first.1)
+  b ← condition_within names here 9 text
+  truth_at_end b.0 b.1

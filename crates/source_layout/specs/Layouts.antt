@@ -1,7 +1,7 @@
 -- The layouts of a source (ARM Assembler manual, "Directives"): `^` says where the next field
 -- begins and which register it is found by, `#` gives the field a name and a size.
-use Rattle.std.specs.Prelude.{ℕ, suc, ◌+◌, ◌%◌, ◌^◌, ◌==◌, List, [], ◌∷◌, ◌++◌, length, Option, Some, None, is_some, Result, Ok, Err, if◌then◌else◌}
-use Rattle.assembler_names.specs.Words.{◌>>=◌}
+use Rattle.std.specs.Prelude.{ℕ, suc, ◌+◌, ◌%◌, ◌^◌, ◌==◌, List, [], ◌∷◌, ◌++◌, length, codes, Option, Some, None, is_some, Result, Ok, Err, if◌then◌else◌}
+use Rattle.assembler_names.specs.Words.{after_word, is_same_name, word, ◌>>=◌}
 use Rattle.source_lines.specs.Lines.{meaning_of_line}
 use Rattle.source_words.specs.Expressions.{source_sum}
 use Rattle.source_words.specs.Names.{NameLookup, meaning_of_name}
@@ -31,12 +31,17 @@ label_or_text text None = ([], text)
 abbrev pub label_and_rest : List ℕ → List ℕ × List ℕ
 label_and_rest text = label_or_text text (name_at text)
 
-abbrev pub layout_work_at : List ℕ → Option (LayoutWork × List ℕ)
-layout_work_at [] = None
-layout_work_at (c ∷ rest) = if c == 94 then Some (works.Start, rest) else (
-    if c == 35 then Some (works.Field, rest) else None)
+abbrev pub named_layout_work : List ℕ → Option (LayoutWork × List ℕ)
+named_layout_work text =
+    if is_same_name (word text) (codes "MAP") then Some (works.Start, after_word text) else (
+    if is_same_name (word text) (codes "FIELD") then Some (works.Field, after_word text) else None)
 
--- `^` (94) or `#` (35), and what follows it
+abbrev pub layout_work_at : List ℕ → Option (LayoutWork × List ℕ)
+layout_work_at [] = named_layout_work []
+layout_work_at (c ∷ rest) = if c == 94 then Some (works.Start, rest) else (
+    if c == 35 then Some (works.Field, rest) else named_layout_work (c ∷ rest))
+
+-- `^` (94) or MAP, or `#` (35) or FIELD, and what follows it
 abbrev pub layout_work : List ℕ → Option (LayoutWork × List ℕ)
 layout_work text = layout_work_at (after_blanks text)
 

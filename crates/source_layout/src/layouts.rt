@@ -2,11 +2,11 @@
 
 ghost use Rattle.std.specs.Prelude.{◌≡◌, OnOk};
 ghost use Rattle.assembler_names.specs.Words.{read_of};
-ghost use Rattle.source_layout.specs.Layouts.{field_size, label_and_rest, layout_work, no_layout, number_read, start_operands, started_unless, with_field, with_field_mark, with_field_name, with_line, with_line_mark, with_layout_name, with_name_if, with_field_register, with_unmarked};
+ghost use Rattle.source_layout.specs.Layouts.{field_size, label_and_rest, layout_work, named_layout_work, no_layout, number_read, start_operands, started_unless, with_field, with_field_mark, with_field_name, with_line, with_line_mark, with_layout_name, with_name_if, with_field_register, with_unmarked};
 ghost use Rattle.source_words.specs.Names.{meaning_of_name};
 
 use crate::marks::{LineMark, MarkedLine, mark_of_line};
-use assembler_names::words::Read;
+use assembler_names::words::{Read, after_word, is_name, word};
 use source_lines::meaning_of_line;
 use source_words::words::{after_blanks, is_end, name_at, symbol};
 use source_words::{AddressSum, Meaning, Names, source_register, source_sum};
@@ -16,9 +16,9 @@ use std::marker::Model;
 /// What a line of a layout asks for.
 #[derive(Clone, Copy, Debug, PartialEq, Eq)]
 pub enum LayoutWork {
-    /// `^`: the next field begins elsewhere.
+    /// `^` or MAP: the next field begins elsewhere.
     Start,
-    /// `#`: a field.
+    /// `#` or FIELD: a field.
     Field,
 }
 
@@ -218,14 +218,27 @@ pub fn label_and_rest(text: &[u8]) -> (&[u8], &[u8])
     }
 }
 
-// `^` or `#`, and what follows it.
+// `^` or `#`, or its word, and what follows it.
 fn layout_work(text: &[u8]) -> Read<'_, LayoutWork>
     ensures { read_of result ≡ layout_work text.now }
 {
-    match after_blanks(text) {
+    let place = after_blanks(text);
+    match place {
         [b'^', rest @ ..] => Some((LayoutWork::Start, rest)),
         [b'#', rest @ ..] => Some((LayoutWork::Field, rest)),
-        _ => None,
+        _ => named_layout_work(place),
+    }
+}
+
+fn named_layout_work(text: &[u8]) -> Read<'_, LayoutWork>
+    ensures { read_of result ≡ named_layout_work text.now }
+{
+    if is_name(word(text), b"MAP") {
+        Some((LayoutWork::Start, after_word(text)))
+    } else if is_name(word(text), b"FIELD") {
+        Some((LayoutWork::Field, after_word(text)))
+    } else {
+        None
     }
 }
 

@@ -17,7 +17,7 @@ label_at (c ∷ rest) = if is_blank c || c == 59 then Some ([], c ∷ rest) else
 
 abbrev pub data_work : List ℕ → Option Work
 data_work name =
-    if is_same_name name (codes "DCD") then Some works.Words else (
+    if is_same_name name (codes "DCD") || is_same_name name (codes "DCI") then Some works.Words else (
     if is_same_name name (codes "DCB") then Some works.Bytes else (
     if is_same_name name (codes "SPACE") then Some works.Space else (
     if is_same_name name (codes "ALIGN") then Some works.Align else (
@@ -32,7 +32,8 @@ naming_work name =
 
 abbrev pub ignored_work : List ℕ → Option Work
 ignored_work name =
-    if is_same_name name (codes "ENTRY") || is_same_name name (codes "EXPORT") || is_same_name name (codes "IMPORT")
+    if is_same_name name (codes "ENTRY") || is_same_name name (codes "EXPORT") || is_same_name name (codes "GLOBAL")
+    || is_same_name name (codes "IMPORT") || is_same_name name (codes "EXTERN")
     || is_same_name name (codes "KEEP") || is_same_name name (codes "OPT") || is_same_name name (codes "ROUT")
     || is_same_name name (codes "SUBT") || is_same_name name (codes "TTL")
     then Some works.Ignored else None

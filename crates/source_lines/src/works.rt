@@ -23,7 +23,7 @@ pub enum Work {
     Register,
     /// EQU or `*`: the label is a number's or an address's name.
     Value,
-    /// DCD or `&`.
+    /// DCD, DCI or `&`.
     Words,
     /// DCB or `=`.
     Bytes,
@@ -97,7 +97,7 @@ fn work_named(name: &[u8]) -> Option<Work>
 fn data_work(name: &[u8]) -> Option<Work>
     ensures { result ≡ data_work name.now }
 {
-    if is_name(name, b"DCD") {
+    if is_name(name, b"DCD") || is_name(name, b"DCI") {
         Some(Work::Words)
     } else if is_name(name, b"DCB") {
         Some(Work::Bytes)
@@ -133,7 +133,9 @@ fn ignored_work(name: &[u8]) -> Option<Work>
 {
     if is_name(name, b"ENTRY")
         || is_name(name, b"EXPORT")
+        || is_name(name, b"GLOBAL")
         || is_name(name, b"IMPORT")
+        || is_name(name, b"EXTERN")
         || is_name(name, b"KEEP")
         || is_name(name, b"OPT")
         || is_name(name, b"ROUT")

@@ -4,6 +4,7 @@ pub mod Sizes
 pub mod Knowledge
 pub mod Seen
 pub mod Numbers
+pub mod Reaches
 pub mod Works
 pub mod Units
 pub mod Ways

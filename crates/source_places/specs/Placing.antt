@@ -1,15 +1,20 @@
 -- The lines of a source by what a reading found: a line that says all by itself stays as it is.
-use Rattle.std.specs.Prelude.{ℕ, suc, Bool, true, false, not, ◌%◌, ◌==◌, ◌&&◌, List, [], ◌∷◌, ◌++◌, length, Option, Some, None, if◌then◌else◌}
+use Rattle.std.specs.Prelude.{ℕ, suc, Bool, true, false, not, ◌%◌, ◌==◌, ◌&&◌, List, [], ◌∷◌, ◌++◌, length, Option, Some, None, Result, Ok, Err, if◌then◌else◌}
+use Rattle.arm_decode.specs.declared.condition.Condition.{Condition}
+use Rattle.source_choices.specs.Conditions.{condition_of_text}
 use Rattle.source_layout.specs.Layouts.{label_and_rest}
 use Rattle.source_layout.specs.Lines.{bytes_before}
 use Rattle.source_lines.specs.Works.{work_at}
 use Rattle.source_words.specs.Names.{NameLookup, meaning_of_name}
 use Rattle.source_places.specs.Knowledge.{PlaceKnowledge}
+use Rattle.source_words.specs.declared.refusal.WordRefusal.{WordRefusal}
 use Rattle.source_places.specs.Numbers.{line_of_numbers}
+use Rattle.source_places.specs.Reaches.{reach_line, reach_of}
 use Rattle.source_places.specs.Seen.{place_of_line, seen_names}
 use Rattle.source_places.specs.Units.{alignment_line, alignment_of_numbers, are_units, line_numbers, units_line}
 use Rattle.source_places.specs.Ways.{is_placed}
 use Rattle.source_places.specs.Works.{place_work_at}
+use Rattle.source_places.specs.declared.reaches.Reach.{Reach}
 use Rattle.source_places.specs.declared.works.PlaceWork.{PlaceWork}
 use Rattle.source_places.specs.declared.works.PlaceWork.TheVariants as works
 
@@ -30,16 +35,37 @@ numbers_placed works.LooseHalfwords place text label read = units_placed false f
 numbers_placed works.LooseWords place text label read = units_placed true false text label read
 numbers_placed works.Alignment place text label read =
     alignment_placed text label read.1 (alignment_of_numbers place read.0)
+numbers_placed _ place text label read = text
 
 -- a line whose operands aren't numbers stays
-abbrev pub work_placed : PlaceWork → ℕ → List ℕ → List ℕ → Option (List ℕ × List ℕ) → List ℕ
-work_placed w place text label (Some read) = numbers_placed w place text label read
-work_placed w place text label None = text
+abbrev pub numbers_or_line : PlaceWork → ℕ → List ℕ → List ℕ → Option (List ℕ × List ℕ) → List ℕ
+numbers_or_line w place text label (Some read) = numbers_placed w place text label read
+numbers_or_line w place text label None = text
+
+abbrev pub reach_or_line : Condition → List ℕ → List ℕ → Option (Reach × List ℕ) → List ℕ
+reach_or_line c text label (Some reach) = reach_line c reach.0 text label reach.1
+reach_or_line c text label None = text
+
+abbrev pub line_unless : List ℕ → Bool → List ℕ
+line_unless text holds = if holds then [] else text
+
+-- a line whose condition holds is left out
+abbrev pub asserted_line : List ℕ → Result Bool WordRefusal → List ℕ
+asserted_line text (Ok holds) = line_unless text holds
+asserted_line text (Err e) = text
+
+abbrev pub work_placed : PlaceWork → NameLookup → ℕ → ℕ → List ℕ → List ℕ → List ℕ → List ℕ
+work_placed (works.LongAddress c) seen here place text label operands =
+    reach_or_line c text label (reach_of seen here operands)
+work_placed works.Assertion seen here place text label operands =
+    asserted_line text (condition_of_text seen here operands)
+work_placed w seen here place text label operands =
+    numbers_or_line w place text label (line_numbers seen here operands)
 
 abbrev pub placed_by_work : NameLookup → NameLookup → ℕ → ℕ → List ℕ → List ℕ →
     Option (PlaceWork × List ℕ) → List ℕ
 placed_by_work names seen here place text rest (Some w) =
-    work_placed w.0 place text (bytes_before text rest) (line_numbers seen here w.1)
+    work_placed w.0 seen here place text (bytes_before text rest) w.1
 placed_by_work names seen here place text rest None =
     line_of_numbers names seen here text (work_at rest)
 

@@ -1,10 +1,11 @@
 //! A source for ObjAsm without what asks where lines stand: halfwords, alignments by other numbers
-//! than 4, and distances of labels in products and the like.
+//! than 4, ADRL, conditions of addresses, and distances of labels in products and the like.
 #![tactic(auto)]
 
 pub mod knowledge;
 pub mod numbers;
 pub mod placing;
+pub mod reaches;
 pub mod seen;
 pub mod settling;
 pub mod sizes;

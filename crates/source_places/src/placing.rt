@@ -3,7 +3,10 @@
 ghost use Rattle.std.specs.Prelude.{◌≡◌, IfOk};
 ghost use Rattle.std.specs.Str.Lines.{lines};
 ghost use Rattle.profile.specs.Output.{Writes};
-ghost use Rattle.source_places.specs.Placing.{numbers_placed, placed_by_work, placed_line, placed_lines, placed_seen, units_placed};
+ghost use Rattle.source_choices.specs.Conditions.{condition_of_text};
+ghost use Rattle.source_places.specs.Units.{line_numbers};
+ghost use Rattle.source_places.specs.Placing.{asserted_line, numbers_or_line, numbers_placed, placed_by_work, placed_line, placed_lines, placed_seen, units_placed, work_placed};
+ghost use Rattle.source_places.specs.Reaches.{reach_line};
 ghost use Rattle.source_lines.specs.Works.{work_at};
 ghost use Rattle.source_places.specs.Numbers.{line_of_numbers};
 ghost use Rattle.source_places.specs.Works.{place_work_at};
@@ -11,13 +14,16 @@ ghost use Rattle.source_words.specs.Names.{meaning_of_name};
 
 use crate::knowledge::SourcePlaces;
 use crate::numbers::push_with_numbers;
+use crate::reaches::{Reach, push_reach_line, reach_of};
 use crate::seen::{place_of_line, seen_names};
 use crate::units::{
     alignment_of_numbers, are_units, line_numbers, push_alignment_line, push_units_line,
 };
 use crate::ways::is_placed;
 use crate::works::{PlaceWork, place_work_at};
+use arm_decode::Condition;
 use profile::{Sink, WriteFault, push_all};
+use source_choices::conditions::condition_of_text;
 use source_layout::layouts::label_and_rest;
 use source_layout::lines::bytes_before;
 use source_words::Names;
@@ -95,14 +101,85 @@ fn placed_by_work(
         (place_work_at rest.now)) }
 {
     match place_work_at(rest) {
-        Some((work, operands)) => match line_numbers(alloc, seen, here, operands)? {
-            Some((numbers, comment)) => {
-                let label = bytes_before(text, rest);
-                numbers_placed(alloc, work, place, text, label, numbers.as_slice(), comment)
-            }
+        Some((work, operands)) => {
+            let label = bytes_before(text, rest);
+            work_placed(alloc, work, seen, here, place, text, label, operands)
+        }
+        None => line_of_numbers(alloc, names, seen, here, text, rest),
+    }
+}
+
+fn work_placed(
+    alloc: Global,
+    work: PlaceWork,
+    seen: &Names,
+    here: usize,
+    place: u32,
+    text: &[u8],
+    label: &[u8],
+    operands: &[u8],
+) -> Result<Vec<u8>, AllocError>
+    ensures { IfOk result (λ line. line.items
+        ≡ work_placed work (meaning_of_name seen.now) here place text.now label.now operands.now) }
+{
+    match work {
+        PlaceWork::LongAddress(condition) => match reach_of(seen, here, operands) {
+            Some((reach, comment)) => reach_placed(alloc, condition, reach, text, label, comment),
             None => copied(alloc, text),
         },
-        None => line_of_numbers(alloc, names, seen, here, text, rest),
+        PlaceWork::Assertion => copied(alloc, asserted(seen, here, text, operands)),
+        _ => numbers_or_line(alloc, work, seen, here, place, text, label, operands),
+    }
+}
+
+// A line whose operands aren't numbers stays.
+fn numbers_or_line(
+    alloc: Global,
+    work: PlaceWork,
+    seen: &Names,
+    here: usize,
+    place: u32,
+    text: &[u8],
+    label: &[u8],
+    operands: &[u8],
+) -> Result<Vec<u8>, AllocError>
+    ensures { IfOk result (λ line. line.items ≡ numbers_or_line work place text.now label.now
+        (line_numbers (meaning_of_name seen.now) here operands.now)) }
+{
+    match line_numbers(alloc, seen, here, operands)? {
+        Some((numbers, comment)) => {
+            numbers_placed(alloc, work, place, text, label, numbers.as_slice(), comment)
+        }
+        None => copied(alloc, text),
+    }
+}
+
+// A line whose condition holds is left out.
+fn asserted<'t>(seen: &Names, here: usize, text: &'t [u8], operands: &[u8]) -> &'t [u8]
+    ensures { result.now ≡ asserted_line text.now
+        (condition_of_text (meaning_of_name seen.now) here operands.now) }
+{
+    match condition_of_text(seen, here, operands) {
+        Ok(true) => b"",
+        Ok(false) | Err(_) => text,
+    }
+}
+
+fn reach_placed(
+    alloc: Global,
+    condition: Condition,
+    reach: Reach,
+    text: &[u8],
+    label: &[u8],
+    comment: &[u8],
+) -> Result<Vec<u8>, AllocError>
+    ensures { IfOk result (λ line. line.items
+        ≡ reach_line condition reach text.now label.now comment.now) }
+{
+    let mut sink = TextSink::new(alloc);
+    match push_reach_line(condition, reach, text, label, comment, &mut sink) {
+        Ok(()) => Ok(sink.into_bytes()),
+        Err(_) => Err(AllocError),
     }
 }
 
@@ -169,6 +246,7 @@ fn push_numbers_placed<W: Sink>(
             Some(size) => push_alignment_line(size, label, comment, sink),
             None => push_all(sink, text),
         },
+        _ => push_all(sink, text),
     }
 }
 

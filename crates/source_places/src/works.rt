@@ -2,8 +2,10 @@
 
 ghost use Rattle.std.specs.Prelude.{◌≡◌};
 ghost use Rattle.assembler_names.specs.Words.{read_of};
-ghost use Rattle.source_places.specs.Works.{place_work_at, place_work_named};
+ghost use Rattle.source_places.specs.Works.{long_address_work, place_work_at, place_work_named};
 
+use crate::reaches::long_address_named;
+use arm_decode::Condition;
 use assembler_names::words::{Read, after_word, is_name, word};
 use source_words::words::after_blanks;
 
@@ -18,6 +20,10 @@ pub enum PlaceWork {
     LooseWords,
     /// ALIGN by a number.
     Alignment,
+    /// ADRL.
+    LongAddress(Condition),
+    /// ASSERT of what places say.
+    Assertion,
 }
 
 /// What a line asks for behind its label, and the operands.
@@ -40,7 +46,18 @@ fn place_work_named(name: &[u8]) -> Option<PlaceWork>
         Some(PlaceWork::LooseWords)
     } else if is_name(name, b"ALIGN") {
         Some(PlaceWork::Alignment)
+    } else if is_name(name, b"ASSERT") {
+        Some(PlaceWork::Assertion)
     } else {
-        None
+        long_address_work(name)
+    }
+}
+
+fn long_address_work(name: &[u8]) -> Option<PlaceWork>
+    ensures { result ≡ long_address_work name.now }
+{
+    match long_address_named(name) {
+        Some(condition) => Some(PlaceWork::LongAddress(condition)),
+        None => None,
     }
 }

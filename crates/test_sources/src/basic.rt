@@ -2,7 +2,7 @@
 
 use basic_source::listing_source;
 
-static LISTINGS: [(&str, &str); 6] = [
+static LISTINGS: [(&str, &str); 8] = [
     (
         "   10REM >Own: x\n20DIM code% 1000:link=14:base%=&40000\n30FOR p%=0 TO 2 STEP 2:P%=code%\n40[OPT p%\n\
         50.start% STMFD (R13)!,{R0,link}:SWI \"OS_Write0\" ; say: it\n60MOV R1,#base% DIV 2 \\ half\n70]\n80NEXT\n\
@@ -15,14 +15,23 @@ static LISTINGS: [(&str, &str); 6] = [
         "\n DCB (1):AND:&FF\n DCB (&1234):AND:&FF,(&1234)/256:AND:&FF\n|d| DCD |d|\n DCB \"a\",0,\"b;:c\"\n DCB \"x\"\n \
         DCD 5\n ALIGN \n",
     ),
+    // STRING$ is the text so many times, up to the 255 bytes of a string; a number that isn't in digits
+    // isn't read.
     (
-        "a=TRUE:b=FALSE\n[\nMOV R0,#1<<4+1\nMOV R0,#%101 OR 2 AND 3\nMOV R0,#ASC\"A\"-64\nMOV R0,#(1 OR 2)*2\n",
+        "[\nEQUS \"a\"+STRING$(3,\"b+\")+CHR$0:=STRING$( 2 , CHR$(13) )\nEQUS STRING$(0,\"x\")+STRING$(1,CHR$ 7)\n\
+        EQUS STRING$(n,\"x\")\nEQUS STRING$(256,\"x\")\n",
+        "\n DCB \"a\",\"b+\",\"b+\",\"b+\",0\n DCB (13),(13)\n DCB \"\",7\n DCB |STRING$|(|n|,\"x\")\n \
+        DCB |STRING$|(256,\"x\")\n",
+    ),
+    (
+        "a=TRUE:b=FALSE\n[\nMOV R0,#1<<4+1\nMOV R0,#%101 OR 2 AND 3\nMOV R0,#ASC\"A\"-64\nMOV R0,#(1 OR 2)*2\n\
+        EQUD a:EQUD b\n",
         "|a| EQU &FFFFFFFF\n|b| EQU 0\n\n MOV R0,#(((1):SHL:(4+1)))\n \
-        MOV R0,#(((2_101 ))):OR:((( 2 )):AND:(( 3)))\n MOV R0,#\"A\"-64\n MOV R0,#(((((((1 ))):OR:((( 2))))*2)))\n",
+        MOV R0,#(((2_101 ))):OR:((( 2 )):AND:(( 3)))\n MOV R0,#\"A\"-64\n MOV R0,#(((((((1 ))):OR:((( 2))))*2)))\n DCD |a|\n DCD |b|\n",
     ),
     (
         "IF a THEN\n[\nNOP\n]\nELSE\n[:MOV R0,R1,LSL #2\n]\nENDIF\nIF a=1 THEN b=2\n",
-        " IF |a| \n\n NOP \n\n ELSE\n\n MOV R0,R1,LSL #2\n\n ENDIF\n IF  a=1 THEN b=2\n",
+        " IF |a| \n\n NOP \n\n ELSE\n\n MOV R0,R1,LSL #2\n\n ENDIF\n\n",
     ),
     (
         "[OPT 3\nMOV R0,#FNx\nLDMIA sp!,{PC}^\n.a LDR R0,[R1,-R2,ROR#1]!\n. LDR R0,a\n",
@@ -31,6 +40,12 @@ static LISTINGS: [(&str, &str); 6] = [
     (
         "f=2:r=3\n[\nBL f\nSWI f\nBIC R0,r,R1\nEQUD f\n",
         "|f| EQU 2\n|r| RN 3\n\n BL |f|\n SWI |f|\n BIC R0,|r|,R1\n DCD |f|\n",
+    ),
+    (
+        "MODE 12:x=5:VDU 23,0\nIF x=1 THEN y=2:z=3\nON ERROR PRINT:END\nDEFPROCa(q):LOCAL p%\nz=6:y=z+1:a$=\"z\"\n\
+        P%=mc%:[OPT 2\nMOV R0,#y\nEQUD P%-mc%:EQUD P%+4\n]\nENDPROC\nA%=USR mc%\n?y=6:IF z THEN [\n",
+        "\n\n\n\n\n\n\n|z| EQU 6\n|y| EQU |z|+1\n\n|mc%| EQU .\n\n MOV R0,#|y|\n DCD .-|mc%|\n DCD .+4\n\n\n\n\n\
+        \x20IF  z THEN [\n",
     ),
 ];
 
@@ -52,7 +67,7 @@ fn lines_of_listings(rt: HostRuntime) {
     let Ok(joined) = listing_source(rt.alloc(), 3, b"|x| EQU 5\n", listing) else {
         return;
     };
-    let wanted = b"|x| EQU 5\n|a| EQU 1\n|b| EQU 2\n\n MOV R0,#|a|\n\n";
+    let wanted = b"|x| EQU 5\n|a| EQU 1\n\n\n MOV R0,#|a|\n\n";
     assert!(rt; joined.text() == wanted.as_slice());
     let found = joined.origins();
     assert_eq!(rt; found.len(), 6usize);

@@ -3,7 +3,7 @@
 use profile::MemorySink;
 use source_layout::{push_without_layout, read_layout};
 
-static SOURCES: [(&str, &str); 3] = [
+static SOURCES: [(&str, &str); 4] = [
     (
         "        ^       0, r12\n\
         w_count #       4\n\
@@ -44,6 +44,10 @@ static SOURCES: [(&str, &str); 3] = [
         LDRB r0,w\n LDR r0,f_a\n LDR r0,[wp,#f_c]\n",
         "wp RN 9\nfour EQU 4\n\nf_a * &8\nf_b * &10\n\nf_c * &14\nf_c # 4\n\nw * &4\n \
         LDRB r0,[R9,#w]\n LDR r0,f_a\n LDR r0,[wp,#f_c]\n",
+    ),
+    (
+        " MAP 4,r9\na FIELD 4\n\tfield 2*2 ; none\nb Field 1\nmap * @\nc MAPS 1\n LDR r0,b\n",
+        "\na * &4\n\nb * &C\nmap * &D\nc MAPS 1\n LDR r0,[R9,#b]\n",
     ),
 ];
 

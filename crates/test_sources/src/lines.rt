@@ -6,7 +6,7 @@ use source_lines::{meaning_of_line, push_line, scan_line};
 use source_words::{Names, Why};
 
 // A line, its label, and what it is for the assembler.
-static LINES: [(&str, &str, &str); 66] = [
+static LINES: [(&str, &str, &str); 69] = [
     ("wp RN 12", "wp", ""),
     ("Size * 5 + &C", "Size", ""),
     ("start", "start", "start"),
@@ -101,13 +101,16 @@ static LINES: [(&str, &str, &str); 66] = [
     ("lab", "lab", "lab"),
     (" SWI \"XOS_Heap\" ; heap", "", " SWI &2001D ; heap"),
     (" SUBT The end", "", ""),
+    ("w DCI &E1A00000, 1", "w", "w DCD &E1A00000,&1"),
+    (" GLOBAL start", "", ""),
+    (" EXTERN Screen_Update, WEAK", "", ""),
 ];
 
 #[test]
 fn lines(rt: HostRuntime) {
     let mut names = Names::new(rt.alloc());
-    let labels: [&[u8]; 66] = std::array::from_fn(|i| LINES[i].1.as_bytes());
-    for i in 0..66 {
+    let labels: [&[u8]; 69] = std::array::from_fn(|i| LINES[i].1.as_bytes());
+    for i in 0..69 {
         let (source, label, _) = LINES[i];
         match meaning_of_line(&names, i + 1, source.as_bytes()) {
             Ok(Some(meaning)) => {
@@ -122,7 +125,7 @@ fn lines(rt: HostRuntime) {
             Err(_) => panic!(rt; "{source}"),
         }
     }
-    for i in 0..66 {
+    for i in 0..69 {
         let (source, _, wanted) = LINES[i];
         assert!(rt;
             scan_line(&names, i + 1, source.as_bytes()).is_ok(),

@@ -2,7 +2,7 @@
 
 use source_places::placed_source;
 
-static SOURCES: [(&str, &str); 10] = [
+static SOURCES: [(&str, &str); 13] = [
     // Halfwords: the lower byte first, at an even place.
     (
         " DCW 1,&1234, -2 ; three\nx DCW 65535\n = 1\n DCW 5\n DCWU 6\n",
@@ -49,6 +49,22 @@ static SOURCES: [(&str, &str); 10] = [
         "x DCD 5\n LDR r0,[pc,#x-.-8] ; 5\n LDR r1,[pc,#y-.-8]\n NOP\n STR r0,[r1,#-4]!\ny DCD 1\n LDR r2,[pc,#z-.-8]\nz\n",
         "x DCD 5\n LDR r0,[pc,#&FFFFFFF4] ; 5\n LDR r1,[pc,#y-.-8]\n NOP\n STR r0,[r1,#-4]!\ny DCD 1\n \
         LDR r2,[pc,#&FFFFFFFC]\nz\n",
+    ),
+    // ADRL, up and down: of a multiple of 4 the lower part is eight bits from bit 2 on.
+    (
+        "a ADRL r0,x\n NOP\nx ADREQL r1,a ; c\n adrlne ip,y\n % &1233C\n ADRL r2,.\ny ADRL r2,.+8\n",
+        "a DCD &E28F0004,&E2800C00\n NOP\nx DCD &24F1014,&2411C00 ; c\n DCD &128FCFD1,&128CCB48\n % &1233C\n \
+        DCD &E24F2008,&E2422C00\ny DCD &E28F2000,&E2822C00\n",
+    ),
+    // An odd distance below 65,536, the PC, a number, too far, and ADR with LE.
+    (
+        " ADRL r7,x\n % &FFFF\nx ADRL pc,x\n ADRL r0,5\n ADRL r0,y\n ADRLE r0,z\nz % &40000\ny\n",
+        " DCD &E28F70FF,&E2877CFF\n % &FFFF\nx ADRL pc,x\n ADRL r0,5\n ADRL r0,y\n ADRLE r0,z\nz % &40000\ny\n",
+    ),
+    // Conditions of addresses.
+    (
+        "t DCD 1,2\nu\n ASSERT u-t = 8 ; c\n ASSERT (. - t) / 4 < 2\n ASSERT u = 8\n ASSERT . - t >= 8 :LAND: {TRUE}\n",
+        "t DCD 1,2\nu\n\n ASSERT (. - t) / 4 < 2\n ASSERT u = 8\n\n",
     ),
     // What doesn't settle stays.
     ("a % (b-a)/1+1\nb DCW 1\n", "a % (b-a)/1+1\nb DCW 1\n"),

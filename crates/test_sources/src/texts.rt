@@ -4,7 +4,7 @@
 use source_files::joined_source;
 use source_text::{plain_source, read_text};
 
-static SOURCES: [(&str, &str); 25] = [
+static SOURCES: [(&str, &str); 28] = [
     // Macros.
     (
         "\tMACRO\n$label\tDouble\t$to, $from=r0\n$label.\tADD\t$to,$from,$from ; twice $from\n\tMEND\nx Double r1, r2 ; c\n\
@@ -63,6 +63,20 @@ static SOURCES: [(&str, &str); 25] = [
     (
         " [ \"a\" = \"a\"\n 1\n ]\n [ \"a\"<>\"\" :LAND: \"b\" = \"c\"\n 2\n ]\n [ \"a\" < \"b\"\n ]\n",
         "\n 1\n\n\n\n\n\n\n",
+    ),
+    // Conditions in parentheses, and several that are joined from the left.
+    (
+        " [ (1=1) :LAND: (2 = 2)\n a\n ]\n [ :LNOT: (1=1)\n b\n ]\n IF (1 + 1) * 2 = 4 :LAND: :LNOT: (:DEF: z)\n c\n ENDIF\n \
+        [ ((1=2) :LOR: (\"a\"=\"a\")) :LAND: ({TRUE} :LAND: 3)\n d\n ]\n",
+        "\n a\n\n\n\n\n\n c\n\n\n d\n\n",
+    ),
+    (
+        " [ 1=2 :LOR: 1 :LAND: 0\n a\n ]\n [ 1=2 :LAND: 0 :LOR: 1\n b\n ]\n [ 0 :LOR: 0 :LOR: 2\n c\n ]\n",
+        "\n\n\n\n b\n\n\n c\n\n",
+    ),
+    (
+        " [ (1=1\n ]\n [ (1=1) 2\n ]\n [ ((((((((1=1))))))))\n a\n ]\n [ (((((((((1=1)))))))))\n ]\n [ 1 :LAND:\n ]\n",
+        " [ (1=1\n\n [ (1=1) 2\n\n\n a\n\n [ (((((((((1=1)))))))))\n\n [ 1 :LAND:\n\n",
     ),
     (" [ 1\n", "\n ENDIF\n"),
     (" [ 0\n x\n |\n", "\n\n\n ENDIF\n"),
