@@ -23,6 +23,18 @@ impl TextSink {
         }
     }
 
+    /// A sink that has taken nothing, over memory that is used again.
+    pub fn over(memory: Vec<u8>) -> TextSink
+        ensures { sink_text_of result ≡ [] }
+    {
+        let mut bytes = memory;
+        bytes.clear();
+        TextSink {
+            bytes,
+            has_failed: false,
+        }
+    }
+
     /// What it has taken.
     pub fn bytes(&self) -> &[u8]
         ensures { result.now ≡ sink_text_of self.now }
