@@ -3,21 +3,15 @@
 ghost use Rattle.std.specs.Prelude.{◌≡◌, ◌≤◌, length, take};
 ghost use Rattle.debug_checks.specs.Endings.{begins_ending, ending_of, output_of};
 
-/// What a guest printed in a line that takes steps, by the line's answer: what stands before the
-/// last place at which the end of steps is told. None of the words that it begins with stands
-/// anywhere in it but at its beginning, so this is all that was printed.
-pub fn output_of(answer: &[u8]) -> &[u8]
-    ensures { result.now ≡ output_of answer.now }
-{
-    &answer[..ending_place(answer)]
-}
-
-/// How the steps of such a line ended, by the line's answer: what follows on what was printed.
+/// What a guest printed in a line that takes steps, and how the steps ended, by the line's answer: what
+/// stands before the last place at which the end of steps is told, and what follows. None of the words
+/// that it begins with stands anywhere in it but at its beginning, so the first is all that was printed.
 #[tactic(auto, using(crate::proofs::EndingLemmas::ending_behind))]
-pub fn ending_of(answer: &[u8]) -> &[u8]
-    ensures { result.now ≡ ending_of answer.now }
+pub fn answer_parts(answer: &[u8]) -> (&[u8], &[u8])
+    ensures output { result.0.now ≡ output_of answer.now }
+    ensures ending { result.1.now ≡ ending_of answer.now }
 {
-    &answer[ending_place(answer)..]
+    answer.split_at(ending_place(answer))
 }
 
 // Where the last place is at which the end of steps is told; where it is told nowhere, after the

@@ -9,6 +9,6 @@ pub mod reasons;
 pub mod status;
 
 pub use checks::{Mismatch, SeenMachine, check};
-pub use endings::{ending_of, output_of};
+pub use endings::answer_parts;
 pub use reasons::push_reason;
 pub use status::status_with;

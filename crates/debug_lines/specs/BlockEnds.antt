@@ -59,6 +59,12 @@ begins_at_end Outside = []
 begins_at_end (Within begin) = begin ∷ []
 begins_at_end Told = []
 
+-- whether a block is open there
+abbrev pub is_in_block : BlockPlace → Bool
+is_in_block Outside = false
+is_in_block (Within begin) = true
+is_in_block Told = true
+
 -- the lines at which blocks begin that lack their END; where the reading stands; how many lines were
 -- read
 pub record BlocksRead : Type 0 where

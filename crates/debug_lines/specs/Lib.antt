@@ -10,6 +10,7 @@ pub mod ModeRequests
 pub mod Openers
 pub mod Registers
 pub mod Repeats
+pub mod SourceLanguages
 pub mod Spelling
 pub mod Status
 pub mod SteppingRequests

@@ -55,9 +55,9 @@ pub fn missing_ends(
 
 impl BlockReading {
     ghost use Rattle.text_lines.specs.WholeLines.{line_of_some};
-    ghost use Rattle.debug_lines.specs.BlockEnds.{begins_if, blocks_after_line, blocks_after_lines, blocks_read, blocks_read_from, missing_ends_read};
+    ghost use Rattle.debug_lines.specs.BlockEnds.{begins_if, blocks_after_line, blocks_after_lines, blocks_read, blocks_read_from, is_in_block, missing_ends_read};
 
-    fn from_line(alloc: Global, number: usize) -> BlockReading
+    pub(crate) fn from_line(alloc: Global, number: usize) -> BlockReading
         ensures { blocks_read result ≡ blocks_read_from number }
     {
         BlockReading {
@@ -67,7 +67,7 @@ impl BlockReading {
         }
     }
 
-    fn read_line(&mut self, alloc: Global, line: &[u8]) -> Result<(), AllocError>
+    pub(crate) fn read_line(&mut self, alloc: Global, line: &[u8]) -> Result<(), AllocError>
         ensures { OnOk result (blocks_read self.new ≡ blocks_after_line (blocks_read self.old) line.now) }
     {
         self.number = self.number.saturating_add(1);
@@ -87,6 +87,13 @@ impl BlockReading {
                 Ok(())
             }
         }
+    }
+
+    /// Whether a block is open.
+    pub(crate) fn is_in_block(&self) -> bool
+        ensures { result ≡ is_in_block self.now.place }
+    {
+        !matches!(self.place, BlockPlace::Outside)
     }
 
     fn push_begin(&mut self, begin: Option<usize>) -> Result<(), AllocError>

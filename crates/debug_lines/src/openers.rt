@@ -3,11 +3,12 @@
 
 ghost use Rattle.std.specs.Prelude.{◌≡◌, IfOk};
 ghost use Rattle.debug_lines.specs.DebugRequests.{debug_request, debug_opens_block};
-ghost use Rattle.debug_lines.specs.Openers.{may_open_block};
+ghost use Rattle.debug_lines.specs.Openers.{is_opener_letter, may_open_block};
 
-use crate::repeats::opens_own_block;
+use crate::repeats::repeated_line;
 use crate::requests::is_script_command;
 use crate::tidy::{is_blank, tidied};
+use crate::tracing::simple_command;
 use command_shell_lines::command_of;
 use std::alloc::{AllocError, Global};
 
@@ -16,7 +17,7 @@ use std::alloc::{AllocError, Global};
 /// # Errors
 ///
 /// `AllocError` where the host has no memory for the line made tidy.
-pub(crate) fn opens_block(alloc: Global, line: &[u8]) -> Result<bool, AllocError>
+pub fn opens_block(alloc: Global, line: &[u8]) -> Result<bool, AllocError>
     ensures { IfOk result (λ opens. opens ≡ debug_opens_block (debug_request line.now)) }
 {
     if !may_open_block(line) {
@@ -27,18 +28,28 @@ pub(crate) fn opens_block(alloc: Global, line: &[u8]) -> Result<bool, AllocError
         return Ok(command.opens_block());
     }
     let tidy = tidied(alloc, line)?;
-    Ok(opens_own_block(&tidy))
+    match repeated_line(&tidy) {
+        Some(_) => Ok(false),
+        None => Ok(simple_command(&tidy).opens_block()),
+    }
 }
 
-// Whether a line may open a block, by its first byte that is no blank: HEX and ASM begin with it.
+// Whether a line may open a block, by its first byte that is no blank.
 fn may_open_block(line: &[u8]) -> bool
     ensures { result ≡ may_open_block line.now }
 {
     for byte in line {
         if !is_blank(*byte) {
-            let letter = *byte;
-            return (letter == b'H' || letter == b'h') || (letter == b'A' || letter == b'a');
+            return is_opener_letter(*byte);
         }
     }
     false
+}
+
+// Whether HEX, ASM, OBJASM or BASIC begins with a letter.
+fn is_opener_letter(byte: u8) -> bool
+    ensures { result ≡ is_opener_letter byte }
+{
+    ((byte == b'H' || byte == b'h') || (byte == b'A' || byte == b'a'))
+        || ((byte == b'O' || byte == b'o') || (byte == b'B' || byte == b'b'))
 }

@@ -2,12 +2,12 @@
 
 ghost use Rattle.std.specs.Prelude.{◌≡◌, ◌==◌, option_map, true, IfSome};
 ghost use Rattle.std.specs.List.{position};
-ghost use Rattle.debug_lines.specs.DebugRequests.{debug_opens_block, is_known, is_repeatable, own_request};
+ghost use Rattle.debug_lines.specs.DebugRequests.{is_known, is_repeatable, own_request};
 ghost use Rattle.debug_lines.specs.DebugRequests.{repeated_at, repeated_if, repeated_line, simple_request};
 ghost use Rattle.debug_lines.specs.Repeats.{count_and_line, counted_text, counted_text_at, repeated_text};
 
 use crate::expectations::text_behind;
-use crate::tracing::{opens_simple_block, simple_command};
+use crate::tracing::simple_command;
 use command_shell_lines::number_of;
 
 /// A tidy line, and how often it is to be answered.
@@ -91,16 +91,6 @@ fn counted_if(count: Option<u32>, line: &[u8]) -> Option<RepeatedLine<'_>>
     match count {
         Some(count) if count > 0 => Some(RepeatedLine { count, line }),
         _ => None,
-    }
-}
-
-/// Whether the lines that follow a tidy line are a block of its own.
-pub(crate) fn opens_own_block(tidied: &[u8]) -> bool
-    ensures { result ≡ debug_opens_block (own_request tidied.now) }
-{
-    match repeated_line(tidied) {
-        Some(_) => false,
-        None => opens_simple_block(tidied),
     }
 }
 

@@ -7,7 +7,7 @@ ghost use Rattle.command_shell_lines.specs.Requests.{request_of, request_of_comm
 ghost use Rattle.image_loader.specs.Entries.{can_name_image};
 ghost use Rattle.debug_lines.specs.DebugRequests.{is_script_request, is_remark, untraced_request, expect_line, own_request_of_words};
 ghost use Rattle.debug_lines.specs.DebugRequests.{of_image, is_frames_word, own_request_of_word, own_request_of_two, own_request_of_three, own_request_of_four};
-ghost use Rattle.debug_lines.specs.DebugRequests.{gosub_to, mode_line, put_at, stack_of, words_at, set_request, set_psr_to, debug_request_of_command};
+ghost use Rattle.debug_lines.specs.DebugRequests.{gosub_to, mode_line, put_at, source_request, stack_of, words_at, set_request, set_psr_to, debug_request_of_command};
 ghost use Rattle.debug_lines.specs.Expectations.{expect_request};
 ghost use Rattle.debug_lines.specs.ModeRequests.{mode_request_of};
 
@@ -44,6 +44,15 @@ pub enum DebugView {
     Help,
 }
 
+/// What the lines of a block are written in that isn't the script's own.
+#[derive(Clone, Copy, Debug, PartialEq, Eq)]
+pub enum SourceLanguage {
+    /// A source for ObjAsm.
+    ObjAsm,
+    /// A listing in BBC BASIC with its assembler.
+    Basic,
+}
+
 /// What a line of a debugging script asks for.
 #[derive(Drop)]
 pub enum DebugCommand<'a> {
@@ -54,6 +63,9 @@ pub enum DebugCommand<'a> {
     Stepping(bool, SteppingCommand<'a>),
     /// A line that changes how later lines are answered.
     Mode(ModeCommand),
+    /// `OBJASM name origin` or `BASIC name origin`, with a name that an image can have and a multiple
+    /// of 4 below 2^26.
+    Source(SourceLanguage, &'a [u8], Origin),
     /// An empty line, or one that begins with `#`.
     Remark,
     /// A line that only looks.
@@ -88,24 +100,25 @@ impl DebugCommand<'_> {
     {
         match self {
             DebugCommand::Script(command) => command.opens_block(),
+            DebugCommand::Source(_, _, _) => true,
             _ => false,
         }
     }
 
     /// Whether the line means something.
-    pub(crate) fn is_known(&self) -> bool
+    pub fn is_known(&self) -> bool
         ensures { result ≡ is_known (debug_request_of_command self.now) }
     {
         !matches!(self, DebugCommand::Unknown)
     }
 
     /// Whether the line may stand behind REPEAT: it asks for something, and opens no block.
-    pub(crate) fn is_repeatable(&self) -> bool
+    pub fn is_repeatable(&self) -> bool
         ensures { result ≡ is_repeatable (debug_request_of_command self.now) }
     {
         match self {
             DebugCommand::Script(command) => !command.opens_block(),
-            DebugCommand::Remark | DebugCommand::Unknown => false,
+            DebugCommand::Source(_, _, _) | DebugCommand::Remark | DebugCommand::Unknown => false,
             _ => true,
         }
     }
@@ -120,7 +133,7 @@ pub fn is_script_line(line: &[u8]) -> bool
 }
 
 /// Whether a line that was read as one of a script is one.
-pub(crate) fn is_script_command(command: &ScriptCommand) -> bool
+pub fn is_script_command(command: &ScriptCommand) -> bool
     ensures { result ≡ is_script_request (request_of_command command.now) }
 {
     !matches!(command, ScriptCommand::Unknown)
@@ -183,9 +196,7 @@ fn command_of_words(line: &[u8]) -> DebugCommand<'_>
         FewWords::One(word) => command_of_word(word),
         FewWords::Two(word, other) => command_of_two(word, other),
         FewWords::Three(word, first, second) => command_of_three(word, first, second),
-        FewWords::Four(word, first, second, third) => {
-            command_of_four(word, first, second, third)
-        }
+        FewWords::Four(word, what, letters, mode) => command_of_four(word, what, letters, mode),
         FewWords::More => DebugCommand::Unknown,
     }
 }
@@ -276,8 +287,21 @@ fn command_of_three<'a>(word: &[u8], first: &'a [u8], second: &[u8]) -> DebugCom
         set_command(first, second)
     } else if has_letters(word, b"PUT") {
         put_command(first, second)
+    } else if has_letters(word, b"OBJASM") {
+        source_command(SourceLanguage::ObjAsm, first, second)
+    } else if has_letters(word, b"BASIC") {
+        source_command(SourceLanguage::Basic, first, second)
     } else {
         DebugCommand::Unknown
+    }
+}
+
+fn source_command<'a>(language: SourceLanguage, name: &'a [u8], origin: &[u8]) -> DebugCommand<'a>
+    ensures { debug_request_of_command result ≡ source_request language name.now origin.now }
+{
+    match Origin::spelled(origin) {
+        Some(origin) if is_image_name(name) => DebugCommand::Source(language, name, origin),
+        _ => DebugCommand::Unknown,
     }
 }
 
@@ -295,10 +319,8 @@ fn words_command(address: &[u8], count: &[u8]) -> DebugCommand<'static>
     ensures { debug_request_of_command result
         ≡ words_at (word_address address.now) (count_up_to 1024 count.now) }
 {
-    match (
-        WordAddress::spelled(address),
-        count_up_to(MAX_WORDS_SHOWN, count),
-    ) {
+    let shown = count_up_to(MAX_WORDS_SHOWN, count);
+    match (WordAddress::spelled(address), shown) {
         (Some(address), Some(count)) => DebugCommand::View(DebugView::Words(address, count)),
         _ => DebugCommand::Unknown,
     }

@@ -2,7 +2,7 @@
 
 use crate::{
     DebugCommand, DebugView, ModeCommand, SteppingCommand, StubSetting, is_own_line, repeated_line,
-    simple_command, untraced_line,
+    simple_command,
 };
 use command_shell_lines::ScriptCommand;
 use std::test::Fail;
@@ -170,8 +170,6 @@ fn lines_stand_behind_others(rt: HostRuntime) -> Result<(), Fail> {
             DebugCommand::Script(ScriptCommand::Regs)
         )
     );
-    assert!(rt; untraced_line(b"TRACE REGS") == b"REGS".as_slice());
-    assert!(rt; untraced_line(b"REGS") == b"REGS".as_slice());
     assert!(rt;
         matches!(
             simple_command(b"TRACE EXPECT R0 1"),

@@ -2,8 +2,8 @@
 
 ghost use Rattle.std.specs.Prelude.{◌≡◌, option_map};
 ghost use Rattle.command_shell_lines.specs.Requests.{words};
-ghost use Rattle.debug_lines.specs.DebugRequests.{debug_opens_block, debug_request_of_command, simple_request};
-ghost use Rattle.debug_lines.specs.DebugRequests.{trace_of_two, trace_of_word, trace_of_words, trace_request, traced_request, untraced_line};
+ghost use Rattle.debug_lines.specs.DebugRequests.{debug_request_of_command, simple_request};
+ghost use Rattle.debug_lines.specs.DebugRequests.{trace_of_two, trace_of_word, trace_of_words, trace_request, traced_request};
 
 use crate::expectations::text_behind;
 use crate::few_words::{FewWords, few_words, has_letters};
@@ -24,23 +24,6 @@ pub fn simple_command(tidied: &[u8]) -> DebugCommand<'_>
         Some(text) => trace_command(text),
         None => untraced_command(tidied),
     }
-}
-
-/// A tidy line without the word TRACE before it: the line that `DebugCommand::Script` tells of.
-pub fn untraced_line(tidied: &[u8]) -> &[u8]
-    ensures { result.now ≡ untraced_line tidied.now }
-{
-    match text_behind(b"TRACE ", tidied) {
-        Some(text) => text,
-        None => tidied,
-    }
-}
-
-/// Whether the lines that follow a tidy line that is no REPEAT are a block of its own.
-pub(crate) fn opens_simple_block(tidied: &[u8]) -> bool
-    ensures { result ≡ debug_opens_block (simple_request tidied.now) }
-{
-    simple_command(tidied).opens_block()
 }
 
 // What a line asks for by what stands behind the word TRACE.
@@ -102,7 +85,7 @@ fn traced(command: DebugCommand<'_>) -> DebugCommand<'_>
             None if line.opens_block() => DebugCommand::Unknown,
             None => DebugCommand::Script(line),
         },
-        DebugCommand::Remark => DebugCommand::Unknown,
+        DebugCommand::Source(_, _, _) | DebugCommand::Remark => DebugCommand::Unknown,
         other => other,
     }
 }

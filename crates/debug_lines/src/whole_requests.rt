@@ -1,43 +1,51 @@
 //! How much of a text are requests of a debugging script that are whole, for lines that come bit by
 //! bit.
 
-ghost use Rattle.std.specs.Prelude.{◌≡◌, IfOk};
-ghost use Rattle.debug_lines.specs.WholeDebugRequests.{AreWholeDebugRequests, is_debug_block_open_after};
+ghost use Rattle.std.specs.Prelude.{◌≡◌, false, IfOk};
+ghost use Rattle.debug_lines.specs.BlockEnds.{missing_ends_if};
+ghost use Rattle.debug_lines.specs.WholeDebugRequests.{AreWholeDebugRequests};
 
-use crate::openers::opens_block;
-use command_shell_lines::is_block_end;
+use crate::block_ends::BlockReading;
 use std::alloc::{AllocError, Global};
 use text_lines::cut_line;
 
-/// How many bytes at the front of a text are requests that are whole: a line with its end, and where
-/// that is HEX or ASM its block up to and with the line END.
+/// What the lines of a text that have their end show of its requests.
+#[derive(Drop)]
+pub struct RequestReading {
+    /// How many bytes at its front are requests that are whole.
+    pub whole: usize,
+    /// The lines at which blocks begin that lack their END.
+    pub missing_ends: Vec<usize>,
+}
+
+/// Reads the lines of a text, before which so many lines stood: how many bytes at its front are
+/// requests that are whole, a line with its end, and where that opens a block its block up to and with
+/// the line END; and which blocks turn out to lack their END.
 ///
 /// # Errors
 ///
 /// `AllocError` where the host has no memory for a line made tidy.
-pub fn whole_debug_request_bytes(alloc: Global, text: &[u8]) -> Result<usize, AllocError>
-    ensures { IfOk result (λ count. AreWholeDebugRequests text.now count) }
+pub fn read_requests(
+    alloc: Global,
+    text: &[u8],
+    number: usize,
+) -> Result<RequestReading, AllocError>
+    ensures whole { IfOk result (λ read. AreWholeDebugRequests text.now read.whole) }
+    ensures missing { IfOk result (λ read. read.missing_ends.items
+        ≡ missing_ends_if false number text.now) }
 {
+    let mut reading = BlockReading::from_line(alloc, number);
     let mut rest = text;
-    let mut is_open = false;
     let mut whole = 0;
     while let Some((line, after)) = cut_line(rest) {
-        is_open = is_open_after(alloc, is_open, line)?;
+        reading.read_line(alloc, line)?;
         rest = after;
-        if !is_open {
+        if !reading.is_in_block() {
             whole = text.len() - rest.len();
         }
     }
-    Ok(whole)
-}
-
-// Whether a block is open after a line.
-fn is_open_after(alloc: Global, is_open: bool, line: &[u8]) -> Result<bool, AllocError>
-    ensures { IfOk result (λ opens. opens ≡ is_debug_block_open_after is_open line.now) }
-{
-    if is_open {
-        Ok(!is_block_end(line))
-    } else {
-        opens_block(alloc, line)
-    }
+    Ok(RequestReading {
+        whole,
+        missing_ends: reading.begins,
+    })
 }
