@@ -1,4 +1,6 @@
--- The words of BBC BASIC and the pieces of its expressions. Begin with Words.
+-- The words of BBC BASIC, the pieces of its expressions, and strings. Begin with Words.
 pub use Rattle.source_layout
 pub mod Words
 pub mod Pieces
+pub mod Repeats
+pub mod Texts

@@ -1,3 +1,4 @@
+pub mod NameLemmas
 pub mod Readings
 pub mod Scans
 pub mod Writings

@@ -1,9 +1,7 @@
 -- The loops that look for a piece of a text, and for the end of a statement.
 use Rattle.std.proofs.Common.{◌≡◌, ◌<◌, ◌≤◌, ◌+◌, ◌-◌, ◌==◌, ◌||◌, ℕ, suc, Bool, true, false, List, [], ◌∷◌, length, map, Some, None, refl, arith, if◌then◌else◌}
 use Rattle.std.specs.List.{list_any}
-use Rattle.source_layout.specs.Lines.{bytes_before}
-use Rattle.basic_source.specs.Expressions.{is_that_name, loose_within, name_within}
-use Rattle.basic_source.specs.Operands.{basic_after_operand, is_register_in, register_within}
+use Rattle.basic_source.specs.Expressions.{loose_within}
 use Rattle.basic_pieces.specs.Pieces.{is_loose, basic_piece_at}
 use Rattle.basic_source.specs.Assignments.{is_register, statement_uses}
 use Rattle.basic_source.specs.Wanted.{is_mentioned, assembler_mentions, statement_wants, wanted_by}
@@ -33,52 +31,6 @@ unfolding loose_within
 loose_more count i text next p h e r b = let k : count - i ≡ suc (count - (i + 1)) = omega arith in rw (k, e, ← r, b) refl
 
 pub ruleset loose_steps = (loose_start, loose_end, loose_none, loose_found, loose_more)
-
-pub name_start : (name : List ℕ) (count : ℕ) (text : List ℕ) → name_within (count - 0) name text ≡ name_within count name text
-name_start name count text = let k : count - 0 ≡ count = omega arith in rw k refl
-
-pub name_end : (name : List ℕ) (count i : ℕ) (text : List ℕ) → count ≤ i → name_within (count - i) name text ≡ false
-unfolding name_within
-name_end name count i text h = let k : count - i ≡ 0 = omega arith in rw k refl
-
-pub name_none : (name : List ℕ) (count i : ℕ) (text : List ℕ) → i < count → (length text == 0) ≡ true → name_within (count - i) name text ≡ false
-unfolding name_within
-name_none name count i text h e = let k : count - i ≡ suc (count - (i + 1)) = omega arith in rw (k, e) refl
-
-pub name_found : (name : List ℕ) (count i : ℕ) (text next : List ℕ) (p : BasicPiece) → i < count → (length text == 0) ≡ false → (p, next) ≡ basic_piece_at text
-    → is_that_name name p (bytes_before text next) ≡ true → name_within (count - i) name text ≡ true
-unfolding name_within
-name_found name count i text next p h e r b = let k : count - i ≡ suc (count - (i + 1)) = omega arith in rw (k, e, ← r, b) refl
-
-pub name_more : (name : List ℕ) (count i : ℕ) (text next : List ℕ) (p : BasicPiece) → i < count → (length text == 0) ≡ false → (p, next) ≡ basic_piece_at text
-    → is_that_name name p (bytes_before text next) ≡ false → name_within (count - i) name text ≡ name_within (count - (i + 1)) name next
-unfolding name_within
-name_more name count i text next p h e r b = let k : count - i ≡ suc (count - (i + 1)) = omega arith in rw (k, e, ← r, b) refl
-
-pub ruleset name_steps = (name_start, name_end, name_none, name_found, name_more)
-
-pub register_start : (name : List ℕ) (count : ℕ) (text : List ℕ) → register_within (count - 0) name text ≡ register_within count name text
-register_start name count text = let k : count - 0 ≡ count = omega arith in rw k refl
-
-pub register_end : (name : List ℕ) (count i : ℕ) (text : List ℕ) → count ≤ i → register_within (count - i) name text ≡ false
-unfolding register_within
-register_end name count i text h = let k : count - i ≡ 0 = omega arith in rw k refl
-
-pub register_none : (name : List ℕ) (count i : ℕ) (text : List ℕ) → i < count → (length text == 0) ≡ true → register_within (count - i) name text ≡ false
-unfolding register_within
-register_none name count i text h e = let k : count - i ≡ suc (count - (i + 1)) = omega arith in rw (k, e) refl
-
-pub register_found : (name : List ℕ) (count i : ℕ) (text next : List ℕ) → i < count → (length text == 0) ≡ false → next ≡ basic_after_operand text
-    → is_register_in name (bytes_before text next) ≡ true → register_within (count - i) name text ≡ true
-unfolding register_within
-register_found name count i text next h e r b = let k : count - i ≡ suc (count - (i + 1)) = omega arith in rw (k, e, ← r, b) refl
-
-pub register_more : (name : List ℕ) (count i : ℕ) (text next : List ℕ) → i < count → (length text == 0) ≡ false → next ≡ basic_after_operand text
-    → is_register_in name (bytes_before text next) ≡ false → register_within (count - i) name text ≡ register_within (count - (i + 1)) name next
-unfolding register_within
-register_more name count i text next h e r b = let k : count - i ≡ suc (count - (i + 1)) = omega arith in rw (k, e, ← r, b) refl
-
-pub ruleset register_steps = (register_start, register_end, register_none, register_found, register_more)
 
 pub end_start : (inside : Bool) (count : ℕ) (text : List ℕ) → end_within (count - 0) inside text ≡ end_within count inside text
 end_start inside count text = let k : count - 0 ≡ count = omega arith in rw k refl

@@ -90,5 +90,5 @@ basic_command_text all text = remark_or all text (after_keyword (codes "REM") te
 -- a statement outside the assembler, behind `[` (91) one of the assembler
 abbrev pub basic_text : List BasicStatement → List ℕ → List ℕ
 basic_text all [] = []
-basic_text all (c ∷ rest) = if c == 91 then assembler_text (after_blanks rest)
+basic_text all (c ∷ rest) = if c == 91 then assembler_text all (after_blanks rest)
     else basic_command_text all (c ∷ rest)

@@ -4,6 +4,7 @@ use Rattle.assembler_names.specs.Words.{after_word, word}
 use Rattle.source_words.specs.Words.{after_blanks}
 use Rattle.basic_source.specs.Data.{basic_data_text, basic_data_work}
 use Rattle.basic_source.specs.Operands.{has_register, basic_operands_text}
+use Rattle.basic_source.specs.Statements.{BasicStatement}
 use Rattle.basic_pieces.specs.Words.{after_keyword, basic_name}
 use Rattle.basic_source.specs.declared.data.BasicData.{BasicData}
 
@@ -15,26 +16,26 @@ basic_instruction_text text =
 abbrev pub is_option : List ℕ → Bool
 is_option text = length text == 0 || is_some (after_keyword (codes "OPT") text)
 
-abbrev pub data_or_instruction : List ℕ → Option (BasicData × List ℕ) → List ℕ
-data_or_instruction text (Some d) = basic_data_text d.0 d.1
-data_or_instruction text None = basic_instruction_text text
+abbrev pub data_or_instruction : List BasicStatement → List ℕ → Option (BasicData × List ℕ) → List ℕ
+data_or_instruction all text (Some d) = basic_data_text all d.0 d.1
+data_or_instruction all text None = basic_instruction_text text
 
-abbrev pub basic_work_text : List ℕ → List ℕ
-basic_work_text text = if is_option text then [] else data_or_instruction text (basic_data_work text)
+abbrev pub basic_work_text : List BasicStatement → List ℕ → List ℕ
+basic_work_text all text = if is_option text then [] else data_or_instruction all text (basic_data_work text)
 
-abbrev pub label_and_work : List ℕ → Option (List ℕ × List ℕ) → List ℕ
-label_and_work text (Some n) = (codes "|" ++ (n.0 ++ codes "|")) ++ basic_work_text (after_blanks n.1)
-label_and_work text None = codes " ." ++ text
+abbrev pub label_and_work : List BasicStatement → List ℕ → Option (List ℕ × List ℕ) → List ℕ
+label_and_work all text (Some n) = (codes "|" ++ (n.0 ++ codes "|")) ++ basic_work_text all (after_blanks n.1)
+label_and_work all text None = codes " ." ++ text
 
 -- what follows the dot before a label
-abbrev pub labelled_text : List ℕ → List ℕ
-labelled_text text = label_and_work text (basic_name text)
+abbrev pub labelled_text : List BasicStatement → List ℕ → List ℕ
+labelled_text all text = label_and_work all text (basic_name text)
 
 -- `]` is 93, the dot 46
-abbrev pub assembler_text : List ℕ → List ℕ
-assembler_text [] = basic_work_text []
-assembler_text (c ∷ rest) = if c == 93 then [] else (
-    if c == 46 then labelled_text rest else basic_work_text (c ∷ rest))
+abbrev pub assembler_text : List BasicStatement → List ℕ → List ℕ
+assembler_text all [] = basic_work_text all []
+assembler_text all (c ∷ rest) = if c == 93 then [] else (
+    if c == 46 then labelled_text all rest else basic_work_text all (c ∷ rest))
 
 abbrev pub after_name_or : List ℕ → Option (List ℕ × List ℕ) → List ℕ
 after_name_or text (Some n) = after_blanks n.1

@@ -3,9 +3,11 @@ pub use Rattle.basic_pieces
 pub mod Expressions
 pub mod Operands
 pub mod Instructions
-pub mod Repeats
+pub mod StringVariables
 pub mod Data
 pub mod Assignments
 pub mod Statements
-pub mod Listing
+pub mod NameSets
 pub mod Wanted
+pub mod ListingNames
+pub mod Listing

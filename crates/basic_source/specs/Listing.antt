@@ -13,7 +13,7 @@ abbrev pub basic_comment_text : List ℕ → List ℕ
 basic_comment_text text = if length text == 0 then [] else codes " ;" ++ text
 
 abbrev pub plain_statement : List BasicStatement → BasicStatement → List ℕ
-plain_statement all s = if s.is_assembler then assembler_text (after_blanks s.text)
+plain_statement all s = if s.is_assembler then assembler_text all (after_blanks s.text)
     else basic_text all (after_blanks s.text)
 
 -- the line for a statement

@@ -1,56 +1,55 @@
 //! Statements outside the assembler: variables and conditions; what is BASIC's own is left out.
 
-ghost use Rattle.std.specs.Prelude.{◌≡◌, map, option_map};
-ghost use Rattle.std.specs.List.{list_any};
+ghost use Rattle.std.specs.Prelude.{◌≡◌, option_map};
 ghost use Rattle.profile.specs.Output.{Writes};
-ghost use Rattle.basic_source.specs.Assignments.{assigned_text, assignment_text, basic_text, basic_command_text, basic_condition_text, is_register, meaning_word, other_command, room_place_text, room_name, statement_uses, up_to_then, wanted_text};
-ghost use Rattle.basic_source.specs.Statements.{basic_statement_of};
+ghost use Rattle.basic_source.specs.Assignments.{assigned_text, assignment_text, basic_text, basic_command_text, basic_condition_text, meaning_word, other_command, room_place_text, room_name, up_to_then, wanted_text};
 
 use crate::expressions::{ends_after, push_expression};
-use crate::instructions::{push_assembler, uses_register};
-use crate::statements::{Statement, opens_assembler};
-use crate::wanted::{assignment_at, is_needed};
+use crate::instructions::push_assembler;
+use crate::named_listing::Listing;
+use crate::statements::opens_assembler;
+use crate::wanted::assignment_at;
 use assembler_names::words::{is_name, word};
 use basic_pieces::words::{after_keyword, basic_name, is_text_name};
 use profile::{Sink, WriteFault, push_all, push_parts};
 use source_mnemonics::spellings::front;
 use source_words::words::{after_blanks, symbol};
 
-/// Writes a statement outside the assembler, of a listing with these statements.
-pub fn push_basic<W: Sink>(all: &[Statement], text: &[u8], sink: &mut W) -> Result<(), WriteFault>
+/// Writes a statement outside the assembler, of a listing.
+pub fn push_basic<W: Sink>(listing: &Listing, text: &[u8], sink: &mut W) -> Result<(), WriteFault>
     ensures { Writes W.contents W.has_failed sink.old sink.new result
-        (basic_text (map basic_statement_of all.now) text.now) }
+        (basic_text listing.now text.now) }
 {
     match text {
         [] => Ok(()),
-        [b'[', rest @ ..] => push_assembler(after_blanks(rest), sink),
-        _ => push_command(all, text, sink),
+        [b'[', rest @ ..] => push_assembler(listing, after_blanks(rest), sink),
+        _ => push_command(listing, text, sink),
     }
 }
 
-fn push_command<W: Sink>(all: &[Statement], text: &[u8], sink: &mut W) -> Result<(), WriteFault>
+fn push_command<W: Sink>(listing: &Listing, text: &[u8], sink: &mut W) -> Result<(), WriteFault>
     ensures { Writes W.contents W.has_failed sink.old sink.new result
-        (basic_command_text (map basic_statement_of all.now) text.now) }
+        (basic_command_text listing.now text.now) }
 {
     if let Some(rest) = after_keyword(b"REM", text) {
         push_parts(sink, &[b" ;".as_slice(), rest])
     } else if let Some(rest) = after_keyword(b"IF", text) {
         push_condition(rest, sink)
     } else if let Some(rest) = after_keyword(b"P%", text) {
-        push_place(all, rest, sink)
+        push_place(listing, rest, sink)
     } else {
-        push_other(all, text, sink)
+        push_other(listing, text, sink)
     }
 }
 
-fn push_other<W: Sink>(all: &[Statement], text: &[u8], sink: &mut W) -> Result<(), WriteFault>
+fn push_other<W: Sink>(listing: &Listing, text: &[u8], sink: &mut W) -> Result<(), WriteFault>
     ensures { Writes W.contents W.has_failed sink.old sink.new result
-        (other_command (map basic_statement_of all.now) text.now) }
+        (other_command listing.now text.now) }
 {
     if is_name(word(text), b"ELSE") || is_name(word(text), b"ENDIF") {
         push_parts(sink, &[b" ".as_slice(), word(text)])
     } else {
-        push_assignment(all, text, sink)
+        push_assignment(listing, text, sink)
     }
 }
 
@@ -77,12 +76,12 @@ fn up_to_then(text: &[u8]) -> &[u8]
 
 // What follows `P%`: the name of the room where the assembler is stands for the place.
 #[tactic(auto, unfolding(crate::specs::Assignments::room_place_text))]
-fn push_place<W: Sink>(all: &[Statement], text: &[u8], sink: &mut W) -> Result<(), WriteFault>
+fn push_place<W: Sink>(listing: &Listing, text: &[u8], sink: &mut W) -> Result<(), WriteFault>
     ensures { Writes W.contents W.has_failed sink.old sink.new result
-        (room_place_text (map basic_statement_of all.now) text.now) }
+        (room_place_text listing.now text.now) }
 {
     match room_name(text) {
-        Some(name) if is_needed(all, name) => {
+        Some(name) if listing.needs(name) => {
             push_parts(sink, &[b"|".as_slice(), name, b"| EQU .".as_slice()])
         }
         _ => Ok(()),
@@ -99,27 +98,27 @@ fn room_name(text: &[u8]) -> Option<&[u8]>
     ends_after(name, rest)
 }
 
-fn push_assignment<W: Sink>(all: &[Statement], text: &[u8], sink: &mut W) -> Result<(), WriteFault>
+fn push_assignment<W: Sink>(listing: &Listing, text: &[u8], sink: &mut W) -> Result<(), WriteFault>
     ensures { Writes W.contents W.has_failed sink.old sink.new result
-        (assignment_text (map basic_statement_of all.now) text.now) }
+        (assignment_text listing.now text.now) }
 {
     match assignment_at(text) {
-        Some((name, value)) => push_wanted(all, name, value, sink),
+        Some((name, value)) => push_wanted(listing, name, value, sink),
         None => Ok(()),
     }
 }
 
 fn push_wanted<W: Sink>(
-    all: &[Statement],
+    listing: &Listing,
     name: &[u8],
     value: &[u8],
     sink: &mut W,
 ) -> Result<(), WriteFault>
     ensures { Writes W.contents W.has_failed sink.old sink.new result
-        (wanted_text (map basic_statement_of all.now) name.now value.now) }
+        (wanted_text listing.now name.now value.now) }
 {
-    if is_needed(all, name) && !is_text_name(name) {
-        push_assigned(all, name, value, sink)
+    if listing.needs(name) && !is_text_name(name) {
+        push_assigned(listing, name, value, sink)
     } else {
         Ok(())
     }
@@ -127,16 +126,16 @@ fn push_wanted<W: Sink>(
 
 // A name is a register's where the assembler has it as one.
 fn push_assigned<W: Sink>(
-    all: &[Statement],
+    listing: &Listing,
     name: &[u8],
     value: &[u8],
     sink: &mut W,
 ) -> Result<(), WriteFault>
     ensures { Writes W.contents W.has_failed sink.old sink.new result
-        (assigned_text (map basic_statement_of all.now) name.now value.now) }
+        (assigned_text listing.now name.now value.now) }
 {
     push_parts(sink, &[b"|".as_slice(), name, b"|".as_slice()])?;
-    push_all(sink, meaning_word(is_register(all, name)))?;
+    push_all(sink, meaning_word(listing.has_register(name)))?;
     push_expression(after_blanks(value), sink)
 }
 
@@ -144,22 +143,4 @@ fn meaning_word(is_register: bool) -> &'static [u8]
     ensures { result.now ≡ meaning_word is_register }
 {
     if is_register { b" RN " } else { b" EQU " }
-}
-
-fn is_register(all: &[Statement], name: &[u8]) -> bool
-    ensures { result ≡ is_register (map basic_statement_of all.now) name.now }
-{
-    any_uses(all, name)
-}
-
-fn any_uses(all: &[Statement], name: &[u8]) -> bool
-    ensures { result ≡ list_any (λ s. statement_uses name.now (basic_statement_of s)) all.now }
-{
-    all.iter().any(|statement| statement_uses(name, *statement))
-}
-
-fn statement_uses(name: &[u8], statement: Statement) -> bool
-    ensures { result ≡ statement_uses name.now (basic_statement_of statement.entry) }
-{
-    statement.is_assembler && uses_register(name, after_blanks(statement.text))
 }

@@ -5,14 +5,13 @@ ghost use Rattle.profile.specs.Output.{Writes};
 ghost use Rattle.assembler_names.specs.Words.{read_of};
 ghost use Rattle.source_words.specs.Words.{after_blanks};
 ghost use Rattle.basic_source.specs.Expressions.{expression_text};
-ghost use Rattle.basic_source.specs.Data.{after_front_of_texts, basic_byte_text, basic_data_text, basic_data_work, front_of_texts, half_text, named_data, named_data_and_rest, second_byte_text, text_piece, basic_texts_of};
+ghost use Rattle.basic_source.specs.Data.{basic_byte_text, basic_data_text, basic_data_work, half_text, named_data, named_data_and_rest, second_byte_text};
 
 use crate::expressions::push_expression;
-use crate::repeats::{push_repeats, repeat_at};
+use crate::named_listing::Listing;
+use crate::string_variables::push_strings;
 use assembler_names::words::{Read, after_word, is_name, word};
-use basic_pieces::pieces::{BasicPiece, basic_piece_at, push_piece};
 use profile::{Sink, WriteFault, push_all};
-use source_layout::lines::bytes_before;
 use source_words::words::after_blanks;
 
 /// What a statement of data lays down.
@@ -60,8 +59,14 @@ fn named_data(name: &[u8]) -> Option<BasicData>
 }
 
 /// Writes a statement of data.
-pub fn push_data<W: Sink>(kind: BasicData, text: &[u8], sink: &mut W) -> Result<(), WriteFault>
-    ensures { Writes W.contents W.has_failed sink.old sink.new result (basic_data_text kind text.now) }
+pub fn push_data<W: Sink>(
+    listing: &Listing,
+    kind: BasicData,
+    text: &[u8],
+    sink: &mut W,
+) -> Result<(), WriteFault>
+    ensures { Writes W.contents W.has_failed sink.old sink.new result
+        (basic_data_text listing.now kind text.now) }
 {
     match kind {
         BasicData::Byte => push_byte(text, sink),
@@ -72,7 +77,7 @@ pub fn push_data<W: Sink>(kind: BasicData, text: &[u8], sink: &mut W) -> Result<
         }
         BasicData::Text => {
             push_all(sink, b" DCB ")?;
-            push_texts(after_blanks(text), sink)
+            push_strings(listing, after_blanks(text), sink)
         }
     }
 }
@@ -113,55 +118,4 @@ fn push_between<W: Sink>(
     push_all(sink, before)?;
     push_expression(after_blanks(text), sink)?;
     push_all(sink, after)
-}
-
-#[tactic(auto, using(crate::proofs::Writings::text_steps))]
-fn push_texts<W: Sink>(text: &[u8], sink: &mut W) -> Result<(), WriteFault>
-    ensures { Writes W.contents W.has_failed sink.old sink.new result (basic_texts_of text.now) }
-{
-    let mut rest = text;
-    for _pieces in 0..text.len() {
-        if rest.is_empty() {
-            return Ok(());
-        }
-        push_front_of_texts(rest, sink)?;
-        rest = after_front_of_texts(rest);
-    }
-    Ok(())
-}
-
-// STRING$, or a piece.
-fn push_front_of_texts<W: Sink>(text: &[u8], sink: &mut W) -> Result<(), WriteFault>
-    ensures { Writes W.contents W.has_failed sink.old sink.new result (front_of_texts text.now) }
-{
-    match repeat_at(text) {
-        Some((count, item, _)) => push_repeats(count, item, sink),
-        None => {
-            let (piece, next) = basic_piece_at(text);
-            push_text_piece(piece, bytes_before(text, next), sink)
-        }
-    }
-}
-
-// What follows that.
-fn after_front_of_texts(text: &[u8]) -> &[u8]
-    ensures { result.now ≡ after_front_of_texts text.now }
-{
-    match repeat_at(text) {
-        Some((_, _, rest)) => rest,
-        None => basic_piece_at(text).1,
-    }
-}
-
-// A piece of a text: what `+` joins are items, and a character that has a number is the number.
-fn push_text_piece<W: Sink>(piece: BasicPiece, bytes: &[u8], sink: &mut W) -> Result<(), WriteFault>
-    ensures { Writes W.contents W.has_failed sink.old sink.new result (text_piece piece bytes.now) }
-{
-    if bytes == b"+".as_slice() {
-        push_all(sink, b",")
-    } else if bytes == b"CHR$".as_slice() {
-        Ok(())
-    } else {
-        push_piece(false, piece, bytes, sink)
-    }
 }

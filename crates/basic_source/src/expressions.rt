@@ -2,10 +2,10 @@
 
 ghost use Rattle.std.specs.Prelude.{◌≡◌, option_map};
 ghost use Rattle.profile.specs.Output.{Writes};
-ghost use Rattle.basic_source.specs.Expressions.{ends_after, expression_text, has_loose, basic_has_name, is_that_name, basic_operand_text, parenthesised_name, pieces_of};
+ghost use Rattle.basic_source.specs.Expressions.{ends_after, expression_text, has_loose, basic_operand_text, parenthesised_name, pieces_of};
 
 use assembler_names::words::byte;
-use basic_pieces::pieces::{BasicPiece, basic_piece_at, is_loose, push_name, push_piece};
+use basic_pieces::pieces::{basic_piece_at, is_loose, push_name, push_piece};
 use basic_pieces::words::basic_name;
 use profile::{Sink, WriteFault, push_all};
 use source_layout::lines::bytes_before;
@@ -87,32 +87,4 @@ fn push_pieces<W: Sink>(has_loose: bool, text: &[u8], sink: &mut W) -> Result<()
         rest = next;
     }
     Ok(())
-}
-
-/// Whether a name stands in an expression.
-#[tactic(auto, using(crate::proofs::Scans::name_steps), unfolding(crate::specs::Expressions::basic_has_name))]
-pub fn basic_has_name(name: &[u8], text: &[u8]) -> bool
-    ensures { result ≡ basic_has_name name.now text.now }
-{
-    let mut rest = text;
-    for _pieces in 0..text.len() {
-        if rest.is_empty() {
-            return false;
-        }
-        let (piece, next) = basic_piece_at(rest);
-        if is_that_name(name, piece, bytes_before(rest, next)) {
-            return true;
-        }
-        rest = next;
-    }
-    false
-}
-
-fn is_that_name(name: &[u8], piece: BasicPiece, bytes: &[u8]) -> bool
-    ensures { result ≡ is_that_name name.now piece bytes.now }
-{
-    match piece {
-        BasicPiece::Name => bytes == name,
-        _ => false,
-    }
 }

@@ -1,48 +1,59 @@
 //! Statements of the assembler.
 
-ghost use Rattle.std.specs.Prelude.{◌≡◌};
+ghost use Rattle.std.specs.Prelude.{◌≡◌, OnOk};
 ghost use Rattle.profile.specs.Output.{Writes};
 ghost use Rattle.basic_source.specs.Instructions.{assembler_text, body_uses, basic_instruction_text, is_jump, is_option, labelled_text, uses_register, without_label, basic_work_text};
+ghost use Rattle.basic_source.specs.NameSets.{GainsNames};
 
 use crate::data::{basic_data_work, push_data};
-use crate::operands::{has_register, push_operands};
+use crate::name_sets::NameSet;
+use crate::named_listing::Listing;
+use crate::operands::push_operands;
 use assembler_names::words::{after_word, word};
 use basic_pieces::words::{after_keyword, basic_name};
 use profile::{Sink, WriteFault, push_parts};
 use source_words::words::after_blanks;
+use std::alloc::AllocError;
 
 /// Writes a statement of the assembler; `]` is none.
-pub fn push_assembler<W: Sink>(text: &[u8], sink: &mut W) -> Result<(), WriteFault>
-    ensures { Writes W.contents W.has_failed sink.old sink.new result (assembler_text text.now) }
+pub fn push_assembler<W: Sink>(
+    listing: &Listing,
+    text: &[u8],
+    sink: &mut W,
+) -> Result<(), WriteFault>
+    ensures { Writes W.contents W.has_failed sink.old sink.new result
+        (assembler_text listing.now text.now) }
 {
     match text {
         [b']', ..] => Ok(()),
-        [b'.', rest @ ..] => push_labelled(rest, sink),
-        _ => push_work(text, sink),
+        [b'.', rest @ ..] => push_labelled(listing, rest, sink),
+        _ => push_work(listing, text, sink),
     }
 }
 
 // What follows the dot before a label.
-fn push_labelled<W: Sink>(text: &[u8], sink: &mut W) -> Result<(), WriteFault>
-    ensures { Writes W.contents W.has_failed sink.old sink.new result (labelled_text text.now) }
+fn push_labelled<W: Sink>(listing: &Listing, text: &[u8], sink: &mut W) -> Result<(), WriteFault>
+    ensures { Writes W.contents W.has_failed sink.old sink.new result
+        (labelled_text listing.now text.now) }
 {
     match basic_name(text) {
         Some((name, rest)) => {
             push_parts(sink, &[b"|".as_slice(), name, b"|".as_slice()])?;
-            push_work(after_blanks(rest), sink)
+            push_work(listing, after_blanks(rest), sink)
         }
         None => push_parts(sink, &[b" .".as_slice(), text]),
     }
 }
 
-fn push_work<W: Sink>(text: &[u8], sink: &mut W) -> Result<(), WriteFault>
-    ensures { Writes W.contents W.has_failed sink.old sink.new result (basic_work_text text.now) }
+fn push_work<W: Sink>(listing: &Listing, text: &[u8], sink: &mut W) -> Result<(), WriteFault>
+    ensures { Writes W.contents W.has_failed sink.old sink.new result
+        (basic_work_text listing.now text.now) }
 {
     if is_option(text) {
         return Ok(());
     }
     match basic_data_work(text) {
-        Some((data, operand)) => push_data(data, operand, sink),
+        Some((data, operand)) => push_data(listing, data, operand, sink),
         None => push_instruction(text, sink),
     }
 }
@@ -61,11 +72,15 @@ fn push_instruction<W: Sink>(text: &[u8], sink: &mut W) -> Result<(), WriteFault
     push_operands(after_blanks(after_word(text)), sink)
 }
 
-/// Whether a statement of the assembler has a name as a register.
-pub fn uses_register(name: &[u8], text: &[u8]) -> bool
-    ensures { result ≡ uses_register name.now text.now }
+/// Puts the names that a statement of the assembler has as registers.
+///
+/// # Errors
+///
+/// There is no memory left.
+pub fn put_used<'a>(text: &'a [u8], names: &mut NameSet<'a>) -> Result<(), AllocError>
+    ensures { OnOk result (GainsNames names.old names.new (λ name. uses_register name text.now)) }
 {
-    body_uses(name, without_label(text))
+    put_used_in_body(without_label(text), names)
 }
 
 fn without_label(text: &[u8]) -> &[u8]
@@ -80,13 +95,14 @@ fn without_label(text: &[u8]) -> &[u8]
     }
 }
 
-fn body_uses(name: &[u8], text: &[u8]) -> bool
-    ensures { result ≡ body_uses name.now text.now }
+fn put_used_in_body<'a>(text: &'a [u8], names: &mut NameSet<'a>) -> Result<(), AllocError>
+    ensures { OnOk result (GainsNames names.old names.new (λ name. body_uses name text.now)) }
 {
-    !is_option(text)
-        && basic_data_work(text).is_none()
-        && !is_jump(text)
-        && has_register(name, after_word(text))
+    if is_option(text) || basic_data_work(text).is_some() || is_jump(text) {
+        Ok(())
+    } else {
+        names.put_registers(after_word(text))
+    }
 }
 
 // A branch or SWI, whose operand is a number or a label: B, but not BIC, and SW.

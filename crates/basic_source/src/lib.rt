@@ -7,9 +7,12 @@ pub mod data;
 pub mod expressions;
 pub mod instructions;
 pub mod listing;
+pub mod mentions;
+pub mod name_sets;
+pub mod named_listing;
 pub mod operands;
-pub mod repeats;
 pub mod statements;
+pub mod string_variables;
 pub mod wanted;
 
 pub use listing::listing_source;

@@ -1,13 +1,14 @@
 //! A listing as a source for ObjAsm: a line for each statement.
 
-ghost use Rattle.std.specs.Prelude.{◌≡◌, map, IfOk, OnOk};
+ghost use Rattle.std.specs.Prelude.{◌≡◌, IfOk, OnOk};
 ghost use Rattle.profile.specs.Output.{Writes};
 ghost use Rattle.basic_source.specs.Listing.{basic_comment_text, listing_source, plain_statement, statement_line, with_statement_line, with_statements};
 ghost use Rattle.basic_source.specs.Statements.{basic_statement_of};
 
 use crate::assignments::push_basic;
 use crate::instructions::push_assembler;
-use crate::statements::{Statement, read_statements};
+use crate::named_listing::Listing;
+use crate::statements::Statement;
 use profile::{Sink, WriteFault, push_parts};
 use source_files::{JoinedSource, LineOrigin, push_file};
 use source_words::words::after_blanks;
@@ -29,37 +30,38 @@ pub fn listing_source(
 ) -> Result<JoinedSource, AllocError>
     ensures { IfOk result (λ joined. joined ≡ listing_source files bound.now text.now) }
 {
-    let statements = read_statements(alloc, text)?;
+    let listing = Listing::read(alloc, text)?;
     let mut joined = JoinedSource::new(alloc);
     push_file(&mut joined, files, bound)?;
-    push_statements(alloc, statements.all(), &mut joined)?;
+    push_statements(alloc, &listing, &mut joined)?;
     Ok(joined)
 }
 
 fn push_statements(
     alloc: Global,
-    all: &[Statement],
+    listing: &Listing,
     joined: &mut JoinedSource,
 ) -> Result<(), AllocError>
-    ensures { OnOk result (joined.new ≡ with_statements (map basic_statement_of all.now) joined.old) }
+    ensures { OnOk result (joined.new ≡ with_statements listing.now joined.old) }
 {
+    let all = listing.statements();
     for statement in all {
-        push_statement(alloc, all, *statement, joined)?;
+        push_statement(alloc, listing, *statement, joined)?;
     }
     Ok(())
 }
 
 fn push_statement(
     alloc: Global,
-    all: &[Statement],
+    listing: &Listing,
     statement: Statement,
     joined: &mut JoinedSource,
 ) -> Result<(), AllocError>
     ensures { OnOk result (joined.new
-        ≡ with_statement_line (map basic_statement_of all.now) joined.old
+        ≡ with_statement_line listing.now joined.old
         (basic_statement_of statement.entry)) }
 {
-    let line = statement_line(alloc, all, statement)?;
+    let line = statement_line(alloc, listing, statement)?;
     joined.push(
         LineOrigin {
             file: 0,
@@ -71,44 +73,44 @@ fn push_statement(
 
 fn statement_line(
     alloc: Global,
-    all: &[Statement],
+    listing: &Listing,
     statement: Statement,
 ) -> Result<Vec<u8>, AllocError>
     ensures { IfOk result (λ line. line.items
-        ≡ statement_line (map basic_statement_of all.now) (basic_statement_of statement.entry)) }
+        ≡ statement_line listing.now (basic_statement_of statement.entry)) }
 {
     let mut sink = TextSink::new(alloc);
-    match push_statement_line(all, statement, &mut sink) {
+    match push_statement_line(listing, statement, &mut sink) {
         Ok(()) => Ok(sink.into_bytes()),
         Err(_) => Err(AllocError),
     }
 }
 
 fn push_statement_line<W: Sink>(
-    all: &[Statement],
+    listing: &Listing,
     statement: Statement,
     sink: &mut W,
 ) -> Result<(), WriteFault>
     ensures { Writes W.contents W.has_failed sink.old sink.new result
-        (statement_line (map basic_statement_of all.now) (basic_statement_of statement.entry)) }
+        (statement_line listing.now (basic_statement_of statement.entry)) }
 {
-    push_plain_statement(all, statement, sink)?;
+    push_plain_statement(listing, statement, sink)?;
     push_comment(statement.comment, sink)
 }
 
 fn push_plain_statement<W: Sink>(
-    all: &[Statement],
+    listing: &Listing,
     statement: Statement,
     sink: &mut W,
 ) -> Result<(), WriteFault>
     ensures { Writes W.contents W.has_failed sink.old sink.new result
-        (plain_statement (map basic_statement_of all.now) (basic_statement_of statement.entry)) }
+        (plain_statement listing.now (basic_statement_of statement.entry)) }
 {
     let text = after_blanks(statement.text);
     if statement.is_assembler {
-        push_assembler(text, sink)
+        push_assembler(listing, text, sink)
     } else {
-        push_basic(all, text, sink)
+        push_basic(listing, text, sink)
     }
 }
 

@@ -1,11 +1,11 @@
-//! The operands of an instruction, and which names are registers in them.
+//! The operands of an instruction.
 
 ghost use Rattle.std.specs.Prelude.{◌≡◌, ◌≤◌, length, not};
 ghost use Rattle.std.specs.List.{prefix_len};
 ghost use Rattle.profile.specs.Output.{Writes};
-ghost use Rattle.basic_source.specs.Operands.{basic_after_operand, behind_separator, has_register, is_register_in, is_separator, basic_operands_text, run_text};
+ghost use Rattle.basic_source.specs.Operands.{basic_after_operand, behind_separator, is_separator, basic_operands_text, run_text};
 
-use crate::expressions::{basic_has_name, push_operand};
+use crate::expressions::push_operand;
 use profile::{Sink, WriteFault, push_all};
 use source_layout::lines::bytes_before;
 
@@ -39,9 +39,9 @@ fn push_run<W: Sink>(text: &[u8], sink: &mut W) -> Result<(), WriteFault>
     }
 }
 
-// What follows a separator at the front of a text, or all up to the next one.
+/// What follows a separator at the front of a text, or all up to the next one.
 #[tactic(auto, unfolding(crate::specs::Operands::basic_after_operand))]
-fn basic_after_operand(text: &[u8]) -> &[u8]
+pub fn basic_after_operand(text: &[u8]) -> &[u8]
     ensures { result.now ≡ basic_after_operand text.now }
 {
     match text {
@@ -69,32 +69,4 @@ fn is_separator(c: u8) -> bool
     ensures { result ≡ is_separator c }
 {
     matches!(c, b',' | b'[' | b']' | b'{' | b'}' | b'!' | b'^' | b'#')
-}
-
-/// Whether a name is a register in operands: it stands in one that isn't behind `#`.
-#[tactic(auto, using(crate::proofs::Scans::register_steps), unfolding(crate::specs::Operands::has_register))]
-pub fn has_register(name: &[u8], text: &[u8]) -> bool
-    ensures { result ≡ has_register name.now text.now }
-{
-    let mut rest = text;
-    for _operands in 0..text.len() {
-        if rest.is_empty() {
-            return false;
-        }
-        let next = basic_after_operand(rest);
-        if is_register_in(name, bytes_before(rest, next)) {
-            return true;
-        }
-        rest = next;
-    }
-    false
-}
-
-fn is_register_in(name: &[u8], text: &[u8]) -> bool
-    ensures { result ≡ is_register_in name.now text.now }
-{
-    match text {
-        [b'#', ..] => false,
-        _ => basic_has_name(name, text),
-    }
 }

@@ -78,10 +78,10 @@ impl<'a> Statements<'a> {
     }
 
     /// All of them.
-    pub fn all(&self) -> &[Statement<'a>]
-        ensures { map basic_statement_of result.now ≡ self.now.statements }
+    pub fn into_statements(self) -> Vec<Statement<'a>>
+        ensures { map basic_statement_of result.items ≡ self.entry.statements }
     {
-        &self.statements
+        self.statements
     }
 
     // With those of one more line.

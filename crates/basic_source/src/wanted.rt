@@ -1,64 +1,88 @@
 //! Which variables of a listing are names for numbers or registers, and which are BASIC's own.
 
-ghost use Rattle.std.specs.Prelude.{◌≡◌, map, option_map};
-ghost use Rattle.std.specs.List.{list_any};
+ghost use Rattle.std.specs.Prelude.{◌≡◌, map, option_map, IfOk, OnOk};
+ghost use Rattle.basic_source.specs.Assignments.{is_register, statement_uses};
+ghost use Rattle.basic_source.specs.NameSets.{AreNamesThat, GainsNames};
 ghost use Rattle.basic_source.specs.Statements.{basic_statement_of};
-ghost use Rattle.basic_source.specs.Wanted.{assignment_at, condition_has, is_mentioned, is_needed, assembler_mentions, outside_wants, statement_wants, value_has};
+ghost use Rattle.basic_source.specs.Wanted.{assignment_at, condition_has, is_needed, outside_wants, statement_wants, value_has};
 
-use crate::expressions::basic_has_name;
+use crate::instructions::put_used;
+use crate::mentions::Mentions;
+use crate::name_sets::NameSet;
 use crate::statements::Statement;
 use basic_pieces::words::{after_keyword, basic_name};
 use source_words::words::{after_blanks, symbol};
+use std::alloc::{AllocError, Global};
 
-/// Whether a name stands in the assembler, in the value of one that does, or in a condition.
-pub fn is_needed(all: &[Statement], name: &[u8]) -> bool
-    ensures { result ≡ is_needed (map basic_statement_of all.now) name.now }
+/// The names that stand in the assembler, in the value of one that does, or in a condition.
+///
+/// # Errors
+///
+/// There is no memory left.
+pub fn needed_names<'a>(
+    alloc: Global,
+    mentions: &Mentions<'_, 'a>,
+) -> Result<NameSet<'a>, AllocError>
+    ensures { IfOk result (AreNamesThat (is_needed mentions.now)) }
 {
-    any_wants(all, name)
+    let mut names = NameSet::new(alloc);
+    let all = mentions.all();
+    for statement in all {
+        put_wanted(mentions, *statement, &mut names)?;
+    }
+    Ok(names)
 }
 
-fn any_wants(all: &[Statement], name: &[u8]) -> bool
-    ensures { result ≡ list_any (λ s. statement_wants (map basic_statement_of all.now) name.now
-        (basic_statement_of s)) all.now }
-{
-    all.iter()
-        .any(|statement| statement_wants(all, name, *statement))
-}
-
-fn statement_wants(all: &[Statement], name: &[u8], statement: Statement) -> bool
-    ensures { result ≡ statement_wants (map basic_statement_of all.now) name.now
-        (basic_statement_of statement.entry) }
+fn put_wanted<'a>(
+    mentions: &Mentions<'_, 'a>,
+    statement: Statement<'a>,
+    names: &mut NameSet<'a>,
+) -> Result<(), AllocError>
+    ensures { OnOk result (GainsNames names.old names.new
+        (λ name. statement_wants mentions.now name (basic_statement_of statement.entry))) }
 {
     if statement.is_assembler {
-        basic_has_name(name, statement.text)
+        names.put_names(statement.text)
     } else {
-        outside_wants(all, name, after_blanks(statement.text))
+        put_outside(mentions, after_blanks(statement.text), names)
     }
 }
 
-fn outside_wants(all: &[Statement], name: &[u8], text: &[u8]) -> bool
-    ensures { result ≡ outside_wants (map basic_statement_of all.now) name.now text.now }
+fn put_outside<'a>(
+    mentions: &Mentions<'_, 'a>,
+    text: &'a [u8],
+    names: &mut NameSet<'a>,
+) -> Result<(), AllocError>
+    ensures { OnOk result (GainsNames names.old names.new
+        (λ name. outside_wants mentions.now name text.now)) }
 {
-    condition_has(name, after_keyword(b"IF", text)) || value_has(all, name, assignment_at(text))
+    put_condition(after_keyword(b"IF", text), names)?;
+    put_value(mentions, assignment_at(text), names)
 }
 
 // What follows IF, where THEN ends it.
-fn condition_has(name: &[u8], condition: Option<&[u8]>) -> bool
-    ensures { result ≡ condition_has name.now (option_map (λ c. c.now) condition.entry) }
+fn put_condition<'a>(condition: Option<&'a [u8]>, names: &mut NameSet<'a>) -> Result<(), AllocError>
+    ensures { OnOk result (GainsNames names.old names.new
+        (λ name. condition_has name (option_map (λ c. c.now) condition.entry))) }
 {
     match condition {
-        Some(text) => text.ends_with(b"THEN") && basic_has_name(name, text),
-        None => false,
+        Some(text) if text.ends_with(b"THEN") => names.put_names(text),
+        _ => Ok(()),
     }
 }
 
-fn value_has(all: &[Statement], name: &[u8], assignment: Option<(&[u8], &[u8])>) -> bool
-    ensures { result ≡ value_has (map basic_statement_of all.now) name.now
-        (option_map (λ a. (a.0.now, a.1.now)) assignment.entry) }
+fn put_value<'a>(
+    mentions: &Mentions<'_, 'a>,
+    assignment: Option<(&'a [u8], &'a [u8])>,
+    names: &mut NameSet<'a>,
+) -> Result<(), AllocError>
+    ensures { OnOk result (GainsNames names.old names.new
+        (λ name. value_has mentions.now name
+        (option_map (λ a. (a.0.now, a.1.now)) assignment.entry))) }
 {
     match assignment {
-        Some((target, value)) => basic_has_name(name, value) && is_mentioned(all, target),
-        None => false,
+        Some((target, value)) if mentions.has(target) => names.put_names(value),
+        _ => Ok(()),
     }
 }
 
@@ -71,21 +95,28 @@ pub fn assignment_at(text: &[u8]) -> Option<(&[u8], &[u8])>
     Some((name, value))
 }
 
-fn is_mentioned(all: &[Statement], name: &[u8]) -> bool
-    ensures { result ≡ is_mentioned (map basic_statement_of all.now) name.now }
+/// The names that the assembler has as registers.
+///
+/// # Errors
+///
+/// There is no memory left.
+pub fn register_names<'a>(alloc: Global, all: &[Statement<'a>]) -> Result<NameSet<'a>, AllocError>
+    ensures { IfOk result (AreNamesThat (is_register (map basic_statement_of all.now))) }
 {
-    any_mentions(all, name)
+    let mut names = NameSet::new(alloc);
+    for statement in all {
+        put_registers_of(*statement, &mut names)?;
+    }
+    Ok(names)
 }
 
-fn any_mentions(all: &[Statement], name: &[u8]) -> bool
-    ensures { result ≡ list_any (λ s. assembler_mentions name.now (basic_statement_of s)) all.now }
+fn put_registers_of<'a>(statement: Statement<'a>, names: &mut NameSet<'a>) -> Result<(), AllocError>
+    ensures { OnOk result (GainsNames names.old names.new
+        (λ name. statement_uses name (basic_statement_of statement.entry))) }
 {
-    all.iter()
-        .any(|statement| assembler_mentions(name, *statement))
-}
-
-fn assembler_mentions(name: &[u8], statement: Statement) -> bool
-    ensures { result ≡ assembler_mentions name.now (basic_statement_of statement.entry) }
-{
-    statement.is_assembler && basic_has_name(name, statement.text)
+    if statement.is_assembler {
+        put_used(after_blanks(statement.text), names)
+    } else {
+        Ok(())
+    }
 }

@@ -6,5 +6,4 @@ use Rattle.basic_source.proofs.listing.push_statements.Given as goal
 -- the statements that are left still get their lines
 abbrev pub invariant-loop-statement : goal.invariant-loop-statement
 invariant-loop-statement l =
-    with_statement_lines (map basic_statement_of l.all) l.joined (map basic_statement_of (drop l.statement-index l.all))
-    ≡ with_statements (map basic_statement_of l.all) l.fn.joined
+    with_statement_lines l.listing l.joined (map basic_statement_of (drop l.statement-index l.all)) ≡ with_statements l.listing l.fn.joined
