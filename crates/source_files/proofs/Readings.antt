@@ -1,6 +1,6 @@
 -- The loops that read the lines of files, and of a text once more.
-use Rattle.std.proofs.Common.{◌≡◌, ◌<◌, ◌≤◌, ℕ, zero, suc, ◌+◌, ◌-◌, true, false, List, [], ◌∷◌, refl, arith}
-use Rattle.source_files.specs.Getting.{is_end_line}
+use Rattle.std.proofs.Common.{◌≡◌, ◌<◌, ◌≤◌, ℕ, zero, suc, ◌+◌, ◌-◌, true, false, List, [], ◌∷◌, refl, sym, arith}
+use Rattle.source_files.specs.Getting.{is_end_line, is_link_line}
 use Rattle.source_files.specs.Joined.{JoinedText, origin_at, origin_of_line, with_joined_line}
 use Rattle.source_files.specs.Passes.{after_passes, line_or_file, lines_of_file, lines_passed, text_passed}
 use Rattle.source_files.specs.declared.joined.LineOrigin.{LineOrigin}
@@ -14,12 +14,18 @@ pub file_end : (file n : ℕ) (j : JoinedText) (line : List ℕ) (left rest : Li
 unfolding lines_of_file
 file_end file n j line left rest e ends = rw (e, ends) refl
 
-pub file_more : (file n m : ℕ) (j next : JoinedText) (line : List ℕ) (left rest : List (List ℕ)) → left ≡ line ∷ rest → m ≡ n + 1
-    → is_end_line line ≡ false → next ≡ with_joined_line j (origin_at file m) line → lines_of_file file n j left ≡ lines_of_file file m next rest
+pub file_link : (file n m : ℕ) (j next : JoinedText) (line : List ℕ) (left rest : List (List ℕ)) → left ≡ line ∷ rest → m ≡ n + 1
+    → is_end_line line ≡ false → is_link_line line ≡ true → next ≡ with_joined_line j (origin_at file m) line → lines_of_file file n j left ≡ next
 unfolding lines_of_file
-file_more file n m j next line left rest e k goes w = let one : suc n ≡ m = omega arith in rw (e, goes, one, ← w) refl
+file_link file n m j next line left rest e k goes links w = let one : suc n ≡ m = omega arith in rw (e, goes, links, one) (sym w)
 
-pub ruleset file_steps = (file_none, file_end, file_more)
+pub file_more : (file n m : ℕ) (j next : JoinedText) (line : List ℕ) (left rest : List (List ℕ)) → left ≡ line ∷ rest → m ≡ n + 1
+    → is_end_line line ≡ false → is_link_line line ≡ false → next ≡ with_joined_line j (origin_at file m) line
+    → lines_of_file file n j left ≡ lines_of_file file m next rest
+unfolding lines_of_file
+file_more file n m j next line left rest e k goes reads w = let one : suc n ≡ m = omega arith in rw (e, goes, reads, one, ← w) refl
+
+pub ruleset file_steps = (file_none, file_end, file_link, file_more)
 
 pub passed_none : (paths texts : List (List ℕ)) (os : List LineOrigin) (n : ℕ) (j : JoinedText) (left : List (List ℕ)) → left ≡ []
     → lines_passed paths texts os n j left ≡ j

@@ -1,5 +1,5 @@
--- GET and INCLUDE (ARM Assembler manual, "Directives"): the lines of another file stand there. The
--- file is one of those that the command line names, and is asked for by its name for RISC OS, whose
+-- GET, INCLUDE and LNK (ARM Assembler manual, "Directives"): the lines of another file stand there;
+-- what follows LNK isn't read. The file is one of those that the command line names, and is asked for by its name for RISC OS, whose
 -- parts end in `.` and `:`, or for the host.
 use Rattle.std.specs.Prelude.{ℕ, Bool, true, false, not, ◌==◌, ◌&&◌, ◌||◌, List, [], ◌∷◌, take, map, codes, Option, Some, None, if◌then◌else◌}
 use Rattle.std.specs.Borrow.{Bor}
@@ -19,6 +19,10 @@ operation_at (c ∷ rest) = if is_blank c then after_blanks (c ∷ rest) else []
 -- whether END stands on a line
 abbrev pub is_end_line : List ℕ → Bool
 is_end_line line = is_same_name (word (operation_at line)) (codes "END")
+
+-- whether LNK stands on a line
+abbrev pub is_link_line : List ℕ → Bool
+is_link_line line = is_same_name (word (operation_at line)) (codes "LNK")
 
 -- all but a space, a tab and what begins a comment
 abbrev pub is_in_operand : ℕ → Bool
@@ -55,7 +59,7 @@ file_wanted paths name = position (λ path. is_wanted path name) paths
 
 abbrev pub asks_for_file : List ℕ → Bool
 asks_for_file operation = is_same_name (word operation) (codes "GET")
-    || is_same_name (word operation) (codes "INCLUDE")
+    || (is_same_name (word operation) (codes "INCLUDE") || is_same_name (word operation) (codes "LNK"))
 
 -- the number of the file that a line asks for, if one of these has the name
 unfoldable pub file_got : List (List ℕ) → List ℕ → Option ℕ

@@ -2,7 +2,7 @@
 -- ask for; there are eight, so that files that ask for each other end.
 use Rattle.std.specs.Prelude.{ℕ, zero, suc, List, [], ◌∷◌, length, slice_get, Option, Some, None, if◌then◌else◌}
 use Rattle.std.specs.Str.Lines.{lines}
-use Rattle.source_files.specs.Getting.{file_got, is_end_line}
+use Rattle.source_files.specs.Getting.{file_got, is_end_line, is_link_line}
 use Rattle.source_files.specs.Joined.{JoinedText, no_lines, origin_at, origin_of_line, with_joined_line}
 use Rattle.source_files.specs.declared.joined.LineOrigin.{LineOrigin}
 
@@ -14,11 +14,12 @@ text_or_none None = []
 abbrev pub file_text : List (List ℕ) → ℕ → List ℕ
 file_text texts number = text_or_none (slice_get texts number)
 
--- with the lines of a file up to END, before which so many stood
+-- with the lines of a file up to END, or with a line LNK, before which so many stood
 unfoldable pub lines_of_file : ℕ → ℕ → JoinedText → List (List ℕ) → JoinedText
 lines_of_file file number j [] = j
-lines_of_file file number j (line ∷ rest) = if is_end_line line then j
-    else lines_of_file file (suc number) (with_joined_line j (origin_at file (suc number)) line) rest
+lines_of_file file number j (line ∷ rest) = if is_end_line line then j else (
+    if is_link_line line then with_joined_line j (origin_at file (suc number)) line else
+    lines_of_file file (suc number) (with_joined_line j (origin_at file (suc number)) line) rest)
 
 abbrev pub file_or_line : List (List ℕ) → LineOrigin → JoinedText → List ℕ → Option ℕ → JoinedText
 file_or_line texts o j line (Some file) = lines_of_file file 0 j (lines (file_text texts file))

@@ -1,8 +1,8 @@
-//! GET and INCLUDE: the file that a line names.
+//! GET, INCLUDE and LNK: the file that a line names.
 
 ghost use Rattle.std.specs.Prelude.{◌≡◌, ◌≤◌, length, option_map};
 ghost use Rattle.std.specs.List.{position, prefix_len};
-ghost use Rattle.source_files.specs.Getting.{ends_part, file_got, file_operand, file_wanted, is_end_line, is_in_operand, is_wanted, part_behind, operand_alone, operation_at, texts_of};
+ghost use Rattle.source_files.specs.Getting.{asks_for_file, ends_part, file_got, file_operand, file_wanted, is_end_line, is_in_operand, is_link_line, is_wanted, part_behind, operand_alone, operation_at, texts_of};
 
 use assembler_names::words::{after_word, is_name, word};
 use source_words::words::after_blanks;
@@ -12,6 +12,13 @@ pub(crate) fn is_end_line(line: &[u8]) -> bool
     ensures { result ≡ is_end_line line.now }
 {
     is_name(word(operation_at(line)), b"END")
+}
+
+/// Whether LNK stands on a line.
+pub(crate) fn is_link_line(line: &[u8]) -> bool
+    ensures { result ≡ is_link_line line.now }
+{
+    is_name(word(operation_at(line)), b"LNK")
 }
 
 /// What a line without a label asks for, and nothing of one with a label.
@@ -30,11 +37,18 @@ pub(crate) fn file_got(paths: &[&[u8]], line: &[u8]) -> Option<usize>
     ensures { result ≡ file_got (texts_of paths.now) line.now }
 {
     let operation = operation_at(line);
-    if is_name(word(operation), b"GET") || is_name(word(operation), b"INCLUDE") {
+    if asks_for_file(operation) {
         file_wanted(paths, file_operand(after_word(operation)))
     } else {
         None
     }
+}
+
+fn asks_for_file(operation: &[u8]) -> bool
+    ensures { result ≡ asks_for_file operation.now }
+{
+    let name = word(operation);
+    is_name(name, b"GET") || is_name(name, b"INCLUDE") || is_name(name, b"LNK")
 }
 
 // The name that is the operand, up to a space, a tab or a comment.

@@ -5,7 +5,7 @@ ghost use Rattle.std.specs.Str.Lines.{lines};
 ghost use Rattle.source_files.specs.Getting.{texts_of};
 ghost use Rattle.source_files.specs.Passes.{after_passes, file_text, joined_source, line_or_file, lines_of_file, lines_passed, text_passed};
 
-use crate::getting::{file_got, is_end_line};
+use crate::getting::{file_got, is_end_line, is_link_line};
 use crate::joined::{JoinedSource, LineOrigin, origin_of_line};
 use std::alloc::{AllocError, Global};
 use text_lines::Lines;
@@ -14,7 +14,7 @@ use text_lines::Lines;
 pub const MOST_DEPTH: usize = 8;
 
 /// The first of these files as one text with those that it asks for, behind the lines that bind
-/// names. Each is read up to END.
+/// names. Each is read up to END, or with a line LNK.
 ///
 /// # Errors
 ///
@@ -48,7 +48,7 @@ pub fn file_text<'a>(texts: &[&'a [u8]], number: usize) -> &'a [u8]
     }
 }
 
-/// With the lines of a file up to END.
+/// With the lines of a file up to END, or with a line LNK.
 ///
 /// # Errors
 ///
@@ -70,6 +70,9 @@ pub fn push_file(joined: &mut JoinedSource, file: usize, text: &[u8]) -> Result<
             },
             line,
         )?;
+        if is_link_line(line) {
+            return Ok(());
+        }
     }
     Ok(())
 }

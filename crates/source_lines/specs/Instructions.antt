@@ -24,9 +24,10 @@ use Rattle.source_lines.specs.declared.scanning.Scanned.{Scanned}
 use Rattle.source_lines.specs.declared.tokens.Field.{Field}
 use Rattle.source_lines.specs.declared.tokens.Field.TheVariants as fields
 
--- the offsets of LDR and STR have a sign
+-- the offsets of LDR and STR have a sign, and as B and BL they have no lists
 abbrev pub field_of : Command → Field
 field_of (command.Transfer loading of_byte translates) = fields.Address
+field_of (command.Branch links) = fields.Address
 field_of _ = fields.Operands
 
 abbrev pub is_word_load : Command → Bool

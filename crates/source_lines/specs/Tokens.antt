@@ -1,5 +1,5 @@
 -- The tokens of operands and of data (ARM Assembler manual, "Instruction set", "Directives").
-use Rattle.std.specs.Prelude.{ℕ, Bool, ◌-◌, ◌==◌, ◌||◌, not, nat_lt, List, [], ◌∷◌, drop, codes, Option, Some, None, is_some, Ok, Err, if◌then◌else◌}
+use Rattle.std.specs.Prelude.{ℕ, Bool, true, false, ◌-◌, ◌==◌, ◌&&◌, ◌||◌, not, nat_lt, List, [], ◌∷◌, drop, codes, Option, Some, None, is_some, Ok, Err, if◌then◌else◌}
 use Rattle.std.specs.List.{prefix_len}
 use Rattle.arm_decode.specs.declared.shift.Shift.{Shift}
 use Rattle.arm_decode.specs.declared.shift.Shift.TheVariants.{LogicalLeft}
@@ -7,6 +7,7 @@ use Rattle.assembler_names.specs.Names.{shift_named}
 use Rattle.assembler_names.specs.SwiNames.{swi_named}
 use Rattle.assembler_names.specs.Words.{after_word, byte, is_same_name, word}
 use Rattle.source_words.specs.Expressions.{source_sum}
+use Rattle.source_words.specs.Operators.{is_joined_character}
 use Rattle.source_words.specs.Sums.{number_sum, plain_number}
 use Rattle.source_words.specs.Names.{NameLookup}
 use Rattle.source_words.specs.Registers.{register_by_name, source_register}
@@ -19,9 +20,15 @@ use Rattle.source_lines.specs.declared.tokens.Field.TheVariants as fields
 use Rattle.source_lines.specs.declared.tokens.Token.{Token}
 use Rattle.source_lines.specs.declared.tokens.Token.TheVariants as tokens
 
--- a bracket (93), a brace (123, 125), `!` (33), `^` (94) or `-` (45)
-abbrev pub is_symbol : ℕ → Bool
-is_symbol c = c == 93 || (c == 123 || (c == 125 || (c == 33 || (c == 94 || c == 45))))
+abbrev pub has_lists : Field → Bool
+has_lists fields.Operands = true
+has_lists _ = false
+
+-- a bracket (93), a brace (123, 125), `!` (33), `^` (94) or `-` (45); where no list may stand, `{`
+-- begins `{PC}`
+abbrev pub is_symbol : Field → ℕ → Bool
+is_symbol where_it_stands c = if c == 123 then has_lists where_it_stands
+    else c == 93 || (c == 125 || (c == 33 || (c == 94 || c == 45)))
 
 abbrev pub number_after_hash : Field → AddressSum × List ℕ → ReadOrRefused Token
 number_after_hash fields.Address r = Ok (tokens.Offset r.0, r.1)
@@ -168,7 +175,7 @@ operand_token where_it_stands names here (c ∷ rest) =
     if c == 44 then Ok (after_comma names here rest) else (
     if c == 91 then Ok (after_bracket names rest) else (
     if c == 34 then quoted_token names here (c ∷ rest) rest else (
-    if is_symbol c then Ok (tokens.Symbol c, rest) else word_token names here (c ∷ rest)))))))
+    if is_symbol where_it_stands c then Ok (tokens.Symbol c, rest) else word_token names here (c ∷ rest)))))))
 
 -- 34 is the double quote
 abbrev pub is_in_text : ℕ → Bool
@@ -191,7 +198,8 @@ unfoldable pub data_token : Field → NameLookup → ℕ → List ℕ → ReadOr
 data_token where_it_stands names here [] = item_token where_it_stands names here []
 data_token where_it_stands names here (c ∷ rest) =
     if c == 44 then Ok (tokens.Symbol c, rest) else (
-    if c == 34 then text_token rest else item_token where_it_stands names here (c ∷ rest))
+    if c == 34 && not (is_joined_character rest) then text_token rest else
+    item_token where_it_stands names here (c ∷ rest))
 
 abbrev pub token_in : Field → NameLookup → ℕ → List ℕ → ReadOrRefused Token
 token_in fields.Words names here place = data_token fields.Words names here place

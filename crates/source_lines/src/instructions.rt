@@ -75,7 +75,7 @@ fn field_of(command: Command) -> Field
     ensures { result ≡ field_of command }
 {
     match command {
-        Command::Transfer { .. } => Field::Address,
+        Command::Transfer { .. } | Command::Branch { .. } => Field::Address,
         _ => Field::Operands,
     }
 }

@@ -11,6 +11,7 @@ use arm_decode::Shift;
 use assembler_names::names::shift_named;
 use assembler_names::swi_named;
 use assembler_names::words::{Read, after_word, byte, is_name, word};
+use source_words::operators::is_joined_character;
 use source_words::registers::register_by_name;
 use source_words::words::{after_blanks, name_at, symbol, symbol_needed};
 use source_words::{
@@ -20,7 +21,7 @@ use source_words::{
 /// What the tokens of a line stand in.
 #[derive(Clone, Copy, Debug, PartialEq, Eq)]
 pub enum Field {
-    /// The operands of LDR or STR.
+    /// The operands of LDR, STR, B or BL.
     Address,
     /// Those of any other instruction.
     Operands,
@@ -91,16 +92,19 @@ fn operand_token<'t>(
         [b',', rest @ ..] => Ok(after_comma(names, here, rest)),
         [b'[', rest @ ..] => Ok(after_bracket(names, rest)),
         [b'"', rest @ ..] => quoted_token(names, here, text, rest),
-        [c, rest @ ..] if is_symbol(*c) => Ok((Token::Symbol(*c), rest)),
+        [c, rest @ ..] if is_symbol(field, *c) => Ok((Token::Symbol(*c), rest)),
         _ => word_token(names, here, text),
     }
 }
 
-// A bracket, a brace, `!`, `^` or `-`.
-fn is_symbol(c: u8) -> bool
-    ensures { result ≡ is_symbol c }
+// A bracket, a brace, `!`, `^` or `-`; a brace begins no list among addresses, but `{PC}`.
+fn is_symbol(field: Field, c: u8) -> bool
+    ensures { result ≡ is_symbol field c }
 {
-    matches!(c, b']' | b'{' | b'}' | b'!' | b'^' | b'-')
+    match c {
+        b'{' => field == Field::Operands,
+        _ => matches!(c, b']' | b'}' | b'!' | b'^' | b'-'),
+    }
 }
 
 // A store call's name in double quotes, or anything else.
@@ -300,7 +304,7 @@ fn data_token<'t>(
 {
     match text {
         [b',', rest @ ..] => Ok((Token::Symbol(b','), rest)),
-        [b'"', rest @ ..] => text_token(rest),
+        [b'"', rest @ ..] if !is_joined_character(rest) => text_token(rest),
         _ => item_token(field, names, here, text),
     }
 }

@@ -1,18 +1,26 @@
 -- Operands with values for the names of variables (ARM Assembler manual, "Variables").
-use Rattle.std.specs.Prelude.{ℕ, zero, suc, ◌==◌, List, [], ◌++◌, length, Option, Some, None, if◌then◌else◌}
+use Rattle.std.specs.Prelude.{ℕ, Bool, zero, suc, ◌==◌, List, [], ◌++◌, length, is_some, Option, Some, None, if◌then◌else◌}
 use Rattle.source_layout.specs.Layouts.{label_and_rest}
 use Rattle.source_layout.specs.Lines.{bytes_before}
 use Rattle.source_text.specs.Knowledge.{TextState}
 use Rattle.source_text.specs.Lookups.{variable_here}
+use Rattle.source_variables.specs.Constants.{name_in_braces, name_measured, other_piece}
+use Rattle.source_words.specs.Names.{meaning_of_name}
 use Rattle.source_variables.specs.Pieces.{after_operand_piece, after_work_word}
 use Rattle.source_variables.specs.Variables.{operand_value}
 use Rattle.source_variables.specs.declared.variables.VariableValue.{VariableValue}
 
+-- whether a name of the source stands in braces, as a register's may
+abbrev pub has_name_in_braces : TextState → List ℕ → Bool
+has_name_in_braces s bytes = is_some (meaning_of_name s.names (name_in_braces bytes))
+
 abbrev pub value_or_bytes : TextState → List ℕ → Option VariableValue → List ℕ
 value_or_bytes s bytes (Some v) = operand_value s.texts v
-value_or_bytes s bytes None = bytes
+value_or_bytes s bytes None =
+    other_piece bytes (has_name_in_braces s bytes) (variable_here s (name_measured bytes))
 
--- a piece, or the value of the variable that it is
+-- a piece, or the value of the variable that it is, the length of one, or what the assembler itself
+-- has for it
 abbrev pub operand_piece : TextState → List ℕ → List ℕ
 operand_piece s bytes = value_or_bytes s bytes (variable_here s bytes)
 

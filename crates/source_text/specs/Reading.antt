@@ -1,7 +1,7 @@
 -- The lines of a source are read one after another (ARM Assembler manual, "Macros", "Conditional
 -- assembly", "Variables"): those of a macro where it is called, those of a loop as often as its
 -- condition holds.
-use Rattle.std.specs.Prelude.{ℕ, Bool, zero, suc, nat_lt, List, [], length, codes, Option, Some, None, Result, if◌then◌else◌}
+use Rattle.std.specs.Prelude.{ℕ, Bool, zero, suc, ◌==◌, nat_lt, List, [], length, codes, Option, Some, None, Result, if◌then◌else◌}
 use Rattle.std.specs.Str.Lines.{lines}
 use Rattle.source_files.specs.Joined.{JoinedText, no_lines}
 use Rattle.source_layout.specs.Layouts.{label_and_rest}
@@ -64,6 +64,10 @@ after_condition s text works.While holds = after_while s text holds
 after_condition s text works.Assert holds = after_assertion s text holds
 after_condition s text _ holds = after_if s text holds
 
+-- after a line that is for people or for linking alone, unless it has a label
+abbrev pub after_unheard : TextState → List ℕ → List ℕ → TextState
+after_unheard s text label = if length label == 0 then line_left_out s else after_other s text
+
 -- after a line that is read
 abbrev pub after_taken : TextState → List ℕ → List ℕ → Option (TextWork × List ℕ) → TextState
 after_taken s text label (Some (works.If, operands)) =
@@ -81,6 +85,7 @@ after_taken s text label (Some (works.Assert, operands)) =
 after_taken s text label (Some (works.Global k, operands)) = after_global s text k (declared_operand operands)
 after_taken s text label (Some (works.Local k, operands)) = after_local s text k (declared_operand operands)
 after_taken s text label (Some (works.Set k, operands)) = after_set s text k label operands
+after_taken s text label (Some (works.Unheard, operands)) = after_unheard s text label
 after_taken s text label None = after_other s text
 
 abbrev pub after_text_line : TextState → List ℕ → List ℕ × List ℕ → TextState

@@ -8,6 +8,7 @@ use crate::reader::TextReader;
 use profile::{Sink, WriteFault, push_all};
 use source_layout::layouts::label_and_rest;
 use source_layout::lines::bytes_before;
+use source_variables::constants::{name_in_braces, name_measured, push_other_piece};
 use source_variables::pieces::{after_operand_piece, after_work_word};
 use source_variables::variables::push_operand_value;
 use std::alloc::{AllocError, Global};
@@ -82,14 +83,20 @@ impl<'a> TextReader<'a> {
         Ok(())
     }
 
-    // A piece, or the value of the variable that it is.
+    // A piece, or the value of the variable that it is, the length of one, or what the assembler
+    // itself has for it.
     fn push_operand_piece<W: Sink>(&self, bytes: &[u8], sink: &mut W) -> Result<(), WriteFault>
         ensures { Writes W.contents W.has_failed sink.old sink.new result
             (operand_piece self.now bytes.now) }
     {
         match self.variable_here(bytes) {
             Some(value) => push_operand_value(&self.texts, value, sink),
-            None => push_all(sink, bytes),
+            None => push_other_piece(
+                bytes,
+                self.names.find(name_in_braces(bytes)).is_some(),
+                self.variable_here(name_measured(bytes)),
+                sink,
+            ),
         }
     }
 }

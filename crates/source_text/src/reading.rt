@@ -160,7 +160,8 @@ impl<'a> TextReader<'a> {
             Some((TextWork::Set(kind), operands)) => self.assign(
                 alloc, text, kind, label, operands,
             ),
-            None => self.read_other(alloc, text),
+            Some((TextWork::Unheard, _)) if label.is_empty() => self.leave_out(),
+            Some((TextWork::Unheard, _)) | None => self.read_other(alloc, text),
         }
     }
 

@@ -3,4 +3,5 @@ pub use Rattle.source_layout
 pub mod Places
 pub mod Variables
 pub mod Works
+pub mod Constants
 pub mod Pieces

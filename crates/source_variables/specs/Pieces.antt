@@ -4,6 +4,8 @@ use Rattle.std.specs.List.{prefix_len}
 use Rattle.assembler_names.specs.Words.{after_word, byte, word}
 use Rattle.source_layout.specs.References.{after_quote, is_quote}
 use Rattle.source_words.specs.Words.{after_blanks}
+use Rattle.source_variables.specs.Constants.{built_in_at, measured_name}
+use Rattle.source_variables.specs.declared.constants.BuiltIn.{BuiltIn}
 
 -- all but `$` (36)
 abbrev pub is_before_sign : ℕ → Bool
@@ -33,9 +35,21 @@ abbrev pub after_operand_byte : ℕ → List ℕ → List ℕ
 after_operand_byte c rest = if c == 59 then [] else (if is_quote c then after_quote c rest else (
     if length (word (c ∷ rest)) == 0 then rest else after_word (c ∷ rest)))
 
+abbrev pub after_plain_piece : List ℕ → List ℕ
+after_plain_piece [] = []
+after_plain_piece (c ∷ rest) = after_operand_byte c rest
+
+abbrev pub after_measured_or : List ℕ → Option (List ℕ × List ℕ) → List ℕ
+after_measured_or text (Some n) = n.1
+after_measured_or text None = after_plain_piece text
+
+abbrev pub after_built_in_or : List ℕ → Option (BuiltIn × List ℕ) → List ℕ
+after_built_in_or text (Some b) = b.1
+after_built_in_or text None = after_measured_or text (measured_name text)
+
+-- what the assembler itself has a value for is a piece, and so is `:LEN:` with a name
 unfoldable pub after_operand_piece : List ℕ → List ℕ
-after_operand_piece [] = []
-after_operand_piece (c ∷ rest) = after_operand_byte c rest
+after_operand_piece text = after_built_in_or text (built_in_at text)
 
 abbrev pub after_work_at : List ℕ → List ℕ
 after_work_at text = if length (word text) == 0 then drop 1 text else after_word text

@@ -1,6 +1,7 @@
 -- What a line asks the reading of lines for (ARM Assembler manual, "Macros", "Conditional assembly",
 -- "Variables").
-use Rattle.std.specs.Prelude.{ℕ, List, [], ◌∷◌, ◌==◌, codes, Option, Some, None, if◌then◌else◌}
+use Rattle.std.specs.Prelude.{ℕ, List, [], ◌∷◌, ◌==◌, ◌||◌, codes, Option, Some, None, if◌then◌else◌}
+use Rattle.assembler_names.specs.Expressions.{numeral}
 use Rattle.assembler_names.specs.Words.{after_word, is_same_name, word, ◌or◌}
 use Rattle.source_words.specs.Words.{after_blanks}
 use Rattle.source_variables.specs.declared.variables.VariableKind.TheVariants as kinds
@@ -37,23 +38,38 @@ setting_work name =
     if is_same_name name (codes "SETL") then Some (works.Set kinds.Truth) else (
     if is_same_name name (codes "SETS") then Some (works.Set kinds.Text) else None))
 
+abbrev pub unheard_work : List ℕ → Option TextWork
+unheard_work name =
+    if is_same_name name (codes "LEADR") || is_same_name name (codes "ORG") || is_same_name name (codes "STRONG")
+    then Some works.Unheard else None
+
+abbrev pub message_of_number : List ℕ → Option ℕ → Option (TextWork × List ℕ)
+message_of_number text (Some n) = if n == 0 then Some (works.Unheard, text) else None
+message_of_number text None = None
+
+-- what follows INFO or `!`: one of 0 is a message, and any other an error
+abbrev pub message_work : List ℕ → Option (TextWork × List ℕ)
+message_work text = message_of_number text (numeral 10 (word (after_blanks text)))
+
 unfoldable pub named_text_work : List ℕ → Option TextWork
-named_text_work name = block_work name or macro_work name or declaring_work name or setting_work name
+named_text_work name = block_work name or macro_work name or declaring_work name or setting_work name or unheard_work name
 
 abbrev pub text_work_and_rest : List ℕ → Option TextWork → Option (TextWork × List ℕ)
 text_work_and_rest text (Some w) = Some (w, after_word text)
 text_work_and_rest text None = None
 
 abbrev pub text_work_of_word : List ℕ → Option (TextWork × List ℕ)
-text_work_of_word text = text_work_and_rest text (named_text_work (word text))
+text_work_of_word text = if is_same_name (word text) (codes "INFO") then message_work (after_word text)
+    else text_work_and_rest text (named_text_work (word text))
 
 abbrev pub text_work_at : List ℕ → Option (TextWork × List ℕ)
 text_work_at [] = text_work_of_word []
 text_work_at (c ∷ rest) = if c == 91 then Some (works.If, rest) else (
     if c == 124 then Some (works.Else, rest) else (
-    if c == 93 then Some (works.EndIf, rest) else text_work_of_word (c ∷ rest)))
+    if c == 93 then Some (works.EndIf, rest) else (
+    if c == 33 then message_work rest else text_work_of_word (c ∷ rest))))
 
 -- what a line asks for after its label, and its operands: `[` (91), `|` (124) and `]` (93) are IF,
--- ELSE and ENDIF
+-- ELSE and ENDIF, and `!` (33) is INFO
 abbrev pub text_work : List ℕ → Option (TextWork × List ℕ)
 text_work text = text_work_at (after_blanks text)

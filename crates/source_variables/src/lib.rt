@@ -2,6 +2,7 @@
 //! pieces of a line in which they stand.
 #![tactic(auto)]
 
+pub mod constants;
 pub mod pieces;
 pub mod places;
 pub mod variables;

@@ -2,8 +2,10 @@
 
 ghost use Rattle.std.specs.Prelude.{◌≡◌, ◌≤◌, length};
 ghost use Rattle.std.specs.List.{prefix_len};
-ghost use Rattle.source_variables.specs.Pieces.{after_dot, after_operand_piece, after_second_sign, after_work_word, bytes_before_sign, from_sign, is_before_sign};
+ghost use Rattle.source_variables.specs.Constants.{measured_name};
+ghost use Rattle.source_variables.specs.Pieces.{after_dot, after_measured_or, after_operand_piece, after_plain_piece, after_second_sign, after_work_word, bytes_before_sign, from_sign, is_before_sign};
 
+use crate::constants::{built_in_at, measured_name};
 use assembler_names::words::{after_word, byte, word};
 use source_layout::references::{after_quote, is_quote};
 use source_mnemonics::spellings::behind;
@@ -70,11 +72,29 @@ pub fn after_work_word(text: &[u8]) -> &[u8]
     }
 }
 
-/// What follows the front of a text: a comment, what stands between quotes or bars, a word or a
-/// byte.
+/// What follows the front of a text: what the assembler itself has a value for, `:LEN:` with a name, a
+/// comment, what stands between quotes or bars, a word or a byte.
 #[tactic(auto, unfolding(crate::specs::Pieces::after_operand_piece))]
 pub fn after_operand_piece(text: &[u8]) -> &[u8]
     ensures { result.now ≡ after_operand_piece text.now }
+{
+    match built_in_at(text) {
+        Some((_, rest)) => rest,
+        None => after_measured_or(text),
+    }
+}
+
+fn after_measured_or(text: &[u8]) -> &[u8]
+    ensures { result.now ≡ after_measured_or text.now (measured_name text.now) }
+{
+    match measured_name(text) {
+        Some((_, rest)) => rest,
+        None => after_plain_piece(text),
+    }
+}
+
+fn after_plain_piece(text: &[u8]) -> &[u8]
+    ensures { result.now ≡ after_plain_piece text.now }
 {
     match text {
         [] => text,

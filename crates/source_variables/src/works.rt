@@ -2,9 +2,10 @@
 
 ghost use Rattle.std.specs.Prelude.{◌≡◌};
 ghost use Rattle.assembler_names.specs.Words.{read_of};
-ghost use Rattle.source_variables.specs.Works.{block_work, declaring_work, macro_work, named_text_work, setting_work, text_work, text_work_of_word};
+ghost use Rattle.source_variables.specs.Works.{block_work, declaring_work, macro_work, message_work, named_text_work, setting_work, text_work, text_work_of_word, unheard_work};
 
 use crate::variables::VariableKind;
+use assembler_names::numerals::numeral;
 use assembler_names::words::{Read, after_word, is_name, word};
 use source_words::words::after_blanks;
 
@@ -20,6 +21,8 @@ pub enum TextWork {
     EndMacro,
     LeaveMacro,
     Assert,
+    /// What is for people or for linking alone.
+    Unheard,
     /// GBLA, GBLL or GBLS.
     Global(VariableKind),
     /// LCLA, LCLL or LCLS.
@@ -37,13 +40,27 @@ pub fn text_work(text: &[u8]) -> Read<'_, TextWork>
         [b'[', rest @ ..] => Some((TextWork::If, rest)),
         [b'|', rest @ ..] => Some((TextWork::Else, rest)),
         [b']', rest @ ..] => Some((TextWork::EndIf, rest)),
+        [b'!', rest @ ..] => message_work(rest),
         _ => text_work_of_word(place),
+    }
+}
+
+// What follows INFO or `!`: one of 0 is a message, and any other an error.
+fn message_work(text: &[u8]) -> Read<'_, TextWork>
+    ensures { read_of result ≡ message_work text.now }
+{
+    match numeral(10, word(after_blanks(text))) {
+        Some(0) => Some((TextWork::Unheard, text)),
+        _ => None,
     }
 }
 
 fn text_work_of_word(text: &[u8]) -> Read<'_, TextWork>
     ensures { read_of result ≡ text_work_of_word text.now }
 {
+    if is_name(word(text), b"INFO") {
+        return message_work(after_word(text));
+    }
     match named_text_work(word(text)) {
         Some(work) => Some((work, after_word(text))),
         None => None,
@@ -58,6 +75,7 @@ fn named_text_work(name: &[u8]) -> Option<TextWork>
         .or(macro_work(name))
         .or(declaring_work(name))
         .or(setting_work(name))
+        .or(unheard_work(name))
 }
 
 fn block_work(name: &[u8]) -> Option<TextWork>
@@ -123,6 +141,16 @@ fn setting_work(name: &[u8]) -> Option<TextWork>
         Some(TextWork::Set(VariableKind::Truth))
     } else if is_name(name, b"SETS") {
         Some(TextWork::Set(VariableKind::Text))
+    } else {
+        None
+    }
+}
+
+fn unheard_work(name: &[u8]) -> Option<TextWork>
+    ensures { result ≡ unheard_work name.now }
+{
+    if is_name(name, b"LEADR") || is_name(name, b"ORG") || is_name(name, b"STRONG") {
+        Some(TextWork::Unheard)
     } else {
         None
     }

@@ -1,9 +1,10 @@
 -- Sums of numbers and names, with products, shifts and parentheses (ARM Assembler manual,
 -- "Expressions and operators"). `*` joins more tightly than a shift, and that more tightly than `+`;
 -- operators of one level join from the left.
-use Rattle.std.specs.Prelude.{ℕ, zero, suc, Bool, ◌-◌, ◌^◌, ◌==◌, ◌||◌, List, [], ◌∷◌, length, Option, Some, None, Result, Ok, Err, if◌then◌else◌}
+use Rattle.std.specs.Prelude.{ℕ, zero, suc, Bool, ◌-◌, ◌^◌, ◌==◌, ◌||◌, List, [], ◌∷◌, length, codes, Option, Some, None, Result, Ok, Err, if◌then◌else◌}
 use Rattle.std.specs.Int.{bit_not, is_in_range, w32}
 use Rattle.assembler_names.specs.SwiNames.{swi_named}
+use Rattle.assembler_names.specs.Words.{after_word, byte, is_same_name, word}
 use Rattle.source_words.specs.Sums.{line_sum, negative_of, number_sum, plain_number}
 use Rattle.source_words.specs.Names.{NameLookup}
 use Rattle.source_words.specs.Numbers.{number_at}
@@ -93,13 +94,23 @@ value_of_named names text = value_at_name names text (name_at text)
 abbrev pub begins_number : ℕ → Bool
 begins_number c = c == 38 || (c == 39 || (c == 34 || is_in_range 48 57 c))
 
--- a value at a place: `(` (40), `.` (46), which is the address of its line, a number or a name
+-- what follows the first brace of `{PC}`; 125 is the other
+abbrev pub after_own_place : List ℕ → Option (List ℕ)
+after_own_place text = if is_same_name (word text) (codes "PC") then byte 125 (after_word text) else None
+
+abbrev pub value_in_braces : ℕ → List ℕ → Option (List ℕ) → ReadOrRefused AddressSum
+value_in_braces here text (Some rest) = Ok (line_sum here, rest)
+value_in_braces here text None = Err (refusal_at NotUnderstood text)
+
+-- a value at a place: `(` (40), `.` (46) or `{PC}` (123), which are the address of its line, a number
+-- or a name
 abbrev pub value_at : NameLookup → ℕ → (List ℕ → ReadOrRefused AddressSum) → List ℕ → ReadOrRefused AddressSum
 value_at names here inner [] = value_of_named names []
 value_at names here inner (c ∷ rest) =
     if c == 40 then sum_in_parentheses inner rest else (
     if c == 46 then Ok (line_sum here, rest) else (
-    if begins_number c then number_value (c ∷ rest) else value_of_named names (c ∷ rest)))
+    if c == 123 then value_in_braces here (c ∷ rest) (after_own_place rest) else (
+    if begins_number c then number_value (c ∷ rest) else value_of_named names (c ∷ rest))))
 
 -- a value without a sign, before which blanks may stand
 unfoldable pub value_without_sign : NameLookup → ℕ → (List ℕ → ReadOrRefused AddressSum) → List ℕ → ReadOrRefused AddressSum

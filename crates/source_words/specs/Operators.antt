@@ -1,6 +1,7 @@
 -- The operators of sums (ARM Assembler manual, "Expressions and operators"). Values are modulo 2^32.
-use Rattle.std.specs.Prelude.{ℕ, ◌+◌, ◌-◌, ◌*◌, ◌/◌, ◌%◌, ◌^◌, ◌==◌, nat_lt, bit_and, bit_or, bit_xor, List, [], ◌∷◌, codes, Option, Some, None, Result, Ok, Err, if◌then◌else◌}
+use Rattle.std.specs.Prelude.{ℕ, Bool, false, not, ◌&&◌, ◌+◌, ◌-◌, ◌*◌, ◌/◌, ◌%◌, ◌^◌, ◌==◌, nat_lt, bit_and, bit_or, bit_xor, List, [], ◌∷◌, codes, Option, Some, None, is_some, Result, Ok, Err, if◌then◌else◌}
 use Rattle.assembler_names.specs.Words.{after_word, byte, is_same_name, word, ◌>>=◌}
+use Rattle.profile.specs.Shift.{rotated_right}
 use Rattle.source_words.specs.Sums.{sum_of_two, number_sum, plain_number, difference_of_two}
 use Rattle.source_words.specs.Words.{ReadOrRefused, after_blanks, refusal_at}
 use Rattle.source_words.specs.declared.sums.AddressSum.{AddressSum}
@@ -9,13 +10,15 @@ use Rattle.source_words.specs.declared.operators.Operator.TheVariants as operato
 use Rattle.source_words.specs.declared.refusal.Why.{Why}
 use Rattle.source_words.specs.declared.refusal.Why.TheVariants.{DivisionByZero, NotUnderstood, TooManyLabels}
 
--- how loosely an operator joins: `*` first, then shifts, then sums
+-- how loosely an operator joins: `*` first, then shifts and rotations, then sums
 abbrev pub operator_level : Operator → ℕ
 operator_level operator.Multiply = 0
 operator_level operator.Divide = 0
 operator_level operator.Modulo = 0
 operator_level operator.ShiftLeft = 1
 operator_level operator.ShiftRight = 1
+operator_level operator.RotateLeft = 1
+operator_level operator.RotateRight = 1
 operator_level operator.Add = 2
 operator_level operator.Subtract = 2
 operator_level operator.And = 2
@@ -34,6 +37,8 @@ value_of_numbers operator.Or a b = Ok (number_sum (bit_or a b))
 value_of_numbers operator.ExclusiveOr a b = Ok (number_sum (bit_xor a b))
 value_of_numbers operator.ShiftLeft a b = Ok (number_sum (if nat_lt b 32 then (a * 2 ^ b) % 2 ^ 32 else 0))
 value_of_numbers operator.ShiftRight a b = Ok (number_sum (if nat_lt b 32 then a / 2 ^ b else 0))
+value_of_numbers operator.RotateLeft a b = Ok (number_sum (rotated_right a (32 - b % 32)))
+value_of_numbers operator.RotateRight a b = Ok (number_sum (rotated_right a b))
 value_of_numbers operator.Multiply a b = Ok (number_sum ((a * b) % 2 ^ 32))
 value_of_numbers operator.Divide a b = if b == 0 then Err DivisionByZero else Ok (number_sum (a / b))
 value_of_numbers operator.Modulo a b = if b == 0 then Err DivisionByZero else Ok (number_sum (a % b))
@@ -56,7 +61,9 @@ logical_operator name =
     if is_same_name name (codes "EOR") then Some operator.ExclusiveOr else (
     if is_same_name name (codes "SHL") then Some operator.ShiftLeft else (
     if is_same_name name (codes "SHR") then Some operator.ShiftRight else (
-    if is_same_name name (codes "MOD") then Some operator.Modulo else None)))))
+    if is_same_name name (codes "ROL") then Some operator.RotateLeft else (
+    if is_same_name name (codes "ROR") then Some operator.RotateRight else (
+    if is_same_name name (codes "MOD") then Some operator.Modulo else None)))))))
 
 -- what follows the first colon (58) of `:AND:`
 abbrev pub named_operator : List ℕ → Option (Operator × List ℕ)
@@ -74,6 +81,11 @@ operator_at (c ∷ rest) =
     if c == 42 then Some (operator.Multiply, rest) else (
     if c == 47 then Some (operator.Divide, rest) else (
     if c == 58 then named_operator rest else None))))
+
+-- what follows a double quote (34) is a character that an operator joins, as in `"0"+n`
+abbrev pub is_joined_character : List ℕ → Bool
+is_joined_character (c ∷ d ∷ rest) = not (c == 34) && (d == 34 && is_some (operator_at (after_blanks rest)))
+is_joined_character text = false
 
 -- the operator of this level at the front, before which blanks may stand
 unfoldable pub operator_of_level : ℕ → List ℕ → Option (Operator × List ℕ)

@@ -1,7 +1,7 @@
 //! Sums of numbers and names, with products, shifts and parentheses.
 
-ghost use Rattle.std.specs.Prelude.{◌≡◌, length};
-ghost use Rattle.source_words.specs.Expressions.{chain_of, source_sum, inverse_value, join_value, more_operands, value_of_named, sum_within, number_value, operand_of_level, sum_in_parentheses, value_with_sign, value_without_sign, value_of_name};
+ghost use Rattle.std.specs.Prelude.{◌≡◌, length, option_map};
+ghost use Rattle.source_words.specs.Expressions.{after_own_place, value_in_braces, chain_of, source_sum, inverse_value, join_value, more_operands, value_of_named, sum_within, number_value, operand_of_level, sum_in_parentheses, value_with_sign, value_without_sign, value_of_name};
 ghost use Rattle.source_words.specs.Names.{meaning_of_name};
 ghost use Rattle.source_words.specs.Words.{reading};
 
@@ -12,6 +12,7 @@ use crate::refusal::{Why, WordRefusal};
 use crate::sums::AddressSum;
 use crate::words::{ReadOrRefused, after_blanks, name_at, symbol_needed};
 use assembler_names::swi_named;
+use assembler_names::words::{after_word, byte, is_name, word};
 
 /// How many parentheses may stand within one another.
 pub const MOST_PARENTHESES: u32 = 8;
@@ -141,8 +142,30 @@ fn value_without_sign<'t>(
     match place {
         [b'(', rest @ ..] => sum_in_parentheses(names, here, nesting, rest),
         [b'.', rest @ ..] => Ok((AddressSum::line(here), rest)),
+        [b'{', rest @ ..] => value_in_braces(here, place, rest),
         [b'&' | b'\'' | b'"' | b'0'..=b'9', ..] => number_value(place),
         _ => value_of_named(names, place),
+    }
+}
+
+// `{PC}`, of which this follows the first brace.
+fn value_in_braces<'t>(here: usize, text: &'t [u8], rest: &'t [u8]) -> ReadOrRefused<'t, AddressSum>
+    ensures { reading result ≡ value_in_braces here text.now (after_own_place rest.now) }
+{
+    match after_own_place(rest) {
+        Some(after) => Ok((AddressSum::line(here), after)),
+        None => Err(WordRefusal::at(Why::NotUnderstood, text)),
+    }
+}
+
+// What follows the first brace of `{PC}`.
+fn after_own_place(text: &[u8]) -> Option<&[u8]>
+    ensures { option_map (λ rest. rest.now) result ≡ after_own_place text.now }
+{
+    if is_name(word(text), b"PC") {
+        byte(b'}', after_word(text))
+    } else {
+        None
     }
 }
 

@@ -1,13 +1,14 @@
 //! The operators of sums.
 
 ghost use Rattle.std.specs.Prelude.{◌≡◌, ◌<◌, ◌^◌, option_map, IfOk};
-ghost use Rattle.source_words.specs.Operators.{after_not, value_of_two, logical_operator, named_operator, number_combined, operator_at, operator_level, operator_of_level, sum_or_refusal};
+ghost use Rattle.source_words.specs.Operators.{after_not, value_of_two, logical_operator, named_operator, number_combined, is_joined_character, operator_at, operator_level, operator_of_level, sum_or_refusal};
 ghost use Rattle.source_words.specs.Words.{reading};
 
 use crate::refusal::{Why, WordRefusal};
 use crate::sums::AddressSum;
 use crate::words::{ReadOrRefused, after_blanks};
 use assembler_names::words::{after_word, byte, is_name, word};
+use profile::shift::rotate_right;
 
 /// What joins two values.
 #[derive(Clone, Copy, Debug, PartialEq, Eq)]
@@ -19,19 +20,24 @@ pub enum Operator {
     ExclusiveOr,
     ShiftLeft,
     ShiftRight,
+    RotateLeft,
+    RotateRight,
     Multiply,
     Divide,
     Modulo,
 }
 
 impl Operator {
-    /// How loosely it joins: 0 for `*`, 1 for shifts, 2 for sums.
+    /// How loosely it joins: 0 for `*`, 1 for shifts and rotations, 2 for sums.
     pub fn level(self) -> u32
         ensures { result ≡ operator_level self }
     {
         match self {
             Operator::Multiply | Operator::Divide | Operator::Modulo => 0,
-            Operator::ShiftLeft | Operator::ShiftRight => 1,
+            Operator::ShiftLeft
+            | Operator::ShiftRight
+            | Operator::RotateLeft
+            | Operator::RotateRight => 1,
             Operator::Add
             | Operator::Subtract
             | Operator::And
@@ -69,6 +75,8 @@ impl Operator {
             Operator::ExclusiveOr => Ok(AddressSum::number(a ^ b)),
             Operator::ShiftLeft => Ok(AddressSum::number(if b < 32 { a << b } else { 0 })),
             Operator::ShiftRight => Ok(AddressSum::number(if b < 32 { a >> b } else { 0 })),
+            Operator::RotateLeft => Ok(AddressSum::number(rotate_right(a, 32 - b % 32))),
+            Operator::RotateRight => Ok(AddressSum::number(rotate_right(a, b))),
             Operator::Multiply => Ok(AddressSum::number(a.wrapping_mul(b))),
             Operator::Divide if b == 0 => Err(Why::DivisionByZero),
             Operator::Divide => Ok(AddressSum::number(a / b)),
@@ -113,6 +121,16 @@ fn operator_at(text: &[u8]) -> Option<(Operator, &[u8])>
     }
 }
 
+/// Whether what follows a double quote is a character that an operator joins, as in `"0"+n`.
+pub fn is_joined_character(text: &[u8]) -> bool
+    ensures { result ≡ is_joined_character text.now }
+{
+    match text {
+        [c, b'"', rest @ ..] if *c != b'"' => operator_at(after_blanks(rest)).is_some(),
+        _ => false,
+    }
+}
+
 // What follows the first colon of `:AND:`.
 fn named_operator(text: &[u8]) -> Option<(Operator, &[u8])>
     ensures { option_map (λ r. (r.0, r.1.now)) result ≡ named_operator text.now }
@@ -135,6 +153,10 @@ fn logical_operator(name: &[u8]) -> Option<Operator>
         Some(Operator::ShiftLeft)
     } else if is_name(name, b"SHR") {
         Some(Operator::ShiftRight)
+    } else if is_name(name, b"ROL") {
+        Some(Operator::RotateLeft)
+    } else if is_name(name, b"ROR") {
+        Some(Operator::RotateRight)
     } else if is_name(name, b"MOD") {
         Some(Operator::Modulo)
     } else {
