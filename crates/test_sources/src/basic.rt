@@ -2,7 +2,7 @@
 
 use basic_source::listing_source;
 
-static LISTINGS: [(&str, &str); 8] = [
+static LISTINGS: [(&str, &str); 11] = [
     (
         "   10REM >Own: x\n20DIM code% 1000:link=14:base%=&40000\n30FOR p%=0 TO 2 STEP 2:P%=code%\n40[OPT p%\n\
         50.start% STMFD (R13)!,{R0,link}:SWI \"OS_Write0\" ; say: it\n60MOV R1,#base% DIV 2 \\ half\n70]\n80NEXT\n\
@@ -19,9 +19,9 @@ static LISTINGS: [(&str, &str); 8] = [
     // isn't read.
     (
         "[\nEQUS \"a\"+STRING$(3,\"b+\")+CHR$0:=STRING$( 2 , CHR$(13) )\nEQUS STRING$(0,\"x\")+STRING$(1,CHR$ 7)\n\
-        EQUS STRING$(n,\"x\")\nEQUS STRING$(256,\"x\")\n",
+        EQUS STRING$(n,\"x\")\nEQUS STRING$(256,\"x\")\nEQUS STRING$(4294967297,\"x\")\nEQUS STRING$(0002,\"x\")\n",
         "\n DCB \"a\",\"b+\",\"b+\",\"b+\",0\n DCB (13),(13)\n DCB \"\",7\n DCB |STRING$|(|n|,\"x\")\n \
-        DCB |STRING$|(256,\"x\")\n",
+        DCB |STRING$|(256,\"x\")\n DCB |STRING$|(4294967297,\"x\")\n DCB \"x\",\"x\"\n",
     ),
     (
         "a=TRUE:b=FALSE\n[\nMOV R0,#1<<4+1\nMOV R0,#%101 OR 2 AND 3\nMOV R0,#ASC\"A\"-64\nMOV R0,#(1 OR 2)*2\n\
@@ -46,6 +46,23 @@ static LISTINGS: [(&str, &str); 8] = [
         P%=mc%:[OPT 2\nMOV R0,#y\nEQUD P%-mc%:EQUD P%+4\n]\nENDPROC\nA%=USR mc%\n?y=6:IF z THEN [\n",
         "\n\n\n\n\n\n\n|z| EQU 6\n|y| EQU |z|+1\n\n|mc%| EQU .\n\n MOV R0,#|y|\n DCD .-|mc%|\n DCD .+4\n\n\n\n\n\
         \x20IF  z THEN [\n",
+    ),
+    // Two rooms of one DIM: the program goes on where it stands, whichever room is the place.
+    (
+        "DIM code% 1000, data% 200\nP%=code%\n[OPT 2\n.go LDR R0,word\n]\nP%=data%\n[OPT 2\n.word EQUD code%\n\
+        EQUD data%\n]\n",
+        "\n|code%| EQU .\n\n|go| LDR R0,|word|\n\n|data%| EQU .\n\n|word| DCD |code%|\n DCD |data%|\n\n",
+    ),
+    // What a string variable has stands where EQUS has the variable, if one statement alone gives it a value.
+    (
+        "title$=\"Counter\":n$=CHR$(9)+\"x\"\ntwo$=\"a\":two$=\"b\"\n[\n.t EQUS title$+CHR$0\nEQUS \"<\"+n$+title$\n\
+        EQUS two$+none$\n]\n",
+        "\n\n\n\n\n|t| DCB \"Counter\",0\n DCB \"<\",(9),\"x\",\"Counter\"\n DCB |two$|,|none$|\n\n",
+    ),
+    // Shifts join more loosely than sums, and more tightly than AND.
+    (
+        "[\nEQUD &80>>1+2\nEQUD -1>>>28 AND 6\n",
+        "\n DCD (((&80):SHR:(1+2)))\n DCD (((-1):SHR:(28 )):AND:(( 6)))\n",
     ),
 ];
 

@@ -63,3 +63,23 @@ fn names_of_files(rt: HostRuntime) {
     };
     assert!(rt; joined.text() == b"2\n2\n3\n GET three\n4\nGET two\n".as_slice());
 }
+
+// What follows LNK isn't read, and what follows GET of a file with it is; a file that isn't there is
+// a line that isn't understood.
+#[test]
+fn links(rt: HostRuntime) {
+    let paths = [b"a".as_slice(), b"b".as_slice(), b"c".as_slice()];
+    let texts = [
+        b"1\n GET b\n2\n lnk c ; the last\n3\n END\n".as_slice(),
+        b"4\nlnk\n\tLNK\tb.c\n5\n".as_slice(),
+        b"6\n LNK d\n7\n".as_slice(),
+    ];
+    let Ok(joined) = joined_source(rt.alloc(), &paths, &texts, b"") else {
+        return;
+    };
+    assert!(rt; joined.text() == b"1\n4\nlnk\n6\n LNK d\n2\n6\n LNK d\n".as_slice());
+    for (number, file, line) in [(4, 2, 1), (5, 2, 2), (6, 0, 3), (7, 2, 1), (8, 2, 2)] {
+        let origin = origin_of_line(joined.origins(), number);
+        assert_eq!(rt; (origin.file, origin.line), (file, line));
+    }
+}

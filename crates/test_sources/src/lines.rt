@@ -6,7 +6,7 @@ use source_lines::{meaning_of_line, push_line, scan_line};
 use source_words::{Names, Why};
 
 // A line, its label, and what it is for the assembler.
-static LINES: [(&str, &str, &str); 69] = [
+static LINES: [(&str, &str, &str); 78] = [
     ("wp RN 12", "wp", ""),
     ("Size * 5 + &C", "Size", ""),
     ("start", "start", "start"),
@@ -104,13 +104,34 @@ static LINES: [(&str, &str, &str); 69] = [
     ("w DCI &E1A00000, 1", "w", "w DCD &E1A00000,&1"),
     (" GLOBAL start", "", ""),
     (" EXTERN Screen_Update, WEAK", "", ""),
+    (" B {PC}+8", "", "here_70 B here_70+&8"),
+    (
+        " DCD {pc}-start, text - {PC}",
+        "",
+        "here_71 DCD here_71-start,text-here_71",
+    ),
+    (
+        " LDR r0,[pc,#text-{PC}-8]",
+        "",
+        "here_72 LDR R0,[PC,#text-here_72-&8]",
+    ),
+    (" BLEQ {Pc}", "", "here_73 BLEQ here_73"),
+    (" LDR r1,{PC}-4", "", "here_74 LDR R1,here_74-&4"),
+    (" LDMFD sp!,{pc}^", "", " LDMIA R13!,{PC}^"),
+    (" ADR r0,{PC}", "", " SUB R0,PC,#&8"),
+    (
+        " = \"0\"+Size, \"A\" :OR: &20,\"\"\"+x\",\"a\" ; \"+",
+        "",
+        " DCB &41,&61,\"\",34,\"+x\",\"a\" ; \"+",
+    ),
+    (" DCD \"0\" + 1,-\"A\"", "", " DCD &31,&FFFFFFBF"),
 ];
 
 #[test]
 fn lines(rt: HostRuntime) {
     let mut names = Names::new(rt.alloc());
-    let labels: [&[u8]; 69] = std::array::from_fn(|i| LINES[i].1.as_bytes());
-    for i in 0..69 {
+    let labels: [&[u8]; 78] = std::array::from_fn(|i| LINES[i].1.as_bytes());
+    for i in 0..78 {
         let (source, label, _) = LINES[i];
         match meaning_of_line(&names, i + 1, source.as_bytes()) {
             Ok(Some(meaning)) => {
@@ -125,7 +146,7 @@ fn lines(rt: HostRuntime) {
             Err(_) => panic!(rt; "{source}"),
         }
     }
-    for i in 0..69 {
+    for i in 0..78 {
         let (source, _, wanted) = LINES[i];
         assert!(rt;
             scan_line(&names, i + 1, source.as_bytes()).is_ok(),
@@ -140,7 +161,7 @@ fn lines(rt: HostRuntime) {
 }
 
 // A line, why it is refused, and what is left of it where the word begins.
-static REFUSED: [(&str, Why, &str); 17] = [
+static REFUSED: [(&str, Why, &str); 20] = [
     (" MOV r0,#nothing", Why::UnknownName, "nothing"),
     (" LDRH r0,[r1]", Why::NotUnderstood, "LDRH r0,[r1]"),
     (" SWP r0,r1,[r2]", Why::NotUnderstood, "SWP r0,r1,[r2]"),
@@ -156,6 +177,9 @@ static REFUSED: [(&str, Why, &str); 17] = [
     (" ADR r0,8", Why::NoForm, "8"),
     (" NOP 1", Why::NotUnderstood, " 1"),
     (" LTORG 1", Why::NotUnderstood, " 1"),
+    (" B {PC", Why::NotUnderstood, "{PC"),
+    (" BL {FALSE}+4", Why::NotUnderstood, "{FALSE}+4"),
+    (" DCD 1,{ PC }", Why::NotUnderstood, "{ PC }"),
     (" MOV r0,r16", Why::UnknownName, "r16"),
     ("10 MOV r0,r0", Why::NotUnderstood, "10 MOV r0,r0"),
 ];

@@ -2,7 +2,7 @@
 
 use source_places::placed_source;
 
-static SOURCES: [(&str, &str); 13] = [
+static SOURCES: [(&str, &str); 14] = [
     // Halfwords: the lower byte first, at an even place.
     (
         " DCW 1,&1234, -2 ; three\nx DCW 65535\n = 1\n DCW 5\n DCWU 6\n",
@@ -65,6 +65,11 @@ static SOURCES: [(&str, &str); 13] = [
     (
         "t DCD 1,2\nu\n ASSERT u-t = 8 ; c\n ASSERT (. - t) / 4 < 2\n ASSERT u = 8\n ASSERT . - t >= 8 :LAND: {TRUE}\n",
         "t DCD 1,2\nu\n\n ASSERT (. - t) / 4 < 2\n ASSERT u = 8\n\n",
+    ),
+    // `{PC}` is the address of the line, too.
+    (
+        "t DCD 1,2\nu\n DCD ({PC}-t)/4\n ASSERT u-t = ({pc}-t)-4 ; c\n ADRL r2,{PC}\n B {PC}+(u-t)/2\n",
+        "t DCD 1,2\nu\n DCD &2\n\n DCD &E24F2008,&E2422C00\n B {PC}+&4\n",
     ),
     // What doesn't settle stays.
     ("a % (b-a)/1+1\nb DCW 1\n", "a % (b-a)/1+1\nb DCW 1\n"),

@@ -4,7 +4,7 @@
 use source_files::joined_source;
 use source_text::{plain_source, read_text};
 
-static SOURCES: [(&str, &str); 28] = [
+static SOURCES: [(&str, &str); 32] = [
     // Macros.
     (
         "\tMACRO\n$label\tDouble\t$to, $from=r0\n$label.\tADD\t$to,$from,$from ; twice $from\n\tMEND\nx Double r1, r2 ; c\n\
@@ -83,6 +83,28 @@ static SOURCES: [(&str, &str); 28] = [
     (
         " ASSERT 1 = 1\n ASSERT 1 = 2\n ASSERT x\n",
         "\n ASSERT 1 = 2\n ASSERT x\n",
+    ),
+    // What is for people or for linking, and what is an error.
+    (
+        " INFO 0, \"x\"\n ! 0,\"y\"\n INFO 4,\"z\"\n ! 1\n LEADR &8000\n ORG x\n strong y\nx ORG 0\nx INFO 0,\"x\"\n",
+        "\n\n INFO 4,\"z\"\n ! 1\n\n\n\nx ORG 0\nx INFO 0,\"x\"\n",
+    ),
+    // What the assembler itself has values for.
+    (
+        " GBLA o\no SETA {OPT}+1\n LDMFD sp!,{PC}^\n MOV r0,#{config}\n [ {CONFIG} = 26\n STMFD sp!,{r0,lr}\n ]\n \
+        MOV r0,#:LEN: \"abc\"\n DCD {VAR},o,:LENS:\"abc\",{CODESIZE}\n = 1,:CHR:65,:chr: 13\n",
+        "\n\n LDMFD sp!,{PC}^\n MOV r0,#&1A\n\n STMFD sp!,{r0,lr}\n\n MOV r0,#&3\n DCD @,&1,:LENS:\"abc\",&20\n = 1,65, 13\n",
+    ),
+    // The length of a variable's text, and of no number; a register may have the name of a built-in variable.
+    (
+        " GBLS t\nt SETS \"ab\" :CC: \"cd\"\n GBLA n\nn SETA :LEN: t * 2\n DCD n, :len:t, :LEN:n, :LEN: other, :LEN:\nvar RN 3\n \
+        MOV r0,#:LEN:|t| ; :LEN:t\n STMFD sp!,{var}\n",
+        "\n\n\n\n DCD &8, &4, :LEN:n, :LEN: other, :LEN:\nvar RN 3\n MOV r0,#&4 ; :LEN:t\n STMFD sp!,{var}\n",
+    ),
+    // Other spellings of shifts.
+    (
+        " [ 1<<4 >= 16\n DCD 1<<4,(2 >> 1)+a<<b,\"<<\" ; <<\n = '>', \">>\"\n ]\n",
+        "\n DCD 1:SHL:4,(2 :SHR: 1)+a:SHL:b,\"<<\" ; <<\n = '>', \">>\"\n\n",
     ),
     // Variables.
     (

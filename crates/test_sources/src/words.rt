@@ -28,6 +28,14 @@ fn sums(rt: HostRuntime) {
         ("OS_WriteI+\"*\"", 0x12A),
         ("1:SHL:32", 0),
         ("10 - 2 - 3", 5),
+        ("1:ROR:1", 0x8000_0000),
+        ("&FF :ror: 4 + 1", 0xF000_0010),
+        ("&80000001:ROL:4", 0x18),
+        ("&12345678 :ROL: 8", 0x3456_7812),
+        ("5:ROL:32", 5),
+        ("5:ROR:0", 5),
+        ("3:ROL:31", 0x8000_0001),
+        ("3:ROR:33", 0x8000_0001),
     ] {
         assert_eq!(rt; value(&rt, &names, text), number, "{text}");
     }
@@ -41,13 +49,15 @@ fn distances(rt: HostRuntime) {
     let Ok(()) = names.put(b"a$b", end) else {
         return;
     };
-    let Ok((form, rest)) = source_sum(&names, 4, b"|a$b|-.-8,") else {
-        panic!(rt; "no sum");
-    };
-    assert_eq!(rt; rest, b",".as_slice());
-    assert_eq!(rt; form.number, 0xFFFF_FFF8u32);
-    assert_eq!(rt; form.plus, Some(9usize));
-    assert_eq!(rt; form.minus, Some(4usize));
+    for text in ["|a$b|-.-8,", "|a$b| - {PC} - 8,", "-({pc}-|a$b|)-8,"] {
+        let Ok((form, rest)) = source_sum(&names, 4, text.as_bytes()) else {
+            panic!(rt; "{text}");
+        };
+        assert_eq!(rt; rest, b",".as_slice());
+        assert_eq!(rt; form.number, 0xFFFF_FFF8u32);
+        assert_eq!(rt; form.plus, Some(9usize));
+        assert_eq!(rt; form.minus, Some(4usize));
+    }
 }
 
 #[test]
@@ -58,6 +68,9 @@ fn refused(rt: HostRuntime) {
         ("1/0", Why::DivisionByZero, 1),
         ("(1+2", Why::NotUnderstood, 0),
         (".+.", Why::TooManyLabels, 1),
+        ("{PC}+.", Why::TooManyLabels, 1),
+        ("1:ROL:.", Why::TooManyLabels, 1),
+        ("1+{OPT}", Why::NotUnderstood, 5),
         ("1+", Why::NotUnderstood, 0),
         ("(((((((((1)))))))))", Why::TooDeep, 10),
     ] {
