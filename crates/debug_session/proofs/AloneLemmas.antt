@@ -9,14 +9,14 @@ use Rattle.debug_labels.specs.Words.{Naming}
 use Rattle.command_shell_lines.specs.Requests.{Request, Nothing, Hex, Asm, Boot, Run, Regs, Set, Poke, Call, Load, Step}
 use Rattle.command_shell_lines.specs.Requests.{Break, Unbreak, Mem, Code, Heap, Areas, Modules, Flex, Unknown}
 use Rattle.command_shell_lines.specs.Requests.{opens_block, request_of}
-use Rattle.debug_lines.specs.DebugRequests.{DebugRequest, Script, Stepping, Mode, Remark, View, SetPc, SetPsr, Put, Forget, Counts, Reset, Quit, Expect, Repeat, NotKnown}
+use Rattle.debug_lines.specs.DebugRequests.{DebugRequest, Script, Stepping, Mode, Source, Remark, View, SetPc, SetPsr, Put, Forget, Counts, Reset, Quit, Expect, Repeat, NotKnown}
 use Rattle.debug_lines.specs.DebugRequests.{debug_opens_block, is_known, is_repeatable, is_script_request, own_request, own_request_by, repeated_at, repeated_behind, repeated_if, repeated_line, simple_request}
 use Rattle.debug_lines.specs.Repeats.{repeated_text}
 use Rattle.debug_lines.specs.SteppingRequests.{SteppingRequest}
 use Rattle.debug_lines.specs.Tidy.{tidied_line}
 use Rattle.debug_session.specs.DebugScript.{debug_line_told, line_opens, plain_line_told, repeated_told, script_line_told, script_line_told_in, simple_line_told, simple_request_told, stepping_now, tidy_line_told, tidy_line_told_by, unless_quit}
 use Rattle.debug_session.specs.DebugState.{DebugAnswered, DebugState, then_debugged}
-use Rattle.debug_session.specs.Naming.{if_repeatable, meant_request, naming_of, repeated_now, repeated_with_places, unless_alone}
+use Rattle.debug_session.specs.Naming.{if_repeatable, meant_request, naming_of, repeated_with_places, unless_alone}
 use Rattle.debug_session.specs.declared.session.DebugSetting.{DebugSetting}
 use Rattle.debug_session.proofs.LineLemmas.{joined}
 use Rattle.debug_session.proofs.NamingLemmas.{repeatable_alone, unknown_alone}
@@ -64,6 +64,7 @@ request_alone : (c : DebugSetting) (d : DebugState) (number : ℕ) (words : List
 request_alone c d number words (Script request) block other alone = script_alone c d number request block other alone
 request_alone c d number words (Stepping is_traced request) block other alone = refl
 request_alone c d number words (Mode request) block other alone = refl
+request_alone c d number words (Source language name origin) block other alone = absurd (cc)
 request_alone c d number words Remark block other alone = refl
 request_alone c d number words (View shown) block other alone = refl
 request_alone c d number words (SetPc address) block other alone = refl

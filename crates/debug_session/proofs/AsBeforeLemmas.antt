@@ -1,5 +1,5 @@
 -- Lines of a script in a debugging session, beside the same in a script.
-use Rattle.std.proofs.Common.{◌≡◌, ◌≤◌, ◌<◌, ℕ, zero, suc, ◌+◌, Bool, true, false, List, [], ◌∷◌, ◌++◌, length, Option, None, Some, ◌⊎◌, inl, inr, ap, sym, subst, ◌∙◌, refl, arith}
+use Rattle.std.proofs.Common.{◌≡◌, ◌≤◌, ℕ, zero, suc, ◌+◌, Bool, true, false, List, [], ◌∷◌, ◌++◌, length, Option, None, Some, ◌⊎◌, inl, inr, ap, sym, ◌∙◌, refl, arith}
 use Rattle.std.specs.Prelude.{◌&&◌, if◌then◌else◌}
 use Rattle.std.proofs.lemmas.Bool.{cases_Bool}
 use Rattle.command_shell.specs.Memory.{script_with_budget}
@@ -15,7 +15,7 @@ use Rattle.debug_modes.specs.Modes.{takes_over}
 use Rattle.debug_session.specs.DebugScript.{checked_told, asks_nothing, is_refused_block, state_after_line, state_with_answer, plain_line_told, seen_of, some_lines_told, takes_steps}
 use Rattle.debug_session.specs.DebugScript.{told_or_refused}
 use Rattle.debug_session.specs.DebugState.{DebugAnswered, DebugState, then_debugged}
-use Rattle.debug_session.specs.declared.reports.ReportForm.TheVariants.{Answers}
+use Rattle.debug_reports.specs.declared.reports.ReportForm.TheVariants.{Answers}
 use Rattle.debug_session.specs.declared.session.DebugSetting.{DebugSetting}
 use Rattle.debug_session.proofs.UnreadLemmas.{IsUnread, budget_unread}
 

@@ -5,6 +5,7 @@ pub mod LineLemmas
 pub mod NamingLemmas
 pub mod OwnLemmas
 pub mod RepeatLemmas
+pub mod SourceLineLemmas
 pub mod SteppingLemmas
 pub mod TakenLemmas
 pub mod UnreadLemmas

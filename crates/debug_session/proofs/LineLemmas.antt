@@ -1,11 +1,14 @@
 -- The lines of a debugging script, one after another.
-use Rattle.std.proofs.Common.{◌≡◌, ◌≤◌, ◌<◌, ℕ, zero, suc, ◌+◌, Bool, true, false, List, [], ◌∷◌, ◌++◌, length, ap, sym, refl, subst, ◌∙◌, arith}
-use Rattle.command_shell.proofs.ScriptLemmas.{lines_after-shorter}
+use Rattle.std.proofs.Common.{◌≡◌, ◌≤◌, ◌<◌, ℕ, zero, suc, ◌+◌, Bool, true, false, List, [], ◌∷◌, ◌++◌, length, Option, Result, ap, sym, refl, subst, ◌∙◌, arith}
+use Rattle.command_shell.proofs.ScriptLemmas.{lines_after-shorter, number_step}
+use Rattle.std.specs.Prelude.{OnOk, if◌then◌else◌}
 use Rattle.command_shell_lines.specs.Blocks.{block_lines, lines_after, lines_taken}
-use Rattle.debug_session.specs.DebugScript.{debug_line_told, debug_lines_told, line_opens, some_lines_told, unless_quit}
-use Rattle.debug_session.specs.DebugState.{DebugAnswered, DebugState, debug_answer, then_debugged}
+use Rattle.command_shell_lines.specs.Requests.{Request, Hex, Nothing, opens_block, request_of}
+use Rattle.debug_lines.specs.DebugRequests.{Script, debug_opens_block, is_script_request, own_request}
+use Rattle.debug_lines.specs.Tidy.{tidied_line}
+use Rattle.debug_session.specs.DebugScript.{debug_line_told, debug_lines_told, line_opens, script_line_told, some_lines_told, tidy_line_told, unless_quit}
+use Rattle.debug_session.specs.DebugState.{DebugAnswered, DebugState, IsDebugged, debug_answer}
 use Rattle.debug_session.specs.declared.session.DebugSetting.{DebugSetting}
-use Rattle.profile.proofs.OutputLemmas.{AddsAllBut-start, Appends-from_all_but}
 
 abbrev pub joined : DebugAnswered → DebugAnswered → DebugAnswered
 joined first next = record { state = next.state; text = first.text ++ next.text }
@@ -91,3 +94,31 @@ none_told (suc n) c number d (line ∷ rest) quit = rw (quit) refl
 pub fewer : (line : List ℕ) (all rest left : List (List ℕ)) → all ≡ line ∷ rest → left ≡ lines_after (line_opens line) rest
     → length left < length all
 fewer line all rest left first stays = rw (first, stays) (omega (arith, lines_after-shorter (line_opens line) rest))
+
+-- a line that is one of a script as it stands, by what was read of it
+pub line_as_script : {A E : Type 0} (result : Result A E) (before after : Option (List ℕ)) (now d : DebugState) (c : DebugSetting)
+    (number : ℕ) (line : List ℕ) (block : List (List ℕ)) (r : Request) → r ≡ request_of line → is_script_request r ≡ true
+    → OnOk result (IsDebugged before after now (script_line_told c d number r block))
+    → OnOk result (IsDebugged before after now (debug_line_told c d number line block))
+line_as_script result before after now d c number line block r is script told =
+    let P : DebugAnswered → Type 0 = λ x. OnOk result (IsDebugged before after now x) in
+    let by : Request → DebugAnswered = λ q. if is_script_request q then script_line_told c d number q block
+    else tidy_line_told c d number (tidied_line line) block in
+    subst P (sym (ap (λ (b : Bool). if b then script_line_told c d number r block
+    else tidy_line_told c d number (tidied_line line) block) script) ∙ ap by is) told
+
+-- and whether it opens a block
+pub opens_as_script : (line : List ℕ) (r : Request) → r ≡ request_of line → is_script_request r ≡ true
+    → opens_block r ≡ line_opens line
+opens_as_script line r is script =
+    let by : Request → Bool = λ q. debug_opens_block (if is_script_request q then Script q else own_request (tidied_line line)) in
+    sym (ap (λ (b : Bool). debug_opens_block (if b then Script r else own_request (tidied_line line))) script) ∙ ap by is
+
+-- so many lines were read, and so many are left
+pub lines_counted : (number here next total : ℕ) (line : List ℕ) (all rest left : List (List ℕ)) (opens : Bool)
+    → number + length all ≡ total → all ≡ line ∷ rest → here ≡ number + 1
+    → next ≡ here + lines_taken opens rest → left ≡ lines_after opens rest → next + length left ≡ total
+lines_counted number here next total line all rest left true before first at counted stays =
+    number_step number here next total line all rest left (Hex []) before first at counted stays
+lines_counted number here next total line all rest left false before first at counted stays =
+    number_step number here next total line all rest left Nothing before first at counted stays

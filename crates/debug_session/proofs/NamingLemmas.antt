@@ -4,8 +4,8 @@ use Rattle.std.specs.Prelude.{if◌then◌else◌}
 use Rattle.std.proofs.lemmas.Bool.{not-true}
 use Rattle.debug_labels.specs.Lines.{line_with_numbers}
 use Rattle.debug_labels.specs.Words.{Naming}
-use Rattle.command_shell_lines.specs.Requests.{Request, opens_block}
-use Rattle.debug_lines.specs.DebugRequests.{DebugRequest, Script, Stepping, Mode, Remark, View, SetPc, SetPsr, Put, Forget, Counts, Reset, Quit, Expect, Repeat, NotKnown, debug_opens_block, is_known, is_repeatable, own_request, own_request_by, repeated_line, simple_request}
+use Rattle.command_shell_lines.specs.Requests.{opens_block}
+use Rattle.debug_lines.specs.DebugRequests.{DebugRequest, Script, Stepping, Mode, Source, Remark, View, SetPc, SetPsr, Put, Forget, Counts, Reset, Quit, Expect, Repeat, NotKnown, debug_opens_block, is_known, is_repeatable, own_request, own_request_by, repeated_line, simple_request}
 use Rattle.debug_lines.specs.Repeats.{repeated_text}
 use Rattle.debug_session.specs.Naming.{if_repeatable, meant_request, repeated_with_places, unless_alone}
 
@@ -14,6 +14,7 @@ pub repeatable_alone : (r : DebugRequest) → is_repeatable r ≡ true → debug
 repeatable_alone (Script request) may = not-true (opens_block request) may
 repeatable_alone (Stepping is_traced request) may = refl
 repeatable_alone (Mode request) may = refl
+repeatable_alone (Source language name origin) may = absurd (cc)
 repeatable_alone (Put name address) may = refl
 repeatable_alone Remark may = refl
 repeatable_alone (View shown) may = refl
@@ -32,6 +33,7 @@ pub unknown_alone : (r : DebugRequest) → is_known r ≡ false → debug_opens_
 unknown_alone (Script request) none = absurd (cc)
 unknown_alone (Stepping is_traced request) none = refl
 unknown_alone (Mode request) none = refl
+unknown_alone (Source language name origin) none = absurd (cc)
 unknown_alone (Put name address) none = refl
 unknown_alone Remark none = refl
 unknown_alone (View shown) none = refl
@@ -94,3 +96,12 @@ not_repeated n r may is not = rw (sym is ∙ not) refl
 pub with_places : (n : Naming) (line : List ℕ) (o : Option (ℕ × List ℕ)) → is_known (simple_request line) ≡ false
     → o ≡ repeated_text line → if_repeatable n o ≡ repeated_with_places n line
 with_places n line o unknown is = rw unknown (ap (if_repeatable n) is)
+
+-- a line behind which nothing is repeated
+no_places_if : (known : Bool) (n : Naming) (o : Option (ℕ × List ℕ)) → o ≡ None → None ≡ (if known then None else if_repeatable n o)
+no_places_if true n o none = refl
+no_places_if false n o none = sym (ap (if_repeatable n) none)
+
+pub no_places : (n : Naming) (line : List ℕ) (o : Option (ℕ × List ℕ)) → o ≡ repeated_text line → o ≡ None
+    → None ≡ repeated_with_places n line
+no_places n line o is none = no_places_if (is_known (simple_request line)) n (repeated_text line) (sym is ∙ none)

@@ -1,5 +1,5 @@
 -- What calls leave of a debugging session, by what those that they make leave.
-use Rattle.std.proofs.Common.{◌≡◌, ℕ, ◌-◌, Bool, true, false, List, [], Option, None, Some, Result, ap, refl, subst, sym, ◌∙◌}
+use Rattle.std.proofs.Common.{◌≡◌, ℕ, ◌-◌, Bool, true, false, List, [], Option, Some, Result, ap, refl, subst, sym, ◌∙◌}
 use Rattle.std.specs.Prelude.{◌&&◌, ◌||◌, not, if◌then◌else◌, OnOk}
 use Rattle.std.specs.Io.KnownBytes.{Appends}
 use Rattle.profile.proofs.OutputLemmas.{Appends-nothing}
@@ -15,16 +15,17 @@ use Rattle.debug_checks.specs.Endings.{ending_of, output_of}
 use Rattle.debug_labels.specs.Labels.{ImageLabels}
 use Rattle.debug_modes.specs.declared.modes.DebugModes.{DebugModes}
 use Rattle.debug_session.specs.Naming.{labels_with_block}
-use Rattle.debug_session.specs.DebugScript.{machine_change_told, checked_told, labels_after, simple_request_told, is_named_image, asks_nothing, is_refused_block, state_after_line, state_with_answer, plain_line_told, script_line_told_by, takes_steps, told_or_refused, view_told}
+use Rattle.debug_session.specs.DebugScript.{machine_change_told, checked_told, labels_after, simple_request_told, is_named_image, asks_nothing, is_refused_block, state_after_line, state_with_answer, script_line_told_by, takes_steps, told_or_refused, view_told}
 use Rattle.image_loader.specs.Entries.{Entry}
 use Rattle.command_shell.specs.Session.{script_state}
 use Rattle.debug_session.specs.DebugState.{DebugAnswered, DebugState, IsDebugged}
 use Rattle.debug_session.specs.Session.{debug_state}
-use Rattle.debug_session.specs.declared.reports.CheckTally.{CheckTally}
+use Rattle.debug_reports.specs.declared.reports.CheckTally.{CheckTally}
 use Rattle.debug_session.specs.declared.session.DebugSession.{DebugSession}
-use Rattle.debug_session.specs.Reports.{answer_in, debug_status, is_untested}
-use Rattle.debug_session.specs.declared.reports.ReportForm.{ReportForm}
-use Rattle.debug_session.specs.declared.reports.ReportForm.TheVariants.{Answers, Tap}
+use Rattle.debug_reports.specs.Reports.{answer_in, is_untested}
+use Rattle.debug_session.specs.ExitStatus.{debug_status}
+use Rattle.debug_reports.specs.declared.reports.ReportForm.{ReportForm}
+use Rattle.debug_reports.specs.declared.reports.ReportForm.TheVariants.{Answers, Tap}
 use Rattle.debug_session.specs.declared.session.DebugSetting.{DebugSetting}
 
 pub untested_status : (d : DebugState) (untested : Bool) (last : Option Stop) (status : ℕ)
@@ -118,7 +119,7 @@ noted_state c d r told = record d {
 -- what a session keeps of an answer
 pub session_noted : (old mid new : DebugSession) (images after : List Entry) (answer : List ℕ) (takes : Bool)
     (r : Request) (told : Answered)
-    → mid ≡ record old { session = mid.session }
+    → mid ≡ record old { session = mid.session; spare = mid.spare }
     → new ≡ record mid { answer = new.answer; output = new.output; steps = new.steps }
     → new.answer.items ≡ (if takes then ending_of answer else answer)
     → new.output.items ≡ (if takes then output_of answer else mid.output.items)
@@ -157,7 +158,7 @@ labels_taken taken noted d refused images r told lines block is same refusal the
     ∙ ap (λ (ls : List (List ℕ)). if is_refused_block d.script.images told.state.images r then d.labels
     else labels_with_block d.labels told.state.images r ls) follows
 
-pub noted_labels : (old mid new : DebugSession) → mid ≡ record old { session = mid.session }
+pub noted_labels : (old mid new : DebugSession) → mid ≡ record old { session = mid.session; spare = mid.spare }
     → new ≡ record mid { answer = new.answer; output = new.output; steps = new.steps } → new.labels ≡ old.labels
 noted_labels old mid new first next =
     ap (λ (s : DebugSession). s.labels) next ∙ ap (λ (s : DebugSession). s.labels) first
@@ -175,7 +176,7 @@ session_labelled noted new after c d r told block next state labels =
 
 -- a session whose script alone is another
 pub session_moved : (old mid : DebugSession) (images after : List Entry) (to : ScriptState)
-    → mid ≡ record old { session = mid.session } → script_state mid.session after ≡ to
+    → mid ≡ record old { session = mid.session; spare = mid.spare } → script_state mid.session after ≡ to
     → debug_state mid after ≡ record (debug_state old images) { script = to }
 session_moved old mid images after to first state =
     ap (λ (s : DebugSession). debug_state s after) first
@@ -194,33 +195,34 @@ empty_in Answers = refl
 empty_in Tap = refl
 
 -- a line that asks for nothing
-pub nothing_told : (c : DebugSetting) (d now : DebugState) (number : ℕ) (r : Request) (block : List (List ℕ))
+pub nothing_told : (c : DebugSetting) (d now : DebugState) (number line : ℕ) (r : Request) (block named : List (List ℕ))
     (held : Option (List ℕ)) (nothing : Bool) → nothing ≡ asks_nothing r → nothing ≡ true
-    → now ≡ record d { script = (request_told (script_with_budget d.script c.budget) number r block).state }
-    → IsDebugged held held now (plain_line_told c d number r block)
-nothing_told c d now number Nothing block held nothing asks none state = record {
+    → now ≡ record d { script = (request_told (script_with_budget d.script c.budget) line r block).state }
+    → IsDebugged held held now
+    (script_line_told_by c d number r (request_told (script_with_budget d.script c.budget) line r block) named)
+nothing_told c d now number line Nothing block named held nothing asks none state = record {
   text = subst (λ (xs : List ℕ). Appends held held xs) (sym (empty_in c.form)) (Appends-nothing held);
   state = state;
 }
-nothing_told c d now number (Hex name) block held nothing asks none state = absurd (cc)
-nothing_told c d now number (Asm name origin) block held nothing asks none state = absurd (cc)
-nothing_told c d now number (Boot name) block held nothing asks none state = absurd (cc)
-nothing_told c d now number Run block held nothing asks none state = absurd (cc)
-nothing_told c d now number Regs block held nothing asks none state = absurd (cc)
-nothing_told c d now number (Set register value) block held nothing asks none state = absurd (cc)
-nothing_told c d now number (Poke address value) block held nothing asks none state = absurd (cc)
-nothing_told c d now number (Call called) block held nothing asks none state = absurd (cc)
-nothing_told c d now number (Load text) block held nothing asks none state = absurd (cc)
-nothing_told c d now number (Step count) block held nothing asks none state = absurd (cc)
-nothing_told c d now number (Break address) block held nothing asks none state = absurd (cc)
-nothing_told c d now number (Unbreak address) block held nothing asks none state = absurd (cc)
-nothing_told c d now number (Mem address count) block held nothing asks none state = absurd (cc)
-nothing_told c d now number (Code address count) block held nothing asks none state = absurd (cc)
-nothing_told c d now number (Heap address) block held nothing asks none state = absurd (cc)
-nothing_told c d now number Areas block held nothing asks none state = absurd (cc)
-nothing_told c d now number Modules block held nothing asks none state = absurd (cc)
-nothing_told c d now number Flex block held nothing asks none state = absurd (cc)
-nothing_told c d now number Unknown block held nothing asks none state = absurd (cc)
+nothing_told c d now number line (Hex name) block named held nothing asks none state = absurd (cc)
+nothing_told c d now number line (Asm name origin) block named held nothing asks none state = absurd (cc)
+nothing_told c d now number line (Boot name) block named held nothing asks none state = absurd (cc)
+nothing_told c d now number line Run block named held nothing asks none state = absurd (cc)
+nothing_told c d now number line Regs block named held nothing asks none state = absurd (cc)
+nothing_told c d now number line (Set register value) block named held nothing asks none state = absurd (cc)
+nothing_told c d now number line (Poke address value) block named held nothing asks none state = absurd (cc)
+nothing_told c d now number line (Call called) block named held nothing asks none state = absurd (cc)
+nothing_told c d now number line (Load text) block named held nothing asks none state = absurd (cc)
+nothing_told c d now number line (Step count) block named held nothing asks none state = absurd (cc)
+nothing_told c d now number line (Break address) block named held nothing asks none state = absurd (cc)
+nothing_told c d now number line (Unbreak address) block named held nothing asks none state = absurd (cc)
+nothing_told c d now number line (Mem address count) block named held nothing asks none state = absurd (cc)
+nothing_told c d now number line (Code address count) block named held nothing asks none state = absurd (cc)
+nothing_told c d now number line (Heap address) block named held nothing asks none state = absurd (cc)
+nothing_told c d now number line Areas block named held nothing asks none state = absurd (cc)
+nothing_told c d now number line Modules block named held nothing asks none state = absurd (cc)
+nothing_told c d now number line Flex block named held nothing asks none state = absurd (cc)
+nothing_told c d now number line Unknown block named held nothing asks none state = absurd (cc)
 
 -- a view by its text
 pub view_of_text : (before after : Option (List ℕ)) (now d : DebugState) (c : DebugSetting) (text shown : List ℕ)

@@ -1,6 +1,6 @@
 -- A line that is answered many times, one time after another.
-use Rattle.std.proofs.Common.{◌≡◌, ℕ, zero, suc, ◌+◌, Bool, true, false, List, [], ◌++◌, Option, ap, sym, refl, subst, ◌∙◌, arith}
-use Rattle.debug_session.specs.DebugScript.{repeated_told, simple_line_told, unless_quit}
+use Rattle.std.proofs.Common.{◌≡◌, ℕ, zero, suc, ◌+◌, true, false, List, [], ◌++◌, Option, ap, sym, refl, subst, ◌∙◌, arith}
+use Rattle.debug_session.specs.DebugScript.{repeated_told, simple_line_told}
 use Rattle.debug_session.specs.DebugState.{DebugAnswered, DebugState, IsDebugged, debug_answer}
 use Rattle.debug_session.specs.declared.session.DebugSetting.{DebugSetting}
 use Rattle.debug_session.proofs.LineLemmas.{joined, not_quit}

@@ -1,5 +1,5 @@
 -- Lines that take steps in modes.
-use Rattle.std.proofs.Common.{◌≡◌, ℕ, ◌+◌, ◌-◌, Bool, true, false, List, [], ◌++◌, Option, None, Some, Result, Ok, Err, ap, refl, subst, sym, ◌∙◌}
+use Rattle.std.proofs.Common.{◌≡◌, ℕ, Bool, true, false, List, ◌++◌, Option, None, Some, Result, Ok, Err, refl, subst}
 use Rattle.std.specs.Prelude.{OnOk, if◌then◌else◌}
 use Rattle.std.specs.Io.KnownBytes.{Appends}
 use Rattle.profile.proofs.OutputLemmas.{Appends-join}
@@ -14,9 +14,9 @@ use Rattle.debug_lines.specs.SteppingRequests.{SteppingRequest, stepping_in}
 use Rattle.debug_modes.specs.declared.modes.DebugModes.{DebugModes}
 use Rattle.debug_session.specs.DebugScript.{put_done, put_text, stepping_told_by, view_told}
 use Rattle.debug_session.specs.DebugState.{DebugAnswered, DebugState, IsDebugged}
-use Rattle.debug_session.specs.Reports.{answer_in}
-use Rattle.debug_session.specs.declared.reports.ReportForm.{ReportForm}
-use Rattle.debug_session.specs.declared.reports.ReportForm.TheVariants.{Answers, Tap}
+use Rattle.debug_reports.specs.Reports.{answer_in}
+use Rattle.debug_reports.specs.declared.reports.ReportForm.{ReportForm}
+use Rattle.debug_reports.specs.declared.reports.ReportForm.TheVariants.{Answers, Tap}
 use Rattle.debug_session.specs.declared.session.DebugSetting.{DebugSetting}
 
 -- a line that takes steps opens no block

@@ -1,5 +1,5 @@
 -- Pieces of a debugging script that are typed one after another.
-use Rattle.std.proofs.Common.{◌≡◌, ◌≤◌, ◌<◌, ◌⊎◌, inl, inr, ℕ, ◌+◌, ◌-◌, Bool, true, false, List, [], ◌∷◌, ◌++◌, length, take, drop, position, IfSome, Option, Some, None, append_assoc, append-nil, true≢false, ap, sym, subst, refl, ◌∙◌, arith}
+use Rattle.std.proofs.Common.{◌≡◌, ◌≤◌, ◌<◌, inl, inr, ℕ, ◌+◌, ◌-◌, ◌^◌, Bool, true, false, List, [], ◌∷◌, ◌++◌, length, take, drop, position, IfSome, Option, Some, None, append_assoc, append-nil, true≢false, ap, sym, subst, refl, ◌∙◌, arith}
 use Rattle.std.specs.Prelude.{◌&&◌, ◌==◌}
 use Rattle.std.proofs.lemmas.List.{drop-take, length-append, length-take-le, take-append-drop, take-append-le}
 use Rattle.std.proofs.lemmas.Bool.{cases_order}
@@ -9,12 +9,13 @@ use Rattle.std.specs.Str.Lines.{lines}
 use Rattle.image_loader.specs.Entries.{Entry}
 use Rattle.profile.proofs.OutputLemmas.{Appends-join}
 use Rattle.text_lines.specs.WholeLines.{line_of_some, unended_line, whole_lines}
-use Rattle.text_lines.proofs.WholeLineLemmas.{all_unended, lines_cut, lines_whole_or_last, unended_line_goes_on, whole_at_place, whole_lines_go_on}
+use Rattle.command_shell_lines.specs.text_lines.specs.Lines.{ReadingPlace}
+use Rattle.text_lines.proofs.WholeLineLemmas.{all_unended, lines_at_most, lines_cut, lines_whole_or_last, unended_line_goes_on, whole_at_place, whole_lines_go_on}
 use Rattle.debug_lines.specs.WholeDebugRequests.{AreWholeDebugRequests, is_debug_block_open_after, is_debug_block_open_after_lines, is_debug_block_open_throughout}
 use Rattle.debug_session.specs.DebugScript.{debug_lines_told}
 use Rattle.debug_session.specs.DebugState.{DebugAnswered, DebugState, IsDebugged}
 use Rattle.debug_session.specs.Session.{debug_state}
-use Rattle.debug_session.specs.Typing.{IsTaken, IsTypedAlike, TypedPieceThenRest, TypedPiecesJoin, TypedTextTakenOneWay}
+use Rattle.debug_session.specs.Typing.{IsTaken, TypedPieceThenRest, TypedPiecesJoin, TypedTextTakenOneWay}
 use Rattle.debug_session.specs.declared.session.DebugSetting.{DebugSetting}
 use Rattle.debug_session.specs.declared.typing.DebugTyping.{DebugTyping}
 use Rattle.debug_session.proofs.JoinLemmas.{requests_join}
@@ -320,3 +321,19 @@ taken_one_way first one other images images_one images_other before after after_
           too.number ∙ sym (ap (λ (n : ℕ). first.number + length (lines (take n text))) same) ∙ sym taken.number;
       written = same_written before after after_other _ taken.told.text told.text;
     }
+
+-- THE NUMBER OF LINES
+
+-- those that were read, and those that are left, are all lines of the requests
+pub number_after_all : (now place : ReadingPlace) (text : List ℕ) (before number count : ℕ)
+    → place ≡ record { left = lines text; number = before }
+    → now.number + length now.left ≡ place.number + length place.left
+    → number ≡ now.number → count ≡ length now.left → number + count ≡ before + length (lines text)
+number_after_all now place text before number count at counted is left =
+    omega (arith, is, left, counted, ap (λ (p : ReadingPlace). p.number + length p.left) at)
+
+-- so that they have a number, with all that waits
+pub numbered_in_all : (before after : ℕ) (all requests waiting : List ℕ) → before + length all < 2 ^ 64
+    → all ≡ requests ++ waiting → after ≡ before + length (lines requests) → after + length waiting < 2 ^ 64
+numbered_in_all before after all requests waiting inside parts is =
+    omega (arith, inside, ap length parts, length-append requests waiting, is, lines_at_most requests)

@@ -1,5 +1,5 @@
 -- A line of a script that takes no steps reads nothing of the budget, and leaves it.
-use Rattle.std.proofs.Common.{◌≡◌, ℕ, true, false, List, Option, Some, None, Result, Ok, Err, refl}
+use Rattle.std.proofs.Common.{◌≡◌, ℕ, false, List, Option, Some, None, Result, Ok, Err, refl}
 use Rattle.std.specs.Prelude.{codes}
 use Rattle.assembler.specs.Passes.{means_lines}
 use Rattle.assembler.specs.declared.error.AsmError.{AsmError}
@@ -15,7 +15,7 @@ use Rattle.profile.specs.declared.fault.Fault.{Fault}
 use Rattle.debugger.specs.swi_dispatch_guest.specs.MachineState.{MachineState}
 use Rattle.debugger.specs.swi_dispatch_guest.specs.Writes.{machine_after_poke}
 use Rattle.command_shell.specs.Answers.{break_text, unbreak_text}
-use Rattle.command_shell.specs.Images.{asm_block, boot_done, boot_found, hex_block, image_added, image_opened, image_sized}
+use Rattle.command_shell.specs.Images.{asm_block, boot_done, boot_found, hex_block, image_added, image_opened}
 use Rattle.command_shell.specs.Memory.{poke_done, script_with_budget}
 use Rattle.command_shell.specs.Script.{request_told}
 use Rattle.command_shell.specs.State.{Answered, ScriptState}

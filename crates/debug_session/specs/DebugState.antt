@@ -1,5 +1,5 @@
 -- What a debugging script works on, and what a line of it is answered.
-use Rattle.std.specs.Prelude.{◌≡◌, ℕ, ◌+◌, ◌-◌, ◌^◌, min, Bool, false, List, [], ◌++◌, Option}
+use Rattle.std.specs.Prelude.{◌≡◌, ℕ, Bool, false, List, [], ◌++◌, Option}
 use Rattle.std.specs.Io.KnownBytes.{Appends}
 use Rattle.image_loader.specs.Entries.{Entry}
 use Rattle.command_shell.specs.State.{ScriptState, script_start_state}
@@ -8,15 +8,9 @@ use Rattle.command_shell.specs.declared.error.RunError.TheVariants.{Memory, Read
 use Rattle.debug_labels.specs.Labels.{ImageLabels}
 use Rattle.debug_modes.specs.Modes.{no_modes}
 use Rattle.debug_modes.specs.declared.modes.DebugModes.{DebugModes}
-use Rattle.debug_session.specs.declared.reports.CheckTally.{CheckTally}
+use Rattle.debug_reports.specs.Reports.{no_tally}
+use Rattle.debug_reports.specs.declared.reports.CheckTally.{CheckTally}
 use Rattle.debug_session.specs.declared.session.DebugSetting.{DebugSetting}
-
--- A count, up to 2^64 - 1.
-abbrev pub one_more : ℕ → ℕ
-one_more n = min (n + 1) (2 ^ 64 - 1)
-
-abbrev pub no_tally : CheckTally
-no_tally = record { passed = 0; failed = 0; refused = 0 }
 
 -- What a debugging script works on: what a script does, the labels of the images that were assembled,
 -- the modes in which lines that take steps are answered, the last answer of a line that is no EXPECT, without what the guest printed, what it printed in the

@@ -1,6 +1,6 @@
 -- What a tidy line means where words of it may name places: a line that means something as it stands
 -- is that line, and any other is read with the numbers of the places.
-use Rattle.std.specs.Prelude.{ℕ, List, ◌++◌, ◌∷◌, [], Bool, true, false, Option, Some, None, Result, Ok, Err, if◌then◌else◌}
+use Rattle.std.specs.Prelude.{ℕ, List, ◌++◌, ◌∷◌, [], Option, Some, None, Result, Ok, if◌then◌else◌}
 use Rattle.std.specs.Option.{option_or}
 use Rattle.image_loader.specs.Entries.{Entry, bytes_of_image}
 use Rattle.assembler.specs.Passes.{labels_of_lines}

@@ -1,5 +1,5 @@
 -- The state of a debugging script, as the code holds it: the session and the images.
-use Rattle.std.specs.Prelude.{ℕ, List}
+use Rattle.std.specs.Prelude.{List}
 use Rattle.image_loader.specs.Entries.{Entry}
 use Rattle.command_shell.specs.Session.{script_state}
 use Rattle.debug_session.specs.DebugState.{DebugState}

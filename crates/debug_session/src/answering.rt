@@ -6,10 +6,11 @@ ghost use Rattle.command_shell_lines.specs.Blocks.{block_lines, lines_after, lin
 
 use crate::session::DebugSession;
 use command_shell::RunError;
+use command_shell_lines::command_of;
 use command_shell_lines::text_lines::Lines;
 use debug_lines::{
-    DebugCommand, RepeatedLine, is_known_line, is_repeatable_line, is_script_line, repeated_line,
-    repeated_text, simple_command, tidied, untraced_line,
+    DebugCommand, RepeatedLine, is_known_line, is_repeatable_line, is_script_command,
+    repeated_line, repeated_text, simple_command, tidied,
 };
 use debug_places::names_on;
 use image_loader::Images;
@@ -19,14 +20,14 @@ use std::alloc::AllocError;
 impl DebugSession {
     ghost use Rattle.image_loader.specs.Entries.{Entry};
     ghost use Rattle.debug_labels.specs.Lines.{line_with_numbers};
-    ghost use Rattle.debug_lines.specs.DebugRequests.{debug_opens_block, is_known, is_repeatable, own_request, simple_request};
+    ghost use Rattle.debug_lines.specs.DebugRequests.{debug_opens_block, debug_request_of_command, is_known, is_repeatable, own_request, simple_request};
     ghost use Rattle.debug_lines.specs.Repeats.{count_and_line};
     ghost use Rattle.debug_session.specs.DebugScript.{debug_line_told, line_opens, repeated_told, simple_line_told, simple_request_told, tidy_line_told};
     ghost use Rattle.debug_session.specs.DebugState.{IsDebugged};
     ghost use Rattle.debug_session.specs.Naming.{if_repeatable, meant_request, naming_of, repeated_now, repeated_with_places};
     ghost use Rattle.debug_session.specs.Session.{debug_state};
 
-    /// Answers a line; of a HEX or an ASM line, reads its block from the lines that follow.
+    /// Answers a line; of one that opens a block, reads the block from the lines that follow.
     ///
     /// # Errors
     ///
@@ -49,8 +50,9 @@ impl DebugSession {
         ensures errors { IfErr result IsLineError }
         ensures same_flag { OnOk result (W.has_failed sink.new ≡ W.has_failed sink.old) }
     {
-        if is_script_line(line) {
-            return self.script_line(images, sink, line, script);
+        let command = command_of(line);
+        if is_script_command(&command) {
+            return self.script_line(images, sink, &command, script);
         }
         let words = tidied(self.alloc, line)?;
         self.tidy_line(images, sink, words.as_slice(), script)
@@ -111,13 +113,13 @@ impl DebugSession {
         ensures some { IfOk result (λ repeated. IfSome repeated
             (λ r. is_known (simple_request words.now) ≡ false)) }
     {
+        let Some(repeated) = repeated_text(words) else {
+            return Ok(None);
+        };
         if is_known_line(words) {
             return Ok(None);
         }
-        match repeated_text(words) {
-            Some(repeated) => self.if_repeatable(repeated),
-            None => Ok(None),
-        }
+        self.if_repeatable(repeated)
     }
 
     // The same where the line may be repeated now.
@@ -210,46 +212,48 @@ impl DebugSession {
         ensures errors { IfErr result IsLineError }
         ensures same_flag { OnOk result (W.has_failed sink.new ≡ W.has_failed sink.old) }
     {
-        if is_known_line(words) {
-            return self.known_line(images, sink, words, words, script);
+        let command = simple_command(words);
+        if command.is_known() {
+            return self.known_line(images, sink, words, command, script);
         }
         let numbered = self.with_numbers(words)?;
-        let line = numbered.as_slice();
-        if is_repeatable_line(line) {
-            return self.known_line(images, sink, words, line, script);
+        let meant = simple_command(numbered.as_slice());
+        if meant.is_repeatable() {
+            return self.known_line(images, sink, words, meant, script);
         }
         self.refuse(sink, script.number())
     }
 
-    // Answers a line by what it means as it stands; `words` are the line as it was typed, made tidy.
+    // Answers a line by what it asks for; `words` are the line as it was typed, made tidy.
     fn known_line<W: Sink>(
         &mut self,
         images: &mut Images,
         sink: &mut W,
         words: &[u8],
-        line: &[u8],
+        command: DebugCommand<'_>,
         script: &mut Lines,
     ) -> Result<(), RunError>
         ensures told { OnOk result (IsDebugged (W.contents sink.old) (W.contents sink.new)
             (debug_state self.new images.new)
             (simple_request_told self.old.setting (debug_state self.old images.old) script.old.number
-            words.now (simple_request line.now) (block_lines script.old.left))) }
+            words.now (debug_request_of_command command.entry) (block_lines script.old.left))) }
         ensures left { OnOk result (script.new.left
-            ≡ lines_after (debug_opens_block (simple_request line.now)) script.old.left) }
+            ≡ lines_after (debug_opens_block (debug_request_of_command command.entry)) script.old.left) }
         ensures number { OnOk result (script.new.number ≡ script.old.number
-            + lines_taken (debug_opens_block (simple_request line.now)) script.old.left) }
+            + lines_taken (debug_opens_block (debug_request_of_command command.entry)) script.old.left) }
         ensures setting { self.new.setting ≡ self.old.setting }
         ensures errors { IfErr result IsLineError }
         ensures same_flag { OnOk result (W.has_failed sink.new ≡ W.has_failed sink.old) }
     {
-        match simple_command(line) {
-            DebugCommand::Script(_) => {
-                self.script_line(images, sink, untraced_line(line), script)
-            }
+        match command {
+            DebugCommand::Script(command) => self.script_line(images, sink, &command, script),
             DebugCommand::Stepping(is_traced, command) => {
                 self.stepping_line(images, sink, is_traced, &command)
             }
             DebugCommand::Mode(command) => self.mode_line(sink, &command),
+            DebugCommand::Source(language, name, origin) => {
+                self.source_line(images, sink, language, name, origin, script)
+            }
             DebugCommand::Remark => Ok(()),
             DebugCommand::View(view) => self.look(sink, view),
             DebugCommand::SetPc(address) => {

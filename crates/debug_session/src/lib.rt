@@ -7,12 +7,15 @@ mod help;
 pub mod laws;
 mod looking;
 mod own_lines;
-pub mod reports;
 mod script_lines;
 mod session;
+mod source_blocks;
 mod stepping_lines;
 mod typing;
 
-pub use reports::{CheckTally, ReportForm};
+pub use debug_reports;
+pub use debug_reports::{CheckTally, ReportForm};
+pub use run_meter;
+pub use run_meter::RunMeter;
 pub use session::{DebugSession, DebugSetting};
-pub use typing::DebugTyping;
+pub use typing::{DebugTyping, TypedPiece};

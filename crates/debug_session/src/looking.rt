@@ -4,10 +4,10 @@
 ghost use Rattle.std.specs.Prelude.{◌≡◌, List, IfOk};
 ghost use Rattle.debugger.specs.swi_dispatch_guest.specs.Parts.{state_of};
 
-use crate::reports::CheckTally;
 use crate::session::DebugSession;
 use debug_lines::is_known_line;
 use debug_places::names_on;
+use debug_reports::CheckTally;
 use debugger::swi_dispatch::Machine;
 use std::alloc::{AllocError, Global};
 

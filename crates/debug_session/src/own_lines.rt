@@ -9,7 +9,6 @@ ghost use Rattle.debug_session.specs.DebugScript.{forget_text, put_text};
 ghost use Rattle.profile.specs.Output.{Writes};
 
 use crate::help::HELP;
-use crate::reports::{push_answer, push_fail, push_pass, push_refusal};
 use crate::session::DebugSession;
 use byte_writes::put_bytes;
 use command_shell::{RunError, tell_unknown};
@@ -18,6 +17,7 @@ use debug_checks::{Mismatch, SeenMachine, check, push_reason, status_with};
 use debug_lines::{DebugView, Expectation, StatusPattern};
 use debug_modes::refused_line;
 use debug_places::{names_on, show_frames, show_stack, show_where};
+use debug_reports::{push_answer, push_fail, push_pass, push_refusal};
 use debug_views::{show_banks, show_words};
 use image_loader::Images;
 use profile::{HexText, Sink, WriteFault, push_all};

@@ -1,26 +1,28 @@
 //! Lines of a script within a debugging script: each may take the whole budget, and what it is
 //! answered is kept for the lines that expect something of it.
 
-ghost use Rattle.std.specs.Prelude.{◌≡◌, ◌+◌, ◌-◌, ◌&&◌, ◌||◌, not, true, List, Some, [], IfOk, IfErr, OnOk, OnErr, if◌then◌else◌};
+ghost use Rattle.std.specs.Prelude.{◌≡◌, ◌+◌, ◌-◌, ◌&&◌, ◌||◌, not, false, true, List, Some, [], IfOk, IfErr, OnOk, OnErr, if◌then◌else◌};
 ghost use Rattle.command_shell.specs.Error.{IsLineError};
 ghost use Rattle.command_shell.specs.Script.{request_told};
 ghost use Rattle.command_shell_lines.specs.Blocks.{block_lines, lines_after, lines_taken};
 ghost use Rattle.debug_checks.specs.Endings.{ending_of, output_of};
-ghost use Rattle.command_shell_lines.specs.Requests.{opens_block, request_of};
+ghost use Rattle.command_shell_lines.specs.Requests.{opens_block, request_of_command};
 ghost use Rattle.assembler.specs.Passes.{labels_of_lines};
 ghost use Rattle.debug_session.specs.DebugScript.{is_named_image, asks_nothing, takes_steps};
 ghost use Rattle.debug_session.specs.Naming.{labels_with_block, labels_with_image};
 
-use crate::reports::{push_answer, push_refusal};
 use crate::session::DebugSession;
 use assembler::labels_of_lines;
 use command_shell::RunError;
 use command_shell_lines::text_lines::Lines;
-use command_shell_lines::{Origin, ScriptCommand, command_of, skip_block};
-use debug_checks::{ending_of, output_of};
+use command_shell_lines::{Origin, ScriptCommand, skip_block};
+use debug_checks::answer_parts;
+use debug_reports::{push_answer, push_refusal};
 use image_loader::Images;
 use profile::{Sink, WriteFault};
+use run_meter::answer_metered;
 use std::alloc::AllocError;
+use std::mem::replace;
 use view_items::TextSink;
 
 impl DebugSession {
@@ -28,66 +30,143 @@ impl DebugSession {
     ghost use Rattle.command_shell.specs.Session.{script_state};
     ghost use Rattle.command_shell.specs.State.{IsAnswered};
     ghost use Rattle.image_loader.specs.Entries.{Entry};
-    ghost use Rattle.debug_session.specs.DebugScript.{plain_line_told, told_or_refused};
+    ghost use Rattle.debug_session.specs.DebugScript.{plain_line_told, script_line_told_by, told_or_refused};
     ghost use Rattle.debug_session.specs.DebugState.{IsDebugged};
     ghost use Rattle.debug_session.specs.Session.{debug_state};
 
-    // Answers a line of a script as a script does, with the whole budget for its steps.
+    // Answers what a line of a script asks for as a script does, with the whole budget for its steps.
     pub(crate) fn plain_line<W: Sink>(
         &mut self,
         images: &mut Images,
         sink: &mut W,
-        line: &[u8],
+        command: &ScriptCommand<'_>,
         script: &mut Lines,
     ) -> Result<(), RunError>
         ensures told { OnOk result (IsDebugged (W.contents sink.old) (W.contents sink.new)
             (debug_state self.new images.new)
             (plain_line_told self.old.setting (debug_state self.old images.old) script.old.number
-            (request_of line.now) (block_lines script.old.left))) }
+            (request_of_command command.now) (block_lines script.old.left))) }
         ensures left { OnOk result (script.new.left
-            ≡ lines_after (opens_block (request_of line.now)) script.old.left) }
+            ≡ lines_after (opens_block (request_of_command command.now)) script.old.left) }
         ensures number { OnOk result (script.new.number ≡ script.old.number
-            + lines_taken (opens_block (request_of line.now)) script.old.left) }
+            + lines_taken (opens_block (request_of_command command.now)) script.old.left) }
         ensures setting { self.new.setting ≡ self.old.setting }
         ensures errors { IfErr result IsLineError }
         ensures same_flag { OnOk result (W.has_failed sink.new ≡ W.has_failed sink.old) }
     {
+        if !command.opens_block() {
+            return self.lone_line(images, sink, command, script);
+        }
         let number = script.number();
         let block = script.again();
-        let was_there = is_named_image(images, line);
-        let answer = self.answer_to(images, line, script)?;
-        if asks_nothing(line) {
+        self.named_line(images, sink, number, command, script, &block)
+    }
+
+    // The same of a line that opens no block.
+    fn lone_line<W: Sink>(
+        &mut self,
+        images: &mut Images,
+        sink: &mut W,
+        command: &ScriptCommand<'_>,
+        script: &mut Lines,
+    ) -> Result<(), RunError>
+        requires { opens_block (request_of_command command.now) ≡ false }
+        ensures told { OnOk result (IsDebugged (W.contents sink.old) (W.contents sink.new)
+            (debug_state self.new images.new)
+            (plain_line_told self.old.setting (debug_state self.old images.old) script.old.number
+            (request_of_command command.now) (block_lines script.old.left))) }
+        ensures left { OnOk result (script.new.left
+            ≡ lines_after (opens_block (request_of_command command.now)) script.old.left) }
+        ensures number { OnOk result (script.new.number ≡ script.old.number
+            + lines_taken (opens_block (request_of_command command.now)) script.old.left) }
+        ensures setting { self.new.setting ≡ self.old.setting }
+        ensures errors { IfErr result IsLineError }
+        ensures same_flag { OnOk result (W.has_failed sink.new ≡ W.has_failed sink.old) }
+    {
+        let answer = self.answer_to(images, command, script)?;
+        if !asks_nothing(command) {
+            let text = answer.as_slice();
+            self.note(takes_steps(command), text)?;
+            push_answer(sink, self.setting.form, text)?;
+        }
+        self.spare = answer;
+        Ok(())
+    }
+
+    // The same of a line at that number; of one that opens a block, `named` are the lines from which
+    // its labels are taken.
+    pub(crate) fn named_line<W: Sink>(
+        &mut self,
+        images: &mut Images,
+        sink: &mut W,
+        number: usize,
+        command: &ScriptCommand<'_>,
+        script: &mut Lines,
+        named: &Lines,
+    ) -> Result<(), RunError>
+        ensures told { OnOk result (IsDebugged (W.contents sink.old) (W.contents sink.new)
+            (debug_state self.new images.new)
+            (script_line_told_by self.old.setting (debug_state self.old images.old) number
+            (request_of_command command.now) (request_told (script_with_budget
+            (debug_state self.old images.old).script self.old.setting.budget) script.old.number
+            (request_of_command command.now) (block_lines script.old.left))
+            (block_lines named.now.left))) }
+        ensures left { OnOk result (script.new.left
+            ≡ lines_after (opens_block (request_of_command command.now)) script.old.left) }
+        ensures taken { OnOk result (script.new.number ≡ script.old.number
+            + lines_taken (opens_block (request_of_command command.now)) script.old.left) }
+        ensures setting { self.new.setting ≡ self.old.setting }
+        ensures errors { IfErr result IsLineError }
+        ensures same_flag { OnOk result (W.has_failed sink.new ≡ W.has_failed sink.old) }
+    {
+        let was_there = is_named_image(images, command);
+        let answer = self.answer_to(images, command, script)?;
+        if asks_nothing(command) {
             return Ok(());
         }
         let text = answer.as_slice();
-        self.note(takes_steps(line), text)?;
-        let is_refused = is_refused_block(was_there, images, line);
-        self.take_labels(images, line, &block, is_refused)?;
-        Ok(self.tell(sink, number, is_refused, text)?)
+        self.note(takes_steps(command), text)?;
+        let is_refused = is_refused_block(was_there, images, command);
+        self.take_labels(images, command, named, is_refused)?;
+        self.tell(sink, number, is_refused, text)?;
+        self.spare = answer;
+        Ok(())
     }
 
-    // What a line of a script is answered, with the whole budget for its steps.
+    // What a request of a script is answered, with the whole budget for its steps.
     fn answer_to(
         &mut self,
         images: &mut Images,
-        line: &[u8],
+        command: &ScriptCommand<'_>,
         script: &mut Lines,
     ) -> Result<Vec<u8>, RunError>
         ensures told { IfOk result (λ answer. IsAnswered (Some []) (Some answer.items)
             (script_state self.new.session images.new)
             (request_told (script_with_budget (script_state self.old.session images.old)
-            self.old.setting.budget) script.old.number (request_of line.now)
+            self.old.setting.budget) script.old.number (request_of_command command.now)
             (block_lines script.old.left))) }
         ensures left { OnOk result (script.new.left
-            ≡ lines_after (opens_block (request_of line.now)) script.old.left) }
+            ≡ lines_after (opens_block (request_of_command command.now)) script.old.left) }
         ensures number { OnOk result (script.new.number ≡ script.old.number
-            + lines_taken (opens_block (request_of line.now)) script.old.left) }
-        ensures rest { self.new ≡ record self.old { session = self.new.session } }
+            + lines_taken (opens_block (request_of_command command.now)) script.old.left) }
+        ensures rest { self.new ≡ record self.old {
+          session = self.new.session;
+          spare = self.new.spare;
+        } }
         ensures errors { IfErr result IsLineError }
     {
         self.session.set_budget(self.setting.budget);
-        let mut answer = TextSink::new(self.alloc);
-        match self.session.answer_line(images, &mut answer, line, script) {
+        let memory = replace(&mut self.spare, Vec::new(self.alloc));
+        let mut answer = TextSink::over(memory);
+        let meter = self.setting.meter;
+        match answer_metered(
+            &mut self.session,
+            images,
+            &mut answer,
+            command,
+            script,
+            meter,
+        ) {
             Ok(()) => Ok(answer.into_bytes()),
             Err(_) => Err(RunError::Memory),
         }
@@ -110,12 +189,11 @@ impl DebugSession {
         ensures setting { self.new.setting ≡ self.old.setting }
     {
         if !takes_steps {
-            self.answer = Vec::from_slice(self.alloc, answer)?;
-            return Ok(());
+            return refill(&mut self.answer, answer);
         }
-        let output = Vec::from_slice(self.alloc, output_of(answer))?;
-        self.answer = Vec::from_slice(self.alloc, ending_of(answer))?;
-        self.output = output;
+        let (output, ending) = answer_parts(answer);
+        refill(&mut self.output, output)?;
+        refill(&mut self.answer, ending)?;
         self.steps = self.steps_taken();
         Ok(())
     }
@@ -124,18 +202,18 @@ impl DebugSession {
     fn take_labels(
         &mut self,
         images: &Images,
-        line: &[u8],
+        command: &ScriptCommand<'_>,
         block: &Lines,
         is_refused: bool,
     ) -> Result<(), RunError>
         ensures labels { OnOk result (self.new.labels ≡ (if is_refused then self.old.labels
-            else labels_with_block self.old.labels images.now (request_of line.now)
+            else labels_with_block self.old.labels images.now (request_of_command command.now)
             (block_lines block.now.left))) }
         ensures rest { OnOk result (self.new ≡ record self.old { labels = self.new.labels }) }
         ensures setting { self.new.setting ≡ self.old.setting }
         ensures errors { IfErr result IsLineError }
     {
-        match command_of(line) {
+        match *command {
             ScriptCommand::Asm(name, origin) if !is_refused => match images.get(name) {
                 Some(bytes) => self.add_labels(name, bytes, origin, block),
                 None => Ok(()),
@@ -176,7 +254,7 @@ impl DebugSession {
     }
 
     // Writes an answer, or that of a block that is refused.
-    fn tell<W: Sink>(
+    pub(crate) fn tell<W: Sink>(
         &mut self,
         sink: &mut W,
         number: usize,
@@ -201,18 +279,29 @@ impl DebugSession {
     }
 }
 
-// Whether a line asks for nothing.
-fn asks_nothing(line: &[u8]) -> bool
-    ensures { result ≡ asks_nothing (request_of line.now) }
+// Keeps other bytes, in the memory of those before where they fit.
+fn refill(kept: &mut Vec<u8>, bytes: &[u8]) -> Result<(), AllocError>
+    ensures { OnOk result (kept.new.items ≡ bytes.now) }
 {
-    matches!(command_of(line), ScriptCommand::Nothing)
+    kept.clear();
+    if bytes.is_empty() {
+        return Ok(());
+    }
+    kept.extend_from_slice(bytes)
 }
 
-fn takes_steps(line: &[u8]) -> bool
-    ensures { result ≡ takes_steps (request_of line.now) }
+// Whether a line asks for nothing.
+fn asks_nothing(command: &ScriptCommand) -> bool
+    ensures { result ≡ asks_nothing (request_of_command command.now) }
+{
+    matches!(command, ScriptCommand::Nothing)
+}
+
+fn takes_steps(command: &ScriptCommand) -> bool
+    ensures { result ≡ takes_steps (request_of_command command.now) }
 {
     matches!(
-        command_of(line),
+        command,
         ScriptCommand::Run
             | ScriptCommand::Step(_)
             | ScriptCommand::Call(_)
@@ -220,28 +309,19 @@ fn takes_steps(line: &[u8]) -> bool
     )
 }
 
-fn opens_block(line: &[u8]) -> bool
-    ensures { result ≡ opens_block (request_of line.now) }
-{
-    matches!(
-        command_of(line),
-        ScriptCommand::Hex(_) | ScriptCommand::Asm(_, _)
-    )
-}
-
 // Whether a line opens a block that is refused, by whether its image was there before.
-fn is_refused_block(was_there: bool, images: &Images, line: &[u8]) -> bool
-    ensures { result ≡ (opens_block (request_of line.now)
-        && (was_there || not (is_named_image images.now (request_of line.now)))) }
+fn is_refused_block(was_there: bool, images: &Images, command: &ScriptCommand) -> bool
+    ensures { result ≡ (opens_block (request_of_command command.now)
+        && (was_there || not (is_named_image images.now (request_of_command command.now)))) }
 {
-    opens_block(line) && (was_there || !is_named_image(images, line))
+    command.opens_block() && (was_there || !is_named_image(images, command))
 }
 
 // Whether the image of a line that opens a block is there.
-fn is_named_image(images: &Images, line: &[u8]) -> bool
-    ensures { result ≡ is_named_image images.now (request_of line.now) }
+fn is_named_image(images: &Images, command: &ScriptCommand) -> bool
+    ensures { result ≡ is_named_image images.now (request_of_command command.now) }
 {
-    match command_of(line) {
+    match *command {
         ScriptCommand::Hex(name) | ScriptCommand::Asm(name, _) => images.get(name).is_some(),
         _ => false,
     }

@@ -4,14 +4,15 @@ ghost use Rattle.std.specs.Prelude.{◌≡◌, ◌+◌, false, List, [], IfOk, I
 ghost use Rattle.command_shell.specs.Error.{IsLineError};
 ghost use Rattle.profile.specs.Output.{Writes};
 
-use crate::reports::{CheckTally, ReportForm, push_summary};
 use command_line::stop_status;
 use command_shell::{RunError, Session};
 use command_shell_lines::text_lines::Lines;
 use debug_labels::LabelTable;
 use debug_modes::DebugModes;
+use debug_reports::{CheckTally, ReportForm, push_summary};
 use image_loader::Images;
 use profile::{Config, Sink, WriteFault};
+use run_meter::RunMeter;
 use std::alloc::{AllocError, Global};
 
 /// What a debugging script is answered on.
@@ -23,6 +24,8 @@ pub struct DebugSetting {
     pub budget: u64,
     /// The form of its answers.
     pub form: ReportForm,
+    /// What RUN and STEP tell how far they are.
+    pub meter: RunMeter,
 }
 
 /// What a debugging script works on beside the images.
@@ -39,6 +42,8 @@ pub struct DebugSession {
     pub(crate) steps: u64,
     pub(crate) tally: CheckTally,
     pub(crate) has_quit: bool,
+    /// Memory for the answer to a line, used again for that to the next.
+    pub(crate) spare: Vec<u8>,
 }
 
 impl DebugSession {
@@ -46,7 +51,8 @@ impl DebugSession {
     ghost use Rattle.image_loader.specs.Entries.{Entry};
     ghost use Rattle.debug_session.specs.DebugScript.{debug_lines_told};
     ghost use Rattle.debug_session.specs.DebugState.{IsDebugged, debug_start_state};
-    ghost use Rattle.debug_session.specs.Reports.{debug_status, summary_text};
+    ghost use Rattle.debug_reports.specs.Reports.{summary_text};
+    ghost use Rattle.debug_session.specs.ExitStatus.{debug_status};
     ghost use Rattle.debug_session.specs.Session.{debug_state};
 
     /// A session on a fresh machine, before the first line.
@@ -70,6 +76,7 @@ impl DebugSession {
             steps: 0,
             tally: CheckTally::new(),
             has_quit: false,
+            spare: Vec::new(alloc),
         })
     }
 
@@ -144,6 +151,8 @@ impl DebugSession {
             (debug_state self.new images.new)
             (debug_lines_told self.old.setting script.old.number (debug_state self.old images.old)
             script.old.left)) }
+        ensures counted { OnOk result (script.new.number + length script.new.left
+            ≡ script.old.number + length script.old.left) }
         ensures setting { self.new.setting ≡ self.old.setting }
         ensures errors { IfErr result IsLineError }
         ensures same_flag { OnOk result (W.has_failed sink.new ≡ W.has_failed sink.old) }

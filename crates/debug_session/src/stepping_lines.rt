@@ -3,16 +3,16 @@
 ghost use Rattle.std.specs.Prelude.{◌≡◌, ◌+◌, true, List, option_map, IfErr, OnOk, OnErr};
 ghost use Rattle.command_shell.specs.Error.{IsLineError};
 ghost use Rattle.command_shell_lines.specs.Blocks.{block_lines, lines_after, lines_taken};
-ghost use Rattle.command_shell_lines.specs.Requests.{opens_block, request_of};
+ghost use Rattle.command_shell_lines.specs.Requests.{opens_block, request_of_command};
 ghost use Rattle.debug_lines.specs.ModeRequests.{mode_request_of};
 ghost use Rattle.debug_lines.specs.SteppingRequests.{stepping_request_of};
 
-use crate::reports::push_answer;
 use crate::session::DebugSession;
 use command_shell::RunError;
-use command_shell_lines::command_of;
+use command_shell_lines::ScriptCommand;
 use command_shell_lines::text_lines::Lines;
 use debug_lines::{ModeCommand, SteppingCommand, stepping_in};
+use debug_reports::push_answer;
 use image_loader::Images;
 use profile::{Sink, WriteFault};
 
@@ -22,39 +22,39 @@ impl DebugSession {
     ghost use Rattle.debug_session.specs.DebugState.{IsDebugged};
     ghost use Rattle.debug_session.specs.Session.{debug_state};
 
-    /// Answers a line of a script.
+    /// Answers what a line of a script asks for.
     pub(crate) fn script_line<W: Sink>(
         &mut self,
         images: &mut Images,
         sink: &mut W,
-        line: &[u8],
+        command: &ScriptCommand<'_>,
         script: &mut Lines,
     ) -> Result<(), RunError>
         ensures told { OnOk result (IsDebugged (W.contents sink.old) (W.contents sink.new)
             (debug_state self.new images.new)
             (script_line_told self.old.setting (debug_state self.old images.old) script.old.number
-            (request_of line.now) (block_lines script.old.left))) }
+            (request_of_command command.now) (block_lines script.old.left))) }
         ensures left { OnOk result (script.new.left
-            ≡ lines_after (opens_block (request_of line.now)) script.old.left) }
+            ≡ lines_after (opens_block (request_of_command command.now)) script.old.left) }
         ensures number { OnOk result (script.new.number ≡ script.old.number
-            + lines_taken (opens_block (request_of line.now)) script.old.left) }
+            + lines_taken (opens_block (request_of_command command.now)) script.old.left) }
         ensures setting { self.new.setting ≡ self.old.setting }
         ensures errors { IfErr result IsLineError }
         ensures same_flag { OnOk result (W.has_failed sink.new ≡ W.has_failed sink.old) }
     {
-        match self.stepping_now(line) {
-            Some(command) => self.stepping_line(images, sink, false, &command),
-            None => self.plain_line(images, sink, line, script),
+        match self.stepping_now(command) {
+            Some(steps) => self.stepping_line(images, sink, false, &steps),
+            None => self.plain_line(images, sink, command, script),
         }
     }
 
     // What a line of a script asks for, where modes are set in which its steps are answered otherwise.
-    fn stepping_now<'a>(&self, line: &'a [u8]) -> Option<SteppingCommand<'a>>
+    fn stepping_now<'a>(&self, command: &ScriptCommand<'a>) -> Option<SteppingCommand<'a>>
         ensures { (images : List Entry) → option_map stepping_request_of result
-            ≡ stepping_now (debug_state self.now images) (request_of line.now) }
+            ≡ stepping_now (debug_state self.now images) (request_of_command command.now) }
     {
         if self.modes.takes_over() {
-            stepping_in(&command_of(line))
+            stepping_in(command)
         } else {
             None
         }

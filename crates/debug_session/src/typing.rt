@@ -4,12 +4,13 @@
 ghost use Rattle.std.specs.Prelude.{◌≡◌, ◌++◌, ◌+◌, ◌<◌, ◌^◌, List, [], IfOk, IfErr, OnOk, OnErr, length};
 ghost use Rattle.std.specs.Str.Lines.{lines};
 ghost use Rattle.debug_lines.specs.BlockEnds.{shown_beyond};
+ghost use Rattle.debug_lines.specs.WholeDebugRequests.{AreWholeDebugRequests};
 ghost use Rattle.debug_session.specs.DebugState.{IsDebugTypingError};
 
 use crate::session::{DebugSession, DebugSetting};
 use command_shell::RunError;
 use command_shell_lines::text_lines::{Lines, cut_line};
-use debug_lines::{missing_ends, whole_debug_request_bytes};
+use debug_lines::{missing_ends, read_requests};
 use image_loader::Images;
 use profile::Sink;
 use std::alloc::{AllocError, Global};
@@ -27,6 +28,25 @@ pub struct DebugTyping {
     // How many lines came before those that wait.
     number: usize,
     ghost numbered: { number + length pending.items < 2 ^ 64 },
+}
+
+/// What waits of a session that is typed, and a piece behind it, as they were read.
+#[derive(Drop)]
+pub struct TypedPiece {
+    text: Vec<u8>,
+    // How many of its bytes are requests that are whole.
+    whole: usize,
+    missing_ends: Vec<usize>,
+    ghost requests: { AreWholeDebugRequests text.items whole },
+}
+
+impl TypedPiece {
+    /// The lines at which blocks begin that turn out to lack their END in the piece.
+    pub fn missing_ends(&self) -> &[usize]
+        ensures { result.now ≡ self.now.missing_ends.items }
+    {
+        self.missing_ends.as_slice()
+    }
 }
 
 impl DebugTyping {
@@ -69,19 +89,26 @@ impl DebugTyping {
         cut_line(self.pending.as_slice()).is_some()
     }
 
-    /// The lines at which blocks begin that turn out to lack their END in a piece that is taken next.
+    /// Reads a piece that is typed next, behind what waits.
     ///
     /// # Errors
     ///
     /// Memory ran out.
-    pub fn missing_ends(&self, piece: &[u8]) -> Result<Vec<usize>, AllocError>
-        ensures { IfOk result (λ begins. begins.items ≡ missing_ends_typed self.now piece.now) }
+    pub fn read(&self, piece: &[u8]) -> Result<TypedPiece, AllocError>
+        ensures text { IfOk result (λ read. read.text.items ≡ self.now.pending.items ++ piece.now) }
+        ensures missing { IfOk result
+            (λ read. read.missing_ends.items ≡ missing_ends_typed self.now piece.now) }
     {
         let waiting = self.pending.as_slice();
         let text = joined(self.alloc, waiting, piece)?;
         let before = missing_ends(self.alloc, waiting, self.number, false)?;
-        let all = missing_ends(self.alloc, text.as_slice(), self.number, false)?;
-        shown_beyond(self.alloc, before.as_slice(), all.as_slice())
+        let reading = read_requests(self.alloc, text.as_slice(), self.number)?;
+        let shown = reading.missing_ends.as_slice();
+        Ok(TypedPiece {
+            whole: reading.whole,
+            missing_ends: shown_beyond(self.alloc, before.as_slice(), shown)?,
+            text,
+        })
     }
 
     /// The line at which a block begins that turns out to lack its END where nothing more is typed.
@@ -104,9 +131,9 @@ impl DebugTyping {
     ///
     /// # Errors
     ///
-    /// `ScriptTooLong` where what waits would have more than 1,048,576 bytes, and nothing is
-    /// answered then; `Memory` and `WriteFault`, when a part of the answers may stand written, and
-    /// the session ends there.
+    /// As [`answer`].
+    ///
+    /// [`answer`]: DebugTyping::answer
     pub fn take<W: Sink>(
         &mut self,
         images: &mut Images,
@@ -119,25 +146,41 @@ impl DebugTyping {
         ensures errors { IfErr result IsDebugTypingError }
         ensures same_flag { OnOk result (W.has_failed sink.new ≡ W.has_failed sink.old) }
     {
-        let text = joined(self.alloc, self.pending.as_slice(), piece)?;
-        let all = text.as_slice();
-        let (requests, waiting) = all.split_at(whole_debug_request_bytes(self.alloc, all)?);
+        let read = self.read(piece)?;
+        self.answer(images, sink, read)
+    }
+
+    /// Answers each request that is whole in what was read. The rest waits for the next piece.
+    ///
+    /// # Errors
+    ///
+    /// `ScriptTooLong` where what waits would have more than 1,048,576 bytes, and nothing is
+    /// answered then; `Memory` and `WriteFault`, when a part of the answers may stand written, and
+    /// the session ends there.
+    pub fn answer<W: Sink>(
+        &mut self,
+        images: &mut Images,
+        sink: &mut W,
+        read: TypedPiece,
+    ) -> Result<(), RunError>
+        ensures taken { OnOk result (IsTaken self.old self.new images.old images.new
+            (W.contents sink.old) (W.contents sink.new) read.text.items) }
+        ensures setting { self.new.session.setting ≡ self.old.session.setting }
+        ensures errors { IfErr result IsDebugTypingError }
+        ensures same_flag { OnOk result (W.has_failed sink.new ≡ W.has_failed sink.old) }
+    {
+        let all = read.text.as_slice();
+        let (requests, waiting) = all.split_at(read.whole);
         if waiting.len() > MOST_BYTES {
             return Err(RunError::ScriptTooLong);
         }
-        if self.number.checked_add(all.len()).is_none() {
-            return Err(RunError::ScriptTooLong);
-        }
-        let mut lines = Lines::after(requests, self.number);
-        let Some(number) = self.number.checked_add(lines.count()) else {
-            return Err(RunError::ScriptTooLong);
-        };
-        if number.checked_add(waiting.len()).is_none() {
+        if self.number > usize::MAX - all.len() {
             return Err(RunError::ScriptTooLong);
         }
         let waiting = Vec::from_slice(self.alloc, waiting)?;
+        let mut lines = Lines::after(requests, self.number);
         self.session.answer_lines(images, sink, &mut lines)?;
-        self.number = number;
+        self.number = lines.number() + lines.count();
         self.pending = waiting;
         Ok(())
     }

@@ -2,7 +2,7 @@
 
 ghost use Rattle.std.specs.Prelude.{◌≡◌, ◌<◌, IfOk};
 ghost use Rattle.debug_session.specs.DebugScript.{debug_script_told};
-ghost use Rattle.debug_session.specs.Reports.{debug_status};
+ghost use Rattle.debug_session.specs.ExitStatus.{debug_status};
 
 use command_shell::RunError;
 use debug_lines::command_shell_lines::text_lines::Lines;

@@ -2,7 +2,7 @@
 
 use crate::error::LineError;
 use crate::escapes::digit;
-use debug_session::{DebugSetting, ReportForm};
+use debug_session::{DebugSetting, ReportForm, RunMeter};
 use image_loader::Images;
 use profile::Config;
 use std::alloc::Global;
@@ -94,6 +94,7 @@ impl TranscriptSettings {
             config: self.config()?,
             budget: self.budget,
             form: self.form,
+            meter: RunMeter::silent(),
         })
     }
 }

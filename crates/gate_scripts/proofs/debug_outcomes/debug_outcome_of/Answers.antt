@@ -5,7 +5,8 @@ use Rattle.image_loader.specs.Entries.{Entry}
 use Rattle.profile.specs.MemoryDevices.{SinkState}
 use Rattle.debug_session.specs.DebugScript.{debug_lines_told, debug_script_told, then_summary}
 use Rattle.debug_session.specs.DebugState.{DebugAnswered, DebugState, debug_start_state}
-use Rattle.debug_session.specs.Reports.{debug_status, summary_text}
+use Rattle.debug_session.specs.ExitStatus.{debug_status}
+use Rattle.debug_session.specs.debug_reports.specs.Reports.{summary_text}
 use Rattle.debug_session.specs.Session.{debug_state}
 use Rattle.debug_session.specs.declared.session.DebugSetting.{DebugSetting}
 use Rattle.gate_scripts.proofs.debug_outcomes.debug_outcome_of.Goals as goal

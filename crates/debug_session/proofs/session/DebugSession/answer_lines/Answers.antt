@@ -1,10 +1,11 @@
-use Rattle.std.proofs.Common.{◌∙◌, ap, length, sym}
+use Rattle.std.proofs.Common.{◌+◌, ◌∙◌, ap, length, sym}
 use Rattle.command_shell_lines.specs.Blocks.{block_lines}
-use Rattle.debug_session.specs.DebugScript.{debug_line_told, debug_lines_told}
+use Rattle.command_shell_lines.specs.text_lines.specs.Lines.{ReadingPlace}
+use Rattle.debug_session.specs.DebugScript.{debug_line_told, debug_lines_told, line_opens}
 use Rattle.debug_session.specs.DebugState.{DebugAnswered}
 use Rattle.debug_session.specs.Session.{debug_state}
 use Rattle.profile.proofs.OutputLemmas.{AddsAllBut-more, Appends-from_all_but}
-use Rattle.debug_session.proofs.LineLemmas.{fewer, none_left, none_told, step_state, step_text}
+use Rattle.debug_session.proofs.LineLemmas.{fewer, lines_counted, none_left, none_told, step_state, step_text}
 use Rattle.debug_session.proofs.session.DebugSession.answer_lines.Goals as goal
 
 pub returns-in_default-clause-told : goal.returns-in_default-clause-told
@@ -16,6 +17,10 @@ returns-in_default-clause-told g c =
           c.loop-self.invariant.text (ap (λ (a : DebugAnswered). a.text) none);
       state = sym (ap (λ (a : DebugAnswered). a.state) none) ∙ c.loop-self.invariant.state;
     }
+
+pub returns-in_default-clause-counted : goal.returns-in_default-clause-counted
+returns-in_default-clause-counted g c =
+    ap (λ (place : ReadingPlace). place.number + length place.left) c.in_default.ensures.end ∙ c.loop-self.invariant.counted
 
 pub loop-self-smaller : goal.loop-self-smaller
 loop-self-smaller g c =
@@ -48,6 +53,9 @@ loop-self-preserved g c =
           (g.W.Sink.contents c.answer_line.new.sink) (debug_lines_told setting number before all).text first.text
           (debug_lines_told setting next after left).text _ c.loop-self.invariant.text told.text text;
       state = sym state ∙ c.loop-self.invariant.state;
+      counted = lines_counted number here next _ line all rest left (line_opens line) c.loop-self.invariant.counted
+          c.in-Some.ensures.line c.in-Some.ensures.number c.in_ok-answer_line.ensures.number
+          c.in_ok-answer_line.ensures.left;
       setting = c.in_ok-answer_line.ensures.setting ∙ c.loop-self.invariant.setting;
       same_flag = c.in_ok-answer_line.ensures.same_flag ∙ c.loop-self.invariant.same_flag;
     }

@@ -1,4 +1,4 @@
-use Rattle.std.proofs.Common.{◌≡◌, length}
+use Rattle.std.proofs.Common.{◌≡◌, ◌+◌, length}
 use Rattle.profile.specs.Output.{AddsAllBut}
 use Rattle.debug_session.specs.DebugScript.{debug_lines_told}
 use Rattle.debug_session.specs.Session.{debug_state}
@@ -12,6 +12,7 @@ invariant-loop-self g l = record {
       (debug_lines_told l.fn.self.setting l.fn.script.number (debug_state l.fn.self l.fn.images) l.fn.script.left).text;
   state : (debug_lines_told l.fn.self.setting l.script.number (debug_state l.self l.images) l.script.left).state
       ≡ (debug_lines_told l.fn.self.setting l.fn.script.number (debug_state l.fn.self l.fn.images) l.fn.script.left).state;
+  counted : l.script.number + length l.script.left ≡ l.fn.script.number + length l.fn.script.left;
   setting : l.self.setting ≡ l.fn.self.setting;
   same_flag : g.W.Sink.has_failed l.sink ≡ g.W.Sink.has_failed l.fn.sink;
 }

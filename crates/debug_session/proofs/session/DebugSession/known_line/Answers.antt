@@ -1,12 +1,10 @@
 -- Each request is told as its own call tells it.
-use Rattle.std.proofs.Common.{◌≡◌, ℕ, ◌+◌, List, ap, refl, subst, ◌∙◌}
+use Rattle.std.proofs.Common.{◌≡◌, ◌+◌, ap, subst, sym}
 use Rattle.std.specs.Prelude.{OnOk}
 use Rattle.command_shell.specs.Memory.{script_at, script_with_status}
 use Rattle.command_shell_lines.specs.Blocks.{block_lines, lines_after, lines_taken}
-use Rattle.command_shell_lines.specs.Requests.{request_of}
 use Rattle.debug_checks.specs.Checks.{status_after_pattern}
-use Rattle.debug_lines.specs.DebugRequests.{DebugRequest, Script, debug_opens_block, simple_request}
-use Rattle.debug_lines.proofs.OwnRequestLemmas.{script_itself}
+use Rattle.debug_lines.specs.DebugRequests.{DebugRequest, debug_opens_block, debug_request_of_command}
 use Rattle.debug_session.specs.Session.{debug_state}
 use Rattle.debug_session.proofs.OwnLemmas.{asked, asked_if, changed_quietly, checked_by}
 use Rattle.debug_session.proofs.session.DebugSession.known_line.Goals as goal
@@ -15,52 +13,48 @@ pub returns-in-Script-clause-told : goal.returns-in-Script-clause-told
 returns-in-Script-clause-told g c =
     asked_if c.script_line.result (g.W.Sink.contents c.args.sink.now) (g.W.Sink.contents c.script_line.new.sink)
     (debug_state c.script_line.new.self c.script_line.new.images) (debug_state c.args.self.now c.args.images.now)
-    c.args.self.now.setting c.args.script.now.number c.args.words.now (block_lines c.args.script.now.left)
-    (Script (request_of c.untraced_line.result.now)) (simple_request c.args.line.now)
-    (ap (λ (l : List ℕ). Script (request_of l)) c.untraced_line.ensures ∙ script_itself c.args.line.now _ c.in-Script.ensures)
-    c.script_line.ensures.told
+    c.args.self.now.setting c.args.script.now.number c.args.words.now (block_lines c.args.script.now.left) _
+    (debug_request_of_command c.args.command) (sym (ap debug_request_of_command c.in-Script.is)) c.script_line.ensures.told
 
 pub returns-in-Script-clause-left : goal.returns-in-Script-clause-left
 returns-in-Script-clause-left g c =
     subst (λ (q : DebugRequest). OnOk c.script_line.result
     (c.script_line.new.script.left ≡ lines_after (debug_opens_block q) c.args.script.now.left))
-    (ap (λ (l : List ℕ). Script (request_of l)) c.untraced_line.ensures ∙ script_itself c.args.line.now _ c.in-Script.ensures)
-    c.script_line.ensures.left
+    (sym (ap debug_request_of_command c.in-Script.is)) c.script_line.ensures.left
 
 pub returns-in-Script-clause-number : goal.returns-in-Script-clause-number
 returns-in-Script-clause-number g c =
     subst (λ (q : DebugRequest). OnOk c.script_line.result
     (c.script_line.new.script.number ≡ c.args.script.now.number + lines_taken (debug_opens_block q) c.args.script.now.left))
-    (ap (λ (l : List ℕ). Script (request_of l)) c.untraced_line.ensures ∙ script_itself c.args.line.now _ c.in-Script.ensures)
-    c.script_line.ensures.number
+    (sym (ap debug_request_of_command c.in-Script.is)) c.script_line.ensures.number
 
 pub returns-in-View-clause-told : goal.returns-in-View-clause-told
 returns-in-View-clause-told g c =
     asked_if c.look.result (g.W.Sink.contents c.args.sink.now) (g.W.Sink.contents c.look.new.sink)
     (debug_state c.look.new.self c.args.images.now) (debug_state c.args.self.now c.args.images.now)
     c.args.self.now.setting c.args.script.now.number c.args.words.now (block_lines c.args.script.now.left) _
-    (simple_request c.args.line.now) c.in-View.ensures (c.look.ensures.told c.args.images.now)
+    (debug_request_of_command c.args.command) (sym (ap debug_request_of_command c.in-View.is)) (c.look.ensures.told c.args.images.now)
 
 pub returns-in-Forget-clause-told : goal.returns-in-Forget-clause-told
 returns-in-Forget-clause-told g c =
     asked_if c.forget.result (g.W.Sink.contents c.args.sink.now) (g.W.Sink.contents c.forget.new.sink)
     (debug_state c.forget.new.self c.forget.new.images) (debug_state c.args.self.now c.args.images.now)
     c.args.self.now.setting c.args.script.now.number c.args.words.now (block_lines c.args.script.now.left) _
-    (simple_request c.args.line.now) c.in-Forget.ensures c.forget.ensures.told
+    (debug_request_of_command c.args.command) (sym (ap debug_request_of_command c.in-Forget.is)) c.forget.ensures.told
 
 pub returns-in-Counts-clause-told : goal.returns-in-Counts-clause-told
 returns-in-Counts-clause-told g c =
     asked_if c.counts.result (g.W.Sink.contents c.args.sink.now) (g.W.Sink.contents c.counts.new.sink)
     (debug_state c.counts.new.self c.args.images.now) (debug_state c.args.self.now c.args.images.now)
     c.args.self.now.setting c.args.script.now.number c.args.words.now (block_lines c.args.script.now.left) _
-    (simple_request c.args.line.now) c.in-Counts.ensures (c.counts.ensures.told c.args.images.now)
+    (debug_request_of_command c.args.command) (sym (ap debug_request_of_command c.in-Counts.is)) (c.counts.ensures.told c.args.images.now)
 
 pub returns-in-SetPc-clause-told : goal.returns-in-SetPc-clause-told
 returns-in-SetPc-clause-told g c =
     asked (g.W.Sink.contents c.args.sink.now) (g.W.Sink.contents c.args.sink.now)
     (debug_state c.set_pc.new.self c.args.images.now) (debug_state c.args.self.now c.args.images.now)
     c.args.self.now.setting c.args.script.now.number c.args.words.now (block_lines c.args.script.now.left) _
-    (simple_request c.args.line.now) c.in-SetPc.ensures
+    (debug_request_of_command c.args.command) (sym (ap debug_request_of_command c.in-SetPc.is))
     (changed_quietly _ _ (debug_state c.args.self.now c.args.images.now)
     (script_at (debug_state c.args.self.now c.args.images.now).script c.in-SetPc.address)
     (c.set_pc.ensures.told c.args.images.now))
@@ -70,7 +64,7 @@ returns-in-SetPsr-clause-told g c =
     asked (g.W.Sink.contents c.args.sink.now) (g.W.Sink.contents c.args.sink.now)
     (debug_state c.set_psr.new.self c.args.images.now) (debug_state c.args.self.now c.args.images.now)
     c.args.self.now.setting c.args.script.now.number c.args.words.now (block_lines c.args.script.now.left) _
-    (simple_request c.args.line.now) c.in-SetPsr.ensures
+    (debug_request_of_command c.args.command) (sym (ap debug_request_of_command c.in-SetPsr.is))
     (changed_quietly _ _ (debug_state c.args.self.now c.args.images.now)
     (script_with_status (debug_state c.args.self.now c.args.images.now).script (status_after_pattern c.in-SetPsr.pattern
     (debug_state c.args.self.now c.args.images.now).script.machine.cpu.psr))
@@ -81,14 +75,14 @@ returns-in-Reset-clause-told g c =
     asked_if c.reset.result (g.W.Sink.contents c.args.sink.now) (g.W.Sink.contents c.reset.new.sink)
     (debug_state c.reset.new.self c.args.images.now) (debug_state c.args.self.now c.args.images.now)
     c.args.self.now.setting c.args.script.now.number c.args.words.now (block_lines c.args.script.now.left) _
-    (simple_request c.args.line.now) c.in-Reset.ensures (c.reset.ensures.told c.args.images.now)
+    (debug_request_of_command c.args.command) (sym (ap debug_request_of_command c.in-Reset.is)) (c.reset.ensures.told c.args.images.now)
 
 pub returns-in_ok-reason-in-Expect-clause-told : goal.returns-in_ok-reason-in-Expect-clause-told
 returns-in_ok-reason-in-Expect-clause-told g c =
     asked_if c.tell_check.result (g.W.Sink.contents c.args.sink.now) (g.W.Sink.contents c.tell_check.new.sink)
     (debug_state c.tell_check.new.self c.args.images.now) (debug_state c.args.self.now c.args.images.now)
     c.args.self.now.setting c.args.script.now.number c.args.words.now (block_lines c.args.script.now.left) _
-    (simple_request c.args.line.now) c.in-Expect.ensures
+    (debug_request_of_command c.args.command) (sym (ap debug_request_of_command c.in-Expect.is))
     (checked_by c.tell_check.result _ _ _ (debug_state c.args.self.now c.args.images.now) c.args.self.now.setting
     c.number.result c.args.script.now.number c.args.words.now _ _ c.number.ensures
     (c.in_ok-reason-in-Expect.ensures c.args.images.now) (c.tell_check.ensures.told c.args.images.now))
@@ -98,18 +92,37 @@ returns-in-Stepping-clause-told g c =
     asked_if c.stepping_line.result (g.W.Sink.contents c.args.sink.now) (g.W.Sink.contents c.stepping_line.new.sink)
     (debug_state c.stepping_line.new.self c.args.images.now) (debug_state c.args.self.now c.args.images.now)
     c.args.self.now.setting c.args.script.now.number c.args.words.now (block_lines c.args.script.now.left) _
-    (simple_request c.args.line.now) c.in-Stepping.ensures c.stepping_line.ensures.told
+    (debug_request_of_command c.args.command) (sym (ap debug_request_of_command c.in-Stepping.is)) c.stepping_line.ensures.told
 
 pub returns-in-Put-clause-told : goal.returns-in-Put-clause-told
 returns-in-Put-clause-told g c =
     asked_if c.put.result (g.W.Sink.contents c.args.sink.now) (g.W.Sink.contents c.put.new.sink)
     (debug_state c.put.new.self c.args.images.now) (debug_state c.args.self.now c.args.images.now)
     c.args.self.now.setting c.args.script.now.number c.args.words.now (block_lines c.args.script.now.left) _
-    (simple_request c.args.line.now) c.in-Put.ensures c.put.ensures.told
+    (debug_request_of_command c.args.command) (sym (ap debug_request_of_command c.in-Put.is)) c.put.ensures.told
 
 pub returns-in-Mode-clause-told : goal.returns-in-Mode-clause-told
 returns-in-Mode-clause-told g c =
     asked_if c.mode_line.result (g.W.Sink.contents c.args.sink.now) (g.W.Sink.contents c.mode_line.new.sink)
     (debug_state c.mode_line.new.self c.args.images.now) (debug_state c.args.self.now c.args.images.now)
     c.args.self.now.setting c.args.script.now.number c.args.words.now (block_lines c.args.script.now.left) _
-    (simple_request c.args.line.now) c.in-Mode.ensures (c.mode_line.ensures.told c.args.images.now)
+    (debug_request_of_command c.args.command) (sym (ap debug_request_of_command c.in-Mode.is)) (c.mode_line.ensures.told c.args.images.now)
+
+pub returns-in-Source-clause-told : goal.returns-in-Source-clause-told
+returns-in-Source-clause-told g c =
+    asked_if c.source_line.result (g.W.Sink.contents c.args.sink.now) (g.W.Sink.contents c.source_line.new.sink)
+    (debug_state c.source_line.new.self c.source_line.new.images) (debug_state c.args.self.now c.args.images.now)
+    c.args.self.now.setting c.args.script.now.number c.args.words.now (block_lines c.args.script.now.left) _
+    (debug_request_of_command c.args.command) (sym (ap debug_request_of_command c.in-Source.is)) c.source_line.ensures.told
+
+pub returns-in-Source-clause-left : goal.returns-in-Source-clause-left
+returns-in-Source-clause-left g c =
+    subst (λ (q : DebugRequest). OnOk c.source_line.result
+    (c.source_line.new.script.left ≡ lines_after (debug_opens_block q) c.args.script.now.left))
+    (sym (ap debug_request_of_command c.in-Source.is)) c.source_line.ensures.left
+
+pub returns-in-Source-clause-number : goal.returns-in-Source-clause-number
+returns-in-Source-clause-number g c =
+    subst (λ (q : DebugRequest). OnOk c.source_line.result
+    (c.source_line.new.script.number ≡ c.args.script.now.number + lines_taken (debug_opens_block q) c.args.script.now.left))
+    (sym (ap debug_request_of_command c.in-Source.is)) c.source_line.ensures.number

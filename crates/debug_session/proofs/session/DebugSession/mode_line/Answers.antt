@@ -1,6 +1,6 @@
 use Rattle.std.proofs.Common.{◌∙◌, ap, refl}
 use Rattle.debug_lines.specs.ModeRequests.{mode_request_of}
-use Rattle.debug_modes.specs.Changes.{ModeTold, mode_told}
+use Rattle.debug_modes.specs.Changes.{mode_told}
 use Rattle.debug_modes.specs.declared.modes.DebugModes.{DebugModes}
 use Rattle.debugger.specs.swi_dispatch.specs.Value.{MachineValue}
 use Rattle.debugger.specs.swi_dispatch_guest.specs.Parts.{state_of}

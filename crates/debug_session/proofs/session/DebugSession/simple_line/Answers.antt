@@ -1,8 +1,8 @@
 -- A line by what it means as it stands, or with numbers.
-use Rattle.std.proofs.Common.{◌≡◌, ℕ, ◌+◌, Bool, List, ap, sym, subst, ◌∙◌}
+use Rattle.std.proofs.Common.{◌≡◌, ℕ, ◌+◌, Bool, ap, sym, subst, ◌∙◌}
 use Rattle.std.specs.Prelude.{OnOk}
 use Rattle.command_shell_lines.specs.Blocks.{block_lines, lines_after, lines_taken}
-use Rattle.debug_lines.specs.DebugRequests.{NotKnown, debug_opens_block, simple_request}
+use Rattle.debug_lines.specs.DebugRequests.{DebugRequest, NotKnown, debug_opens_block, debug_request_of_command, is_known, is_repeatable, simple_request}
 use Rattle.debug_session.specs.DebugScript.{unknown_told}
 use Rattle.debug_session.specs.DebugState.{IsDebugged}
 use Rattle.debug_session.specs.Naming.{meant_request, naming_of}
@@ -11,52 +11,76 @@ use Rattle.debug_session.proofs.NamingLemmas.{meant_known, meant_nothing, meant_
 use Rattle.debug_session.proofs.OwnLemmas.{asked_if}
 use Rattle.debug_session.proofs.session.DebugSession.simple_line.Goals as goal
 
-pub returns-then-is_known_line-clause-told : goal.returns-then-is_known_line-clause-told
-returns-then-is_known_line-clause-told g c =
+pub returns-then-is_known-clause-told : goal.returns-then-is_known-clause-told
+returns-then-is_known-clause-told g c =
     let d = debug_state c.args.self.now c.args.images.now in
     let line = c.args.words.now in
+    let read = c.simple_command-command.ensures in
     asked_if c.known_line.result _ _ _ d c.args.self.now.setting c.args.script.now.number line
-    (block_lines c.args.script.now.left) (simple_request line) (meant_request (naming_of d) line)
-    (meant_known (naming_of d) line (sym c.is_known_line.ensures ∙ c.if-is_known_line.true)) c.known_line.ensures.told
+    (block_lines c.args.script.now.left) (debug_request_of_command c.simple_command-command.result)
+    (meant_request (naming_of d) line)
+    (read ∙ meant_known (naming_of d) line (sym (c.is_known.ensures ∙ ap is_known read) ∙ c.if-is_known.true))
+    c.known_line.ensures.told
 
-pub returns-then-is_repeatable_line-clause-told : goal.returns-then-is_repeatable_line-clause-told
-returns-then-is_repeatable_line-clause-told g c =
+pub returns-then-is_known-clause-left : goal.returns-then-is_known-clause-left
+returns-then-is_known-clause-left g c =
+    subst (λ (r : DebugRequest). OnOk c.known_line.result
+    (c.known_line.new.script.left ≡ lines_after (debug_opens_block r) c.args.script.now.left))
+    c.simple_command-command.ensures c.known_line.ensures.left
+
+pub returns-then-is_known-clause-number : goal.returns-then-is_known-clause-number
+returns-then-is_known-clause-number g c =
+    subst (λ (r : DebugRequest). OnOk c.known_line.result (c.known_line.new.script.number
+    ≡ c.args.script.now.number + lines_taken (debug_opens_block r) c.args.script.now.left))
+    c.simple_command-command.ensures c.known_line.ensures.number
+
+pub returns-then-is_repeatable-clause-told : goal.returns-then-is_repeatable-clause-told
+returns-then-is_repeatable-clause-told g c =
     let d = debug_state c.args.self.now c.args.images.now in
     let line = c.args.words.now in
-    let numbered = c.as_slice-line.result.now in
-    asked_if c.known_line-then-is_repeatable_line.result _ _ _ d c.args.self.now.setting c.args.script.now.number line
-    (block_lines c.args.script.now.left) (simple_request numbered) (meant_request (naming_of d) line)
-    (meant_numbered (naming_of d) line numbered (sym c.is_known_line.ensures ∙ c.if-is_known_line.false)
-    (c.as_slice-line.ensures.value ∙ c.in_ok-numbered.ensures c.args.images.now)
-    (sym c.is_repeatable_line.ensures ∙ c.if-is_repeatable_line.true)) c.known_line-then-is_repeatable_line.ensures.told
+    let numbered = c.as_slice.result.now in
+    let read = c.simple_command-command.ensures in
+    let meant = c.simple_command-meant.ensures in
+    asked_if c.known_line-then-is_repeatable.result _ _ _ d c.args.self.now.setting c.args.script.now.number line
+    (block_lines c.args.script.now.left) (debug_request_of_command c.simple_command-meant.result)
+    (meant_request (naming_of d) line)
+    (meant ∙ meant_numbered (naming_of d) line numbered (sym (c.is_known.ensures ∙ ap is_known read) ∙ c.if-is_known.false)
+    (c.as_slice.ensures.value ∙ c.in_ok-numbered.ensures c.args.images.now)
+    (sym (c.is_repeatable.ensures ∙ ap is_repeatable meant) ∙ c.if-is_repeatable.true))
+    c.known_line-then-is_repeatable.ensures.told
 
-pub returns-then-is_repeatable_line-clause-left : goal.returns-then-is_repeatable_line-clause-left
-returns-then-is_repeatable_line-clause-left g c =
-    let numbered = c.as_slice-line.result.now in
-    let same = repeatable_alone (simple_request numbered) (sym c.is_repeatable_line.ensures ∙ c.if-is_repeatable_line.true)
-    ∙ sym (unknown_alone (simple_request c.args.words.now) (sym c.is_known_line.ensures ∙ c.if-is_known_line.false)) in
-    subst (λ (b : Bool). OnOk c.known_line-then-is_repeatable_line.result (c.known_line-then-is_repeatable_line.new.script.left ≡ lines_after b c.args.script.now.left)) same
-    c.known_line-then-is_repeatable_line.ensures.left
+pub returns-then-is_repeatable-clause-left : goal.returns-then-is_repeatable-clause-left
+returns-then-is_repeatable-clause-left g c =
+    let read = c.simple_command-command.ensures in
+    let same = repeatable_alone (debug_request_of_command c.simple_command-meant.result)
+    (sym c.is_repeatable.ensures ∙ c.if-is_repeatable.true)
+    ∙ sym (unknown_alone (simple_request c.args.words.now) (sym (c.is_known.ensures ∙ ap is_known read) ∙ c.if-is_known.false)) in
+    subst (λ (b : Bool). OnOk c.known_line-then-is_repeatable.result
+    (c.known_line-then-is_repeatable.new.script.left ≡ lines_after b c.args.script.now.left)) same
+    c.known_line-then-is_repeatable.ensures.left
 
-pub returns-then-is_repeatable_line-clause-number : goal.returns-then-is_repeatable_line-clause-number
-returns-then-is_repeatable_line-clause-number g c =
-    let numbered = c.as_slice-line.result.now in
-    let same = repeatable_alone (simple_request numbered) (sym c.is_repeatable_line.ensures ∙ c.if-is_repeatable_line.true)
-    ∙ sym (unknown_alone (simple_request c.args.words.now) (sym c.is_known_line.ensures ∙ c.if-is_known_line.false)) in
-    subst (λ (b : Bool). OnOk c.known_line-then-is_repeatable_line.result (c.known_line-then-is_repeatable_line.new.script.number
+pub returns-then-is_repeatable-clause-number : goal.returns-then-is_repeatable-clause-number
+returns-then-is_repeatable-clause-number g c =
+    let read = c.simple_command-command.ensures in
+    let same = repeatable_alone (debug_request_of_command c.simple_command-meant.result)
+    (sym c.is_repeatable.ensures ∙ c.if-is_repeatable.true)
+    ∙ sym (unknown_alone (simple_request c.args.words.now) (sym (c.is_known.ensures ∙ ap is_known read) ∙ c.if-is_known.false)) in
+    subst (λ (b : Bool). OnOk c.known_line-then-is_repeatable.result (c.known_line-then-is_repeatable.new.script.number
     ≡ c.args.script.now.number + lines_taken b c.args.script.now.left)) same
-    c.known_line-then-is_repeatable_line.ensures.number
+    c.known_line-then-is_repeatable.ensures.number
 
 pub returns-clause-told : goal.returns-clause-told
 returns-clause-told g c =
     let d = debug_state c.args.self.now c.args.images.now in
     let line = c.args.words.now in
     let setting = c.args.self.now.setting in
+    let read = c.simple_command-command.ensures in
+    let meant = c.simple_command-meant.ensures in
     asked_if c.refuse.result _ _ (debug_state c.refuse.new.self c.args.images.now) d setting c.args.script.now.number line
     (block_lines c.args.script.now.left) NotKnown (meant_request (naming_of d) line)
-    (meant_nothing (naming_of d) line c.as_slice-line.result.now (sym c.is_known_line.ensures ∙ c.if-is_known_line.false)
-    (c.as_slice-line.ensures.value ∙ c.in_ok-numbered.ensures c.args.images.now)
-    (sym c.is_repeatable_line.ensures ∙ c.if-is_repeatable_line.false))
+    (meant_nothing (naming_of d) line c.as_slice.result.now (sym (c.is_known.ensures ∙ ap is_known read) ∙ c.if-is_known.false)
+    (c.as_slice.ensures.value ∙ c.in_ok-numbered.ensures c.args.images.now)
+    (sym (c.is_repeatable.ensures ∙ ap is_repeatable meant) ∙ c.if-is_repeatable.false))
     (subst (λ (n : ℕ). OnOk c.refuse.result (IsDebugged (g.W.Sink.contents c.args.sink.now) (g.W.Sink.contents c.refuse.new.sink)
     (debug_state c.refuse.new.self c.args.images.now) (unknown_told setting d n))) c.number.ensures
     (c.refuse.ensures.told c.args.images.now))

@@ -1,9 +1,7 @@
-use Rattle.std.proofs.Common.{◌≡◌, ℕ, ◌+◌, Bool, false, List, Option, Some, None, ap, subst, sym, ◌∙◌}
-use Rattle.std.specs.Prelude.{IfNone, IfSome, OnOk, option_map}
-use Rattle.command_shell_lines.specs.Blocks.{block_lines, lines_after, lines_taken}
-use Rattle.debug_lines.specs.DebugRequests.{DebugRequest, debug_opens_block, own_request, simple_request}
+use Rattle.std.proofs.Common.{ℕ, List, Option, ap, subst, sym, ◌∙◌}
+use Rattle.std.specs.Prelude.{OnOk, option_map}
+use Rattle.command_shell_lines.specs.Blocks.{block_lines}
 use Rattle.debug_lines.specs.Repeats.{count_and_line}
-use Rattle.debug_lines.specs.declared.repeats.RepeatedLine.{RepeatedLine}
 use Rattle.debug_session.specs.DebugScript.{tidy_line_told_by}
 use Rattle.debug_session.specs.DebugState.{IsDebugged}
 use Rattle.debug_session.specs.Session.{debug_state}

@@ -1,25 +1,23 @@
-use Rattle.std.proofs.Common.{List, ◌∙◌, ap}
-use Rattle.image_loader.specs.Entries.{Entry}
+use Rattle.std.proofs.Common.{◌∙◌, ap, refl}
 use Rattle.command_shell.specs.Memory.{script_with_budget}
 use Rattle.command_shell.specs.Script.{request_told}
-use Rattle.command_shell.specs.Session.{script_state}
-use Rattle.command_shell.specs.State.{Answered, ScriptState}
+use Rattle.command_shell.specs.State.{ScriptState}
 use Rattle.command_shell_lines.specs.Blocks.{block_lines}
-use Rattle.command_shell_lines.specs.Requests.{request_of}
-use Rattle.command_shell_lines.specs.text_lines.specs.Lines.{ReadingPlace}
+use Rattle.command_shell_lines.specs.Requests.{request_of_command}
 use Rattle.debug_session.specs.Session.{debug_state}
 use Rattle.debug_session.proofs.OwnLemmas.{labels_taken, line_told, noted_labels, nothing_told, refused_as_told, session_labelled, session_moved, session_noted, told_with}
 use Rattle.debug_session.specs.declared.session.DebugSession.{DebugSession}
-use Rattle.debug_session.proofs.session.DebugSession.plain_line.Goals as goal
+use Rattle.debug_session.proofs.session.DebugSession.named_line.Goals as goal
 
 pub returns-then-asks_nothing-clause-told : goal.returns-then-asks_nothing-clause-told
 returns-then-asks_nothing-clause-told g c =
     let old = c.args.self.now in
     let d = debug_state old c.args.images.now in
-    let r = request_of c.args.line.now in
+    let r = request_of_command c.args.command.now in
     let block = block_lines c.args.script.now.left in
+    let named = block_lines c.args.named.now.left in
     let told = request_told (script_with_budget d.script old.setting.budget) c.args.script.now.number r block in
-    nothing_told old.setting d (debug_state c.answer_to.new.self c.answer_to.new.images) c.args.script.now.number r block
+    nothing_told old.setting d (debug_state c.answer_to.new.self c.answer_to.new.images) c.args.number c.args.script.now.number r block named
     (g.W.Sink.contents c.args.sink.now) c.asks_nothing.result c.asks_nothing.ensures c.if-asks_nothing.true
     (session_moved old c.answer_to.new.self c.args.images.now c.answer_to.new.images told.state
     c.in_ok-answer.ensures.rest c.in_ok-answer.ensures.told.state)
@@ -28,8 +26,9 @@ pub returns-clause-told : goal.returns-clause-told
 returns-clause-told g c =
     let old = c.args.self.now in
     let d = debug_state old c.args.images.now in
-    let r = request_of c.args.line.now in
+    let r = request_of_command c.args.command.now in
     let block = block_lines c.args.script.now.left in
+    let named = block_lines c.args.named.now.left in
     let told = request_told (script_with_budget d.script old.setting.budget) c.args.script.now.number r block in
     let mid = c.answer_to.new.self in
     let noted = c.note.new.self in
@@ -44,18 +43,17 @@ returns-clause-told g c =
     let refusal = refused_as_told refused c.is_named_image-was_there.result c.args.images.now after told.state.images r
     c.is_refused_block-is_refused.ensures c.is_named_image-was_there.ensures there in
     line_told (g.W.Sink.contents c.args.sink.now) (g.W.Sink.contents c.tell.new.sink) old.setting d at_tell
-    (debug_state c.tell.new.self after) c.args.script.now.number r told block c.as_slice-text.result.now
+    (debug_state c.tell.new.self after) c.args.number r told named c.as_slice-text.result.now
     refused c.asks_nothing.result
-    (session_labelled noted taken after old.setting d r told block labelled.rest
+    (session_labelled noted taken after old.setting d r told named labelled.rest
     (session_noted old mid noted c.args.images.now after c.as_slice-text.result.now c.takes_steps.result r told
     answered.rest kept.rest kept.answer kept.output kept.steps c.takes_steps.ensures answered.told.state
     (c.as_slice-text.ensures.value ∙ answered.told.text))
-    (labels_taken taken.labels noted.labels d refused after r told (block_lines c.again-block.result.left) block labelled.labels
-    (noted_labels old mid noted answered.rest kept.rest) refusal there
-    (ap (λ (place : ReadingPlace). block_lines place.left) c.again-block.ensures)))
+    (labels_taken taken.labels noted.labels d refused after r told named named labelled.labels
+    (noted_labels old mid noted answered.rest kept.rest) refusal there refl))
     (c.as_slice-text.ensures.value ∙ answered.told.text)
     c.asks_nothing.ensures c.if-asks_nothing.false refusal
-    (told_with _ _ _ at_tell taken.setting old.setting c.number-number.result c.args.script.now.number
+    (told_with _ _ _ at_tell taken.setting old.setting c.args.number c.args.number
     refused c.as_slice-text.result.now
-    (labelled.setting ∙ kept.setting ∙ ap (λ (s : DebugSession). s.setting) answered.rest) c.number-number.ensures
+    (labelled.setting ∙ kept.setting ∙ ap (λ (s : DebugSession). s.setting) answered.rest) refl
     (c.in_ok-tell.ensures.told after))

@@ -1,20 +1,25 @@
 -- What is told of EXPECT lines and of refusals, as answers or in the Test Anything Protocol, and what
 -- stands after the last line.
-use Rattle.std.specs.Prelude.{ℕ, ◌+◌, ◌==◌, ◌&&◌, ◌||◌, Bool, true, false, List, [], ◌∷◌, ◌++◌, codes, Option, Some, None, if◌then◌else◌}
+use Rattle.std.specs.Prelude.{ℕ, ◌+◌, ◌-◌, ◌^◌, min, ◌==◌, ◌&&◌, ◌||◌, Bool, true, false, List, [], ◌∷◌, ◌++◌, codes, if◌then◌else◌}
 use Rattle.std.specs.Fmt.{decimal}
 use Rattle.std.specs.List.{flat_map}
-use Rattle.command_line.specs.Status.{status_after}
-use Rattle.command_shell.specs.Answers.{unknown_text}
-use Rattle.debug_session.specs.DebugState.{DebugState, one_more}
-use Rattle.debug_session.specs.declared.reports.CheckTally.{CheckTally}
-use Rattle.debug_session.specs.declared.reports.ReportForm.{ReportForm}
-use Rattle.debug_session.specs.declared.reports.TheConstants.{BLOCK_GOES_ON, NO_END}
-use Rattle.debug_session.specs.declared.reports.ReportForm.TheVariants.{Answers, Tap}
+use Rattle.std.specs.Str.Lines.{lines}
+use Rattle.debug_reports.specs.declared.reports.CheckTally.{CheckTally}
+use Rattle.debug_reports.specs.declared.reports.ReportForm.{ReportForm}
+use Rattle.debug_reports.specs.declared.reports.TheConstants.{BLOCK_GOES_ON, NO_END}
+use Rattle.debug_reports.specs.declared.reports.ReportForm.TheVariants.{Answers, Tap}
 
 -- an answer that is no report: the protocol leaves it out
 abbrev pub answer_in : ReportForm → List ℕ → List ℕ
 answer_in Answers text = text
 answer_in Tap text = []
+
+-- A count, up to 2^64 - 1.
+abbrev pub one_more : ℕ → ℕ
+one_more n = min (n + 1) (2 ^ 64 - 1)
+
+abbrev pub no_tally : CheckTally
+no_tally = record { passed = 0; failed = 0; refused = 0 }
 
 abbrev pub with_pass : CheckTally → CheckTally
 with_pass t = record t { passed = one_more t.passed }
@@ -59,11 +64,15 @@ fail_text Answers t number words reason =
 fail_text Tap t number words reason =
     tap_line (codes "not ok ") (report_count t) number words ++ tap_remark reason
 
--- a refusal, as the line that tells it
+-- the lines of a text, each as a remark
+abbrev pub tap_remarks : List ℕ → List ℕ
+tap_remarks text = flat_map tap_remark (lines text)
+
+-- a refusal, as the lines that tell it
 abbrev pub report_of_refusal : ReportForm → CheckTally → ℕ → List ℕ → List ℕ
 report_of_refusal Answers t number text = text
 report_of_refusal Tap t number text =
-    tap_line (codes "not ok ") (report_count t) number [] ++ (codes "# " ++ text)
+    tap_line (codes "not ok ") (report_count t) number [] ++ tap_remarks text
 
 -- `, 1 refused`
 abbrev pub refused_words : ℕ → List ℕ
@@ -86,10 +95,3 @@ is_untested t = t.passed == 0 && t.failed == 0
 abbrev pub summary_text : ReportForm → CheckTally → List ℕ
 summary_text Answers t = if is_untested t then [] else tally_line t
 summary_text Tap t = codes "1.." ++ (decimal (report_count t) ++ codes "\n")
-
--- The exit status: without EXPECT lines that of a script, by the last stop; with some 0 where all of
--- them passed and nothing was refused, else 5.
-abbrev pub debug_status : DebugState → ℕ
-debug_status d =
-    if is_untested d.tally then status_after d.script.last else (
-    if d.tally.failed == 0 && d.tally.refused == 0 then 0 else 5)

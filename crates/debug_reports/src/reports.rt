@@ -4,11 +4,12 @@ ghost use Rattle.std.specs.Prelude.{◌≡◌, ◌++◌, codes};
 ghost use Rattle.std.specs.Fmt.{decimal};
 ghost use Rattle.std.specs.List.{flat_map};
 ghost use Rattle.profile.specs.Output.{Writes};
-ghost use Rattle.debug_session.specs.Reports.{answer_in, fail_text, missing_end_text, pass_text, report_of_refusal, refused_words, report_count, summary_text};
-ghost use Rattle.debug_session.specs.Reports.{tally_line, tap_byte_text, tap_line, tap_words};
+ghost use Rattle.debug_reports.specs.Reports.{answer_in, fail_text, missing_end_text, pass_text, report_of_refusal, refused_words, report_count, summary_text};
+ghost use Rattle.debug_reports.specs.Reports.{tally_line, tap_byte_text, tap_line, tap_remark, tap_remarks, tap_words};
 
 use itoa::Buffer;
 use profile::{Sink, WriteFault, push_all, push_parts};
+use text_lines::Lines;
 
 /// What is told of a block that lacks its line END stands before the line's number and behind it.
 pub const NO_END: &[u8] = b"no END: the block that begins at line ";
@@ -38,8 +39,7 @@ pub struct CheckTally {
 }
 
 impl CheckTally {
-    ghost use Rattle.debug_session.specs.DebugState.{no_tally};
-    ghost use Rattle.debug_session.specs.Reports.{is_untested, with_fail, with_pass, with_refusal};
+    ghost use Rattle.debug_reports.specs.Reports.{is_untested, no_tally, with_fail, with_pass, with_refusal};
 
     /// Of no lines.
     pub fn new() -> CheckTally
@@ -90,7 +90,7 @@ impl CheckTally {
     }
 
     /// How many lines of the protocol stand for it.
-    fn report_count(self) -> u128
+    pub(crate) fn report_count(self) -> u128
         ensures { result ≡ report_count self }
     {
         u128::from(self.passed) + u128::from(self.failed) + u128::from(self.refused)
@@ -140,12 +140,12 @@ pub fn push_fail<W: Sink>(
         ReportForm::Answers => push_failed(sink, number, reason),
         ReportForm::Tap => {
             push_tap_line(sink, b"not ok ", before, number, words)?;
-            push_parts(sink, &[b"# ".as_slice(), reason, b"\n".as_slice()])
+            push_remark(sink, reason)
         }
     }
 }
 
-/// Writes a refusal of the line of that number, as the line that tells it.
+/// Writes a refusal of the line of that number, as the lines that tell it.
 pub fn push_refusal<W: Sink>(
     sink: &mut W,
     form: ReportForm,
@@ -160,7 +160,7 @@ pub fn push_refusal<W: Sink>(
         ReportForm::Answers => push_all(sink, text),
         ReportForm::Tap => {
             push_tap_line(sink, b"not ok ", before, number, b"")?;
-            push_parts(sink, &[b"# ".as_slice(), text])
+            push_remarks(sink, text)
         }
     }
 }
@@ -238,6 +238,25 @@ fn push_tap_line<W: Sink>(
     )?;
     push_tap_words(sink, words)?;
     push_all(sink, b"\n")
+}
+
+// The lines of a text, each as a remark.
+#[tactic(auto, using(crate::proofs::RemarkLemmas::remark_steps))]
+fn push_remarks<W: Sink>(sink: &mut W, text: &[u8]) -> Result<(), WriteFault>
+    ensures { Writes W.contents W.has_failed sink.old sink.new result (tap_remarks text.now) }
+{
+    let mut lines = Lines::new(text);
+    while let Some(line) = lines.next_line() {
+        push_remark(sink, line)?;
+    }
+    Ok(())
+}
+
+// `# R1 is 00000000`
+fn push_remark<W: Sink>(sink: &mut W, text: &[u8]) -> Result<(), WriteFault>
+    ensures { Writes W.contents W.has_failed sink.old sink.new result (tap_remark text.now) }
+{
+    push_parts(sink, &[b"# ".as_slice(), text, b"\n".as_slice()])
 }
 
 fn push_tap_words<W: Sink>(sink: &mut W, words: &[u8]) -> Result<(), WriteFault>

@@ -1,8 +1,8 @@
 use Rattle.std.proofs.Common.{◌≡◌, drop}
 use Rattle.std.specs.List.{flat_map}
 use Rattle.profile.specs.Output.{AddsAllBut}
-use Rattle.debug_session.specs.Reports.{tap_byte_text}
-use Rattle.debug_session.proofs.reports.push_escaped.Given as goal
+use Rattle.debug_reports.specs.Reports.{tap_byte_text}
+use Rattle.debug_reports.proofs.reports.push_escaped.Given as goal
 
 -- what stands written, and the bytes that are left, is all
 abbrev pub invariant-loop-byte : goal.invariant-loop-byte
