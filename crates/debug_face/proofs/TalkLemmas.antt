@@ -9,10 +9,11 @@ use Rattle.profile.specs.Output.{AddsAllBut}
 use Rattle.profile.proofs.OutputLemmas.{AddsAllBut-more, AddsAllBut-start, Appends-from_all_but, Appends-join}
 use Rattle.debug_page.specs.debug_session.specs.DebugScript.{debug_lines_told, debug_script_told, then_summary}
 use Rattle.debug_page.specs.debug_session.specs.DebugState.{DebugAnswered, DebugState, IsDebugged, debug_start_state}
-use Rattle.debug_page.specs.debug_session.specs.Reports.{debug_status, summary_text}
+use Rattle.debug_page.specs.debug_session.specs.ExitStatus.{debug_status}
+use Rattle.debug_page.specs.debug_session.specs.debug_reports.specs.Reports.{summary_text}
 use Rattle.debug_page.specs.debug_session.specs.Session.{debug_state}
 use Rattle.debug_page.specs.debug_session.specs.Typing.{IsTaken}
-use Rattle.debug_page.specs.debug_session.specs.declared.reports.ReportForm.TheVariants.{Answers}
+use Rattle.debug_page.specs.debug_session.specs.debug_reports.specs.declared.reports.ReportForm.TheVariants.{Answers}
 use Rattle.debug_page.specs.debug_session.specs.declared.session.DebugSession.{DebugSession}
 use Rattle.debug_page.specs.debug_session.specs.declared.session.DebugSetting.{DebugSetting}
 use Rattle.debug_page.specs.debug_session.specs.declared.typing.DebugTyping.{DebugTyping}

@@ -2,7 +2,7 @@
 
 ghost use Rattle.std.specs.Prelude.{◌≡◌, IfOk, IfSome, OnOk};
 ghost use Rattle.debug_page.specs.DebugPage.{debug_told_in, WritesDebugPage};
-ghost use Rattle.debug_page.specs.debug_session.specs.Reports.{debug_status};
+ghost use Rattle.debug_page.specs.debug_session.specs.ExitStatus.{debug_status};
 
 use command_shell_lines::read_script;
 use debug_page::debug_entries::script_page::PageForm;

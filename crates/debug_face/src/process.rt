@@ -10,7 +10,7 @@ use crate::pages::show_script;
 use crate::refusal::DebugRefusal;
 use crate::talk::{hand_on, talk};
 use crate::words::{WantedSession, read_words};
-use debug_page::debug_session::{DebugSetting, DebugTyping, ReportForm};
+use debug_page::debug_session::{DebugSetting, DebugTyping, ReportForm, RunMeter};
 use image_loader::Images;
 use profile::{Device, Sink, Source};
 use rosm_settings::SettingsRefusal;
@@ -23,15 +23,16 @@ use std::process::ExitCode;
 use std::{fs, io};
 
 /// Answers a debugging script as the words of this process ask for it, of which the first names the
-/// face. `is_terminal` tells whether standard input is a terminal, and `errors` is standard error.
-pub fn run<R, E>(rt: &R, errors: &mut E, is_terminal: bool) -> ExitCode
+/// face. `is_terminal` tells whether standard input is a terminal, `errors` is standard error, and the
+/// meter is told how far RUN and STEP are.
+pub fn run<R, E>(rt: &R, errors: &mut E, is_terminal: bool, meter: RunMeter) -> ExitCode
 where
     R: AllocGlobal + Env + fs::Files + Input + Print + Eprint,
     E: Sink,
 {
     match read_words(rt) {
         Ok(wanted) => {
-            let ending = debug_on_standard_streams(rt, &wanted, errors, is_terminal);
+            let ending = debug_on_standard_streams(rt, &wanted, errors, is_terminal, meter);
             exit_code(rt, ending)
         }
         Err(refusal) => exit_code(rt, Err(refusal)),
@@ -46,6 +47,7 @@ fn debug_on_standard_streams<'a, R, E>(
     wanted: &'a WantedSession,
     errors: &mut E,
     is_terminal: bool,
+    meter: RunMeter,
 ) -> Result<u8, DebugRefusal<'a>>
 where
     R: AllocGlobal + fs::Files + Input + Print,
@@ -56,10 +58,21 @@ where
     match &wanted.script {
         None => {
             let mut input = Device::new(rt.reader());
-            answer(rt, wanted, images, &mut input, errors, is_terminal)
+            answer(rt, wanted, images, &mut input, errors, is_terminal, meter)
         }
         Some(path) => match File::open(rt, path.as_str()) {
-            Ok(file) => answer(rt, wanted, images, &mut Device::new(file), errors, false),
+            Ok(file) => {
+                let mut input = Device::new(file);
+                answer(
+                    rt,
+                    wanted,
+                    images,
+                    &mut input,
+                    errors,
+                    false,
+                    RunMeter::silent(),
+                )
+            }
             Err(error) => Err(DebugRefusal::File(path.as_str(), FileError::from(error))),
         },
     }
@@ -88,6 +101,7 @@ fn answer<'a, R, S, E>(
     reader: &mut S,
     errors: &mut E,
     is_terminal: bool,
+    meter: RunMeter,
 ) -> Result<u8, DebugRefusal<'a>>
 where
     R: AllocGlobal + Print,
@@ -102,7 +116,7 @@ where
     match wanted.form {
         WantedForm::Lines(form) => answer_lines(
             alloc,
-            setting_of(wanted, form),
+            setting_of(wanted, form, meter),
             &mut images,
             reader,
             &mut writer,
@@ -110,7 +124,7 @@ where
             is_terminal,
         ),
         WantedForm::Page(form) => {
-            let setting = setting_of(wanted, ReportForm::Answers);
+            let setting = setting_of(wanted, ReportForm::Answers, meter);
             let status = show_script(alloc, images, setting, form, reader, &mut writer)?;
             hand_on(&mut writer)?;
             Ok(status)
@@ -138,7 +152,7 @@ where
     Ok(talk(typing, images, reader, writer, errors, is_terminal)?)
 }
 
-fn setting_of(wanted: &WantedSession, form: ReportForm) -> DebugSetting
+fn setting_of(wanted: &WantedSession, form: ReportForm, meter: RunMeter) -> DebugSetting
     ensures config { result.config ≡ wanted.now.settings.config }
     ensures budget { result.budget ≡ wanted.now.settings.budget }
     ensures form { result.form ≡ form }
@@ -147,6 +161,7 @@ fn setting_of(wanted: &WantedSession, form: ReportForm) -> DebugSetting
         config: wanted.settings.config,
         budget: wanted.settings.budget,
         form,
+        meter,
     }
 }
 

@@ -3,11 +3,11 @@
 ghost use Rattle.std.specs.Prelude.{◌≡◌, ◌⊎◌, true, false, IfOk, OnOk};
 ghost use Rattle.std.specs.Io.KnownBytes.{IsAtEnd, Keeps};
 ghost use Rattle.profile.specs.Devices.{device_inner};
-ghost use Rattle.debug_page.specs.debug_session.specs.declared.reports.ReportForm.TheVariants.{Answers};
+ghost use Rattle.debug_page.specs.debug_session.specs.debug_reports.specs.declared.reports.ReportForm.TheVariants.{Answers};
 ghost use Rattle.debug_face.specs.Talking.{DebugsInput, HasTalked, IsStatusOfInput, TakesPiece};
 
 use debug_page::debug_entries::script_page::command_shell::RunError;
-use debug_page::debug_session::reports::push_missing_end;
+use debug_page::debug_session::debug_reports::push_missing_end;
 use debug_page::debug_session::{DebugTyping, ReportForm};
 use image_loader::Images;
 use profile::{Device, Sink, Source, WriteFault, push_all};
@@ -104,10 +104,10 @@ fn answer_piece<W: Sink, E: Sink>(
         (W.contents sink.old) (W.contents sink.new) piece.now) }
     ensures setting { typing.new.session.setting ≡ typing.old.session.setting }
 {
-    let begins = typing.missing_ends(piece)?;
+    let read = typing.read(piece)?;
     let form = typing.session().form();
-    tell_missing_ends(sink, errors, form, begins.as_slice())?;
-    typing.take(images, sink, piece)
+    tell_missing_ends(sink, errors, form, read.missing_ends())?;
+    typing.answer(images, sink, read)
 }
 
 fn tell_missing_at_end<W: Sink, E: Sink>(

@@ -18,7 +18,7 @@ use Rattle.debug_entries.specs.script_page.specs.command_shell.specs.Error.{IsLi
 use Rattle.debug_entries.specs.script_page.specs.command_shell.specs.declared.error.RunError.{RunError}
 use Rattle.debug_entries.specs.script_page.specs.command_shell.specs.declared.error.RunError.TheVariants as error
 use Rattle.debug_page.proofs.AnsweringLemmas.{place_is, with_block}
-use Rattle.debug_session.specs.Reports.{summary_text}
+use Rattle.debug_session.specs.debug_reports.specs.Reports.{summary_text}
 use Rattle.debug_session.specs.declared.session.DebugSession.{DebugSession}
 use Rattle.debug_session.specs.declared.session.DebugSetting.{DebugSetting}
 use Rattle.debug_entries.specs.script_page.proofs.PageLemmas.{any_more, more_of}

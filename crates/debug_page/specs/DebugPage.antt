@@ -13,7 +13,7 @@ use Rattle.debug_entries.specs.script_page.specs.declared.form.PageForm.{PageFor
 use Rattle.debug_entries.specs.script_page.specs.declared.form.PageForm.TheVariants as form
 use Rattle.debug_session.specs.DebugScript.{debug_lines_told}
 use Rattle.debug_session.specs.DebugState.{DebugAnswered, debug_start_state}
-use Rattle.debug_session.specs.Reports.{summary_text}
+use Rattle.debug_session.specs.debug_reports.specs.Reports.{summary_text}
 use Rattle.debug_session.specs.declared.session.DebugSetting.{DebugSetting}
 use Rattle.debug_page.specs.Answering.{PagePlace, start_place}
 use Rattle.debug_entries.specs.Html.{debug_entry_html, summary_html}

@@ -3,7 +3,8 @@
 ghost use Rattle.std.specs.Prelude.{◌≡◌, ◌⊎◌, true, Err, IfOk, OnOk, IfErr};
 ghost use Rattle.profile.specs.Output.{Writes};
 ghost use Rattle.debug_entries.specs.script_page.specs.command_shell.specs.Error.{IsLineError};
-ghost use Rattle.debug_session.specs.Reports.{debug_status, summary_text};
+ghost use Rattle.debug_session.specs.ExitStatus.{debug_status};
+ghost use Rattle.debug_session.specs.debug_reports.specs.Reports.{summary_text};
 ghost use Rattle.debug_entries.specs.script_page.specs.PictureIndex.{links_html};
 ghost use Rattle.debug_entries.specs.script_page.specs.Writing.{page_front};
 ghost use Rattle.debug_page.specs.DebugPage.{debug_page_back, debug_page_entry, debug_told_in, legend_if, BeginsDebugPage, WritesDebugPage};

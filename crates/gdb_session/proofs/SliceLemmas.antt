@@ -7,42 +7,12 @@ use Rattle.command_shell.specs.Stepping.{script_after_run, script_run}
 use Rattle.image_loader.specs.Entries.{Entry}
 use Rattle.profile.specs.declared.stop.Stop.TheVariants as stop
 use Rattle.gdb_machine.specs.declared.stops.GdbStop.TheVariants as reason
-use Rattle.debugger.specs.swi_dispatch_guest.specs.declared.halt.Halt.{Halt}
-use Rattle.debugger.specs.swi_dispatch_guest.specs.MachineState.{MachineState, StepOutcome}
-use Rattle.debugger.specs.swi_dispatch_guest.specs.Run.{Run, go_on, is_among, ran, resting, run_after_steps, run_unless_halted, then_run}
-use Rattle.debugger.specs.swi_dispatch_guest.specs.Step.{machine_step}
-use Rattle.debugger.specs.swi_dispatch_guest.proofs.Runs.{halt-no_budget, runs_on}
+use Rattle.debugger.specs.swi_dispatch_guest.specs.MachineState.{MachineState}
+use Rattle.debugger.specs.swi_dispatch_guest.specs.Run.{Run, ran, then_run}
+use Rattle.debugger.specs.swi_dispatch_guest.proofs.Runs.{runs_on}
+use Rattle.run_meter.proofs.SliceLemmas.{all_count}
 use Rattle.gdb_session.specs.Laws.{GdbSlicesAreOneRun}
 use Rattle.gdb_session.specs.Runs.{printed_before, steps_taken}
-
-branch_counts : (b : Bool) (a : StepOutcome) (n : ℕ) (r : Run) → (r.stop ≡ stop.Budget → r.taken ≡ n)
-    → (let broken : Run = record { now = a.now; printed = a.printed; last = Some a.printed; taken = 1; stop = stop.Break a.now.cpu.pc } in
-    (if b then broken else run_after_steps a.printed (Some a.printed) 1 r).stop ≡ stop.Budget
-    → (if b then broken else run_after_steps a.printed (Some a.printed) 1 r).taken ≡ suc n)
-branch_counts true a n r counts e = absurd (cc)
-branch_counts false a n r counts e = let k = counts e in omega (arith, k)
-
-step_counts : (breaks : List ℕ) (s : MachineState) (o : Option Halt) (a : StepOutcome) (ao : Option Halt) (n : ℕ) (rest : MachineState → Run)
-    → ((x : MachineState) → (rest x).stop ≡ stop.Budget → (rest x).taken ≡ n)
-    → (run_unless_halted s o (go_on breaks a ao rest)).stop ≡ stop.Budget
-    → (run_unless_halted s o (go_on breaks a ao rest)).taken ≡ suc n
-step_counts breaks s (Some h) a ao n rest counts e = absurd (halt-no_budget h e)
-step_counts breaks s None a (Some h) n rest counts e = absurd (halt-no_budget h e)
-step_counts breaks s None a None n rest counts e = branch_counts (is_among breaks a.now.cpu.pc) a n (rest a.now) (counts a.now) e
-
-start_counts : (s : MachineState) (o : Option Halt) → (run_unless_halted s o (resting s stop.Budget)).stop ≡ stop.Budget
-    → (run_unless_halted s o (resting s stop.Budget)).taken ≡ 0
-start_counts s (Some h) e = absurd (halt-no_budget h e)
-start_counts s None e = refl
-
--- where the budget is used up, each step counts
-all_count : (images : List Entry) (breaks : List ℕ) (n : ℕ) (s : MachineState) → (ran images breaks n s).stop ≡ stop.Budget
-    → (ran images breaks n s).taken ≡ n
-unfolding ran
-all_count images breaks zero s e = start_counts s s.halt e
-all_count images breaks (suc n) s e =
-    step_counts breaks s s.halt (machine_step images s) (machine_step images s).now.halt n (ran images breaks n)
-    (λ x h. all_count images breaks n x h) e
 
 fresh_in_both : (b : Bool) (n first : ℕ) → first ≤ n → b && (n == 0) ≡ (b && (first == 0)) && ((n - first) == 0)
 fresh_in_both b n first few = grind (arith, nat_tests)

@@ -3,7 +3,8 @@ use Rattle.std.specs.Prelude.{ℕ, Bool, false, List, [], Option, Some, None}
 use Rattle.image_loader.specs.Entries.{Entry}
 use Rattle.command_shell.specs.State.{ScriptState}
 use Rattle.debug_session.specs.DebugState.{DebugState, debug_start_state}
-use Rattle.debug_session.specs.declared.reports.ReportForm.TheVariants.{Answers}
+use Rattle.debug_session.specs.debug_reports.specs.declared.reports.ReportForm.TheVariants.{Answers}
+use Rattle.run_meter.specs.Meters.{silent_meter}
 use Rattle.debug_session.specs.declared.session.DebugSetting.{DebugSetting}
 use Rattle.gdb_machine.specs.Libraries.{library_lines}
 use Rattle.gdb_machine.specs.declared.stops.GdbStop.{GdbStop}
@@ -50,7 +51,12 @@ with_libraries_told g = record g { libraries = libraries_now g }
 
 -- what lines are answered with: as answers
 abbrev pub debug_setting : GdbSetting → DebugSetting
-debug_setting setting = record { config = setting.config; budget = setting.budget; form = Answers }
+debug_setting setting = record {
+  config = setting.config;
+  budget = setting.budget;
+  form = Answers;
+  meter = silent_meter;
+}
 
 -- before the first line
 abbrev pub gdb_start : DebugSetting → List Entry → GdbState

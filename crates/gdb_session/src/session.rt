@@ -5,7 +5,7 @@ ghost use Rattle.command_shell.specs.Error.{IsLineError};
 ghost use Rattle.gdb_session.specs.State.{debug_setting as debug_setting_told};
 
 use command_shell::RunError;
-use debug_session::{DebugSession, DebugSetting, ReportForm};
+use debug_session::{DebugSession, DebugSetting, ReportForm, RunMeter};
 use gdb_machine::{GdbStop, Watches};
 use gdb_packets::Request;
 use image_loader::Images;
@@ -147,5 +147,6 @@ fn debug_setting(setting: GdbSetting) -> DebugSetting
         config: setting.config,
         budget: setting.budget,
         form: ReportForm::Answers,
+        meter: RunMeter::silent(),
     }
 }

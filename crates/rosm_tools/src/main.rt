@@ -7,14 +7,28 @@
 mod faces;
 
 use crate::faces::{Face, face_asked, refuse};
+use debug_face::RunMeter;
 use profile::Device;
 use std::io::IsTerminal;
 use std::process::ExitCode;
 
+// What tells a person how far a long run is: standard error, where that is a terminal as well.
+fn meter(rt: &HostRuntime, is_terminal: bool) -> RunMeter {
+    let errors = rt.stderr();
+    if is_terminal && errors.is_terminal() {
+        RunMeter::at_terminal(errors)
+    } else {
+        RunMeter::silent()
+    }
+}
+
 fn main(rt: HostRuntime) -> ExitCode {
     let mut errors = Device::new(rt.stderr());
     match face_asked(&rt) {
-        Some(Face::Debug) => debug_face::run(&rt, &mut errors, rt.stdin().is_terminal()),
+        Some(Face::Debug) => {
+            let is_terminal = rt.stdin().is_terminal();
+            debug_face::run(&rt, &mut errors, is_terminal, meter(&rt, is_terminal))
+        }
         Some(Face::Gdb) => gdb_face::run(&rt, &mut errors),
         Some(Face::Source) => source_face::run(&rt, &mut errors),
         Some(Face::Symbols) => symbols_face::run(&rt),

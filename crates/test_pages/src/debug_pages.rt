@@ -2,7 +2,7 @@
 //! made by hand.
 
 use debug_page::debug_entries::script_page::PageForm;
-use debug_page::debug_session::{DebugSetting, ReportForm};
+use debug_page::debug_session::{DebugSetting, ReportForm, RunMeter};
 use debug_page::push_debug_page;
 use image_loader::Images;
 use profile::Config;
@@ -72,6 +72,7 @@ fn page(rt: &(impl AllocGlobal + Abort), script: &str, form: PageForm) -> (TextS
         config: Config::new(256, 64, 16).expect(rt, "sizes that a machine can have"),
         budget: 1_000_000,
         form: ReportForm::Answers,
+        meter: RunMeter::silent(),
     };
     let images = Images::new();
     let mut sink = TextSink::new(rt.alloc());

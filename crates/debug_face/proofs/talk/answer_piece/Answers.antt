@@ -1,5 +1,7 @@
 -- By what is told before the piece is taken.
-use Rattle.std.proofs.Common.{◌≡◌, ap, ◌∙◌}
+use Rattle.std.proofs.Common.{◌≡◌, ℕ, List, ap, subst, ◌∙◌}
+use Rattle.std.specs.Prelude.{OnOk}
+use Rattle.debug_page.specs.debug_session.specs.Typing.{IsTaken}
 use Rattle.debug_page.specs.debug_session.specs.declared.session.DebugSession.{DebugSession}
 use Rattle.debug_face.proofs.TalkLemmas.{takes_so}
 use Rattle.debug_face.proofs.talk.answer_piece.Goals as goal
@@ -8,4 +10,7 @@ pub returns-clause-taken : goal.returns-clause-taken
 returns-clause-taken g c =
     takes_so _ _ _ _ _ _ (g.W.Sink.contents c.tell_missing_ends.new.sink) _ _
     (λ answers. c.in_ok-tell_missing_ends.ensures
-    (c.form-form.ensures ∙ ap (λ (x : DebugSession). x.setting.form) c.session.ensures ∙ answers)) c.take.ensures.taken
+    (c.form-form.ensures ∙ ap (λ (x : DebugSession). x.setting.form) c.session.ensures ∙ answers))
+    (subst (λ (xs : List ℕ). OnOk c.answer.result (IsTaken c.args.typing.now c.answer.new.self c.args.images.now
+    c.answer.new.images (g.W.Sink.contents c.tell_missing_ends.new.sink) (g.W.Sink.contents c.answer.new.sink) xs))
+    c.in_ok-read.ensures.text c.answer.ensures.taken)

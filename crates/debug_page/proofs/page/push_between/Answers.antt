@@ -2,7 +2,8 @@ use Rattle.std.proofs.Common.{◌≡◌, ◌++◌, ap, inr, rules, sym, ◌∙�
 use Rattle.std.specs.Str.Lines.{lines}
 use Rattle.text_lines.specs.Lines.{ReadingPlace}
 use Rattle.debug_entries.specs.script_page.specs.PictureIndex.{link_if_drawn, links_html}
-use Rattle.debug_session.specs.Reports.{debug_status, summary_text}
+use Rattle.debug_session.specs.ExitStatus.{debug_status}
+use Rattle.debug_session.specs.debug_reports.specs.Reports.{summary_text}
 use Rattle.debug_session.specs.Session.{debug_state}
 use Rattle.debug_session.specs.declared.session.DebugSession.{DebugSession}
 use Rattle.debug_entries.specs.script_page.proofs.PageLemmas.{drawn_before, drawn_here}
