@@ -2,3 +2,4 @@ pub mod OptionsLemmas
 pub mod BlockLemmas
 pub mod RowLemmas
 pub mod MakingLemmas
+pub mod SourceRowLemmas

@@ -1,110 +1,175 @@
 //! The block of a name in a script.
 
-ghost use Rattle.std.specs.Prelude.{◌≡◌, ◌<◌, ◌^◌, false, None, Some, IfSome, if◌then◌else◌};
+ghost use Rattle.std.specs.Prelude.{◌≡◌, false, IfOk};
 ghost use Rattle.std.specs.Str.Lines.{lines};
 ghost use Rattle.command_shell_lines.specs.Blocks.{block_lines};
-ghost use Rattle.command_shell_lines.specs.Requests.{request_of};
-ghost use Rattle.command_shell_lines.specs.WholeRequests.{is_open_after};
-ghost use Rattle.symbols_face.specs.FoundBlocks.{block_named, origin_if_named, origin_opened};
+ghost use Rattle.command_shell_lines.specs.Requests.{request_of_command};
+ghost use Rattle.debug_lines.specs.DebugRequests.{debug_request, debug_request_of_command, own_request};
+ghost use Rattle.debug_lines.specs.WholeDebugRequests.{is_debug_block_open_after};
+ghost use Rattle.symbols_face.specs.FoundBlocks.{block_named, opening_at, opening_if, opening_named, opening_of_script};
 
-use command_shell_lines::{ScriptCommand, command_of, is_block_end, skip_block};
+use command_shell_lines::{Origin, ScriptCommand, command_of, is_block_end, skip_block};
+use debug_lines::{
+    DebugCommand, SourceLanguage, is_script_line, opens_block, repeated_line, simple_command,
+    tidied,
+};
+use std::alloc::{AllocError, Global};
 use std::marker::Model;
 use text_lines::Lines;
 
-/// An ASM block of a script.
+/// What a block is written in, where that isn't the assembler's own language, and where it is
+/// assembled.
+#[derive(Clone, Copy, Debug)]
+pub(crate) struct BlockOpening {
+    pub(crate) language: Option<SourceLanguage>,
+    pub(crate) origin: Origin,
+}
+
+/// A block of a script.
 #[derive(Drop)]
 pub(crate) struct FoundBlock<'s> {
+    pub(crate) opening: BlockOpening,
     /// At its first line.
     pub(crate) lines: Lines<'s>,
     /// How many lines it has.
     pub(crate) count: usize,
-    /// Where it is assembled.
-    pub(crate) origin: u32,
 }
 
 impl<'s> Model for FoundBlock<'s> {
-    ghost use Rattle.std.specs.Prelude.{◌<◌, ◌^◌, take};
+    ghost use Rattle.std.specs.Prelude.{take};
     ghost use Rattle.symbols_face.specs.FoundBlocks.{ScriptBlock};
 
     ghost Value = { ScriptBlock };
 
     ghost view = { λ b. record {
+      opening = b.opening;
       number = b.lines.number;
-      origin = b.origin;
       texts = take b.count b.lines.left;
     } };
-
-    ghost invariant = { λ b. b.origin < 2 ^ 26 };
 }
 
-/// The first ASM block of that name.
+/// The first block of that name.
+///
+/// # Errors
+///
+/// There is no memory for a line made tidy.
 #[tactic(auto, using(crate::proofs::BlockLemmas::named_steps))]
-pub(crate) fn block_named<'s>(script: &'s [u8], name: &[u8]) -> Option<FoundBlock<'s>>
-    ensures { result ≡ block_named name.now false 0 (lines script.now) }
+pub(crate) fn block_named<'s>(
+    alloc: Global,
+    script: &'s [u8],
+    name: &[u8],
+) -> Result<Option<FoundBlock<'s>>, AllocError>
+    ensures { IfOk result (λ block. block ≡ block_named name.now false 0 (lines script.now)) }
 {
     let mut lines = Lines::new(script);
     let mut is_open = false;
     while let Some(line) = lines.next_line() {
-        if let Some(origin) = origin_opened(name, is_open, line) {
-            return Some(block_at(lines, origin));
+        let found = opening_at(alloc, name, is_open, line)?;
+        if let Some(opening) = found {
+            return Ok(Some(block_at(lines, opening)));
         }
-        is_open = is_open_after(is_open, line);
+        is_open = is_open_after(alloc, is_open, line)?;
     }
-    None
+    Ok(None)
 }
 
 // The block whose lines are the next.
-fn block_at(lines: Lines<'_>, origin: u32) -> FoundBlock<'_>
-    requires { origin < 2 ^ 26 }
+fn block_at(lines: Lines<'_>, opening: BlockOpening) -> FoundBlock<'_>
     ensures { result ≡ record {
+      opening = opening;
       number = lines.entry.number;
-      origin = origin;
       texts = block_lines lines.entry.left;
     } }
 {
     let count = skip_block(&mut lines.again());
     FoundBlock {
+        opening,
         lines,
         count,
-        origin,
     }
 }
 
-// Where a block of that name is assembled that a line opens, which may be in another block.
-fn origin_opened(name: &[u8], is_open: bool, line: &[u8]) -> Option<u32>
-    ensures origin { result ≡ origin_opened name.now is_open line.now }
-    ensures below { IfSome result (λ origin. origin < 2 ^ 26) }
+// The block of that name that a line opens, which may be in another block.
+fn opening_at(
+    alloc: Global,
+    name: &[u8],
+    is_open: bool,
+    line: &[u8],
+) -> Result<Option<BlockOpening>, AllocError>
+    ensures { IfOk result (λ opening. opening ≡ opening_at name.now is_open line.now) }
 {
     if is_open {
-        None
-    } else {
-        origin_if_named(name, line)
+        return Ok(None);
+    }
+    opening_of_line(alloc, name, line)
+}
+
+fn opening_of_line(
+    alloc: Global,
+    name: &[u8],
+    line: &[u8],
+) -> Result<Option<BlockOpening>, AllocError>
+    ensures { IfOk result (λ opening. opening ≡ opening_named name.now (debug_request line.now)) }
+{
+    if is_script_line(line) {
+        return Ok(opening_of_script(name, &command_of(line)));
+    }
+    let tidy = tidied(alloc, line)?;
+    Ok(opening_of_tidy(name, tidy.as_slice()))
+}
+
+// Of a tidy line.
+fn opening_of_tidy(name: &[u8], tidy: &[u8]) -> Option<BlockOpening>
+    ensures { result ≡ opening_named name.now (own_request tidy.now) }
+{
+    match repeated_line(tidy) {
+        Some(_) => None,
+        None => opening_named(name, &simple_command(tidy)),
     }
 }
 
-fn origin_if_named(name: &[u8], line: &[u8]) -> Option<u32>
-    ensures origin { result ≡ origin_if_named name.now (request_of line.now) }
-    ensures below { IfSome result (λ origin. origin < 2 ^ 26) }
+fn opening_named(name: &[u8], command: &DebugCommand<'_>) -> Option<BlockOpening>
+    ensures { result ≡ opening_named name.now (debug_request_of_command command.now) }
 {
-    match command_of(line) {
-        ScriptCommand::Asm(other, origin) => address_if(other == name, origin.address()),
+    match command {
+        DebugCommand::Script(command) => opening_of_script(name, command),
+        DebugCommand::Source(language, other, origin) => {
+            opening_if(*other == name, Some(*language), *origin)
+        }
         _ => None,
     }
 }
 
-fn address_if(is_named: bool, address: u32) -> Option<u32>
-    ensures { result ≡ (if is_named then Some address else None) }
+fn opening_of_script(name: &[u8], command: &ScriptCommand<'_>) -> Option<BlockOpening>
+    ensures { result ≡ opening_of_script name.now (request_of_command command.now) }
 {
-    if is_named { Some(address) } else { None }
+    match command {
+        ScriptCommand::Asm(other, origin) => opening_if(*other == name, None, *origin),
+        _ => None,
+    }
+}
+
+fn opening_if(
+    is_named: bool,
+    language: Option<SourceLanguage>,
+    origin: Origin,
+) -> Option<BlockOpening>
+    ensures { result ≡ opening_if is_named (record { language = language; origin = origin }) }
+{
+    if is_named {
+        Some(BlockOpening { language, origin })
+    } else {
+        None
+    }
 }
 
 // Whether a block is open after a line.
-fn is_open_after(is_open: bool, line: &[u8]) -> bool
-    ensures { result ≡ is_open_after is_open line.now }
+fn is_open_after(alloc: Global, is_open: bool, line: &[u8]) -> Result<bool, AllocError>
+    ensures { IfOk result (λ opens. opens ≡ is_debug_block_open_after is_open line.now) }
 {
     if is_open {
-        !is_block_end(line)
+        Ok(!is_block_end(line))
     } else {
-        command_of(line).opens_block()
+        opens_block(alloc, line)
     }
 }
