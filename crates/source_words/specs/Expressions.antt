@@ -3,8 +3,8 @@
 -- operators of one level join from the left.
 use Rattle.std.specs.Prelude.{ℕ, zero, suc, Bool, ◌-◌, ◌^◌, ◌==◌, ◌||◌, List, [], ◌∷◌, length, codes, Option, Some, None, Result, Ok, Err, if◌then◌else◌}
 use Rattle.std.specs.Int.{bit_not, is_in_range, w32}
-use Rattle.assembler_names.specs.SwiNames.{swi_named}
 use Rattle.assembler_names.specs.Words.{after_word, byte, is_same_name, word}
+use Rattle.source_calls.specs.Naming.{source_call_named}
 use Rattle.source_words.specs.Sums.{line_sum, negative_of, number_sum, plain_number}
 use Rattle.source_words.specs.Names.{NameLookup}
 use Rattle.source_words.specs.Numbers.{number_at}
@@ -73,9 +73,9 @@ call_or_unknown None = Err UnknownName
 abbrev pub value_of_meaning : List ℕ → Option Meaning → Result AddressSum Why
 value_of_meaning name (Some (meaning.Value f)) = Ok f
 value_of_meaning name (Some (meaning.Register r)) = Err NotANumber
-value_of_meaning name None = call_or_unknown (swi_named name)
+value_of_meaning name None = call_or_unknown (source_call_named name)
 
--- the value of a name: what the source says, or the number of a store call of this name
+-- the value of a name: what the source says, or the number of a SWI of this name
 abbrev pub value_of_name : NameLookup → List ℕ → Result AddressSum Why
 value_of_name names name = value_of_meaning name (names name)
 
@@ -153,6 +153,6 @@ unfoldable pub sum_within : NameLookup → ℕ → ℕ → List ℕ → ReadOrRe
 sum_within names here zero text = Err (refusal_at TooDeep text)
 sum_within names here (suc n) text = chain_of (operand_of_level (value_with_sign names here (sum_within names here n)) 2) 2 text
 
--- the value of a sum that stands on this line, in which up to 8 parentheses stand within one another
+-- the value of a sum that stands on this line, in which up to 32 parentheses stand within one another
 unfoldable pub source_sum : NameLookup → ℕ → List ℕ → ReadOrRefused AddressSum
-source_sum names here text = sum_within names here 9 text
+source_sum names here text = sum_within names here 33 text

@@ -6,4 +6,5 @@ pub mod Sums
 pub mod Operators
 pub mod Names
 pub mod Registers
+pub mod Calls
 pub mod Expressions

@@ -72,7 +72,11 @@ named_operator text = do
   rest ← byte 58 (after_word text)
   Some (o, rest)
 
--- `+` is 43, `-` 45, `*` 42, `/` 47
+abbrev pub doubled_operator : Operator → Option (List ℕ) → Option (Operator × List ℕ)
+doubled_operator o (Some rest) = Some (o, rest)
+doubled_operator o None = None
+
+-- `+` is 43, `-` 45, `*` 42, `/` 47; `<<` (60) is `:SHL:`, and `>>` (62) `:SHR:`
 abbrev pub operator_at : List ℕ → Option (Operator × List ℕ)
 operator_at [] = None
 operator_at (c ∷ rest) =
@@ -80,7 +84,9 @@ operator_at (c ∷ rest) =
     if c == 45 then Some (operator.Subtract, rest) else (
     if c == 42 then Some (operator.Multiply, rest) else (
     if c == 47 then Some (operator.Divide, rest) else (
-    if c == 58 then named_operator rest else None))))
+    if c == 60 then doubled_operator operator.ShiftLeft (byte 60 rest) else (
+    if c == 62 then doubled_operator operator.ShiftRight (byte 62 rest) else (
+    if c == 58 then named_operator rest else None))))))
 
 -- what follows a double quote (34) is a character that an operator joins, as in `"0"+n`
 abbrev pub is_joined_character : List ℕ → Bool

@@ -11,18 +11,21 @@ use crate::operators::{Operator, after_not, operator_of_level};
 use crate::refusal::{Why, WordRefusal};
 use crate::sums::AddressSum;
 use crate::words::{ReadOrRefused, after_blanks, name_at, symbol_needed};
-use assembler_names::swi_named;
 use assembler_names::words::{after_word, byte, is_name, word};
+use source_calls::source_call_named;
 
-/// How many parentheses may stand within one another.
+/// How many parentheses of a condition may stand within one another.
 pub const MOST_PARENTHESES: u32 = 8;
+
+// How many of a sum. What stands for a listing of BASIC has up to four for one of the listing.
+const MOST_IN_A_SUM: u32 = 32;
 
 /// The value of the sum at the front of a text that stands on this line.
 #[tactic(auto, unfolding(crate::specs::Expressions::source_sum, crate::specs::Expressions::sum_within))]
 pub fn source_sum<'t>(names: &Names, here: usize, text: &'t [u8]) -> ReadOrRefused<'t, AddressSum>
     ensures { reading result ≡ source_sum (meaning_of_name names.now) here text.now }
 {
-    chain(names, here, MOST_PARENTHESES, 2, text)
+    chain(names, here, MOST_IN_A_SUM, 2, text)
 }
 
 // Operands that operators of a level join.
@@ -223,7 +226,7 @@ fn number_value(text: &[u8]) -> ReadOrRefused<'_, AddressSum>
     Ok((AddressSum::number(number), rest))
 }
 
-// The value of a name: what the source says, or the number of a store call of this name.
+// The value of a name: what the source says, or the number of a SWI of this name.
 #[tactic(auto, unfolding(crate::specs::Expressions::value_of_named))]
 fn value_of_named<'t>(names: &Names, text: &'t [u8]) -> ReadOrRefused<'t, AddressSum>
     ensures { reading result ≡ value_of_named (meaning_of_name names.now) text.now }
@@ -243,7 +246,7 @@ fn value_of_name(names: &Names, name: &[u8]) -> Result<AddressSum, Why>
     match names.find(name) {
         Some(Meaning::Value(form)) => Ok(form),
         Some(Meaning::Register(_)) => Err(Why::NotANumber),
-        None => match swi_named(name) {
+        None => match source_call_named(name) {
             Some(number) => Ok(AddressSum::number(number)),
             None => Err(Why::UnknownName),
         },

@@ -1,6 +1,7 @@
 //! The words of old sources, for reading them: pieces of a line, numbers, names and sums.
 #![tactic(auto)]
 
+pub mod calls;
 pub mod expressions;
 pub mod names;
 pub mod numbers;

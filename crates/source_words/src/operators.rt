@@ -116,6 +116,8 @@ fn operator_at(text: &[u8]) -> Option<(Operator, &[u8])>
         [b'-', rest @ ..] => Some((Operator::Subtract, rest)),
         [b'*', rest @ ..] => Some((Operator::Multiply, rest)),
         [b'/', rest @ ..] => Some((Operator::Divide, rest)),
+        [b'<', rest @ ..] => Some((Operator::ShiftLeft, byte(b'<', rest)?)),
+        [b'>', rest @ ..] => Some((Operator::ShiftRight, byte(b'>', rest)?)),
         [b':', rest @ ..] => named_operator(rest),
         _ => None,
     }
