@@ -1,8 +1,7 @@
 -- What the assembler itself has values for (ARM Assembler manual, "Built-in variables", "Operators").
-use Rattle.std.specs.Prelude.{ℕ, Bool, ◌%◌, ◌^◌, ◌==◌, List, [], ◌∷◌, length, codes, Option, Some, None, if◌then◌else◌}
+use Rattle.std.specs.Prelude.{ℕ, Bool, ◌%◌, ◌^◌, ◌==◌, List, [], ◌∷◌, codes, Option, Some, None, if◌then◌else◌}
 use Rattle.assembler_names.specs.Words.{after_word, byte, is_same_name, word}
 use Rattle.assembler_text.specs.Numbers.{number_text}
-use Rattle.source_choices.specs.Relations.{text_in_quotes}
 use Rattle.source_words.specs.Words.{after_blanks, name_at}
 use Rattle.source_variables.specs.declared.constants.BuiltIn.{BuiltIn}
 use Rattle.source_variables.specs.declared.constants.BuiltIn.TheVariants as built_in
@@ -36,32 +35,13 @@ abbrev pub after_length_word : List ℕ → Option (List ℕ)
 after_length_word text =
     if is_same_name (word text) (codes "LEN") then byte 58 (after_word text) else None
 
-abbrev pub length_of_text : List ℕ → BuiltIn
-length_of_text text = built_in.Number (length text % 2 ^ 32)
-
-abbrev pub length_read : Option (List ℕ × List ℕ) → Option (BuiltIn × List ℕ)
-length_read (Some t) = Some (length_of_text t.0, t.1)
-length_read None = None
-
-abbrev pub length_behind : Option (List ℕ) → Option (BuiltIn × List ℕ)
-length_behind (Some operand) = length_read (text_in_quotes operand)
-length_behind None = None
-
--- what follows the first colon: `:CHR:` and a number have the number's value, and so has nothing and
--- the number
-abbrev pub operator_behind_colon : List ℕ → Option (BuiltIn × List ℕ)
-operator_behind_colon text =
-    if is_same_name (word text) (codes "CHR") then before_rest built_in.Character (byte 58 (after_word text))
-    else length_behind (after_length_word text)
-
--- what the assembler has a value for at the front of a text, as `:LEN: "text"`, and what follows it;
--- `<<` (60) and `>>` (62) are other spellings of shifts
+-- what the assembler has a value for at the front of a text, and what follows it; `<<` (60) and `>>`
+-- (62) are other spellings of shifts
 abbrev pub built_in_at : List ℕ → Option (BuiltIn × List ℕ)
 built_in_at [] = None
 built_in_at (c ∷ rest) = if c == 123 then built_in_in_braces rest else (
-    if c == 58 then operator_behind_colon rest else (
     if c == 60 then before_rest built_in.ShiftLeft (byte 60 rest) else (
-    if c == 62 then before_rest built_in.ShiftRight (byte 62 rest) else None)))
+    if c == 62 then before_rest built_in.ShiftRight (byte 62 rest) else None))
 
 abbrev pub name_to_measure : Option (List ℕ) → Option (List ℕ × List ℕ)
 name_to_measure (Some operand) = name_at (after_blanks operand)
@@ -88,7 +68,6 @@ name_in_braces (c ∷ rest) = if c == 123 then word rest else []
 abbrev pub built_in_text : BuiltIn → List ℕ
 built_in_text built_in.Field = codes "@"
 built_in_text (built_in.Number n) = number_text n
-built_in_text built_in.Character = []
 built_in_text built_in.ShiftLeft = codes ":SHL:"
 built_in_text built_in.ShiftRight = codes ":SHR:"
 

@@ -5,3 +5,4 @@ pub mod Variables
 pub mod Works
 pub mod Constants
 pub mod Pieces
+pub mod Texts

@@ -29,11 +29,16 @@ after_dot text = after_byte_or text (byte 46 text)
 abbrev pub after_second_sign : List ℕ → List ℕ
 after_second_sign text = after_byte_or text (byte 36 text)
 
--- what follows the front of a text: a comment (59 is `;`), what stands between quotes or bars, a word
--- or a byte
+-- what follows a word and a colon (58), or the text where there are none
+abbrev pub after_second_colon : List ℕ → List ℕ
+after_second_colon text = after_byte_or text (byte 58 (after_word text))
+
+-- what follows the front of a text: a comment (59 is `;`), what stands between quotes, bars or colons,
+-- a word or a byte
 abbrev pub after_operand_byte : ℕ → List ℕ → List ℕ
-after_operand_byte c rest = if c == 59 then [] else (if is_quote c then after_quote c rest else (
-    if length (word (c ∷ rest)) == 0 then rest else after_word (c ∷ rest)))
+after_operand_byte c rest = if c == 59 then [] else (if c == 58 then after_second_colon rest else (
+    if is_quote c then after_quote c rest else (
+    if length (word (c ∷ rest)) == 0 then rest else after_word (c ∷ rest))))
 
 abbrev pub after_plain_piece : List ℕ → List ℕ
 after_plain_piece [] = []

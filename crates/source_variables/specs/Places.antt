@@ -1,5 +1,5 @@
 -- Texts that are kept one behind the other, each found by its place.
-use Rattle.std.specs.Prelude.{ℕ, ◌+◌, ◌-◌, ◌^◌, min, List, take, drop, length}
+use Rattle.std.specs.Prelude.{ℕ, min, List, take, drop, length}
 use Rattle.source_variables.specs.declared.places.TextPlace.{TextPlace}
 
 abbrev pub texts_from : List ℕ → ℕ → List ℕ
@@ -15,7 +15,6 @@ kept_text_at texts p = text_up_to (texts_from texts p.start) p.len
 abbrev pub text_place_of : ℕ → ℕ → TextPlace
 text_place_of begin size = record { start = begin; len = size }
 
--- where a text, or two that are one, is put behind those that are there
-abbrev pub text_place_behind : List ℕ → List ℕ → List ℕ → TextPlace
-text_place_behind texts one other =
-    text_place_of (length texts) (min (length one + length other) (2 ^ 64 - 1))
+-- where a text is put behind those that are there
+abbrev pub text_place_behind : List ℕ → List ℕ → TextPlace
+text_place_behind texts text = text_place_of (length texts) (length text)

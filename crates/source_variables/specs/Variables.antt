@@ -4,6 +4,7 @@ use Rattle.std.specs.Prelude.{ℕ, Bool, ◌+◌, ◌-◌, ◌^◌, ◌==◌, mi
 use Rattle.std.specs.List.{position}
 use Rattle.assembler_text.specs.Numbers.{number_text}
 use Rattle.profile.specs.Digits.{hex_word}
+use Rattle.source_strings.specs.Quotes.{string_literal}
 use Rattle.source_variables.specs.Places.{text_place_of, kept_text_at}
 use Rattle.source_variables.specs.declared.places.TextPlace.{TextPlace}
 use Rattle.source_variables.specs.declared.variables.VariableKind.{VariableKind}
@@ -65,13 +66,10 @@ plain_by_kind texts v kinds.Text = kept_text_at texts v.text
 abbrev pub plain_value : List ℕ → VariableValue → List ℕ
 plain_value texts v = plain_by_kind texts v v.kind
 
-abbrev pub text_in_its_quotes : List ℕ → List ℕ
-text_in_its_quotes text = codes "\"" ++ (text ++ codes "\"")
-
 abbrev pub operand_by_kind : List ℕ → VariableValue → VariableKind → List ℕ
 operand_by_kind texts v kinds.Number = number_text v.number
 operand_by_kind texts v kinds.Truth = number_text v.number
-operand_by_kind texts v kinds.Text = text_in_its_quotes (kept_text_at texts v.text)
+operand_by_kind texts v kinds.Text = string_literal (kept_text_at texts v.text)
 
 -- what stands in the place of the name among operands: a number, or a text in quotes
 abbrev pub operand_value : List ℕ → VariableValue → List ℕ

@@ -1,15 +1,14 @@
-//! What the assembler itself has values for: `{VAR}` and its kin, and `:LEN:` of a text; and other
+//! What the assembler itself has values for: `{VAR}` and its kin, and `:LEN:` of a variable; and other
 //! spellings of its operators.
 
 ghost use Rattle.std.specs.Prelude.{◌≡◌, option_map};
 ghost use Rattle.assembler_names.specs.Words.{read_of};
 ghost use Rattle.profile.specs.Output.{Writes};
-ghost use Rattle.source_variables.specs.Constants.{after_length_word, built_in_at, built_in_in_braces, built_in_named, built_in_or_bytes, built_in_text, length_of_text, measured_name, name_in_braces, name_measured, operator_behind_colon, other_piece};
+ghost use Rattle.source_variables.specs.Constants.{after_length_word, built_in_at, built_in_in_braces, built_in_named, built_in_or_bytes, built_in_text, measured_name, name_in_braces, name_measured, other_piece};
 
 use crate::variables::{VariableKind, VariableValue};
 use assembler_names::words::{Read, after_word, byte, is_name, word};
 use profile::{Sink, WriteFault, push_all};
-use source_choices::relations::text_in_quotes;
 use source_lines::places::push_number;
 use source_words::words::{after_blanks, name_at};
 
@@ -19,38 +18,22 @@ pub enum BuiltIn {
     /// `{VAR}`: `@`.
     Field,
     Number(u32),
-    /// `:CHR:` before a number.
-    Character,
     /// `<<`, which is another spelling of `:SHL:`.
     ShiftLeft,
     /// `>>`, which is another spelling of `:SHR:`.
     ShiftRight,
 }
 
-/// What the assembler has a value for at the front of a text, as `:LEN: "text"`, and what follows
-/// it.
+/// What the assembler has a value for at the front of a text, and what follows it.
 pub fn built_in_at(text: &[u8]) -> Read<'_, BuiltIn>
     ensures { read_of result ≡ built_in_at text.now }
 {
     match text {
         [b'{', rest @ ..] => built_in_in_braces(rest),
-        [b':', rest @ ..] => operator_behind_colon(rest),
         [b'<', rest @ ..] => Some((BuiltIn::ShiftLeft, byte(b'<', rest)?)),
         [b'>', rest @ ..] => Some((BuiltIn::ShiftRight, byte(b'>', rest)?)),
         _ => None,
     }
-}
-
-// What follows the first colon: `:CHR:` and a number have the number's value, and so has nothing and
-// the number.
-fn operator_behind_colon(text: &[u8]) -> Read<'_, BuiltIn>
-    ensures { read_of result ≡ operator_behind_colon text.now }
-{
-    if is_name(word(text), b"CHR") {
-        return Some((BuiltIn::Character, byte(b':', after_word(text))?));
-    }
-    let (inside, rest) = text_in_quotes(after_length_word(text)?)?;
-    Some((length_of_text(inside), rest))
 }
 
 // What follows `{`.
@@ -89,12 +72,6 @@ fn after_length_word(text: &[u8]) -> Option<&[u8]>
     } else {
         None
     }
-}
-
-fn length_of_text(text: &[u8]) -> BuiltIn
-    ensures { result ≡ length_of_text text.now }
-{
-    BuiltIn::Number((text.len() % 0x1_0000_0000) as u32)
 }
 
 /// The name in `:LEN: name` at the front of a text, and what follows it.
@@ -143,7 +120,6 @@ fn push_built_in<W: Sink>(built_in: BuiltIn, sink: &mut W) -> Result<(), WriteFa
     match built_in {
         BuiltIn::Field => push_all(sink, b"@"),
         BuiltIn::Number(number) => push_number(number, sink),
-        BuiltIn::Character => Ok(()),
         BuiltIn::ShiftLeft => push_all(sink, b":SHL:"),
         BuiltIn::ShiftRight => push_all(sink, b":SHR:"),
     }

@@ -5,6 +5,7 @@
 pub mod constants;
 pub mod pieces;
 pub mod places;
+pub mod texts;
 pub mod variables;
 pub mod works;
 

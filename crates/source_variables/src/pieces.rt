@@ -3,7 +3,7 @@
 ghost use Rattle.std.specs.Prelude.{◌≡◌, ◌≤◌, length};
 ghost use Rattle.std.specs.List.{prefix_len};
 ghost use Rattle.source_variables.specs.Constants.{measured_name};
-ghost use Rattle.source_variables.specs.Pieces.{after_dot, after_measured_or, after_operand_piece, after_plain_piece, after_second_sign, after_work_word, bytes_before_sign, from_sign, is_before_sign};
+ghost use Rattle.source_variables.specs.Pieces.{after_dot, after_measured_or, after_operand_piece, after_plain_piece, after_second_sign, after_second_colon, after_work_word, bytes_before_sign, from_sign, is_before_sign};
 
 use crate::constants::{built_in_at, measured_name};
 use assembler_names::words::{after_word, byte, word};
@@ -73,7 +73,7 @@ pub fn after_work_word(text: &[u8]) -> &[u8]
 }
 
 /// What follows the front of a text: what the assembler itself has a value for, `:LEN:` with a name, a
-/// comment, what stands between quotes or bars, a word or a byte.
+/// comment, what stands between quotes, bars or colons, a word or a byte.
 #[tactic(auto, unfolding(crate::specs::Pieces::after_operand_piece))]
 pub fn after_operand_piece(text: &[u8]) -> &[u8]
     ensures { result.now ≡ after_operand_piece text.now }
@@ -93,14 +93,27 @@ fn after_measured_or(text: &[u8]) -> &[u8]
     }
 }
 
-fn after_plain_piece(text: &[u8]) -> &[u8]
+/// What follows the front of a text in which nothing has a value: a comment, what stands between
+/// quotes, bars or colons, a word or a byte.
+pub fn after_plain_piece(text: &[u8]) -> &[u8]
     ensures { result.now ≡ after_plain_piece text.now }
 {
     match text {
         [] => text,
         [b';', ..] => b"",
+        [b':', rest @ ..] => after_second_colon(rest),
         [c, rest @ ..] if is_quote(*c) => after_quote(*c, rest),
         [_, rest @ ..] if word(text).is_empty() => rest,
         _ => after_word(text),
+    }
+}
+
+// What follows a word and a colon, or the text where there are none.
+fn after_second_colon(text: &[u8]) -> &[u8]
+    ensures { result.now ≡ after_second_colon text.now }
+{
+    match byte(b':', after_word(text)) {
+        Some(rest) => rest,
+        None => text,
     }
 }

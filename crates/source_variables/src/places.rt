@@ -11,13 +11,13 @@ pub struct TextPlace {
 }
 
 impl TextPlace {
-    /// Where a text, or two that are one, is put behind those that are there.
-    pub fn behind(texts: &[u8], one: &[u8], other: &[u8]) -> TextPlace
-        ensures { result ≡ text_place_behind texts.now one.now other.now }
+    /// Where a text is put behind those that are there.
+    pub fn behind(texts: &[u8], text: &[u8]) -> TextPlace
+        ensures { result ≡ text_place_behind texts.now text.now }
     {
         TextPlace {
             start: texts.len(),
-            len: one.len().saturating_add(other.len()),
+            len: text.len(),
         }
     }
 

@@ -3,12 +3,13 @@
 ghost use Rattle.std.specs.Prelude.{◌≡◌, OnOk, length, slice_get};
 ghost use Rattle.std.specs.List.{position};
 ghost use Rattle.profile.specs.Output.{Writes};
-ghost use Rattle.source_variables.specs.Variables.{first_value, has_kept_name, names_from, no_variables, number_counted_from, operand_value, plain_value, text_in_its_quotes, truth_letter, values_with, variable_named, variables_up_to, with_variable, with_variable_value};
+ghost use Rattle.source_variables.specs.Variables.{first_value, has_kept_name, names_from, no_variables, number_counted_from, operand_value, plain_value, truth_letter, values_with, variable_named, variables_up_to, with_variable, with_variable_value};
 
 use crate::places::{TextPlace, kept_text_at};
 use profile::digits::HexText;
-use profile::{Sink, WriteFault, push_all, push_parts};
+use profile::{Sink, WriteFault, push_all};
 use source_lines::places::push_number;
+use source_strings::quotes::push_literal;
 use std::alloc::{AllocError, Global};
 use std::marker::Model;
 
@@ -183,12 +184,6 @@ pub fn push_operand_value<W: Sink>(
 {
     match value.kind {
         VariableKind::Number | VariableKind::Truth => push_number(value.number, sink),
-        VariableKind::Text => push_in_quotes(kept_text_at(texts, value.text), sink),
+        VariableKind::Text => push_literal(kept_text_at(texts, value.text), sink),
     }
-}
-
-fn push_in_quotes<W: Sink>(text: &[u8], sink: &mut W) -> Result<(), WriteFault>
-    ensures { Writes W.contents W.has_failed sink.old sink.new result (text_in_its_quotes text.now) }
-{
-    push_parts(sink, &[b"\"".as_slice(), text, b"\"".as_slice()])
 }
