@@ -1,7 +1,7 @@
 -- The operands of ADR, RN, EQU, SPACE and ALIGN (ARM Assembler manual, "Pseudo-instructions", "Directives").
-use Rattle.std.specs.Prelude.{ℕ, Bool, true, false, ◌==◌, nat_lt, List, Option, Some, None, Result, Ok, Err, if◌then◌else◌}
+use Rattle.std.specs.Prelude.{ℕ, Bool, true, false, not, ◌-◌, ◌%◌, ◌^◌, ◌==◌, ◌||◌, nat_lt, List, Option, Some, None, Result, Ok, Err, if◌then◌else◌}
 use Rattle.source_words.specs.Expressions.{source_sum}
-use Rattle.source_words.specs.Sums.{form, plain_number, difference_of_two}
+use Rattle.source_words.specs.Sums.{form, number_sum, plain_number, difference_of_two}
 use Rattle.source_words.specs.Names.{NameLookup}
 use Rattle.source_words.specs.Registers.{source_register}
 use Rattle.source_words.specs.Words.{ReadOrRefused, is_end, symbol_needed, refusal_at}
@@ -9,6 +9,7 @@ use Rattle.profile.specs.Outcome.{bind as ◌>>=◌}
 use Rattle.source_words.specs.declared.sums.AddressSum.{AddressSum}
 use Rattle.source_words.specs.declared.refusal.WordRefusal.{WordRefusal}
 use Rattle.source_words.specs.declared.refusal.Why.TheVariants.{NoForm, NotANumber, NotARegister, NotUnderstood}
+use Rattle.source_opposites.specs.Distances.{is_high_number}
 use Rattle.source_lines.specs.declared.addresses.AddressOperands.{AddressOperands}
 
 -- a number or an address after which nothing stands but a comment
@@ -46,6 +47,15 @@ address_operands names here text = do
   place ← symbol_needed 44 r.1
   value ← last_sum names here place.1
   operands_of_way r.0 place.1 value.1 (from_line here value.0)
+
+abbrev pub shorter_way_of : AddressOperands → Option ℕ → AddressOperands
+shorter_way_of a (Some n) = if n == 0 || is_high_number n
+    then record a { is_up = not a.is_up; distance = number_sum ((2 ^ 32 - n) % 2 ^ 32) } else a
+shorter_way_of a None = a
+
+-- a distance that is a number and isn't above 0 lies the other way
+abbrev pub shorter_way : AddressOperands → AddressOperands
+shorter_way a = shorter_way_of a (plain_number a.distance)
 
 abbrev pub numbered_register_value : List ℕ → Option ℕ → Result ℕ WordRefusal
 numbered_register_value text (Some n) = if nat_lt n 16 then Ok n else Err (refusal_at NotARegister text)

@@ -13,9 +13,10 @@ use Rattle.source_lines.specs.Works.{label_at, work_at}
 use Rattle.source_lines.specs.declared.works.Work.{Work}
 use Rattle.source_lines.specs.declared.works.Work.TheVariants as works
 
--- RN and EQU have to have a name
+-- RN, EQU and their kin have to have a name
 abbrev pub meaning_without_label : Work → List ℕ → Result (Option Meaning) WordRefusal
 meaning_without_label works.Register text = Err (refusal_at NotUnderstood text)
+meaning_without_label works.Coprocessor text = Err (refusal_at NotUnderstood text)
 meaning_without_label works.Value text = Err (refusal_at NotUnderstood text)
 meaning_without_label _ text = Ok None
 
@@ -28,10 +29,12 @@ value_meaning names here text = do
   value ← last_sum names here text
   Ok (Some (meaning.Value value.0))
 
--- a register's name, a number's or an address's, or that of the line's own address
+-- a register's name, a number's or an address's, or that of the line's own address; the name of a
+-- coprocessor's register stands for nothing
 unfoldable pub label_meaning : Work → NameLookup → ℕ → List ℕ → Result (Option Meaning) WordRefusal
 label_meaning works.Register names here text = register_meaning (register_number_value names here text)
 label_meaning works.Value names here text = value_meaning names here text
+label_meaning works.Coprocessor names here text = Ok None
 label_meaning works.Pool names here text = Err (refusal_at NoForm text)
 label_meaning works.End names here text = Err (refusal_at NoForm text)
 label_meaning _ names here text = Ok (Some (meaning.Value (line_sum here)))

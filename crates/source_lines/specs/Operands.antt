@@ -1,6 +1,6 @@
 -- Operands that stand in another order or number than the assembler wants (ARM Assembler manual,
--- "Instruction set"): an operation of two operands has the first of them twice, and MUL has its
--- operands turned round where the first two are one register.
+-- "Instruction set"): an operation of two operands has the first of them twice, MUL has its operands
+-- turned round where the first two are one register, and LDRT of `[r]` is that of `[r],#0`.
 use Rattle.std.specs.Prelude.{ℕ, Bool, true, not, ◌==◌, ◌&&◌, List, Option, Some, None, is_some, Ok, if◌then◌else◌}
 use Rattle.arm_decode.specs.Refusals.{is_move, is_test}
 use Rattle.arm_decode.specs.declared.operation.Operation.{Operation}
@@ -8,9 +8,9 @@ use Rattle.assembler_names.specs.Words.{◌>>=◌}
 use Rattle.assembler_names.specs.declared.mnemonics.Command.{Command}
 use Rattle.assembler_names.specs.declared.mnemonics.Command.TheVariants as command
 use Rattle.source_words.specs.Names.{NameLookup}
-use Rattle.source_words.specs.Words.{ReadOrRefused, symbol}
+use Rattle.source_words.specs.Words.{ReadOrRefused, is_end, symbol}
 use Rattle.source_lines.specs.Tokens.{token_at}
-use Rattle.source_lines.specs.declared.operands.Swap.{Swap}
+use Rattle.source_lines.specs.declared.operands.RegisterPair.{RegisterPair}
 use Rattle.source_lines.specs.declared.tokens.Field.TheVariants as fields
 use Rattle.source_lines.specs.declared.tokens.Token.{Token}
 use Rattle.source_lines.specs.declared.tokens.Token.TheVariants as tokens
@@ -66,15 +66,26 @@ register_and_comma names here text = do
   Some (r.0, rest)
 
 -- the registers of a multiplication whose first two are one and the third another
-unfoldable pub multiply_swap : NameLookup → ℕ → List ℕ → Option (Swap × List ℕ)
+unfoldable pub multiply_swap : NameLookup → ℕ → List ℕ → Option (RegisterPair × List ℕ)
 multiply_swap names here text = do
   target ← register_and_comma names here text
   one ← register_and_comma names here target.1
   other ← register_token names here one.1
-  if target.0 == one.0 && not (one.0 == other.0) then Some (record { target = target.0; factor = other.0 }, other.1)
+  if target.0 == one.0 && not (one.0 == other.0) then Some (record { first = target.0; second = other.0 }, other.1)
       else None
 
--- the registers that a multiplication has in another order
-abbrev pub swap_of : Command → NameLookup → ℕ → List ℕ → Option (Swap × List ℕ)
-swap_of (command.Multiply accumulates sets) names here text = multiply_swap names here text
-swap_of _ names here text = None
+-- a register and `[r]`, after which nothing stands but a comment (91 and 93 are the brackets)
+unfoldable pub base_alone : NameLookup → ℕ → List ℕ → Option (RegisterPair × List ℕ)
+base_alone names here text = do
+  r ← register_and_comma names here text
+  place ← symbol 91 r.1
+  b ← register_token names here place
+  rest ← symbol 93 b.1
+  if is_end rest then Some (record { first = r.0; second = b.0 }, rest) else None
+
+-- the two registers of a multiplication in another order, or of LDRT and STRT without an offset
+abbrev pub pair_of : Command → NameLookup → ℕ → List ℕ → Option (RegisterPair × List ℕ)
+pair_of (command.Multiply accumulates sets) names here text = multiply_swap names here text
+pair_of (command.Transfer loading of_byte translates) names here text =
+    if translates then base_alone names here text else None
+pair_of _ names here text = None

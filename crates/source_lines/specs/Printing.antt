@@ -1,7 +1,6 @@
 -- Operands and data as the assembler reads them.
-use Rattle.std.specs.Prelude.{ℕ, zero, suc, ◌-◌, ◌%◌, ◌==◌, List, [], ◌∷◌, ◌++◌, take, length, codes, Option, Some, None, Ok, Err, if◌then◌else◌}
+use Rattle.std.specs.Prelude.{ℕ, zero, suc, ◌-◌, ◌%◌, ◌==◌, List, [], ◌∷◌, ◌++◌, take, length, codes, Option, Some, None, unwrap_or, Ok, Err, if◌then◌else◌}
 use Rattle.assembler_text.specs.Names.{register_text, shift_text}
-use Rattle.assembler_text.specs.Numbers.{number_text}
 use Rattle.source_words.specs.Names.{NameLookup}
 use Rattle.source_words.specs.Words.{ReadOrRefused, after_blanks, is_end}
 use Rattle.source_words.specs.declared.sums.AddressSum.{AddressSum}
@@ -13,20 +12,16 @@ use Rattle.source_lines.specs.declared.tokens.Field.{Field}
 use Rattle.source_lines.specs.declared.tokens.Token.{Token}
 use Rattle.source_lines.specs.declared.tokens.Token.TheVariants as tokens
 
-abbrev pub number_or_sum : LineNames → Option ℕ → AddressSum → List ℕ
-number_or_sum lines (Some n) f = number_text n
-number_or_sum lines None f = sum_text lines f
-
 abbrev pub immediate_text_of : LineNames → Style → AddressSum → List ℕ
-immediate_text_of lines style f = codes "#" ++ number_or_sum lines style.number f
+immediate_text_of lines style f = codes "#" ++ sum_text lines (unwrap_or style.number f)
 
 -- a register as all of an address that is written back
 abbrev pub written_back_text : ℕ → List ℕ
 written_back_text r = codes "[" ++ (register_text (r % 16) ++ codes ",#&0]!")
 
-abbrev pub literal_text : Option ℕ → PoolPlace → List ℕ
-literal_text (Some n) pooled = codes "#" ++ number_text n
-literal_text None pooled = pool_place_text pooled
+abbrev pub literal_text : LineNames → Option AddressSum → PoolPlace → List ℕ
+literal_text lines (Some f) pooled = codes "#" ++ sum_text lines f
+literal_text lines None pooled = pool_place_text pooled
 
 -- the text of a token, which was read from these bytes
 unfoldable pub token_text : LineNames → Style → List ℕ → Token → List ℕ
@@ -39,7 +34,7 @@ token_text lines style bytes tokens.Extended = codes "RRX"
 token_text lines style bytes (tokens.Sum f) = sum_text lines f
 token_text lines style bytes (tokens.Immediate f) = immediate_text_of lines style f
 token_text lines style bytes (tokens.Offset f) = codes "#" ++ signed_offset_text lines f
-token_text lines style bytes (tokens.Literal f) = literal_text style.number style.place
+token_text lines style bytes (tokens.Literal f) = literal_text lines style.number style.place
 token_text lines style bytes tokens.Text = bytes
 token_text lines style bytes tokens.Quoted = bytes ++ codes ",34,"
 

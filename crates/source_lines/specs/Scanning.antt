@@ -1,7 +1,6 @@
 -- What the tokens of a line have beside their text: whether its own address is among them, what a
 -- word of the pool stands for, and the number at their end.
-use Rattle.std.specs.Prelude.{ℕ, zero, suc, Bool, false, ◌==◌, ◌||◌, List, length, Option, Some, None, Result, Ok, Err, if◌then◌else◌}
-use Rattle.source_words.specs.Sums.{plain_number}
+use Rattle.std.specs.Prelude.{ℕ, zero, suc, Bool, true, false, ◌==◌, ◌||◌, List, length, Option, Some, None, Result, Ok, Err, if◌then◌else◌}
 use Rattle.source_words.specs.Names.{NameLookup}
 use Rattle.source_words.specs.Words.{ReadOrRefused, is_end}
 use Rattle.source_words.specs.declared.sums.AddressSum.{AddressSum}
@@ -13,7 +12,7 @@ use Rattle.source_lines.specs.declared.tokens.Token.{Token}
 use Rattle.source_lines.specs.declared.tokens.Token.TheVariants as tokens
 
 abbrev pub found_nothing : Scanned
-found_nothing = record { mentions_here = false; literal = None; immediate = None }
+found_nothing = record { mentions_here = false; is_shifted = false; literal = None; immediate = None }
 
 abbrev pub is_this_line : ℕ → Option ℕ → Bool
 is_this_line here None = false
@@ -23,19 +22,25 @@ is_this_line here (Some line) = line == here
 abbrev pub mentions : ℕ → AddressSum → Bool
 mentions here f = is_this_line here f.plus || is_this_line here f.minus
 
-abbrev pub with_form : ℕ → Scanned → AddressSum → Option ℕ → Option AddressSum → Scanned
+abbrev pub with_form : ℕ → Scanned → AddressSum → Option AddressSum → Option AddressSum → Scanned
 with_form here found f last pooled = record {
   mentions_here = found.mentions_here || mentions here f;
+  is_shifted = found.is_shifted;
   literal = pooled;
   immediate = last;
 }
+
+-- what follows `#` is no number of the instruction behind a shift
+abbrev pub unless_shifted : Scanned → AddressSum → Option AddressSum
+unless_shifted found f = if found.is_shifted then None else Some f
 
 -- with one more token
 abbrev pub with_token : ℕ → Scanned → Token → Scanned
 with_token here found (tokens.Sum f) = with_form here found f None found.literal
 with_token here found (tokens.Offset f) = with_form here found f None found.literal
-with_token here found (tokens.Immediate f) = with_form here found f (plain_number f) found.literal
+with_token here found (tokens.Immediate f) = with_form here found f (unless_shifted found f) found.literal
 with_token here found (tokens.Literal f) = with_form here found f found.immediate (Some f)
+with_token here found (tokens.Shift s) = record found { is_shifted = true }
 with_token here found _ = found
 
 abbrev pub scan_next : (Scanned → List ℕ → Result Scanned WordRefusal) → ℕ → Scanned → ReadOrRefused Token →

@@ -4,13 +4,14 @@ use Rattle.std.specs.Prelude.{ℕ, Bool, not, ◌%◌, ◌==◌, ◌||◌, List,
 use Rattle.arm_decode.specs.declared.condition.Condition.{Condition}
 use Rattle.assembler_text.specs.Names.{condition_text, register_text}
 use Rattle.assembler_text.specs.Numbers.{number_text}
+use Rattle.source_opposites.specs.Instead.{mnemonic_for}
 use Rattle.source_words.specs.Names.{NameLookup}
 use Rattle.source_words.specs.Words.{ReadOrRefused, is_end, refusal_at}
 use Rattle.profile.specs.Outcome.{bind as ◌>>=◌}
 use Rattle.source_words.specs.declared.refusal.WordRefusal.{WordRefusal}
 use Rattle.source_words.specs.declared.refusal.Why.TheVariants.{NotUnderstood}
-use Rattle.source_lines.specs.Addresses.{address_operands, after_alignment, last_sum, space_size}
-use Rattle.source_lines.specs.Instructions.{mnemonic_for, scan_operands, style, text_of_mnemonic}
+use Rattle.source_lines.specs.Addresses.{address_operands, after_alignment, last_sum, shorter_way, space_size}
+use Rattle.source_lines.specs.Instructions.{scan_operands, style, text_of_mnemonic}
 use Rattle.source_lines.specs.Places.{LineNames, place_text, sum_text}
 use Rattle.source_lines.specs.Printing.{comment_text, tokens_text}
 use Rattle.source_lines.specs.Scanning.{found_nothing, scan, with_form}
@@ -72,6 +73,7 @@ scan_line names here text = scan_labelled names here text (label_at text)
 -- one for its address
 abbrev pub is_labelled : List ℕ → Work → Scanned → Bool
 is_labelled label works.Register found = found.mentions_here
+is_labelled label works.Coprocessor found = found.mentions_here
 is_labelled label works.Value found = found.mentions_here
 is_labelled label _ found = found.mentions_here || not (length label == 0)
 
@@ -103,10 +105,13 @@ alignment_text names here text = codes " ALIGN" ++ comment_or_none (after_alignm
 abbrev pub add_or_sub : Bool → List ℕ
 add_or_sub up = if up then codes " ADD" else codes " SUB"
 
+abbrev pub way_text : Condition → LineNames → AddressOperands → List ℕ → List ℕ
+way_text c lines a comment = add_or_sub a.is_up ++ (condition_text c ++ codes " "
+    ++ (register_text (a.register % 16) ++ (codes ",PC,#"
+    ++ (sum_text lines a.distance ++ comment_text comment))))
+
 abbrev pub address_operands_text : Condition → LineNames → ReadOrRefused AddressOperands → List ℕ
-address_operands_text c lines (Ok a) = add_or_sub a.0.is_up ++ (condition_text c ++ codes " "
-    ++ (register_text (a.0.register % 16) ++ (codes ",PC,#"
-    ++ (sum_text lines a.0.distance ++ comment_text a.1))))
+address_operands_text c lines (Ok a) = way_text c lines (shorter_way a.0) a.1
 address_operands_text c lines (Err e) = []
 
 -- ADD or SUB with the PC
@@ -126,7 +131,7 @@ work_text works.Space names lines here found pooled text = space_text names here
 work_text works.Align names lines here found pooled text = alignment_text names here text
 work_text works.Area names lines here found pooled text = codes " ALIGN"
 work_text (works.Instruction m) names lines here found pooled text =
-    text_of_mnemonic (mnemonic_for m found.immediate) names lines here pooled text
+    text_of_mnemonic (mnemonic_for m here found.immediate) names lines here pooled text
 work_text (works.Address c) names lines here found pooled text = adr_text c names lines here text
 work_text (works.NoOperation c) names lines here found pooled text = no_operation_text c text
 work_text _ names lines here found pooled text = []

@@ -4,8 +4,8 @@ use Rattle.std.specs.List.{prefix_len}
 use Rattle.arm_decode.specs.declared.shift.Shift.{Shift}
 use Rattle.arm_decode.specs.declared.shift.Shift.TheVariants.{LogicalLeft}
 use Rattle.assembler_names.specs.Names.{shift_named}
-use Rattle.assembler_names.specs.SwiNames.{swi_named}
-use Rattle.assembler_names.specs.Words.{after_word, byte, is_same_name, word}
+use Rattle.assembler_names.specs.Words.{byte, is_same_name}
+use Rattle.source_words.specs.Calls.{call_after_quote}
 use Rattle.source_words.specs.Expressions.{source_sum}
 use Rattle.source_words.specs.Operators.{is_joined_character}
 use Rattle.source_words.specs.Sums.{number_sum, plain_number}
@@ -149,21 +149,13 @@ bracket_unless_written_back text (Err e) = (tokens.Symbol 91, text)
 abbrev pub after_bracket : NameLookup → List ℕ → Token × List ℕ
 after_bracket names text = bracket_unless_written_back text (register_written_back names text)
 
-abbrev pub call_and_rest : Option ℕ → Option (List ℕ) → Option (ℕ × List ℕ)
-call_and_rest (Some n) (Some rest) = Some (n, rest)
-call_and_rest _ _ = None
-
--- what follows the first double quote of a store call's name
-abbrev pub quoted_call_name : List ℕ → Option (ℕ × List ℕ)
-quoted_call_name text = call_and_rest (swi_named (word text)) (byte 34 (after_word text))
-
 abbrev pub call_or_word : NameLookup → ℕ → List ℕ → Option (ℕ × List ℕ) → ReadOrRefused Token
 call_or_word names here text (Some n) = Ok (tokens.Sum (number_sum n.0), n.1)
 call_or_word names here text None = word_token names here text
 
 -- a store call's name in double quotes (34), or anything else
 abbrev pub quoted_token : NameLookup → ℕ → List ℕ → List ℕ → ReadOrRefused Token
-quoted_token names here text rest = call_or_word names here text (quoted_call_name rest)
+quoted_token names here text rest = call_or_word names here text (call_after_quote names rest)
 
 -- 43 is `+`, 35 `#`, 61 `=`, 44 the comma, 91 a bracket, 34 the double quote
 unfoldable pub operand_token : Field → NameLookup → ℕ → List ℕ → ReadOrRefused Token
@@ -194,11 +186,16 @@ text_or_refusal text (Some rest) = Ok (text_before rest)
 abbrev pub text_token : List ℕ → ReadOrRefused Token
 text_token text = text_or_refusal text (byte 34 (drop (prefix_len is_in_text text) text))
 
+-- of a text, and not of a character's number
+abbrev pub is_text_quote : Field → List ℕ → Bool
+is_text_quote fields.Bytes rest = not (is_joined_character rest)
+is_text_quote _ rest = false
+
 unfoldable pub data_token : Field → NameLookup → ℕ → List ℕ → ReadOrRefused Token
 data_token where_it_stands names here [] = item_token where_it_stands names here []
 data_token where_it_stands names here (c ∷ rest) =
     if c == 44 then Ok (tokens.Symbol c, rest) else (
-    if c == 34 && not (is_joined_character rest) then text_token rest else
+    if c == 34 && is_text_quote where_it_stands rest then text_token rest else
     item_token where_it_stands names here (c ∷ rest))
 
 abbrev pub token_in : Field → NameLookup → ℕ → List ℕ → ReadOrRefused Token

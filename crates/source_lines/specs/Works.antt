@@ -26,9 +26,11 @@ data_work name =
 abbrev pub naming_work : List ℕ → Option Work
 naming_work name =
     if is_same_name name (codes "RN") then Some works.Register else (
+    if is_same_name name (codes "FN") || is_same_name name (codes "CN") || is_same_name name (codes "CP")
+    then Some works.Coprocessor else (
     if is_same_name name (codes "EQU") then Some works.Value else (
     if is_same_name name (codes "LTORG") then Some works.Pool else (
-    if is_same_name name (codes "END") then Some works.End else None)))
+    if is_same_name name (codes "END") then Some works.End else None))))
 
 abbrev pub ignored_work : List ℕ → Option Work
 ignored_work name =

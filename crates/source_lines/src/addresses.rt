@@ -2,10 +2,11 @@
 
 ghost use Rattle.std.specs.Prelude.{◌≡◌};
 ghost use Rattle.std.specs.Result.{result_map_both};
-ghost use Rattle.source_lines.specs.Addresses.{address_operands, after_alignment, from_line, last_sum, register_number_value, space_size, way_from};
+ghost use Rattle.source_lines.specs.Addresses.{address_operands, after_alignment, from_line, last_sum, register_number_value, shorter_way, space_size, way_from};
 ghost use Rattle.source_words.specs.Names.{meaning_of_name};
 ghost use Rattle.source_words.specs.Words.{reading};
 
+use source_opposites::is_high_number;
 use source_words::words::{is_end, symbol_needed};
 use source_words::{
     AddressSum, Names, ReadOrRefused, Why, WordRefusal, source_register, source_sum,
@@ -81,9 +82,22 @@ fn from_line(here: usize, form: AddressSum) -> Option<(bool, AddressSum)>
 fn way_from(is_up: bool, distance: Option<AddressSum>) -> Option<(bool, AddressSum)>
     ensures { result ≡ way_from is_up distance }
 {
-    match distance {
-        Some(distance) => Some((is_up, distance)),
-        None => None,
+    Some((is_up, distance?))
+}
+
+impl AddressOperands {
+    /// The other way, where the distance is a number and isn't above 0.
+    pub fn shorter_way(self) -> AddressOperands
+        ensures { result ≡ shorter_way self }
+    {
+        match self.distance.plain_number() {
+            Some(number) if number == 0 || is_high_number(number) => AddressOperands {
+                register: self.register,
+                is_up: !self.is_up,
+                distance: AddressSum::number(0u32.wrapping_sub(number)),
+            },
+            _ => self,
+        }
     }
 }
 

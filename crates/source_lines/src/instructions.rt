@@ -2,18 +2,18 @@
 
 ghost use Rattle.std.specs.Prelude.{◌≡◌};
 ghost use Rattle.arm_decode.specs.profile.specs.Output.{Writes};
-ghost use Rattle.source_lines.specs.Instructions.{doubled_text, field_of, instruction_text, is_word_load, literal_of_move, mnemonic_for, mnemonic_with, operands_text, scan_operands, scanned_with_move, swap_text};
+ghost use Rattle.source_lines.specs.Instructions.{base_alone_text, doubled_text, field_of, instruction_text, operands_text, pair_text, scan_operands, scanned_with_move, swap_text};
 ghost use Rattle.source_lines.specs.Places.{line_names};
 ghost use Rattle.source_words.specs.Names.{meaning_of_name};
 
-use crate::operands::{Swap, doubled_register, swap_of};
+use crate::operands::{RegisterPair, doubled_register, pair_of};
 use crate::printing::{Style, push_register, push_tokens};
 use crate::scanning::{Scanned, scan};
 use crate::tokens::Field;
-use arm_decode::Operation;
 use assembler_names::mnemonics::{Command, Mnemonic};
 use profile::{Sink, WriteFault, push_all};
-use source_mnemonics::{move_of_number, opposite_instruction, push_mnemonic};
+use source_mnemonics::push_mnemonic;
+use source_opposites::{is_word_load, literal_of_move};
 use source_words::{AddressSum, Names, WordRefusal};
 
 /// What the operands of an instruction have beside their text. LDR of a number that MOV or MVN has
@@ -38,36 +38,11 @@ fn scanned_with_move(command: Command, found: Scanned) -> Scanned
     }
     match literal_of_move(found.literal) {
         Some(number) => Scanned {
-            mentions_here: found.mentions_here,
             literal: None,
-            immediate: Some(number),
+            immediate: Some(AddressSum::number(number)),
+            ..found
         },
         None => found,
-    }
-}
-
-fn is_word_load(command: Command) -> bool
-    ensures { result ≡ is_word_load command }
-{
-    match command {
-        Command::Transfer {
-            loads,
-            is_byte,
-            translates,
-        } => loads && !is_byte && !translates,
-        _ => false,
-    }
-}
-
-// The number after `=` that MOV or MVN has.
-fn literal_of_move(literal: Option<AddressSum>) -> Option<u32>
-    ensures { result ≡ literal_of_move literal }
-{
-    let number = literal?.plain_number()?;
-    if move_of_number(number).is_some() {
-        Some(number)
-    } else {
-        None
     }
 }
 
@@ -77,39 +52,6 @@ fn field_of(command: Command) -> Field
     match command {
         Command::Transfer { .. } | Command::Branch { .. } => Field::Address,
         _ => Field::Operands,
-    }
-}
-
-/// The mnemonic of the instruction that does the same, and its number, if one is wanted.
-pub fn mnemonic_for(mnemonic: Mnemonic, immediate: Option<u32>) -> (Mnemonic, Option<u32>)
-    ensures { result ≡ mnemonic_for mnemonic immediate }
-{
-    let Some(number) = immediate else {
-        return (mnemonic, None);
-    };
-    match mnemonic.command {
-        Command::Operate { operation, flag } => {
-            mnemonic_with(mnemonic, flag, opposite_instruction(operation, number))
-        }
-        Command::Transfer { .. } => mnemonic_with(mnemonic, false, move_of_number(number)),
-        _ => (mnemonic, None),
-    }
-}
-
-fn mnemonic_with(
-    mnemonic: Mnemonic,
-    flag: bool,
-    operation: Option<(Operation, u32)>,
-) -> (Mnemonic, Option<u32>)
-    ensures { result ≡ mnemonic_with mnemonic flag operation }
-{
-    match operation {
-        Some((operation, number)) => {
-            let command = Command::Operate { operation, flag };
-            let condition = mnemonic.condition;
-            (Mnemonic { condition, command }, Some(number))
-        }
-        None => (mnemonic, None),
     }
 }
 
@@ -145,9 +87,9 @@ fn push_operands<W: Sink>(
         (operands_text command (meaning_of_name names.now) (line_names lines.now) here style text.now) }
 {
     let field = field_of(command);
-    match swap_of(command, names, here, text) {
-        Some((swap, rest)) => {
-            push_swap(swap, sink)?;
+    match pair_of(command, names, here, text) {
+        Some((pair, rest)) => {
+            push_pair(command, pair, sink)?;
             push_tokens(field, names, lines, here, style, rest, sink)
         }
         None => {
@@ -157,15 +99,34 @@ fn push_operands<W: Sink>(
     }
 }
 
-// The target, the other factor and the target again.
-fn push_swap<W: Sink>(swap: Swap, sink: &mut W) -> Result<(), WriteFault>
-    ensures { Writes W.contents W.has_failed sink.old sink.new result (swap_text swap) }
+fn push_pair<W: Sink>(command: Command, pair: RegisterPair, sink: &mut W) -> Result<(), WriteFault>
+    ensures { Writes W.contents W.has_failed sink.old sink.new result (pair_text command pair) }
 {
-    push_register(swap.target, sink)?;
+    match command {
+        Command::Transfer { .. } => push_base_alone(pair, sink),
+        _ => push_swap(pair, sink),
+    }
+}
+
+// The target, the other factor and the target again.
+fn push_swap<W: Sink>(pair: RegisterPair, sink: &mut W) -> Result<(), WriteFault>
+    ensures { Writes W.contents W.has_failed sink.old sink.new result (swap_text pair) }
+{
+    push_register(pair.first, sink)?;
     push_all(sink, b",")?;
-    push_register(swap.factor, sink)?;
+    push_register(pair.second, sink)?;
     push_all(sink, b",")?;
-    push_register(swap.target, sink)
+    push_register(pair.first, sink)
+}
+
+// A register, and another as an address to which 0 is added behind.
+fn push_base_alone<W: Sink>(pair: RegisterPair, sink: &mut W) -> Result<(), WriteFault>
+    ensures { Writes W.contents W.has_failed sink.old sink.new result (base_alone_text pair) }
+{
+    push_register(pair.first, sink)?;
+    push_all(sink, b",[")?;
+    push_register(pair.second, sink)?;
+    push_all(sink, b"],#&0")
 }
 
 // A register and a comma, if there is one.

@@ -27,12 +27,14 @@ pub fn meaning_of_line(
     label_meaning(work, names, here, operands)
 }
 
-// RN and EQU have to have a name.
+// RN, EQU and their kin have to have a name.
 fn meaning_without_label(work: Work, text: &[u8]) -> Result<Option<Meaning>, WordRefusal>
     ensures { result ≡ meaning_without_label work text.now }
 {
     match work {
-        Work::Register | Work::Value => Err(WordRefusal::at(Why::NotUnderstood, text)),
+        Work::Register | Work::Coprocessor | Work::Value => {
+            Err(WordRefusal::at(Why::NotUnderstood, text))
+        }
         _ => Ok(None),
     }
 }
@@ -55,6 +57,7 @@ fn label_meaning(
             let (form, _) = last_sum(names, here, operands)?;
             Ok(Some(Meaning::Value(form)))
         }
+        Work::Coprocessor => Ok(None),
         Work::Pool | Work::End => Err(WordRefusal::at(Why::NoForm, operands)),
         _ => Ok(Some(Meaning::Value(AddressSum::line(here)))),
     }

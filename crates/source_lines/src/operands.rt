@@ -1,9 +1,9 @@
-//! Operands that stand in another order or number than the assembler wants: `ADD r,s` and
-//! `MUL r,r,s`.
+//! Operands that stand in another order or number than the assembler wants: `ADD r,s`, `MUL r,r,s`
+//! and `LDRT r,[s]`.
 
 ghost use Rattle.std.specs.Prelude.{◌≡◌, option_map};
 ghost use Rattle.assembler_names.specs.Words.{read_of};
-ghost use Rattle.source_lines.specs.Operands.{after_operand, doubled_register, has_target_and_two, lacks_operand, multiply_swap, register_and_comma, register_of_two, register_token, swap_of};
+ghost use Rattle.source_lines.specs.Operands.{after_operand, base_alone, doubled_register, has_target_and_two, lacks_operand, multiply_swap, pair_of, register_and_comma, register_of_two, register_token};
 ghost use Rattle.source_words.specs.Names.{meaning_of_name};
 
 use crate::tokens::{Field, Token, token_at};
@@ -11,14 +11,13 @@ use arm_decode::Operation;
 use assembler_names::mnemonics::Command;
 use assembler_names::words::Read;
 use source_words::Names;
-use source_words::words::symbol;
+use source_words::words::{is_end, symbol};
 
-/// The registers of a multiplication whose first factor is its target.
+/// The two registers that operands in another order are written by.
 #[derive(Clone, Copy, Debug, PartialEq, Eq)]
-pub struct Swap {
-    pub target: u8,
-    /// The second factor.
-    pub factor: u8,
+pub struct RegisterPair {
+    pub first: u8,
+    pub second: u8,
 }
 
 /// The register that an instruction has once and the assembler wants twice: that of `ADD r,s`.
@@ -86,26 +85,39 @@ fn after_operand<'t>(names: &Names, here: usize, text: &'t [u8]) -> Option<&'t [
     }
 }
 
-/// The registers that a multiplication has in another order, and what follows them.
-pub fn swap_of<'t>(command: Command, names: &Names, here: usize, text: &'t [u8]) -> Read<'t, Swap>
-    ensures { read_of result ≡ swap_of command (meaning_of_name names.now) here text.now }
+/// The target and the other factor of a multiplication whose first factor is its target, or the
+/// register and the base of LDRT and STRT without an offset; and what follows them.
+pub fn pair_of<'t>(
+    command: Command,
+    names: &Names,
+    here: usize,
+    text: &'t [u8],
+) -> Read<'t, RegisterPair>
+    ensures { read_of result ≡ pair_of command (meaning_of_name names.now) here text.now }
 {
     match command {
         Command::Multiply { .. } => multiply_swap(names, here, text),
+        Command::Transfer { translates, .. } if translates => base_alone(names, here, text),
         _ => None,
     }
 }
 
 // The registers of a multiplication whose first two are one and the third another.
 #[tactic(auto, unfolding(crate::specs::Operands::multiply_swap))]
-fn multiply_swap<'t>(names: &Names, here: usize, text: &'t [u8]) -> Read<'t, Swap>
+fn multiply_swap<'t>(names: &Names, here: usize, text: &'t [u8]) -> Read<'t, RegisterPair>
     ensures { read_of result ≡ multiply_swap (meaning_of_name names.now) here text.now }
 {
     let (target, rest) = register_and_comma(names, here, text)?;
     let (one, rest) = register_and_comma(names, here, rest)?;
     let (factor, rest) = register_token(names, here, rest)?;
     if target == one && one != factor {
-        Some((Swap { target, factor }, rest))
+        Some((
+            RegisterPair {
+                first: target,
+                second: factor,
+            },
+            rest,
+        ))
     } else {
         None
     }
@@ -118,4 +130,26 @@ fn register_and_comma<'t>(names: &Names, here: usize, text: &'t [u8]) -> Read<'t
     let (register, rest) = register_token(names, here, text)?;
     let rest = symbol(b',', rest)?;
     Some((register, rest))
+}
+
+// A register and `[r]`, after which nothing stands but a comment.
+#[tactic(auto, unfolding(crate::specs::Operands::base_alone))]
+fn base_alone<'t>(names: &Names, here: usize, text: &'t [u8]) -> Read<'t, RegisterPair>
+    ensures { read_of result ≡ base_alone (meaning_of_name names.now) here text.now }
+{
+    let (register, rest) = register_and_comma(names, here, text)?;
+    let place = symbol(b'[', rest)?;
+    let (base, rest) = register_token(names, here, place)?;
+    let rest = symbol(b']', rest)?;
+    if is_end(rest) {
+        Some((
+            RegisterPair {
+                first: register,
+                second: base,
+            },
+            rest,
+        ))
+    } else {
+        None
+    }
 }

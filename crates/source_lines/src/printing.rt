@@ -7,18 +7,18 @@ ghost use Rattle.source_lines.specs.Printing.{bytes_taken, comment_text, immedia
 ghost use Rattle.source_lines.specs.Places.{line_names};
 ghost use Rattle.source_words.specs.Names.{meaning_of_name};
 
-use crate::places::{PoolPlace, push_number, push_offset, push_pool_place, push_sum};
+use crate::places::{PoolPlace, push_offset, push_pool_place, push_sum};
 use crate::tokens::{Field, Token, token_at};
 use assembler_text::names::shift_text;
 use profile::{Sink, WriteFault, push_all, push_parts};
 use source_words::words::{after_blanks, is_end};
 use source_words::{AddressSum, Names};
 
-/// What stands for numbers after `#`, and where the line's word of a pool is.
+/// What stands for the number after `#`, and where the line's word of a pool is.
 #[derive(Clone, Copy, Debug, PartialEq, Eq)]
 pub struct Style {
-    /// The number of the instruction that does the same.
-    pub number: Option<u32>,
+    /// The number or the distance of the instruction that does the same.
+    pub number: Option<AddressSum>,
     pub place: PoolPlace,
 }
 
@@ -96,7 +96,7 @@ fn push_token<W: Sink>(
             push_all(sink, b"#")?;
             push_offset(form, lines, sink)
         }
-        Token::Literal(_) => push_literal(style, sink),
+        Token::Literal(_) => push_literal(lines, style, sink),
         Token::Text => push_all(sink, bytes_taken),
         Token::Quoted => push_parts(sink, &[bytes_taken, b",34,".as_slice()]),
     }
@@ -112,14 +112,14 @@ fn push_written_back<W: Sink>(register: u8, sink: &mut W) -> Result<(), WriteFau
 }
 
 // A word of the pool, or the number of the MOV that does the same.
-fn push_literal<W: Sink>(style: Style, sink: &mut W) -> Result<(), WriteFault>
+fn push_literal<W: Sink>(lines: &[&[u8]], style: Style, sink: &mut W) -> Result<(), WriteFault>
     ensures { Writes W.contents W.has_failed sink.old sink.new result
-        (literal_text style.number style.place) }
+        (literal_text (line_names lines.now) style.number style.place) }
 {
     match style.number {
         Some(number) => {
             push_all(sink, b"#")?;
-            push_number(number, sink)
+            push_sum(number, lines, sink)
         }
         None => push_pool_place(style.place, sink),
     }
@@ -135,10 +135,7 @@ fn push_immediate<W: Sink>(
         (immediate_text_of (line_names lines.now) style form) }
 {
     push_all(sink, b"#")?;
-    match style.number {
-        Some(number) => push_number(number, sink),
-        None => push_sum(form, lines, sink),
-    }
+    push_sum(style.number.unwrap_or(form), lines, sink)
 }
 
 /// Writes the name of a register by its number, of which the lowest four bits count.

@@ -2,7 +2,7 @@
 //! word of the pool stands for, and the number at their end.
 
 ghost use Rattle.std.specs.Prelude.{◌≡◌};
-ghost use Rattle.source_lines.specs.Scanning.{found_nothing, is_this_line, mentions, scan, with_form, with_token};
+ghost use Rattle.source_lines.specs.Scanning.{found_nothing, is_this_line, mentions, scan, unless_shifted, with_form, with_token};
 ghost use Rattle.source_words.specs.Names.{meaning_of_name};
 
 use crate::tokens::{Field, Token, token_at};
@@ -14,10 +14,12 @@ use source_words::{AddressSum, Names, WordRefusal};
 pub struct Scanned {
     /// Whether the address of the line is among them.
     pub mentions_here: bool,
+    /// Whether a shift is among them.
+    pub is_shifted: bool,
     /// What a word of the pool stands for.
     pub literal: Option<AddressSum>,
-    /// The number after the last `#`, unless another number follows.
-    pub immediate: Option<u32>,
+    /// What follows the last `#`, unless another number follows or a shift stands before it.
+    pub immediate: Option<AddressSum>,
 }
 
 impl Scanned {
@@ -27,6 +29,7 @@ impl Scanned {
     {
         Scanned {
             mentions_here: false,
+            is_shifted: false,
             literal: None,
             immediate: None,
         }
@@ -44,11 +47,22 @@ impl Scanned {
                 self.literal,
             ),
             Token::Immediate(form) => {
-                self.with_form(here, form, form.plain_number(), self.literal)
+                self.with_form(here, form, self.unless_shifted(form), self.literal)
             }
             Token::Literal(form) => self.with_form(here, form, self.immediate, Some(form)),
+            Token::Shift(_) => Scanned {
+                is_shifted: true,
+                ..self
+            },
             _ => self,
         }
+    }
+
+    // What follows `#` is no number of the instruction behind a shift.
+    fn unless_shifted(self, form: AddressSum) -> Option<AddressSum>
+        ensures { result ≡ unless_shifted self form }
+    {
+        if self.is_shifted { None } else { Some(form) }
     }
 
     /// With one more number or address.
@@ -56,13 +70,14 @@ impl Scanned {
         self,
         here: usize,
         form: AddressSum,
-        immediate: Option<u32>,
+        immediate: Option<AddressSum>,
         literal: Option<AddressSum>,
     ) -> Scanned
         ensures { result ≡ with_form here self form immediate literal }
     {
         Scanned {
             mentions_here: self.mentions_here || mentions(here, form),
+            is_shifted: self.is_shifted,
             literal,
             immediate,
         }

@@ -7,7 +7,7 @@ ghost use Rattle.source_lines.specs.Places.{line_names};
 ghost use Rattle.source_words.specs.Names.{meaning_of_name};
 
 use crate::addresses::{address_operands, after_alignment, last_sum, space_size};
-use crate::instructions::{mnemonic_for, push_instruction, scan_operands};
+use crate::instructions::{push_instruction, scan_operands};
 use crate::places::{PoolPlace, push_number, push_place, push_sum};
 use crate::printing::{Style, push_comment, push_register, push_tokens};
 use crate::scanning::{Scanned, scan};
@@ -16,6 +16,7 @@ use crate::works::{Work, label_at, work_at};
 use arm_decode::Condition;
 use assembler_text::names::condition_text;
 use profile::{Sink, WriteFault, push_all, push_parts};
+use source_opposites::mnemonic_for;
 use source_words::words::is_end;
 use source_words::{Names, Why, WordRefusal};
 
@@ -105,7 +106,7 @@ fn is_labelled(label: &[u8], work: Work, scanned: Scanned) -> bool
     ensures { result ≡ is_labelled label.now work scanned }
 {
     match work {
-        Work::Register | Work::Value => scanned.mentions_here,
+        Work::Register | Work::Coprocessor | Work::Value => scanned.mentions_here,
         _ => scanned.mentions_here || !label.is_empty(),
     }
 }
@@ -148,7 +149,7 @@ fn push_work<W: Sink>(
         Work::Align => push_alignment(names, here, text, sink),
         Work::Area => push_all(sink, b" ALIGN"),
         Work::Instruction(mnemonic) => {
-            let (mnemonic, number) = mnemonic_for(mnemonic, scanned.immediate);
+            let (mnemonic, number) = mnemonic_for(mnemonic, here, scanned.immediate);
             let style = Style { number, place };
             push_instruction(mnemonic, names, lines, here, style, text, sink)
         }
@@ -254,6 +255,7 @@ fn push_address<W: Sink>(
     let Ok((operands, rest)) = address_operands(names, here, text) else {
         return Ok(());
     };
+    let operands = operands.shorter_way();
     push_all(sink, if operands.is_up { b" ADD" } else { b" SUB" })?;
     push_parts(sink, &[condition_text(condition), b" ".as_slice()])?;
     push_register(operands.register, sink)?;

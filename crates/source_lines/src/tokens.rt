@@ -2,15 +2,14 @@
 
 ghost use Rattle.std.specs.Prelude.{◌≡◌, ◌≤◌, length, option_map};
 ghost use Rattle.std.specs.List.{prefix_len};
-ghost use Rattle.assembler_names.specs.Words.{read_of};
-ghost use Rattle.source_lines.specs.Tokens.{after_bracket, after_comma, byte_sum, byte_token, data_token, is_in_text, is_symbol, item_token, literal_token, quoted_call_name, quoted_token, named_token, register_written_back, number_token, operand_token, shift_token, sum_token, text_token, token_at, old_shift, shift_by_nothing, word_token};
+ghost use Rattle.source_lines.specs.Tokens.{after_bracket, after_comma, byte_sum, byte_token, data_token, is_in_text, is_symbol, is_text_quote, item_token, literal_token, quoted_token, named_token, register_written_back, number_token, operand_token, shift_token, sum_token, text_token, token_at, old_shift, shift_by_nothing, word_token};
 ghost use Rattle.source_words.specs.Names.{meaning_of_name};
 ghost use Rattle.source_words.specs.Words.{reading};
 
 use arm_decode::Shift;
 use assembler_names::names::shift_named;
-use assembler_names::swi_named;
-use assembler_names::words::{Read, after_word, byte, is_name, word};
+use assembler_names::words::{byte, is_name};
+use source_words::calls::call_after_quote;
 use source_words::operators::is_joined_character;
 use source_words::registers::register_by_name;
 use source_words::words::{after_blanks, name_at, symbol, symbol_needed};
@@ -116,19 +115,10 @@ fn quoted_token<'t>(
 ) -> ReadOrRefused<'t, Token>
     ensures { reading result ≡ quoted_token (meaning_of_name names.now) here text.now rest.now }
 {
-    match quoted_call_name(rest) {
+    match call_after_quote(names, rest) {
         Some((number, rest)) => Ok((Token::Sum(AddressSum::number(number)), rest)),
         None => word_token(names, here, text),
     }
-}
-
-// What follows the first double quote of a store call's name.
-fn quoted_call_name(text: &[u8]) -> Read<'_, u32>
-    ensures { read_of result ≡ quoted_call_name text.now }
-{
-    let number = swi_named(word(text))?;
-    let rest = byte(b'"', after_word(text))?;
-    Some((number, rest))
 }
 
 // What follows a bracket: all of `[r]!`, or anything else.
@@ -195,9 +185,7 @@ fn shift_by_nothing<'t>(names: &Names, here: usize, text: &'t [u8]) -> Option<&'
         ≡ shift_by_nothing (meaning_of_name names.now) here text.now }
 {
     let (name, rest) = name_at(after_blanks(text))?;
-    let Some(_shift) = old_shift(name) else {
-        return None;
-    };
+    let _shift = old_shift(name)?;
     let number = symbol(b'#', rest)?;
     match source_sum(names, here, number) {
         Ok((form, rest)) if form.plain_number() == Some(0) => Some(rest),
@@ -237,10 +225,7 @@ fn shift_token(name: &[u8]) -> Option<Token>
     if is_name(name, b"RRX") {
         return Some(Token::Extended);
     }
-    match old_shift(name) {
-        Some(shift) => Some(Token::Shift(shift)),
-        None => None,
-    }
+    Some(Token::Shift(old_shift(name)?))
 }
 
 // A shift by its name; ASL is LSL.
@@ -304,9 +289,16 @@ fn data_token<'t>(
 {
     match text {
         [b',', rest @ ..] => Ok((Token::Symbol(b','), rest)),
-        [b'"', rest @ ..] if !is_joined_character(rest) => text_token(rest),
+        [b'"', rest @ ..] if is_text_quote(field, rest) => text_token(rest),
         _ => item_token(field, names, here, text),
     }
+}
+
+// Whether what follows a double quote is a text, and not a character's number.
+fn is_text_quote(field: Field, rest: &[u8]) -> bool
+    ensures { result ≡ is_text_quote field rest.now }
+{
+    field == Field::Bytes && !is_joined_character(rest)
 }
 
 // What follows the first double quote of a text.

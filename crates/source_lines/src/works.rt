@@ -21,6 +21,8 @@ pub enum Work {
     Ignored,
     /// RN: the label is a register's name.
     Register,
+    /// FN, CN or CP: the label is a name for instructions of coprocessors, which the ARM2 hasn't.
+    Coprocessor,
     /// EQU or `*`: the label is a number's or an address's name.
     Value,
     /// DCD, DCI or `&`.
@@ -117,6 +119,8 @@ fn naming_work(name: &[u8]) -> Option<Work>
 {
     if is_name(name, b"RN") {
         Some(Work::Register)
+    } else if is_name(name, b"FN") || is_name(name, b"CN") || is_name(name, b"CP") {
+        Some(Work::Coprocessor)
     } else if is_name(name, b"EQU") {
         Some(Work::Value)
     } else if is_name(name, b"LTORG") {
