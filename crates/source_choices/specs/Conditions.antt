@@ -1,51 +1,36 @@
 -- Conditions (ARM Assembler manual, "Conditional assembly", "Expressions and operators"): a number
--- that isn't 0, two numbers or two texts compared, `{TRUE}`, a name that is defined, or a condition in
--- parentheses, each after `:LNOT:` or not, and as many of these joined as one likes, from the left.
-use Rattle.std.specs.Prelude.{ℕ, zero, suc, Bool, not, ◌==◌, ◌&&◌, ◌||◌, List, length, codes, Option, Some, None, is_some, Result, Ok, Err, if◌then◌else◌}
+-- that isn't 0, two numbers, addresses or texts compared, `{TRUE}`, a name that is defined, or a
+-- condition in parentheses, each after `:LNOT:` or not, and as many of these joined as one likes,
+-- from the left.
+use Rattle.std.specs.Prelude.{ℕ, zero, suc, Bool, not, ◌&&◌, ◌||◌, List, length, codes, Option, Some, None, is_some, Result, Ok, Err, if◌then◌else◌}
 use Rattle.assembler_names.specs.Words.{after_word, byte, is_same_name, word}
 use Rattle.profile.specs.Outcome.{bind as ◌>>=◌}
-use Rattle.source_words.specs.Expressions.{source_sum}
 use Rattle.source_words.specs.Names.{NameLookup}
-use Rattle.source_words.specs.Sums.{plain_number}
 use Rattle.source_words.specs.Words.{ReadOrRefused, after_blanks, is_end, name_at, refusal_at, symbol_needed}
 use Rattle.source_words.specs.declared.refusal.WordRefusal.{WordRefusal}
-use Rattle.source_words.specs.declared.refusal.Why.TheVariants.{NotANumber, NotUnderstood, TooDeep}
+use Rattle.source_words.specs.declared.refusal.Why.TheVariants.{NotUnderstood, TooDeep}
 use Rattle.source_choices.specs.declared.conditions.Joining.{Joining}
 use Rattle.source_choices.specs.declared.conditions.Joining.TheVariants as joining
-use Rattle.source_choices.specs.Relations.{holds, relation_at, text_comparison}
-use Rattle.source_choices.specs.declared.relations.Relation.{Relation}
+use Rattle.source_choices.specs.Relations.{text_comparison}
+use Rattle.source_choices.specs.Sides.{comparison}
 
-abbrev pub number_or_refusal : List ℕ → List ℕ → Option ℕ → ReadOrRefused ℕ
-number_or_refusal text rest (Some n) = Ok (n, rest)
-number_or_refusal text rest None = Err (refusal_at NotANumber text)
+abbrev pub closed_constant : Bool → Option (List ℕ) → Option (Bool × List ℕ)
+closed_constant b (Some rest) = Some (b, rest)
+closed_constant b None = None
 
--- a number
-abbrev pub number_of_sum_at : NameLookup → ℕ → List ℕ → ReadOrRefused ℕ
-number_of_sum_at names here text = do
-  value ← source_sum names here text
-  number_or_refusal text value.1 (plain_number value.0)
+-- TRUE or FALSE and `}` (125)
+abbrev pub constant_in_braces : List ℕ → Option (Bool × List ℕ)
+constant_in_braces text =
+    if is_same_name (word text) (codes "TRUE") || is_same_name (word text) (codes "FALSE")
+    then closed_constant (is_same_name (word text) (codes "TRUE")) (byte 125 (after_word text)) else None
 
-abbrev pub comparison_with : NameLookup → ℕ → ℕ → List ℕ → Option (Relation × List ℕ) → ReadOrRefused Bool
-comparison_with names here n rest None = Ok (not (n == 0), rest)
-comparison_with names here n rest (Some r) = do
-  other ← number_of_sum_at names here r.1
-  Ok (holds r.0 n other.0, other.1)
+abbrev pub constant_behind : Option (List ℕ) → Option (Bool × List ℕ)
+constant_behind (Some rest) = constant_in_braces rest
+constant_behind None = None
 
--- a number that isn't 0, or two that are compared
-unfoldable pub comparison : NameLookup → ℕ → List ℕ → ReadOrRefused Bool
-comparison names here text = do
-  n ← number_of_sum_at names here text
-  comparison_with names here n.0 n.1 (relation_at (after_blanks n.1))
-
-abbrev pub after_closing : Bool → List ℕ → Option (List ℕ) → ReadOrRefused Bool
-after_closing b text (Some rest) = Ok (b, rest)
-after_closing b text None = Err (refusal_at NotUnderstood text)
-
--- what follows `{`: TRUE or FALSE and `}` (125)
-abbrev pub constant_truth : List ℕ → ReadOrRefused Bool
-constant_truth text = if is_same_name (word text) (codes "TRUE") || is_same_name (word text) (codes "FALSE")
-    then after_closing (is_same_name (word text) (codes "TRUE")) text (byte 125 (after_word text))
-    else Err (refusal_at NotUnderstood text)
+-- `{TRUE}` or `{FALSE}`, before which blanks may stand (123 is the first brace)
+abbrev pub constant_truth : List ℕ → Option (Bool × List ℕ)
+constant_truth text = constant_behind (byte 123 (after_blanks text))
 
 abbrev pub after_word_and_colon : List ℕ → List ℕ → Option (List ℕ)
 after_word_and_colon name text = if is_same_name (word text) name then byte 58 (after_word text) else None
@@ -83,44 +68,53 @@ truth_of_numbers_or inner text (Ok b) = Ok b
 truth_of_numbers_or inner text (Err refusal) =
     truth_behind_opening inner refusal (byte 40 (after_blanks text))
 
-abbrev pub truth_by_numbers : NameLookup → ℕ → TruthReading → List ℕ → ReadOrRefused Bool
-truth_by_numbers names here inner text = truth_of_numbers_or inner text (comparison names here text)
+abbrev pub truth_by_numbers : NameLookup → ℕ → Option ℕ → TruthReading → List ℕ → ReadOrRefused Bool
+truth_by_numbers names here place inner text =
+    truth_of_numbers_or inner text (comparison names here place text)
 
-abbrev pub truth_by_texts : NameLookup → ℕ → TruthReading → List ℕ → Option (Bool × List ℕ) →
+abbrev pub truth_by_texts : NameLookup → ℕ → Option ℕ → TruthReading → List ℕ → Option (Bool × List ℕ) →
     ReadOrRefused Bool
-truth_by_texts names here inner text (Some b) = Ok b
-truth_by_texts names here inner text None = truth_by_numbers names here inner text
+truth_by_texts names here place inner text (Some b) = Ok b
+truth_by_texts names here place inner text None = truth_by_numbers names here place inner text
 
-abbrev pub truth_by_byte : NameLookup → ℕ → TruthReading → List ℕ → Option (List ℕ) → ReadOrRefused Bool
-truth_by_byte names here inner text (Some rest) = constant_truth rest
-truth_by_byte names here inner text None = truth_by_texts names here inner text (text_comparison text)
+-- a brace may begin `{PC}`
+abbrev pub truth_by_constant : NameLookup → ℕ → Option ℕ → TruthReading → List ℕ → Option (Bool × List ℕ) →
+    ReadOrRefused Bool
+truth_by_constant names here place inner text (Some b) = Ok b
+truth_by_constant names here place inner text None =
+    truth_by_texts names here place inner text (text_comparison text)
 
-abbrev pub truth_by_operator : NameLookup → ℕ → TruthReading → List ℕ → Option (List ℕ) → ReadOrRefused Bool
-truth_by_operator names here inner text (Some rest) = is_defined names rest (name_at (after_blanks rest))
-truth_by_operator names here inner text None =
-    truth_by_byte names here inner text (byte 123 (after_blanks text))
+abbrev pub truth_by_operator : NameLookup → ℕ → Option ℕ → TruthReading → List ℕ → Option (List ℕ) →
+    ReadOrRefused Bool
+truth_by_operator names here place inner text (Some rest) =
+    is_defined names rest (name_at (after_blanks rest))
+truth_by_operator names here place inner text None =
+    truth_by_constant names here place inner text (constant_truth text)
 
--- `{TRUE}` (123 is the brace), `:DEF:` and a name, texts or numbers, or a condition in parentheses
-unfoldable pub plain_truth : NameLookup → ℕ → TruthReading → List ℕ → ReadOrRefused Bool
-plain_truth names here inner text =
-    truth_by_operator names here inner text (after_operator (codes "DEF") text)
+-- `{TRUE}`, `:DEF:` and a name, texts, numbers or addresses, or a condition in parentheses
+unfoldable pub plain_truth : NameLookup → ℕ → Option ℕ → TruthReading → List ℕ → ReadOrRefused Bool
+plain_truth names here place inner text =
+    truth_by_operator names here place inner text (after_operator (codes "DEF") text)
 
-abbrev pub inverted_truth : NameLookup → ℕ → TruthReading → List ℕ → ReadOrRefused Bool
-inverted_truth names here inner text = do
-  b ← plain_truth names here inner text
+abbrev pub inverted_truth : NameLookup → ℕ → Option ℕ → TruthReading → List ℕ → ReadOrRefused Bool
+inverted_truth names here place inner text = do
+  b ← plain_truth names here place inner text
   Ok (not b.0, b.1)
 
-abbrev pub truth_by_not : NameLookup → ℕ → TruthReading → List ℕ → Option (List ℕ) → ReadOrRefused Bool
-truth_by_not names here inner text (Some rest) = inverted_truth names here inner rest
-truth_by_not names here inner text None = plain_truth names here inner text
+abbrev pub truth_by_not : NameLookup → ℕ → Option ℕ → TruthReading → List ℕ → Option (List ℕ) →
+    ReadOrRefused Bool
+truth_by_not names here place inner text (Some rest) = inverted_truth names here place inner rest
+truth_by_not names here place inner text None = plain_truth names here place inner text
 
 -- the same after `:LNOT:` or not
-abbrev pub signed_truth : NameLookup → ℕ → TruthReading → List ℕ → ReadOrRefused Bool
-signed_truth names here inner text = truth_by_not names here inner text (after_operator (codes "LNOT") text)
+abbrev pub signed_truth : NameLookup → ℕ → Option ℕ → TruthReading → List ℕ → ReadOrRefused Bool
+signed_truth names here place inner text =
+    truth_by_not names here place inner text (after_operator (codes "LNOT") text)
 
 abbrev pub truth_of_two : Joining → Bool → Bool → Bool
 truth_of_two joining.And a b = a && b
 truth_of_two joining.Or a b = a || b
+truth_of_two joining.Differ a b = if a then not b else b
 
 abbrev pub joining_or : Joining → Option (Joining × List ℕ) → Option (List ℕ) → Option (Joining × List ℕ)
 joining_or j others (Some rest) = Some (j, rest)
@@ -128,7 +122,8 @@ joining_or j others None = others
 
 -- how what follows is joined, and what that is
 abbrev pub joining_at : List ℕ → Option (Joining × List ℕ)
-joining_at text = joining_or joining.And (joining_or joining.Or None (after_operator (codes "LOR") text))
+joining_at text = joining_or joining.And (joining_or joining.Or
+    (joining_or joining.Differ None (after_operator (codes "LEOR") text)) (after_operator (codes "LOR") text))
     (after_operator (codes "LAND") text)
 
 abbrev pub next_truth : (Bool → List ℕ → ReadOrRefused Bool) → TruthReading → Bool → List ℕ →
@@ -151,16 +146,21 @@ joined_truths signed text = do
   more_truths (length first.1) signed first.0 first.1
 
 -- a condition in which so many parentheses stand within one another, with the one around it
-unfoldable pub condition_within : NameLookup → ℕ → ℕ → List ℕ → ReadOrRefused Bool
-condition_within names here zero text = Err (refusal_at TooDeep text)
-condition_within names here (suc n) text =
-    joined_truths (signed_truth names here (condition_within names here n)) text
+unfoldable pub condition_within : NameLookup → ℕ → Option ℕ → ℕ → List ℕ → ReadOrRefused Bool
+condition_within names here place zero text = Err (refusal_at TooDeep text)
+condition_within names here place (suc n) text =
+    joined_truths (signed_truth names here place (condition_within names here place n)) text
 
 abbrev pub truth_at_end : Bool → List ℕ → Result Bool WordRefusal
 truth_at_end b text = if is_end text then Ok b else Err (refusal_at NotUnderstood text)
 
--- the condition that a text is, in which up to 8 parentheses stand within one another
-unfoldable pub condition_of_text : NameLookup → ℕ → List ℕ → Result Bool WordRefusal
-condition_of_text names here text = do
-  b ← condition_within names here 9 text
+-- the condition that a text is, in which up to 8 parentheses stand within one another, on a line
+-- whose place is known or isn't
+unfoldable pub condition_at_place : NameLookup → ℕ → Option ℕ → List ℕ → Result Bool WordRefusal
+condition_at_place names here place text = do
+  b ← condition_within names here place 9 text
   truth_at_end b.0 b.1
+
+-- the same, where no place is known
+abbrev pub condition_of_text : NameLookup → ℕ → List ℕ → Result Bool WordRefusal
+condition_of_text names here text = condition_at_place names here None text

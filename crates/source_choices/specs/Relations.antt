@@ -1,7 +1,7 @@
 -- How numbers and texts are compared (ARM Assembler manual, "Expressions and operators").
-use Rattle.std.specs.Prelude.{ℕ, Bool, not, ◌==◌, nat_lt, nat_le, List, [], ◌∷◌, take, drop, bytes_eq, Option, Some, None, if◌then◌else◌}
-use Rattle.std.specs.List.{prefix_len}
+use Rattle.std.specs.Prelude.{ℕ, Bool, not, ◌==◌, ◌||◌, nat_lt, nat_le, List, [], ◌∷◌, bytes_eq, Option, Some, None, if◌then◌else◌}
 use Rattle.assembler_names.specs.Words.{byte, ◌>>=◌}
+use Rattle.source_strings.specs.Quotes.{text_in_quotes}
 use Rattle.source_words.specs.Words.{after_blanks}
 use Rattle.source_choices.specs.declared.relations.Relation.{Relation}
 use Rattle.source_choices.specs.declared.relations.Relation.TheVariants as relation
@@ -29,42 +29,29 @@ abbrev pub relation_after_equal : List ℕ → Relation × List ℕ
 relation_after_equal [] = (relation.Equal, [])
 relation_after_equal (c ∷ rest) = (relation.Equal, if c == 61 then rest else c ∷ rest)
 
--- `=` is 61, `<` 60, `>` 62
+abbrev pub different_before : Option (List ℕ) → Option (Relation × List ℕ)
+different_before (Some rest) = Some (relation.Different, rest)
+different_before None = None
+
+-- `=` is 61, `<` 60, `>` 62; `/=` (47) and `!=` (33) are other spellings of `<>`
 abbrev pub relation_at : List ℕ → Option (Relation × List ℕ)
 relation_at [] = None
 relation_at (c ∷ rest) =
     if c == 61 then Some (relation_after_equal rest) else (
     if c == 60 then Some (relation_after_less rest) else (
-    if c == 62 then Some (relation_after_more rest) else None))
+    if c == 62 then Some (relation_after_more rest) else (
+    if c == 47 || c == 33 then different_before (byte 61 rest) else None)))
 
 abbrev pub texts_compared : Relation → List ℕ → List ℕ → Option Bool
 texts_compared relation.Equal a b = Some (bytes_eq a b)
 texts_compared relation.Different a b = Some (not (bytes_eq a b))
 texts_compared _ a b = None
 
--- all but a double quote (34)
-abbrev pub is_unquoted : ℕ → Bool
-is_unquoted c = not (c == 34)
-
-abbrev pub text_and_rest : List ℕ → Option (List ℕ) → Option (List ℕ × List ℕ)
-text_and_rest text (Some rest) = Some (take (prefix_len is_unquoted text) text, rest)
-text_and_rest text None = None
-
--- what stands before the next double quote, and what follows that
-abbrev pub text_up_to_quote : List ℕ → Option (List ℕ × List ℕ)
-text_up_to_quote text = text_and_rest text (byte 34 (drop (prefix_len is_unquoted text) text))
-
--- a text in double quotes, before which blanks may stand
-abbrev pub text_in_quotes : List ℕ → Option (List ℕ × List ℕ)
-text_in_quotes text = do
-  inside ← byte 34 (after_blanks text)
-  text_up_to_quote inside
-
 abbrev pub truth_and_rest : List ℕ → Option Bool → Option (Bool × List ℕ)
 truth_and_rest rest (Some b) = Some (b, rest)
 truth_and_rest rest None = None
 
--- two texts, of which `=` or `<>` asks whether they are the same
+-- two texts, of which `=` or `<>` asks whether they are the same; a quote within stands as two in both
 unfoldable pub text_comparison : List ℕ → Option (Bool × List ℕ)
 text_comparison text = do
   one ← text_in_quotes text

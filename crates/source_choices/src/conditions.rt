@@ -1,23 +1,25 @@
-//! Conditions: numbers and texts that are compared, and what is defined.
+//! Conditions: numbers, addresses and texts that are compared, and what is defined.
 
 ghost use Rattle.std.specs.Prelude.{◌≡◌, length, option_map};
 ghost use Rattle.assembler_names.specs.Words.{read_of};
-ghost use Rattle.source_choices.specs.Conditions.{after_operator, comparison, condition_of_text, condition_within, constant_truth, inverted_truth, is_defined, joined_truths, joining_at, more_truths, number_of_sum_at, plain_truth, signed_truth, truth_at_end, truth_by_numbers, truth_by_texts, truth_in_parentheses, truth_of_two};
+ghost use Rattle.source_choices.specs.Conditions.{after_operator, condition_at_place, condition_of_text, condition_within, constant_in_braces, constant_truth, inverted_truth, is_defined, joined_truths, joining_at, more_truths, plain_truth, signed_truth, truth_at_end, truth_by_numbers, truth_by_texts, truth_in_parentheses, truth_of_two};
 ghost use Rattle.source_choices.specs.Relations.{text_comparison};
 ghost use Rattle.source_words.specs.Names.{meaning_of_name};
 ghost use Rattle.source_words.specs.Words.{after_blanks, name_at, reading};
 
-use crate::relations::{relation_at, text_comparison};
+use crate::relations::text_comparison;
+use crate::sides::comparison;
 use assembler_names::words::{Read, after_word, byte, is_name, word};
 use source_words::expressions::MOST_PARENTHESES;
 use source_words::words::{after_blanks, is_end, name_at, symbol_needed};
-use source_words::{Names, ReadOrRefused, Why, WordRefusal, source_sum};
+use source_words::{Names, ReadOrRefused, Why, WordRefusal};
 
 /// How two conditions are joined.
 #[derive(Clone, Copy, Debug, PartialEq, Eq)]
 pub enum Joining {
     And,
     Or,
+    Differ,
 }
 
 impl Joining {
@@ -27,16 +29,30 @@ impl Joining {
         match self {
             Joining::And => one && other,
             Joining::Or => one || other,
+            Joining::Differ => one != other,
         }
     }
 }
 
-/// Whether the condition that a text is holds.
-#[tactic(auto, unfolding(crate::specs::Conditions::condition_of_text, crate::specs::Conditions::condition_within))]
+/// Whether the condition that a text is holds, where no place is known.
 pub fn condition_of_text(names: &Names, here: usize, text: &[u8]) -> Result<bool, WordRefusal>
     ensures { result ≡ condition_of_text (meaning_of_name names.now) here text.now }
 {
-    let (holds, rest) = joined_truths(names, here, MOST_PARENTHESES, text)?;
+    condition_at_place(names, here, None, text)
+}
+
+/// Whether the condition that a text is holds: on a line whose place from the start of the program
+/// is known, addresses that are so far from the line are compared by their places.
+#[tactic(auto, unfolding(crate::specs::Conditions::condition_at_place, crate::specs::Conditions::condition_within))]
+pub fn condition_at_place(
+    names: &Names,
+    here: usize,
+    place: Option<u32>,
+    text: &[u8],
+) -> Result<bool, WordRefusal>
+    ensures { result ≡ condition_at_place (meaning_of_name names.now) here place text.now }
+{
+    let (holds, rest) = joined_truths(names, here, place, MOST_PARENTHESES, text)?;
     truth_at_end(holds, rest)
 }
 
@@ -55,14 +71,15 @@ fn truth_at_end(holds: bool, text: &[u8]) -> Result<bool, WordRefusal>
 fn joined_truths<'t>(
     names: &Names,
     here: usize,
+    place: Option<u32>,
     nesting: u32,
     text: &'t [u8],
 ) -> ReadOrRefused<'t, bool>
-    ensures { reading result ≡ joined_truths (signed_truth (meaning_of_name names.now) here
-        (condition_within (meaning_of_name names.now) here nesting)) text.now }
+    ensures { reading result ≡ joined_truths (signed_truth (meaning_of_name names.now) here place
+        (condition_within (meaning_of_name names.now) here place nesting)) text.now }
 {
-    let (first, rest) = signed_truth(names, here, nesting, text)?;
-    more_truths(names, here, nesting, first, rest)
+    let (first, rest) = signed_truth(names, here, place, nesting, text)?;
+    more_truths(names, here, place, nesting, first, rest)
 }
 
 // The truths after one.
@@ -71,13 +88,14 @@ fn joined_truths<'t>(
 fn more_truths<'t>(
     names: &Names,
     here: usize,
+    place: Option<u32>,
     nesting: u32,
     first: bool,
     text: &'t [u8],
 ) -> ReadOrRefused<'t, bool>
     ensures { reading result
-        ≡ more_truths (length text.now) (signed_truth (meaning_of_name names.now) here
-        (condition_within (meaning_of_name names.now) here nesting)) first text.now }
+        ≡ more_truths (length text.now) (signed_truth (meaning_of_name names.now) here place
+        (condition_within (meaning_of_name names.now) here place nesting)) first text.now }
 {
     let mut holds = first;
     let mut rest = text;
@@ -85,7 +103,7 @@ fn more_truths<'t>(
         let Some((joining, after)) = joining_at(rest) else {
             return Ok((holds, rest));
         };
-        let (other, next) = signed_truth(names, here, nesting, after)?;
+        let (other, next) = signed_truth(names, here, place, nesting, after)?;
         holds = joining.joined(holds, other);
         rest = next;
     }
@@ -100,6 +118,8 @@ fn joining_at(text: &[u8]) -> Read<'_, Joining>
         Some((Joining::And, rest))
     } else if let Some(rest) = after_operator(b"LOR", text) {
         Some((Joining::Or, rest))
+    } else if let Some(rest) = after_operator(b"LEOR", text) {
+        Some((Joining::Differ, rest))
     } else {
         None
     }
@@ -110,15 +130,16 @@ fn joining_at(text: &[u8]) -> Read<'_, Joining>
 fn signed_truth<'t>(
     names: &Names,
     here: usize,
+    place: Option<u32>,
     nesting: u32,
     text: &'t [u8],
 ) -> ReadOrRefused<'t, bool>
-    ensures { reading result ≡ signed_truth (meaning_of_name names.now) here
-        (condition_within (meaning_of_name names.now) here nesting) text.now }
+    ensures { reading result ≡ signed_truth (meaning_of_name names.now) here place
+        (condition_within (meaning_of_name names.now) here place nesting) text.now }
 {
     match after_operator(b"LNOT", text) {
-        Some(rest) => inverted_truth(names, here, nesting, rest),
-        None => plain_truth(names, here, nesting, text),
+        Some(rest) => inverted_truth(names, here, place, nesting, rest),
+        None => plain_truth(names, here, place, nesting, text),
     }
 }
 
@@ -126,34 +147,36 @@ fn signed_truth<'t>(
 fn inverted_truth<'t>(
     names: &Names,
     here: usize,
+    place: Option<u32>,
     nesting: u32,
     text: &'t [u8],
 ) -> ReadOrRefused<'t, bool>
-    ensures { reading result ≡ inverted_truth (meaning_of_name names.now) here
-        (condition_within (meaning_of_name names.now) here nesting) text.now }
+    ensures { reading result ≡ inverted_truth (meaning_of_name names.now) here place
+        (condition_within (meaning_of_name names.now) here place nesting) text.now }
 {
-    let (holds, rest) = plain_truth(names, here, nesting, text)?;
+    let (holds, rest) = plain_truth(names, here, place, nesting, text)?;
     Ok((!holds, rest))
 }
 
-// `{TRUE}`, `:DEF:` and a name, texts or numbers, or a condition in parentheses.
+// `{TRUE}`, `:DEF:` and a name, texts, numbers or addresses, or a condition in parentheses.
 #[tactic(auto, unfolding(crate::specs::Conditions::plain_truth))]
 #[cycle(condition)]
 fn plain_truth<'t>(
     names: &Names,
     here: usize,
+    place: Option<u32>,
     nesting: u32,
     text: &'t [u8],
 ) -> ReadOrRefused<'t, bool>
-    ensures { reading result ≡ plain_truth (meaning_of_name names.now) here
-        (condition_within (meaning_of_name names.now) here nesting) text.now }
+    ensures { reading result ≡ plain_truth (meaning_of_name names.now) here place
+        (condition_within (meaning_of_name names.now) here place nesting) text.now }
 {
     if let Some(rest) = after_operator(b"DEF", text) {
         return is_defined(names, rest);
     }
-    match byte(b'{', after_blanks(text)) {
-        Some(rest) => constant_truth(rest),
-        None => texts_or_numbers(names, here, nesting, text),
+    match constant_truth(text) {
+        Some(constant) => Ok(constant),
+        None => texts_or_numbers(names, here, place, nesting, text),
     }
 }
 
@@ -161,16 +184,17 @@ fn plain_truth<'t>(
 fn texts_or_numbers<'t>(
     names: &Names,
     here: usize,
+    place: Option<u32>,
     nesting: u32,
     text: &'t [u8],
 ) -> ReadOrRefused<'t, bool>
-    ensures { reading result ≡ truth_by_texts (meaning_of_name names.now) here
-        (condition_within (meaning_of_name names.now) here nesting) text.now
+    ensures { reading result ≡ truth_by_texts (meaning_of_name names.now) here place
+        (condition_within (meaning_of_name names.now) here place nesting) text.now
         (text_comparison text.now) }
 {
     match text_comparison(text) {
         Some(compared) => Ok(compared),
-        None => truth_by_numbers(names, here, nesting, text),
+        None => truth_by_numbers(names, here, place, nesting, text),
     }
 }
 
@@ -180,16 +204,17 @@ fn texts_or_numbers<'t>(
 fn truth_by_numbers<'t>(
     names: &Names,
     here: usize,
+    place: Option<u32>,
     nesting: u32,
     text: &'t [u8],
 ) -> ReadOrRefused<'t, bool>
-    ensures { reading result ≡ truth_by_numbers (meaning_of_name names.now) here
-        (condition_within (meaning_of_name names.now) here nesting) text.now }
+    ensures { reading result ≡ truth_by_numbers (meaning_of_name names.now) here place
+        (condition_within (meaning_of_name names.now) here place nesting) text.now }
 {
-    match comparison(names, here, text) {
+    match comparison(names, here, place, text) {
         Ok(compared) => Ok(compared),
         Err(refusal) => match byte(b'(', after_blanks(text)) {
-            Some(rest) => truth_in_parentheses(names, here, nesting, rest),
+            Some(rest) => truth_in_parentheses(names, here, place, nesting, rest),
             None => Err(refusal),
         },
     }
@@ -201,16 +226,17 @@ fn truth_by_numbers<'t>(
 fn truth_in_parentheses<'t>(
     names: &Names,
     here: usize,
+    place: Option<u32>,
     nesting: u32,
     text: &'t [u8],
 ) -> ReadOrRefused<'t, bool>
     ensures { reading result ≡ truth_in_parentheses
-        (condition_within (meaning_of_name names.now) here nesting) text.now }
+        (condition_within (meaning_of_name names.now) here place nesting) text.now }
 {
     if nesting == 0 {
         return Err(WordRefusal::at(Why::TooDeep, text));
     }
-    let (holds, rest) = joined_truths(names, here, nesting - 1, text)?;
+    let (holds, rest) = joined_truths(names, here, place, nesting - 1, text)?;
     let ((), rest) = symbol_needed(b')', rest)?;
     Ok((holds, rest))
 }
@@ -238,42 +264,22 @@ pub fn after_operator<'t>(name: &[u8], text: &'t [u8]) -> Option<&'t [u8]>
     }
 }
 
-// What follows `{`.
-fn constant_truth(text: &[u8]) -> ReadOrRefused<'_, bool>
-    ensures { reading result ≡ constant_truth text.now }
+// `{TRUE}` or `{FALSE}`.
+fn constant_truth(text: &[u8]) -> Read<'_, bool>
+    ensures { read_of result ≡ constant_truth text.now }
+{
+    let inside = byte(b'{', after_blanks(text))?;
+    constant_in_braces(inside)
+}
+
+// What follows the first brace.
+fn constant_in_braces(text: &[u8]) -> Read<'_, bool>
+    ensures { read_of result ≡ constant_in_braces text.now }
 {
     let name = word(text);
     if !is_name(name, b"TRUE") && !is_name(name, b"FALSE") {
-        return Err(WordRefusal::at(Why::NotUnderstood, text));
+        return None;
     }
-    match byte(b'}', after_word(text)) {
-        Some(rest) => Ok((is_name(name, b"TRUE"), rest)),
-        None => Err(WordRefusal::at(Why::NotUnderstood, text)),
-    }
-}
-
-// A number that isn't 0, or two that are compared.
-#[tactic(auto, unfolding(crate::specs::Conditions::comparison))]
-fn comparison<'t>(names: &Names, here: usize, text: &'t [u8]) -> ReadOrRefused<'t, bool>
-    ensures { reading result ≡ comparison (meaning_of_name names.now) here text.now }
-{
-    let (number, rest) = number_of_sum_at(names, here, text)?;
-    match relation_at(after_blanks(rest)) {
-        Some((relation, operand)) => {
-            let (other, rest) = number_of_sum_at(names, here, operand)?;
-            Ok((relation.holds(number, other), rest))
-        }
-        None => Ok((number != 0, rest)),
-    }
-}
-
-// A number.
-fn number_of_sum_at<'t>(names: &Names, here: usize, text: &'t [u8]) -> ReadOrRefused<'t, u32>
-    ensures { reading result ≡ number_of_sum_at (meaning_of_name names.now) here text.now }
-{
-    let (sum, rest) = source_sum(names, here, text)?;
-    match sum.plain_number() {
-        Some(number) => Ok((number, rest)),
-        None => Err(WordRefusal::at(Why::NotANumber, text)),
-    }
+    let rest = byte(b'}', after_word(text))?;
+    Some((is_name(name, b"TRUE"), rest))
 }

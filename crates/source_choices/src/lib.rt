@@ -1,9 +1,8 @@
-//! Conditions of a source for ObjAsm: what is compared, and what is defined; and texts that are
-//! joined.
+//! Conditions of a source for ObjAsm: what is compared, and what is defined.
 #![tactic(auto)]
 
 pub mod conditions;
 pub mod relations;
-pub mod texts;
+pub mod sides;
 
 pub use source_words;

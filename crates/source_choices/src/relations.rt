@@ -1,11 +1,11 @@
 //! How numbers and texts are compared.
 
-ghost use Rattle.std.specs.Prelude.{◌≡◌, ◌≤◌, length, option_map};
-ghost use Rattle.std.specs.List.{prefix_len};
+ghost use Rattle.std.specs.Prelude.{◌≡◌};
 ghost use Rattle.assembler_names.specs.Words.{read_of};
-ghost use Rattle.source_choices.specs.Relations.{holds, is_unquoted, relation_after_equal, relation_after_less, relation_after_more, relation_at, text_comparison, text_in_quotes, text_up_to_quote, texts_compared};
+ghost use Rattle.source_choices.specs.Relations.{holds, relation_after_equal, relation_after_less, relation_after_more, relation_at, text_comparison, texts_compared};
 
 use assembler_names::words::{Read, byte};
+use source_strings::quotes::text_in_quotes;
 use source_words::words::after_blanks;
 
 /// How two numbers or two texts are compared.
@@ -53,6 +53,7 @@ pub fn relation_at(text: &[u8]) -> Read<'_, Relation>
         [b'=', rest @ ..] => Some(relation_after_equal(rest)),
         [b'<', rest @ ..] => Some(relation_after_less(rest)),
         [b'>', rest @ ..] => Some(relation_after_more(rest)),
+        [b'/' | b'!', rest @ ..] => Some((Relation::Different, byte(b'=', rest)?)),
         _ => None,
     }
 }
@@ -85,7 +86,8 @@ fn relation_after_more(text: &[u8]) -> (Relation, &[u8])
     }
 }
 
-/// Two texts in double quotes, of which `=` or `<>` asks whether they are the same.
+/// Two texts in double quotes, of which `=`, `<>` or another spelling asks whether they are the same: their bytes are
+/// compared as they stand, since each quote within stands as two in both.
 #[tactic(auto, unfolding(crate::specs::Relations::text_comparison))]
 pub fn text_comparison(text: &[u8]) -> Read<'_, bool>
     ensures { read_of result ≡ text_comparison text.now }
@@ -95,34 +97,4 @@ pub fn text_comparison(text: &[u8]) -> Read<'_, bool>
     let (other, left) = text_in_quotes(second)?;
     let holds = relation.texts_compared(one, other)?;
     Some((holds, left))
-}
-
-/// A text in double quotes, before which blanks may stand, and what follows it.
-pub fn text_in_quotes(text: &[u8]) -> Option<(&[u8], &[u8])>
-    ensures { option_map (λ r. (r.0.now, r.1.now)) result ≡ text_in_quotes text.now }
-{
-    let inside = byte(b'"', after_blanks(text))?;
-    text_up_to_quote(inside)
-}
-
-// What stands before the next double quote, and what follows that.
-fn text_up_to_quote(text: &[u8]) -> Option<(&[u8], &[u8])>
-    ensures { option_map (λ r. (r.0.now, r.1.now)) result ≡ text_up_to_quote text.now }
-{
-    let len = unquoted_len(text);
-    let rest = byte(b'"', &text[len..])?;
-    Some((&text[..len], rest))
-}
-
-fn unquoted_len(text: &[u8]) -> usize
-    ensures length { result ≡ prefix_len is_unquoted text.now }
-    ensures within { result ≤ length text.now }
-{
-    text.iter().take_while(|byte| is_unquoted(**byte)).count()
-}
-
-fn is_unquoted(c: u8) -> bool
-    ensures { result ≡ is_unquoted c }
-{
-    c != b'"'
 }

@@ -14,6 +14,7 @@ use Rattle.source_words.specs.declared.refusal.WordRefusal.{WordRefusal}
 use Rattle.source_words.specs.declared.sums.AddressSum.{AddressSum}
 use Rattle.source_layout.specs.Knowledge.{LayoutKnowledge}
 use Rattle.source_layout.specs.Marks.{mark_of_line}
+use Rattle.source_layout.specs.Pieces.{all_pieces, operands_after, text_with_pieces}
 use Rattle.source_layout.specs.declared.layouts.LayoutStart.{LayoutStart}
 use Rattle.source_layout.specs.declared.layouts.LayoutWork.{LayoutWork}
 use Rattle.source_layout.specs.declared.layouts.LayoutWork.TheVariants as works
@@ -21,7 +22,7 @@ use Rattle.source_layout.specs.declared.marks.LineMark.{LineMark}
 use Rattle.source_layout.specs.declared.marks.LineMark.TheVariants as marks
 
 abbrev pub no_layout : LayoutKnowledge
-no_layout = record { names = []; registers = []; marks = []; base = None; next = 0 }
+no_layout = record { names = []; registers = []; sizes = []; marks = []; base = None; next = 0 }
 
 abbrev pub label_or_text : List ℕ → Option (List ℕ × List ℕ) → List ℕ × List ℕ
 label_or_text text (Some l) = l
@@ -96,6 +97,11 @@ with_field_register s label None = s
 with_field_register s label (Some r) = if is_some (meaning_of_name s.registers label) then s
     else record s { registers = s.registers ++ (label, meaning.Register r) ∷ [] }
 
+-- with how many bytes a field takes
+abbrev pub with_field_size : LayoutKnowledge → List ℕ → ℕ → LayoutKnowledge
+with_field_size s label size = if is_some (meaning_of_name s.sizes label) then s
+    else record s { sizes = s.sizes ++ (label, meaning.Value (number_sum size)) ∷ [] }
+
 abbrev pub started_with : ℕ → LayoutKnowledge → LayoutStart → LayoutKnowledge
 started_with number s start = with_line_mark number (record s { base = start.base; next = start.offset })
     (marks.Layout start.offset start.offset)
@@ -108,12 +114,12 @@ abbrev pub next_field_place : LayoutKnowledge → ℕ → ℕ
 next_field_place s size = (s.next + size) % 2 ^ 32
 
 -- with one more field, which has a name
-abbrev pub with_named_field : LayoutKnowledge → List ℕ → LayoutKnowledge
-with_named_field s label =
-    with_field_register (with_layout_name s label (meaning.Value (number_sum s.next))) label s.base
+abbrev pub with_named_field : LayoutKnowledge → List ℕ → ℕ → LayoutKnowledge
+with_named_field s label size = with_field_size (with_field_register
+    (with_layout_name s label (meaning.Value (number_sum s.next))) label s.base) label size
 
-abbrev pub with_field_name : LayoutKnowledge → List ℕ → LayoutKnowledge
-with_field_name s label = if length label == 0 then s else with_named_field s label
+abbrev pub with_field_name : LayoutKnowledge → List ℕ → ℕ → LayoutKnowledge
+with_field_name s label size = if length label == 0 then s else with_named_field s label size
 
 abbrev pub with_field_mark : ℕ → LayoutKnowledge → ℕ → LayoutKnowledge
 with_field_mark number s size =
@@ -124,7 +130,7 @@ with_field_mark number s size =
 abbrev pub with_field : ℕ → LayoutKnowledge → List ℕ → Option ℕ → LayoutKnowledge
 with_field number s label None = s
 with_field number s label (Some size) = if is_some (meaning_of_name s.names label) then s
-    else with_field_mark number (with_field_name s label) size
+    else with_field_mark number (with_field_name s label size) size
 
 abbrev pub with_name_if : LayoutKnowledge → List ℕ → Option Meaning → LayoutKnowledge
 with_name_if s label (Some m) = with_layout_name s label m
@@ -134,16 +140,42 @@ abbrev pub meaning_unless_refused : Result (Option Meaning) WordRefusal → Opti
 meaning_unless_refused (Ok m) = m
 meaning_unless_refused (Err e) = None
 
-abbrev pub with_work : ℕ → LayoutKnowledge → List ℕ → List ℕ → Option (LayoutWork × List ℕ) → LayoutKnowledge
-with_work number s text label (Some (works.Start, operands)) =
+-- the pieces of a text, by what is known of the source
+abbrev pub known_pieces : LayoutKnowledge → ℕ → List ℕ → List ℕ
+known_pieces s here text = all_pieces (meaning_of_name s.sizes) s.marks here text
+
+-- a line as it stands, but for the pieces from these operands on
+abbrev pub text_with_known_pieces : LayoutKnowledge → ℕ → List ℕ → List ℕ → List ℕ
+text_with_known_pieces s here text operands =
+    text_with_pieces (meaning_of_name s.sizes) s.marks here text operands
+
+-- a line as it stands, but for the pieces behind the first byte of its operation
+abbrev pub line_with_known_pieces : LayoutKnowledge → ℕ → List ℕ → List ℕ → List ℕ
+line_with_known_pieces s here text rest = text_with_known_pieces s here text (operands_after rest)
+
+abbrev pub with_start : ℕ → LayoutKnowledge → List ℕ → List ℕ → LayoutKnowledge
+with_start number s label operands =
     started_unless number s label (start_operands (meaning_of_name s.names) number operands)
-with_work number s text label (Some (works.Field, operands)) =
+
+abbrev pub with_sized_field : ℕ → LayoutKnowledge → List ℕ → List ℕ → LayoutKnowledge
+with_sized_field number s label operands =
     with_field number s label (field_size (meaning_of_name s.names) number operands)
-with_work number s text label None =
+
+-- with what the label of a line means
+abbrev pub with_meaning : ℕ → LayoutKnowledge → List ℕ → List ℕ → LayoutKnowledge
+with_meaning number s label text =
     with_name_if s label (meaning_unless_refused (meaning_of_line (meaning_of_name s.names) number text))
 
+abbrev pub with_work : ℕ → LayoutKnowledge → List ℕ → List ℕ × List ℕ → Option (LayoutWork × List ℕ) →
+    LayoutKnowledge
+with_work number s text l (Some (works.Start, operands)) =
+    with_start number s l.0 (known_pieces s number operands)
+with_work number s text l (Some (works.Field, operands)) =
+    with_sized_field number s l.0 (known_pieces s number operands)
+with_work number s text l None = with_meaning number s l.0 (line_with_known_pieces s number text l.1)
+
 abbrev pub with_unmarked : ℕ → LayoutKnowledge → List ℕ → List ℕ × List ℕ → LayoutKnowledge
-with_unmarked number s text l = with_work number s text l.0 (layout_work l.1)
+with_unmarked number s text l = with_work number s text l (layout_work l.1)
 
 abbrev pub with_line_by_mark : ℕ → LayoutKnowledge → List ℕ → Option LineMark → LayoutKnowledge
 with_line_by_mark number s text (Some m) = with_line_mark number s m

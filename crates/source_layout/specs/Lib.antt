@@ -2,6 +2,7 @@
 pub use Rattle.source_words
 pub mod Marks
 pub mod References
+pub mod Pieces
 pub mod Knowledge
 pub mod Layouts
 pub mod Fields

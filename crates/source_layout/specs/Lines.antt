@@ -1,44 +1,20 @@
 -- The lines of a source without numbered labels and layouts.
-use Rattle.std.specs.Prelude.{ℕ, Bool, not, zero, suc, ◌-◌, ◌%◌, ◌==◌, List, [], ◌∷◌, ◌++◌, take, drop, length, codes, Option, Some, None, if◌then◌else◌}
+use Rattle.std.specs.Prelude.{ℕ, Bool, not, suc, ◌%◌, ◌==◌, List, [], ◌∷◌, ◌++◌, take, drop, length, codes, Option, Some, None, if◌then◌else◌}
 use Rattle.std.specs.List.{prefix_len}
 use Rattle.assembler_names.specs.Expressions.{numeral}
 use Rattle.assembler_names.specs.Words.{after_word, word}
 use Rattle.assembler_text.specs.Names.{register_text}
 use Rattle.assembler_text.specs.Numbers.{number_text}
-use Rattle.source_words.specs.Names.{NameLookup, meaning_of_name}
+use Rattle.source_words.specs.Names.{meaning_of_name}
 use Rattle.source_words.specs.Words.{after_blanks}
 use Rattle.source_layout.specs.Fields.{field_operand}
 use Rattle.source_layout.specs.Knowledge.{LayoutKnowledge}
-use Rattle.source_layout.specs.Layouts.{label_and_rest, layout_from, no_layout}
+use Rattle.source_layout.specs.Layouts.{known_pieces, label_and_rest, layout_from, no_layout, text_with_known_pieces}
 use Rattle.source_layout.specs.Marks.{layout_begin}
-use Rattle.source_layout.specs.References.{numbered_label_name, piece_at, piece_text}
+pub use Rattle.source_layout.specs.Pieces.{bytes_before}
+use Rattle.source_layout.specs.Pieces.{operands_after}
+use Rattle.source_layout.specs.References.{numbered_label_name}
 use Rattle.source_layout.specs.declared.fields.FieldOperand.{FieldOperand}
-use Rattle.source_layout.specs.declared.marks.MarkedLine.{MarkedLine}
-use Rattle.source_layout.specs.declared.references.LinePiece.{LinePiece}
-
--- the bytes before the rest of a text
-abbrev pub bytes_before : List ℕ → List ℕ → List ℕ
-bytes_before text rest = take (length text - length rest) text
-
-abbrev pub pieces_next : (List ℕ → List ℕ) → List MarkedLine → ℕ → List ℕ → LinePiece × List ℕ → List ℕ
-pieces_next others ms here text p = piece_text ms here (bytes_before text p.1) p.0 ++ others p.1
-
--- the pieces of a text; the count, which is never used up, is the length of a text that holds them
-unfoldable pub pieces_text : ℕ → List MarkedLine → ℕ → List ℕ → List ℕ
-pieces_text zero ms here text = []
-pieces_text (suc n) ms here text = if length text == 0 then []
-    else pieces_next (pieces_text n ms here) ms here text (piece_at text)
-
-abbrev pub all_pieces : List MarkedLine → ℕ → List ℕ → List ℕ
-all_pieces ms here text = pieces_text (length text) ms here text
-
--- what follows the first byte of the operation of a line
-abbrev pub operands_after : List ℕ → List ℕ
-operands_after text = drop 1 (after_blanks text)
-
--- a text as it stands, but for the pieces from here on
-abbrev pub text_with_pieces : List MarkedLine → ℕ → List ℕ → List ℕ → List ℕ
-text_with_pieces ms here text operands = bytes_before text operands ++ all_pieces ms here operands
 
 -- 59 is `;`
 abbrev pub is_before_comment : ℕ → Bool
@@ -51,53 +27,53 @@ abbrev pub comment_of : List ℕ → List ℕ
 comment_of text = drop (prefix_len is_before_comment text) text
 
 -- the field as an address: `[R12,#w_count]`
-abbrev pub field_address_text : List MarkedLine → ℕ → ℕ → List ℕ → List ℕ → List ℕ
-field_address_text ms here base text operand =
+abbrev pub field_address_text : LayoutKnowledge → ℕ → ℕ → List ℕ → List ℕ → List ℕ
+field_address_text s here base text operand =
     bytes_before text operand ++ (codes "[" ++ (register_text (base % 16) ++ (codes ",#"
-    ++ (all_pieces ms here (before_comment operand) ++ (codes "]" ++ comment_of operand)))))
+    ++ (known_pieces s here (before_comment operand) ++ (codes "]" ++ comment_of operand)))))
 
 -- ADD in the place of the three letters of ADR
-abbrev pub sum_of_field_text : List MarkedLine → ℕ → ℕ → List ℕ → List ℕ → List ℕ
-sum_of_field_text ms here base text operand = bytes_before text (after_blanks text) ++ (codes "ADD"
+abbrev pub sum_of_field_text : LayoutKnowledge → ℕ → ℕ → List ℕ → List ℕ → List ℕ
+sum_of_field_text s here base text operand = bytes_before text (after_blanks text) ++ (codes "ADD"
     ++ (bytes_before (drop 3 (after_blanks text)) operand ++ (register_text (base % 16)
-    ++ (codes ",#" ++ all_pieces ms here operand))))
+    ++ (codes ",#" ++ known_pieces s here operand))))
 
-abbrev pub text_of_field : List MarkedLine → ℕ → List ℕ → Bool → ℕ → List ℕ → List ℕ
-text_of_field ms here text is_transfer base operand =
-    if is_transfer then field_address_text ms here base text operand
-    else sum_of_field_text ms here base text operand
+abbrev pub text_of_field : LayoutKnowledge → ℕ → List ℕ → Bool → ℕ → List ℕ → List ℕ
+text_of_field s here text is_transfer base operand =
+    if is_transfer then field_address_text s here base text operand
+    else sum_of_field_text s here base text operand
 
-abbrev pub text_by_field : List MarkedLine → ℕ → List ℕ → Option (FieldOperand × List ℕ) → List ℕ
-text_by_field ms here text (Some f) = text_of_field ms here text f.0.is_transfer f.0.base f.1
-text_by_field ms here text None = text_with_pieces ms here text (operands_after text)
+abbrev pub text_by_field : LayoutKnowledge → ℕ → List ℕ → Option (FieldOperand × List ℕ) → List ℕ
+text_by_field s here text (Some f) = text_of_field s here text f.0.is_transfer f.0.base f.1
+text_by_field s here text None = text_with_known_pieces s here text (operands_after text)
 
 -- what follows the label of a line
-abbrev pub body_text : NameLookup → List MarkedLine → ℕ → List ℕ → List ℕ
-body_text registers ms here text = text_by_field ms here text (field_operand registers text)
+abbrev pub body_text : LayoutKnowledge → ℕ → List ℕ → List ℕ
+body_text s here text = text_by_field s here text (field_operand (meaning_of_name s.registers) text)
 
-abbrev pub text_after_label : NameLookup → List MarkedLine → ℕ → List ℕ → List ℕ × List ℕ → List ℕ
-text_after_label registers ms here text l = bytes_before text l.1 ++ body_text registers ms here l.1
+abbrev pub text_after_label : LayoutKnowledge → ℕ → List ℕ → List ℕ × List ℕ → List ℕ
+text_after_label s here text l = bytes_before text l.1 ++ body_text s here l.1
 
-abbrev pub text_by_number : NameLookup → List MarkedLine → ℕ → List ℕ → Option ℕ → List ℕ
-text_by_number registers ms here text (Some n) =
-    numbered_label_name n here ++ body_text registers ms here (after_word text)
-text_by_number registers ms here text None = text_after_label registers ms here text (label_and_rest text)
+abbrev pub text_by_number : LayoutKnowledge → ℕ → List ℕ → Option ℕ → List ℕ
+text_by_number s here text (Some n) =
+    numbered_label_name n here ++ body_text s here (after_word text)
+text_by_number s here text None = text_after_label s here text (label_and_rest text)
 
 -- the name of a field as that of a number
 abbrev pub field_line : List ℕ → ℕ → List ℕ × List ℕ → List ℕ
 field_line text begin l = if length l.0 == 0 then []
     else bytes_before text l.1 ++ (codes " * " ++ number_text begin)
 
-abbrev pub text_by_layout : NameLookup → List MarkedLine → ℕ → List ℕ → Option ℕ → List ℕ
-text_by_layout registers ms here text (Some begin) = field_line text begin (label_and_rest text)
-text_by_layout registers ms here text None = text_by_number registers ms here text (numeral 10 (word text))
+abbrev pub text_by_layout : LayoutKnowledge → ℕ → List ℕ → Option ℕ → List ℕ
+text_by_layout s here text (Some begin) = field_line text begin (label_and_rest text)
+text_by_layout s here text None = text_by_number s here text (numeral 10 (word text))
 
 -- a line without numbered labels and layouts
-unfoldable pub line_without_layout : NameLookup → List MarkedLine → ℕ → List ℕ → List ℕ
-line_without_layout registers ms here text = text_by_layout registers ms here text (layout_begin here ms)
+unfoldable pub line_without_layout : LayoutKnowledge → ℕ → List ℕ → List ℕ
+line_without_layout s here text = text_by_layout s here text (layout_begin here s.marks)
 
 abbrev pub line_and_end : LayoutKnowledge → ℕ → List ℕ → List ℕ
-line_and_end s here text = line_without_layout (meaning_of_name s.registers) s.marks here text ++ 10 ∷ []
+line_and_end s here text = line_without_layout s here text ++ 10 ∷ []
 
 -- the lines after so many lines, each with its end
 unfoldable pub lines_without_layout : LayoutKnowledge → ℕ → List (List ℕ) → List ℕ

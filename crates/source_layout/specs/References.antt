@@ -1,12 +1,17 @@
--- What stands in a line for another line's place: `%BT10` for a numbered label, `@` for the end of a
--- layout, and `:INDEX:`, which is left out since a field's name is its index (ARM Assembler manual,
--- "Local labels", "Directives").
-use Rattle.std.specs.Prelude.{ℕ, Bool, not, ◌==◌, ◌||◌, List, [], ◌∷◌, ◌++◌, drop, codes, decimal, Option, Some, None, if◌then◌else◌}
+-- What stands in a line for another line's place: `%BT10` for a numbered label, `@` for the end of
+-- a layout, `?name` for how many bytes the line of a name takes, and `:INDEX:`, which is left out
+-- since a field's name is its index (ARM Assembler manual, "Local labels", "Directives").
+use Rattle.std.specs.Prelude.{ℕ, Bool, not, ◌==◌, ◌||◌, List, [], ◌∷◌, ◌++◌, drop, codes, decimal, Option, Some, None, is_some, if◌then◌else◌}
 use Rattle.std.specs.Char.{to_ascii_lowercase}
 use Rattle.std.specs.List.{prefix_len}
 use Rattle.assembler_names.specs.Expressions.{numeral}
 use Rattle.assembler_names.specs.Words.{after_word, byte, is_same_name, word}
 use Rattle.assembler_text.specs.Numbers.{number_text}
+use Rattle.source_words.specs.Names.{NameLookup}
+use Rattle.source_words.specs.Sums.{plain_number}
+use Rattle.source_words.specs.Words.{name_at}
+use Rattle.source_words.specs.declared.names.Meaning.{Meaning}
+use Rattle.source_words.specs.declared.names.Meaning.TheVariants as meaning
 use Rattle.source_layout.specs.Marks.{line_of_reference, place_before}
 use Rattle.source_layout.specs.declared.marks.LabelReference.{LabelReference}
 use Rattle.source_layout.specs.declared.marks.MarkedLine.{MarkedLine}
@@ -60,16 +65,27 @@ index_or_byte text =
     if is_same_name (word text) (codes "INDEX") then index_after_name text (byte 58 (after_word text))
     else (pieces.Bytes, text)
 
+abbrev pub size_or_bytes : List ℕ → Option (List ℕ × List ℕ) → LinePiece × List ℕ
+size_or_bytes text (Some n) = (pieces.Size, n.1)
+size_or_bytes text None = (pieces.Bytes, text)
+
+-- what follows `?`: a name without bars (124)
+abbrev pub size_or_byte : List ℕ → LinePiece × List ℕ
+size_or_byte text = if is_some (byte 124 text) then (pieces.Bytes, text)
+    else size_or_bytes text (name_at text)
+
 abbrev pub piece_after : ℕ → List ℕ → LinePiece × List ℕ
 piece_after c rest =
     if c == 59 then (pieces.Bytes, []) else (
     if is_quote c then (pieces.Bytes, after_quote c rest) else (
     if c == 37 then reference_or_byte rest (reference_at rest) else (
     if c == 64 then (pieces.Place, rest) else (
-    if c == 58 then index_or_byte rest else (pieces.Bytes, rest)))))
+    if c == 58 then index_or_byte rest else (
+    if c == 63 then size_or_byte rest else (pieces.Bytes, rest))))))
 
 -- the piece at the front of a text: a comment (59 is `;`), what stands between quotes or bars, a
--- reference (37 is `%`), a place (64 is `@`), `:INDEX:` (58 is the colon) or a byte
+-- reference (37 is `%`), a place (64 is `@`), `:INDEX:` (58 is the colon), a size (63 is `?`) or a
+-- byte
 unfoldable pub piece_at : List ℕ → LinePiece × List ℕ
 piece_at [] = (pieces.Bytes, [])
 piece_at (c ∷ rest) = piece_after c rest
@@ -82,9 +98,27 @@ abbrev pub name_or_bytes : List ℕ → ℕ → Option ℕ → List ℕ
 name_or_bytes bytes n (Some line) = numbered_label_name n line
 name_or_bytes bytes n None = bytes
 
+abbrev pub number_of_meaning : Option Meaning → Option ℕ
+number_of_meaning (Some (meaning.Value f)) = plain_number f
+number_of_meaning _ = None
+
+abbrev pub size_of_named : NameLookup → Option (List ℕ × List ℕ) → Option ℕ
+size_of_named sizes (Some n) = number_of_meaning (sizes n.0)
+size_of_named sizes None = None
+
+abbrev pub number_or_bytes_of_size : List ℕ → Option ℕ → List ℕ
+number_or_bytes_of_size bytes (Some n) = number_text n
+number_or_bytes_of_size bytes None = bytes
+
+-- the size of the name behind `?`, if it is known
+abbrev pub size_piece_text : NameLookup → List ℕ → List ℕ
+size_piece_text sizes bytes = number_or_bytes_of_size bytes (size_of_named sizes (name_at (drop 1 bytes)))
+
 -- the text of a piece, which was read from these bytes
-abbrev pub piece_text : List MarkedLine → ℕ → List ℕ → LinePiece → List ℕ
-piece_text ms here bytes pieces.Bytes = bytes
-piece_text ms here bytes (pieces.Reference r) = name_or_bytes bytes r.number (line_of_reference ms here r)
-piece_text ms here bytes pieces.Place = number_text (place_before here ms)
-piece_text ms here bytes pieces.Index = []
+abbrev pub piece_text : NameLookup → List MarkedLine → ℕ → List ℕ → LinePiece → List ℕ
+piece_text sizes ms here bytes pieces.Bytes = bytes
+piece_text sizes ms here bytes (pieces.Reference r) =
+    name_or_bytes bytes r.number (line_of_reference ms here r)
+piece_text sizes ms here bytes pieces.Place = number_text (place_before here ms)
+piece_text sizes ms here bytes pieces.Index = []
+piece_text sizes ms here bytes pieces.Size = size_piece_text sizes bytes

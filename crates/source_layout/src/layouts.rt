@@ -1,17 +1,19 @@
 //! What is known of the layouts and the numbered labels of a source.
 
-ghost use Rattle.std.specs.Prelude.{◌≡◌, OnOk};
+ghost use Rattle.std.specs.Prelude.{◌≡◌, IfOk, OnOk};
 ghost use Rattle.assembler_names.specs.Words.{read_of};
-ghost use Rattle.source_layout.specs.Layouts.{field_size, label_and_rest, layout_work, named_layout_work, no_layout, number_read, start_operands, started_unless, with_field, with_field_mark, with_field_name, with_line, with_line_mark, with_layout_name, with_name_if, with_field_register, with_unmarked};
+ghost use Rattle.source_layout.specs.Layouts.{field_size, known_pieces, label_and_rest, layout_work, line_with_known_pieces, named_layout_work, no_layout, number_read, start_operands, started_unless, with_field, with_field_mark, with_field_name, with_field_size, with_line, with_line_mark, with_layout_name, with_meaning, with_name_if, with_field_register, with_sized_field, with_start, with_unmarked};
 ghost use Rattle.source_words.specs.Names.{meaning_of_name};
 
 use crate::marks::{LineMark, MarkedLine, mark_of_line};
+use crate::pieces::{operands_after, push_pieces, push_with_pieces};
 use assembler_names::words::{Read, after_word, is_name, word};
 use source_lines::meaning_of_line;
 use source_words::words::{after_blanks, is_end, name_at, symbol};
 use source_words::{AddressSum, Meaning, Names, source_register, source_sum};
 use std::alloc::{AllocError, Global};
 use std::marker::Model;
+use view_items::TextSink;
 
 /// What a line of a layout asks for.
 #[derive(Clone, Copy, Debug, PartialEq, Eq)]
@@ -29,12 +31,14 @@ pub struct LayoutStart {
     pub offset: u32,
 }
 
-/// What is known of the layouts and the numbered labels of a source: its names, the registers of
-/// its fields, the lines that have a mark, and by which register and where the next field is found.
+/// What is known of the layouts and the numbered labels of a source: its names, the registers and
+/// the sizes of its fields, the lines that have a mark, and by which register and where the next
+/// field is found.
 #[derive(Drop)]
 pub struct SourceLayout<'a> {
     names: Names<'a>,
     registers: Names<'a>,
+    sizes: Names<'a>,
     marks: Vec<MarkedLine>,
     base: Option<u8>,
     next: u32,
@@ -48,6 +52,7 @@ impl<'a> Model for SourceLayout<'a> {
     ghost view = { λ s. record {
       names = s.names;
       registers = s.registers;
+      sizes = s.sizes;
       marks = s.marks.items;
       base = s.base;
       next = s.next;
@@ -62,6 +67,7 @@ impl<'a> SourceLayout<'a> {
         SourceLayout {
             names: Names::new(alloc),
             registers: Names::new(alloc),
+            sizes: Names::new(alloc),
             marks: Vec::new(alloc),
             base: None,
             next: 0,
@@ -82,38 +88,122 @@ impl<'a> SourceLayout<'a> {
         &self.registers
     }
 
+    /// The sizes of fields.
+    pub(crate) fn sizes(&self) -> &Names<'a>
+        ensures { result.now ≡ self.now.sizes }
+    {
+        &self.sizes
+    }
+
     /// With one more line.
     #[tactic(auto, unfolding(crate::specs::Layouts::with_line))]
-    pub(crate) fn collect(&mut self, line: usize, text: &'a [u8]) -> Result<(), AllocError>
+    pub(crate) fn collect(
+        &mut self,
+        alloc: Global,
+        line: usize,
+        text: &'a [u8],
+    ) -> Result<(), AllocError>
         ensures { OnOk result (self.new ≡ with_line line self.old text.now) }
     {
         match mark_of_line(text) {
             Some(mark) => self.mark(line, mark),
-            None => self.collect_unmarked(line, text),
+            None => self.collect_unmarked(alloc, line, text),
         }
     }
 
-    fn collect_unmarked(&mut self, line: usize, text: &'a [u8]) -> Result<(), AllocError>
+    fn collect_unmarked(
+        &mut self,
+        alloc: Global,
+        line: usize,
+        text: &'a [u8],
+    ) -> Result<(), AllocError>
         ensures { OnOk result (self.new ≡ with_unmarked line self.old text.now (label_and_rest text.now)) }
     {
         let (label, rest) = label_and_rest(text);
         match layout_work(rest) {
             Some((LayoutWork::Start, operands)) => {
-                let start = start_operands(&self.names, line, operands);
-                self.start(line, label, start)
+                let operands = self.known_pieces(alloc, line, operands)?;
+                self.collect_start(line, label, operands.as_slice())
             }
             Some((LayoutWork::Field, operands)) => {
-                let size = field_size(&self.names, line, operands);
-                self.field(line, label, size)
+                let operands = self.known_pieces(alloc, line, operands)?;
+                self.collect_field(line, label, operands.as_slice())
             }
             None => {
-                let meaning = match meaning_of_line(&self.names, line, text) {
-                    Ok(meaning) => meaning,
-                    Err(_) => None,
-                };
-                self.name_if(label, meaning)
+                let known = self.line_with_known_pieces(alloc, line, text, rest)?;
+                self.collect_meaning(line, label, known.as_slice())
             }
         }
+    }
+
+    // The pieces of a text.
+    fn known_pieces(&self, alloc: Global, here: usize, text: &[u8]) -> Result<Vec<u8>, AllocError>
+        ensures { IfOk result (λ pieces. pieces.items ≡ known_pieces self.now here text.now) }
+    {
+        let mut sink = TextSink::new(alloc);
+        match push_pieces(&self.sizes, &self.marks, here, text, &mut sink) {
+            Ok(()) => Ok(sink.into_bytes()),
+            Err(_) => Err(AllocError),
+        }
+    }
+
+    // A line as it stands, but for the pieces behind the first byte of its operation.
+    fn line_with_known_pieces(
+        &self,
+        alloc: Global,
+        here: usize,
+        text: &[u8],
+        rest: &[u8],
+    ) -> Result<Vec<u8>, AllocError>
+        ensures { IfOk result (λ line. line.items
+            ≡ line_with_known_pieces self.now here text.now rest.now) }
+    {
+        let mut sink = TextSink::new(alloc);
+        let operands = operands_after(rest);
+        match push_with_pieces(&self.sizes, &self.marks, here, text, operands, &mut sink) {
+            Ok(()) => Ok(sink.into_bytes()),
+            Err(_) => Err(AllocError),
+        }
+    }
+
+    fn collect_start(
+        &mut self,
+        line: usize,
+        label: &[u8],
+        operands: &[u8],
+    ) -> Result<(), AllocError>
+        ensures { OnOk result (self.new ≡ with_start line self.old label.now operands.now) }
+    {
+        let start = start_operands(&self.names, line, operands);
+        self.start(line, label, start)
+    }
+
+    fn collect_field(
+        &mut self,
+        line: usize,
+        label: &'a [u8],
+        operands: &[u8],
+    ) -> Result<(), AllocError>
+        ensures { OnOk result (self.new ≡ with_sized_field line self.old label.now operands.now) }
+    {
+        let size = field_size(&self.names, line, operands);
+        self.field(line, label, size)
+    }
+
+    // With what the label of a line means.
+    fn collect_meaning(
+        &mut self,
+        line: usize,
+        label: &'a [u8],
+        text: &[u8],
+    ) -> Result<(), AllocError>
+        ensures { OnOk result (self.new ≡ with_meaning line self.old label.now text.now) }
+    {
+        let meaning = match meaning_of_line(&self.names, line, text) {
+            Ok(meaning) => meaning,
+            Err(_) => None,
+        };
+        self.name_if(label, meaning)
     }
 
     fn start(
@@ -145,7 +235,7 @@ impl<'a> SourceLayout<'a> {
         if self.names.find(label).is_some() {
             return Ok(());
         }
-        self.name_field(label)?;
+        self.name_field(label, size)?;
         self.mark_field(line, size)
     }
 
@@ -158,15 +248,16 @@ impl<'a> SourceLayout<'a> {
         self.mark(line, LineMark::Layout { before, after })
     }
 
-    fn name_field(&mut self, label: &'a [u8]) -> Result<(), AllocError>
-        ensures { OnOk result (self.new ≡ with_field_name self.old label.now) }
+    fn name_field(&mut self, label: &'a [u8], size: u32) -> Result<(), AllocError>
+        ensures { OnOk result (self.new ≡ with_field_name self.old label.now size) }
     {
         if label.is_empty() {
             return Ok(());
         }
         let meaning = Meaning::Value(AddressSum::number(self.next));
         self.name(label, meaning)?;
-        self.find_by(label, self.base)
+        self.find_by(label, self.base)?;
+        self.size(label, size)
     }
 
     fn name_if(&mut self, label: &'a [u8], meaning: Option<Meaning>) -> Result<(), AllocError>
@@ -198,6 +289,17 @@ impl<'a> SourceLayout<'a> {
             }
             _ => Ok(()),
         }
+    }
+
+    // With how many bytes a field takes.
+    fn size(&mut self, label: &'a [u8], size: u32) -> Result<(), AllocError>
+        ensures { OnOk result (self.new ≡ with_field_size self.old label.now size) }
+    {
+        if self.sizes.find(label).is_some() {
+            return Ok(());
+        }
+        self.sizes
+            .put(label, Meaning::Value(AddressSum::number(size)))
     }
 
     fn mark(&mut self, line: usize, mark: LineMark) -> Result<(), AllocError>

@@ -5,6 +5,7 @@ pub mod fields;
 pub mod layouts;
 pub mod lines;
 pub mod marks;
+pub mod pieces;
 pub mod references;
 
 pub use layouts::SourceLayout;

@@ -1,10 +1,13 @@
-//! What stands in a line for another line's place: references to numbered labels, and `@`.
+//! What stands in a line for another line's place: references to numbered labels, `@`, and the
+//! sizes of names.
 
 ghost use Rattle.std.specs.Prelude.{◌≡◌, ◌≤◌, ◌==◌, not, length};
 ghost use Rattle.std.specs.List.{prefix_len};
 ghost use Rattle.profile.specs.Output.{Writes};
 ghost use Rattle.assembler_names.specs.Words.{read_of};
-ghost use Rattle.source_layout.specs.References.{after_level, after_quote, index_or_byte, is_quote, numbered_label_name, piece_after, piece_at, piece_text, reference_at, way_at};
+ghost use Rattle.source_layout.specs.References.{after_level, after_quote, index_or_byte, is_quote, numbered_label_name, piece_after, piece_at, piece_text, reference_at, size_of_named, size_or_byte, size_piece_text, way_at};
+ghost use Rattle.source_words.specs.Names.{meaning_of_name};
+ghost use Rattle.source_words.specs.Words.{name_at};
 
 use crate::marks::{LabelReference, MarkedLine, Way, line_of_reference, place_before};
 use assembler_names::numerals::numeral;
@@ -12,6 +15,9 @@ use assembler_names::words::{Read, after_word, byte, is_name, word};
 use itoa::Buffer;
 use profile::{Sink, WriteFault, push_all, push_parts};
 use source_lines::places::push_number;
+use source_mnemonics::spellings::behind;
+use source_words::words::name_at;
+use source_words::{Meaning, Names};
 
 /// A piece of a line.
 #[derive(Clone, Copy, Debug, PartialEq, Eq)]
@@ -23,6 +29,8 @@ pub enum LinePiece {
     Place,
     /// `:INDEX:`, which is left out, since a field's name is its index.
     Index,
+    /// `?` and a name: how many bytes the line of the name takes.
+    Size,
 }
 
 /// The piece at the front of a text, and what follows it: a comment, what stands between quotes or
@@ -53,8 +61,23 @@ fn piece_after(c: u8, rest: &[u8]) -> (LinePiece, &[u8])
         (LinePiece::Place, rest)
     } else if c == b':' {
         index_or_byte(rest)
+    } else if c == b'?' {
+        size_or_byte(rest)
     } else {
         (LinePiece::Bytes, rest)
+    }
+}
+
+// What follows `?`: a name without bars.
+fn size_or_byte(text: &[u8]) -> (LinePiece, &[u8])
+    ensures { (result.0, result.1.now) ≡ size_or_byte text.now }
+{
+    if byte(b'|', text).is_some() {
+        return (LinePiece::Bytes, text);
+    }
+    match name_at(text) {
+        Some((_, rest)) => (LinePiece::Size, rest),
+        None => (LinePiece::Bytes, text),
     }
 }
 
@@ -130,8 +153,9 @@ fn after_level(text: &[u8]) -> &[u8]
 }
 
 /// Writes a piece, which was read from these bytes: the name of a label for a reference to it, and
-/// a number for a place.
+/// a number for a place or the size of a name.
 pub fn push_piece<W: Sink>(
+    sizes: &Names,
     marks: &[MarkedLine],
     here: usize,
     bytes: &[u8],
@@ -139,7 +163,7 @@ pub fn push_piece<W: Sink>(
     sink: &mut W,
 ) -> Result<(), WriteFault>
     ensures { Writes W.contents W.has_failed sink.old sink.new result
-        (piece_text marks.now here bytes.now piece) }
+        (piece_text (meaning_of_name sizes.now) marks.now here bytes.now piece) }
 {
     match piece {
         LinePiece::Bytes => push_all(sink, bytes),
@@ -149,6 +173,28 @@ pub fn push_piece<W: Sink>(
         },
         LinePiece::Place => push_number(place_before(here, marks), sink),
         LinePiece::Index => Ok(()),
+        LinePiece::Size => push_size(sizes, bytes, sink),
+    }
+}
+
+// The size of the name behind `?`, if it is known.
+fn push_size<W: Sink>(sizes: &Names, bytes: &[u8], sink: &mut W) -> Result<(), WriteFault>
+    ensures { Writes W.contents W.has_failed sink.old sink.new result
+        (size_piece_text (meaning_of_name sizes.now) bytes.now) }
+{
+    match size_of_named(sizes, behind(bytes, 1)) {
+        Some(size) => push_number(size, sink),
+        None => push_all(sink, bytes),
+    }
+}
+
+fn size_of_named(sizes: &Names, text: &[u8]) -> Option<u32>
+    ensures { result ≡ size_of_named (meaning_of_name sizes.now) (name_at text.now) }
+{
+    let (name, _) = name_at(text)?;
+    match sizes.find(name) {
+        Some(Meaning::Value(sum)) => sum.plain_number(),
+        _ => None,
     }
 }
 

@@ -1,7 +1,7 @@
 -- The lines of a source by what a reading found: a line that says all by itself stays as it is.
 use Rattle.std.specs.Prelude.{ℕ, suc, Bool, true, false, not, ◌%◌, ◌==◌, ◌&&◌, List, [], ◌∷◌, ◌++◌, length, Option, Some, None, Result, Ok, Err, if◌then◌else◌}
 use Rattle.arm_decode.specs.declared.condition.Condition.{Condition}
-use Rattle.source_choices.specs.Conditions.{condition_of_text}
+use Rattle.source_choices.specs.Conditions.{condition_at_place}
 use Rattle.source_layout.specs.Layouts.{label_and_rest}
 use Rattle.source_layout.specs.Lines.{bytes_before}
 use Rattle.source_lines.specs.Works.{work_at}
@@ -58,7 +58,7 @@ abbrev pub work_placed : PlaceWork → NameLookup → ℕ → ℕ → List ℕ �
 work_placed (works.LongAddress c) seen here place text label operands =
     reach_or_line c text label (reach_of seen here operands)
 work_placed works.Assertion seen here place text label operands =
-    asserted_line text (condition_of_text seen here operands)
+    asserted_line text (condition_at_place seen here (Some place) operands)
 work_placed w seen here place text label operands =
     numbers_or_line w place text label (line_numbers seen here operands)
 

@@ -3,7 +3,7 @@
 ghost use Rattle.std.specs.Prelude.{◌≡◌, IfOk};
 ghost use Rattle.std.specs.Str.Lines.{lines};
 ghost use Rattle.profile.specs.Output.{Writes};
-ghost use Rattle.source_choices.specs.Conditions.{condition_of_text};
+ghost use Rattle.source_choices.specs.Conditions.{condition_at_place};
 ghost use Rattle.source_places.specs.Units.{line_numbers};
 ghost use Rattle.source_places.specs.Placing.{asserted_line, numbers_or_line, numbers_placed, placed_by_work, placed_line, placed_lines, placed_seen, units_placed, work_placed};
 ghost use Rattle.source_places.specs.Reaches.{reach_line};
@@ -23,7 +23,7 @@ use crate::ways::is_placed;
 use crate::works::{PlaceWork, place_work_at};
 use arm_decode::Condition;
 use profile::{Sink, WriteFault, push_all};
-use source_choices::conditions::condition_of_text;
+use source_choices::conditions::condition_at_place;
 use source_layout::layouts::label_and_rest;
 use source_layout::lines::bytes_before;
 use source_words::Names;
@@ -127,7 +127,7 @@ fn work_placed(
             Some((reach, comment)) => reach_placed(alloc, condition, reach, text, label, comment),
             None => copied(alloc, text),
         },
-        PlaceWork::Assertion => copied(alloc, asserted(seen, here, text, operands)),
+        PlaceWork::Assertion => copied(alloc, asserted(seen, here, place, text, operands)),
         _ => numbers_or_line(alloc, work, seen, here, place, text, label, operands),
     }
 }
@@ -155,11 +155,11 @@ fn numbers_or_line(
 }
 
 // A line whose condition holds is left out.
-fn asserted<'t>(seen: &Names, here: usize, text: &'t [u8], operands: &[u8]) -> &'t [u8]
+fn asserted<'t>(seen: &Names, here: usize, place: u32, text: &'t [u8], operands: &[u8]) -> &'t [u8]
     ensures { result.now ≡ asserted_line text.now
-        (condition_of_text (meaning_of_name seen.now) here operands.now) }
+        (condition_at_place (meaning_of_name seen.now) here (Some place) operands.now) }
 {
-    match condition_of_text(seen, here, operands) {
+    match condition_at_place(seen, here, Some(place), operands) {
         Ok(true) => b"",
         Ok(false) | Err(_) => text,
     }

@@ -30,5 +30,5 @@ decreases-truth_in_parentheses l = 10 * l.nesting + 2
 -- the truths that are left, after those so far
 abbrev pub invariant-more_truths-loop-truths : goal.invariant-more_truths-loop-truths
 invariant-more_truths-loop-truths l =
-    more_truths (length l.text - l._truths) (signed_truth (meaning_of_name l.names) l.here (condition_within (meaning_of_name l.names) l.here l.nesting)) l.holds l.rest
-    ≡ more_truths (length l.text) (signed_truth (meaning_of_name l.names) l.here (condition_within (meaning_of_name l.names) l.here l.nesting)) l.fn.first l.text
+    more_truths (length l.text - l._truths) (signed_truth (meaning_of_name l.names) l.here l.place (condition_within (meaning_of_name l.names) l.here l.place l.nesting)) l.holds l.rest
+    ≡ more_truths (length l.text) (signed_truth (meaning_of_name l.names) l.here l.place (condition_within (meaning_of_name l.names) l.here l.place l.nesting)) l.fn.first l.text
