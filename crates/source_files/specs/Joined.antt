@@ -16,6 +16,14 @@ origin_at number line_number = record { file = number; line = line_number }
 abbrev pub with_joined_line : JoinedText → LineOrigin → List ℕ → JoinedText
 with_joined_line j o line = record { text = j.text ++ (line ++ 10 ∷ []); origins = j.origins ++ o ∷ [] }
 
+-- with the lines of another behind
+abbrev pub with_joined_lines : JoinedText → JoinedText → JoinedText
+with_joined_lines j more = record { text = j.text ++ more.text; origins = j.origins ++ more.origins }
+
+-- the same lines in other words
+abbrev pub joined_with_text : JoinedText → List ℕ → JoinedText
+joined_with_text j text = record { text = text; origins = j.origins }
+
 -- the line behind one
 abbrev pub origin_after : LineOrigin → LineOrigin
 origin_after o = origin_at o.file (min (o.line + 1) (2 ^ 64 - 1))

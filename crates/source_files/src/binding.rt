@@ -3,14 +3,15 @@
 ghost use Rattle.std.specs.Prelude.{◌≡◌, ◌≤◌, length, IfOk};
 ghost use Rattle.std.specs.List.{flat_map, prefix_len};
 ghost use Rattle.profile.specs.Output.{Writes};
-ghost use Rattle.source_files.specs.Binding.{binding_line, is_in_bound_name, value_bound};
+ghost use Rattle.source_files.specs.Binding.{binding_line, bound_line, import_line, is_in_bound_name, value_bound, value_line};
 
 use assembler_names::words::byte;
 use profile::{Sink, WriteFault, push_parts};
 use std::alloc::{AllocError, Global};
 use view_items::TextSink;
 
-/// The lines of a source that bind names, of which each of these is one: `NAME=VALUE`.
+/// The lines of a source that bind names, of which each of these is one: `NAME=VALUE`, or
+/// `NAME=%64` for a room of so many bytes.
 ///
 /// # Errors
 ///
@@ -35,19 +36,51 @@ fn push_bindings<W: Sink>(bindings: &[&[u8]], sink: &mut W) -> Result<(), WriteF
     Ok(())
 }
 
-// `|NAME| EQU VALUE`.
 fn push_binding<W: Sink>(binding: &[u8], sink: &mut W) -> Result<(), WriteFault>
     ensures { Writes W.contents W.has_failed sink.old sink.new result (binding_line binding.now) }
 {
     let len = bound_name_len(binding);
+    push_bound(&binding[..len], value_bound(&binding[len..]), sink)
+}
+
+// A value after `%` is a size.
+fn push_bound<W: Sink>(name: &[u8], value: &[u8], sink: &mut W) -> Result<(), WriteFault>
+    ensures { Writes W.contents W.has_failed sink.old sink.new result (bound_line name.now value.now) }
+{
+    match byte(b'%', value) {
+        Some(size) => push_import(name, size, sink),
+        None => push_value(name, value, sink),
+    }
+}
+
+// `|NAME| EQU VALUE`.
+fn push_value<W: Sink>(name: &[u8], value: &[u8], sink: &mut W) -> Result<(), WriteFault>
+    ensures { Writes W.contents W.has_failed sink.old sink.new result (value_line name.now value.now) }
+{
     push_parts(
         sink,
         &[
             b"|".as_slice(),
-            &binding[..len],
+            name,
             b"| EQU ".as_slice(),
-            value_bound(&binding[len..]),
+            value,
             b"\n".as_slice(),
+        ],
+    )
+}
+
+// ` IMPORT |NAME| [SIZE=64]`.
+fn push_import<W: Sink>(name: &[u8], size: &[u8], sink: &mut W) -> Result<(), WriteFault>
+    ensures { Writes W.contents W.has_failed sink.old sink.new result (import_line name.now size.now) }
+{
+    push_parts(
+        sink,
+        &[
+            b" IMPORT |".as_slice(),
+            name,
+            b"| [SIZE=".as_slice(),
+            size,
+            b"]\n".as_slice(),
         ],
     )
 }

@@ -8,7 +8,7 @@ use assembler_names::words::{after_word, is_name, word};
 use source_words::words::after_blanks;
 
 /// Whether END stands on a line.
-pub(crate) fn is_end_line(line: &[u8]) -> bool
+pub fn is_end_line(line: &[u8]) -> bool
     ensures { result ≡ is_end_line line.now }
 {
     is_name(word(operation_at(line)), b"END")

@@ -1,7 +1,7 @@
 //! The lines of several files as one text.
 
 ghost use Rattle.std.specs.Prelude.{◌≡◌, OnOk};
-ghost use Rattle.source_files.specs.Joined.{no_lines, origin_after, origin_behind, origin_of_line, with_joined_line};
+ghost use Rattle.source_files.specs.Joined.{joined_with_text, no_lines, origin_after, origin_behind, origin_of_line, with_joined_line, with_joined_lines};
 
 use std::alloc::{AllocError, Global};
 use std::marker::Model;
@@ -64,6 +64,28 @@ impl JoinedSource {
         self.text.extend_from_slice(line)?;
         self.text.extend_from_slice(b"\n")?;
         Ok(self.origins.push(origin)?)
+    }
+
+    /// With the lines of another behind.
+    ///
+    /// # Errors
+    ///
+    /// There is no memory left.
+    pub fn append(&mut self, more: &JoinedSource) -> Result<(), AllocError>
+        ensures { OnOk result (self.new ≡ with_joined_lines self.old more.now) }
+    {
+        self.text.extend_from_slice(&more.text)?;
+        Ok(self.origins.extend_from_slice(&more.origins)?)
+    }
+
+    /// The same lines in other words: a line of the text for each.
+    pub fn with_text(self, text: Vec<u8>) -> JoinedSource
+        ensures { result ≡ joined_with_text self text.items }
+    {
+        JoinedSource {
+            text,
+            origins: self.origins,
+        }
     }
 }
 

@@ -7,5 +7,6 @@ pub mod joined;
 mod passes;
 
 pub use binding::binding_lines;
+pub use getting::is_end_line;
 pub use joined::{JoinedSource, LineOrigin};
 pub use passes::{file_text, joined_source, push_file};

@@ -1,7 +1,7 @@
 -- What lines give variables: GBLA and its kin, SETA and its kin (ARM Assembler manual, "Variables").
-use Rattle.std.specs.Prelude.{ℕ, Bool, true, false, ◌-◌, ◌^◌, ◌==◌, ◌&&◌, nat_lt, List, [], ◌++◌, length, Option, Some, None, Result, Ok, Err, if◌then◌else◌}
-use Rattle.source_choices.specs.Texts.{texts_of_operand}
+use Rattle.std.specs.Prelude.{ℕ, Bool, true, false, ◌-◌, ◌^◌, ◌==◌, nat_lt, List, ◌++◌, length, Option, Some, None, Result, Ok, Err, if◌then◌else◌}
 use Rattle.source_lines.specs.Addresses.{space_size}
+use Rattle.source_strings.specs.Strings.{string_of_operand}
 use Rattle.source_words.specs.Names.{meaning_of_name}
 use Rattle.source_words.specs.Words.{ReadOrRefused, after_blanks, is_end, name_at}
 use Rattle.source_words.specs.declared.refusal.WordRefusal.{WordRefusal}
@@ -12,6 +12,7 @@ use Rattle.source_variables.specs.Places.{text_place_behind, text_place_of}
 use Rattle.source_variables.specs.Variables.{first_value, variable_value, with_variable, with_variable_value}
 use Rattle.source_text.specs.Writing.{condition_here, source_line_kept, line_left_out}
 use Rattle.source_text.specs.declared.reader.VariablePlace.{VariablePlace}
+use Rattle.source_variables.specs.declared.texts.Working.TheVariants as workings
 use Rattle.source_variables.specs.declared.variables.VariableKind.{VariableKind}
 use Rattle.source_variables.specs.declared.variables.VariableKind.TheVariants as kinds
 use Rattle.source_variables.specs.declared.variables.VariableValue.{VariableValue}
@@ -33,13 +34,13 @@ with_local_value s number value = record s { locals = with_variable_value s.loca
 abbrev pub with_new_global : TextState → List ℕ → VariableValue → TextState
 with_new_global s name value = record s {
   texts = s.texts ++ name;
-  globals = with_variable s.globals (text_place_behind s.texts name []) value;
+  globals = with_variable s.globals (text_place_behind s.texts name) value;
 }
 
 abbrev pub with_new_local : TextState → List ℕ → VariableValue → TextState
 with_new_local s name value = record s {
   texts = s.texts ++ name;
-  locals = with_variable s.locals (text_place_behind s.texts name []) value;
+  locals = with_variable s.locals (text_place_behind s.texts name) value;
 }
 
 abbrev pub with_global_first : TextState → List ℕ → VariableValue → Option ℕ → TextState
@@ -82,38 +83,41 @@ value_of_read (Err e) = None
 -- the value of a number
 abbrev pub number_here : TextState → List ℕ → Option VariableValue
 number_here s text =
-    value_of_read (space_size (meaning_of_name s.names) (line_number s) (text_with_operands s text))
+    value_of_read (space_size (meaning_of_name s.names) (line_number s)
+    (text_with_operands s workings.Numbers text))
 
 abbrev pub value_of_truth : Result Bool WordRefusal → Option VariableValue
 value_of_truth (Ok true) = Some (variable_value kinds.Truth (2 ^ 32 - 1) (text_place_of 0 0))
 value_of_truth (Ok false) = Some (variable_value kinds.Truth 0 (text_place_of 0 0))
 value_of_truth (Err e) = None
 
-abbrev pub with_texts : TextState → List ℕ → List ℕ → TextState
-with_texts s one other = record s { texts = s.texts ++ (one ++ other) }
+-- the text that an operand is
+abbrev pub string_here : TextState → List ℕ → Option (List ℕ)
+string_here s text = string_of_operand (meaning_of_name s.names) (line_number s)
+    (text_with_operands s workings.Lengths text)
 
-abbrev pub value_of_texts : TextState → List ℕ → List ℕ → VariableValue
-value_of_texts s one other = variable_value kinds.Text 0 (text_place_behind s.texts one other)
+abbrev pub with_string_kept : TextState → List ℕ → TextState
+with_string_kept s value = record s { texts = s.texts ++ value }
 
--- no text of a variable is longer
-abbrev pub is_short_text : List ℕ → List ℕ → Bool
-is_short_text one other = nat_lt (length one) 1024 && nat_lt (length other) 1024
+abbrev pub value_of_string : TextState → List ℕ → VariableValue
+value_of_string s value = variable_value kinds.Text 0 (text_place_behind s.texts value)
 
-abbrev pub after_texts : TextState → List ℕ → VariablePlace → List ℕ → List ℕ → TextState
-after_texts s text p one other = if is_short_text one other
-    then line_left_out (with_value_at (with_texts s one other) p (value_of_texts s one other))
+-- no text of a variable has 1,024 bytes
+abbrev pub after_string : TextState → List ℕ → VariablePlace → List ℕ → TextState
+after_string s text p value = if nat_lt (length value) 1024
+    then line_left_out (with_value_at (with_string_kept s value) p (value_of_string s value))
     else source_line_kept s text
 
-abbrev pub after_text_set : TextState → List ℕ → Option VariablePlace → Option (List ℕ × List ℕ) → TextState
-after_text_set s text (Some p) (Some t) = after_texts s text p t.0 t.1
-after_text_set s text _ _ = source_line_kept s text
+abbrev pub after_string_set : TextState → List ℕ → Option VariablePlace → Option (List ℕ) → TextState
+after_string_set s text (Some p) (Some value) = after_string s text p value
+after_string_set s text _ _ = source_line_kept s text
 
 abbrev pub set_by_kind : TextState → List ℕ → Option VariablePlace → List ℕ → VariableKind → TextState
 set_by_kind s text place operands kinds.Number = after_value s text place (number_here s operands)
 set_by_kind s text place operands kinds.Truth =
     after_value s text place (value_of_truth (condition_here s operands))
 set_by_kind s text place operands kinds.Text =
-    after_text_set s text place (texts_of_operand (text_with_operands s operands))
+    after_string_set s text place (string_here s operands)
 
 -- after SETA and its kin: the variable is the one that the line begins with
 abbrev pub after_set : TextState → List ℕ → VariableKind → List ℕ → List ℕ → TextState

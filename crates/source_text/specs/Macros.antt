@@ -64,7 +64,7 @@ with_call_counted s = record s { called = one_higher s.called }
 abbrev pub macro_call_of : TextState → List ℕ → ℕ → OpenCall
 macro_call_of s text number = record {
   head = number;
-  text = text_place_behind s.texts text [];
+  text = text_place_behind s.texts text;
   back = one_higher s.next;
   locals = length s.locals.names;
   blocks = length s.blocks;

@@ -3,11 +3,14 @@ use Rattle.std.specs.Prelude.{ℕ, Bool, zero, suc, ◌==◌, List, [], ◌++◌
 use Rattle.source_layout.specs.Layouts.{label_and_rest}
 use Rattle.source_layout.specs.Lines.{bytes_before}
 use Rattle.source_text.specs.Knowledge.{TextState}
-use Rattle.source_text.specs.Lookups.{variable_here}
+use Rattle.source_text.specs.Lookups.{line_number, variable_here}
 use Rattle.source_variables.specs.Constants.{name_in_braces, name_measured, other_piece}
 use Rattle.source_words.specs.Names.{meaning_of_name}
 use Rattle.source_variables.specs.Pieces.{after_operand_piece, after_work_word}
+use Rattle.source_variables.specs.Texts.{operands_with_texts}
 use Rattle.source_variables.specs.Variables.{operand_value}
+use Rattle.source_variables.specs.declared.texts.Working.{Working}
+use Rattle.source_variables.specs.declared.texts.Working.TheVariants as workings
 use Rattle.source_variables.specs.declared.variables.VariableValue.{VariableValue}
 
 -- whether a name of the source stands in braces, as a register's may
@@ -34,12 +37,18 @@ operand_pieces (suc n) s text = if length text == 0 then []
     else operand_pieces_next (operand_pieces n s) s text (after_operand_piece text)
 
 -- a text with values for the names of variables
-abbrev pub text_with_operands : TextState → List ℕ → List ℕ
-text_with_operands s text = operand_pieces (length text) s text
+abbrev pub text_with_values : TextState → List ℕ → List ℕ
+text_with_values s text = operand_pieces (length text) s text
+
+-- the same with what operators make of texts
+abbrev pub text_with_operands : TextState → Working → List ℕ → List ℕ
+text_with_operands s w text =
+    operands_with_texts w (meaning_of_name s.names) (line_number s) (text_with_values s text)
 
 abbrev pub operands_after_work : TextState → List ℕ → List ℕ → List ℕ
-operands_after_work s text operands = bytes_before text operands ++ text_with_operands s operands
+operands_after_work s text operands =
+    bytes_before text operands ++ text_with_operands s workings.Numbers operands
 
--- a line with values for the names of variables
+-- a line with values for the names of variables, and with what operators make of texts
 abbrev pub line_with_operands : TextState → List ℕ → List ℕ
 line_with_operands s text = operands_after_work s text (after_work_word (label_and_rest text).1)

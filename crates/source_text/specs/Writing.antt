@@ -12,6 +12,7 @@ use Rattle.source_text.specs.Knowledge.{TextState}
 use Rattle.source_text.specs.Lookups.{line_at, line_number, one_higher, origin_here}
 use Rattle.source_text.specs.Operands.{line_with_operands, text_with_operands}
 use Rattle.source_text.specs.declared.reader.OpenBlock.{OpenBlock}
+use Rattle.source_variables.specs.declared.texts.Working.TheVariants as workings
 
 -- before the line behind
 abbrev pub gone_on : TextState → TextState
@@ -58,7 +59,8 @@ source_line_read s text = line_with_constant s (line_with_operands s text)
 -- whether a condition on the next line holds
 abbrev pub condition_here : TextState → List ℕ → Result Bool WordRefusal
 condition_here s text =
-    condition_of_text (meaning_of_name s.names) (line_number s) (text_with_operands s text)
+    condition_of_text (meaning_of_name s.names) (line_number s)
+    (text_with_operands s workings.Texts text)
 
 abbrev pub with_open_block : TextState → OpenBlock → TextState
 with_open_block s b = record s { blocks = s.blocks ++ b ∷ [] }

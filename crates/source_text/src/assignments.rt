@@ -1,18 +1,19 @@
 //! What lines give variables.
 
 ghost use Rattle.std.specs.Prelude.{◌≡◌, OnOk, IfOk, option_map};
-ghost use Rattle.source_text.specs.Assignments.{after_global, after_local, after_local_of_macro, after_set, after_text_set, after_texts, after_value, declared_operand, is_short_text, number_here, value_of_texts, value_of_truth, with_global_first, with_global_value, with_local_first, with_local_value, with_new_global, with_new_local, with_texts, with_value_at};
+ghost use Rattle.source_text.specs.Assignments.{after_global, after_local, after_local_of_macro, after_set, after_string, after_string_set, after_value, declared_operand, number_here, string_here, value_of_string, value_of_truth, with_global_first, with_global_value, with_local_first, with_local_value, with_new_global, with_new_local, with_string_kept, with_value_at};
 
 use crate::reader::{TextReader, VariablePlace};
-use source_choices::texts::texts_of_operand;
 use source_lines::addresses::space_size;
+use source_strings::strings::string_of_operand;
 use source_variables::places::TextPlace;
+use source_variables::texts::Working;
 use source_variables::variables::{VariableKind, VariableValue};
 use source_words::WordRefusal;
 use source_words::words::{after_blanks, is_end, name_at};
 use std::alloc::{AllocError, Global};
 
-// How many bytes of text a variable has, or half of them.
+// A variable's text has fewer bytes.
 const MOST_OF_TEXT: usize = 1024;
 
 impl<'a> TextReader<'a> {
@@ -31,7 +32,7 @@ impl<'a> TextReader<'a> {
     fn add_global(&mut self, name: &[u8], value: VariableValue) -> Result<(), AllocError>
         ensures { OnOk result (self.new ≡ with_new_global self.old name.now value) }
     {
-        let place = TextPlace::behind(&self.texts, name, b"");
+        let place = TextPlace::behind(&self.texts, name);
         self.texts.extend_from_slice(name)?;
         self.globals.put(place, value)
     }
@@ -39,7 +40,7 @@ impl<'a> TextReader<'a> {
     fn add_local(&mut self, name: &[u8], value: VariableValue) -> Result<(), AllocError>
         ensures { OnOk result (self.new ≡ with_new_local self.old name.now value) }
     {
-        let place = TextPlace::behind(&self.texts, name, b"");
+        let place = TextPlace::behind(&self.texts, name);
         self.texts.extend_from_slice(name)?;
         self.locals.put(place, value)
     }
@@ -170,7 +171,7 @@ impl<'a> TextReader<'a> {
     fn number_here(&self, alloc: Global, text: &[u8]) -> Result<Option<VariableValue>, AllocError>
         ensures { IfOk result (λ value. value ≡ number_here self.now text.now) }
     {
-        let operands = self.text_with_operands(alloc, text)?;
+        let operands = self.text_with_operands(alloc, Working::Numbers, text)?;
         match space_size(&self.names, self.line_number(), operands.as_slice()) {
             Ok((number, _)) => Ok(Some(VariableValue {
                 kind: VariableKind::Number,
@@ -181,54 +182,63 @@ impl<'a> TextReader<'a> {
         }
     }
 
-    fn put_texts(&mut self, one: &[u8], other: &[u8]) -> Result<(), AllocError>
-        ensures { OnOk result (self.new ≡ with_texts self.old one.now other.now) }
+    // The text that an operand is.
+    fn string_here(&self, alloc: Global, text: &[u8]) -> Result<Option<Vec<u8>>, AllocError>
+        ensures { IfOk result (λ found. option_map (λ t. t.items) found
+            ≡ string_here self.now text.now) }
     {
-        self.texts.extend_from_slice(one)?;
-        Ok(self.texts.extend_from_slice(other)?)
+        let operands = self.text_with_operands(alloc, Working::Lengths, text)?;
+        string_of_operand(alloc, &self.names, self.line_number(), operands.as_slice())
     }
 
-    fn value_of_texts(&self, one: &[u8], other: &[u8]) -> VariableValue
-        ensures { result ≡ value_of_texts self.now one.now other.now }
+    fn put_string(&mut self, value: &[u8]) -> Result<(), AllocError>
+        ensures { OnOk result (self.new ≡ with_string_kept self.old value.now) }
+    {
+        Ok(self.texts.extend_from_slice(value)?)
+    }
+
+    fn value_of_string(&self, value: &[u8]) -> VariableValue
+        ensures { result ≡ value_of_string self.now value.now }
     {
         VariableValue {
             kind: VariableKind::Text,
             number: 0,
-            text: TextPlace::behind(&self.texts, one, other),
+            text: TextPlace::behind(&self.texts, value),
         }
     }
 
-    fn assign_text(
+    fn assign_string(
         &mut self,
         alloc: Global,
         text: &[u8],
         place: Option<VariablePlace>,
-        texts: Option<(&[u8], &[u8])>,
+        value: Option<Vec<u8>>,
     ) -> Result<(), AllocError>
-        ensures { OnOk result (self.new ≡ after_text_set self.old text.now place
-            (option_map (λ t. (t.0.now, t.1.now)) texts.entry)) }
+        ensures { OnOk result (self.new ≡ after_string_set self.old text.now place
+            (option_map (λ t. t.items) value)) }
     {
-        match (place, texts) {
-            (Some(place), Some((one, other))) => self.assign_texts(alloc, text, place, one, other),
+        match (place, value) {
+            (Some(place), Some(value)) => {
+                self.assign_short_string(alloc, text, place, value.as_slice())
+            }
             _ => self.keep(alloc, text),
         }
     }
 
-    // Texts that are one, unless they are too long.
-    fn assign_texts(
+    // A text, unless it is too long.
+    fn assign_short_string(
         &mut self,
         alloc: Global,
         text: &[u8],
         place: VariablePlace,
-        one: &[u8],
-        other: &[u8],
+        value: &[u8],
     ) -> Result<(), AllocError>
-        ensures { OnOk result (self.new ≡ after_texts self.old text.now place one.now other.now) }
+        ensures { OnOk result (self.new ≡ after_string self.old text.now place value.now) }
     {
-        if is_short_text(one, other) {
-            let value = self.value_of_texts(one, other);
-            self.put_texts(one, other)?;
-            self.set_at(place, value);
+        if value.len() < MOST_OF_TEXT {
+            let kept = self.value_of_string(value);
+            self.put_string(value)?;
+            self.set_at(place, kept);
             self.leave_out()
         } else {
             self.keep(alloc, text)
@@ -257,17 +267,11 @@ impl<'a> TextReader<'a> {
                 self.assign_value(alloc, text, place, value_of_truth(holds))
             }
             VariableKind::Text => {
-                let values = self.text_with_operands(alloc, operands)?;
-                self.assign_text(alloc, text, place, texts_of_operand(values.as_slice()))
+                let value = self.string_here(alloc, operands)?;
+                self.assign_string(alloc, text, place, value)
             }
         }
     }
-}
-
-fn is_short_text(one: &[u8], other: &[u8]) -> bool
-    ensures { result ≡ is_short_text one.now other.now }
-{
-    one.len() < MOST_OF_TEXT && other.len() < MOST_OF_TEXT
 }
 
 /// The operand of GBLA.

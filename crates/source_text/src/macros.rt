@@ -130,7 +130,7 @@ impl<'a> TextReader<'a> {
     {
         OpenCall {
             head,
-            text: TextPlace::behind(&self.texts, text, b""),
+            text: TextPlace::behind(&self.texts, text),
             back: one_higher(self.next),
             locals: self.locals.len(),
             blocks: self.blocks.len(),

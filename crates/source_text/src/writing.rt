@@ -7,6 +7,7 @@ use crate::reader::{OpenBlock, TextReader, one_higher};
 use source_choices::conditions::condition_of_text;
 use source_layout::layouts::label_and_rest;
 use source_lines::meaning_of_line;
+use source_variables::texts::Working;
 use source_words::{Meaning, WordRefusal};
 use std::alloc::{AllocError, Global};
 
@@ -111,7 +112,7 @@ impl<'a> TextReader<'a> {
     ) -> Result<Result<bool, WordRefusal>, AllocError>
         ensures { IfOk result (λ holds. holds ≡ condition_here self.now text.now) }
     {
-        let operands = self.text_with_operands(alloc, text)?;
+        let operands = self.text_with_operands(alloc, Working::Texts, text)?;
         Ok(condition_of_text(&self.names, self.line_number(), operands.as_slice()))
     }
 

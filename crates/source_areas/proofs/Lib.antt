@@ -1,0 +1,3 @@
+pub mod Orders
+pub mod Permutations
+pub mod Readings
