@@ -4,3 +4,4 @@ pub mod Words
 pub mod Pieces
 pub mod Repeats
 pub mod Texts
+pub mod Setters

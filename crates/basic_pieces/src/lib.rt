@@ -4,6 +4,7 @@
 
 pub mod pieces;
 pub mod repeats;
+pub mod setters;
 pub mod texts;
 pub mod words;
 

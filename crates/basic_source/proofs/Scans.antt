@@ -4,6 +4,7 @@ use Rattle.std.specs.List.{list_any}
 use Rattle.basic_source.specs.Expressions.{loose_within}
 use Rattle.basic_pieces.specs.Pieces.{is_loose, basic_piece_at}
 use Rattle.basic_source.specs.Assignments.{is_register, statement_uses}
+use Rattle.basic_source.specs.StringSetters.{is_set_otherwise, statement_sets}
 use Rattle.basic_source.specs.Wanted.{is_mentioned, assembler_mentions, statement_wants, wanted_by}
 use Rattle.basic_source.specs.Statements.{BasicStatement, after_first, end_within, basic_statement_of}
 use Rattle.basic_source.specs.declared.statements.Statement.{Statement}
@@ -59,6 +60,11 @@ pub uses_any : (name : List ℕ) (all : List Statement) → list_any (λ s. stat
 unfolding is_register
 uses_any name [] = refl
 uses_any name (s ∷ rest) = uses_first name (statement_uses name (basic_statement_of s)) _ _ (uses_any name rest)
+
+pub sets_any : (name : List ℕ) (all : List Statement) → list_any (λ s. statement_sets name (basic_statement_of s)) all ≡ is_set_otherwise (map basic_statement_of all) name
+unfolding is_set_otherwise
+sets_any name [] = refl
+sets_any name (s ∷ rest) = uses_first name (statement_sets name (basic_statement_of s)) _ _ (sets_any name rest)
 
 pub mentioned_any : (name : List ℕ) (all : List Statement) → list_any (λ s. assembler_mentions name (basic_statement_of s)) all ≡ is_mentioned (map basic_statement_of all) name
 unfolding is_mentioned

@@ -4,7 +4,7 @@ use Rattle.std.specs.Prelude.{ℕ, Bool, true, false, not, ◌==◌, ◌&&◌, �
 use Rattle.std.specs.List.{ends_with}
 use Rattle.assembler_names.specs.Words.{is_same_name, word}
 use Rattle.source_words.specs.Words.{after_blanks, symbol}
-use Rattle.basic_source.specs.Expressions.{ends_after, expression_text}
+use Rattle.basic_source.specs.Expressions.{ends_after, expression_text, has_loose}
 use Rattle.basic_source.specs.Instructions.{assembler_text, uses_register}
 use Rattle.basic_source.specs.Statements.{BasicStatement, opens_assembler}
 use Rattle.basic_source.specs.Wanted.{assignment_at, is_needed}
@@ -59,13 +59,38 @@ name_behind (Some value) = name_at_end (basic_name (after_blanks value))
 unfoldable pub room_name : List ℕ → Option (List ℕ)
 room_name text = name_behind (symbol 61 text)
 
-abbrev pub place_of_room : List BasicStatement → Option (List ℕ) → List ℕ
-place_of_room all (Some name) = if is_needed all name then codes "|" ++ (name ++ codes "| EQU .") else []
-place_of_room all None = []
+-- what `+` (43) adds to the place, behind `=P%`
+abbrev pub added_to_place : Option (List ℕ) → Option (List ℕ)
+added_to_place None = None
+added_to_place (Some value) = symbol 43 value
 
--- what follows `P%`: the name of the room where the assembler is stands for the place
+abbrev pub place_again : Option (List ℕ) → Option (List ℕ)
+place_again None = None
+place_again (Some value) = added_to_place (after_keyword (codes "P%") (after_blanks value))
+
+unfoldable pub gap_size : List ℕ → Option (List ℕ)
+gap_size text = place_again (symbol 61 text)
+
+-- the size of a gap, unless an operator in it takes the place too
+abbrev pub sized_gap : List ℕ → List ℕ → List ℕ
+sized_gap text size = if has_loose size then codes " P%" ++ text
+    else codes " % " ++ expression_text (after_blanks size)
+
+abbrev pub gap_of : List ℕ → Option (List ℕ) → List ℕ
+gap_of text (Some size) = sized_gap text size
+gap_of text None = []
+
+-- `=P%+100` leaves a gap, which has zero bytes
+abbrev pub gap_text : List ℕ → List ℕ
+gap_text text = gap_of text (gap_size text)
+
+abbrev pub place_of_room : List BasicStatement → List ℕ → Option (List ℕ) → List ℕ
+place_of_room all text (Some name) = if is_needed all name then codes "|" ++ (name ++ codes "| EQU .") else []
+place_of_room all text None = gap_text text
+
+-- what follows `P%`: the name of the room where the assembler is stands for the place, or a gap is left
 unfoldable pub room_place_text : List BasicStatement → List ℕ → List ℕ
-room_place_text all text = place_of_room all (room_name text)
+room_place_text all text = place_of_room all text (room_name text)
 
 abbrev pub other_command : List BasicStatement → List ℕ → List ℕ
 other_command all text =

@@ -20,8 +20,18 @@ abbrev pub data_or_instruction : List BasicStatement → List ℕ → Option (Ba
 data_or_instruction all text (Some d) = basic_data_text all d.0 d.1
 data_or_instruction all text None = basic_instruction_text text
 
+-- a call of a function, which may lay down what it likes
+abbrev pub called_function_text : List ℕ → List ℕ
+called_function_text text = if is_some (after_keyword (codes "FN") text) then codes " " ++ text else []
+
+abbrev pub text_of_option : Option (List ℕ) → List ℕ
+text_of_option (Some rest) = called_function_text (after_blanks rest)
+text_of_option None = []
+
+-- OPT says nothing, but for a function that it calls
 abbrev pub basic_work_text : List BasicStatement → List ℕ → List ℕ
-basic_work_text all text = if is_option text then [] else data_or_instruction all text (basic_data_work text)
+basic_work_text all text = if is_option text then text_of_option (after_keyword (codes "OPT") text)
+    else data_or_instruction all text (basic_data_work text)
 
 abbrev pub label_and_work : List BasicStatement → List ℕ → Option (List ℕ × List ℕ) → List ℕ
 label_and_work all text (Some n) = (codes "|" ++ (n.0 ++ codes "|")) ++ basic_work_text all (after_blanks n.1)

@@ -3,11 +3,12 @@ pub use Rattle.basic_pieces
 pub mod Expressions
 pub mod Operands
 pub mod Instructions
-pub mod StringVariables
 pub mod Data
 pub mod Assignments
 pub mod Statements
 pub mod NameSets
 pub mod Wanted
+pub mod StringSetters
+pub mod StringVariables
 pub mod ListingNames
 pub mod Listing

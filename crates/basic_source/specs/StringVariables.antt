@@ -6,6 +6,7 @@ use Rattle.source_words.specs.Words.{after_blanks}
 use Rattle.basic_pieces.specs.Words.{basic_name, is_text_name}
 use Rattle.basic_source.specs.Statements.{BasicStatement}
 use Rattle.basic_pieces.specs.Texts.{after_front_of_texts, basic_texts_of, front_of_texts}
+use Rattle.basic_source.specs.StringSetters.{is_set_otherwise}
 use Rattle.basic_source.specs.Wanted.{assignment_at}
 
 -- names of strings and what stands behind `=`
@@ -42,9 +43,10 @@ abbrev pub short_value : Option (List ℕ) → Option (List ℕ)
 short_value None = None
 short_value (Some value) = if nat_le (length value) 255 then Some value else None
 
--- the value of a string variable, which one statement alone gives it, on a line of BASIC
+-- the value of a string variable, where an assignment alone gives it one, on a line of BASIC
 abbrev pub string_value : List BasicStatement → List ℕ → Option (List ℕ)
-string_value all name = short_value (only_value None (string_values all) name)
+string_value all name = if is_set_otherwise all name then None
+    else short_value (only_value None (string_values all) name)
 
 abbrev pub value_and_rest : List ℕ → Option (List ℕ) → Option (List ℕ × List ℕ)
 value_and_rest rest (Some value) = Some (value, rest)

@@ -23,9 +23,17 @@ abbrev pub assigned_name : Option (List ℕ × List ℕ) → Option (List ℕ ×
 assigned_name (Some n) = name_with_value n.0 (symbol 61 n.1)
 assigned_name None = None
 
+abbrev pub behind_let : List ℕ → Option (List ℕ) → List ℕ
+behind_let text (Some rest) = after_blanks rest
+behind_let text None = text
+
+-- LET says nothing
+abbrev pub after_let : List ℕ → List ℕ
+after_let text = behind_let text (after_keyword (codes "LET") text)
+
 -- the name before `=` (61), and what follows that
 abbrev pub assignment_at : List ℕ → Option (List ℕ × List ℕ)
-assignment_at text = assigned_name (basic_name text)
+assignment_at text = assigned_name (basic_name (after_let text))
 
 abbrev pub condition_has : List ℕ → Option (List ℕ) → Bool
 condition_has name (Some rest) = ends_with (λ a b. a == b) rest (codes "THEN") && basic_has_name name rest

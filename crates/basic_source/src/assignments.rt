@@ -2,9 +2,9 @@
 
 ghost use Rattle.std.specs.Prelude.{◌≡◌, option_map};
 ghost use Rattle.profile.specs.Output.{Writes};
-ghost use Rattle.basic_source.specs.Assignments.{assigned_text, assignment_text, basic_text, basic_command_text, basic_condition_text, meaning_word, other_command, room_place_text, room_name, up_to_then, wanted_text};
+ghost use Rattle.basic_source.specs.Assignments.{assigned_text, assignment_text, basic_text, basic_command_text, basic_condition_text, gap_size, gap_text, meaning_word, other_command, room_place_text, room_name, sized_gap, up_to_then, wanted_text};
 
-use crate::expressions::{ends_after, push_expression};
+use crate::expressions::{ends_after, has_loose, push_expression};
 use crate::instructions::push_assembler;
 use crate::named_listing::Listing;
 use crate::statements::opens_assembler;
@@ -74,7 +74,7 @@ fn up_to_then(text: &[u8]) -> &[u8]
     front(text, text.len().saturating_sub(4))
 }
 
-// What follows `P%`: the name of the room where the assembler is stands for the place.
+// What follows `P%`: the name of the room where the assembler is stands for the place, or a gap is left.
 #[tactic(auto, unfolding(crate::specs::Assignments::room_place_text))]
 fn push_place<W: Sink>(listing: &Listing, text: &[u8], sink: &mut W) -> Result<(), WriteFault>
     ensures { Writes W.contents W.has_failed sink.old sink.new result
@@ -84,8 +84,39 @@ fn push_place<W: Sink>(listing: &Listing, text: &[u8], sink: &mut W) -> Result<(
         Some(name) if listing.needs(name) => {
             push_parts(sink, &[b"|".as_slice(), name, b"| EQU .".as_slice()])
         }
-        _ => Ok(()),
+        Some(_) => Ok(()),
+        None => push_gap(text, sink),
     }
+}
+
+fn push_gap<W: Sink>(text: &[u8], sink: &mut W) -> Result<(), WriteFault>
+    ensures { Writes W.contents W.has_failed sink.old sink.new result (gap_text text.now) }
+{
+    match gap_size(text) {
+        Some(size) => push_sized_gap(text, size, sink),
+        None => Ok(()),
+    }
+}
+
+// A gap, which has zero bytes; where an operator takes the place too, the statement is refused.
+fn push_sized_gap<W: Sink>(text: &[u8], size: &[u8], sink: &mut W) -> Result<(), WriteFault>
+    ensures { Writes W.contents W.has_failed sink.old sink.new result (sized_gap text.now size.now) }
+{
+    if has_loose(size) {
+        return push_parts(sink, &[b" P%".as_slice(), text]);
+    }
+    push_all(sink, b" % ")?;
+    push_expression(after_blanks(size), sink)
+}
+
+// What `=P%+` stands before.
+#[tactic(auto, unfolding(crate::specs::Assignments::gap_size))]
+fn gap_size(text: &[u8]) -> Option<&[u8]>
+    ensures { option_map (λ s. s.now) result ≡ gap_size text.now }
+{
+    let value = symbol(b'=', text)?;
+    let behind = after_keyword(b"P%", after_blanks(value))?;
+    symbol(b'+', behind)
 }
 
 // The name that stands alone behind `=`.

@@ -55,8 +55,9 @@ pub fn push_expression<W: Sink>(text: &[u8], sink: &mut W) -> Result<(), WriteFa
     push_all(sink, b")))")
 }
 
+/// Whether an expression has an operator that joins more loosely than sums.
 #[tactic(auto, using(crate::proofs::Scans::loose_steps), unfolding(crate::specs::Expressions::has_loose))]
-fn has_loose(text: &[u8]) -> bool
+pub fn has_loose(text: &[u8]) -> bool
     ensures { result ≡ has_loose text.now }
 {
     let mut rest = text;

@@ -1,8 +1,8 @@
 //! Statements of the assembler.
 
-ghost use Rattle.std.specs.Prelude.{◌≡◌, OnOk};
+ghost use Rattle.std.specs.Prelude.{◌≡◌, option_map, OnOk};
 ghost use Rattle.profile.specs.Output.{Writes};
-ghost use Rattle.basic_source.specs.Instructions.{assembler_text, body_uses, basic_instruction_text, is_jump, is_option, labelled_text, uses_register, without_label, basic_work_text};
+ghost use Rattle.basic_source.specs.Instructions.{assembler_text, body_uses, basic_instruction_text, called_function_text, is_jump, is_option, labelled_text, text_of_option, uses_register, without_label, basic_work_text};
 ghost use Rattle.basic_source.specs.NameSets.{GainsNames};
 
 use crate::data::{basic_data_work, push_data};
@@ -50,11 +50,33 @@ fn push_work<W: Sink>(listing: &Listing, text: &[u8], sink: &mut W) -> Result<()
         (basic_work_text listing.now text.now) }
 {
     if is_option(text) {
-        return Ok(());
+        return push_option(after_keyword(b"OPT", text), sink);
     }
     match basic_data_work(text) {
         Some((data, operand)) => push_data(listing, data, operand, sink),
         None => push_instruction(text, sink),
+    }
+}
+
+// What follows OPT, which says nothing but for a function that it calls.
+fn push_option<W: Sink>(option: Option<&[u8]>, sink: &mut W) -> Result<(), WriteFault>
+    ensures { Writes W.contents W.has_failed sink.old sink.new result
+        (text_of_option (option_map (λ o. o.now) option.entry)) }
+{
+    match option {
+        Some(rest) => push_call(after_blanks(rest), sink),
+        None => Ok(()),
+    }
+}
+
+// A call of a function, which may lay down what it likes: its line is refused.
+fn push_call<W: Sink>(text: &[u8], sink: &mut W) -> Result<(), WriteFault>
+    ensures { Writes W.contents W.has_failed sink.old sink.new result (called_function_text text.now) }
+{
+    if after_keyword(b"FN", text).is_some() {
+        push_parts(sink, &[b" ".as_slice(), text])
+    } else {
+        Ok(())
     }
 }
 

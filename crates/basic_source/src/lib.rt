@@ -12,6 +12,7 @@ pub mod name_sets;
 pub mod named_listing;
 pub mod operands;
 pub mod statements;
+pub mod string_setters;
 pub mod string_variables;
 pub mod wanted;
 

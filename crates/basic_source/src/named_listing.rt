@@ -10,6 +10,7 @@ ghost use Rattle.basic_source.specs.Wanted.{is_needed};
 use crate::mentions::Mentions;
 use crate::name_sets::NameSet;
 use crate::statements::{Statement, read_statements};
+use crate::string_setters::names_set_otherwise;
 use crate::string_variables::{only_value, string_values};
 use crate::wanted::{needed_names, register_names};
 use std::alloc::{AllocError, Global};
@@ -25,6 +26,7 @@ pub struct Listing<'a> {
     statements: Vec<Statement<'a>>,
     needed: NameSet<'a>,
     registers: NameSet<'a>,
+    set_otherwise: NameSet<'a>,
     strings: Vec<(&'a [u8], &'a [u8])>,
 }
 
@@ -40,7 +42,7 @@ impl<'a> Model for Listing<'a> {
 
     ghost invariant = { λ l.
         AreListingNames (map basic_statement_of l.statements.items) l.needed l.registers
-        (shown_strings l.strings.items) };
+        l.set_otherwise (shown_strings l.strings.items) };
 }
 
 impl<'a> Listing<'a> {
@@ -56,11 +58,13 @@ impl<'a> Listing<'a> {
         let all = statements.as_slice();
         let needed = needed_names(alloc, &Mentions::of(alloc, all)?)?;
         let registers = register_names(alloc, all)?;
+        let set_otherwise = names_set_otherwise(alloc, all)?;
         let strings = string_values(alloc, all)?;
         Ok(Listing {
             statements,
             needed,
             registers,
+            set_otherwise,
             strings,
         })
     }
@@ -86,10 +90,13 @@ impl<'a> Listing<'a> {
         self.registers.has(name)
     }
 
-    /// What a string variable has, if one statement alone gives it a value, of 255 bytes at most.
+    /// What a string variable has, if a plain assignment alone gives it a value, of 255 bytes at most.
     pub fn string_value(&self, name: &[u8]) -> Option<&'a [u8]>
         ensures { option_map (λ v. v.now) result ≡ string_value self.now name.now }
     {
+        if self.set_otherwise.has(name) {
+            return None;
+        }
         match only_value(self.strings.as_slice(), name) {
             Some(value) if value.len() <= 255 => Some(value),
             _ => None,

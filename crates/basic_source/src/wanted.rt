@@ -4,7 +4,7 @@ ghost use Rattle.std.specs.Prelude.{◌≡◌, map, option_map, IfOk, OnOk};
 ghost use Rattle.basic_source.specs.Assignments.{is_register, statement_uses};
 ghost use Rattle.basic_source.specs.NameSets.{AreNamesThat, GainsNames};
 ghost use Rattle.basic_source.specs.Statements.{basic_statement_of};
-ghost use Rattle.basic_source.specs.Wanted.{assignment_at, condition_has, is_needed, outside_wants, statement_wants, value_has};
+ghost use Rattle.basic_source.specs.Wanted.{after_let, assignment_at, condition_has, is_needed, outside_wants, statement_wants, value_has};
 
 use crate::instructions::put_used;
 use crate::mentions::Mentions;
@@ -90,9 +90,19 @@ fn put_value<'a>(
 pub fn assignment_at(text: &[u8]) -> Option<(&[u8], &[u8])>
     ensures { option_map (λ a. (a.0.now, a.1.now)) result ≡ assignment_at text.now }
 {
-    let (name, rest) = basic_name(text)?;
+    let (name, rest) = basic_name(after_let(text))?;
     let value = symbol(b'=', rest)?;
     Some((name, value))
+}
+
+/// What follows LET at the front of a statement, which says nothing.
+pub fn after_let(text: &[u8]) -> &[u8]
+    ensures { result.now ≡ after_let text.now }
+{
+    match after_keyword(b"LET", text) {
+        Some(rest) => after_blanks(rest),
+        None => text,
+    }
 }
 
 /// The names that the assembler has as registers.
