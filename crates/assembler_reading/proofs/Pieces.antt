@@ -7,7 +7,8 @@ use Rattle.assembler_names.specs.Expressions.{sign}
 use Rattle.assembler_names.specs.Names.{register, register_named}
 use Rattle.assembler_names.specs.Words.{after_spaces, after_word, byte, comma, is_word_byte, word}
 
-front_len : (p : ℕ → Bool) (w rest : List ℕ) → list_all p w ≡ true → prefix_len p rest ≡ 0 → prefix_len p (w ++ rest) ≡ length w
+-- the front of a text that passes
+pub front_len : (p : ℕ → Bool) (w rest : List ℕ) → list_all p w ≡ true → prefix_len p rest ≡ 0 → prefix_len p (w ++ rest) ≡ length w
 front_len p [] rest all none = none
 front_len p (x ∷ w) rest all none = by (p x) refl (front_len p w rest)
   where

@@ -1,0 +1,11 @@
+pub mod Chains
+pub mod Translated
+pub mod Readings
+pub mod Signs
+pub mod Joints
+pub mod Leaves
+pub mod Lexed
+pub mod Tokens
+pub mod TreesLexed
+pub mod TreesRead
+pub mod Expressions
