@@ -49,9 +49,12 @@ conversion_of_known origins texts s address =
 abbrev pub conversion_of_lines : List LineOrigin → List (List ℕ) → ℕ → SourceConversion
 conversion_of_lines origins texts address = conversion_of_known origins texts (read_source texts) address
 
+abbrev pub conversion_of_plain : JoinedText → ℕ → SourceConversion
+conversion_of_plain j address = conversion_of_lines j.origins (lines j.text) address
+
 -- what the lines that are read of a source are converted to
 abbrev pub conversion_of_read : JoinedText → ℕ → SourceConversion
-conversion_of_read j address = conversion_of_lines j.origins (lines (plain_source j.text)) address
+conversion_of_read j address = conversion_of_plain (plain_source j) address
 
 -- what a joined text is converted to, for a program that begins there
 abbrev pub conversion_of_source : JoinedText → ℕ → SourceConversion

@@ -2,5 +2,6 @@
 pub mod Checking
 pub mod Faults
 pub mod Reports
+pub mod LeftOut
 pub mod Conversion
 pub mod Naming

@@ -5,7 +5,7 @@ ghost use Rattle.std.specs.Str.Lines.{lines};
 ghost use Rattle.profile.specs.Output.{Writes};
 ghost use Rattle.source_files.specs.Getting.{texts_of};
 ghost use Rattle.source_files.specs.Joined.{origin_of_line};
-ghost use Rattle.source_conversion.specs.Conversion.{conversion_of_read, conversion_of_source, conversion_of_text, is_unrefused, refusals_text, source_behind, source_body};
+ghost use Rattle.source_conversion.specs.Conversion.{conversion_of_plain, conversion_of_read, conversion_of_source, conversion_of_text, is_unrefused, refusals_text, source_behind, source_body};
 
 use crate::checking::assembler_refusals;
 use crate::reports::push_reports;
@@ -23,8 +23,7 @@ use view_items::TextSink;
 /// A source as assembler text, line for line, with where each line is from, and what is refused of it.
 #[derive(Drop)]
 pub struct ConvertedSource {
-    plain: Vec<u8>,
-    read: JoinedSource,
+    plain: JoinedSource,
     body: Vec<u8>,
     refused: Vec<LineRefusal>,
     errors: Vec<AsmError>,
@@ -37,8 +36,8 @@ impl Model for ConvertedSource {
     ghost Value = { SourceConversion };
 
     ghost view = { λ s. record {
-      texts = lines s.plain.items;
-      origins = s.read.origins;
+      texts = lines s.plain.text;
+      origins = s.plain.origins;
       body = s.body.items;
       refused = s.refused.items;
       errors = s.errors.items;
@@ -101,27 +100,37 @@ pub fn converted_source(
     ensures { IfOk result (λ converted. converted ≡ conversion_of_source source.now address) }
 {
     let read = read_text(alloc, source)?;
-    converted_read(alloc, read, address)
+    converted_read(alloc, &read, address)
 }
 
 // Of the lines that are read of a source.
 fn converted_read(
     alloc: Global,
-    read: JoinedSource,
+    read: &JoinedSource,
     address: u32,
 ) -> Result<ConvertedSource, AllocError>
     requires { address < 2 ^ 26 }
-    ensures { IfOk result (λ converted. converted ≡ conversion_of_read read address) }
+    ensures { IfOk result (λ converted. converted ≡ conversion_of_read read.now address) }
 {
-    let plain = plain_source(alloc, read.text())?;
-    let known = read_source(alloc, plain.as_slice())?;
-    let body = source_body(alloc, &known, plain.as_slice())?;
+    let plain = plain_source(alloc, read)?;
+    converted_plain(alloc, plain, address)
+}
+
+fn converted_plain(
+    alloc: Global,
+    plain: JoinedSource,
+    address: u32,
+) -> Result<ConvertedSource, AllocError>
+    requires { address < 2 ^ 26 }
+    ensures { IfOk result (λ converted. converted ≡ conversion_of_plain plain address) }
+{
+    let known = read_source(alloc, plain.text())?;
+    let body = source_body(alloc, &known, plain.text())?;
     let refused = Vec::from_slice(alloc, known.refused())?;
     drop(known);
     let errors = assembler_refusals(alloc, body.as_slice(), address)?;
     Ok(ConvertedSource {
         plain,
-        read,
         body,
         refused,
         errors,
@@ -150,7 +159,7 @@ impl ConvertedSource {
     pub(crate) fn plain(&self) -> &[u8]
         ensures { lines result.now ≡ self.now.texts }
     {
-        &self.plain
+        self.plain.text()
     }
 
     /// The text for the assembler.
@@ -164,7 +173,7 @@ impl ConvertedSource {
     pub fn origin_of_line(&self, number: usize) -> LineOrigin
         ensures { result ≡ origin_of_line self.now.origins number }
     {
-        origin_of_line(self.read.origins(), number)
+        origin_of_line(self.plain.origins(), number)
     }
 
     /// Tells of the lines that are refused, in their order: of 20, and then how many more there are.
@@ -181,10 +190,10 @@ impl ConvertedSource {
         push_reports(
             paths,
             mark,
-            self.read.origins(),
+            self.plain.origins(),
             &self.refused,
             &self.errors,
-            &self.plain,
+            self.plain.text(),
             sink,
         )
     }

@@ -63,8 +63,8 @@ pub fn place_of_fault(fault: LineFault, text: &[u8]) -> &[u8]
     }
 }
 
-// What follows the label of a line.
-fn statement_place(text: &[u8]) -> &[u8]
+/// What follows the label of a line.
+pub(crate) fn statement_place(text: &[u8]) -> &[u8]
     ensures { result.now ≡ statement_place text.now }
 {
     match label_at(text) {

@@ -16,8 +16,8 @@ use source_files::joined::{LineOrigin, origin_of_line};
 use source_lines::source_words::words::{after_blanks, is_end};
 use text_lines::Lines;
 
-// How many lines are told of.
-const MOST_LINES: usize = 20;
+/// How many lines are told of.
+pub(crate) const MOST_LINES: usize = 20;
 
 /// Tells of a source's lines that are refused, by its reading or by the assembler, in their order: of
 /// 20, and then how many more there are. `mark` stands between the path of a line's file and its
@@ -117,8 +117,8 @@ fn push_refusal<W: Sink>(
     push_fault(fault, text, sink)
 }
 
-// The path of a file, or what is told in its place of names that the command line binds.
-fn path_of_file<'a>(paths: &[&'a [u8]], file: usize) -> &'a [u8]
+/// The path of a file, or what is told in its place of names that the command line binds.
+pub(crate) fn path_of_file<'a>(paths: &[&'a [u8]], file: usize) -> &'a [u8]
     ensures { result.now ≡ path_of_file (texts_of paths.now) file }
 {
     match paths.get(file) {
@@ -127,8 +127,8 @@ fn path_of_file<'a>(paths: &[&'a [u8]], file: usize) -> &'a [u8]
     }
 }
 
-// `counter.s:12: `, where the mark before the number is `:`.
-fn push_line_place<W: Sink>(
+/// Writes `counter.s:12: `, where the mark before the number is `:`.
+pub(crate) fn push_line_place<W: Sink>(
     path: &[u8],
     mark: &[u8],
     number: usize,
@@ -198,8 +198,8 @@ fn push_rest<W: Sink>(path: &[u8], count: usize, sink: &mut W) -> Result<(), Wri
     push_all(sink, b" more lines are refused\n")
 }
 
-// `counter.s: 5`.
-fn push_count<W: Sink>(path: &[u8], count: usize, sink: &mut W) -> Result<(), WriteFault>
+/// Writes `counter.s: 5`.
+pub(crate) fn push_count<W: Sink>(path: &[u8], count: usize, sink: &mut W) -> Result<(), WriteFault>
     ensures { Writes W.contents W.has_failed sink.old sink.new result (count_report path.now count) }
 {
     let mut digits = Buffer::new();

@@ -6,6 +6,7 @@ use Rattle.assembler.specs.Passes.{means}
 use Rattle.assembler.specs.declared.error.AsmError.{AsmError}
 use Rattle.source_conversion.specs.Checking.{and_more, assembler_refusals, first_refusal, program_refusal, refusals_in_rounds, text_kept}
 use Rattle.source_conversion.specs.Conversion.{SourceConversion, is_unrefused}
+use Rattle.source_files.specs.Joined.{JoinedText}
 use Rattle.source_face.specs.AskedOptions.{AskedOptions}
 use Rattle.source_face.specs.Blocks.{block_conversion, converted_or_told, refused_conversion}
 
@@ -47,13 +48,13 @@ is_empty_list : (errors : List AsmError) → (length errors == 0) ≡ true → e
 is_empty_list [] h = refl
 is_empty_list (e ∷ es) h = absurd (grind (arith, common_steps))
 
-unrefused : (asked : AskedOptions) (paths : List (List ℕ)) (s : SourceConversion) (b : Bool) → is_unrefused s ≡ b
-    → (if b then block_conversion asked s.body else refused_conversion paths s).is_written ≡ true → is_unrefused s ≡ true
-unrefused asked paths s true e h = e
-unrefused asked paths s false e h = absurd (true≢false (sym h))
+unrefused : (asked : AskedOptions) (paths : List (List ℕ)) (j : JoinedText) (s : SourceConversion) (b : Bool) → is_unrefused s ≡ b
+    → (if b then block_conversion asked paths j s.body else refused_conversion paths s).is_written ≡ true → is_unrefused s ≡ true
+unrefused asked paths j s true e h = e
+unrefused asked paths j s false e h = absurd (true≢false (sym h))
 
-pub written_is_unrefused : (asked : AskedOptions) (paths : List (List ℕ)) (s : SourceConversion)
-    → (converted_or_told asked paths s).is_written ≡ true → s.errors ≡ []
-written_is_unrefused asked paths s h =
+pub written_is_unrefused : (asked : AskedOptions) (paths : List (List ℕ)) (j : JoinedText) (s : SourceConversion)
+    → (converted_or_told asked paths j s).is_written ≡ true → s.errors ≡ []
+written_is_unrefused asked paths j s h =
     is_empty_list s.errors (second (length s.refused == 0) (length s.errors == 0)
-    (unrefused asked paths s (is_unrefused s) refl h))
+    (unrefused asked paths j s (is_unrefused s) refl h))

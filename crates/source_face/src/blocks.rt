@@ -4,11 +4,11 @@ ghost use Rattle.std.specs.Prelude.{◌≡◌, IfOk, OnOk};
 ghost use Rattle.std.specs.Io.KnownBytes.{Appends};
 ghost use Rattle.profile.specs.Output.{Writes};
 ghost use Rattle.source_files.specs.Getting.{texts_of};
-ghost use Rattle.source_face.specs.Blocks.{asked_source, block_text, conversion, conversion_of_joined, converted_or_told};
+ghost use Rattle.source_face.specs.Blocks.{asked_source, block_text, conversion, conversion_of_joined, converted_or_told, told_beside_block};
 
 use crate::options::SourceOptions;
 use profile::{Sink, WriteFault, push_all, push_parts};
-use source_conversion::{ConvertedSource, converted_source, source_behind};
+use source_conversion::{ConvertedSource, converted_source, push_left_out, source_behind};
 use source_files::{JoinedSource, binding_lines};
 use std::alloc::{AllocError, Global};
 
@@ -42,8 +42,9 @@ impl From<WriteFault> for ConversionError {
 }
 
 /// Writes the block that a source is, the first of these files with those that it asks for and the
-/// names that are bound, or the listing that the first is with these names, and answers true; or, where a line of it is refused, tells of all that are,
-/// and answers false. Nothing else is written.
+/// names that are bound, or the listing that the first is with these names, tells of its lines that
+/// are left out, and answers true; or, where a line of it is refused, tells of all that are, and
+/// answers false. Nothing else is written.
 pub fn convert<W: Sink, E: Sink>(
     alloc: Global,
     wanted: &SourceOptions,
@@ -96,30 +97,49 @@ fn convert_joined<W: Sink, E: Sink>(
         (conversion_of_joined wanted.now (texts_of paths.now) source.now).told) }
 {
     let converted = converted_source(alloc, source, wanted.address)?;
-    Ok(push_conversion(wanted, paths, &converted, sink, errors)?)
+    Ok(push_conversion(wanted, paths, source, &converted, sink, errors)?)
 }
 
-// Writes a block where nothing is refused, and else tells what is.
+// Writes a block where nothing is refused, and tells what is left out; else what is refused.
 fn push_conversion<W: Sink, E: Sink>(
     wanted: &SourceOptions,
     paths: &[&[u8]],
+    source: &JoinedSource,
     converted: &ConvertedSource,
     sink: &mut W,
     errors: &mut E,
 ) -> Result<bool, WriteFault>
     ensures answer { IfOk result (λ is_written. is_written
-        ≡ (converted_or_told wanted.now (texts_of paths.now) converted.now).is_written) }
+        ≡ (converted_or_told wanted.now (texts_of paths.now) source.now converted.now).is_written) }
     ensures block { OnOk result (Appends (W.contents sink.old) (W.contents sink.new)
-        (converted_or_told wanted.now (texts_of paths.now) converted.now).block) }
+        (converted_or_told wanted.now (texts_of paths.now) source.now converted.now).block) }
     ensures told { OnOk result (Appends (E.contents errors.old) (E.contents errors.new)
-        (converted_or_told wanted.now (texts_of paths.now) converted.now).told) }
+        (converted_or_told wanted.now (texts_of paths.now) source.now converted.now).told) }
 {
     if converted.is_unrefused() {
         push_block(wanted, converted.body(), sink)?;
+        push_told_beside_block(wanted, paths, source, errors)?;
         return Ok(true);
     }
     converted.push_refusals(paths, b":", errors)?;
     Ok(false)
+}
+
+// What is left out of a source, unless it is a listing in BASIC.
+fn push_told_beside_block<E: Sink>(
+    wanted: &SourceOptions,
+    paths: &[&[u8]],
+    source: &JoinedSource,
+    errors: &mut E,
+) -> Result<(), WriteFault>
+    ensures { Writes E.contents E.has_failed errors.old errors.new result
+        (told_beside_block wanted.now (texts_of paths.now) source.now) }
+{
+    if wanted.is_basic {
+        Ok(())
+    } else {
+        push_left_out(paths, b":", source, errors)
+    }
 }
 
 #[tactic(auto, unfolding(crate::specs::Blocks::block_text))]

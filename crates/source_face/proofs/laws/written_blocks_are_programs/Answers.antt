@@ -5,5 +5,6 @@ use Rattle.source_face.proofs.laws.written_blocks_are_programs.Goals as goal
 
 pub returns : goal.returns
 returns c asked paths files bindings h =
-    let converted = conversion_of_source (asked_source asked paths files bindings) asked.address in
-    unrefused_is_ok converted.body asked.address (written_is_unrefused asked paths converted h)
+    let source = asked_source asked paths files bindings in
+    let converted = conversion_of_source source asked.address in
+    unrefused_is_ok converted.body asked.address (written_is_unrefused asked paths source converted h)
