@@ -2,7 +2,7 @@
 
 use basic_source::listing_source;
 
-static LISTINGS: [(&str, &str); 11] = [
+static LISTINGS: [(&str, &str); 15] = [
     (
         "   10REM >Own: x\n20DIM code% 1000:link=14:base%=&40000\n30FOR p%=0 TO 2 STEP 2:P%=code%\n40[OPT p%\n\
         50.start% STMFD (R13)!,{R0,link}:SWI \"OS_Write0\" ; say: it\n60MOV R1,#base% DIV 2 \\ half\n70]\n80NEXT\n\
@@ -58,6 +58,28 @@ static LISTINGS: [(&str, &str); 11] = [
         "title$=\"Counter\":n$=CHR$(9)+\"x\"\ntwo$=\"a\":two$=\"b\"\n[\n.t EQUS title$+CHR$0\nEQUS \"<\"+n$+title$\n\
         EQUS two$+none$\n]\n",
         "\n\n\n\n\n|t| DCB \"Counter\",0\n DCB \"<\",(9),\"x\",\"Counter\"\n DCB |two$|,|none$|\n\n",
+    ),
+    // LET says nothing.
+    (
+        "LET title$=\"Counter\":LET wp=12:LETn%=3\n[\n.t EQUS title$\nLDR R0,[wp,#n%]\n]\n",
+        "\n|wp| RN 12\n|n%| EQU 3\n\n|t| DCB \"Counter\"\n LDR R0,[|wp|,#|n%|]\n\n",
+    ),
+    // A string variable that is also set otherwise has no value that is known; a condition over lines sets
+    // none.
+    (
+        "a$=\"a\":a$+=\"b\"\nb$=\"b\":READ x%,b$\nc$=\"c\":INPUT\"Name\";c$\nd$=\"d\":IF x%=1 THEN d$=\"e\"\n\
+        e$=\"e\":f$=\"f\":e$=f$\nIF f$=\"f\" THEN\n[\nEQUS a$:EQUS b$:EQUS c$:EQUS d$:EQUS e$:EQUS f$\n]\nENDIF\n",
+        "\n\n\n\n\n\n\n\n\n\n\n IF |f$|=\"f\" \n\n DCB |a$|\n DCB |b$|\n DCB |c$|\n DCB |d$|\n DCB |e$|\n DCB \"f\"\n\n ENDIF\n",
+    ),
+    // A function that OPT calls may lay down what it likes, so its line isn't left out.
+    (
+        "[OPT FNalign\n.a OPT  FNs(\"x\")\nOPT pass%:NOP\n",
+        " FNalign\n|a| FNs(\"x\")\n\n NOP \n",
+    ),
+    // Where the place goes on by a number, a gap is left; by `AND` it goes elsewhere.
+    (
+        "[\n.a NOP\n]:P%=P%+8*2\n[\n.b NOP\n]\nP%=P% + 3 AND NOT 3:P%=&8000:P%=(P%+3)\n",
+        "\n|a| NOP \n\n % 8*2\n\n|b| NOP \n\n P%=P% + 3 AND NOT 3\n\n\n",
     ),
     // Shifts join more loosely than sums, and more tightly than AND.
     (

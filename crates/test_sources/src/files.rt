@@ -14,6 +14,10 @@ fn files_that_are_asked_for(rt: HostRuntime) {
         return;
     };
     assert!(rt; bound.as_slice() == b"|V$1| EQU &9000\n|w| EQU \n".as_slice());
+    let Ok(rooms) = binding_lines(rt.alloc(), &[b"a.b=%64".as_slice(), b"w=%".as_slice()]) else {
+        return;
+    };
+    assert!(rt; rooms.as_slice() == b" IMPORT |a.b| [SIZE=64]\n IMPORT |w| [SIZE=]\n".as_slice());
     let Ok(joined) = joined_source(rt.alloc(), &paths, &texts, bound.as_slice()) else {
         return;
     };

@@ -3,7 +3,7 @@
 use profile::MemorySink;
 use source_layout::{push_without_layout, read_layout};
 
-static SOURCES: [(&str, &str); 4] = [
+static SOURCES: [(&str, &str); 6] = [
     (
         "        ^       0, r12\n\
         w_count #       4\n\
@@ -48,6 +48,22 @@ static SOURCES: [(&str, &str); 4] = [
     (
         " MAP 4,r9\na FIELD 4\n\tfield 2*2 ; none\nb Field 1\nmap * @\nc MAPS 1\n LDR r0,b\n",
         "\na * &4\n\nb * &C\nmap * &D\nc MAPS 1\n LDR r0,[R9,#b]\n",
+    ),
+    // Names of a layout in its own lines.
+    (
+        " ^ 4,r12\nFlags # 4\nTemp # 16*2\nBuffer # :INDEX:Temp + 4 ; to here\nWorkEnd * :INDEX:@ - :INDEX:Flags\n\
+        Last # WorkEnd-@+Flags\n ^ :INDEX:Buffer\nHere # ?Buffer-:INDEX:@\nNext # @\n \
+        DCD Next,@\n ASSERT :INDEX:@ = 24 ; @\n",
+        "\nFlags * &4\nTemp * &8\nBuffer * &28\nWorkEnd * &34 - Flags\n\
+        Last * &34\n\nHere * &28\nNext * &C\n \
+        DCD Next,&18\n ASSERT &18 = 24 ; @\n",
+    ),
+    // How many bytes a field takes, in quotes, in bars, of a name that is no field's, and of none.
+    (
+        " ^ 0\nx # 16\ny # ?x*2\nx_ # ?y+?x\nz # 3\n LDRB r0,[r1,#?x - 1]\n DCD ?x,?y,?x_,?z ; ?x\n = \"?x\",'?'\n \
+        DCD ?|x|,?t,?\nt % ?z\n",
+        "\nx * &0\ny * &10\nx_ * &30\nz * &60\n LDRB r0,[r1,#&10 - 1]\n DCD &10,&20,&30,&3 ; ?x\n = \"?x\",'?'\n \
+        DCD ?|x|,?t,?\nt % &3\n",
     ),
 ];
 

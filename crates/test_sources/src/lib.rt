@@ -5,11 +5,19 @@
 #![tactic(auto)]
 
 #[cfg(test)]
+mod areas;
+#[cfg(test)]
 mod basic;
+#[cfg(test)]
+mod calls;
+#[cfg(test)]
+mod conditions;
 #[cfg(test)]
 mod files;
 #[cfg(test)]
 mod layouts;
+#[cfg(test)]
+mod left_out;
 #[cfg(test)]
 mod lines;
 #[cfg(test)]

@@ -6,7 +6,7 @@ use source_lines::{meaning_of_line, push_line, scan_line};
 use source_words::{Names, Why};
 
 // A line, its label, and what it is for the assembler.
-static LINES: [(&str, &str, &str); 78] = [
+static LINES: [(&str, &str, &str); 97] = [
     ("wp RN 12", "wp", ""),
     ("Size * 5 + &C", "Size", ""),
     ("start", "start", "start"),
@@ -125,13 +125,48 @@ static LINES: [(&str, &str, &str); 78] = [
         " DCB &41,&61,\"\",34,\"+x\",\"a\" ; \"+",
     ),
     (" DCD \"0\" + 1,-\"A\"", "", " DCD &31,&FFFFFFBF"),
+    (" ADR r0, . + 16", "", " ADD R0,PC,#&8"),
+    (" ADR r0, {PC}+8", "", " ADD R0,PC,#&0"),
+    (" ADR r0, . - 20", "", " SUB R0,PC,#&1C"),
+    (
+        " ADD r0,pc,#text-.-8",
+        "",
+        "here_82 SUB R0,PC,#here_82-text+&8",
+    ),
+    (
+        " SUB r0,pc,#.+8-later",
+        "",
+        "here_83 ADD R0,PC,#later-here_83-&8",
+    ),
+    (" ADDS r0,#start-lab", "", " ADDS R0,R0,#start-lab"),
+    (" SUB r0,#start-lab", "", " ADD R0,R0,#lab-start"),
+    (" CMP r0,#start-lab-4", "", " CMN R0,#lab-start+&4"),
+    (" ADD r0,r1,r2,LSL #-4", "", " ADD R0,R1,R2,LSL #&FFFFFFFC"),
+    (
+        "later SUB r0,pc,#.+8-next",
+        "later",
+        "later SUB R0,PC,#later-next+&8",
+    ),
+    ("next MOV r0,#start-.", "next", "next MOV R0,#start-next"),
+    (
+        " ADD r0,pc,#later-.-4",
+        "",
+        "here_90 SUB R0,PC,#here_90-later+&4",
+    ),
+    (" LDRT r0,[r1]", "", " LDRT R0,[R1],#&0"),
+    (" STRBTNE sl , [ wp ] ; x", "", " STRNEBT R10,[R12],#&0 ; x"),
+    (" STRT r0,[r1],#4", "", " STRT R0,[R1],#&4"),
+    (" MOV r0,#(1 << 3) :OR: 1", "", " MOV R0,#&9"),
+    (" DCD &80>>3, 1<<2 + 1", "", " DCD &10,&5"),
+    (" DCD \"A\", 'B' ; \"", "", " DCD &41,&42 ; \""),
+    (" SUB r0,r0,r1,ASR #-1", "", " SUB R0,R0,R1,ASR #&FFFFFFFF"),
 ];
 
 #[test]
 fn lines(rt: HostRuntime) {
     let mut names = Names::new(rt.alloc());
-    let labels: [&[u8]; 78] = std::array::from_fn(|i| LINES[i].1.as_bytes());
-    for i in 0..78 {
+    let labels: [&[u8]; 97] = std::array::from_fn(|i| LINES[i].1.as_bytes());
+    for i in 0..97 {
         let (source, label, _) = LINES[i];
         match meaning_of_line(&names, i + 1, source.as_bytes()) {
             Ok(Some(meaning)) => {
@@ -146,7 +181,7 @@ fn lines(rt: HostRuntime) {
             Err(_) => panic!(rt; "{source}"),
         }
     }
-    for i in 0..78 {
+    for i in 0..97 {
         let (source, _, wanted) = LINES[i];
         assert!(rt;
             scan_line(&names, i + 1, source.as_bytes()).is_ok(),
@@ -161,7 +196,7 @@ fn lines(rt: HostRuntime) {
 }
 
 // A line, why it is refused, and what is left of it where the word begins.
-static REFUSED: [(&str, Why, &str); 20] = [
+static REFUSED: [(&str, Why, &str); 22] = [
     (" MOV r0,#nothing", Why::UnknownName, "nothing"),
     (" LDRH r0,[r1]", Why::NotUnderstood, "LDRH r0,[r1]"),
     (" SWP r0,r1,[r2]", Why::NotUnderstood, "SWP r0,r1,[r2]"),
@@ -169,6 +204,8 @@ static REFUSED: [(&str, Why, &str); 20] = [
     (" DCFS 1.5", Why::NotUnderstood, "DCFS 1.5"),
     (" MOV r0,#1/0", Why::DivisionByZero, "0"),
     (" & (1+2", Why::NotUnderstood, ""),
+    (" DCD \"AB\"", Why::NotUnderstood, "AB\""),
+    (" MOV r0,#1 < 2", Why::NotUnderstood, "< 2"),
     (" DCD |not closed", Why::NotUnderstood, "|not closed"),
     (" DCB \"no end", Why::NotUnderstood, "no end"),
     (" ALIGN 16", Why::NoForm, " 16"),

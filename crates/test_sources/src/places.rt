@@ -2,7 +2,7 @@
 
 use source_places::placed_source;
 
-static SOURCES: [(&str, &str); 14] = [
+static SOURCES: [(&str, &str); 15] = [
     // Halfwords: the lower byte first, at an even place.
     (
         " DCW 1,&1234, -2 ; three\nx DCW 65535\n = 1\n DCW 5\n DCWU 6\n",
@@ -65,6 +65,14 @@ static SOURCES: [(&str, &str); 14] = [
     (
         "t DCD 1,2\nu\n ASSERT u-t = 8 ; c\n ASSERT (. - t) / 4 < 2\n ASSERT u = 8\n ASSERT . - t >= 8 :LAND: {TRUE}\n",
         "t DCD 1,2\nu\n\n ASSERT (. - t) / 4 < 2\n ASSERT u = 8\n\n",
+    ),
+    // Addresses are compared by their places, with no number.
+    (
+        "s DCD 1\nt DCD 1,2\nu\ne EQU t+4\n ASSERT (t + 4) > t\n ASSERT u <= s + 12 :LAND: s <> t\n \
+        ASSERT (s > t) :LOR: :LNOT: (e = t)\n ASSERT . = t + 8\n ASSERT {PC} - s < 13\n ASSERT {pc} == u ; c\n \
+        ASSERT s < t + 4294967292\n ASSERT t\n ASSERT t > 0\n ASSERT 8 = u\n ASSERT s = t\n ASSERT {PC > s\n",
+        "s DCD 1\nt DCD 1,2\nu\ne EQU t+4\n\n\n\n\n\n\n ASSERT s < t + 4294967292\n ASSERT t\n ASSERT t > 0\n \
+        ASSERT 8 = u\n ASSERT s = t\n ASSERT {PC > s\n",
     ),
     // `{PC}` is the address of the line, too.
     (

@@ -4,7 +4,7 @@
 use source_files::joined_source;
 use source_text::{plain_source, read_text};
 
-static SOURCES: [(&str, &str); 32] = [
+static SOURCES: [(&str, &str); 37] = [
     // Macros.
     (
         "\tMACRO\n$label\tDouble\t$to, $from=r0\n$label.\tADD\t$to,$from,$from ; twice $from\n\tMEND\nx Double r1, r2 ; c\n\
@@ -61,7 +61,7 @@ static SOURCES: [(&str, &str); 32] = [
         " ELSE\n ENDIF\nx SETA 1\n IF nothing\n\n GBLA a b\n IF 1 2\n\n WEND\n LCLA x\n",
     ),
     (
-        " [ \"a\" = \"a\"\n 1\n ]\n [ \"a\"<>\"\" :LAND: \"b\" = \"c\"\n 2\n ]\n [ \"a\" < \"b\"\n ]\n",
+        " [ \"a\" = \"a\" :LAND: \"a\" != \"b\" :LAND: \"a\"/=\"\" :LAND: 1 != 2\n 1\n ]\n [ \"a\" /= \"a\" :LOR: \"a\"<>\"\" :LAND: \"b\" = \"c\"\n 2\n ]\n [ \"a\" < \"b\"\n ]\n",
         "\n 1\n\n\n\n\n\n\n",
     ),
     // Conditions in parentheses, and several that are joined from the left.
@@ -121,7 +121,46 @@ static SOURCES: [(&str, &str); 32] = [
         " GBLS who\n GBLA n\n GBLL t\nwho SETS \"Al\" :CC: \"ex\"\nn SETA 26\nt SETL 1 = 1\n = \"$who.!\",who\nl$n.$t & 1\n\
         who SETS who:CC:\"$n\"\n [ who = \"Alex0000001A\"\n = \"$who\"\n ]\nwho SETS 5\nwho SETS \"a\":CC:\"b\":CC:\"c\"\n",
         "\n\n\n\n\n\n = \"Alex!\",\"Alex\"\nl0000001AT & 1\n\n\n = \"Alex0000001A\"\n\nwho SETS 5\n\
-        who SETS \"a\":CC:\"b\":CC:\"c\"\n",
+        \n",
+    ),
+    // Texts that operators make: they join from the left, `:STR:` and `:CHR:` more tightly.
+    (
+        " GBLS s\n GBLA n\nn SETA 171\ns SETS \"a\"\"b\"\n = s\ns SETS \"\"\"x\"\"\" ; c\n = s\n\
+        s SETS \"ab\" :CC: :STR: n :cc:\"z\"\n = s\ns SETS s :LEFT: 3 :CC: s :RIGHT: 1\n = s\n\
+        s SETS \"x\" :CC: (\"abc\" :RIGHT: 2)\n = s\ns SETS :STR:(n + 1)\n = s\ns SETS :CHR: 65\n = s\n\
+        s SETS :chr:&22 :CC: s\n = s\ns SETS \"ab\" :LEFT: 0\n = s\n",
+        "\n\n\n\n = \"a\"\"b\"\n\n = \"\"\"x\"\"\"\n\
+        \n = \"ab000000ABz\"\n\n = \"z\"\n\
+        \n = \"xbc\"\n\n = \"000000AC\"\n\n = \"A\"\n\
+        \n = \"\"\"A\"\n\n = \"\"\n",
+    ),
+    (
+        " GBLS s\ns SETS \"abcde\"\ns SETS s:LEFT:(:LEN:s-2)\n = s\ns SETS s :RIGHT: two\ntwo EQU 2\ns SETS s :RIGHT: two\n = s\n\
+        s SETS ((((((((\"x\"))))))))\n = s\ns SETS (((((((((\"y\")))))))))\ns SETS \"abc\" :LEFT: 4\ns SETS :CHR: 256\n\
+        s SETS \"ab\" :CC: 5\ns SETS \"a\" \"b\"\ns SETS \"abc\ns SETS \"abc\"\"\ns SETS (\"a\"\ns SETS :STR: .\ns SETS\n = s\n",
+        "\n\n\n = \"abc\"\ns SETS \"abc\" :RIGHT: two\ntwo EQU 2\n\n = \"bc\"\n\
+        \n = \"x\"\ns SETS (((((((((\"y\")))))))))\ns SETS \"abc\" :LEFT: 4\ns SETS  256\n\
+        s SETS \"ab\" :CC: 5\ns SETS \"a\" \"b\"\ns SETS \"abc\ns SETS \"abc\"\"\ns SETS (\"a\"\ns SETS :STR: .\ns SETS\n = \"x\"\n",
+    ),
+    // The same in conditions, and how long they are.
+    (
+        " GBLS s\n GBLA n\ns SETS \"a\"\"b\"\n [ s = \"a\" :CC: :CHR:34 :CC: \"b\" :LAND: :LEN: s = 3\n 1\n ]\n [ :CHR:65 = \"AB\"\n 2\n ]\n\
+        \x20[ :CHR:65 = 65 :LAND: (\"a\" :CC: \"b\") <> \"aab\" :RIGHT: 3\n 3\n |\n 4\n ]\n [ \"a\"\"\" = \"a\"\n 5\n ]\n\
+        n SETA :LEN:(s :CC: \"cd\") * 2\n DCD n, :LEN:\"a\"\"b\", :LEN:(\"abc\" :LEFT: (:LEN:(\"x\":CC:\"y\"))), :LEN: (s)+1\n",
+        "\n\n\n\n 1\n\n\n\n\n\
+        \n 3\n\n\n\n\n\n\n\
+        \n DCD &A, &3, &2, &3+1\n",
+    ),
+    // Among data and other operands: each is written as one text.
+    (
+        " GBLA n\n GBLA LEFT\n GBLS CC\nn SETA 171\n DCB \"a\" :CC: \"b\", 0\n = :STR:n,\"x\":CC:CC,:CHR:65 :CC: \"b\",(\"p\" :CC: \"q\") ; \"a\":CC:\"b\"\n\
+        \x20= \"it's\",'\"',\"abc\" :LEFT: 2,(\"a\"),:CHR:65,\"say \" :CC: \"\"\"hi\"\"\"\n = \"a\" :LEFT: 2\n MOV r0,#\"A\"+(:CHR:66 - 1)\n",
+        "\n\n\n\n DCB \"ab\", 0\n = \"000000AB\",\"x\",\"Ab\",\"pq\" ; \"a\":CC:\"b\"\n\
+        \x20= \"it's\",'\"',\"ab\",(\"a\"),65,\"say \"\"hi\"\"\"\n = \"a\" :LEFT: 2\n MOV r0,#\"A\"+(66 - 1)\n",
+    ),
+    (
+        "start NOP\n ! 0, \"size \" :CC: :STR:(. - start)\n INFO 0, \"a\":LEFT:9\n",
+        "start NOP\n\n\n",
     ),
     // A macro's own variables hide others, and are gone behind it.
     (
@@ -186,8 +225,8 @@ fn all_of_it(rt: HostRuntime) {
     let Ok(read) = read_text(rt.alloc(), &joined) else {
         return;
     };
-    let Ok(plain) = plain_source(rt.alloc(), read.text()) else {
+    let Ok(plain) = plain_source(rt.alloc(), &read) else {
         return;
     };
-    assert!(rt; plain.as_slice() == wanted.as_slice());
+    assert!(rt; plain.text() == wanted.as_slice());
 }

@@ -36,6 +36,14 @@ fn sums(rt: HostRuntime) {
         ("5:ROR:0", 5),
         ("3:ROL:31", 0x8000_0001),
         ("3:ROR:33", 0x8000_0001),
+        ("1<<4 + 1", 17),
+        ("(1 << 3) :OR: 1", 9),
+        ("&80 >>4*2", 0),
+        ("&F0 >> 2 << 1", 0x78),
+        (
+            "((((((((((((((((((((((((((((((((1+1))))))))))))))))))))))))))))))))",
+            2,
+        ),
     ] {
         assert_eq!(rt; value(&rt, &names, text), number, "{text}");
     }
@@ -72,7 +80,11 @@ fn refused(rt: HostRuntime) {
         ("1:ROL:.", Why::TooManyLabels, 1),
         ("1+{OPT}", Why::NotUnderstood, 5),
         ("1+", Why::NotUnderstood, 0),
-        ("(((((((((1)))))))))", Why::TooDeep, 10),
+        (
+            "(((((((((((((((((((((((((((((((((1)))))))))))))))))))))))))))))))))",
+            Why::TooDeep,
+            34,
+        ),
     ] {
         match source_sum(&names, 1, text.as_bytes()) {
             Ok(_) => panic!(rt; "{text}"),
