@@ -57,8 +57,8 @@ fn inverse_operation(operation: Operation) -> Option<Operation>
     }
 }
 
-// The operation that does the same with the negative of the number.
-fn negative_operation(operation: Operation) -> Option<Operation>
+/// The operation that does the same with the negative of the number, if there is one.
+pub fn negative_operation(operation: Operation) -> Option<Operation>
     ensures { result ≡ negative_operation operation }
 {
     match operation {
