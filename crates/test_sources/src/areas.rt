@@ -98,7 +98,7 @@ fn origins(rt: HostRuntime) {
     let mut lines = [0usize; 13];
     assert_eq!(rt; plain.origins().len(), 13);
     for (line, origin) in lines.iter_mut().zip(plain.origins().iter()) {
-        *line = origin.file * 100 + origin.line;
+        *line = origin.file.wrapping_mul(100).wrapping_add(origin.line);
     }
     assert_eq!(rt;
         lines.as_slice(),
