@@ -1,2 +1,4 @@
+pub mod Found
+pub mod Pools
 pub mod Readings
 pub mod Writings

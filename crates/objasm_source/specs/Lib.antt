@@ -4,3 +4,4 @@ pub mod Knowledge
 pub mod Works
 pub mod Sources
 pub mod Writing
+pub mod Laws

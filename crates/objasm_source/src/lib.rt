@@ -1,6 +1,7 @@
 //! A source for ObjAsm, and the assembler text that says the same, line for line.
 #![tactic(auto)]
 
+pub mod laws;
 pub mod reading;
 pub mod sources;
 pub mod works;

@@ -1,12 +1,14 @@
 //! What is known of a source.
 
-ghost use Rattle.std.specs.Prelude.{◌≡◌, OnOk};
-ghost use Rattle.objasm_source.specs.Sources.{collected_with, empty_source, is_refused, line_refusal, named_with, refused_with, scanned_with, with_literal};
+ghost use Rattle.std.specs.Prelude.{◌≡◌, OnOk, drop};
+ghost use Rattle.objasm_source.specs.Sources.{collected_with, empty_source, is_refused, line_refusal, named_with, refused_with, scanned_unless_refused, scanned_with, with_literal, with_literal_or_none, with_next_pool_if};
 ghost use Rattle.source_lines.specs.Places.{line_names};
 
-use crate::works::label_or_none;
+use crate::works::{label_or_none, work_of_line};
 use source_lines::source_words::{AddressSum, Meaning, Names, Why, WordRefusal};
+use source_lines::works::Work;
 use source_lines::{meaning_of_line, scan_line};
+use source_pools::has_word;
 use std::alloc::{AllocError, Global};
 use std::marker::Model;
 
@@ -18,13 +20,14 @@ pub struct LineRefusal {
 }
 
 /// What is known of a source: its names, the label of each line, which lines are refused, and what
-/// the words of its pools stand for.
+/// the words of its pools stand for, pool behind pool, from `pool_start` on those of the last.
 #[derive(Drop)]
 pub struct ObjAsmSource<'a> {
     names: Names<'a>,
     labels: Vec<&'a [u8]>,
     refused: Vec<LineRefusal>,
     literals: Vec<AddressSum>,
+    pool_start: usize,
 }
 
 impl<'a> Model for ObjAsmSource<'a> {
@@ -38,6 +41,7 @@ impl<'a> Model for ObjAsmSource<'a> {
       labels = line_names s.labels.items;
       refused = s.refused.items;
       literals = s.literals.items;
+      pool_start = s.pool_start;
     } };
 }
 
@@ -51,6 +55,7 @@ impl<'a> ObjAsmSource<'a> {
             labels: Vec::new(alloc),
             refused: Vec::new(alloc),
             literals: Vec::new(alloc),
+            pool_start: 0,
         }
     }
 
@@ -120,21 +125,50 @@ impl<'a> ObjAsmSource<'a> {
     pub(crate) fn scan(&mut self, line: usize, text: &[u8]) -> Result<(), AllocError>
         ensures { OnOk result (self.new ≡ scanned_with line self.old text.now) }
     {
+        self.scan_unless_refused(line, text)?;
+        self.begin_pool_if(work_of_line(text));
+        Ok(())
+    }
+
+    fn scan_unless_refused(&mut self, line: usize, text: &[u8]) -> Result<(), AllocError>
+        ensures { OnOk result (self.new ≡ scanned_unless_refused line self.old text.now) }
+    {
         if self.is_refused(line) {
             return Ok(());
         }
         match scan_line(&self.names, line, text) {
-            Ok(found) => self.keep_literal(found.literal),
+            Ok(found) => self.keep_literal_if(found.literal),
             Err(refusal) => self.refuse(line, refusal),
         }
     }
 
-    fn keep_literal(&mut self, literal: Option<AddressSum>) -> Result<(), AllocError>
-        ensures { OnOk result (self.new ≡ with_literal self.old literal) }
+    // At a line that holds a pool, the next begins.
+    fn begin_pool_if(&mut self, work: Option<Work>)
+        ensures { self.new ≡ with_next_pool_if work self.old }
+    {
+        if let Some(Work::Pool) = work {
+            self.pool_start = self.literals.len();
+        }
+    }
+
+    fn keep_literal_if(&mut self, literal: Option<AddressSum>) -> Result<(), AllocError>
+        ensures { OnOk result (self.new ≡ with_literal_or_none self.old literal) }
     {
         match literal {
-            Some(form) => Ok(self.literals.push(form)?),
+            Some(form) => self.keep_literal(form),
             None => Ok(()),
+        }
+    }
+
+    // A word of the last pool, where it has none that is the same.
+    #[tactic(auto, using(crate::proofs::Pools::literal_steps))]
+    fn keep_literal(&mut self, form: AddressSum) -> Result<(), AllocError>
+        ensures { OnOk result (self.new ≡ with_literal self.old form) }
+    {
+        if has_word(words_behind(&self.literals, self.pool_start), form) {
+            Ok(())
+        } else {
+            Ok(self.literals.push(form)?)
         }
     }
 
@@ -143,4 +177,12 @@ impl<'a> ObjAsmSource<'a> {
     {
         self.refused.iter().any(|refused| refused.line == line)
     }
+}
+
+/// The words behind so many.
+#[tactic(auto, using(std::proofs::lemmas::List::drop_min))]
+pub(crate) fn words_behind(words: &[AddressSum], count: usize) -> &[AddressSum]
+    ensures { result.now ≡ drop count words.now }
+{
+    &words[count.min(words.len())..]
 }

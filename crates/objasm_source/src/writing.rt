@@ -3,27 +3,29 @@
 ghost use Rattle.std.specs.Prelude.{◌≡◌, take, drop};
 ghost use Rattle.std.specs.List.{flat_map};
 ghost use Rattle.std.specs.Str.Lines.{lines};
-ghost use Rattle.objasm_source.specs.Writing.{comma_sum, first_pool, has_literal, line_end, line_or_pool_text, next_pool, pool_after, pool_line, pool_place, pool_words, source_text, with_literal_if, pool_words_text};
+ghost use Rattle.objasm_source.specs.Writing.{comma_sum, first_pool, line_end, line_or_pool_text, next_pool, pool_after, pool_at_line, pool_line, pool_place, pool_words, pool_words_text, source_text, with_index};
 ghost use Rattle.profile.specs.Output.{Writes};
 ghost use Rattle.source_lines.specs.Places.{line_names};
 
-use crate::sources::ObjAsmSource;
+use crate::sources::{ObjAsmSource, words_behind};
 use crate::works::{is_last_line, label_or_none, work_of_line};
 use assembler_names::words::is_name;
 use profile::{Sink, WriteFault, push_all};
 use source_lines::places::{PoolPlace, push_pool_name, push_sum};
+use source_lines::push_line;
 use source_lines::source_words::AddressSum;
 use source_lines::works::Work;
-use source_lines::{push_line, scan_line};
+use source_pools::{literal_of_line, word_index};
 use text_lines::Lines;
 
-/// A pool while its words are counted: its number from 1, and the literals of the source from
-/// `start` up to `next`.
+/// A pool while its words are counted: its number from 1, the literals of the source from `start` up
+/// to `next`, and how many of them stand before the one that a line asked for last.
 #[derive(Clone, Copy, Debug, PartialEq, Eq)]
 pub struct Pool {
     pub number: u32,
     pub start: usize,
     pub next: usize,
+    pub index: usize,
 }
 
 impl Pool {
@@ -34,6 +36,7 @@ impl Pool {
             number: 1,
             start: 0,
             next: 0,
+            index: 0,
         }
     }
 
@@ -45,32 +48,53 @@ impl Pool {
             number: self.number.wrapping_add(1),
             start: self.next,
             next: self.next,
+            index: 0,
         }
     }
 
-    // With one more word, if a line has a literal.
-    fn with_literal_if(self, is_there: bool) -> Pool
-        ensures { result ≡ with_literal_if is_there self }
+    // Up to behind the word of a literal, which has so many of the pool before it.
+    fn with_index(self, index: usize) -> Pool
+        ensures { result ≡ with_index self index }
     {
-        if is_there {
-            Pool {
-                number: self.number,
-                start: self.start,
-                next: self.next.saturating_add(1),
-            }
-        } else {
-            self
+        let end = self.start.saturating_add(index).saturating_add(1);
+        Pool {
+            next: self.next.max(end),
+            index,
+            ..self
         }
     }
 
-    // Where the word of the next literal stands.
+    // At a line, with what the line asks for.
+    fn at_line(self, source: &ObjAsmSource, number: usize, line: &[u8]) -> Pool
+        ensures { result ≡ pool_at_line source.now number self line.now }
+    {
+        match literal_of_line(source.names(), number, line) {
+            Some(literal) => {
+                let words = words_behind(source.literals(), self.start);
+                self.with_index(word_index(words, literal))
+            }
+            None => self,
+        }
+    }
+
+    // Where the word of the last literal stands.
     fn place(self) -> PoolPlace
         ensures { result ≡ pool_place self }
     {
-        let count = self.next.saturating_sub(self.start);
         PoolPlace {
             pool: self.number,
-            offset: ((count % 0x1_0000_0000) as u32).wrapping_mul(4),
+            offset: ((self.index % 0x1_0000_0000) as u32).wrapping_mul(4),
+        }
+    }
+
+    // The pool after a line.
+    #[tactic(auto, unfolding(crate::specs::Writing::pool_after))]
+    fn after_line(self, line: &[u8]) -> Pool
+        ensures { result ≡ pool_after self line.now }
+    {
+        match work_of_line(line) {
+            Some(Work::Pool) => self.after(),
+            _ => self,
         }
     }
 }
@@ -89,11 +113,13 @@ pub fn push_source<W: Sink>(
     let mut pool = Pool::first();
     let mut lines = Lines::new(text);
     while let Some(line) = lines.next_line() {
-        push_one(source, lines.number(), pool, line, sink)?;
+        let number = lines.number();
+        let here = pool.at_line(source, number, line);
+        push_one(source, number, here, line, sink)?;
         if is_last_line(line) {
             return Ok(());
         }
-        pool = pool_after(source, lines.number(), pool, line);
+        pool = here.after_line(line);
     }
     push_pool(source, pool, sink)
 }
@@ -137,26 +163,6 @@ fn push_line_end<W: Sink>(line: &[u8], sink: &mut W) -> Result<(), WriteFault>
     }
 }
 
-// The pool after a line.
-#[tactic(auto, unfolding(crate::specs::Writing::pool_after))]
-fn pool_after(source: &ObjAsmSource, number: usize, pool: Pool, line: &[u8]) -> Pool
-    ensures { result ≡ pool_after source.now number pool line.now }
-{
-    match work_of_line(line) {
-        Some(Work::Pool) => pool.after(),
-        _ => pool.with_literal_if(has_literal(source, number, line)),
-    }
-}
-
-fn has_literal(source: &ObjAsmSource, number: usize, line: &[u8]) -> bool
-    ensures { result ≡ has_literal source.now number line.now }
-{
-    match scan_line(source.names(), number, line) {
-        Ok(found) => found.literal.is_some(),
-        Err(_) => false,
-    }
-}
-
 // The line of a pool, which is empty where nothing asks for a word.
 fn push_pool<W: Sink>(source: &ObjAsmSource, pool: Pool, sink: &mut W) -> Result<(), WriteFault>
     ensures { Writes W.contents W.has_failed sink.old sink.new result
@@ -184,14 +190,6 @@ fn words_before(words: &[AddressSum], count: usize) -> &[AddressSum]
     ensures { result.now ≡ take count words.now }
 {
     &words[..count.min(words.len())]
-}
-
-// The words behind so many.
-#[tactic(auto, using(std::proofs::lemmas::List::drop_min))]
-fn words_behind(words: &[AddressSum], count: usize) -> &[AddressSum]
-    ensures { result.now ≡ drop count words.now }
-{
-    &words[count.min(words.len())..]
 }
 
 fn push_words<W: Sink>(
