@@ -1,6 +1,9 @@
 pub mod Counts
-pub mod Lists
+pub mod Ends
+pub mod Halfwords
+pub mod LineEnds
 pub mod Readings
 pub mod Seeing
 pub mod Settlements
+pub mod Standing
 pub mod Writings

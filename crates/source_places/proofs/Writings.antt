@@ -12,7 +12,8 @@ use Rattle.source_words.specs.Words.{is_end}
 use Rattle.source_words.specs.declared.refusal.WordRefusal.{WordRefusal}
 use Rattle.source_places.specs.Knowledge.{PlaceKnowledge}
 use Rattle.source_places.specs.Numbers.{is_number_wanted, numbers_text, token_or_number}
-use Rattle.source_places.specs.Placing.{placed_line, placed_lines}
+use Rattle.source_places.specs.Padding.{precedes_halfword}
+use Rattle.source_places.specs.Placing.{placed_before, placed_lines}
 
 pub numbers_start : (a : Option (List ℕ)) (count : ℕ) (w : Bool) (f : Field) (names seen : NameLookup) (here : ℕ) (text : List ℕ)
     → AddsAllBut a a (numbers_text (count - 0) w f names seen here text) (numbers_text count w f names seen here text)
@@ -76,7 +77,7 @@ unfolding placed_lines
 placed_none s n before left e = rw e (append-nil before)
 
 pub placed_more : (s : PlaceKnowledge) (n m : ℕ) (before line text : List ℕ) (left rest : List (List ℕ)) → left ≡ text ∷ rest → m ≡ n + 1
-    → line ≡ placed_line s m text
+    → line ≡ placed_before s m text (precedes_halfword rest)
     → before ++ placed_lines s n left ≡ ((before ++ line) ++ 10 ∷ []) ++ placed_lines s m rest
 unfolding placed_lines
 placed_more s n m before line text left rest e k w =

@@ -6,7 +6,8 @@ pub mod Seen
 pub mod Numbers
 pub mod Reaches
 pub mod Works
-pub mod Units
+pub mod Padding
 pub mod Ways
 pub mod Placing
 pub mod Settling
+pub mod Laws

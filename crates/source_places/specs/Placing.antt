@@ -4,14 +4,16 @@ use Rattle.arm_decode.specs.declared.condition.Condition.{Condition}
 use Rattle.source_choices.specs.Conditions.{condition_at_place}
 use Rattle.source_layout.specs.Layouts.{label_and_rest}
 use Rattle.source_layout.specs.Lines.{bytes_before}
+use Rattle.source_layout.specs.Pieces.{operands_after, text_with_pieces}
 use Rattle.source_lines.specs.Works.{work_at}
 use Rattle.source_words.specs.Names.{NameLookup, meaning_of_name}
 use Rattle.source_places.specs.Knowledge.{PlaceKnowledge}
 use Rattle.source_words.specs.declared.refusal.WordRefusal.{WordRefusal}
 use Rattle.source_places.specs.Numbers.{line_of_numbers}
+use Rattle.source_places.specs.Padding.{padded_line, precedes_halfword}
 use Rattle.source_places.specs.Reaches.{reach_line, reach_of}
 use Rattle.source_places.specs.Seen.{place_of_line, seen_names}
-use Rattle.source_places.specs.Units.{alignment_line, alignment_of_numbers, are_units, line_numbers, units_line}
+use Rattle.source_units.specs.Units.{alignment_line, alignment_of_numbers, are_units, line_numbers, units_line}
 use Rattle.source_places.specs.Ways.{is_placed}
 use Rattle.source_places.specs.Works.{place_work_at}
 use Rattle.source_places.specs.declared.reaches.Reach.{Reach}
@@ -74,13 +76,29 @@ placed_seen s here text rest =
     placed_by_work (meaning_of_name s.names) (meaning_of_name (seen_names s here text)) here
     (place_of_line s.places here) text rest (place_work_at rest)
 
+-- a line with the sizes of names, which stands without numbered labels and layouts
+abbrev pub line_with_sizes : PlaceKnowledge → ℕ → List ℕ → List ℕ
+line_with_sizes s here text =
+    text_with_pieces (meaning_of_name s.sizes) [] here text (operands_after (label_and_rest text).1)
+
+abbrev pub placed_sized : PlaceKnowledge → ℕ → List ℕ → List ℕ
+placed_sized s here text = placed_seen s here text (label_and_rest text).1
+
 -- a line of the source
 unfoldable pub placed_line : PlaceKnowledge → ℕ → List ℕ → List ℕ
 placed_line s here text = if is_placed (meaning_of_name s.names) here text
-    then placed_seen s here text (label_and_rest text).1 else text
+    then placed_sized s here (line_with_sizes s here text) else text
+
+-- a line of the source, of which it is asked that it ends at an even place or isn't
+abbrev pub placed_before : PlaceKnowledge → ℕ → List ℕ → Bool → List ℕ
+placed_before s here text is_asked =
+    if is_asked
+    then padded_line (meaning_of_name s.names) here (place_of_line s.places here) (placed_line s here text)
+    else placed_line s here text
 
 -- the lines of a source after so many, each with its end
 unfoldable pub placed_lines : PlaceKnowledge → ℕ → List (List ℕ) → List ℕ
 placed_lines s number [] = []
 placed_lines s number (text ∷ rest) =
-    (placed_line s (suc number) text ++ 10 ∷ []) ++ placed_lines s (suc number) rest
+    (placed_before s (suc number) text (precedes_halfword rest) ++ 10 ∷ [])
+    ++ placed_lines s (suc number) rest

@@ -75,16 +75,6 @@ is_of_words _ = false
 abbrev pub start_of_work : Work → ℕ → ℕ
 start_of_work w place = if is_of_words w then aligned_place place else place
 
-abbrev pub asks_for_word : Result Scanned WordRefusal → Bool
-asks_for_word (Ok found) = is_some found.literal
-asks_for_word (Err e) = false
-
-abbrev pub line_asks_for_word : NameLookup → ℕ → List ℕ → Bool
-line_asks_for_word names here text = asks_for_word (scan_line names here text)
-
-abbrev pub with_word_if : Bool → PlaceCount → PlaceCount
-with_word_if is_there count = if is_there then record count { words = (count.words + 1) % 2 ^ 32 } else count
-
 -- behind the words of a pool
 abbrev pub count_after_pool : PlaceCount → PlaceCount
 count_after_pool count = if count.words == 0 then count else

@@ -3,13 +3,14 @@
 #![tactic(auto)]
 
 pub mod knowledge;
+pub mod laws;
 pub mod numbers;
+pub mod padding;
 pub mod placing;
 pub mod reaches;
 pub mod seen;
 pub mod settling;
 pub mod sizes;
-pub mod units;
 pub mod ways;
 pub mod works;
 

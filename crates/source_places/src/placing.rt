@@ -4,8 +4,9 @@ ghost use Rattle.std.specs.Prelude.{◌≡◌, IfOk};
 ghost use Rattle.std.specs.Str.Lines.{lines};
 ghost use Rattle.profile.specs.Output.{Writes};
 ghost use Rattle.source_choices.specs.Conditions.{condition_at_place};
-ghost use Rattle.source_places.specs.Units.{line_numbers};
-ghost use Rattle.source_places.specs.Placing.{asserted_line, numbers_or_line, numbers_placed, placed_by_work, placed_line, placed_lines, placed_seen, units_placed, work_placed};
+ghost use Rattle.source_units.specs.Units.{line_numbers};
+ghost use Rattle.source_places.specs.Placing.{asserted_line, line_with_sizes, numbers_or_line, numbers_placed, placed_before, placed_by_work, placed_line, placed_lines, placed_seen, placed_sized, units_placed, work_placed};
+ghost use Rattle.source_places.specs.Padding.{padded_line};
 ghost use Rattle.source_places.specs.Reaches.{reach_line};
 ghost use Rattle.source_lines.specs.Works.{work_at};
 ghost use Rattle.source_places.specs.Numbers.{line_of_numbers};
@@ -14,11 +15,9 @@ ghost use Rattle.source_words.specs.Names.{meaning_of_name};
 
 use crate::knowledge::SourcePlaces;
 use crate::numbers::push_with_numbers;
+use crate::padding::{precedes_halfword, push_padded_line};
 use crate::reaches::{Reach, push_reach_line, reach_of};
 use crate::seen::{place_of_line, seen_names};
-use crate::units::{
-    alignment_of_numbers, are_units, line_numbers, push_alignment_line, push_units_line,
-};
 use crate::ways::is_placed;
 use crate::works::{PlaceWork, place_work_at};
 use arm_decode::Condition;
@@ -26,6 +25,10 @@ use profile::{Sink, WriteFault, push_all};
 use source_choices::conditions::condition_at_place;
 use source_layout::layouts::label_and_rest;
 use source_layout::lines::bytes_before;
+use source_layout::pieces::{operands_after, push_with_pieces};
+use source_units::units::{
+    alignment_of_numbers, are_units, line_numbers, push_alignment_line, push_units_line,
+};
 use source_words::Names;
 use std::alloc::{AllocError, Global};
 use text_lines::Lines;
@@ -39,11 +42,49 @@ pub fn placed_lines(alloc: Global, known: &SourcePlaces, text: &[u8]) -> Result<
     let mut placed = Vec::new(alloc);
     let mut lines = Lines::new(text);
     while let Some(line) = lines.next_line() {
-        let line = placed_line(alloc, known, lines.number(), line)?;
+        let is_asked = precedes_halfword(&lines);
+        let line = placed_before(alloc, known, lines.number(), line, is_asked)?;
         placed.extend_from_slice(line.as_slice())?;
         placed.push(b'\n')?;
     }
     Ok(placed)
+}
+
+// A line of the source, of which it is asked that it ends at an even place or isn't.
+fn placed_before(
+    alloc: Global,
+    known: &SourcePlaces,
+    here: usize,
+    text: &[u8],
+    is_asked: bool,
+) -> Result<Vec<u8>, AllocError>
+    ensures { IfOk result (λ line. line.items ≡ placed_before known.now here text.now is_asked) }
+{
+    let line = placed_line(alloc, known, here, text)?;
+    if is_asked {
+        let place = place_of_line(known.places(), here);
+        padded_line(alloc, known.names(), here, place, line.as_slice())
+    } else {
+        Ok(line)
+    }
+}
+
+// A line with a zero byte at its end if that is odd.
+fn padded_line(
+    alloc: Global,
+    names: &Names,
+    here: usize,
+    place: u32,
+    text: &[u8],
+) -> Result<Vec<u8>, AllocError>
+    ensures { IfOk result (λ line. line.items
+        ≡ padded_line (meaning_of_name names.now) here place text.now) }
+{
+    let mut sink = TextSink::new(alloc);
+    match push_padded_line(names, here, place, text, &mut sink) {
+        Ok(()) => Ok(sink.into_bytes()),
+        Err(_) => Err(AllocError),
+    }
 }
 
 // A line of the source, which stays as it is where it says all by itself.
@@ -57,11 +98,47 @@ fn placed_line(
     ensures { IfOk result (λ line. line.items ≡ placed_line known.now here text.now) }
 {
     if is_placed(known.names(), here, text) {
-        let (_, rest) = label_and_rest(text);
-        placed_seen(alloc, known, here, text, rest)
+        let line = line_with_sizes(alloc, known, here, text)?;
+        placed_sized(alloc, known, here, line.as_slice())
     } else {
         copied(alloc, text)
     }
+}
+
+// A line with the sizes of names.
+fn line_with_sizes(
+    alloc: Global,
+    known: &SourcePlaces,
+    here: usize,
+    text: &[u8],
+) -> Result<Vec<u8>, AllocError>
+    ensures { IfOk result (λ line. line.items ≡ line_with_sizes known.now here text.now) }
+{
+    let (_, rest) = label_and_rest(text);
+    let mut sink = TextSink::new(alloc);
+    match push_with_pieces(
+        known.sizes(),
+        &[],
+        here,
+        text,
+        operands_after(rest),
+        &mut sink,
+    ) {
+        Ok(()) => Ok(sink.into_bytes()),
+        Err(_) => Err(AllocError),
+    }
+}
+
+fn placed_sized(
+    alloc: Global,
+    known: &SourcePlaces,
+    here: usize,
+    text: &[u8],
+) -> Result<Vec<u8>, AllocError>
+    ensures { IfOk result (λ line. line.items ≡ placed_sized known.now here text.now) }
+{
+    let (_, rest) = label_and_rest(text);
+    placed_seen(alloc, known, here, text, rest)
 }
 
 /// The bytes of a text, as bytes of one's own.

@@ -1,11 +1,10 @@
 //! How many bytes the lines of a source take.
 
 ghost use Rattle.std.specs.Prelude.{◌≡◌, length};
-ghost use Rattle.source_places.specs.Sizes.{aligned_place, line_asks_for_word, count_after_pool, count_after_size, count_after_work, count_aligned, count_at_start, data_items, is_of_words, items_with, size_or_zero, start_of_work, token_items, with_word_if, work_size};
+ghost use Rattle.source_places.specs.Sizes.{aligned_place, count_after_pool, count_after_size, count_after_work, count_aligned, count_at_start, data_items, is_of_words, items_with, size_or_zero, start_of_work, token_items, work_size};
 ghost use Rattle.source_words.specs.Names.{meaning_of_name};
 
 use source_lines::addresses::space_size;
-use source_lines::scan_line;
 use source_lines::tokens::{Field, Token, token_at};
 use source_lines::works::Work;
 use source_words::Names;
@@ -71,20 +70,6 @@ impl PlaceCount {
             words: 0,
         }
     }
-
-    /// With one more word of the pool, if a line asks for it.
-    pub fn with_word_if(self, is_there: bool) -> PlaceCount
-        ensures { result ≡ with_word_if is_there self }
-    {
-        if is_there {
-            PlaceCount {
-                next: self.next,
-                words: self.words.wrapping_add(1),
-            }
-        } else {
-            self
-        }
-    }
 }
 
 /// The first multiple of 4 from a place on.
@@ -92,16 +77,6 @@ pub fn aligned_place(place: u32) -> u32
     ensures { result ≡ aligned_place place }
 {
     place.wrapping_add(3) / 4 * 4
-}
-
-/// Whether a line asks for a word of the pool.
-pub fn line_asks_for_word(names: &Names, here: usize, text: &[u8]) -> bool
-    ensures { result ≡ line_asks_for_word (meaning_of_name names.now) here text.now }
-{
-    match scan_line(names, here, text) {
-        Ok(found) => found.literal.is_some(),
-        Err(_) => false,
-    }
 }
 
 /// Where a line begins: words and instructions stand at multiples of 4.
@@ -124,8 +99,8 @@ fn is_of_words(work: Work) -> bool
     )
 }
 
-// How many bytes a line takes that neither aligns nor holds a pool.
-fn work_size(work: Work, names: &Names, here: usize, text: &[u8]) -> u32
+/// How many bytes a line takes that neither aligns nor holds a pool.
+pub fn work_size(work: Work, names: &Names, here: usize, text: &[u8]) -> u32
     ensures { result ≡ work_size work (meaning_of_name names.now) here text.now }
 {
     match work {

@@ -1,7 +1,7 @@
 use Rattle.std.proofs.Common.{◌≡◌, ◌-◌, [], length}
 use Rattle.source_words.specs.Names.{meaning_of_name}
-use Rattle.source_places.specs.Units.{listed_numbers}
-use Rattle.source_places.proofs.units.line_numbers.Given as goal
+use Rattle.source_units.specs.Units.{listed_numbers}
+use Rattle.source_units.proofs.units.line_numbers.Given as goal
 
 -- the numbers that are left, after those that were read
 abbrev pub invariant-loop-numbers : goal.invariant-loop-numbers

@@ -1,8 +1,8 @@
 use Rattle.std.proofs.Common.{◌≡◌, drop}
 use Rattle.std.specs.List.{flat_map}
 use Rattle.profile.specs.Output.{AddsAllBut}
-use Rattle.source_places.specs.Units.{comma_unit_text}
-use Rattle.source_places.proofs.units.push_more_units.Given as goal
+use Rattle.source_units.specs.Units.{comma_unit_text}
+use Rattle.source_units.proofs.units.push_more_units.Given as goal
 
 -- what stands written, and the numbers that are left, is all
 abbrev pub invariant-loop-number : goal.invariant-loop-number

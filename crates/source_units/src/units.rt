@@ -1,11 +1,11 @@
 //! Halfwords, words at any place, and alignments as bytes.
 
-ghost use Rattle.std.specs.Prelude.{◌≡◌, ◌∷◌, [], ◌^◌, ◌<◌, drop, IfOk, option_map, length};
+ghost use Rattle.std.specs.Prelude.{◌≡◌, IfOk, option_map};
 ghost use Rattle.std.specs.List.{flat_map};
 ghost use Rattle.profile.specs.Output.{Writes};
 ghost use Rattle.assembler_names.specs.Words.{read_of};
 ghost use Rattle.source_layout.specs.Layouts.{number_read};
-ghost use Rattle.source_places.specs.Units.{alignment_line, alignment_of_numbers, alignment_of_power, alignment_size, are_halfwords, are_units, comma_unit_text, halfword_text, is_halfword, is_power_of_two, line_numbers, padding_text, unit_text, units_line, units_text};
+ghost use Rattle.source_units.specs.Units.{alignment_line, alignment_of_numbers, alignment_of_power, alignment_size, are_halfwords, are_units, comma_unit_text, halfword_text, is_halfword, line_numbers, padding_text, unit_text, units_line, units_text};
 ghost use Rattle.source_words.specs.Names.{meaning_of_name};
 
 use assembler_names::words::Read;
@@ -175,20 +175,10 @@ pub fn alignment_of_numbers(place: u32, numbers: &[u32]) -> Option<u32>
 fn alignment_of_power(place: u32, number: u32, offset: u32) -> Option<u32>
     ensures { result ≡ alignment_of_power place number offset }
 {
-    if is_power_of_two(number) {
+    if number.is_power_of_two() {
         Some(alignment_size(place, number, offset))
     } else {
         None
-    }
-}
-
-fn is_power_of_two(number: u32) -> bool
-    ensures { result ≡ is_power_of_two number }
-{
-    if number == 0 {
-        false
-    } else {
-        (number & (number - 1)) == 0
     }
 }
 

@@ -1,5 +1,6 @@
 -- Halfwords, words at any place, and alignments as bytes (ARM Assembler manual, "Directives").
-use Rattle.std.specs.Prelude.{ℕ, zero, suc, Bool, false, not, ◌+◌, ◌-◌, ◌/◌, ◌%◌, ◌^◌, ◌==◌, ◌||◌, ◌&&◌, nat_lt, bit_and, List, [], ◌∷◌, ◌++◌, length, codes, Option, Some, None, if◌then◌else◌}
+use Rattle.std.specs.Prelude.{ℕ, zero, suc, Bool, not, ◌+◌, ◌-◌, ◌/◌, ◌%◌, ◌^◌, ◌==◌, ◌||◌, nat_lt, List, [], ◌∷◌, ◌++◌, length, codes, Option, Some, None, if◌then◌else◌}
+use Rattle.std.specs.Int.{is_power_of_two}
 use Rattle.std.specs.List.{flat_map, list_all}
 use Rattle.assembler_text.specs.Numbers.{number_text}
 use Rattle.source_layout.specs.Layouts.{number_read}
@@ -64,9 +65,6 @@ padding_text is_there = if is_there then codes "&0," else []
 abbrev pub units_line : Bool → Bool → List ℕ → List ℕ → List ℕ → List ℕ
 units_line are_words is_padded label numbers comment = label ++ (codes " DCB "
     ++ (padding_text is_padded ++ (units_text are_words numbers ++ comment_text comment)))
-
-abbrev pub is_power_of_two : ℕ → Bool
-is_power_of_two n = if n == 0 then false else bit_and n (n - 1) == 0
 
 -- how far it is from a place to the next that is so far behind a multiple of a power of two
 abbrev pub alignment_size : ℕ → ℕ → ℕ → ℕ

@@ -3,7 +3,7 @@ use Rattle.std.proofs.Common.{◌≡◌, ◌<◌, ◌≤◌, ◌+◌, ◌-◌, �
 use Rattle.source_words.specs.Names.{NameLookup}
 use Rattle.source_words.specs.Words.{is_end, symbol}
 use Rattle.source_layout.specs.Layouts.{number_read}
-use Rattle.source_places.specs.Units.{listed_numbers}
+use Rattle.source_units.specs.Units.{listed_numbers}
 
 pub list_start : (count : ℕ) (names : NameLookup) (here : ℕ) (found text : List ℕ)
     → listed_numbers (count - 0) names here found text ≡ listed_numbers count names here found text
