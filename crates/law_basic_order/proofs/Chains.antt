@@ -1,6 +1,6 @@
 -- Chains of operands in a source for ObjAsm, read one operator after another.
 use Rattle.std.proofs.Common.{◌≡◌, ◌<◌, ◌≤◌, ℕ, zero, suc, List, ◌∷◌, length, Some, None, Ok, refl, ◌∙◌, arith}
-use Rattle.source_words.specs.Expressions.{chain_of, join_value, more_operands, operand_of_level, sum_in_parentheses, sum_within, value_with_sign, value_without_sign}
+use Rattle.source_words.specs.Expressions.{chain_of, join_value, more_operands, operand_of_level, sum_in_parentheses, sum_within, value_behind_signs, value_with_signs, value_without_sign}
 use Rattle.source_words.specs.Names.{NameLookup}
 use Rattle.source_words.specs.Operators.{operator_of_level}
 use Rattle.source_words.specs.Sums.{number_sum}
@@ -68,7 +68,7 @@ joined signed level text a joint v rest g j = joined_by signed level text a join
 
 -- the value with its sign, where so many parentheses may stand in it
 abbrev pub signed_within : NameLookup → ℕ → ℕ → Reader
-signed_within names here n = value_with_sign names here (sum_within names here n)
+signed_within names here n = value_with_signs names here (sum_within names here n)
 
 pub sum_is_chain : (names : NameLookup) (here n : ℕ) (text : List ℕ)
     → sum_within names here (suc n) text ≡ operand_of_level (signed_within names here n) 3 text
@@ -78,7 +78,7 @@ sum_is_chain names here n text = refl
 -- a sum in parentheses
 pub in_parentheses : (names : NameLookup) (here n : ℕ) (text rest : List ℕ) (v : ℕ) → IsRead (sum_within names here n text) v (41 ∷ rest)
     → IsRead (operand_of_level (signed_within names here n) 0 (40 ∷ text)) v rest
-unfolding operand_of_level value_with_sign value_without_sign sum_in_parentheses after_blanks byte
+unfolding operand_of_level value_with_signs value_behind_signs value_without_sign sum_in_parentheses after_blanks byte
 in_parentheses names here n text rest v r = record { is = rw r.is refl }
 
 -- and without a sign before it

@@ -1,5 +1,6 @@
 -- Numbers and variables, as BASIC has them and as they are read in a source for ObjAsm, and signs.
-use Rattle.std.proofs.Common.{◌≡◌, ◌≤◌, ◌-◌, ◌%◌, ◌^◌, ◌==◌, ◌&&◌, ◌||◌, ℕ, Bool, true, false, List, [], ◌∷◌, ◌++◌, length, append_assoc, nat_lt, nat_le, Some, Ok, refl, ap, ◌∙◌, arith, if◌then◌else◌}
+use Rattle.std.proofs.Common.{◌≡◌, ◌≤◌, suc, zero, ◌-◌, ◌%◌, ◌^◌, ◌==◌, ◌&&◌, ◌||◌, ℕ, Bool, true, false, List, [], ◌∷◌, ◌++◌, length, append_assoc, nat_lt, nat_le, Some, Ok, Err, refl, ap, subst, ◌∙◌, arith, if◌then◌else◌}
+use Rattle.std.proofs.lemmas.Bool.{eqb-true, false_from_ne_true}
 use Rattle.std.proofs.lemmas.Bool.Decides.{nat_tests}
 use Rattle.std.proofs.Math.Seq.{take-append_seam, drop-append_seam}
 use Rattle.std.proofs.lemmas.List.Folds.{list_all-append}
@@ -12,15 +13,18 @@ use Rattle.assembler_names.specs.Expressions.{numeral}
 use Rattle.assembler_names.specs.Words.{after_word, byte, is_word_byte, word}
 use Rattle.assembler_reading.proofs.Pieces.{after_before, front_len, word_before}
 use Rattle.basic_pieces.specs.Words.{is_digit}
-use Rattle.source_words.specs.Expressions.{inverse_value, number_value, operand_of_level, sum_within, value_of_named, value_with_sign, value_without_sign}
+use Rattle.source_words.specs.Expressions.{inverse_value, number_value, operand_of_level, signed_at, sum_within, value_at, value_behind_signs, value_of_named, value_with_signs, value_without_sign}
 use Rattle.source_words.specs.Names.{NameLookup}
 use Rattle.source_words.specs.Numbers.{number_at, word_number}
 use Rattle.source_words.specs.Operators.{after_not}
 use Rattle.source_words.specs.Sums.{number_sum}
-use Rattle.source_words.specs.Words.{after_blanks, in_bars, is_in_bars, name_at}
+use Rattle.source_words.specs.Words.{after_blanks, in_bars, is_in_bars, name_at, refusal_at}
 use Rattle.source_words.specs.declared.names.Meaning.TheVariants.{Value}
+use Rattle.source_words.specs.declared.refusal.WordRefusal.{WordRefusal}
+use Rattle.source_words.specs.declared.refusal.Why.TheVariants.{NotUnderstood}
+use Rattle.source_words.specs.declared.sums.AddressSum.{AddressSum}
 use Rattle.law_basic_order.specs.Trees.{are_decimal_digits, is_variable_name}
-use Rattle.law_basic_order.proofs.Chains.{IsRead, signed_within}
+use Rattle.law_basic_order.proofs.Chains.{IsRead, Reader, signed_within}
 use Rattle.law_basic_order.proofs.Readings.{IsApart, IsTranslation, value_translation}
 
 -- a digit is no other sign that is looked for
@@ -158,7 +162,7 @@ number_alone_is_read names here n c digits rest h apart =
 
 digit_has_no_sign : (names : NameLookup) (here n c : ℕ) (rest : List ℕ) → IsDigitByte c
     → operand_of_level (signed_within names here n) 0 (c ∷ rest) ≡ value_without_sign names here (sum_within names here n) (c ∷ rest)
-unfolding operand_of_level value_with_sign
+unfolding operand_of_level value_with_signs value_behind_signs
 digit_has_no_sign names here n c rest d = rw (apart_blank c rest d, d.no_minus, d.no_plus, d.no_colon) refl
 
 pub number_translation : (names : NameLookup) (here : ℕ) (loose : Bool) (digits : List ℕ) → are_decimal_digits digits ≡ true
@@ -211,7 +215,7 @@ named_is_read names here n c name rest v h e = record { is = rw (name_is c name 
 
 name_has_no_sign : (names : NameLookup) (here n : ℕ) (rest : List ℕ)
     → operand_of_level (signed_within names here n) 0 (124 ∷ rest) ≡ value_without_sign names here (sum_within names here n) (124 ∷ rest)
-unfolding operand_of_level value_with_sign after_blanks
+unfolding operand_of_level value_with_signs value_behind_signs after_blanks
 name_has_no_sign names here n rest = refl
 
 between_bars : (name rest : List ℕ) → (codes "|" ++ (name ++ codes "|")) ++ rest ≡ 124 ∷ (name ++ (124 ∷ rest))
@@ -234,15 +238,59 @@ variable_translation names here loose (c ∷ name) v h e =
     (let r = named_is_read names here n c (name ++ codes "%") rest v all e in
     record { is = name_has_no_sign names here n ((c ∷ (name ++ codes "%")) ++ (124 ∷ rest)) ∙ r.is }))
 
+-- what is read as a value begins with no sign
+minus_is_no_value : (names : NameLookup) (here : ℕ) (inner : Reader) (rest : List ℕ)
+    → value_at names here inner (45 ∷ rest) ≡ Err (refusal_at NotUnderstood (45 ∷ rest))
+unfolding value_of_named name_at byte word
+minus_is_no_value names here inner rest = refl
+
+plus_is_no_value : (names : NameLookup) (here : ℕ) (inner : Reader) (rest : List ℕ)
+    → value_at names here inner (43 ∷ rest) ≡ Err (refusal_at NotUnderstood (43 ∷ rest))
+unfolding value_of_named name_at byte word
+plus_is_no_value names here inner rest = refl
+
+colon_is_no_value : (names : NameLookup) (here : ℕ) (inner : Reader) (rest : List ℕ)
+    → value_at names here inner (58 ∷ rest) ≡ Err (refusal_at NotUnderstood (58 ∷ rest))
+unfolding value_of_named name_at byte word
+colon_is_no_value names here inner rest = refl
+
+no_sign : (names : NameLookup) (here : ℕ) (inner : Reader) (c sign : ℕ) (rest : List ℕ) (answer : AddressSum × List ℕ) (r : WordRefusal)
+    → value_at names here inner (sign ∷ rest) ≡ Err r → value_at names here inner (c ∷ rest) ≡ Ok answer → (c == sign) ≡ false
+no_sign names here inner c sign rest answer r refused e =
+    false_from_ne_true (c == sign) (λ t.
+    let there : value_at names here inner (sign ∷ rest) ≡ Ok answer =
+    subst (λ (x : ℕ). value_at names here inner (x ∷ rest) ≡ Ok answer) (eqb-true c sign t) e in absurd cc)
+
+unsigned_at : (names : NameLookup) (here : ℕ) (inner operand : Reader) (text place : List ℕ) (answer : AddressSum × List ℕ)
+    → value_at names here inner place ≡ Ok answer → value_without_sign names here inner text ≡ Ok answer
+    → signed_at names here inner operand text place ≡ Ok answer
+unsigned_at names here inner operand text [] answer at e = e
+unsigned_at names here inner operand text (c ∷ rest) answer at e =
+    let no_minus : (c == 45) ≡ false = no_sign names here inner c 45 rest answer _ (minus_is_no_value names here inner rest) at in
+    let no_plus : (c == 43) ≡ false = no_sign names here inner c 43 rest answer _ (plus_is_no_value names here inner rest) at in
+    let no_colon : (c == 58) ≡ false = no_sign names here inner c 58 rest answer _ (colon_is_no_value names here inner rest) at in
+    rw (no_minus, no_plus, no_colon) e
+
+unsigned : (k : ℕ) (names : NameLookup) (here : ℕ) (inner : Reader) (text : List ℕ) (answer : AddressSum × List ℕ)
+    → value_without_sign names here inner text ≡ Ok answer → value_behind_signs k names here inner text ≡ Ok answer
+unfolding value_behind_signs value_without_sign
+unsigned zero names here inner text answer e = e
+unsigned (suc k) names here inner text answer e =
+    unsigned_at names here inner (value_behind_signs k names here inner) text (after_blanks text) answer e e
+
 negative_is_read : (names : NameLookup) (here n : ℕ) (text rest : List ℕ) (v : ℕ) → IsRead (value_without_sign names here (sum_within names here n) text) v rest
     → IsRead (operand_of_level (signed_within names here n) 0 (45 ∷ text)) ((2 ^ 32 - v) % 2 ^ 32) rest
-unfolding operand_of_level value_with_sign after_blanks
-negative_is_read names here n text rest v r = record { is = rw r.is refl }
+unfolding operand_of_level value_with_signs value_behind_signs after_blanks
+negative_is_read names here n text rest v r =
+    let plain = unsigned 7 names here (sum_within names here n) text (number_sum v, rest) r.is in
+    record { is = rw plain refl }
 
 inverse_is_read : (names : NameLookup) (here n : ℕ) (text rest : List ℕ) (v : ℕ) → IsRead (value_without_sign names here (sum_within names here n) text) v rest
     → IsRead (operand_of_level (signed_within names here n) 0 (codes ":NOT:" ++ text)) (bit_not w32 v) rest
-unfolding operand_of_level value_with_sign after_blanks after_not inverse_value word after_word byte
-inverse_is_read names here n text rest v r = record { is = rw r.is refl }
+unfolding operand_of_level value_with_signs value_behind_signs after_blanks after_not inverse_value word after_word byte
+inverse_is_read names here n text rest v r =
+    let plain = unsigned 7 names here (sum_within names here n) text (number_sum v, rest) r.is in
+    record { is = rw plain refl }
 
 pub negative_translation : (names : NameLookup) (here : ℕ) (loose : Bool) (text : List ℕ) (v p level : ℕ) → level ≤ 0 → IsTranslation names here loose text v p level
     → IsTranslation names here loose (codes "-" ++ text) ((2 ^ 32 - v) % 2 ^ 32) p 1

@@ -123,35 +123,42 @@ inverted_number text None = Err (refusal_at TooManyLabels text)
 unfoldable pub inverse_value : AddressSum → List ℕ → Result AddressSum WordRefusal
 inverse_value f text = inverted_number text (plain_number f)
 
-abbrev pub negated_value : NameLookup → ℕ → (List ℕ → ReadOrRefused AddressSum) → List ℕ → ReadOrRefused AddressSum
-negated_value names here inner text = do
-  value ← value_without_sign names here inner text
+abbrev pub negated_value : (List ℕ → ReadOrRefused AddressSum) → List ℕ → ReadOrRefused AddressSum
+negated_value operand text = do
+  value ← operand text
   Ok (negative_of value.0, value.1)
 
 -- what follows the first colon of `:NOT:`
-abbrev pub inverted_value : NameLookup → ℕ → (List ℕ → ReadOrRefused AddressSum) → List ℕ → ReadOrRefused AddressSum
-inverted_value names here inner text = do
+abbrev pub inverted_value : (List ℕ → ReadOrRefused AddressSum) → List ℕ → ReadOrRefused AddressSum
+inverted_value operand text = do
   after ← after_not text
-  value ← value_without_sign names here inner after.1
+  value ← operand after.1
   inverse ← inverse_value value.0 after.1
   Ok (inverse, value.1)
 
--- by the first byte: `-` is 45, `+` 43, `:` 58
-abbrev pub signed_at : NameLookup → ℕ → (List ℕ → ReadOrRefused AddressSum) → List ℕ → List ℕ → ReadOrRefused AddressSum
-signed_at names here inner text [] = value_without_sign names here inner text
-signed_at names here inner text (c ∷ rest) =
-    if c == 45 then negated_value names here inner rest else (
-    if c == 43 then value_without_sign names here inner rest else (
-    if c == 58 then inverted_value names here inner rest else value_without_sign names here inner text))
+-- what a sign makes of the operand behind it, by the first byte: `-` is 45, `+` 43, `:` 58
+abbrev pub signed_at : NameLookup → ℕ → (List ℕ → ReadOrRefused AddressSum) → (List ℕ → ReadOrRefused AddressSum) → List ℕ → List ℕ
+    → ReadOrRefused AddressSum
+signed_at names here inner operand text [] = value_without_sign names here inner text
+signed_at names here inner operand text (c ∷ rest) =
+    if c == 45 then negated_value operand rest else (
+    if c == 43 then operand rest else (
+    if c == 58 then inverted_value operand rest else value_without_sign names here inner text))
 
--- a value, before which `-`, `+` or `:NOT:` may stand
-unfoldable pub value_with_sign : NameLookup → ℕ → (List ℕ → ReadOrRefused AddressSum) → List ℕ → ReadOrRefused AddressSum
-value_with_sign names here inner text = signed_at names here inner text (after_blanks text)
+-- a value, before which so many of `-`, `+` and `:NOT:` may stand, of which the last comes first
+unfoldable pub value_behind_signs : ℕ → NameLookup → ℕ → (List ℕ → ReadOrRefused AddressSum) → List ℕ → ReadOrRefused AddressSum
+value_behind_signs zero names here inner text = value_without_sign names here inner text
+value_behind_signs (suc n) names here inner text =
+    signed_at names here inner (value_behind_signs n names here inner) text (after_blanks text)
+
+-- a value, before which up to 8 of them may stand
+unfoldable pub value_with_signs : NameLookup → ℕ → (List ℕ → ReadOrRefused AddressSum) → List ℕ → ReadOrRefused AddressSum
+value_with_signs names here inner text = value_behind_signs 8 names here inner text
 
 -- a sum in which so many parentheses stand within one another, with the one around it
 unfoldable pub sum_within : NameLookup → ℕ → ℕ → List ℕ → ReadOrRefused AddressSum
 sum_within names here zero text = Err (refusal_at TooDeep text)
-sum_within names here (suc n) text = chain_of (operand_of_level (value_with_sign names here (sum_within names here n)) 2) 2 text
+sum_within names here (suc n) text = chain_of (operand_of_level (value_with_signs names here (sum_within names here n)) 2) 2 text
 
 -- the value of a sum that stands on this line, in which up to 32 parentheses stand within one another
 unfoldable pub source_sum : NameLookup → ℕ → List ℕ → ReadOrRefused AddressSum

@@ -1,7 +1,7 @@
 //! Sums of numbers and names, with products, shifts and parentheses.
 
 ghost use Rattle.std.specs.Prelude.{◌≡◌, length, option_map};
-ghost use Rattle.source_words.specs.Expressions.{after_own_place, value_in_braces, chain_of, source_sum, inverse_value, join_value, more_operands, value_of_named, sum_within, number_value, operand_of_level, sum_in_parentheses, value_with_sign, value_without_sign, value_of_name};
+ghost use Rattle.source_words.specs.Expressions.{after_own_place, value_in_braces, chain_of, source_sum, inverse_value, join_value, more_operands, value_of_named, sum_within, number_value, operand_of_level, sum_in_parentheses, value_with_signs, value_behind_signs, value_without_sign, value_of_name};
 ghost use Rattle.source_words.specs.Names.{meaning_of_name};
 ghost use Rattle.source_words.specs.Words.{reading};
 
@@ -19,6 +19,9 @@ pub const MOST_PARENTHESES: u32 = 8;
 
 // How many of a sum. What stands for a listing of BASIC has up to four for one of the listing.
 const MOST_IN_A_SUM: u32 = 32;
+
+// How many signs may stand before a value.
+const MOST_SIGNS: u32 = 8;
 
 /// The value of the sum at the front of a text that stands on this line.
 #[tactic(auto, unfolding(crate::specs::Expressions::source_sum, crate::specs::Expressions::sum_within))]
@@ -39,7 +42,7 @@ fn chain<'t>(
     text: &'t [u8],
 ) -> ReadOrRefused<'t, AddressSum>
     ensures { reading result ≡ chain_of (operand_of_level
-        (value_with_sign (meaning_of_name names.now) here
+        (value_with_signs (meaning_of_name names.now) here
         (sum_within (meaning_of_name names.now) here nesting)) level)
         level text.now }
 {
@@ -59,7 +62,7 @@ fn more<'t>(
     text: &'t [u8],
 ) -> ReadOrRefused<'t, AddressSum>
     ensures { reading result ≡ more_operands (length text.now) (operand_of_level
-        (value_with_sign (meaning_of_name names.now) here
+        (value_with_signs (meaning_of_name names.now) here
         (sum_within (meaning_of_name names.now) here nesting)) level)
         level first text.now }
 {
@@ -79,8 +82,8 @@ fn more<'t>(
     Ok((value, rest))
 }
 
-// The operand of a level: a chain of the level below, or at the lowest a value with its sign.
-#[tactic(auto, unfolding(crate::specs::Expressions::operand_of_level))]
+// The operand of a level: a chain of the level below, or at the lowest a value with its signs.
+#[tactic(auto, unfolding(crate::specs::Expressions::operand_of_level, crate::specs::Expressions::value_with_signs))]
 #[cycle(sum)]
 fn operand<'t>(
     names: &Names,
@@ -90,38 +93,42 @@ fn operand<'t>(
     text: &'t [u8],
 ) -> ReadOrRefused<'t, AddressSum>
     ensures { reading result ≡ operand_of_level
-        (value_with_sign (meaning_of_name names.now) here
+        (value_with_signs (meaning_of_name names.now) here
         (sum_within (meaning_of_name names.now) here nesting)) level text.now }
 {
     if level == 0 {
-        value_with_sign(names, here, nesting, text)
+        value_behind_signs(names, here, nesting, MOST_SIGNS, text)
     } else {
         chain(names, here, nesting, level - 1, text)
     }
 }
 
-// A value, before which `-`, `+` or `:NOT:` may stand.
-#[tactic(auto, unfolding(crate::specs::Expressions::value_with_sign))]
+// A value, before which so many of `-`, `+` and `:NOT:` may stand, of which the last comes first.
+#[tactic(auto, unfolding(crate::specs::Expressions::value_behind_signs))]
 #[cycle(sum)]
-fn value_with_sign<'t>(
+fn value_behind_signs<'t>(
     names: &Names,
     here: usize,
     nesting: u32,
+    signs: u32,
     text: &'t [u8],
 ) -> ReadOrRefused<'t, AddressSum>
     ensures { reading result
-        ≡ value_with_sign (meaning_of_name names.now) here
+        ≡ value_behind_signs signs (meaning_of_name names.now) here
         (sum_within (meaning_of_name names.now) here nesting) text.now }
 {
+    if signs == 0 {
+        return value_without_sign(names, here, nesting, text);
+    }
     match after_blanks(text) {
         [b'-', rest @ ..] => {
-            let (value, rest) = value_without_sign(names, here, nesting, rest)?;
+            let (value, rest) = value_behind_signs(names, here, nesting, signs - 1, rest)?;
             Ok((value.negated(), rest))
         }
-        [b'+', rest @ ..] => value_without_sign(names, here, nesting, rest),
+        [b'+', rest @ ..] => value_behind_signs(names, here, nesting, signs - 1, rest),
         [b':', rest @ ..] => {
             let ((), after) = after_not(rest)?;
-            let (value, rest) = value_without_sign(names, here, nesting, after)?;
+            let (value, rest) = value_behind_signs(names, here, nesting, signs - 1, after)?;
             Ok((inverse_value(value, after)?, rest))
         }
         _ => value_without_sign(names, here, nesting, text),
