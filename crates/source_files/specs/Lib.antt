@@ -4,3 +4,4 @@ pub mod Binding
 pub mod Joined
 pub mod Getting
 pub mod Passes
+pub mod Pairs

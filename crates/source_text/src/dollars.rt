@@ -7,7 +7,9 @@ ghost use Rattle.source_text.specs.Dollars.{after_dollar_piece, after_named, dol
 use crate::reader::TextReader;
 use assembler_names::words::{after_word, byte, word};
 use profile::{Sink, WriteFault, push_all};
-use source_variables::pieces::{after_dot, after_second_sign, bytes_before_sign, from_sign};
+use source_variables::pieces::{
+    after_dot, after_second_sign, bytes_before_sign, from_sign, is_in_string, pair_of_signs,
+};
 use source_variables::variables::push_plain_value;
 use std::alloc::{AllocError, Global};
 use view_items::TextSink;
@@ -25,36 +27,47 @@ impl<'a> TextReader<'a> {
     }
 
     #[tactic(auto, using(crate::proofs::Pieces::dollar_steps))]
-    fn push_without_dollars<W: Sink>(&self, text: &[u8], sink: &mut W) -> Result<(), WriteFault>
+    fn push_without_dollars<W: Sink>(&self, line: &[u8], sink: &mut W) -> Result<(), WriteFault>
         ensures { Writes W.contents W.has_failed sink.old sink.new result
-            (text_without_dollars self.now text.now) }
+            (text_without_dollars self.now line.now) }
     {
-        let mut rest = text;
-        for _pieces in 0..text.len() {
+        let mut rest = line;
+        for _pieces in 0..line.len() {
             if rest.is_empty() {
                 return Ok(());
             }
-            self.push_dollar_piece(rest, sink)?;
+            self.push_dollar_piece(line, rest, sink)?;
             rest = self.after_dollar_piece(rest);
         }
         Ok(())
     }
 
-    // The piece at the front: what stands for a name, or what stands before the next `$`.
-    fn push_dollar_piece<W: Sink>(&self, text: &[u8], sink: &mut W) -> Result<(), WriteFault>
+    // The piece at the front of what is left of a line: what stands for a name, or what stands before
+    // the next `$`.
+    fn push_dollar_piece<W: Sink>(
+        &self,
+        line: &[u8],
+        text: &[u8],
+        sink: &mut W,
+    ) -> Result<(), WriteFault>
         ensures { Writes W.contents W.has_failed sink.old sink.new result
-            (dollar_piece self.now text.now) }
+            (dollar_piece self.now line.now text.now) }
     {
         match byte(b'$', text) {
-            Some(rest) => self.push_behind_sign(rest, sink),
+            Some(rest) => self.push_behind_sign(line, rest, sink),
             None => push_all(sink, bytes_before_sign(text)),
         }
     }
 
-    // What stands for `$` and what follows it: an argument, a value, or the sign.
-    fn push_behind_sign<W: Sink>(&self, rest: &[u8], sink: &mut W) -> Result<(), WriteFault>
+    // What stands for `$` and what follows it in a line: an argument, a value, or the sign.
+    fn push_behind_sign<W: Sink>(
+        &self,
+        line: &[u8],
+        rest: &[u8],
+        sink: &mut W,
+    ) -> Result<(), WriteFault>
         ensures { Writes W.contents W.has_failed sink.old sink.new result
-            (text_behind_sign self.now rest.now) }
+            (text_behind_sign self.now line.now rest.now) }
     {
         let name = word(rest);
         match self.argument_here(name) {
@@ -62,7 +75,7 @@ impl<'a> TextReader<'a> {
             None => match self.variable_here(name) {
                 Some(value) => push_plain_value(&self.texts, value, sink),
                 None => match byte(b'$', rest) {
-                    Some(_) => push_all(sink, b"$$"),
+                    Some(_) => push_all(sink, pair_of_signs(is_in_string(line, rest))),
                     None => push_all(sink, b"$"),
                 },
             },

@@ -1,7 +1,8 @@
 -- The pieces of a line in which names may have values.
-use Rattle.std.specs.Prelude.{ℕ, Bool, not, ◌==◌, List, [], ◌∷◌, take, drop, length, Option, Some, None, if◌then◌else◌}
+use Rattle.std.specs.Prelude.{ℕ, Bool, true, false, not, ◌%◌, ◌==◌, List, [], ◌∷◌, take, drop, length, count_by, codes, Option, Some, None, if◌then◌else◌}
 use Rattle.std.specs.List.{prefix_len}
 use Rattle.assembler_names.specs.Words.{after_word, byte, word}
+use Rattle.source_layout.specs.Lines.{bytes_before}
 use Rattle.source_layout.specs.References.{after_quote, is_quote}
 use Rattle.source_words.specs.Words.{after_blanks}
 use Rattle.source_variables.specs.Constants.{built_in_at, measured_name}
@@ -62,3 +63,12 @@ after_work_at text = if length (word text) == 0 then drop 1 text else after_word
 -- what follows the word that names what a line asks for, or its sign
 abbrev pub after_work_word : List ℕ → List ℕ
 after_work_word text = after_work_at (after_blanks text)
+
+-- whether what is left of a line is in a string: an odd number of double quotes (34) stands before it
+abbrev pub is_in_string : List ℕ → List ℕ → Bool
+is_in_string line rest = count_by (λ c. c == 34) (bytes_before line rest) % 2 == 1
+
+-- what a pair of signs is
+abbrev pub pair_of_signs : Bool → List ℕ
+pair_of_signs true = codes "$"
+pair_of_signs false = codes "$$"

@@ -1,12 +1,13 @@
 //! The pieces of a line in which names may have values.
 
-ghost use Rattle.std.specs.Prelude.{◌≡◌, ◌≤◌, length};
+ghost use Rattle.std.specs.Prelude.{◌≡◌, ◌==◌, ◌≤◌, count_by, length};
 ghost use Rattle.std.specs.List.{prefix_len};
 ghost use Rattle.source_variables.specs.Constants.{measured_name};
-ghost use Rattle.source_variables.specs.Pieces.{after_dot, after_measured_or, after_operand_piece, after_plain_piece, after_second_sign, after_second_colon, after_work_word, bytes_before_sign, from_sign, is_before_sign};
+ghost use Rattle.source_variables.specs.Pieces.{after_dot, after_measured_or, after_operand_piece, after_plain_piece, after_second_sign, after_second_colon, after_work_word, bytes_before_sign, from_sign, is_before_sign, is_in_string, pair_of_signs};
 
 use crate::constants::{built_in_at, measured_name};
 use assembler_names::words::{after_word, byte, word};
+use source_layout::lines::bytes_before;
 use source_layout::references::{after_quote, is_quote};
 use source_mnemonics::spellings::behind;
 use source_words::words::after_blanks;
@@ -116,4 +117,24 @@ fn after_second_colon(text: &[u8]) -> &[u8]
         Some(rest) => rest,
         None => text,
     }
+}
+
+/// What a pair of signs is: in a string one sign.
+pub fn pair_of_signs(in_string: bool) -> &'static [u8]
+    ensures { result.now ≡ pair_of_signs in_string }
+{
+    if in_string { b"$" } else { b"$$" }
+}
+
+/// Whether what is left of a line is in a string: an odd number of double quotes stands before it.
+pub fn is_in_string(line: &[u8], rest: &[u8]) -> bool
+    ensures { result ≡ is_in_string line.now rest.now }
+{
+    quote_count(bytes_before(line, rest)) % 2 == 1
+}
+
+fn quote_count(text: &[u8]) -> usize
+    ensures { result ≡ count_by (λ c. c == 34) text.now }
+{
+    text.iter().filter(|byte| **byte == b'"').count()
 }
