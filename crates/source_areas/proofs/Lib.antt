@@ -1,3 +1,5 @@
+pub mod AreaNames
 pub mod Orders
 pub mod Permutations
 pub mod Readings
+pub mod Standing

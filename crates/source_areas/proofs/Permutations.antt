@@ -12,16 +12,16 @@ use Rattle.source_areas.specs.Gathering.{lines_of_area, lines_of_areas}
 use Rattle.source_areas.specs.Laws.{LinesComeOutOnce}
 use Rattle.source_areas.specs.declared.areas.AreaLine.{AreaLine}
 
-no_lines_of_areas : (k area : ℕ) → lines_of_areas k area [] ≡ []
+pub no_lines_of_areas : (k area : ℕ) → lines_of_areas k area [] ≡ []
 unfolding lines_of_areas lines_of_area
 no_lines_of_areas zero area = refl
 no_lines_of_areas (suc k) area = no_lines_of_areas k (suc area)
 
-not_there : (p : AreaLine) (area : ℕ) → p.area ≢ area → (p.area == area) ≡ false
+pub not_there : (p : AreaLine) (area : ℕ) → p.area ≢ area → (p.area == area) ≡ false
 not_there p area other = false_from_ne_true (p.area == area) (λ t. other (eqb-true p.area area t))
 
 -- a line of an area before these
-passed : (k area : ℕ) (p : AreaLine) (ps : List AreaLine) → p.area < area → lines_of_areas k area (p ∷ ps) ≡ lines_of_areas k area ps
+pub passed : (k area : ℕ) (p : AreaLine) (ps : List AreaLine) → p.area < area → lines_of_areas k area (p ∷ ps) ≡ lines_of_areas k area ps
 unfolding lines_of_areas lines_of_area
 passed zero area p ps h = refl
 passed (suc k) area p ps h =
@@ -64,7 +64,7 @@ taken (suc k) area p ps low high =
     (λ other. let above : suc area ≤ p.area = omega arith in let below : p.area < suc area + k = omega arith in taken k (suc area) p ps above below)
 
 -- the areas of lines are among so many
-abbrev IsBelow : ℕ → List AreaLine → Type 0
+abbrev pub IsBelow : ℕ → List AreaLine → Type 0
 IsBelow n [] = Unit {0}
 IsBelow n (p ∷ ps) = (p.area < n) × IsBelow n ps
 
@@ -75,11 +75,11 @@ each_once n (p ∷ ps) h =
     let high : p.area < 0 + n = omega (arith, h.0) in
     IsPermutation-trans _ _ _ (IsPermutation-cons p.line _ _ (each_once n ps h.1)) (taken n 0 p ps low high)
 
-pushed : (n : ℕ) (ps : List AreaLine) (p : AreaLine) → IsBelow n ps → p.area < n → IsBelow n (ps ++ p ∷ [])
+pub pushed : (n : ℕ) (ps : List AreaLine) (p : AreaLine) → IsBelow n ps → p.area < n → IsBelow n (ps ++ p ∷ [])
 pushed n [] p h last = (last, tt)
 pushed n (q ∷ qs) p h last = (h.0, pushed n qs p h.1 last)
 
-grown : (n m : ℕ) (ps : List AreaLine) → n ≤ m → IsBelow n ps → IsBelow m ps
+pub grown : (n m : ℕ) (ps : List AreaLine) → n ≤ m → IsBelow n ps → IsBelow m ps
 grown n m [] up h = tt
 grown n m (p ∷ ps) up h = let first : p.area < n = h.0 in (omega arith, grown n m ps up h.1)
 

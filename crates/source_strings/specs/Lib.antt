@@ -3,3 +3,4 @@ pub use Rattle.source_words
 pub mod Quotes
 pub mod Numbers
 pub mod Strings
+pub mod Laws
