@@ -9,9 +9,11 @@ use Rattle.objasm_source.specs.Writing.{first_pool, source_text}
 use Rattle.objasm_source.specs.declared.sources.LineRefusal.{LineRefusal}
 use Rattle.source_conversion.specs.Checking.{assembler_refusals}
 use Rattle.source_conversion.specs.Reports.{line_files, reports_text}
-use Rattle.source_files.specs.Joined.{JoinedText}
+use Rattle.source_bytes.specs.Printable.{printable_lines}
+use Rattle.source_files.specs.Joined.{JoinedText, joined_with_text}
 use Rattle.source_files.specs.Passes.{file_text, joined_source}
 use Rattle.source_files.specs.declared.joined.LineOrigin.{LineOrigin}
+use Rattle.source_files.specs.Pairs.{source_with_pairs}
 use Rattle.source_text.specs.Plain.{plain_source}
 use Rattle.source_text.specs.Reading.{read_text}
 
@@ -52,18 +54,23 @@ conversion_of_lines origins texts address = conversion_of_known origins texts (r
 abbrev pub conversion_of_plain : JoinedText → ℕ → SourceConversion
 conversion_of_plain j address = conversion_of_lines j.origins (lines j.text) address
 
+-- with numbers for the bytes of strings that no text of the assembler has
+abbrev pub printable_source : JoinedText → JoinedText
+printable_source j = joined_with_text j (printable_lines (lines j.text))
+
 -- what the lines that are read of a source are converted to
 abbrev pub conversion_of_read : JoinedText → ℕ → SourceConversion
-conversion_of_read j address = conversion_of_plain (plain_source j) address
+conversion_of_read j address = conversion_of_plain (plain_source (printable_source j)) address
 
 -- what a joined text is converted to, for a program that begins there
 abbrev pub conversion_of_source : JoinedText → ℕ → SourceConversion
 conversion_of_source j address = conversion_of_read (read_text j) address
 
--- the lines of the files, or of the listing that the first is, behind those that bind names
+-- the lines of the files, or of the listing that the first is, behind those that bind names; `$` in a
+-- string of a listing stands for itself
 abbrev pub source_behind : Bool → List (List ℕ) → List (List ℕ) → List ℕ → JoinedText
 source_behind is_basic paths texts bound =
-    if is_basic then listing_source (length texts) bound (file_text texts 0)
+    if is_basic then source_with_pairs (listing_source (length texts) bound (file_text texts 0))
     else joined_source paths texts bound
 
 -- what a source is converted to that stands alone: no line of it can ask for another file

@@ -13,8 +13,9 @@ use assembler::AsmError;
 use basic_source::listing_source;
 use objasm_source::{LineRefusal, ObjAsmSource, push_source, read_source};
 use profile::{Sink, WriteFault};
+use source_bytes::printable_lines;
 use source_files::joined::origin_of_line;
-use source_files::{JoinedSource, LineOrigin, file_text, joined_source};
+use source_files::{JoinedSource, LineOrigin, file_text, joined_source, source_with_pairs};
 use source_text::{plain_source, read_text};
 use std::alloc::{AllocError, Global};
 use std::marker::Model;
@@ -64,7 +65,7 @@ pub fn converted_text(
 }
 
 /// The lines of the files of a source, the first and those that it asks for, or of the listing that
-/// the first is, behind those that bind names.
+/// the first is, behind those that bind names. In a string of a listing `$` stands for itself.
 ///
 /// # Errors
 ///
@@ -80,7 +81,8 @@ pub fn source_behind(
         ≡ source_behind is_basic (texts_of paths.now) (texts_of texts.now) bound.now) }
 {
     if is_basic {
-        listing_source(alloc, texts.len(), bound, file_text(texts, 0))
+        let listing = listing_source(alloc, texts.len(), bound, file_text(texts, 0))?;
+        source_with_pairs(alloc, listing)
     } else {
         joined_source(alloc, paths, texts, bound)
     }
@@ -100,19 +102,20 @@ pub fn converted_source(
     ensures { IfOk result (λ converted. converted ≡ conversion_of_source source.now address) }
 {
     let read = read_text(alloc, source)?;
-    converted_read(alloc, &read, address)
+    converted_read(alloc, read, address)
 }
 
 // Of the lines that are read of a source.
 fn converted_read(
     alloc: Global,
-    read: &JoinedSource,
+    read: JoinedSource,
     address: u32,
 ) -> Result<ConvertedSource, AllocError>
     requires { address < 2 ^ 26 }
-    ensures { IfOk result (λ converted. converted ≡ conversion_of_read read.now address) }
+    ensures { IfOk result (λ converted. converted ≡ conversion_of_read read address) }
 {
-    let plain = plain_source(alloc, read)?;
+    let text = printable_lines(alloc, read.text())?;
+    let plain = plain_source(alloc, &read.with_text(text))?;
     converted_plain(alloc, plain, address)
 }
 
