@@ -1,4 +1,3 @@
 pub mod NameLemmas
-pub mod Readings
 pub mod Scans
 pub mod Writings

@@ -11,7 +11,8 @@ use Rattle.basic_pieces.specs.Pieces.{basic_piece_at}
 use Rattle.basic_pieces.specs.declared.pieces.BasicPiece.{BasicPiece}
 use Rattle.basic_source.specs.Expressions.{is_that_name, name_within}
 use Rattle.basic_source.specs.NameSets.{GainsNames, is_in_set, set_names}
-use Rattle.basic_source.specs.Operands.{basic_after_operand, is_register_in, register_within}
+use Rattle.basic_operations.specs.Operands.{basic_after_operand}
+use Rattle.basic_source.specs.Operands.{is_register_in, register_within}
 
 -- a name in a set of references to names
 pub found_in_set : (name : List ℕ) (keys : List (Bor (List ℕ))) → list_any (λ (k : Bor (List ℕ)). bytes_eq name k.now) keys ≡ is_in_set (set_names keys) name

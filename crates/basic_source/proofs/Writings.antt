@@ -4,10 +4,11 @@ use Rattle.std.specs.Io.KnownBytes.{Appends}
 use Rattle.profile.specs.Output.{AddsAllBut}
 use Rattle.profile.proofs.OutputLemmas.{AddsAllBut-start, AddsAllBut-more, Appends-from_all_but}
 use Rattle.source_layout.specs.Lines.{bytes_before}
-use Rattle.basic_source.specs.Statements.{BasicStatement}
+use Rattle.basic_statements.specs.Statements.{BasicStatement}
 use Rattle.basic_source.specs.StringVariables.{after_front_of_strings, front_of_strings, strings_within}
 use Rattle.basic_source.specs.Expressions.{basic_pieces_text}
-use Rattle.basic_source.specs.Operands.{basic_after_operand, operands_within, run_text}
+use Rattle.basic_operations.specs.Operands.{basic_after_operand}
+use Rattle.basic_source.specs.Operands.{operands_within, run_text}
 use Rattle.basic_pieces.specs.Pieces.{basic_piece_at, basic_piece_text}
 use Rattle.basic_pieces.specs.declared.pieces.BasicPiece.{BasicPiece}
 
@@ -79,36 +80,36 @@ string_end a b count i whole text all done h = Appends-from_all_but a b _ all do
 
 pub ruleset string_steps = (string_start, string_more, string_stop, string_end)
 
-pub operand_start : (a : Option (List ℕ)) (count : ℕ) (text : List ℕ) → AddsAllBut a a (operands_within (count - 0) text) (operands_within count text)
-operand_start a count text =
+pub operand_start : (a : Option (List ℕ)) (count : ℕ) (whole : List BasicStatement) (text : List ℕ) → AddsAllBut a a (operands_within (count - 0) whole text) (operands_within count whole text)
+operand_start a count whole text =
     let k : count - 0 ≡ count = omega arith in
-    subst (λ (n : ℕ). AddsAllBut a a (operands_within n text) (operands_within count text)) (sym k) (AddsAllBut-start a _)
+    subst (λ (n : ℕ). AddsAllBut a a (operands_within n whole text) (operands_within count whole text)) (sym k) (AddsAllBut-start a _)
 
-operand_ends : (count i : ℕ) (text : List ℕ) → count ≤ i → operands_within (count - i) text ≡ []
+operand_ends : (count i : ℕ) (whole : List BasicStatement) (text : List ℕ) → count ≤ i → operands_within (count - i) whole text ≡ []
 unfolding operands_within
-operand_ends count i text h = let k : count - i ≡ 0 = omega arith in rw k refl
+operand_ends count i whole text h = let k : count - i ≡ 0 = omega arith in rw k refl
 
-operand_stops : (count i : ℕ) (text : List ℕ) → i < count → (length text == 0) ≡ true → operands_within (count - i) text ≡ []
+operand_stops : (count i : ℕ) (whole : List BasicStatement) (text : List ℕ) → i < count → (length text == 0) ≡ true → operands_within (count - i) whole text ≡ []
 unfolding operands_within
-operand_stops count i text h e = let k : count - i ≡ suc (count - (i + 1)) = omega arith in rw (k, e) refl
+operand_stops count i whole text h e = let k : count - i ≡ suc (count - (i + 1)) = omega arith in rw (k, e) refl
 
-operand_goes_on : (count i : ℕ) (text next : List ℕ) → i < count → (length text == 0) ≡ false → next ≡ basic_after_operand text
-    → operands_within (count - i) text ≡ run_text (bytes_before text next) ++ operands_within (count - (i + 1)) next
+operand_goes_on : (count i : ℕ) (whole : List BasicStatement) (text next : List ℕ) → i < count → (length text == 0) ≡ false → next ≡ basic_after_operand text
+    → operands_within (count - i) whole text ≡ run_text whole (bytes_before text next) ++ operands_within (count - (i + 1)) whole next
 unfolding operands_within
-operand_goes_on count i text next h e r = let k : count - i ≡ suc (count - (i + 1)) = omega arith in rw (k, e, ← r) refl
+operand_goes_on count i whole text next h e r = let k : count - i ≡ suc (count - (i + 1)) = omega arith in rw (k, e, ← r) refl
 
-pub operand_more : (a b c : Option (List ℕ)) (count i : ℕ) (text next : List ℕ) (all : List ℕ)
-    → AddsAllBut a b (operands_within (count - i) text) all → Appends b c (run_text (bytes_before text next))
-    → i < count → (length text == 0) ≡ false → next ≡ basic_after_operand text → AddsAllBut a c (operands_within (count - (i + 1)) next) all
-operand_more a b c count i text next all done now h e r =
-    AddsAllBut-more a b c _ _ _ all done now (operand_goes_on count i text next h e r)
+pub operand_more : (a b c : Option (List ℕ)) (count i : ℕ) (whole : List BasicStatement) (text next : List ℕ) (all : List ℕ)
+    → AddsAllBut a b (operands_within (count - i) whole text) all → Appends b c (run_text whole (bytes_before text next))
+    → i < count → (length text == 0) ≡ false → next ≡ basic_after_operand text → AddsAllBut a c (operands_within (count - (i + 1)) whole next) all
+operand_more a b c count i whole text next all done now h e r =
+    AddsAllBut-more a b c _ _ _ all done now (operand_goes_on count i whole text next h e r)
 
-pub operand_stop : (a b : Option (List ℕ)) (count i : ℕ) (text all : List ℕ)
-    → AddsAllBut a b (operands_within (count - i) text) all → i < count → (length text == 0) ≡ true → Appends a b all
-operand_stop a b count i text all done h e = Appends-from_all_but a b _ all done (operand_stops count i text h e)
+pub operand_stop : (a b : Option (List ℕ)) (count i : ℕ) (whole : List BasicStatement) (text all : List ℕ)
+    → AddsAllBut a b (operands_within (count - i) whole text) all → i < count → (length text == 0) ≡ true → Appends a b all
+operand_stop a b count i whole text all done h e = Appends-from_all_but a b _ all done (operand_stops count i whole text h e)
 
-pub operand_end : (a b : Option (List ℕ)) (count i : ℕ) (text all : List ℕ)
-    → AddsAllBut a b (operands_within (count - i) text) all → count ≤ i → Appends a b all
-operand_end a b count i text all done h = Appends-from_all_but a b _ all done (operand_ends count i text h)
+pub operand_end : (a b : Option (List ℕ)) (count i : ℕ) (whole : List BasicStatement) (text all : List ℕ)
+    → AddsAllBut a b (operands_within (count - i) whole text) all → count ≤ i → Appends a b all
+operand_end a b count i whole text all done h = Appends-from_all_but a b _ all done (operand_ends count i whole text h)
 
 pub ruleset operand_steps = (operand_start, operand_more, operand_stop, operand_end)

@@ -6,8 +6,9 @@ use Rattle.assembler_names.specs.Words.{is_same_name, word}
 use Rattle.source_words.specs.Words.{after_blanks, symbol}
 use Rattle.basic_source.specs.Expressions.{ends_after, expression_text, has_loose}
 use Rattle.basic_source.specs.Instructions.{assembler_text, uses_register}
-use Rattle.basic_source.specs.Statements.{BasicStatement, opens_assembler}
-use Rattle.basic_source.specs.Wanted.{assignment_at, is_needed}
+use Rattle.basic_statements.specs.Statements.{BasicStatement, opens_assembler}
+use Rattle.basic_source.specs.RoomSizes.{is_needed}
+use Rattle.basic_statements.specs.Assignment.{assignment_at}
 use Rattle.basic_pieces.specs.Words.{after_keyword, basic_name, is_text_name}
 
 abbrev pub statement_uses : List ℕ → BasicStatement → Bool

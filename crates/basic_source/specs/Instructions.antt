@@ -1,24 +1,25 @@
 -- Statements of the assembler (BBC BASIC Reference Manual, "The ARM assembler").
 use Rattle.std.specs.Prelude.{ℕ, Bool, true, false, not, ◌==◌, ◌&&◌, ◌||◌, List, [], ◌∷◌, ◌++◌, length, codes, Option, Some, None, is_some, is_none, if◌then◌else◌}
-use Rattle.assembler_names.specs.Words.{after_word, word}
+use Rattle.basic_operations.specs.Operations.{operation_and_operands, without_label}
 use Rattle.source_words.specs.Words.{after_blanks}
-use Rattle.basic_source.specs.Data.{basic_data_text, basic_data_work}
+use Rattle.basic_operations.specs.Works.{basic_data_work, is_jump, is_option}
+use Rattle.basic_source.specs.Data.{basic_data_text}
 use Rattle.basic_source.specs.Operands.{has_register, basic_operands_text}
-use Rattle.basic_source.specs.Statements.{BasicStatement}
+use Rattle.basic_statements.specs.Statements.{BasicStatement}
 use Rattle.basic_pieces.specs.Words.{after_keyword, basic_name}
-use Rattle.basic_source.specs.declared.data.BasicData.{BasicData}
+use Rattle.basic_operations.specs.declared.data.BasicData.{BasicData}
 
-abbrev pub basic_instruction_text : List ℕ → List ℕ
-basic_instruction_text text =
-    (codes " " ++ (word text ++ codes " ")) ++ basic_operands_text (after_blanks (after_word text))
+abbrev pub spelt_operation : List BasicStatement → List ℕ → List ℕ → List ℕ
+spelt_operation all name operands =
+    (codes " " ++ (name ++ codes " ")) ++ basic_operands_text all (after_blanks operands)
 
--- nothing, or OPT
-abbrev pub is_option : List ℕ → Bool
-is_option text = length text == 0 || is_some (after_keyword (codes "OPT") text)
+abbrev pub basic_instruction_text : List BasicStatement → List ℕ → List ℕ
+basic_instruction_text all text =
+    spelt_operation all (operation_and_operands text).0 (operation_and_operands text).1
 
 abbrev pub data_or_instruction : List BasicStatement → List ℕ → Option (BasicData × List ℕ) → List ℕ
 data_or_instruction all text (Some d) = basic_data_text all d.0 d.1
-data_or_instruction all text None = basic_instruction_text text
+data_or_instruction all text None = basic_instruction_text all text
 
 -- a call of a function, which may lay down what it likes
 abbrev pub called_function_text : List ℕ → List ℕ
@@ -47,33 +48,9 @@ assembler_text all [] = basic_work_text all []
 assembler_text all (c ∷ rest) = if c == 93 then [] else (
     if c == 46 then labelled_text all rest else basic_work_text all (c ∷ rest))
 
-abbrev pub after_name_or : List ℕ → Option (List ℕ × List ℕ) → List ℕ
-after_name_or text (Some n) = after_blanks n.1
-after_name_or text None = text
-
-abbrev pub without_label : List ℕ → List ℕ
-without_label [] = []
-without_label (c ∷ rest) = if c == 46 then after_name_or (c ∷ rest) (basic_name rest) else c ∷ rest
-
--- `I` is 73, `i` 105
-abbrev pub is_branch_before : List ℕ → Bool
-is_branch_before [] = true
-is_branch_before (c ∷ rest) = not (c == 73 || c == 105)
-
--- `W` is 87, `w` 119
-abbrev pub is_swi_before : List ℕ → Bool
-is_swi_before [] = false
-is_swi_before (c ∷ rest) = c == 87 || c == 119
-
--- a branch or SWI: `B` (66, 98) but not BIC, `SW` (83, 115)
-abbrev pub is_jump : List ℕ → Bool
-is_jump [] = false
-is_jump (c ∷ rest) = if c == 66 || c == 98 then is_branch_before rest else (
-    if c == 83 || c == 115 then is_swi_before rest else false)
-
 abbrev pub body_uses : List ℕ → List ℕ → Bool
 body_uses name text = not (is_option text) && (is_none (basic_data_work text) && (not (is_jump text)
-    && has_register name (after_word text)))
+    && has_register name (operation_and_operands text).1))
 
 -- the name is a register in the statement
 abbrev pub uses_register : List ℕ → List ℕ → Bool

@@ -1,13 +1,18 @@
 -- A listing of BBC BASIC as a source for ObjAsm. Begin with Listing.
+pub use Rattle.basic_operations
 pub use Rattle.basic_pieces
+pub use Rattle.basic_statements
 pub mod Expressions
 pub mod Operands
 pub mod Instructions
 pub mod Data
 pub mod Assignments
-pub mod Statements
 pub mod NameSets
 pub mod Wanted
+pub mod GivenNames
+pub mod Places
+pub mod RoomSizes
+pub mod RoomLines
 pub mod StringSetters
 pub mod StringVariables
 pub mod ListingNames

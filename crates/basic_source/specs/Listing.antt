@@ -7,7 +7,8 @@ use Rattle.source_files.specs.Passes.{lines_of_file}
 use Rattle.source_words.specs.Words.{after_blanks}
 use Rattle.basic_source.specs.Assignments.{basic_text}
 use Rattle.basic_source.specs.Instructions.{assembler_text}
-use Rattle.basic_source.specs.Statements.{BasicStatement, read_statements}
+use Rattle.basic_source.specs.RoomLines.{with_listed_rooms}
+use Rattle.basic_statements.specs.Statements.{BasicStatement, read_statements}
 
 abbrev pub basic_comment_text : List ℕ → List ℕ
 basic_comment_text text = if length text == 0 then [] else codes " ;" ++ text
@@ -32,8 +33,12 @@ with_statement_lines all j (s ∷ rest) = with_statement_lines all (with_stateme
 abbrev pub with_statements : List BasicStatement → JoinedText → JoinedText
 with_statements all j = with_statement_lines all j all
 
+-- with the lines for the rooms of DIM behind them
+abbrev pub listing_with_rooms : List BasicStatement → JoinedText → JoinedText
+listing_with_rooms all j = with_listed_rooms all (with_statements all j)
+
 -- the source for ObjAsm that says what a listing says, behind the lines that bind names, which are
 -- those of the file behind so many
 abbrev pub listing_source : ℕ → List ℕ → List ℕ → JoinedText
-listing_source files bound text =
-    with_statements (read_statements (lines text)).statements (lines_of_file files 0 no_lines (lines bound))
+listing_source files bound text = listing_with_rooms (read_statements (lines text)).statements
+    (lines_of_file files 0 no_lines (lines bound))

@@ -1,41 +1,39 @@
 -- The operands of an instruction: what stands between commas, brackets, braces, `!`, `^` and `#`.
-use Rattle.std.specs.Prelude.{ℕ, zero, suc, Bool, true, false, not, ◌==◌, ◌||◌, List, [], ◌∷◌, ◌++◌, drop, length, codes, if◌then◌else◌}
-use Rattle.std.specs.List.{prefix_len}
+use Rattle.std.specs.Prelude.{ℕ, zero, suc, Bool, true, false, ◌==◌, List, [], ◌∷◌, ◌++◌, take, drop, length, codes, Option, Some, None, if◌then◌else◌}
 use Rattle.source_layout.specs.Lines.{bytes_before}
+use Rattle.basic_operations.specs.Operands.{basic_after_operand}
+use Rattle.basic_operations.specs.Shifts.{joined_shift}
 use Rattle.basic_source.specs.Expressions.{basic_has_name, basic_operand_text}
+use Rattle.basic_source.specs.GivenNames.{is_given}
+use Rattle.basic_statements.specs.Statements.{BasicStatement}
 
--- `,` 44, `[` 91, `]` 93, `{` 123, `}` 125, `!` 33, `^` 94, `#` 35
-abbrev pub is_separator : ℕ → Bool
-is_separator c =
-    c == 44 || (c == 91 || (c == 93 || (c == 123 || (c == 125 || (c == 33 || (c == 94 || c == 35))))))
+-- a shift and its register, which stand apart
+abbrev pub spaced_shift : List ℕ → List ℕ
+spaced_shift name = take 3 name ++ (codes " " ++ drop 3 name)
 
-abbrev pub behind_separator : List ℕ → List ℕ
-behind_separator text = drop (prefix_len (λ c. not (is_separator c)) text) text
+abbrev pub shift_or_operand : List BasicStatement → List ℕ → Option (List ℕ) → List ℕ
+shift_or_operand all text (Some name) =
+    if is_given all name then basic_operand_text text else spaced_shift name
+shift_or_operand all text None = basic_operand_text text
 
-abbrev pub after_operand_of : ℕ → List ℕ → List ℕ
-after_operand_of c rest = if c == 35 then behind_separator rest else (
-    if is_separator c then rest else behind_separator (c ∷ rest))
+-- a shift that is run together with its register, where the listing has no such name, or an operand
+abbrev pub plain_run : List BasicStatement → List ℕ → List ℕ
+plain_run all text = shift_or_operand all text (joined_shift text)
 
--- what follows a separator at the front of a text, or all up to the next one; `#` and what it stands
--- before are one
-unfoldable pub basic_after_operand : List ℕ → List ℕ
-basic_after_operand [] = []
-basic_after_operand (c ∷ rest) = after_operand_of c rest
+abbrev pub run_text : List BasicStatement → List ℕ → List ℕ
+run_text all [] = plain_run all []
+run_text all (c ∷ rest) = if c == 35 then codes "#" ++ basic_operand_text rest else plain_run all (c ∷ rest)
 
-abbrev pub run_text : List ℕ → List ℕ
-run_text [] = basic_operand_text []
-run_text (c ∷ rest) = if c == 35 then codes "#" ++ basic_operand_text rest else basic_operand_text (c ∷ rest)
+abbrev pub operands_next : (List ℕ → List ℕ) → List BasicStatement → List ℕ → List ℕ → List ℕ
+operands_next others all text rest = run_text all (bytes_before text rest) ++ others rest
 
-abbrev pub operands_next : (List ℕ → List ℕ) → List ℕ → List ℕ → List ℕ
-operands_next others text rest = run_text (bytes_before text rest) ++ others rest
+unfoldable pub operands_within : ℕ → List BasicStatement → List ℕ → List ℕ
+operands_within zero all text = []
+operands_within (suc n) all text = if length text == 0 then []
+    else operands_next (operands_within n all) all text (basic_after_operand text)
 
-unfoldable pub operands_within : ℕ → List ℕ → List ℕ
-operands_within zero text = []
-operands_within (suc n) text = if length text == 0 then []
-    else operands_next (operands_within n) text (basic_after_operand text)
-
-abbrev pub basic_operands_text : List ℕ → List ℕ
-basic_operands_text text = operands_within (length text) text
+abbrev pub basic_operands_text : List BasicStatement → List ℕ → List ℕ
+basic_operands_text all text = operands_within (length text) all text
 
 abbrev pub is_register_in : List ℕ → List ℕ → Bool
 is_register_in name [] = basic_has_name name []

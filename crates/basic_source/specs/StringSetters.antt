@@ -1,24 +1,11 @@
 -- What else than a plain assignment may give a string variable a value (BBC BASIC Reference Manual,
 -- "Keywords"): a statement that has it behind one of these words, whatever it does with it, and `+=`.
 use Rattle.std.specs.Prelude.{ℕ, Bool, true, false, List, [], ◌∷◌, bytes_eq, Option, Some, None, if◌then◌else◌}
-use Rattle.source_words.specs.Words.{after_blanks, symbol}
+use Rattle.source_words.specs.Words.{after_blanks}
 use Rattle.basic_pieces.specs.Setters.{setter_operands}
-use Rattle.basic_pieces.specs.Words.{basic_name}
 use Rattle.basic_source.specs.Expressions.{basic_has_name}
-use Rattle.basic_source.specs.Statements.{BasicStatement}
-use Rattle.basic_source.specs.Wanted.{after_let}
-
-abbrev pub name_with_sum : List ℕ → Option (List ℕ) → Option (List ℕ)
-name_with_sum name (Some value) = Some name
-name_with_sum name None = None
-
-abbrev pub name_before_sum : Option (List ℕ × List ℕ) → Option (List ℕ)
-name_before_sum (Some n) = name_with_sum n.0 (symbol 43 n.1)
-name_before_sum None = None
-
--- the name before `+=`, of which 43 is the first
-abbrev pub added_name : List ℕ → Option (List ℕ)
-added_name text = name_before_sum (basic_name text)
+use Rattle.basic_statements.specs.Statements.{BasicStatement}
+use Rattle.basic_statements.specs.Assignment.{added_name, after_let}
 
 abbrev pub is_added : List ℕ → Option (List ℕ) → Bool
 is_added name (Some target) = bytes_eq target name

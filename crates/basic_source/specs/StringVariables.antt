@@ -4,10 +4,10 @@ use Rattle.std.specs.Prelude.{ℕ, zero, suc, ◌==◌, List, [], ◌∷◌, ◌
 use Rattle.std.specs.Borrow.{Bor}
 use Rattle.source_words.specs.Words.{after_blanks}
 use Rattle.basic_pieces.specs.Words.{basic_name, is_text_name}
-use Rattle.basic_source.specs.Statements.{BasicStatement}
+use Rattle.basic_statements.specs.Statements.{BasicStatement}
 use Rattle.basic_pieces.specs.Texts.{after_front_of_texts, basic_texts_of, front_of_texts}
 use Rattle.basic_source.specs.StringSetters.{is_set_otherwise}
-use Rattle.basic_source.specs.Wanted.{assignment_at}
+use Rattle.basic_statements.specs.Assignment.{assignment_at}
 
 -- names of strings and what stands behind `=`
 abbrev pub StringValues : Type 0

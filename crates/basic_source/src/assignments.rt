@@ -7,10 +7,10 @@ ghost use Rattle.basic_source.specs.Assignments.{assigned_text, assignment_text,
 use crate::expressions::{ends_after, has_loose, push_expression};
 use crate::instructions::push_assembler;
 use crate::named_listing::Listing;
-use crate::statements::opens_assembler;
-use crate::wanted::assignment_at;
 use assembler_names::words::{is_name, word};
 use basic_pieces::words::{after_keyword, basic_name, is_text_name};
+use basic_statements::assignment::assignment_at;
+use basic_statements::statements::opens_assembler;
 use profile::{Sink, WriteFault, push_all, push_parts};
 use source_mnemonics::spellings::front;
 use source_words::words::{after_blanks, symbol};

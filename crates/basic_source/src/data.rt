@@ -2,61 +2,16 @@
 
 ghost use Rattle.std.specs.Prelude.{◌≡◌, ◌++◌};
 ghost use Rattle.profile.specs.Output.{Writes};
-ghost use Rattle.assembler_names.specs.Words.{read_of};
 ghost use Rattle.source_words.specs.Words.{after_blanks};
 ghost use Rattle.basic_source.specs.Expressions.{expression_text};
-ghost use Rattle.basic_source.specs.Data.{basic_byte_text, basic_data_text, basic_data_work, half_text, named_data, named_data_and_rest, second_byte_text};
+ghost use Rattle.basic_source.specs.Data.{basic_byte_text, basic_data_text, half_text, second_byte_text};
 
 use crate::expressions::push_expression;
 use crate::named_listing::Listing;
 use crate::string_variables::push_strings;
-use assembler_names::words::{Read, after_word, is_name, word};
+use basic_operations::data::BasicData;
 use profile::{Sink, WriteFault, push_all};
 use source_words::words::after_blanks;
-
-/// What a statement of data lays down.
-#[derive(Clone, Copy, Debug, PartialEq, Eq)]
-pub enum BasicData {
-    Byte,
-    Half,
-    Word,
-    Text,
-}
-
-/// The data that a statement lays down, and its operand.
-pub fn basic_data_work(text: &[u8]) -> Read<'_, BasicData>
-    ensures { read_of result ≡ basic_data_work text.now }
-{
-    match text {
-        [b'=', rest @ ..] => Some((BasicData::Text, rest)),
-        _ => named_data_and_rest(text),
-    }
-}
-
-fn named_data_and_rest(text: &[u8]) -> Read<'_, BasicData>
-    ensures { read_of result ≡ named_data_and_rest text.now }
-{
-    match named_data(word(text)) {
-        Some(data) => Some((data, after_word(text))),
-        None => None,
-    }
-}
-
-fn named_data(name: &[u8]) -> Option<BasicData>
-    ensures { result ≡ named_data name.now }
-{
-    if is_name(name, b"EQUB") || is_name(name, b"DCB") {
-        Some(BasicData::Byte)
-    } else if is_name(name, b"EQUW") || is_name(name, b"DCW") {
-        Some(BasicData::Half)
-    } else if is_name(name, b"EQUD") || is_name(name, b"DCD") {
-        Some(BasicData::Word)
-    } else if is_name(name, b"EQUS") {
-        Some(BasicData::Text)
-    } else {
-        None
-    }
-}
 
 /// Writes a statement of data.
 pub fn push_data<W: Sink>(
@@ -105,8 +60,8 @@ fn push_second_byte<W: Sink>(text: &[u8], sink: &mut W) -> Result<(), WriteFault
     push_between(b",(", text, b")/256:AND:&FF", sink)
 }
 
-// An expression between two texts.
-fn push_between<W: Sink>(
+/// Writes an expression between two texts.
+pub fn push_between<W: Sink>(
     before: &[u8],
     text: &[u8],
     after: &[u8],

@@ -2,14 +2,16 @@
 
 ghost use Rattle.std.specs.Prelude.{◌≡◌, option_map, OnOk};
 ghost use Rattle.profile.specs.Output.{Writes};
-ghost use Rattle.basic_source.specs.Instructions.{assembler_text, body_uses, basic_instruction_text, called_function_text, is_jump, is_option, labelled_text, text_of_option, uses_register, without_label, basic_work_text};
+ghost use Rattle.basic_source.specs.Instructions.{assembler_text, body_uses, basic_instruction_text, called_function_text, labelled_text, spelt_operation, text_of_option, uses_register, basic_work_text};
 ghost use Rattle.basic_source.specs.NameSets.{GainsNames};
 
-use crate::data::{basic_data_work, push_data};
+use crate::data::push_data;
 use crate::name_sets::NameSet;
 use crate::named_listing::Listing;
 use crate::operands::push_operands;
-use assembler_names::words::{after_word, word};
+use basic_operations::operation_and_operands;
+use basic_operations::operations::without_label;
+use basic_operations::works::{basic_data_work, is_jump, is_option};
 use basic_pieces::words::{after_keyword, basic_name};
 use profile::{Sink, WriteFault, push_parts};
 use source_words::words::after_blanks;
@@ -54,7 +56,7 @@ fn push_work<W: Sink>(listing: &Listing, text: &[u8], sink: &mut W) -> Result<()
     }
     match basic_data_work(text) {
         Some((data, operand)) => push_data(listing, data, operand, sink),
-        None => push_instruction(text, sink),
+        None => push_instruction(listing, text, sink),
     }
 }
 
@@ -80,18 +82,25 @@ fn push_call<W: Sink>(text: &[u8], sink: &mut W) -> Result<(), WriteFault>
     }
 }
 
-// Nothing, or OPT, which says how often the assembler reads and what it prints.
-fn is_option(text: &[u8]) -> bool
-    ensures { result ≡ is_option text.now }
+fn push_instruction<W: Sink>(listing: &Listing, text: &[u8], sink: &mut W) -> Result<(), WriteFault>
+    ensures { Writes W.contents W.has_failed sink.old sink.new result
+        (basic_instruction_text listing.now text.now) }
 {
-    text.is_empty() || after_keyword(b"OPT", text).is_some()
+    let (name, operands) = operation_and_operands(text);
+    push_operation(listing, name, operands, sink)
 }
 
-fn push_instruction<W: Sink>(text: &[u8], sink: &mut W) -> Result<(), WriteFault>
-    ensures { Writes W.contents W.has_failed sink.old sink.new result (basic_instruction_text text.now) }
+fn push_operation<W: Sink>(
+    listing: &Listing,
+    name: &[u8],
+    operands: &[u8],
+    sink: &mut W,
+) -> Result<(), WriteFault>
+    ensures { Writes W.contents W.has_failed sink.old sink.new result
+        (spelt_operation listing.now name.now operands.now) }
 {
-    push_parts(sink, &[b" ".as_slice(), word(text), b" ".as_slice()])?;
-    push_operands(after_blanks(after_word(text)), sink)
+    push_parts(sink, &[b" ".as_slice(), name, b" ".as_slice()])?;
+    push_operands(listing, after_blanks(operands), sink)
 }
 
 /// Puts the names that a statement of the assembler has as registers.
@@ -105,36 +114,12 @@ pub fn put_used<'a>(text: &'a [u8], names: &mut NameSet<'a>) -> Result<(), Alloc
     put_used_in_body(without_label(text), names)
 }
 
-fn without_label(text: &[u8]) -> &[u8]
-    ensures { result.now ≡ without_label text.now }
-{
-    match text {
-        [b'.', rest @ ..] => match basic_name(rest) {
-            Some((_, after)) => after_blanks(after),
-            None => text,
-        },
-        _ => text,
-    }
-}
-
 fn put_used_in_body<'a>(text: &'a [u8], names: &mut NameSet<'a>) -> Result<(), AllocError>
     ensures { OnOk result (GainsNames names.old names.new (λ name. body_uses name text.now)) }
 {
     if is_option(text) || basic_data_work(text).is_some() || is_jump(text) {
         Ok(())
     } else {
-        names.put_registers(after_word(text))
-    }
-}
-
-// A branch or SWI, whose operand is a number or a label: B, but not BIC, and SW.
-fn is_jump(text: &[u8]) -> bool
-    ensures { result ≡ is_jump text.now }
-{
-    match text {
-        [b'B' | b'b', b'I' | b'i', ..] => false,
-        [b'B' | b'b', ..] => true,
-        [b'S' | b's', b'W' | b'w', ..] => true,
-        _ => false,
+        names.put_registers(operation_and_operands(text).1)
     }
 }

@@ -5,16 +5,19 @@
 pub mod assignments;
 pub mod data;
 pub mod expressions;
+pub mod given_names;
 pub mod instructions;
 pub mod listing;
+pub mod listing_sets;
 pub mod mentions;
 pub mod name_sets;
 pub mod named_listing;
 pub mod operands;
-pub mod statements;
+pub mod places;
+pub mod room_lines;
+pub mod room_sizes;
 pub mod string_setters;
 pub mod string_variables;
 pub mod wanted;
 
 pub use listing::listing_source;
-pub use statements::{Statement, read_statements};

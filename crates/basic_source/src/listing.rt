@@ -3,12 +3,13 @@
 ghost use Rattle.std.specs.Prelude.{◌≡◌, IfOk, OnOk};
 ghost use Rattle.profile.specs.Output.{Writes};
 ghost use Rattle.basic_source.specs.Listing.{basic_comment_text, listing_source, plain_statement, statement_line, with_statement_line, with_statements};
-ghost use Rattle.basic_source.specs.Statements.{basic_statement_of};
+ghost use Rattle.basic_statements.specs.Statements.{basic_statement_of};
 
 use crate::assignments::push_basic;
 use crate::instructions::push_assembler;
 use crate::named_listing::Listing;
-use crate::statements::Statement;
+use crate::room_lines::push_listed_rooms;
+use basic_statements::statements::Statement;
 use profile::{Sink, WriteFault, push_parts};
 use source_files::{JoinedSource, LineOrigin, push_file};
 use source_words::words::after_blanks;
@@ -16,8 +17,8 @@ use std::alloc::{AllocError, Global};
 use view_items::TextSink;
 
 /// The source for ObjAsm that says what a listing says, with a line for each statement, behind the
-/// lines that bind names. The listing is the file 0, and these lines are those of the file behind
-/// `files` others.
+/// lines that bind names, and lines for the rooms of DIM behind them. The listing is the file 0, and the
+/// lines that bind names are those of the file behind `files` others.
 ///
 /// # Errors
 ///
@@ -34,6 +35,7 @@ pub fn listing_source(
     let mut joined = JoinedSource::new(alloc);
     push_file(&mut joined, files, bound)?;
     push_statements(alloc, &listing, &mut joined)?;
+    push_listed_rooms(alloc, &listing, &mut joined)?;
     Ok(joined)
 }
 

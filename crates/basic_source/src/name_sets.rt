@@ -5,7 +5,7 @@ ghost use Rattle.basic_source.specs.Expressions.{basic_has_name, is_that_name};
 ghost use Rattle.basic_source.specs.NameSets.{GainsNames, is_in_set};
 ghost use Rattle.basic_source.specs.Operands.{has_register, is_register_in};
 
-use crate::operands::basic_after_operand;
+use basic_operations::operands::basic_after_operand;
 use basic_pieces::pieces::{BasicPiece, basic_piece_at};
 use indexmap::IndexSet;
 use source_layout::lines::bytes_before;

@@ -2,15 +2,14 @@
 
 ghost use Rattle.std.specs.Prelude.{◌≡◌, map, option_map, IfOk, OnOk};
 ghost use Rattle.basic_source.specs.NameSets.{AreNamesThat, GainsNames};
-ghost use Rattle.basic_source.specs.Statements.{basic_statement_of};
-ghost use Rattle.basic_source.specs.StringSetters.{added_name, is_added, is_set_otherwise, operands_set, statement_sets, text_sets};
+ghost use Rattle.basic_statements.specs.Statements.{basic_statement_of};
+ghost use Rattle.basic_source.specs.StringSetters.{is_added, is_set_otherwise, operands_set, statement_sets, text_sets};
 
 use crate::name_sets::NameSet;
-use crate::statements::Statement;
-use crate::wanted::after_let;
 use basic_pieces::setters::setter_operands;
-use basic_pieces::words::basic_name;
-use source_words::words::{after_blanks, symbol};
+use basic_statements::assignment::{added_name, after_let};
+use basic_statements::statements::Statement;
+use source_words::words::after_blanks;
 use std::alloc::{AllocError, Global};
 
 /// The names that statements may set otherwise than by a plain assignment.
@@ -71,13 +70,4 @@ fn put_added<'a>(target: Option<&'a [u8]>, names: &mut NameSet<'a>) -> Result<()
         Some(name) => names.put(name),
         None => Ok(()),
     }
-}
-
-// The name before `+=`.
-fn added_name(text: &[u8]) -> Option<&[u8]>
-    ensures { option_map (λ n. n.now) result ≡ added_name text.now }
-{
-    let (name, rest) = basic_name(text)?;
-    symbol(b'+', rest)?;
-    Some(name)
 }

@@ -2,14 +2,14 @@
 
 ghost use Rattle.std.specs.Prelude.{◌≡◌, None, map, option_map, IfOk};
 ghost use Rattle.profile.specs.Output.{Writes};
-ghost use Rattle.basic_source.specs.Statements.{basic_statement_of};
+ghost use Rattle.basic_statements.specs.Statements.{basic_statement_of};
 ghost use Rattle.basic_source.specs.StringVariables.{after_front_of_strings, front_of_strings, only_value, shown_strings, string_assigned, string_assignment, string_variable_at, string_values, strings_of};
 
 use crate::named_listing::Listing;
-use crate::statements::Statement;
-use crate::wanted::assignment_at;
 use basic_pieces::texts::{after_front_of_texts, push_front_of_texts, push_texts};
 use basic_pieces::words::{basic_name, is_text_name};
+use basic_statements::assignment::assignment_at;
+use basic_statements::statements::Statement;
 use profile::{Sink, WriteFault};
 use source_words::words::after_blanks;
 use std::alloc::{AllocError, Global};

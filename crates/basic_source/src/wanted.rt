@@ -3,15 +3,16 @@
 ghost use Rattle.std.specs.Prelude.{◌≡◌, map, option_map, IfOk, OnOk};
 ghost use Rattle.basic_source.specs.Assignments.{is_register, statement_uses};
 ghost use Rattle.basic_source.specs.NameSets.{AreNamesThat, GainsNames};
-ghost use Rattle.basic_source.specs.Statements.{basic_statement_of};
-ghost use Rattle.basic_source.specs.Wanted.{after_let, assignment_at, condition_has, is_needed, outside_wants, statement_wants, value_has};
+ghost use Rattle.basic_statements.specs.Statements.{basic_statement_of};
+ghost use Rattle.basic_source.specs.Wanted.{condition_has, is_wanted_name, outside_wants, statement_wants, value_has};
 
 use crate::instructions::put_used;
-use crate::mentions::Mentions;
+use crate::mentions::{Mentions, put_assembler_names};
 use crate::name_sets::NameSet;
-use crate::statements::Statement;
-use basic_pieces::words::{after_keyword, basic_name};
-use source_words::words::{after_blanks, symbol};
+use basic_pieces::words::after_keyword;
+use basic_statements::assignment::assignment_at;
+use basic_statements::statements::Statement;
+use source_words::words::after_blanks;
 use std::alloc::{AllocError, Global};
 
 /// The names that stand in the assembler, in the value of one that does, or in a condition.
@@ -19,11 +20,11 @@ use std::alloc::{AllocError, Global};
 /// # Errors
 ///
 /// There is no memory left.
-pub fn needed_names<'a>(
+pub fn wanted_names<'a>(
     alloc: Global,
     mentions: &Mentions<'_, 'a>,
 ) -> Result<NameSet<'a>, AllocError>
-    ensures { IfOk result (AreNamesThat (is_needed mentions.now)) }
+    ensures { IfOk result (AreNamesThat (is_wanted_name mentions.now)) }
 {
     let mut names = NameSet::new(alloc);
     let all = mentions.all();
@@ -42,7 +43,7 @@ fn put_wanted<'a>(
         (λ name. statement_wants mentions.now name (basic_statement_of statement.entry))) }
 {
     if statement.is_assembler {
-        names.put_names(statement.text)
+        put_assembler_names(statement.text, names)
     } else {
         put_outside(mentions, after_blanks(statement.text), names)
     }
@@ -83,25 +84,6 @@ fn put_value<'a>(
     match assignment {
         Some((target, value)) if mentions.has(target) => names.put_names(value),
         _ => Ok(()),
-    }
-}
-
-/// The name before `=`, and what follows that.
-pub fn assignment_at(text: &[u8]) -> Option<(&[u8], &[u8])>
-    ensures { option_map (λ a. (a.0.now, a.1.now)) result ≡ assignment_at text.now }
-{
-    let (name, rest) = basic_name(after_let(text))?;
-    let value = symbol(b'=', rest)?;
-    Some((name, value))
-}
-
-/// What follows LET at the front of a statement, which says nothing.
-pub fn after_let(text: &[u8]) -> &[u8]
-    ensures { result.now ≡ after_let text.now }
-{
-    match after_keyword(b"LET", text) {
-        Some(rest) => after_blanks(rest),
-        None => text,
     }
 }
 

@@ -1,6 +1,6 @@
 use Rattle.std.proofs.Common.{◌≡◌, drop, map}
 use Rattle.basic_source.specs.Listing.{with_statement_lines, with_statements}
-use Rattle.basic_source.specs.Statements.{basic_statement_of}
+use Rattle.basic_statements.specs.Statements.{basic_statement_of}
 use Rattle.basic_source.proofs.listing.push_statements.Given as goal
 
 -- the statements that are left still get their lines

@@ -1,11 +1,11 @@
 use Rattle.std.proofs.Common.{◌≡◌, ◌∙◌, ℕ, List, take, length, ap, arith}
 use Rattle.std.proofs.Math.Seq.{take-length}
 use Rattle.std.specs.List.{list_any}
-use Rattle.basic_source.specs.Statements.{basic_statement_of}
+use Rattle.basic_statements.specs.Statements.{basic_statement_of}
 use Rattle.basic_source.specs.Wanted.{assembler_mentions}
 use Rattle.basic_source.proofs.Scans.{mentioned_any}
 use Rattle.basic_source.specs.NameSets.{is_in_set}
-use Rattle.basic_source.specs.declared.statements.Statement.{Statement}
+use Rattle.basic_statements.specs.declared.statements.Statement.{Statement}
 use Rattle.basic_source.proofs.mentions.mentioned_names.Goals as goal
 
 pub loop-statement-init : goal.loop-statement-init

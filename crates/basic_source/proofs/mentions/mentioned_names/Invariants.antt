@@ -1,7 +1,7 @@
 use Rattle.std.proofs.Common.{take}
 use Rattle.std.specs.List.{list_any}
 use Rattle.basic_source.specs.NameSets.{AreNamesThat}
-use Rattle.basic_source.specs.Statements.{basic_statement_of}
+use Rattle.basic_statements.specs.Statements.{basic_statement_of}
 use Rattle.basic_source.specs.Wanted.{assembler_mentions}
 use Rattle.basic_source.proofs.mentions.mentioned_names.Given as goal
 

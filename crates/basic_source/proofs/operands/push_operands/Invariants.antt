@@ -7,6 +7,6 @@ use Rattle.basic_source.proofs.operands.push_operands.Given as goal
 abbrev pub invariant-loop-operands : goal.invariant-loop-operands
 invariant-loop-operands g l = record {
   text : AddsAllBut (g.W.Sink.contents l.fn.sink) (g.W.Sink.contents l.sink)
-      (operands_within (length l.text - l._operands) l.rest) (operands_within (length l.text) l.text);
+      (operands_within (length l.text - l._operands) l.listing l.rest) (operands_within (length l.text) l.listing l.text);
   same_flag : g.W.Sink.has_failed l.sink ≡ g.W.Sink.has_failed l.fn.sink;
 }

@@ -1,5 +1,5 @@
 use Rattle.std.proofs.Common.{◌≡◌, ◌++◌, drop, map}
-use Rattle.basic_source.specs.Statements.{basic_statement_of}
+use Rattle.basic_statements.specs.Statements.{basic_statement_of}
 use Rattle.basic_source.specs.StringVariables.{shown_strings, string_values}
 use Rattle.basic_source.proofs.string_variables.string_values.Given as goal
 

@@ -1,7 +1,8 @@
 use Rattle.std.proofs.Common.{ℕ, List, Option, OnOk, codes, subst}
 use Rattle.basic_pieces.specs.Words.{after_keyword}
 use Rattle.basic_source.specs.NameSets.{GainsNames}
-use Rattle.basic_source.specs.Wanted.{assignment_at, condition_has, value_has}
+use Rattle.basic_source.specs.Wanted.{condition_has, value_has}
+use Rattle.basic_statements.specs.Assignment.{assignment_at}
 use Rattle.basic_source.proofs.NameLemmas.{gains_twice}
 use Rattle.basic_source.proofs.wanted.put_outside.Goals as goal
 

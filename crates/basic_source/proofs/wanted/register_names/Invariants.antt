@@ -2,7 +2,7 @@ use Rattle.std.proofs.Common.{take}
 use Rattle.std.specs.List.{list_any}
 use Rattle.basic_source.specs.Assignments.{statement_uses}
 use Rattle.basic_source.specs.NameSets.{AreNamesThat}
-use Rattle.basic_source.specs.Statements.{basic_statement_of}
+use Rattle.basic_statements.specs.Statements.{basic_statement_of}
 use Rattle.basic_source.proofs.wanted.register_names.Given as goal
 
 -- the names of the statements so far
