@@ -1,8 +1,10 @@
 //! Listings in BASIC, by hand.
 
 use basic_source::listing_source;
+use source_conversion::source_behind;
+use source_text::read_text;
 
-static LISTINGS: [(&str, &str); 15] = [
+static LISTINGS: [(&str, &str); 20] = [
     (
         "   10REM >Own: x\n20DIM code% 1000:link=14:base%=&40000\n30FOR p%=0 TO 2 STEP 2:P%=code%\n40[OPT p%\n\
         50.start% STMFD (R13)!,{R0,link}:SWI \"OS_Write0\" ; say: it\n60MOV R1,#base% DIV 2 \\ half\n70]\n80NEXT\n\
@@ -81,6 +83,42 @@ static LISTINGS: [(&str, &str); 15] = [
         "[\n.a NOP\n]:P%=P%+8*2\n[\n.b NOP\n]\nP%=P% + 3 AND NOT 3:P%=&8000:P%=(P%+3)\n",
         "\n|a| NOP \n\n % 8*2\n\n|b| NOP \n\n P%=P% + 3 AND NOT 3\n\n\n",
     ),
+    // Operands may be run together with the operation, whose longest front that is one is taken; a word
+    // with a space and another behind it is none of these.
+    (
+        "[\n.a%MOVR0 , #1\nCMPR0,#0:BNEloop:BLsub:BLNEsub%\nEQUB0:EQUDa%+4:EQUSx$:EQUW&11\n\
+        STMFDR13!,{R0-R3,R14}\nLDMFDR13 !,{PC}\nADDSR0,R0,#1:MOVSPC,R14:MOVPC,R14\nSWI17:SWI&11:SWI\"OS_Exit\"\n\
+        LDRBR0,[R1]:LDREQR0,[R1]:TEQPPC,#0\nADRR0,a%:ADREQR0,a%\nMOVS R0,R1:B loop:b:ALIGN\nmovsr0,r1:bwait\n\
+        LDRH R0,[R1]:FNx(1):NOP:DCDx AND y\n",
+        "\n|a%| MOV R0 , #1\n CMP R0,#0\n BNE |loop|\n BL |sub|\n BLNE |sub%|\n DCB (0):AND:&FF\n \
+        DCD |a%|+4\n DCB |x$|\n DCB (&11):AND:&FF,(&11)/256:AND:&FF\n STMFD R13!,{R0-R3,R14}\n LDMFD R13 !,{PC}\n \
+        ADDS R0,R0,#1\n MOVS PC,R14\n MOV PC,R14\n SWI 17\n SWI &11\n SWI \"OS_Exit\"\n LDRB R0,[R1]\n LDREQ R0,[R1]\n \
+        TEQP PC,#0\n ADR R0,|a%|\n ADREQ R0,|a%|\n MOVS R0,R1\n B |loop|\n b \n ALIGN \n movs r0,r1\n b |wait|\n \
+        LDRH R0,[R1]\n FNx (1)\n NOP \n DCD (((|x| )):AND:(( |y|)))\n",
+    ),
+    // What is run together with an operation is a name that the assembler has, and a register's.
+    (
+        "link=14:max%=10\n[\nMOVlink,PC:CMPR0,#max%\nSTMFDR13!,{link}\nEQUDmax%\n",
+        "|link| RN 14\n|max%| EQU 10\n\n MOV |link|,PC\n CMP R0,#|max%|\n STMFD R13!,{|link|}\n DCD |max%|\n",
+    ),
+    // A shift and its register may be run together, unless the listing has the name.
+    (
+        "[\nADD R0,R0,R1,LSLR2\nMOVR0,R1,asrR15:MOV R0,R1,LSL#2\nMOV R0,RORx\n.LSRR1 B LSRR1\n",
+        "\n ADD R0,R0,R1,LSL R2\n MOV R0,R1,asr R15\n MOV R0,R1,LSL#2\n MOV R0,|RORx|\n|LSRR1| B |LSRR1|\n",
+    ),
+    // Rooms of DIM that the assembler has stand behind the program, of one byte more than the number. What
+    // stands in their sizes is needed; an array is no room.
+    (
+        "DIM code% 1000, table% 400,list% n%*4,a%(3),none% m%\nn%=5:m%=FNm:P%=code%\n[\nADR R0,table%\nEQUD list%\n]\n\
+        DIM last%15\n[\n.x EQUD last%:EQUD a%\n]\n",
+        "\n|n%| EQU 5\n\n\n\n ADR R0,|table%|\n DCD |list%|\n\n\n\n|x| DCD |last%|\n DCD |a%|\n\n \
+        IMPORT |table%| [SIZE=1+400]\n IMPORT |list%| [SIZE=1+|n%|*4]\n IMPORT |last%| [SIZE=1+15]\n",
+    ),
+    // A name that stands in what P% or O% gets, or behind IF on one line, gets no room.
+    (
+        "DIM m% 100,n% 8,o% 8\nP%=m%+4:O%=n%\nIF x%=1 THEN P%=o%\n[\nEQUD m%\nEQUD n%+o%\n]\n",
+        "\n\n\n\n\n DCD |m%|\n DCD |n%|+|o%|\n\n",
+    ),
     // Shifts join more loosely than sums, and more tightly than AND.
     (
         "[\nEQUD &80>>1+2\nEQUD -1>>>28 AND 6\n",
@@ -115,4 +153,18 @@ fn lines_of_listings(rt: HostRuntime) {
             assert_eq!(rt; (found.file, found.line), (file, line));
         }
     }
+}
+
+// A sign in a string of a listing stands for itself, and so do two.
+#[test]
+fn signs_of_listings(rt: HostRuntime) {
+    let listing = b"[\nEQUS \"a$b$$c$$$\";\"$$\nEQUS \"$$\"\n]\n";
+    let Ok(source) = source_behind(rt.alloc(), true, &[], &[listing.as_slice()], b"") else {
+        return;
+    };
+    let Ok(read) = read_text(rt.alloc(), &source) else {
+        return;
+    };
+    let wanted = b"\n DCB \"a$b$$c$$$\" ;\"$$\n DCB \"$$\"\n\n";
+    assert!(rt; read.text() == wanted.as_slice());
 }

@@ -9,6 +9,8 @@ mod areas;
 #[cfg(test)]
 mod basic;
 #[cfg(test)]
+mod bytes;
+#[cfg(test)]
 mod calls;
 #[cfg(test)]
 mod conditions;

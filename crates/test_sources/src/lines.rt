@@ -6,7 +6,7 @@ use source_lines::{meaning_of_line, push_line, scan_line};
 use source_words::{Names, Why};
 
 // A line, its label, and what it is for the assembler.
-static LINES: [(&str, &str, &str); 97] = [
+static LINES: [(&str, &str, &str); 98] = [
     ("wp RN 12", "wp", ""),
     ("Size * 5 + &C", "Size", ""),
     ("start", "start", "start"),
@@ -160,13 +160,14 @@ static LINES: [(&str, &str, &str); 97] = [
     (" DCD &80>>3, 1<<2 + 1", "", " DCD &10,&5"),
     (" DCD \"A\", 'B' ; \"", "", " DCD &41,&42 ; \""),
     (" SUB r0,r0,r1,ASR #-1", "", " SUB R0,R0,R1,ASR #&FFFFFFFF"),
+    (" MOV r0,#-:NOT:0", "", " MOV R0,#&1"),
 ];
 
 #[test]
 fn lines(rt: HostRuntime) {
     let mut names = Names::new(rt.alloc());
-    let labels: [&[u8]; 97] = std::array::from_fn(|i| LINES[i].1.as_bytes());
-    for i in 0..97 {
+    let labels: [&[u8]; 98] = std::array::from_fn(|i| LINES[i].1.as_bytes());
+    for i in 0..98 {
         let (source, label, _) = LINES[i];
         match meaning_of_line(&names, i + 1, source.as_bytes()) {
             Ok(Some(meaning)) => {
@@ -181,7 +182,7 @@ fn lines(rt: HostRuntime) {
             Err(_) => panic!(rt; "{source}"),
         }
     }
-    for i in 0..97 {
+    for i in 0..98 {
         let (source, _, wanted) = LINES[i];
         assert!(rt;
             scan_line(&names, i + 1, source.as_bytes()).is_ok(),

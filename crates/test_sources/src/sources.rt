@@ -63,6 +63,38 @@ fn labels(rt: HostRuntime) {
     assert!(rt; sink.written() == wanted.as_bytes());
 }
 
+// A word of a pool is there once, whatever stands between; the next pool has its own.
+#[test]
+fn pools(rt: HostRuntime) {
+    let source = " LDR r0,=&101\n \
+        LDR r1,=a\n \
+        LDR r2,=&101\n\
+        a LDR r3,=a\n \
+        LDR r4,=a+4\n \
+        LTORG\n \
+        LDR r0,=&102\n \
+        LDR r1,=&101\n \
+        LDR r2,=&102\n";
+    let wanted = " LDR R0,pool_1\n \
+        LDR R1,pool_1+&4\n \
+        LDR R2,pool_1\n\
+        a LDR R3,pool_1+&4\n \
+        LDR R4,pool_1+&8\n\
+        pool_1 DCD &101,a,a+&4\n \
+        LDR R0,pool_2\n \
+        LDR R1,pool_2+&4\n \
+        LDR R2,pool_2\n\
+        pool_2 DCD &102,&101\n";
+    let Ok(known) = read_source(rt.alloc(), source.as_bytes()) else {
+        return;
+    };
+    assert!(rt; known.refused().is_empty());
+    let mut room = [0u8; 400];
+    let mut sink = MemorySink::new(&mut room, 7, 1000);
+    assert!(rt; push_source(&known, source.as_bytes(), &mut sink).is_ok());
+    assert!(rt; sink.written() == wanted.as_bytes());
+}
+
 #[test]
 fn refusals(rt: HostRuntime) {
     let source = "a MOV r0,#nothing\na MOV r0,r0\n LDRH r0,[r1]\nb EQU\n END\n";

@@ -4,7 +4,7 @@
 use source_files::joined_source;
 use source_text::{plain_source, read_text};
 
-static SOURCES: [(&str, &str); 37] = [
+static SOURCES: [(&str, &str); 41] = [
     // Macros.
     (
         "\tMACRO\n$label\tDouble\t$to, $from=r0\n$label.\tADD\t$to,$from,$from ; twice $from\n\tMEND\nx Double r1, r2 ; c\n\
@@ -18,7 +18,25 @@ static SOURCES: [(&str, &str); 37] = [
     ),
     (
         " MACRO\n M $a\n = \"$b$$a.x\",$a\n MEND\n M \"1,2;3\"\n M 1;2\n",
-        "\n\n\n\n = \"$b$$a.x\",1,2;3\n = \"$b$$a.x\",1\n",
+        "\n\n\n\n = \"$b$a.x\",1,2;3\n = \"$b$a.x\",1\n",
+    ),
+    // A pair of signs is one in a string, each time that its line is read, and no value is read again.
+    (
+        " DCB \"Wimp$$State\",0 ; a$$b\n = \"a\"\"$$b\",\"$$$$\",\"$x$$\",\"$\"\n AREA |C$$code|, CODE\n DCB '$$',\"$$\"\n",
+        " DCB \"Wimp$State\",0 ; a$$b\n = \"a\"\"$b\",\"$$\",\"$x$\",\"$\"\n AREA |C$$code|, CODE\n DCB '$$',\"$\"\n",
+    ),
+    (
+        " MACRO\n M $a\n = \"$a$$b$$$a\",\"$$$$\"\n MEND\n MACRO\n N $a\n M \"$a.$$$$\"\n MEND\n M \"1$$2\"\n N \"$$$$\"\n",
+        "\n\n\n\n\n\n\n\n = \"1$2$b$1$2\",\"$$\"\n = \"$$$$$b$$$$$\",\"$$\"\n",
+    ),
+    (
+        " GBLS s\ns SETS \"a$$b\"\n = s,\"$s\",\"$s.$$c\"\n [ \"$s\" = \"a$$b\" :LAND: :LEN: s = 3 :LAND: :LEN:\"$$\" = 1\n DCB 1\n ]\n\
+        s SETS \"$$$$s\"\n = \"$s\",:LEN:\"$$$$x\"\n",
+        "\n\n = \"a$b\",\"a$b\",\"a$b$c\"\n\n DCB 1\n\n\n = \"$$s\",&3\n",
+    ),
+    (
+        " GBLA n\n WHILE n < 2\n = \"$$n$n\"\nn SETA n + 1\n WEND\n",
+        "\n\n = \"$n00000000\"\n\n\n = \"$n00000001\"\n\n\n\n\n\n",
     ),
     // A number may be a call's label.
     (
