@@ -1,7 +1,0 @@
--- The operation of a statement of the assembler, with which its operands may be run together. Begin
--- with Operations.
-pub mod Data
-pub mod Operands
-pub mod Operations
-pub mod Shifts
-pub mod Works

@@ -1,3 +1,0 @@
-pub mod NameLemmas
-pub mod Scans
-pub mod Writings

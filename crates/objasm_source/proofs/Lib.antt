@@ -1,4 +1,0 @@
-pub mod Found
-pub mod Pools
-pub mod Readings
-pub mod Writings

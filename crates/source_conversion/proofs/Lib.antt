@@ -1,6 +1,0 @@
-pub mod FirstRefusals
-pub mod Kept
-pub mod LeftOutLoop
-pub mod NamingLemmas
-pub mod ReportLoop
-pub mod Rounds

@@ -1,3 +1,0 @@
-pub mod Bindings
-pub mod OptionsLemmas
-pub mod Programs

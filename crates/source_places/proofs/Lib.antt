@@ -1,9 +1,0 @@
-pub mod Counts
-pub mod Ends
-pub mod Halfwords
-pub mod LineEnds
-pub mod Readings
-pub mod Seeing
-pub mod Settlements
-pub mod Standing
-pub mod Writings

@@ -1,3 +1,0 @@
-pub mod Characters
-pub mod Joined
-pub mod Literals

@@ -1,0 +1,1 @@
+"""rosm: readers of old sources (ObjAsm, BBC BASIC V) for the store machine."""
