@@ -1,1 +1,0 @@
--- The proofs of how a script is typed stand in the folder of the function's name.

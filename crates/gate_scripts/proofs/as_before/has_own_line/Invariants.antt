@@ -1,8 +1,0 @@
-use Rattle.std.proofs.Common.{length}
-use Rattle.gate_scripts.proofs.as_before.has_own_line.Given as goal
-
-abbrev pub invariant-loop-line : goal.invariant-loop-line
-invariant-loop-line l = Unit {0}
-
-abbrev pub decreases-loop-line : goal.decreases-loop-line
-decreases-loop-line l = length l.lines.left

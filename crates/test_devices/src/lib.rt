@@ -1,0 +1,15 @@
+//! Tests of what no script reaches: devices that fail, calls that no script makes, and texts that no
+//! program prints.
+//!
+//! They stand apart from the crates that they test, since a crate with tests is proved once more
+//! with them.
+#![tactic(auto)]
+
+#[cfg(test)]
+mod arm;
+#[cfg(test)]
+mod base;
+#[cfg(test)]
+mod machine;
+#[cfg(test)]
+mod shell;

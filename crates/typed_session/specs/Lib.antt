@@ -1,4 +1,0 @@
--- What is answered of a script that is typed. Begin with Pieces.
-pub mod Lines
-pub mod Pieces
-pub mod Typed

@@ -1,0 +1,1 @@
+"""The kinds of rows that tools/run_rows runs."""
