@@ -1,6 +1,6 @@
 -- What memory is to guests and store calls. Begin with Bytes, then Records; Memory ties both to the
 -- map.
-pub use Rattle.raw_store
+pub use Rattle.raw_store.specs.Region as RawStoreRegion
 pub mod Bytes
 pub mod Classes
 pub mod Counts

@@ -2,7 +2,7 @@
 //! with the faults that a guest meets.
 
 ghost use Rattle.std.specs.Prelude.{ℕ, [], ◌≡◌, ◌≤◌, ◌<◌, ◌+◌, ◌*◌, ◌%◌, ◌^◌, ◌↔◌, false, IsTrue, IfOk, MatchResult, MatchOption, Some, None, length, All};
-ghost use Rattle.raw_store.specs.profile.specs.Outcome.{Leaves};
+ghost use Rattle.raw_store.specs.Outcome.{Leaves};
 ghost use Rattle.address_map.specs.declared.class.Class.{Class};
 ghost use Rattle.address_map.specs.Bytes.{AreMapped, byte_loaded, word_loaded, byte_stored, word_stored, with_word_at, with_bytes_at, with_zeros_at, load_fault, store_fault};
 ghost use Rattle.address_map.specs.Pages.{AreWritten, IsPageTable, frame_count};
@@ -14,9 +14,7 @@ use crate::pages::{MARKS_IN_PAGE, all_frames, page_count};
 use crate::region::Region;
 use crate::table::Table;
 use arrayvec::ArrayVec;
-use raw_store::RawStore;
-use raw_store::profile::Fault;
-use raw_store::profile::memory_map::{ADDRESS_LIMIT, MOST_PAGES};
+use raw_store::{ADDRESS_LIMIT, Fault, MOST_PAGES, RawStore};
 use std::alloc::{AllocError, Global};
 
 /// The most frames of 4096 bytes that the memory has.

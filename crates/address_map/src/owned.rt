@@ -7,7 +7,7 @@ ghost use Rattle.address_map.specs.Records.{HasNoAnchor, anchor_among};
 
 use crate::class::Class;
 use crate::map::AddressMap;
-use raw_store::profile::memory_map::{ADDRESS_LIMIT, PAGE_SIZE};
+use raw_store::{ADDRESS_LIMIT, PAGE_SIZE};
 
 impl AddressMap {
     ghost use Rattle.address_map.specs.Memory.{anchor_of, class_of, is_owned};

@@ -8,7 +8,7 @@ ghost use Rattle.address_map.specs.Records.{meets_record, HasNoAnchor, with_plai
 use crate::frame::PageFrame;
 use crate::map::{AddressMap, MOST_FRAMES, Span};
 use arrayvec::ArrayVec;
-use raw_store::profile::memory_map::{ADDRESS_LIMIT, PAGE_SIZE};
+use raw_store::{ADDRESS_LIMIT, PAGE_SIZE};
 
 /// How many bytes the marks of a page take, two bits for each word.
 pub(crate) const MARKS_IN_PAGE: usize = 256;

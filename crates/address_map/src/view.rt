@@ -5,7 +5,7 @@ ghost use Rattle.address_map.specs.Bytes.{AreMapped, bytes_between};
 ghost use Rattle.address_map.specs.Memory.{is_mapped, byte_at};
 
 use crate::map::AddressMap;
-use raw_store::profile::ImageBytes;
+use raw_store::ImageBytes;
 use std::marker::Model;
 
 /// The bytes of a range of memory, read where they stand. The range may lie in several pages.

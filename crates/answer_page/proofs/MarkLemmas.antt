@@ -4,8 +4,7 @@ use Rattle.std.specs.Prelude.{cond}
 use Rattle.std.specs.List.{join_with_byte, list_any}
 use Rattle.std.proofs.lemmas.List.{append-nil}
 use Rattle.profile.proofs.OutputLemmas.{AddsAllBut-start, AddsAllBut-more, AddsAllBut-same, Appends-from_all_but}
-use Rattle.answer_page.specs.Marks.{Beside, is_changed_word, marked_line_html, marked_lines_html, marked_word_html, text_behind_space}
-use Rattle.answer_page.specs.Marks.{up_to_change, word_carets}
+use Rattle.answer_page.specs.Marks.{Beside, is_changed_word, marked_line_html, marked_lines_html, marked_word_html, text_behind_space, up_to_change, word_carets}
 
 -- Texts that are left to be written, with a space between each two: all of them, or those behind one
 -- that stands written.

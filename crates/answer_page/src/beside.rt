@@ -4,8 +4,7 @@
 ghost use Rattle.std.specs.Prelude.{◌≡◌, ◌∷◌, [], drop};
 ghost use Rattle.std.specs.List.{list_any};
 ghost use Rattle.std.specs.Option.{option_map, option_map_or};
-ghost use Rattle.answer_page.specs.Marks.{beside_of, first_if_any, is_changed_word, lines_beside, lines_left, words_beside};
-ghost use Rattle.answer_page.specs.Marks.{words_between, words_left};
+ghost use Rattle.answer_page.specs.Marks.{beside_of, first_if_any, is_changed_word, lines_beside, lines_left, words_beside, words_between, words_left};
 
 use text_lines::{Lines, cut};
 

@@ -3,8 +3,7 @@
 ghost use Rattle.std.specs.Prelude.{◌≡◌, unwrap_or};
 ghost use Rattle.std.specs.Str.Lines.{lines};
 ghost use Rattle.profile.specs.Output.{Writes};
-ghost use Rattle.answer_page.specs.Counts.{bar_cell, count_cell, count_cells, count_html, count_of_line, counted_by, counts_html, counted_line_html};
-ghost use Rattle.answer_page.specs.Counts.{counted_rows_html, is_counted, largest_count, uncounted_html, without_blanks, word_cell};
+ghost use Rattle.answer_page.specs.Counts.{bar_cell, count_cell, count_cells, count_html, count_of_line, counted_by, counts_html, counted_line_html, counted_rows_html, is_counted, largest_count, uncounted_html, without_blanks, word_cell};
 
 use command_shell_lines::number_of;
 use itoa::Buffer;

@@ -2,8 +2,7 @@
 
 ghost use Rattle.std.specs.Prelude.{◌≡◌};
 ghost use Rattle.profile.specs.Output.{Writes};
-ghost use Rattle.answer_page.specs.Marks.{beside_of, lines_left, marked_html, marked_line_html, marked_lines_html, marked_word_html, marked_words_html};
-ghost use Rattle.answer_page.specs.Marks.{registers_html, space_before, text_behind_space, words_left};
+ghost use Rattle.answer_page.specs.Marks.{beside_of, lines_left, marked_html, marked_line_html, marked_lines_html, marked_word_html, marked_words_html, registers_html, space_before, text_behind_space, words_left};
 
 use crate::beside::{LinesBeside, TextBeside, WordsBeside};
 use page_markup::push_escaped;

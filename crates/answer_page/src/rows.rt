@@ -1,8 +1,7 @@
 //! The lines of a trace as rows of a table, by their columns.
 
 ghost use Rattle.std.specs.Prelude.{◌≡◌, ◌+◌, ◌==◌, ◌&&◌, ◌≤◌, codes, drop, length, take};
-ghost use Rattle.answer_page.specs.Rows.{begins_with, bytes_before_gap, ends_with_colon, first_byte, gap_place, is_below_line};
-ghost use Rattle.answer_page.specs.Rows.{is_column, is_column_byte, is_column_gap, is_step_line, other_line, step_line, trace_line, without_padding};
+ghost use Rattle.answer_page.specs.Rows.{begins_with, bytes_before_gap, ends_with_colon, first_byte, gap_place, is_below_line, is_column, is_column_byte, is_column_gap, is_step_line, other_line, step_line, trace_line, without_padding};
 
 /// What stands before a line below a step, in columns 1 to 18.
 const BELOW: &[u8; 18] = b"                  ";

@@ -1,9 +1,9 @@
 -- Conditions in pairs, and what they tell after CMP.
 use Rattle.std.proofs.Common.{◌≡◌, ℕ, zero, suc, ◌<◌, ◌^◌, Bool, true, false, not, ◌&&◌, ◌||◌, nat_eq, refl, sym, subst, arith, rules}
 use Rattle.std.proofs.lemmas.Grind.{common_steps}
-use Rattle.profile.specs.Sums.{difference_of}
-use Rattle.profile.specs.Word.{bit_of}
-use Rattle.profile.specs.declared.word.Sum.{Sum}
+use Rattle.arm_decode.specs.Sums.{difference_of}
+use Rattle.arm_decode.specs.Word.{bit_of}
+use Rattle.arm_decode.specs.Sum.{Sum}
 use Rattle.arm_decode.specs.declared.action.Operate.{Operate}
 use Rattle.arm_decode.specs.declared.operation.Operation.TheVariants as operation
 use Rattle.arm_core.specs.declared.psr.Psr.{Psr}

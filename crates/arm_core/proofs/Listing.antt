@@ -5,7 +5,7 @@ use Rattle.std.specs.Int.RustNames.{count_ones}
 use Rattle.std.proofs.lemmas.Bool.Decides.{nat_tests}
 use Rattle.std.proofs.lemmas.List.{map-append}
 use Rattle.std.proofs.lemmas.Nat.{mod-pow-add, ones_cat, pow_pos}
-use Rattle.profile.specs.Word.{bit_of}
+use Rattle.arm_decode.specs.Word.{bit_of}
 use Rattle.arm_core.specs.Listed.{listed_below, registers_of_list}
 
 pub listed_with : (list n : ℕ) → bit_of list n ≡ true → listed_below (n + 1) list ≡ listed_below n list ++ n ∷ []

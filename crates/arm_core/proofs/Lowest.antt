@@ -5,7 +5,7 @@ use Rattle.std.proofs.lemmas.Bool.{cases_lt}
 use Rattle.std.proofs.lemmas.Bool.Decides.{nat_tests}
 use Rattle.std.proofs.lemmas.Nat.{and_le_l}
 use Rattle.std.proofs.lemmas.Nat.Bits.{bit_at-suc, bit_at-trailing_zeros, bit_at-zero, bit_at_above, bit_at_and, bit_at_lowest}
-use Rattle.profile.specs.Word.{bit_of}
+use Rattle.arm_decode.specs.Word.{bit_of}
 use Rattle.arm_core.specs.Listed.{listed_below, registers_of_list}
 
 none_below : (n x : ℕ) → ((i : ℕ) → i < n → bit_of x i ≡ false) → listed_below n x ≡ []

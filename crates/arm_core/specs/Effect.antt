@@ -1,8 +1,8 @@
 -- What instructions have in common: what R15 reads as, what a write to it does, the flags of a result (ARM2 data sheet, "Register 15",
 -- "Using R15 as an operand"). Where the data sheet leaves a corner open, this project chose.
 use Rattle.std.specs.Prelude.{ℕ, ◌+◌, ◌*◌, ◌%◌, ◌^◌, ◌==◌, if◌then◌else◌}
-use Rattle.profile.specs.Word.{bit_of}
-use Rattle.profile.specs.declared.word.Sum.{Sum}
+use Rattle.arm_decode.specs.Word.{bit_of}
+use Rattle.arm_decode.specs.Sum.{Sum}
 use Rattle.arm_core.specs.declared.psr.Mode.{Mode}
 use Rattle.arm_core.specs.Psr.{psr_bits, psr_of, psr_taken}
 use Rattle.arm_core.specs.State.{State, register_in, with_register_in, with_pc, with_psr, with_flags}

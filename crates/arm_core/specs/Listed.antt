@@ -1,6 +1,6 @@
 -- The registers of a list, as LDM and STM have one: 16 bits, of which bit n stands for Rn (ARM2 data sheet, "Block data transfer").
 use Rattle.std.specs.Prelude.{ℕ, zero, suc, ◌++◌, if◌then◌else◌, List, [], ◌∷◌}
-use Rattle.profile.specs.Word.{bit_of}
+use Rattle.arm_decode.specs.Word.{bit_of}
 
 -- The registers of a list below a number, lowest first; all of them.
 unfoldable pub listed_below : ℕ → ℕ → List ℕ

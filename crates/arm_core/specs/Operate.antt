@@ -1,9 +1,9 @@
 -- Data processing, multiplication and branches (ARM2 data sheet, "Data processing", "Multiply and multiply-accumulate", "Branch").
 use Rattle.std.specs.Prelude.{ℕ, Bool, true, false, ◌+◌, ◌*◌, ◌%◌, ◌^◌, ◌==◌, if◌then◌else◌, bit_and, bit_or, bit_xor}
 use Rattle.std.specs.Int.{bit_not, w32}
-use Rattle.profile.specs.Sums.{sum_of, difference_of}
-use Rattle.profile.specs.declared.shift.Shifted.{Shifted}
-use Rattle.profile.specs.declared.word.Sum.{Sum}
+use Rattle.arm_decode.specs.Sums.{sum_of, difference_of}
+use Rattle.arm_decode.specs.Shifted.{Shifted}
+use Rattle.arm_decode.specs.Sum.{Sum}
 use Rattle.arm_decode.specs.Refusals.{is_test}
 use Rattle.arm_decode.specs.declared.action.Operate.{Operate}
 use Rattle.arm_decode.specs.declared.action.Multiply.{Multiply}

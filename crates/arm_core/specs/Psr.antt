@@ -1,7 +1,7 @@
 -- The processor status as bits of R15 (ARM2 data sheet, "Register 15"): N 31, Z 30, C 29, V 28, I 27, F 26, the mode in bits 1 to 0.
 use Rattle.std.specs.Prelude.{ℕ, ◌+◌, ◌*◌, ◌%◌, ◌^◌, if◌then◌else◌, ◌==◌}
 use Rattle.std.specs.Int.{from_bool}
-use Rattle.profile.specs.Word.{bit_of}
+use Rattle.arm_decode.specs.Word.{bit_of}
 use Rattle.arm_core.specs.declared.psr.Mode.{Mode}
 use Rattle.arm_core.specs.declared.psr.Mode.TheVariants.{User, FastInterrupt, Interrupt, Supervisor}
 use Rattle.arm_core.specs.declared.psr.Psr.{Psr}

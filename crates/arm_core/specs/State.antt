@@ -1,7 +1,6 @@
 -- The core: its register file with the banks of the four modes, the status and the program counter (ARM2 data sheet, "Registers").
-use Rattle.profile.specs.MemoryMap.{application_start}
-use Rattle.std.specs.Prelude.{◌≡◌, ◌<◌, ℕ, Bool, length, ◌+◌, ◌*◌, ◌/◌, ◌%◌, ◌^◌, ◌==◌, nat_lt, if◌then◌else◌, List, [], ◌∷◌, slice_index, slice_set, false}
-use Rattle.std.specs.Prelude.{replicate, ◌++◌}
+use Rattle.arm_decode.specs.MemoryMap.{application_start}
+use Rattle.std.specs.Prelude.{◌≡◌, ◌<◌, ℕ, Bool, length, ◌+◌, ◌*◌, ◌/◌, ◌%◌, ◌^◌, ◌==◌, nat_lt, if◌then◌else◌, List, [], ◌∷◌, slice_index, slice_set, false, replicate, ◌++◌}
 use Rattle.arm_core.specs.declared.psr.Mode.{Mode}
 use Rattle.arm_core.specs.declared.psr.Mode.TheVariants.{User, FastInterrupt, Interrupt, Supervisor}
 use Rattle.arm_core.specs.declared.psr.Psr.{Psr}

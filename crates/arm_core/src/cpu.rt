@@ -6,7 +6,7 @@ ghost use Rattle.arm_core.specs.State.{IsCore, slot_of, register_in, with_regist
 
 use crate::psr::{Mode, Psr};
 use arm_banks::{changed_place, exchange};
-use profile::memory_map::{ADDRESS_LIMIT, APPLICATION_START, SVC_STACK_END};
+use arm_decode::{ADDRESS_LIMIT, APPLICATION_START, SVC_STACK_END};
 use std::marker::Model;
 
 /// The core: the registers of all four modes, the status and the program counter, which is a

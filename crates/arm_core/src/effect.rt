@@ -6,9 +6,7 @@ ghost use Rattle.arm_core.specs.State.{with_flags};
 
 use crate::cpu::Cpu;
 use crate::psr::{Mode, Psr};
-use arm_decode::Register;
-use profile::memory_map::ADDRESS_LIMIT;
-use profile::word::{Sum, is_bit_set};
+use arm_decode::{ADDRESS_LIMIT, Register, Sum, is_bit_set};
 
 impl Cpu {
     /// The program counter some words ahead of the instruction, at most 3, in the 26-bit address

@@ -13,6 +13,5 @@ pub mod registers;
 pub mod turn;
 
 pub use cpu::Cpu;
-pub use profile;
 pub use psr::{Mode, Psr};
 pub use turn::Turn;

@@ -4,8 +4,10 @@ ghost use Rattle.std.specs.Prelude.{◌≡◌, ◌<◌, ◌≤◌, ◌^◌, ◌%
 ghost use Rattle.arm_core.specs.Operand.{shifted_value, shifted_by_zero, shifted_by_number, shifted_by_byte, rotated_immediate, shifted_register, operand_of, words_ahead};
 
 use crate::cpu::Cpu;
-use arm_decode::{Operand, Shift, ShiftedRegister};
-use profile::shift::{Shifted, rotate, rotate_through, shift_left, shift_right, shift_signed};
+use arm_decode::{
+    Operand, Shift, Shifted, ShiftedRegister, rotate, rotate_through, shift_left, shift_right,
+    shift_signed,
+};
 
 /// A shift by an amount of at least 1.
 #[inline(always)]

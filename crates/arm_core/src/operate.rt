@@ -6,9 +6,7 @@ ghost use Rattle.arm_core.specs.Operate.{sum_of_operation, state_after_test, sta
 use crate::cpu::Cpu;
 use crate::operand::words_ahead;
 use crate::psr::Psr;
-use arm_decode::{Multiply, Operate, Operation};
-use profile::shift::Shifted;
-use profile::word::{Sum, add, subtract};
+use arm_decode::{Multiply, Operate, Operation, Shifted, Sum, add, subtract};
 
 /// The result of an operation with the flags C and V that come with it; a logical one takes C from
 /// the shifter and keeps V.

@@ -3,7 +3,7 @@
 ghost use Rattle.std.specs.Prelude.{◌≡◌, ◌<◌, ◌≤◌, ◌^◌, ◌%◌};
 ghost use Rattle.arm_core.specs.Psr.{psr_bits, psr_of, mode_number, mode_of, psr_taken};
 
-use profile::word::is_bit_set;
+use arm_decode::is_bit_set;
 
 /// The four modes of the processor, as bits 1 and 0 of R15 number them (ARM2 data sheet,
 /// "Processor modes").

@@ -2,7 +2,7 @@
 
 ghost use Rattle.std.specs.Prelude.{◌≡◌};
 
-use profile::Fault;
+use arm_decode::Fault;
 
 /// How a step ended. On every answer but `Done` the core and the memory are as they were.
 #[derive(Clone, Copy, Debug, PartialEq, Eq)]

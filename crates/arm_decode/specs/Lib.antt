@@ -1,6 +1,13 @@
 -- The instruction table of the ARM2, both ways. Begin with Table; Diagrams and Laws say it
 -- otherwise.
-pub use Rattle.profile
+pub use Rattle.profile.specs.MemoryMap
+pub use Rattle.profile.specs.Shift as ProfileShift
+pub use Rattle.profile.specs.Sums
+pub use Rattle.profile.specs.SwiNames
+pub use Rattle.profile.specs.Word
+pub use Rattle.profile.specs.declared.shift.Shifted
+pub use Rattle.profile.specs.declared.swi.SwiName
+pub use Rattle.profile.specs.declared.word.Sum
 pub mod Decoded
 pub mod Diagrams
 pub mod Fields

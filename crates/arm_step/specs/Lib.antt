@@ -1,5 +1,7 @@
 -- What one instruction leaves. Begin with Step; each family of instructions has a file of its own.
-pub use Rattle.arm_core
+pub use Rattle.arm_core.specs.State
+pub use Rattle.arm_core.specs.declared.psr.Mode as ArmCoreMode
+pub use Rattle.arm_core.specs.declared.psr.Psr as ArmCorePsr
 pub mod Back
 pub mod BlockOrder
 pub mod Blocks

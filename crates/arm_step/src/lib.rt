@@ -13,4 +13,3 @@ pub mod words;
 
 pub use arm_core::{Cpu, Mode, Psr, Turn};
 pub use execute::step;
-pub use profile;

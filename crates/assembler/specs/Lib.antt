@@ -1,5 +1,4 @@
 -- What a source means: its program, or its first fault. Begin with Passes, then Line.
-pub use Rattle.text_lines
 pub mod Directives
 pub mod ErrorNames
 pub mod ErrorTexts

@@ -3,10 +3,10 @@
 -- letters after the name are one. `BLS` is B with LS, `BLE` is B with LE, since BL has no suffix;
 -- `BLLS` is BL with LS.
 use Rattle.std.specs.Prelude.{ℕ, Bool, true, false, List, [], ◌∷◌, take, drop, codes, Option, Some, None, if◌then◌else◌}
-use Rattle.assembler_text.specs.arm_decode.specs.Refusals.{is_test}
-use Rattle.assembler_text.specs.arm_decode.specs.declared.condition.Condition.{Condition}
-use Rattle.assembler_text.specs.arm_decode.specs.declared.condition.Condition.TheVariants.{Always}
-use Rattle.assembler_text.specs.arm_decode.specs.declared.operation.Operation.{Operation}
+use Rattle.arm_decode.specs.Refusals.{is_test}
+use Rattle.arm_decode.specs.declared.condition.Condition.{Condition}
+use Rattle.arm_decode.specs.declared.condition.Condition.TheVariants.{Always}
+use Rattle.arm_decode.specs.declared.operation.Operation.{Operation}
 use Rattle.assembler_names.specs.Names.{condition_named, operation_named, block_mode_named}
 use Rattle.assembler_names.specs.Words.{is_same_name, ◌>>=◌, ◌or◌}
 use Rattle.assembler_names.specs.declared.mnemonics.Command.{Command}

@@ -4,13 +4,13 @@
 use Rattle.std.specs.Prelude.{ℕ, Bool, true, false, ◌-◌, ◌==◌, ◌&&◌, ◌||◌, List, [], ◌∷◌, codes, Option, Some, None, find, if◌then◌else◌}
 use Rattle.std.specs.Char.{to_ascii_lowercase}
 use Rattle.std.specs.Int.{is_in_range}
-use Rattle.assembler_text.specs.arm_decode.specs.Names.{conditions, operations, shifts, block_modes}
-use Rattle.assembler_text.specs.arm_decode.specs.declared.address.BlockMode.{BlockMode}
-use Rattle.assembler_text.specs.arm_decode.specs.declared.address.BlockMode.TheVariants.{DecrementAfter, IncrementAfter, DecrementBefore, IncrementBefore}
-use Rattle.assembler_text.specs.arm_decode.specs.declared.condition.Condition.{Condition}
-use Rattle.assembler_text.specs.arm_decode.specs.declared.condition.Condition.TheVariants.{Always}
-use Rattle.assembler_text.specs.arm_decode.specs.declared.operation.Operation.{Operation}
-use Rattle.assembler_text.specs.arm_decode.specs.declared.shift.Shift.{Shift}
+use Rattle.arm_decode.specs.Names.{conditions, operations, shifts, block_modes}
+use Rattle.arm_decode.specs.declared.address.BlockMode.{BlockMode}
+use Rattle.arm_decode.specs.declared.address.BlockMode.TheVariants.{DecrementAfter, IncrementAfter, DecrementBefore, IncrementBefore}
+use Rattle.arm_decode.specs.declared.condition.Condition.{Condition}
+use Rattle.arm_decode.specs.declared.condition.Condition.TheVariants.{Always}
+use Rattle.arm_decode.specs.declared.operation.Operation.{Operation}
+use Rattle.arm_decode.specs.declared.shift.Shift.{Shift}
 use Rattle.assembler_text.specs.Names.{condition_text, operation_text, shift_text, block_mode_text}
 use Rattle.assembler_names.specs.Words.{is_same_name, word, after_word, ◌>>=◌}
 

@@ -2,8 +2,8 @@
 -- number"). With X before it a name means the call that answers an error with V set: bit 17 of its
 -- number. Capitals and small letters differ.
 use Rattle.std.specs.Prelude.{ℕ, Bool, false, ◌==◌, bit_or, List, [], ◌∷◌, Option, Some, None, find, option_map, bytes_eq, if◌then◌else◌}
-use Rattle.assembler_text.specs.profile.specs.SwiNames.{swi_of, swi_name}
-use Rattle.assembler_text.specs.profile.specs.declared.swi.SwiName.{SwiName}
+use Rattle.arm_decode.specs.SwiNames.{swi_of, swi_name}
+use Rattle.arm_decode.specs.SwiName.{SwiName}
 use Rattle.assembler_names.specs.Words.{◌or◌}
 
 -- the number of each call; OS_WriteI's is the first of its 256

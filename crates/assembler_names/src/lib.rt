@@ -10,6 +10,7 @@ pub mod reason;
 pub mod swi_names;
 pub mod words;
 
+pub use assembler_text::disassemble;
 pub use expressions::{Value, expression};
 pub use labels::Labels;
 pub use mnemonics::{Command, Mnemonic, mnemonic_named};

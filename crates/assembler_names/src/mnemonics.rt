@@ -5,7 +5,7 @@ ghost use Rattle.assembler_names.specs.Mnemonics.{block_mnemonic, condition_and_
 
 use crate::names::{block_mode_named, condition_named, operation_named};
 use crate::words::is_name;
-use assembler_text::arm_decode::{BlockMode, Condition, Operation};
+use arm_decode::{BlockMode, Condition, Operation};
 
 /// What the operands of an instruction are read for.
 #[derive(Clone, Copy, Debug, PartialEq, Eq)]

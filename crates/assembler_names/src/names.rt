@@ -6,7 +6,7 @@ ghost use Rattle.assembler_names.specs.Names.{block_mode_named, condition_named,
 ghost use Rattle.assembler_names.specs.Words.{read_of};
 
 use crate::words::{Read, after_word, is_name, word};
-use assembler_text::arm_decode::{BlockMode, Condition, Operation, Register, Shift};
+use arm_decode::{BlockMode, Condition, Operation, Register, Shift};
 use assembler_text::names::{block_mode_text, condition_text, operation_text, shift_text};
 
 static CONDITIONS: [Condition; 16] = [

@@ -3,7 +3,7 @@
 ghost use Rattle.std.specs.Prelude.{◌≡◌};
 ghost use Rattle.assembler_names.specs.SwiNames.{call_named, names_call, swi_named, x_call_named};
 
-use assembler_text::profile::SwiName;
+use arm_decode::SwiName;
 
 static CALL_NUMBERS: [u32; 19] = [
     0x0, 0x1, 0x2, 0x3, 0x11, 0x16, 0x1D, 0x1E, 0x2A, 0x2B, 0x5C, 0x66, 0x100, 0xC0000, 0xC0001,

@@ -1,5 +1,4 @@
 -- Which word an instruction's text means. Begin with Instructions.
-pub use Rattle.assembler_text
 pub mod Addresses
 pub mod Instructions
 pub mod Laws

@@ -8,5 +8,4 @@ pub mod operands;
 pub mod operating;
 pub mod register_lists;
 
-pub use assembler_text;
 pub use instructions::instruction;

@@ -7,6 +7,4 @@ pub mod operands;
 pub mod printing;
 pub mod transfers;
 
-pub use arm_decode;
-pub use arm_decode::profile;
 pub use printing::disassemble;

@@ -8,8 +8,8 @@ use Rattle.address_map.specs.Bytes.{Bytes, ok_unless_fault, store_fault, with_by
 use Rattle.command_shell.specs.Memory.{script_after_poke}
 use Rattle.command_shell.specs.State.{ScriptState}
 use Rattle.os_heap.specs.Store.{Store, owned_in}
-use Rattle.debugger.specs.swi_dispatch_guest.specs.MachineState.{with_memory}
-use Rattle.debugger.specs.swi_dispatch_guest.specs.Writes.{machine_after_poke}
+use Rattle.command_shell.specs.MachineState.{with_memory}
+use Rattle.command_shell.specs.Writes.{machine_after_poke}
 use Rattle.byte_writes.specs.Put.{IsWordOf, first_fault, put_fault, script_after_put, script_with_bytes, words_fault}
 use Rattle.byte_writes.proofs.WordLemmas.{fault_next}
 

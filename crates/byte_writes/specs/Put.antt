@@ -7,7 +7,7 @@ use Rattle.address_map.specs.Bytes.{Bytes, ok_unless_fault, store_fault, with_by
 use Rattle.command_shell.specs.Memory.{script_with_machine}
 use Rattle.command_shell.specs.State.{ScriptState}
 use Rattle.os_heap.specs.Store.{Store, owned_in}
-use Rattle.debugger.specs.swi_dispatch_guest.specs.MachineState.{with_memory}
+use Rattle.command_shell.specs.MachineState.{with_memory}
 
 abbrev pub first_fault : Option Fault → Option Fault → Option Fault
 first_fault (Some fault) other = Some fault

@@ -3,12 +3,11 @@
 ghost use Rattle.std.specs.Prelude.{◌≡◌, ◌<◌, ◌≤◌, ◌+◌, ◌%◌, ◌^◌, None, List, length};
 ghost use Rattle.address_map.specs.Bytes.{store_fault as store_fault_told, with_bytes_at};
 ghost use Rattle.address_map.specs.Memory.{byte_at, bytes_of, is_owned};
-ghost use Rattle.byte_writes.specs.Put.{IsWordOf, put_fault as put_fault_told, script_after_put, script_with_bytes};
-ghost use Rattle.byte_writes.specs.Put.{word_count as word_count_told, words_fault as words_fault_told};
+ghost use Rattle.byte_writes.specs.Put.{IsWordOf, put_fault as put_fault_told, script_after_put, script_with_bytes, word_count as word_count_told, words_fault as words_fault_told};
 ghost use Rattle.command_shell.specs.Session.{script_state};
 ghost use Rattle.image_loader.specs.Entries.{Entry};
 ghost use Rattle.profile.specs.Outcome.{Leaves};
-ghost use Rattle.debugger.specs.swi_dispatch_guest.specs.Parts.{state_of};
+ghost use Rattle.command_shell.specs.Parts.{state_of};
 
 use address_map::AddressMap;
 use command_shell::Session;

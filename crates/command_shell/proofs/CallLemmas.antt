@@ -1,6 +1,5 @@
 -- How a call goes on from one step to the next, and how it ends.
-use Rattle.std.proofs.Common.{◌≡◌, ℕ, zero, suc, ◌<◌, ◌-◌, ◌++◌, false, List, Option, Some, None, Result, Ok, Err, sym}
-use Rattle.std.proofs.Common.{ap, arith, refl, subst, ◌∙◌, Bool, true, length, []}
+use Rattle.std.proofs.Common.{◌≡◌, ℕ, zero, suc, ◌<◌, ◌-◌, ◌++◌, false, List, Option, Some, None, Result, Ok, Err, sym, ap, arith, refl, subst, ◌∙◌, Bool, true, length, []}
 use Rattle.std.proofs.lemmas.List.{append-nil}
 use Rattle.std.proofs.lemmas.Bool.Decides.{nat_tests}
 use Rattle.std.specs.Prelude.{OnOk, ◌==◌, if◌then◌else◌}
@@ -9,14 +8,12 @@ use Rattle.profile.specs.declared.stop.Stop.{Stop}
 use Rattle.profile.specs.declared.stop.Stop.TheVariants as stop
 use Rattle.profile.specs.Output.{AddsAllBut}
 use Rattle.profile.proofs.OutputLemmas.{AddsAllBut-start, AddsAllBut-more, Appends-from_all_but}
-use Rattle.debugger.specs.swi_dispatch_guest.specs.declared.halt.Halt.{Halt}
-use Rattle.debugger.specs.swi_dispatch_guest.specs.declared.halt.Halt.TheVariants as halt
-use Rattle.debugger.specs.swi_dispatch_guest.specs.MachineState.{StepOutcome, stop_of}
-use Rattle.debugger.specs.swi_dispatch_guest.specs.Run.{count_after, is_among}
-use Rattle.debugger.specs.swi_dispatch_guest.specs.Step.{machine_step}
-use Rattle.command_shell.specs.Calls.{call_done, call_end, call_end_by, call_made, call_unless, end_told, answer_after_steps}
-use Rattle.command_shell.specs.Calls.{finished_by, step_made, step_then, stop_before_step, stop_before_step_by}
-use Rattle.command_shell.specs.Calls.{stop_told}
+use Rattle.swi_dispatch_guest.specs.declared.halt.Halt.{Halt}
+use Rattle.swi_dispatch_guest.specs.declared.halt.Halt.TheVariants as halt
+use Rattle.swi_dispatch_guest.specs.MachineState.{StepOutcome, stop_of}
+use Rattle.swi_dispatch_guest.specs.Run.{count_after, is_among}
+use Rattle.swi_dispatch_guest.specs.Step.{machine_step}
+use Rattle.command_shell.specs.Calls.{call_done, call_end, call_end_by, call_made, call_unless, end_told, answer_after_steps, finished_by, step_made, step_then, stop_before_step, stop_before_step_by, stop_told}
 use Rattle.command_shell.specs.State.{ScriptState, Answered, IsAnswered}
 use Rattle.command_shell.specs.declared.calls.CallEnd.{CallEnd}
 use Rattle.command_shell.specs.declared.calls.CallEnd.TheVariants as end

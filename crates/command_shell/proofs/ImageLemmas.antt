@@ -1,7 +1,6 @@
 -- No line takes an image away, so after some lines of a script the images are a front of those
 -- after all of them.
-use Rattle.std.proofs.Common.{◌≡◌, ℕ, zero, suc, ◌+◌, Bool, true, false, List, [], ◌∷◌, ◌++◌, Option, Some, None, Result, Ok, length}
-use Rattle.std.proofs.Common.{Err, sym, ◌∙◌, refl, subst, inl, inr}
+use Rattle.std.proofs.Common.{◌≡◌, ℕ, zero, suc, ◌+◌, Bool, true, false, List, [], ◌∷◌, ◌++◌, Option, Some, None, Result, Ok, length, Err, sym, ◌∙◌, refl, subst, inl, inr}
 use Rattle.std.specs.Prelude.{IfSome, OnErr, codes, ◌⊎◌}
 use Rattle.std.specs.Str.Lines.{lines}
 use Rattle.profile.specs.Sizes.{Sizes}
@@ -14,26 +13,21 @@ use Rattle.assembler.specs.Passes.{means_lines}
 use Rattle.assembler.specs.declared.error.AsmError.{AsmError}
 use Rattle.debugger.specs.Flex.{flex_text}
 use Rattle.debugger.specs.Heap.{heap_blocks_text}
-use Rattle.debugger.specs.swi_dispatch.specs.Boot.{machine_after_boot}
-use Rattle.debugger.specs.swi_dispatch_guest.specs.Writes.{machine_after_poke}
-use Rattle.debugger.specs.swi_dispatch_guest.specs.MachineState.{MachineState, StepOutcome}
-use Rattle.debugger.specs.swi_dispatch_guest.specs.Step.{machine_step, module_loaded, store_called}
-use Rattle.debugger.specs.swi_dispatch.specs.declared.boot_error.BootError.{BootError}
-use Rattle.debugger.specs.swi_dispatch.specs.swi_dispatch_breaks.specs.Breaks.{with_break, without_break}
-use Rattle.debugger.specs.swi_dispatch.specs.swi_dispatch_breaks.specs.declared.breaks.BreakError.{BreakError}
+use Rattle.swi_dispatch.specs.Boot.{machine_after_boot}
+use Rattle.swi_dispatch_guest.specs.Writes.{machine_after_poke}
+use Rattle.swi_dispatch_guest.specs.MachineState.{MachineState, StepOutcome}
+use Rattle.swi_dispatch_guest.specs.Step.{machine_step, module_loaded, store_called}
+use Rattle.swi_dispatch.specs.declared.boot_error.BootError.{BootError}
+use Rattle.swi_dispatch_breaks.specs.Breaks.{with_break, without_break}
+use Rattle.swi_dispatch_breaks.specs.declared.breaks.BreakError.{BreakError}
 use Rattle.command_shell_lines.specs.Blocks.{block_bytes, block_lines, lines_after, lines_taken}
-use Rattle.command_shell_lines.specs.Requests.{Request, Nothing, Hex, Asm, Boot, Run, Regs, Set, Poke, Call, Load, Step}
-use Rattle.command_shell_lines.specs.Requests.{Break, Unbreak, Mem, Code, Heap, Areas, Modules, Flex, Unknown}
-use Rattle.command_shell_lines.specs.Requests.{opens_block, request_of, is_end_of_block}
+use Rattle.command_shell_lines.specs.Requests.{Request, Nothing, Hex, Asm, Boot, Run, Regs, Set, Poke, Call, Load, Step, Break, Unbreak, Mem, Code, Heap, Areas, Modules, Flex, Unknown, opens_block, request_of, is_end_of_block}
 use Rattle.command_shell.specs.Answers.{break_text, unbreak_text}
-use Rattle.command_shell.specs.Calls.{call_end, call_made, call_unless, end_told, answer_after_steps, finished_by}
-use Rattle.command_shell.specs.Calls.{step_made, step_then, stop_before_step, stop_told}
+use Rattle.command_shell.specs.Calls.{call_end, call_made, call_unless, end_told, answer_after_steps, finished_by, step_made, step_then, stop_before_step, stop_told}
 use Rattle.command_shell.specs.Fronts.{IsFront, HasSome, AreOldOrTold}
-use Rattle.command_shell.specs.Images.{asm_block, asm_told, boot_done, boot_found, boot_told, hex_block, hex_told}
-use Rattle.command_shell.specs.Images.{image_added, image_opened}
+use Rattle.command_shell.specs.Images.{asm_block, asm_told, boot_done, boot_found, boot_told, hex_block, hex_told, image_added, image_opened}
 use Rattle.command_shell.specs.Memory.{poke_done}
-use Rattle.command_shell.specs.Script.{OpenBlock, at_the_end, answer_to_block, in_block, lines_told, on_line, on_opened}
-use Rattle.command_shell.specs.Script.{request_told, script_told}
+use Rattle.command_shell.specs.Script.{OpenBlock, at_the_end, answer_to_block, in_block, lines_told, on_line, on_opened, request_told, script_told}
 use Rattle.command_shell.specs.State.{ScriptState, Answered, script_start_state}
 use Rattle.command_shell.specs.Stepping.{breaks_changed}
 use Rattle.command_shell.specs.Views.{flex_told, heap_told, shown_or}

@@ -1,3 +1,5 @@
+pub use Rattle.swi_dispatch_guest.proofs.GateLemmas
+pub use Rattle.swi_dispatch_guest.proofs.Runs
 pub mod AnswerLemmas
 pub mod CallLemmas
 pub mod FrontLemmas

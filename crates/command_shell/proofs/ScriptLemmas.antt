@@ -1,27 +1,22 @@
 -- How a script goes on after a line, where the lines of a block go with the line that opens it.
-use Rattle.std.proofs.Common.{◌≡◌, ℕ, ◌+◌, ◌≤◌, ◌<◌, length, Bool, true, false, List, [], ◌∷◌, ◌++◌, Option, Some, None}
-use Rattle.std.proofs.Common.{sym, ap, subst, ◌∙◌, append_assoc, add-zero, arith, refl}
+use Rattle.std.proofs.Common.{◌≡◌, ℕ, ◌+◌, ◌≤◌, ◌<◌, length, Bool, true, false, List, [], ◌∷◌, ◌++◌, Option, Some, None, sym, ap, subst, ◌∙◌, append_assoc, add-zero, arith, refl}
 use Rattle.std.proofs.lemmas.List.{append-nil}
 use Rattle.std.specs.Prelude.{if◌then◌else◌, IfSome}
 use Rattle.std.specs.Str.Lines.{lines}
 use Rattle.profile.specs.Sizes.{Sizes}
-use Rattle.command_shell_lines.specs.text_lines.specs.Lines.{ReadingPlace}
+use Rattle.text_lines.specs.Lines.{ReadingPlace}
 use Rattle.command_shell_lines.specs.Blocks.{block_lines, after_block, lines_in_block, lines_after, lines_taken}
-use Rattle.command_shell_lines.specs.Requests.{Request, Nothing, Hex, Asm, Boot, Run, Regs, Set, Poke, Call, Load, Step}
-use Rattle.command_shell_lines.specs.Requests.{Break, Unbreak, Mem, Code, Heap, Areas, Modules, Flex, Unknown}
-use Rattle.command_shell_lines.specs.Requests.{opens_block, request_of, is_end_of_block}
+use Rattle.command_shell_lines.specs.Requests.{Request, Nothing, Hex, Asm, Boot, Run, Regs, Set, Poke, Call, Load, Step, Break, Unbreak, Mem, Code, Heap, Areas, Modules, Flex, Unknown, opens_block, request_of, is_end_of_block}
 use Rattle.image_loader.specs.Entries.{Entry}
-use Rattle.debugger.specs.swi_dispatch_guest.specs.MachineState.{machine_start}
-use Rattle.debugger.specs.swi_dispatch.specs.Value.{MachineValue}
+use Rattle.swi_dispatch_guest.specs.MachineState.{machine_start}
+use Rattle.swi_dispatch.specs.Value.{MachineValue}
 use Rattle.command_shell.specs.declared.session.Session.{Session}
 use Rattle.command_shell.specs.Session.{script_state, state_on}
-use Rattle.command_shell.specs.Script.{OpenBlock, request_told, on_opened, on_request, in_block, lines_told}
-use Rattle.command_shell.specs.Script.{script_told}
+use Rattle.command_shell.specs.Script.{OpenBlock, request_told, on_opened, on_request, in_block, lines_told, script_told}
 use Rattle.command_shell.specs.State.{ScriptState, Answered, answer, then_answered, script_start_state}
 use Rattle.profile.proofs.OutputLemmas.{AddsAllBut-start, Appends-from_all_but}
-use Rattle.command_shell.proofs.FrontLemmas.{AddsFront-from_all_but}
-use Rattle.command_shell.proofs.FrontLemmas.{AddsFront-start, IsFront-same}
-use Rattle.debugger.specs.swi_dispatch_guest.specs.Parts.{state_of}
+use Rattle.command_shell.proofs.FrontLemmas.{AddsFront-from_all_but, AddsFront-start, IsFront-same}
+use Rattle.swi_dispatch_guest.specs.Parts.{state_of}
 
 -- an answer, and then the lines that are left
 after_told : Answered → ℕ → List (List ℕ) → Answered

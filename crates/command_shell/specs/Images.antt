@@ -3,10 +3,10 @@ use Rattle.std.specs.Prelude.{ℕ, false, List, length, codes, Option, Some, Non
 use Rattle.image_loader.specs.Entries.{bytes_of_image, refusal_for, with_entry}
 use Rattle.image_loader.specs.declared.error.ImageError.{ImageError}
 use Rattle.image_loader.specs.ErrorNames.{image_error_name}
-use Rattle.debugger.specs.swi_dispatch_guest.specs.MachineState.{MachineState}
-use Rattle.debugger.specs.swi_dispatch.specs.Boot.{machine_after_boot}
-use Rattle.debugger.specs.swi_dispatch.specs.declared.boot_error.BootError.{BootError}
-use Rattle.debugger.specs.swi_dispatch.specs.declared.boot_error.BootError.TheVariants as boot
+use Rattle.swi_dispatch_guest.specs.MachineState.{MachineState}
+use Rattle.swi_dispatch.specs.Boot.{machine_after_boot}
+use Rattle.swi_dispatch.specs.declared.boot_error.BootError.{BootError}
+use Rattle.swi_dispatch.specs.declared.boot_error.BootError.TheVariants as boot
 use Rattle.assembler.specs.ErrorNames.{reason_name}
 use Rattle.assembler.specs.Passes.{means_lines}
 use Rattle.assembler.specs.declared.error.AsmError.{AsmError}

@@ -1,4 +1,14 @@
 -- What a script is answered. Begin with Script; each family of lines has a file of its own.
+pub use Rattle.debugger.specs.Code
+pub use Rattle.swi_dispatch.specs.Boot
+pub use Rattle.swi_dispatch.specs.Value
+pub use Rattle.swi_dispatch.specs.declared.boot_error.BootError
+pub use Rattle.swi_dispatch_guest.specs.MachineState
+pub use Rattle.swi_dispatch_guest.specs.Parts
+pub use Rattle.swi_dispatch_guest.specs.Run
+pub use Rattle.swi_dispatch_guest.specs.Step
+pub use Rattle.swi_dispatch_guest.specs.Writes
+pub use Rattle.swi_dispatch_guest.specs.declared.halt.Halt
 pub mod Answers
 pub mod Calls
 pub mod Error

@@ -7,9 +7,7 @@ use Rattle.command_shell.specs.Answers.{unknown_text}
 use Rattle.command_shell.specs.Calls.{call_told, load_told}
 use Rattle.command_shell.specs.Images.{hex_told, asm_told, boot_told}
 use Rattle.command_shell.specs.Memory.{set_told, poke_told}
-use Rattle.command_shell_lines.specs.Requests.{Request, Nothing, Hex, Asm, Boot, Run, Regs, Set, Poke, Call, Load, Step}
-use Rattle.command_shell_lines.specs.Requests.{Break, Unbreak, Mem, Code, Heap, Areas, Modules, Flex, Unknown}
-use Rattle.command_shell_lines.specs.Requests.{opens_block, request_of, is_end_of_block}
+use Rattle.command_shell_lines.specs.Requests.{Request, Nothing, Hex, Asm, Boot, Run, Regs, Set, Poke, Call, Load, Step, Break, Unbreak, Mem, Code, Heap, Areas, Modules, Flex, Unknown, opens_block, request_of, is_end_of_block}
 use Rattle.command_shell.specs.State.{ScriptState, Answered, answer, then_answered, script_start_state}
 use Rattle.command_shell.specs.Stepping.{run_told, step_told, break_told, unbreak_told}
 use Rattle.command_shell.specs.Views.{regs_told, mem_told, code_told, heap_told, areas_told, modules_told, flex_told}

@@ -1,10 +1,10 @@
 -- The state of a script, as the code holds it: the session and the images.
 use Rattle.std.specs.Prelude.{ℕ, List, [], None}
 use Rattle.image_loader.specs.Entries.{Entry}
-use Rattle.debugger.specs.swi_dispatch.specs.Value.{MachineValue}
+use Rattle.swi_dispatch.specs.Value.{MachineValue}
 use Rattle.command_shell.specs.declared.session.Session.{Session}
 use Rattle.command_shell.specs.State.{ScriptState}
-use Rattle.debugger.specs.swi_dispatch_guest.specs.Parts.{state_of}
+use Rattle.swi_dispatch_guest.specs.Parts.{state_of}
 
 abbrev pub script_state : Session → List Entry → ScriptState
 script_state s images = record {

@@ -1,10 +1,7 @@
 //! The lines that requests are answered with.
 
 ghost use Rattle.profile.specs.Output.{Writes};
-ghost use Rattle.command_shell.specs.Answers.{unknown_text, image_text, line_refused_text, image_refused_text};
-ghost use Rattle.command_shell.specs.Answers.{boot_text, refused_text, break_text, unbreak_text, ok_text};
-ghost use Rattle.command_shell.specs.Answers.{call_error_text, at_text, numbered_text, fault_stop_text, stop_text};
-ghost use Rattle.command_shell.specs.Answers.{stepped_text};
+ghost use Rattle.command_shell.specs.Answers.{unknown_text, image_text, line_refused_text, image_refused_text, boot_text, refused_text, break_text, unbreak_text, ok_text, call_error_text, at_text, numbered_text, fault_stop_text, stop_text, stepped_text};
 
 use itoa::Buffer;
 use profile::{Fault, HexText, Sink, Stop, WriteFault, push_all, push_parts};

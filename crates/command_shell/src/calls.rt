@@ -5,16 +5,16 @@ ghost use Rattle.std.specs.Prelude.{◌≡◌, ◌≤◌, ◌<◌, ◌+◌, true
 ghost use Rattle.std.specs.Option.{option_map};
 ghost use Rattle.std.specs.Io.KnownBytes.{Appends};
 ghost use Rattle.profile.specs.Output.{Writes};
-ghost use Rattle.debugger.specs.swi_dispatch_guest.specs.declared.halt.Halt.{Halt};
-ghost use Rattle.debugger.specs.swi_dispatch_guest.specs.MachineState.{stop_of};
-ghost use Rattle.debugger.specs.swi_dispatch_guest.specs.Run.{count_after};
-ghost use Rattle.debugger.specs.swi_dispatch_guest.specs.Parts.{state_of};
+ghost use Rattle.swi_dispatch_guest.specs.declared.halt.Halt.{Halt};
+ghost use Rattle.swi_dispatch_guest.specs.MachineState.{stop_of};
+ghost use Rattle.swi_dispatch_guest.specs.Run.{count_after};
+ghost use Rattle.swi_dispatch_guest.specs.Parts.{state_of};
 
 use crate::answers::{tell_error, tell_ok, tell_stop};
 use crate::session::Session;
-use debugger::swi_dispatch::Machine;
 use image_loader::Images;
 use profile::{Sink, Stop, WriteFault, push_all};
+use swi_dispatch::Machine;
 
 /// A call that a script makes from outside the machine.
 #[derive(Clone, Copy, Debug)]
@@ -26,7 +26,7 @@ pub enum OutsideCall<'a> {
 }
 
 impl OutsideCall<'_> {
-    ghost use Rattle.debugger.specs.swi_dispatch.specs.Value.{IsAfterStep};
+    ghost use Rattle.swi_dispatch.specs.Value.{IsAfterStep};
     ghost use Rattle.command_shell.specs.Calls.{outside_called};
 
     // Takes the first step.
@@ -53,7 +53,7 @@ pub enum CallEnd {
 
 impl Session {
     ghost use Rattle.image_loader.specs.Entries.{Entry};
-    ghost use Rattle.debugger.specs.swi_dispatch_guest.specs.Step.{machine_step};
+    ghost use Rattle.swi_dispatch_guest.specs.Step.{machine_step};
     ghost use Rattle.command_shell.specs.Calls.{call_made, call_done, call_end, call_text, end_told, answer_after_steps};
     ghost use Rattle.command_shell.specs.Calls.{first_step, step_made, stop_told, stop_before_step};
     ghost use Rattle.command_shell.specs.Session.{script_state};

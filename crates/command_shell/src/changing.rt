@@ -5,10 +5,10 @@ ghost use Rattle.std.specs.Prelude.{◌≡◌, ◌≤◌, ◌<◌, ◌%◌, ◌^
 ghost use Rattle.profile.specs.Outcome.{Leaves};
 
 use crate::session::Session;
-use debugger::arm_step::{Mode, Psr};
-use debugger::swi_dispatch::{BreakError, Machine};
 use profile::{Config, Fault, Stop};
 use std::alloc::AllocError;
+use swi_dispatch::{BreakError, Machine};
+use swi_dispatch_guest::{Mode, Psr};
 
 impl Session {
     ghost use Rattle.image_loader.specs.Entries.{Entry};

@@ -3,9 +3,9 @@
 ghost use Rattle.std.specs.Prelude.{◌≡◌, List, IfOk};
 
 use crate::session::Session;
-use debugger::swi_dispatch::Machine;
 use profile::Config;
 use std::alloc::{AllocError, Global};
+use swi_dispatch::Machine;
 
 impl Session {
     ghost use Rattle.image_loader.specs.Entries.{Entry};

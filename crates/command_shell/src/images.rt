@@ -9,11 +9,11 @@ use crate::answers::{tell_boot, tell_image, tell_image_refused, tell_line_refuse
 use crate::error::RunError;
 use crate::session::Session;
 use assembler::{AsmError, Program, Reason, assemble_lines};
-use command_shell_lines::text_lines::Lines;
 use command_shell_lines::{Block, Origin, read_block, skip_block};
-use debugger::swi_dispatch::BootError;
 use image_loader::{ImageError, Images};
 use profile::{Sink, WriteFault};
+use swi_dispatch::BootError;
+use text_lines::Lines;
 
 impl Session {
     ghost use Rattle.image_loader.specs.Entries.{refusal_for};

@@ -16,6 +16,8 @@ mod views;
 
 pub use answers::{tell_stepped, tell_stop, tell_unknown};
 pub use calls::{CallEnd, OutsideCall};
+pub use debugger::show_code;
 pub use error::RunError;
 pub use script::{Summary, run_script};
 pub use session::Session;
+pub use swi_dispatch::{BreakError, Machine, without_x_bit};

@@ -9,12 +9,12 @@ ghost use Rattle.command_shell.specs.Whole.{AnswersWhole};
 
 use crate::error::RunError;
 use crate::session::Session;
-use command_shell_lines::text_lines::Lines;
 use command_shell_lines::{command_of, read_script};
-use debugger::swi_dispatch::Machine;
 use image_loader::Images;
 use profile::{Config, Sink, Source, Stop};
 use std::alloc::Global;
+use swi_dispatch::Machine;
+use text_lines::Lines;
 
 /// What a script came to.
 #[derive(Clone, Copy, Debug, PartialEq, Eq)]

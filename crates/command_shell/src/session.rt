@@ -8,12 +8,12 @@ ghost use Rattle.command_shell.specs.Fronts.{AreOldOrTold};
 use crate::answers::tell_unknown;
 use crate::calls::OutsideCall;
 use crate::error::RunError;
-use command_shell_lines::text_lines::Lines;
 use command_shell_lines::{ScriptCommand, command_of};
-use debugger::swi_dispatch::{Breaks, Machine};
 use image_loader::Images;
 use profile::{Sink, Stop};
 use std::alloc::Global;
+use swi_dispatch::{Breaks, Machine};
+use text_lines::Lines;
 
 /// What the lines of a script work on beside the images: a machine, its breaks, what is left of the
 /// budget, and the last stop that a line was answered with.

@@ -2,14 +2,14 @@
 
 ghost use Rattle.std.specs.Prelude.{◌≡◌, ◌<◌, ◌≤◌, min, true, None, List, IfOk, OnOk, OnErr};
 ghost use Rattle.profile.specs.declared.stop.Stop.TheVariants.{Budget};
-ghost use Rattle.debugger.specs.swi_dispatch_guest.specs.Parts.{AwaitsOtherTurn, state_of};
+ghost use Rattle.swi_dispatch_guest.specs.Parts.{AwaitsOtherTurn, state_of};
 ghost use Rattle.command_shell.specs.Stepping.{break_refusal_name};
 
 use crate::answers::{tell_break, tell_refused, tell_stepped, tell_stop, tell_unbreak};
 use crate::session::Session;
-use debugger::swi_dispatch::{BreakError, Ran};
 use image_loader::Images;
 use profile::{Sink, WriteFault};
+use swi_dispatch::{BreakError, Ran};
 
 impl Session {
     ghost use Rattle.image_loader.specs.Entries.{Entry};

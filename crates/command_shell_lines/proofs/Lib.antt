@@ -4,4 +4,3 @@ pub mod LineLemmas
 pub mod NumberLemmas
 pub mod PullLemmas
 pub mod ReadLemmas
-pub mod WholeRequestLemmas

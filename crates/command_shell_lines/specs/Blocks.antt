@@ -1,6 +1,5 @@
 -- A block of a script: the lines up to one that ends it, or up to the script's end.
-use Rattle.std.specs.Prelude.{ℕ, Bool, true, false, ◌+◌, List, [], ◌∷◌, ◌++◌, Option, Some, None, Result, Ok, Err}
-use Rattle.std.specs.Prelude.{if◌then◌else◌}
+use Rattle.std.specs.Prelude.{ℕ, Bool, true, false, ◌+◌, List, [], ◌∷◌, ◌++◌, Option, Some, None, Result, Ok, Err, if◌then◌else◌}
 use Rattle.command_shell_lines.specs.HexPairs.{bytes_of_hex_pairs}
 use Rattle.command_shell_lines.specs.Requests.{is_end_of_block}
 use Rattle.command_shell_lines.specs.declared.blocks.Block.{Block}

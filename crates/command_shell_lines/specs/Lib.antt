@@ -1,8 +1,6 @@
 -- What each line of a script asks for. Begin with Requests.
-pub use Rattle.text_lines
 pub mod Blocks
 pub mod HexPairs
 pub mod Numbers
 pub mod Operands
 pub mod Requests
-pub mod WholeRequests

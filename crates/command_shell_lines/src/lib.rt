@@ -8,7 +8,6 @@ mod numbers;
 mod operands;
 mod reading;
 mod requests;
-mod whole_requests;
 
 pub use blocks::{Block, read_block, skip_block};
 pub use error::ReadingError;
@@ -17,5 +16,3 @@ pub use numbers::number_of;
 pub use operands::{Origin, RegisterNumber, WordAddress, count_up_to};
 pub use reading::read_script;
 pub use requests::{ScriptCommand, command_of, is_block_end};
-pub use text_lines;
-pub use whole_requests::whole_request_bytes;

@@ -3,10 +3,7 @@
 ghost use Rattle.std.specs.Prelude.{◌≡◌, ◌<◌, true, [], ◌∷◌, length};
 ghost use Rattle.command_shell_lines.specs.Numbers.{script_number};
 ghost use Rattle.command_shell_lines.specs.Operands.{cpu_register_named, word_address, origin_of, count_up_to};
-ghost use Rattle.command_shell_lines.specs.Requests.{Hex, Boot, Set, Poke, Mem, Code};
-ghost use Rattle.command_shell_lines.specs.Requests.{is_same_word, is_end_of_block, is_load, words, request_if_named, named_at, both_numbered};
-ghost use Rattle.command_shell_lines.specs.Requests.{request_of, request_of_word, request_of_number, request_of_two};
-ghost use Rattle.command_shell_lines.specs.Requests.{request_of_three, request_of_words, request_of_command};
+ghost use Rattle.command_shell_lines.specs.Requests.{Hex, Boot, Set, Poke, Mem, Code, is_same_word, is_end_of_block, is_load, words, request_if_named, named_at, both_numbered, request_of, request_of_word, request_of_number, request_of_two, request_of_three, request_of_words, request_of_command};
 ghost use Rattle.image_loader.specs.Entries.{can_name_image};
 
 use crate::numbers::number_of;

@@ -17,8 +17,8 @@ use Rattle.debug_lines.specs.Expectations.{ExpectRequest, Register, Pc, Banked, 
 use Rattle.debug_lines.specs.Spelling.{is_spelling_of}
 use Rattle.debug_lines.specs.Tidy.{tidied_line}
 use Rattle.debug_lines.specs.declared.status.StatusPattern.{StatusPattern}
-use Rattle.debug_views.specs.Banks.{banked_name}
-use Rattle.debug_views.specs.Quoted.{quoted_text}
+use Rattle.debugger.specs.views.Banks.{banked_name}
+use Rattle.debugger.specs.views.Quoted.{quoted_text}
 
 -- What an expectation is about: the core and the memory, the last answer without what the guest
 -- printed, what it printed in the last line that takes steps, and how many steps that took.

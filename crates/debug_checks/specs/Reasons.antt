@@ -2,12 +2,12 @@
 use Rattle.std.specs.Prelude.{ℕ, List, codes, ◌++◌, Option, Some, None}
 use Rattle.profile.specs.Digits.{hex_word}
 use Rattle.debugger.specs.Memory.{hex_byte}
-use Rattle.debug_views.specs.Banks.{banked_name}
+use Rattle.debugger.specs.views.Banks.{banked_name}
 use Rattle.debug_checks.specs.Checks.{Seen, no_line_reason, output_reason, place_reason, register_name, status_reason, steps_reason, value_reason}
 use Rattle.debug_checks.specs.declared.checks.Mismatch.{Mismatch}
 use Rattle.debug_checks.specs.declared.checks.Mismatch.TheVariants as reason
 use Rattle.debug_checks.specs.declared.checks.SeenMachine.{SeenMachine}
-use Rattle.debugger.specs.swi_dispatch_guest.specs.Parts.{state_of}
+use Rattle.swi_dispatch_guest.specs.Parts.{state_of}
 
 abbrev pub or_unmapped : (ℕ → List ℕ) → Option ℕ → List ℕ
 or_unmapped text (Some value) = text value

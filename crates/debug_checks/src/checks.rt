@@ -11,7 +11,7 @@ use crate::status::has_status;
 use arm_core::{Mode, Psr};
 use command_shell_lines::{RegisterNumber, WordAddress};
 use debug_lines::{Expectation, StatusPattern, is_spelt};
-use debugger::swi_dispatch::Machine;
+use debugger::Machine;
 use std::alloc::{AllocError, Global};
 
 /// What an expectation is about: a machine, the last answer without what the guest printed, what it

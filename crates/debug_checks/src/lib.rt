@@ -6,9 +6,11 @@ pub mod answers;
 pub mod checks;
 pub mod endings;
 pub mod reasons;
+pub mod reports;
 pub mod status;
 
 pub use checks::{Mismatch, SeenMachine, check};
+pub use debugger::views::{show_banks, show_words};
 pub use endings::answer_parts;
 pub use reasons::push_reason;
 pub use status::status_with;

@@ -1,5 +1,4 @@
 -- What a page shows of a line of a debugging script. Begin with Lines, then Html.
-pub use Rattle.script_page
 pub mod Html
 pub mod Lines
 pub mod Shown

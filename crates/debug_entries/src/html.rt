@@ -2,8 +2,7 @@
 
 ghost use Rattle.std.specs.Prelude.{◌≡◌};
 ghost use Rattle.profile.specs.Output.{Writes};
-ghost use Rattle.debug_entries.specs.Html.{class_of_verdict, counted_answer, debug_entry_html, entry_html_by, remark_html, remark_opening, request_html};
-ghost use Rattle.debug_entries.specs.Html.{shown_answer, shown_ending, shown_front, summary_html, summary_item, tag_back, tag_front, told_parts, trace_html, trace_if_any};
+ghost use Rattle.debug_entries.specs.Html.{class_of_verdict, counted_answer, debug_entry_html, entry_html_by, remark_html, remark_opening, request_html, shown_answer, shown_ending, shown_front, summary_html, summary_item, tag_back, tag_front, told_parts, trace_html, trace_if_any};
 
 use crate::lines::{LineSort, LineUse, Verdict, remark_text, sort_of};
 use crate::shown::DebugShown;

@@ -8,8 +8,6 @@ mod lines;
 mod shown;
 pub mod text;
 
-pub use answer_page;
 pub use entry::DebugEntry;
 pub use lines::{LineSort, LineUse, Verdict, front_length, steps_words};
-pub use script_page;
 pub use shown::DebugShown;

@@ -2,8 +2,7 @@
 
 ghost use Rattle.std.specs.Prelude.{◌≡◌, ◌≤◌, ◌==◌, IfOk, length};
 ghost use Rattle.std.specs.List.{position};
-ghost use Rattle.debug_entries.specs.Lines.{front_length, has_front, remark_text, sort_behind_sign, sort_of_comment, sort_of_words};
-ghost use Rattle.debug_entries.specs.Lines.{steps_words, text_behind_place};
+ghost use Rattle.debug_entries.specs.Lines.{front_length, has_front, remark_text, sort_behind_sign, sort_of_comment, sort_of_words, steps_words, text_behind_place};
 
 use itoa::Buffer;
 use std::alloc::{AllocError, Global};

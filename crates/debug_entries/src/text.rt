@@ -3,8 +3,7 @@
 ghost use Rattle.std.specs.Prelude.{◌≡◌};
 ghost use Rattle.profile.specs.Output.{Writes};
 ghost use Rattle.answer_page.specs.Marks.{beside_of, lines_beside, lines_left};
-ghost use Rattle.debug_entries.specs.Text.{answer_front, debug_entry_text, debug_transcript, marked_line_text, marked_lines_text};
-ghost use Rattle.debug_entries.specs.Text.{page_summary_text, shown_answer_text, shown_ending_text, shown_front_text};
+ghost use Rattle.debug_entries.specs.Text.{answer_front, debug_entry_text, debug_transcript, marked_line_text, marked_lines_text, page_summary_text, shown_answer_text, shown_ending_text, shown_front_text};
 
 use crate::lines::{LineUse, Verdict};
 use crate::shown::DebugShown;

@@ -2,9 +2,9 @@
 -- that follows it; and all others, which are the words of `rosm`.
 use Rattle.std.specs.Prelude.{ℕ, ◌||◌, ◌&&◌, Bool, true, false, List, [], ◌∷◌, Option, Some, None, codes, if◌then◌else◌}
 use Rattle.std.specs.Str.{bytes_eq}
-use Rattle.debug_page.specs.debug_session.specs.debug_reports.specs.declared.reports.ReportForm.{ReportForm}
-use Rattle.debug_page.specs.debug_session.specs.debug_reports.specs.declared.reports.ReportForm.TheVariants as form
-use Rattle.debug_page.specs.debug_entries.specs.script_page.specs.declared.form.PageForm.TheVariants as page
+use Rattle.debug_checks.specs.declared.reports.reports.ReportForm.{ReportForm}
+use Rattle.debug_checks.specs.declared.reports.reports.ReportForm.TheVariants as form
+use Rattle.script_page.specs.declared.form.PageForm.TheVariants as page
 use Rattle.debug_face.specs.declared.options.WantedForm.{WantedForm}
 use Rattle.debug_face.specs.declared.options.WantedForm.TheVariants as wanted
 use Rattle.debug_face.specs.declared.options.WordKind.{WordKind}

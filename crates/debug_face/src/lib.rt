@@ -12,5 +12,5 @@ mod refusal;
 mod talk;
 mod words;
 
-pub use debug_page::debug_session::RunMeter;
+pub use debug_page::RunMeter;
 pub use process::run;

@@ -4,8 +4,8 @@
 ghost use Rattle.std.specs.Prelude.{◌≡◌, [], false, map, IfOk};
 ghost use Rattle.debug_face.specs.Options.{form_named, is_dashes, kind_at, kind_of_other, kind_of_word, words_told, DebugWords};
 
-use debug_page::debug_entries::script_page::PageForm;
-use debug_page::debug_session::ReportForm;
+use debug_page::ReportForm;
+use script_page::PageForm;
 use std::alloc::{AllocError, Global};
 use view_pictures::LINE_WIDTH;
 

@@ -2,17 +2,15 @@
 
 ghost use Rattle.std.specs.Prelude.{◌≡◌, IfOk, IfSome, OnOk};
 ghost use Rattle.debug_page.specs.DebugPage.{debug_told_in, WritesDebugPage};
-ghost use Rattle.debug_page.specs.debug_session.specs.ExitStatus.{debug_status};
+ghost use Rattle.debug_page.specs.ExitStatus.{debug_status};
 
 use command_shell_lines::read_script;
-use debug_page::debug_entries::script_page::PageForm;
-use debug_page::debug_entries::script_page::command_shell::RunError;
-use debug_page::debug_entries::script_page::style::FRONT;
-use debug_page::debug_session::DebugSetting;
-use debug_page::push_debug_page;
 use debug_page::style::DEBUG_BACK;
+use debug_page::{DebugSetting, push_debug_page};
 use image_loader::Images;
 use profile::{Sink, Source};
+use script_page::style::FRONT;
+use script_page::{PageForm, RunError};
 use std::alloc::Global;
 
 /// Reads a script whole, writes its page, and gives the exit status of its lines.

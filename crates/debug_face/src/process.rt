@@ -10,7 +10,7 @@ use crate::pages::show_script;
 use crate::refusal::DebugRefusal;
 use crate::talk::{hand_on, talk};
 use crate::words::{WantedSession, read_words};
-use debug_page::debug_session::{DebugSetting, DebugTyping, ReportForm, RunMeter};
+use debug_page::{DebugSetting, DebugTyping, ReportForm, RunMeter};
 use image_loader::Images;
 use profile::{Device, Sink, Source};
 use rosm_settings::SettingsRefusal;

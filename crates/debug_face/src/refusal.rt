@@ -3,10 +3,10 @@
 
 ghost use Rattle.std.specs.Prelude.{◌≡◌};
 
-use command_line::SettingsError;
-use debug_page::debug_entries::script_page::command_shell::RunError;
 use rosm_settings::SettingsRefusal;
+use rosm_settings::command_line::SettingsError;
 use rosm_settings::image_files::FileError;
+use script_page::RunError;
 use std::alloc::AllocError;
 use thiserror::Error;
 

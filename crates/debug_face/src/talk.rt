@@ -3,14 +3,14 @@
 ghost use Rattle.std.specs.Prelude.{◌≡◌, ◌⊎◌, true, false, IfOk, OnOk};
 ghost use Rattle.std.specs.Io.KnownBytes.{IsAtEnd, Keeps};
 ghost use Rattle.profile.specs.Devices.{device_inner};
-ghost use Rattle.debug_page.specs.debug_session.specs.debug_reports.specs.declared.reports.ReportForm.TheVariants.{Answers};
+ghost use Rattle.debug_checks.specs.declared.reports.reports.ReportForm.TheVariants.{Answers};
 ghost use Rattle.debug_face.specs.Talking.{DebugsInput, HasTalked, IsStatusOfInput, TakesPiece};
 
-use debug_page::debug_entries::script_page::command_shell::RunError;
-use debug_page::debug_session::debug_reports::push_missing_end;
-use debug_page::debug_session::{DebugTyping, ReportForm};
+use debug_checks::reports::push_missing_end;
+use debug_page::{DebugTyping, ReportForm};
 use image_loader::Images;
 use profile::{Device, Sink, Source, WriteFault, push_all};
+use script_page::RunError;
 use std::io::Write;
 
 // The most bytes that are read at once.

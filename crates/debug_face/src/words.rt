@@ -5,8 +5,8 @@ ghost use Rattle.debug_face.specs.Options.{form_of_all};
 
 use crate::options::{WantedForm, part_words};
 use crate::refusal::DebugRefusal;
-use command_line::{Settings, SettingsError, line_reason, settings, sizes_reason};
-use debug_page::debug_session::ReportForm;
+use debug_page::ReportForm;
+use rosm_settings::command_line::{Settings, SettingsError, line_reason, settings, sizes_reason};
 use std::alloc::{AllocError, Global};
 use std::env;
 use std::env::Env;

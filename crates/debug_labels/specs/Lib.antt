@@ -1,6 +1,4 @@
 -- The labels of assembled images, and words that name places. Begin with Labels and Standing.
-pub use Rattle.assembler_names
-pub use Rattle.instances
 pub mod Images
 pub mod Labels
 pub mod Lines

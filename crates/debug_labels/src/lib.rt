@@ -11,7 +11,7 @@ mod views;
 mod words;
 
 pub use images::ImagePlace;
+pub use instances::{InstanceInfo, Instances, ModuleInfo};
 pub use labels::LabelTable;
-pub use lines::may_name_places;
 pub use places::PlaceLabel;
 pub use words::PlaceNames;

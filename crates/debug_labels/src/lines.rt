@@ -1,6 +1,6 @@
 //! A tidy line with numbers in place of words that name places.
 
-ghost use Rattle.std.specs.Prelude.{◌≡◌, ◌≤◌, ◌++◌, is_some, IfOk, IfSome, OnOk};
+ghost use Rattle.std.specs.Prelude.{◌≡◌, ◌≤◌, ◌++◌, IfOk, IfSome, OnOk};
 ghost use Rattle.std.specs.List.{join_with_byte};
 ghost use Rattle.command_shell_lines.specs.Requests.{words};
 ghost use Rattle.debug_labels.specs.Lines.{has_places_behind, is_place_word, is_text_check, kept_untraced, kept_words};
@@ -67,13 +67,6 @@ impl PlaceNames<'_> {
             }
         }
     }
-}
-
-/// Whether words of a tidy line may name places.
-pub fn may_name_places(line: &[u8]) -> bool
-    ensures { result ≡ is_some (kept_words (words line.now)) }
-{
-    kept_words(line).is_some()
 }
 
 // How many words of a line stand as they are before those that may name places, if any may.

@@ -4,8 +4,7 @@ ghost use Rattle.std.specs.Prelude.{Some};
 ghost use Rattle.std.specs.List.{flat_map};
 ghost use Rattle.profile.specs.Output.{Writes};
 ghost use Rattle.debug_labels.specs.Places.{place_of, told_of_place_label};
-ghost use Rattle.debug_labels.specs.Views.{label_line, labels_text, labels_text_from, labels_text_of};
-ghost use Rattle.debug_labels.specs.Views.{place_line, spaced_place_text};
+ghost use Rattle.debug_labels.specs.Views.{label_line, labels_text, labels_text_from, labels_text_of, place_line, spaced_place_text};
 
 use crate::labels::{Label, LabelledImage};
 use crate::places::PlaceLabel;

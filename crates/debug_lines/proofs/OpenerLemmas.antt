@@ -5,20 +5,15 @@ use Rattle.std.specs.List.{onto_first}
 use Rattle.std.specs.Prelude.{◌==◌, ◌&&◌, ◌||◌, not, nat_lt, codes, if◌then◌else◌}
 use Rattle.command_shell_lines.specs.Numbers.{script_number}
 use Rattle.command_shell_lines.specs.Operands.{cpu_register_named, word_address, count_up_to}
-use Rattle.command_shell_lines.specs.Requests.{Request, Nothing, Boot, Run, Regs, Areas, Modules, Flex, Unknown, Load}
-use Rattle.command_shell_lines.specs.Requests.{Call, Step, Break, Unbreak, Heap, Set, Poke, Mem, Code}
-use Rattle.command_shell_lines.specs.Requests.{both_numbered, is_load, is_same_word, opens_block, request_if_named, request_if_number}
-use Rattle.command_shell_lines.specs.Requests.{request_of, request_of_number, request_of_three, request_of_two, request_of_word, request_of_words, words}
+use Rattle.command_shell_lines.specs.Requests.{Request, Nothing, Boot, Run, Regs, Areas, Modules, Flex, Unknown, Load, Call, Step, Break, Unbreak, Heap, Set, Poke, Mem, Code, both_numbered, is_load, is_same_word, opens_block, request_if_named, request_if_number, request_of, request_of_number, request_of_three, request_of_two, request_of_word, request_of_words, words}
 use Rattle.image_loader.specs.Entries.{can_name_image}
-use Rattle.debug_lines.specs.DebugRequests.{DebugRequest, Script, Source, Remark, NotKnown}
-use Rattle.debug_lines.specs.DebugRequests.{debug_opens_block, debug_request, is_remark, is_script_request, own_request_behind, own_request_by, own_request_of_words, repeated_line, simple_request, simple_request_behind}
-use Rattle.debug_lines.specs.DebugRequests.{trace_of_own, trace_of_words, traced_request, traced_script, untraced_request}
+use Rattle.debug_lines.specs.DebugRequests.{DebugRequest, Script, Remark, NotKnown, debug_opens_block, debug_request, is_remark, is_script_request, own_request_behind, own_request_by, repeated_line, simple_request, simple_request_behind, trace_of_own, trace_of_words, traced_request, traced_script, untraced_request}
 use Rattle.debug_lines.specs.Expectations.{text_behind}
-use Rattle.debug_lines.specs.Openers.{is_opener_letter, is_script_opener_letter, is_source_opener_letter, may_open_block}
+use Rattle.debug_lines.specs.Openers.{is_opener_letter, may_open_block}
 use Rattle.debug_lines.specs.SteppingRequests.{SteppingRequest, stepping_in}
 use Rattle.debug_lines.specs.Tidy.{is_blank, is_comment_start, state_in_word, tidied_from, tidied_line}
 use Rattle.debug_lines.specs.declared.tidy.TidyState.TheVariants.{AtStart}
-use Rattle.debug_lines.proofs.OwnRequestLemmas.{asks_block, own_behind, own_of_words, own_trace, some_asks_block}
+use Rattle.debug_lines.proofs.OwnRequestLemmas.{asks_script, own_behind, own_trace, some_asks_script}
 
 -- whether the first byte of a line begins a word that opens a block
 abbrev begins_opener : List ℕ → Bool
@@ -40,52 +35,26 @@ lower_other : (b n : ℕ) → (b == n) ≡ false → (b + 32 == n) ≡ false →
 lower_other b n same more =
     lower_if (nat_lt b 65) b _ n same (lower_if (nat_lt b 91) (b + 32) b n more same)
 
-of_script : (b : ℕ) → is_opener_letter b ≡ false → is_script_opener_letter b ≡ false
-of_script b other = (neither (is_script_opener_letter b) (is_source_opener_letter b) other).0
-
-of_source : (b : ℕ) → is_opener_letter b ≡ false → is_source_opener_letter b ≡ false
-of_source b other = (neither (is_script_opener_letter b) (is_source_opener_letter b) other).1
-
 no_h : (b : ℕ) → is_opener_letter b ≡ false → (to_ascii_lowercase b == 104) ≡ false
 no_h b other =
-    let hs = neither (b == 72) (b == 104) (neither (b == 72 || b == 104) (b == 65 || b == 97) (of_script b other)).0 in
+    let hs = neither (b == 72) (b == 104) (neither (b == 72 || b == 104) (b == 65 || b == 97) other).0 in
     let small = hs.1 in
     let capital = hs.0 in
     lower_other b 104 small (grind (arith, capital))
 
 no_a : (b : ℕ) → is_opener_letter b ≡ false → (to_ascii_lowercase b == 97) ≡ false
 no_a b other =
-    let as_letters = neither (b == 65) (b == 97) (neither (b == 72 || b == 104) (b == 65 || b == 97) (of_script b other)).1 in
+    let as_letters = neither (b == 65) (b == 97) (neither (b == 72 || b == 104) (b == 65 || b == 97) other).1 in
     let small = as_letters.1 in
     let capital = as_letters.0 in
     lower_other b 97 small (grind (arith, capital))
 
-no_o : (b : ℕ) → is_opener_letter b ≡ false → (to_ascii_lowercase b == 111) ≡ false
-no_o b other =
-    let os = neither (b == 79) (b == 111) (neither (b == 79 || b == 111) (b == 66 || b == 98) (of_source b other)).0 in
-    let small = os.1 in
-    let capital = os.0 in
-    lower_other b 111 small (grind (arith, capital))
-
-no_b : (b : ℕ) → is_opener_letter b ≡ false → (to_ascii_lowercase b == 98) ≡ false
-no_b b other =
-    let bs = neither (b == 66) (b == 98) (neither (b == 79 || b == 111) (b == 66 || b == 98) (of_source b other)).1 in
-    let small = bs.1 in
-    let capital = bs.0 in
-    lower_other b 98 small (grind (arith, capital))
-
--- a word that begins with another letter is neither HEX nor ASM, and neither OBJASM nor BASIC
+-- a word that begins with another letter is neither HEX nor ASM
 no_hex : (b : ℕ) (word : List ℕ) → is_opener_letter b ≡ false → is_same_word (b ∷ word) (codes "HEX") ≡ false
 no_hex b word other = ap (λ (t : Bool). t && is_same_word word (codes "EX")) (no_h b other)
 
 no_asm : (b : ℕ) (word : List ℕ) → is_opener_letter b ≡ false → is_same_word (b ∷ word) (codes "ASM") ≡ false
 no_asm b word other = ap (λ (t : Bool). t && is_same_word word (codes "SM")) (no_a b other)
-
-no_objasm : (b : ℕ) (word : List ℕ) → is_opener_letter b ≡ false → is_same_word (b ∷ word) (codes "OBJASM") ≡ false
-no_objasm b word other = rw (no_o b other) refl
-
-no_basic : (b : ℕ) (word : List ℕ) → is_opener_letter b ≡ false → is_same_word (b ∷ word) (codes "BASIC") ≡ false
-no_basic b word other = rw (no_b b other) refl
 
 -- LINES OF A SCRIPT
 
@@ -170,22 +139,10 @@ line_alone (b ∷ rest) other =
 
 -- LINES OF ITS OWN
 
-asks_alone : (d : DebugRequest) → asks_block d ≡ false → debug_opens_block d ≡ false
-unfolding asks_block
+asks_alone : (d : DebugRequest) → asks_script d ≡ false → debug_opens_block d ≡ false
+unfolding asks_script
 asks_alone (Script request) asks = absurd (cc)
-asks_alone (Source language name origin) asks = absurd (cc)
 asks_alone _ asks = refl
-
-own_parts_alone : (is_space : Bool) (b : ℕ) (parts : List (List ℕ)) → is_opener_letter b ≡ false
-    → asks_block (own_request_of_words (if is_space then [] ∷ parts else onto_first b parts)) ≡ false
-own_parts_alone true b parts other = own_of_words [] parts refl refl
-own_parts_alone false b [] other = own_of_words (b ∷ []) [] (no_objasm b [] other) (no_basic b [] other)
-own_parts_alone false b (part ∷ parts) other =
-    own_of_words (b ∷ part) parts (no_objasm b part other) (no_basic b part other)
-
-own_line_alone : (line : List ℕ) → begins_opener line ≡ false → asks_block (own_request_of_words (words line)) ≡ false
-own_line_alone [] other = own_of_words [] [] refl refl
-own_line_alone (b ∷ rest) other = own_parts_alone (b == 32) b (words rest) other
 
 either_alone : (t : Bool) (x y : DebugRequest) → debug_opens_block x ≡ false → debug_opens_block y ≡ false
     → debug_opens_block (if t then x else y) ≡ false
@@ -199,7 +156,7 @@ untraced_alone line other =
     let stub : Option (List ℕ) = text_behind (codes "STUB ") line in
     either_alone (is_remark line) Remark _ refl
     (either_alone (is_script_request (request_of line)) (Script (request_of line)) _ (line_alone line other)
-    (asks_alone (own_request_behind expected stub line) (own_behind expected stub line (own_line_alone line other))))
+    (asks_alone (own_request_behind expected stub line) (own_behind expected stub line)))
 
 -- what stands behind TRACE opens none, whatever it is
 script_if_alone : (opens : Bool) (request : Request) → opens_block request ≡ opens
@@ -216,9 +173,9 @@ traced_alone : (d : DebugRequest) → debug_opens_block (traced_request d) ≡ f
 traced_alone (Script request) = traced_script_alone (stepping_in request) request
 traced_alone _ = refl
 
-trace_alone : (o : Option DebugRequest) (d : DebugRequest) → some_asks_block o ≡ false
+trace_alone : (o : Option DebugRequest) (d : DebugRequest) → some_asks_script o ≡ false
     → debug_opens_block (trace_of_own o d) ≡ false
-unfolding some_asks_block
+unfolding some_asks_script
 trace_alone (Some own) d asks = asks_alone own asks
 trace_alone None d asks = traced_alone d
 

@@ -11,8 +11,6 @@ use Rattle.debug_lines.specs.declared.requests.DebugCommand.{DebugCommand}
 use Rattle.debug_lines.specs.declared.requests.DebugCommand.TheVariants as command
 use Rattle.debug_lines.specs.declared.requests.DebugView.{DebugView}
 use Rattle.debug_lines.specs.declared.requests.DebugView.TheVariants as view
-use Rattle.debug_lines.specs.declared.requests.SourceLanguage.{SourceLanguage}
-use Rattle.debug_lines.specs.declared.requests.SourceLanguage.TheVariants as language
 use Rattle.debug_lines.specs.Expectations.{ExpectRequest, expect_request, expect_request_of, text_behind}
 use Rattle.debug_lines.specs.ModeRequests.{ModeRequest, Trace, TraceLimit, mode_of_two, mode_request_of, stub_request}
 use Rattle.debug_lines.specs.Status.{status_of_word, status_of_two}
@@ -35,8 +33,6 @@ pub data DebugRequest : Type 0 where
   -- steps, and whether they are told one by one; of a script's own lines only where they are
   Stepping : Bool → SteppingRequest → DebugRequest
   Mode : ModeRequest → DebugRequest
-  -- a block of a language's, as an image of that name that stands there
-  Source : SourceLanguage → List ℕ → ℕ → DebugRequest
   Remark : DebugRequest
   View : ViewRequest → DebugRequest
   SetPc : ℕ → DebugRequest
@@ -131,24 +127,13 @@ put_at true name (Some address) = Put name address
 put_at true name None = NotKnown
 put_at false name address = NotKnown
 
-abbrev pub source_at : SourceLanguage → Bool → List ℕ → Option ℕ → DebugRequest
-source_at l true name (Some origin) = Source l name origin
-source_at l true name None = NotKnown
-source_at l false name origin = NotKnown
-
--- a line of a language, a name that an image can have and an address
-abbrev pub source_request : SourceLanguage → List ℕ → List ℕ → DebugRequest
-source_request l name origin = source_at l (can_name_image name) name (origin_of origin)
-
 -- a line of three words
 abbrev pub own_request_of_three : List ℕ → List ℕ → List ℕ → DebugRequest
 own_request_of_three word first second =
     if is_same_word word (codes "WORDS") then words_at (word_address first) (count_up_to 1024 second) else (
     if is_same_word word (codes "SET") then set_request first second else (
-    if is_same_word word (codes "PUT") then put_at (can_name_image first) first (script_number second) else (
-    if is_same_word word (codes "OBJASM") then source_request language.ObjAsm first second else (
-    if is_same_word word (codes "BASIC") then source_request language.Basic first second else
-    NotKnown))))
+    if is_same_word word (codes "PUT") then put_at (can_name_image first) first (script_number second) else
+    NotKnown))
 
 abbrev pub set_psr_of_two : List ℕ → List ℕ → List ℕ → DebugRequest
 set_psr_of_two what letters mode =
@@ -186,13 +171,11 @@ untraced_request line =
 -- whether the lines that follow are a block of the line's own
 abbrev pub debug_opens_block : DebugRequest → Bool
 debug_opens_block (Script request) = opens_block request
-debug_opens_block (Source l name origin) = true
 debug_opens_block _ = false
 
 -- what may stand behind REPEAT: a line that asks for something, and opens no block
 abbrev pub is_repeatable : DebugRequest → Bool
 is_repeatable (Script request) = not (opens_block request)
-is_repeatable (Source l name origin) = false
 is_repeatable Remark = false
 is_repeatable NotKnown = false
 is_repeatable (Repeat count line) = false
@@ -305,7 +288,6 @@ abbrev pub debug_request_of_command : DebugCommand → DebugRequest
 debug_request_of_command (command.Script known) = Script (request_of_command known)
 debug_request_of_command (command.Stepping is_traced request) = Stepping is_traced (stepping_request_of request)
 debug_request_of_command (command.Mode request) = Mode (mode_request_of request)
-debug_request_of_command (command.Source l name origin) = Source l name.now origin
 debug_request_of_command command.Remark = Remark
 debug_request_of_command (command.View shown) = View (view_request_of shown)
 debug_request_of_command (command.SetPc address) = SetPc address

@@ -1,6 +1,4 @@
 -- What each line of a debugging script asks for. Begin with DebugRequests.
-pub use Rattle.command_shell_lines
-pub use Rattle.text_lines
 pub mod BlockEnds
 pub mod DebugRequests
 pub mod ErrorNumbers
@@ -10,7 +8,6 @@ pub mod ModeRequests
 pub mod Openers
 pub mod Registers
 pub mod Repeats
-pub mod SourceLanguages
 pub mod Spelling
 pub mod Status
 pub mod SteppingRequests

@@ -1,7 +1,6 @@
 -- The registers that a line can name, in either case: R0 to R14, SP and LR, and those of a mode, as
 -- `R13_svc`.
-use Rattle.std.specs.Prelude.{ℕ, ◌-◌, ◌==◌, ◌&&◌, nat_le, List, [], ◌∷◌, Option, Some, None, codes}
-use Rattle.std.specs.Prelude.{if◌then◌else◌}
+use Rattle.std.specs.Prelude.{ℕ, ◌-◌, ◌==◌, ◌&&◌, nat_le, List, [], ◌∷◌, Option, Some, None, codes, if◌then◌else◌}
 use Rattle.std.specs.List.{slice_split}
 use Rattle.std.specs.Int.{is_in_range}
 use Rattle.arm_core.specs.declared.psr.Mode.{Mode}

@@ -3,8 +3,7 @@
 ghost use Rattle.std.specs.Prelude.{◌≡◌, ◌++◌, IfOk, OnOk, option_to_list};
 ghost use Rattle.command_shell_lines.specs.Requests.{request_of};
 ghost use Rattle.debug_lines.specs.DebugRequests.{debug_opens_block, debug_request};
-ghost use Rattle.debug_lines.specs.BlockEnds.{begins_at_end, begins_told, is_outside_blocks, missing_ends_if, place_after};
-ghost use Rattle.debug_lines.specs.BlockEnds.{begin_if, place_at_opening, place_in_block, place_when_told};
+ghost use Rattle.debug_lines.specs.BlockEnds.{begins_at_end, begins_told, is_outside_blocks, missing_ends_if, place_after, begin_if, place_at_opening, place_in_block, place_when_told};
 
 use crate::openers::opens_block;
 use command_shell_lines::{ScriptCommand, command_of, is_block_end};

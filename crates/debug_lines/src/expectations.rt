@@ -4,9 +4,7 @@ ghost use Rattle.std.specs.Prelude.{◌≡◌, option_map};
 ghost use Rattle.command_shell_lines.specs.Numbers.{script_number};
 ghost use Rattle.command_shell_lines.specs.Operands.{word_address};
 ghost use Rattle.command_shell_lines.specs.Requests.{words};
-ghost use Rattle.debug_lines.specs.Expectations.{Word as IsWord, Byte as IsByte, expect_both, expect_steps};
-ghost use Rattle.debug_lines.specs.Expectations.{text_behind, between_quotes, byte_value, expect_value, expect_of_two};
-ghost use Rattle.debug_lines.specs.Expectations.{expect_of_three, expect_of_words, expect_output, expect_request, expect_request_of};
+ghost use Rattle.debug_lines.specs.Expectations.{Word as IsWord, Byte as IsByte, expect_both, expect_steps, text_behind, between_quotes, byte_value, expect_value, expect_of_two, expect_of_three, expect_of_words, expect_output, expect_request, expect_request_of};
 
 use crate::error_names::error_told;
 use crate::few_words::{FewWords, few_words, has_letters};

@@ -14,21 +14,16 @@ mod requests;
 mod spelling;
 mod status;
 mod stepping;
-#[cfg(test)]
-mod tests;
 mod tidy;
 mod tracing;
 mod whole_requests;
 
 pub use block_ends::missing_ends;
-pub use command_shell_lines;
 pub use expectations::Expectation;
 pub use modes::{MOST_STUB_SETTINGS, ModeCommand, StubSetting};
 pub use openers::opens_block;
-pub use repeats::{
-    RepeatedLine, is_known_line, is_own_line, is_repeatable_line, repeated_line, repeated_text,
-};
-pub use requests::{DebugCommand, DebugView, SourceLanguage, is_script_command, is_script_line};
+pub use repeats::{RepeatedLine, is_known_line, is_repeatable_line, repeated_line, repeated_text};
+pub use requests::{DebugCommand, DebugView, is_script_command, is_script_line};
 pub use spelling::is_spelt;
 pub use status::StatusPattern;
 pub use stepping::{SteppingCommand, stepping_in};

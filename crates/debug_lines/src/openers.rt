@@ -46,10 +46,9 @@ fn may_open_block(line: &[u8]) -> bool
     false
 }
 
-// Whether HEX, ASM, OBJASM or BASIC begins with a letter.
+// Whether HEX or ASM begins with a letter.
 fn is_opener_letter(byte: u8) -> bool
     ensures { result ≡ is_opener_letter byte }
 {
-    ((byte == b'H' || byte == b'h') || (byte == b'A' || byte == b'a'))
-        || ((byte == b'O' || byte == b'o') || (byte == b'B' || byte == b'b'))
+    (byte == b'H' || byte == b'h') || (byte == b'A' || byte == b'a')
 }

@@ -2,8 +2,7 @@
 
 ghost use Rattle.std.specs.Prelude.{◌≡◌, ◌==◌, option_map, true, IfSome};
 ghost use Rattle.std.specs.List.{position};
-ghost use Rattle.debug_lines.specs.DebugRequests.{is_known, is_repeatable, own_request};
-ghost use Rattle.debug_lines.specs.DebugRequests.{repeated_at, repeated_if, repeated_line, simple_request};
+ghost use Rattle.debug_lines.specs.DebugRequests.{is_known, is_repeatable, repeated_at, repeated_if, repeated_line, simple_request};
 ghost use Rattle.debug_lines.specs.Repeats.{count_and_line, counted_text, counted_text_at, repeated_text};
 
 use crate::expectations::text_behind;
@@ -106,11 +105,4 @@ pub fn is_known_line(tidied: &[u8]) -> bool
     ensures { result ≡ is_known (simple_request tidied.now) }
 {
     simple_command(tidied).is_known()
-}
-
-/// Whether a tidy line means something.
-pub fn is_own_line(tidied: &[u8]) -> bool
-    ensures { result ≡ is_known (own_request tidied.now) }
-{
-    repeated_line(tidied).is_some() || is_known_line(tidied)
 }

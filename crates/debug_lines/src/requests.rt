@@ -5,9 +5,7 @@ ghost use Rattle.command_shell_lines.specs.Numbers.{script_number};
 ghost use Rattle.command_shell_lines.specs.Operands.{word_address, count_up_to, origin_of};
 ghost use Rattle.command_shell_lines.specs.Requests.{request_of, request_of_command, words};
 ghost use Rattle.image_loader.specs.Entries.{can_name_image};
-ghost use Rattle.debug_lines.specs.DebugRequests.{is_script_request, is_remark, untraced_request, expect_line, own_request_of_words};
-ghost use Rattle.debug_lines.specs.DebugRequests.{of_image, is_frames_word, own_request_of_word, own_request_of_two, own_request_of_three, own_request_of_four};
-ghost use Rattle.debug_lines.specs.DebugRequests.{gosub_to, mode_line, put_at, source_request, stack_of, words_at, set_request, set_psr_to, debug_request_of_command};
+ghost use Rattle.debug_lines.specs.DebugRequests.{is_script_request, is_remark, untraced_request, expect_line, own_request_of_words, of_image, is_frames_word, own_request_of_word, own_request_of_two, own_request_of_three, own_request_of_four, gosub_to, mode_line, put_at, stack_of, words_at, set_request, set_psr_to, debug_request_of_command};
 ghost use Rattle.debug_lines.specs.Expectations.{expect_request};
 ghost use Rattle.debug_lines.specs.ModeRequests.{mode_request_of};
 
@@ -44,15 +42,6 @@ pub enum DebugView {
     Help,
 }
 
-/// What the lines of a block are written in that isn't the script's own.
-#[derive(Clone, Copy, Debug, PartialEq, Eq)]
-pub enum SourceLanguage {
-    /// A source for ObjAsm.
-    ObjAsm,
-    /// A listing in BBC BASIC with its assembler.
-    Basic,
-}
-
 /// What a line of a debugging script asks for.
 #[derive(Drop)]
 pub enum DebugCommand<'a> {
@@ -63,9 +52,6 @@ pub enum DebugCommand<'a> {
     Stepping(bool, SteppingCommand<'a>),
     /// A line that changes how later lines are answered.
     Mode(ModeCommand),
-    /// `OBJASM name origin` or `BASIC name origin`, with a name that an image can have and a multiple
-    /// of 4 below 2^26.
-    Source(SourceLanguage, &'a [u8], Origin),
     /// An empty line, or one that begins with `#`.
     Remark,
     /// A line that only looks.
@@ -100,7 +86,6 @@ impl DebugCommand<'_> {
     {
         match self {
             DebugCommand::Script(command) => command.opens_block(),
-            DebugCommand::Source(_, _, _) => true,
             _ => false,
         }
     }
@@ -118,7 +103,7 @@ impl DebugCommand<'_> {
     {
         match self {
             DebugCommand::Script(command) => !command.opens_block(),
-            DebugCommand::Source(_, _, _) | DebugCommand::Remark | DebugCommand::Unknown => false,
+            DebugCommand::Remark | DebugCommand::Unknown => false,
             _ => true,
         }
     }
@@ -287,21 +272,8 @@ fn command_of_three<'a>(word: &[u8], first: &'a [u8], second: &[u8]) -> DebugCom
         set_command(first, second)
     } else if has_letters(word, b"PUT") {
         put_command(first, second)
-    } else if has_letters(word, b"OBJASM") {
-        source_command(SourceLanguage::ObjAsm, first, second)
-    } else if has_letters(word, b"BASIC") {
-        source_command(SourceLanguage::Basic, first, second)
     } else {
         DebugCommand::Unknown
-    }
-}
-
-fn source_command<'a>(language: SourceLanguage, name: &'a [u8], origin: &[u8]) -> DebugCommand<'a>
-    ensures { debug_request_of_command result ≡ source_request language name.now origin.now }
-{
-    match Origin::spelled(origin) {
-        Some(origin) if is_image_name(name) => DebugCommand::Source(language, name, origin),
-        _ => DebugCommand::Unknown,
     }
 }
 

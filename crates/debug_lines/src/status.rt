@@ -1,8 +1,7 @@
 //! Flags and modes by their letters, as PSR shows them.
 
 ghost use Rattle.std.specs.Prelude.{◌≡◌};
-ghost use Rattle.debug_lines.specs.Status.{any_status, flag_told_once, with_letter, with_letters, status_of_letters};
-ghost use Rattle.debug_lines.specs.Status.{mode_named, status_of_two, status_of_word};
+ghost use Rattle.debug_lines.specs.Status.{any_status, flag_told_once, with_letter, with_letters, status_of_letters, mode_named, status_of_two, status_of_word};
 
 use crate::few_words::has_letters;
 use arm_core::Mode;

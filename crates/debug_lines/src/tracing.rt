@@ -2,8 +2,7 @@
 
 ghost use Rattle.std.specs.Prelude.{◌≡◌, option_map};
 ghost use Rattle.command_shell_lines.specs.Requests.{words};
-ghost use Rattle.debug_lines.specs.DebugRequests.{debug_request_of_command, simple_request};
-ghost use Rattle.debug_lines.specs.DebugRequests.{trace_of_two, trace_of_word, trace_of_words, trace_request, traced_request};
+ghost use Rattle.debug_lines.specs.DebugRequests.{debug_request_of_command, simple_request, trace_of_two, trace_of_word, trace_of_words, trace_request, traced_request};
 
 use crate::expectations::text_behind;
 use crate::few_words::{FewWords, few_words, has_letters};
@@ -85,7 +84,7 @@ fn traced(command: DebugCommand<'_>) -> DebugCommand<'_>
             None if line.opens_block() => DebugCommand::Unknown,
             None => DebugCommand::Script(line),
         },
-        DebugCommand::Source(_, _, _) | DebugCommand::Remark => DebugCommand::Unknown,
+        DebugCommand::Remark => DebugCommand::Unknown,
         other => other,
     }
 }

@@ -2,14 +2,14 @@
 use Rattle.std.proofs.Common.{◌≡◌, ℕ, List, ap, ◌∙◌, rules, Vec, Global}
 use Rattle.std.specs.Prelude.{Result, Ok, Err, IfOk, OnErr}
 use Rattle.profile.specs.Outcome.{Leaves}
-use Rattle.debug_runs.specs.command_shell.specs.Answers.{refused_text}
+use Rattle.command_shell.specs.Answers.{refused_text}
 use Rattle.debug_modes.specs.Changes.{IsModeTold, stubs_told, watches_told}
 use Rattle.debug_modes.specs.declared.modes.DebugModes.{DebugModes}
-use Rattle.debug_runs.specs.debug_tables.specs.StubNames.{stub_error_name}
-use Rattle.debug_runs.specs.debug_tables.specs.WordWatches.{watch_error_name}
-use Rattle.debug_runs.specs.debug_tables.specs.declared.stubs.Stub.{Stub}
-use Rattle.debug_runs.specs.debug_tables.specs.declared.stubs.StubError.{StubError}
-use Rattle.debug_runs.specs.debug_tables.specs.declared.watches.WordWatchError.{WordWatchError}
+use Rattle.debug_runs.specs.StubNames.{stub_error_name}
+use Rattle.debug_runs.specs.WordWatches.{watch_error_name}
+use Rattle.debug_runs.specs.Stub.{Stub}
+use Rattle.debug_runs.specs.StubError.{StubError}
+use Rattle.debug_runs.specs.WordWatchError.{WordWatchError}
 
 -- whatever a call answers
 pub on_err : {T E P : Type 0} (r : Result T E) → P → OnErr r P

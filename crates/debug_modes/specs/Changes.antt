@@ -2,21 +2,21 @@
 -- as they were.
 use Rattle.std.specs.Prelude.{◌≡◌, ℕ, Bool, true, false, ◌%◌, ◌^◌, ◌++◌, List, map, codes, Result, Ok, Err}
 use Rattle.std.specs.Fmt.{decimal}
-use Rattle.debug_runs.specs.command_shell.specs.Answers.{at_address_text, refused_text}
+use Rattle.command_shell.specs.Answers.{at_address_text, refused_text}
 use Rattle.debug_lines.specs.ModeRequests.{ModeRequest, Count, Trace, TraceLimit, Unstub, Unwatch}
 use Rattle.debug_lines.specs.ModeRequests as request
 use Rattle.debug_lines.specs.declared.modes.StubSetting.{StubSetting}
 use Rattle.debug_modes.specs.declared.modes.DebugModes.{DebugModes}
-use Rattle.debug_runs.specs.debug_counts.specs.Counts.{counts_begun, counts_stopped}
-use Rattle.debug_runs.specs.debug_tables.specs.StubNames.{stub_error_name}
-use Rattle.debug_runs.specs.debug_tables.specs.Stubs.{with_stub, without_stub}
-use Rattle.debug_runs.specs.debug_tables.specs.WordWatches.{watch_error_name, with_word_watch, without_word_watch}
-use Rattle.debug_runs.specs.debug_tables.specs.declared.stubs.Stub.{Stub}
-use Rattle.debug_runs.specs.debug_tables.specs.declared.stubs.StubError.{StubError}
-use Rattle.debug_runs.specs.debug_tables.specs.declared.stubs.StubRegister.{StubRegister}
-use Rattle.debug_runs.specs.debug_tables.specs.declared.watches.WordWatchError.{WordWatchError}
-use Rattle.debug_runs.specs.swi_dispatch_guest.specs.MachineState.{MachineState}
-use Rattle.debug_runs.specs.swi_dispatch_guest.specs.Step.{without_x}
+use Rattle.debug_runs.specs.counts.Counts.{counts_begun, counts_stopped}
+use Rattle.debug_runs.specs.StubNames.{stub_error_name}
+use Rattle.debug_runs.specs.Stubs.{with_stub, without_stub}
+use Rattle.debug_runs.specs.WordWatches.{watch_error_name, with_word_watch, without_word_watch}
+use Rattle.debug_runs.specs.Stub.{Stub}
+use Rattle.debug_runs.specs.StubError.{StubError}
+use Rattle.debug_runs.specs.StubRegister.{StubRegister}
+use Rattle.debug_runs.specs.WordWatchError.{WordWatchError}
+use Rattle.command_shell.specs.MachineState.{MachineState}
+use Rattle.command_shell.specs.Step.{without_x}
 
 -- the modes after a line, and its answer
 pub record ModeTold : Type 0 where

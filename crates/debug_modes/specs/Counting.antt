@@ -2,13 +2,13 @@
 -- and then what CODE has for it; and behind these at how many of them steps were taken.
 use Rattle.std.specs.Prelude.{ℕ, zero, suc, ◌+◌, ◌-◌, ◌/◌, ◌%◌, ◌^◌, min, nat_lt, List, [], ◌++◌, codes, length, take, Option, Some, None, if◌then◌else◌}
 use Rattle.std.specs.Fmt.{decimal}
-use Rattle.debug_runs.specs.debugger.specs.address_map.specs.Bytes.{Bytes}
-use Rattle.debug_runs.specs.debugger.specs.Code.{code_text}
-use Rattle.debug_runs.specs.command_shell.specs.Answers.{refused_text}
-use Rattle.debug_runs.specs.debug_labels.specs.Images.{image_place}
-use Rattle.debug_runs.specs.debug_labels.specs.Words.{Naming}
-use Rattle.debug_runs.specs.debug_labels.specs.declared.images.ImagePlace.{ImagePlace}
-use Rattle.debug_runs.specs.debug_counts.specs.Counts.{CountTable, times_at}
+use Rattle.address_map.specs.Bytes.{Bytes}
+use Rattle.command_shell.specs.Code.{code_text}
+use Rattle.command_shell.specs.Answers.{refused_text}
+use Rattle.debug_runs.specs.Images.{image_place}
+use Rattle.debug_runs.specs.Words.{Naming}
+use Rattle.debug_runs.specs.ImagePlace.{ImagePlace}
+use Rattle.debug_runs.specs.counts.Counts.{CountTable, times_at}
 
 -- behind as many blanks as fill ten columns
 abbrev pub ten_columns : List ℕ → List ℕ

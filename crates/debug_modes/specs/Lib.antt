@@ -1,6 +1,5 @@
 -- The modes of a debugger, and the lines that change them or are told in them. Begin with Modes.
-pub use Rattle.debug_lines
-pub use Rattle.debug_runs
+pub use Rattle.debug_runs.specs.Telling
 pub mod Changes
 pub mod Counting
 pub mod Modes

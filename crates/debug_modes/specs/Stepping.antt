@@ -1,13 +1,13 @@
 -- Lines that take steps, in the modes that are set.
 use Rattle.std.specs.Prelude.{Bool, List}
-use Rattle.debug_runs.specs.command_shell.specs.State.{ScriptState}
-use Rattle.debug_runs.specs.debug_labels.specs.Labels.{ImageLabels}
+use Rattle.command_shell.specs.State.{ScriptState}
+use Rattle.debug_runs.specs.Labels.{ImageLabels}
 use Rattle.debug_lines.specs.SteppingRequests.{SteppingRequest}
 use Rattle.debug_modes.specs.Modes.{told_of_line}
 use Rattle.debug_modes.specs.declared.modes.DebugModes.{DebugModes}
 use Rattle.debug_runs.specs.Lines.{SteppingTold, stepping_told}
 use Rattle.debug_runs.specs.Places.{places_of_line}
-use Rattle.debug_runs.specs.debug_counts.specs.Counts.{steps_counted}
+use Rattle.debug_runs.specs.counts.Counts.{steps_counted}
 
 -- the modes after a line, whose steps were counted
 abbrev pub modes_after : DebugModes → ScriptState → SteppingRequest → DebugModes

@@ -2,16 +2,15 @@
 
 ghost use Rattle.std.specs.Prelude.{◌≡◌, ◌≤◌, true, false, IfOk, OnErr, length};
 ghost use Rattle.debug_lines.specs.ModeRequests.{mode_request_of};
-ghost use Rattle.debug_modes.specs.Changes.{IsModeTold, counting_line_told, limit_line_told, mode_told, stub_line_told, trace_line_told, unstub_line_told};
-ghost use Rattle.debug_modes.specs.Changes.{unwatch_line_told, watch_line_told};
-ghost use Rattle.debug_runs.specs.swi_dispatch_guest.specs.Parts.{state_of};
+ghost use Rattle.debug_modes.specs.Changes.{IsModeTold, counting_line_told, limit_line_told, mode_told, stub_line_told, trace_line_told, unstub_line_told, unwatch_line_told, watch_line_told};
+ghost use Rattle.command_shell.specs.Parts.{state_of};
 
 use crate::answers::{at_line, limit_line, refused_line};
 use crate::modes::DebugModes;
 use crate::stub_lines::{stub_number, stub_with};
+use command_shell::Machine;
 use command_shell_lines::WordAddress;
 use debug_lines::{ModeCommand, StubSetting};
-use debug_runs::debugger::swi_dispatch::Machine;
 use std::alloc::{AllocError, Global};
 
 impl DebugModes {

@@ -2,16 +2,13 @@
 
 ghost use Rattle.std.specs.Prelude.{◌≡◌, ◌≤◌, codes, take, IfOk};
 ghost use Rattle.profile.specs.Output.{Writes};
-ghost use Rattle.debug_modes.specs.Counting.{count_column, counted_line, counted_lines, counts_shown, counts_text, counts_text_from};
-ghost use Rattle.debug_modes.specs.Counting.{one_if_taken, taken_line, ten_columns, words_of_size, words_taken};
-ghost use Rattle.debug_runs.specs.swi_dispatch_guest.specs.Parts.{state_of};
+ghost use Rattle.debug_modes.specs.Counting.{count_column, counted_line, counted_lines, counts_shown, counts_text, counts_text_from, one_if_taken, taken_line, ten_columns, words_of_size, words_taken};
+ghost use Rattle.command_shell.specs.Parts.{state_of};
 
 use crate::answers::refused_line;
 use crate::modes::DebugModes;
-use debug_runs::debug_counts::StepCounts;
-use debug_runs::debug_labels::{ImagePlace, LabelTable, PlaceNames};
-use debug_runs::debugger::show_code;
-use debug_runs::debugger::swi_dispatch::Machine;
+use command_shell::{Machine, show_code};
+use debug_runs::{ImagePlace, LabelTable, PlaceNames, StepCounts};
 use itoa::Buffer;
 use profile::{Sink, WriteFault, push_all, push_parts};
 use std::alloc::{AllocError, Global};

@@ -8,8 +8,6 @@ mod counting;
 mod modes;
 mod stepping;
 mod stub_lines;
-#[cfg(test)]
-mod tests;
 
 pub use answers::refused_line;
 pub use modes::DebugModes;

@@ -3,8 +3,7 @@
 ghost use Rattle.std.specs.Prelude.{◌≡◌};
 ghost use Rattle.debug_modes.specs.Modes.{no_modes, takes_over, told_of_line};
 
-use debug_runs::debug_counts::StepCounts;
-use debug_runs::debug_tables::StepModes;
+use debug_runs::{StepCounts, StepModes};
 use std::alloc::Global;
 
 /// So many steps of a line are told where no line says otherwise.

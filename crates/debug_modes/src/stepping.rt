@@ -1,16 +1,15 @@
 //! Lines that take steps, in the modes that are set.
 
 ghost use Rattle.std.specs.Prelude.{◌≡◌, IfOk, OnOk};
-ghost use Rattle.debug_runs.specs.command_shell.specs.Session.{script_state};
+ghost use Rattle.command_shell.specs.Session.{script_state};
 ghost use Rattle.debug_lines.specs.SteppingRequests.{stepping_request_of};
 ghost use Rattle.debug_modes.specs.Stepping.{modes_after, stepping_in_modes};
 ghost use Rattle.debug_runs.specs.Told.{IsSteppingTold};
 
 use crate::modes::DebugModes;
+use command_shell::Session;
 use debug_lines::SteppingCommand;
-use debug_runs::command_shell::Session;
-use debug_runs::debug_labels::LabelTable;
-use debug_runs::{LineTold, answer_stepping};
+use debug_runs::{LabelTable, LineTold, answer_stepping};
 use image_loader::Images;
 use std::alloc::{AllocError, Global};
 

@@ -4,9 +4,9 @@ ghost use Rattle.std.specs.Prelude.{◌≡◌, ◌≤◌, length};
 ghost use Rattle.debug_modes.specs.Changes.{stub_register_of, stub_with, stub_number};
 
 use arrayvec::ArrayVec;
+use command_shell::without_x_bit;
 use debug_lines::StubSetting;
-use debug_runs::debug_tables::{MOST_STUB_REGISTERS, Stub, StubRegister};
-use debug_runs::debugger::swi_dispatch::without_x_bit;
+use debug_runs::{MOST_STUB_REGISTERS, Stub, StubRegister};
 
 /// The number of a SWI that a line tells as CALL takes it, without its X bit.
 pub(crate) fn stub_number(number: u32) -> u32

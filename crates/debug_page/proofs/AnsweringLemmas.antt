@@ -1,7 +1,7 @@
 -- What a line is answered with its block, and what is left behind them.
 use Rattle.std.proofs.Common.{◌≡◌, ℕ, ◌+◌, suc, Bool, List, [], ◌∷◌, drop, Option, Some, ap, refl, subst, sym, ◌∙◌, arith}
 use Rattle.command_shell_lines.specs.Blocks.{block_lines, lines_after, lines_taken}
-use Rattle.debug_entries.specs.script_page.proofs.BlockCutLemmas.{left_cut}
+use Rattle.script_page.proofs.BlockCutLemmas.{left_cut}
 use Rattle.debug_session.specs.DebugScript.{debug_line_told}
 use Rattle.debug_session.specs.DebugState.{DebugAnswered, DebugState, IsDebugged}
 use Rattle.debug_session.specs.declared.session.DebugSetting.{DebugSetting}

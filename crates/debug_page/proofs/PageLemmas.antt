@@ -1,6 +1,5 @@
 -- How a page of a debugging script goes on, line by line, and what its first and its last line stand on.
-use Rattle.std.proofs.Common.{◌≡◌, ℕ, ◌+◌, ◌<◌, Bool, true, false, ◌⊎◌, List, [], ◌∷◌, ◌++◌, length, Option, Some, None}
-use Rattle.std.proofs.Common.{take, refl, ap, sym, ◌∙◌, subst, append_assoc, inl, inr}
+use Rattle.std.proofs.Common.{◌≡◌, ℕ, ◌+◌, ◌<◌, Bool, true, false, ◌⊎◌, List, [], ◌∷◌, ◌++◌, length, Option, Some, None, take, refl, ap, sym, ◌∙◌, subst, append_assoc, inl, inr}
 use Rattle.std.proofs.lemmas.List.{append-nil}
 use Rattle.std.specs.Prelude.{◌||◌, IfErr, IfNone, IfSome, Result, Ok, Err}
 use Rattle.std.specs.Result.{IsErrAnd}
@@ -14,22 +13,22 @@ use Rattle.debug_session.specs.DebugScript.{debug_lines_told}
 use Rattle.debug_session.specs.DebugState.{DebugAnswered, DebugState, debug_answer, debug_start_state}
 use Rattle.debug_session.specs.Session.{debug_state}
 use Rattle.text_lines.specs.Lines.{ReadingPlace}
-use Rattle.debug_entries.specs.script_page.specs.command_shell.specs.Error.{IsLineError}
-use Rattle.debug_entries.specs.script_page.specs.command_shell.specs.declared.error.RunError.{RunError}
-use Rattle.debug_entries.specs.script_page.specs.command_shell.specs.declared.error.RunError.TheVariants as error
+use Rattle.command_shell.specs.Error.{IsLineError}
+use Rattle.command_shell.specs.declared.error.RunError.{RunError}
+use Rattle.command_shell.specs.declared.error.RunError.TheVariants as error
 use Rattle.debug_page.proofs.AnsweringLemmas.{place_is, with_block}
-use Rattle.debug_session.specs.debug_reports.specs.Reports.{summary_text}
+use Rattle.debug_session.specs.reports.Reports.{summary_text}
 use Rattle.debug_session.specs.declared.session.DebugSession.{DebugSession}
 use Rattle.debug_session.specs.declared.session.DebugSetting.{DebugSetting}
-use Rattle.debug_entries.specs.script_page.proofs.PageLemmas.{any_more, more_of}
-use Rattle.debug_entries.specs.script_page.specs.GuestText.{guest_text}
-use Rattle.debug_entries.specs.script_page.specs.Pictures.{IsPicture}
-use Rattle.debug_entries.specs.script_page.specs.Views.{view_asked}
-use Rattle.debug_entries.specs.script_page.specs.view_reading.specs.swi_dispatch_guest.specs.MachineState.{MachineState}
-use Rattle.debug_entries.specs.script_page.specs.PictureIndex.{links_html}
-use Rattle.debug_entries.specs.script_page.specs.Writing.{page_front}
-use Rattle.debug_entries.specs.script_page.specs.declared.form.PageForm.{PageForm}
-use Rattle.debug_entries.specs.script_page.specs.declared.index.PictureLink.{PictureLink}
+use Rattle.script_page.proofs.PageLemmas.{any_more, more_of}
+use Rattle.script_page.specs.GuestText.{guest_text}
+use Rattle.script_page.specs.Pictures.{IsPicture}
+use Rattle.script_page.specs.Views.{view_asked}
+use Rattle.command_shell.specs.MachineState.{MachineState}
+use Rattle.script_page.specs.PictureIndex.{links_html}
+use Rattle.script_page.specs.Writing.{page_front}
+use Rattle.script_page.specs.declared.form.PageForm.{PageForm}
+use Rattle.script_page.specs.declared.index.PictureLink.{PictureLink}
 use Rattle.debug_page.specs.Answering.{IsNextDebugEntry, PagePlace, place_of_answering, start_place}
 use Rattle.debug_page.specs.DebugPage.{debug_page_back, debug_page_begun, debug_page_entry, debug_told_in, BeginsDebugPage, WritesDebugPage}
 use Rattle.debug_entries.specs.Shown.{has_drawn, printed_part}

@@ -4,16 +4,16 @@ use Rattle.std.specs.Io.KnownBytes.{Appends}
 use Rattle.std.specs.List.{flat_map, list_any}
 use Rattle.std.specs.Str.Lines.{lines}
 use Rattle.image_loader.specs.Entries.{Entry}
-use Rattle.debug_entries.specs.script_page.specs.PictureIndex.{html_back}
-use Rattle.debug_entries.specs.script_page.specs.TextPage.{legend}
-use Rattle.debug_entries.specs.script_page.specs.Transcript.{spelt_from}
-use Rattle.debug_entries.specs.script_page.specs.declared.transcript.Side.TheVariants as side
-use Rattle.debug_entries.specs.script_page.specs.Writing.{page_front}
-use Rattle.debug_entries.specs.script_page.specs.declared.form.PageForm.{PageForm}
-use Rattle.debug_entries.specs.script_page.specs.declared.form.PageForm.TheVariants as form
+use Rattle.script_page.specs.PictureIndex.{html_back}
+use Rattle.script_page.specs.TextPage.{legend}
+use Rattle.script_page.specs.Transcript.{spelt_from}
+use Rattle.script_page.specs.declared.transcript.Side.TheVariants as side
+use Rattle.script_page.specs.Writing.{page_front}
+use Rattle.script_page.specs.declared.form.PageForm.{PageForm}
+use Rattle.script_page.specs.declared.form.PageForm.TheVariants as form
 use Rattle.debug_session.specs.DebugScript.{debug_lines_told}
 use Rattle.debug_session.specs.DebugState.{DebugAnswered, debug_start_state}
-use Rattle.debug_session.specs.debug_reports.specs.Reports.{summary_text}
+use Rattle.debug_session.specs.reports.Reports.{summary_text}
 use Rattle.debug_session.specs.declared.session.DebugSetting.{DebugSetting}
 use Rattle.debug_page.specs.Answering.{PagePlace, start_place}
 use Rattle.debug_entries.specs.Html.{debug_entry_html, summary_html}

@@ -7,9 +7,9 @@ use Rattle.debug_session.specs.DebugScript.{takes_steps}
 use Rattle.debug_session.specs.DebugState.{DebugState}
 use Rattle.debug_session.specs.Looking.{words_meant}
 use Rattle.debug_session.specs.Naming.{naming_of}
-use Rattle.debug_session.specs.debug_modes.specs.Modes.{told_of_line}
-use Rattle.debug_session.specs.debug_modes.specs.declared.modes.DebugModes.{DebugModes}
-use Rattle.debug_session.specs.debug_reports.specs.declared.reports.CheckTally.{CheckTally}
+use Rattle.debug_session.specs.Modes.{told_of_line}
+use Rattle.debug_session.specs.DebugModes.{DebugModes}
+use Rattle.debug_session.specs.DebugChecksCheckTally.{CheckTally}
 use Rattle.debug_entries.specs.declared.lines.LineUse.{LineUse}
 use Rattle.debug_entries.specs.declared.lines.LineUse.TheVariants as use_of
 use Rattle.debug_entries.specs.declared.lines.Verdict.{Verdict}

@@ -1,11 +1,11 @@
 -- What a page shows of a debugging script's lines, each as it was answered.
 use Rattle.std.specs.Prelude.{◌≡◌, ℕ, List, [], ◌∷◌, take}
 use Rattle.std.specs.List.{flat_map}
-use Rattle.debug_entries.specs.script_page.specs.GuestText.{guest_text}
-use Rattle.debug_entries.specs.script_page.specs.Pictures.{IsPicture}
-use Rattle.debug_entries.specs.script_page.specs.PictureIndex.{link_if_drawn}
-use Rattle.debug_entries.specs.script_page.specs.Views.{view_asked}
-use Rattle.debug_entries.specs.script_page.specs.declared.form.PageForm.{PageForm}
+use Rattle.script_page.specs.GuestText.{guest_text}
+use Rattle.script_page.specs.Pictures.{IsPicture}
+use Rattle.script_page.specs.PictureIndex.{link_if_drawn}
+use Rattle.script_page.specs.Views.{view_asked}
+use Rattle.script_page.specs.declared.form.PageForm.{PageForm}
 use Rattle.debug_session.specs.declared.session.DebugSetting.{DebugSetting}
 use Rattle.debug_page.specs.Answering.{IsNextDebugEntry, PagePlace}
 use Rattle.debug_entries.specs.Shown.{has_drawn, printed_part}

@@ -7,14 +7,14 @@ ghost use Rattle.debug_session.specs.DebugScript.{line_opens};
 ghost use Rattle.debug_session.specs.DebugState.{IsDebugged};
 ghost use Rattle.debug_session.specs.Session.{debug_state};
 ghost use Rattle.debug_page.specs.Answering.{place_of_answering, told_with_block, IsNextDebugEntry};
-ghost use Rattle.debug_entries.specs.script_page.specs.view_reading.specs.swi_dispatch_guest.specs.Parts.{state_of};
+ghost use Rattle.command_shell.specs.Parts.{state_of};
 
 use crate::reading::{last_registers_before, use_of, verdict_between, words_of};
-use debug_entries::script_page::front_lines::cut_lines;
-use debug_entries::script_page::view_reading::Machine;
 use debug_entries::{DebugEntry, front_length, steps_words};
 use debug_session::DebugSession;
 use image_loader::Images;
+use script_page::Machine;
+use script_page::front_lines::cut_lines;
 use std::alloc::{AllocError, Global};
 use text_lines::Lines;
 use view_items::TextSink;

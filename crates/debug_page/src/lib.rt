@@ -8,6 +8,5 @@ mod page;
 mod reading;
 pub mod style;
 
-pub use debug_entries;
-pub use debug_session;
+pub use debug_session::{DebugSetting, DebugTyping, ReportForm, RunMeter};
 pub use page::push_debug_page;

@@ -2,27 +2,27 @@
 
 ghost use Rattle.std.specs.Prelude.{◌≡◌, ◌⊎◌, true, Err, IfOk, OnOk, IfErr};
 ghost use Rattle.profile.specs.Output.{Writes};
-ghost use Rattle.debug_entries.specs.script_page.specs.command_shell.specs.Error.{IsLineError};
+ghost use Rattle.command_shell.specs.Error.{IsLineError};
 ghost use Rattle.debug_session.specs.ExitStatus.{debug_status};
-ghost use Rattle.debug_session.specs.debug_reports.specs.Reports.{summary_text};
-ghost use Rattle.debug_entries.specs.script_page.specs.PictureIndex.{links_html};
-ghost use Rattle.debug_entries.specs.script_page.specs.Writing.{page_front};
+ghost use Rattle.debug_session.specs.reports.Reports.{summary_text};
+ghost use Rattle.script_page.specs.PictureIndex.{links_html};
+ghost use Rattle.script_page.specs.Writing.{page_front};
 ghost use Rattle.debug_page.specs.DebugPage.{debug_page_back, debug_page_entry, debug_told_in, legend_if, BeginsDebugPage, WritesDebugPage};
 ghost use Rattle.debug_page.specs.ShownLines.{IsShownEntry};
 
 use crate::answering::DebugAnswering;
 use crate::style::DEBUG_BACK;
-use debug_entries::script_page::PageForm;
-use debug_entries::script_page::command_shell::RunError;
-use debug_entries::script_page::index::{PictureLink, keep_link, push_html_back};
-use debug_entries::script_page::pictures::LastViews;
-use debug_entries::script_page::style::FRONT;
-use debug_entries::script_page::text::push_legend;
-use debug_entries::script_page::transcript::{Side, push_side};
+use command_shell::RunError;
 use debug_entries::{DebugShown, html, text};
 use debug_session::{DebugSession, DebugSetting};
 use image_loader::Images;
 use profile::{Sink, WriteFault, push_all};
+use script_page::PageForm;
+use script_page::index::{PictureLink, keep_link, push_html_back};
+use script_page::pictures::LastViews;
+use script_page::style::FRONT;
+use script_page::text::push_legend;
+use script_page::transcript::{Side, push_side};
 use std::alloc::{AllocError, Global};
 use view_items::TextSink;
 

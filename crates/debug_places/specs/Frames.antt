@@ -1,8 +1,7 @@
 -- Open frames of module code as text, the innermost first: the frame's number, what its code was
 -- entered for, the instance whose code it is, where the call was made, in which mode, and R13 of
 -- SVC as it was on entry (this project's own).
-use Rattle.std.specs.Prelude.{ℕ, zero, suc, Bool, true, false, ◌-◌, ◌/◌, ◌%◌, ◌^◌, ◌==◌, ◌&&◌, ◌++◌, List, [], codes, length}
-use Rattle.std.specs.Prelude.{Option, Some, None, Result, Ok, Err, slice_get, if◌then◌else◌}
+use Rattle.std.specs.Prelude.{ℕ, zero, suc, Bool, true, false, ◌-◌, ◌/◌, ◌%◌, ◌^◌, ◌==◌, ◌&&◌, ◌++◌, List, [], codes, length, Option, Some, None, Result, Ok, Err, slice_get, if◌then◌else◌}
 use Rattle.std.specs.Fmt.{decimal}
 use Rattle.std.specs.List.{flat_map}
 use Rattle.profile.specs.Digits.{hex_number, hex_word}
@@ -14,18 +13,18 @@ use Rattle.address_map.specs.Bytes.{Bytes, word_loaded}
 use Rattle.debugger.specs.Memory.{address_further}
 use Rattle.debugger.specs.Modules.{one_text}
 use Rattle.debugger.specs.Registers.{mode_text}
-use Rattle.debugger.specs.swi_dispatch.specs.instances_table.specs.Modules.{Instance, Module}
+use Rattle.instances_table.specs.Modules.{Instance, Module}
 use Rattle.debug_labels.specs.Labels.{ImageLabels}
 use Rattle.debug_labels.specs.Places.{place_of}
 use Rattle.debug_labels.specs.Views.{spaced_place_text}
 use Rattle.debug_labels.specs.Words.{Naming}
 use Rattle.debug_places.specs.Places.{naming_on, where_text}
-use Rattle.debugger.specs.swi_dispatch_guest.specs.swi_dispatch_frames.specs.instances_plans.specs.declared.code.CodeKind.TheVariants.{Initialise, Finalise}
-use Rattle.debugger.specs.swi_dispatch_guest.specs.swi_dispatch_frames.specs.declared.frame.Frame.{Frame}
-use Rattle.debugger.specs.swi_dispatch_guest.specs.swi_dispatch_frames.specs.declared.frame.FrameKind.{FrameKind}
-use Rattle.debugger.specs.swi_dispatch_guest.specs.swi_dispatch_frames.specs.declared.frame.FrameKind.TheVariants.{Swi, Entry}
-use Rattle.debugger.specs.swi_dispatch_guest.specs.MachineState.{MachineState}
-use Rattle.debugger.specs.swi_dispatch_guest.specs.Step.{without_x}
+use Rattle.instances_plans.specs.declared.code.CodeKind.TheVariants.{Initialise, Finalise}
+use Rattle.swi_dispatch_answers.specs.declared.frames.frame.Frame.{Frame}
+use Rattle.swi_dispatch_answers.specs.declared.frames.frame.FrameKind.{FrameKind}
+use Rattle.swi_dispatch_answers.specs.declared.frames.frame.FrameKind.TheVariants.{Swi, Entry}
+use Rattle.debugger.specs.MachineState.{MachineState}
+use Rattle.debugger.specs.Step.{without_x}
 
 -- `SWI &40000`
 abbrev pub frame_kind_text : FrameKind → List ℕ

@@ -3,7 +3,7 @@ use Rattle.std.specs.Prelude.{ℕ, List}
 use Rattle.debug_labels.specs.Labels.{ImageLabels}
 use Rattle.debug_labels.specs.Views.{place_line}
 use Rattle.debug_labels.specs.Words.{Naming}
-use Rattle.debugger.specs.swi_dispatch_guest.specs.MachineState.{MachineState}
+use Rattle.debugger.specs.MachineState.{MachineState}
 
 abbrev pub naming_on : List ImageLabels → MachineState → Naming
 naming_on labels s = record { labels = labels; modules = s.tables.modules; cpu = s.cpu }

@@ -4,20 +4,15 @@ ghost use Rattle.std.specs.Prelude.{◌≡◌, length, slice_get};
 ghost use Rattle.address_map.specs.Memory.{bytes_of};
 ghost use Rattle.profile.specs.Output.{Writes};
 ghost use Rattle.debugger.specs.Modules.{one_text};
-ghost use Rattle.debug_places.specs.Frames.{address_text, called_at_text, caller_address, caller_text, calls_entered, entry_text};
-ghost use Rattle.debug_places.specs.Frames.{frame_kind_text, frame_line, frame_lines, frame_number_text, open_frame_numbered};
-ghost use Rattle.debug_places.specs.Frames.{frame_text, frames_text, full_name_at, full_name_of_slot, full_name_text};
-ghost use Rattle.debug_places.specs.Frames.{full_name_within, is_call_entered, is_called_by_instruction};
+ghost use Rattle.debug_places.specs.Frames.{address_text, called_at_text, caller_address, caller_text, calls_entered, entry_text, frame_kind_text, frame_line, frame_lines, frame_number_text, open_frame_numbered, frame_text, frames_text, full_name_at, full_name_of_slot, full_name_text, full_name_within, is_call_entered, is_called_by_instruction};
 ghost use Rattle.debug_places.specs.Places.{naming_on};
-ghost use Rattle.debugger.specs.swi_dispatch_guest.specs.Parts.{state_of};
+ghost use Rattle.debugger.specs.Parts.{state_of};
 
 use crate::names::names_on;
 use crate::standing::show_where;
 use address_map::AddressMap;
-use debug_labels::{LabelTable, PlaceNames};
-use debugger::mode_name;
-use debugger::swi_dispatch::instances::{InstanceInfo, Instances, ModuleInfo};
-use debugger::swi_dispatch::{CodeKind, Frame, FrameKind, Machine, without_x_bit};
+use debug_labels::{InstanceInfo, Instances, LabelTable, ModuleInfo, PlaceNames};
+use debugger::{CodeKind, Frame, FrameKind, Machine, mode_name, without_x_bit};
 use itoa::Buffer;
 use profile::{Fault, HexText, Sink, SwiName, WriteFault, push_all, push_parts};
 

@@ -2,10 +2,10 @@
 
 ghost use Rattle.std.specs.Prelude.{◌≡◌};
 ghost use Rattle.debug_places.specs.Places.{naming_on};
-ghost use Rattle.debugger.specs.swi_dispatch_guest.specs.Parts.{state_of};
+ghost use Rattle.debugger.specs.Parts.{state_of};
 
 use debug_labels::{LabelTable, PlaceNames};
-use debugger::swi_dispatch::Machine;
+use debugger::Machine;
 
 /// Words and places are told by these labels, by the modules of a machine and by its core.
 pub fn names_on<'a>(labels: &'a LabelTable, machine: &'a Machine) -> PlaceNames<'a>

@@ -5,12 +5,12 @@ ghost use Rattle.address_map.specs.Memory.{bytes_of};
 ghost use Rattle.profile.specs.Output.{Writes};
 ghost use Rattle.debug_places.specs.Places.{naming_on};
 ghost use Rattle.debug_places.specs.Stack.{stacked_address, stacked_place_text, stack_end_text, stack_words_text, stack_words_text_at, stacked_word_text};
-ghost use Rattle.debugger.specs.swi_dispatch_guest.specs.Parts.{state_of};
+ghost use Rattle.debugger.specs.Parts.{state_of};
 
 use crate::names::names_on;
 use address_map::AddressMap;
 use debug_labels::{LabelTable, PlaceNames};
-use debugger::swi_dispatch::Machine;
+use debugger::Machine;
 use profile::memory_map::{ADDRESS_LIMIT, RETURN_GATE};
 use profile::{HexText, Sink, WriteFault, push_all, push_parts};
 

@@ -2,11 +2,11 @@
 
 ghost use Rattle.profile.specs.Output.{Writes};
 ghost use Rattle.debug_places.specs.Places.{where_text};
-ghost use Rattle.debugger.specs.swi_dispatch_guest.specs.Parts.{state_of};
+ghost use Rattle.debugger.specs.Parts.{state_of};
 
 use crate::names::names_on;
 use debug_labels::LabelTable;
-use debugger::swi_dispatch::Machine;
+use debugger::Machine;
 use profile::{Sink, WriteFault};
 
 /// Writes where the machine stands: the program counter in capitals without leading zeros, and the

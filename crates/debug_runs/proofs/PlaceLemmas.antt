@@ -2,12 +2,12 @@
 use Rattle.std.proofs.Common.{◌≡◌, ◌<◌, ℕ, zero, suc, ◌-◌, false, length, List, [], ◌∷◌, Option, Some, None, Result, arith, refl, subst, sym, ap, ◌∙◌}
 use Rattle.std.specs.Prelude.{OnOk, min}
 use Rattle.profile.specs.declared.stop.Stop.{Stop}
-use Rattle.debugger.specs.swi_dispatch_guest.specs.MachineState.{StepOutcome}
-use Rattle.debugger.specs.swi_dispatch_guest.specs.Step.{module_loaded, store_called}
+use Rattle.swi_dispatch_guest.specs.MachineState.{StepOutcome}
+use Rattle.swi_dispatch_guest.specs.Step.{module_loaded, store_called}
 use Rattle.command_shell.specs.Calls.{step_made, stop_before_step_by}
 use Rattle.command_shell.specs.State.{ScriptState}
-use Rattle.debug_counts.proofs.CountLemmas.{uncounted}
-use Rattle.debug_counts.specs.Counts.{CountTable, step_counted, steps_counted}
+use Rattle.debug_tables.proofs.CountsLemmas.CountLemmas.{uncounted}
+use Rattle.debug_tables.specs.counts.Counts.{CountTable, step_counted, steps_counted}
 use Rattle.debug_lines.specs.SteppingRequests.{Run, Step, Call, Load, Finish, Gosub, RunLast}
 use Rattle.debug_runs.proofs.TellingLemmas.{whatever}
 use Rattle.debug_runs.specs.Places.{places_if_awake, places_of_call, places_of_finish, places_of_line, places_of_outside, places_of_run, places_unless, places_unless_stopped}

@@ -2,18 +2,18 @@
 use Rattle.std.proofs.Common.{◌≡◌, ℕ, zero, suc, ◌+◌, ◌-◌, ◌==◌, ◌&&◌, ◌++◌, Bool, true, false, List, [], ◌∷◌, Option, Some, None, if◌then◌else◌, ap, append_assoc, arith, refl, subst, sym, ◌∙◌, length}
 use Rattle.std.proofs.lemmas.Bool.{and_parts, eqb-true}
 use Rattle.std.proofs.lemmas.Bool.Decides.{nat_tests}
-use Rattle.debugger.specs.swi_dispatch_guest.proofs.RunLoop.{ran-halted, ran-none}
+use Rattle.swi_dispatch_guest.proofs.RunLoop.{ran-halted, ran-none}
 use Rattle.std.proofs.lemmas.List.{append-nil}
 use Rattle.std.specs.Prelude.{IsSome, min, nat_le}
 use Rattle.profile.specs.declared.stop.Stop.{Stop}
 use Rattle.profile.specs.declared.stop.Stop.TheVariants as stop
 use Rattle.debug_labels.specs.Labels.{ImageLabels}
 use Rattle.image_loader.specs.Entries.{Entry}
-use Rattle.debugger.specs.swi_dispatch_guest.specs.declared.halt.Halt.{Halt}
-use Rattle.debugger.specs.swi_dispatch_guest.specs.declared.halt.Halt.TheVariants as halt
-use Rattle.debugger.specs.swi_dispatch_guest.specs.MachineState.{MachineState, StepOutcome, stop_of}
-use Rattle.debugger.specs.swi_dispatch_guest.specs.Run.{Run, count_after, go_on, is_among, ran, resting, run_after_steps, run_unless_halted}
-use Rattle.debugger.specs.swi_dispatch_guest.specs.Step.{machine_step, module_loaded, store_called, without_x}
+use Rattle.swi_dispatch_guest.specs.declared.halt.Halt.{Halt}
+use Rattle.swi_dispatch_guest.specs.declared.halt.Halt.TheVariants as halt
+use Rattle.swi_dispatch_guest.specs.MachineState.{MachineState, StepOutcome, stop_of}
+use Rattle.swi_dispatch_guest.specs.Run.{Run, count_after, go_on, is_among, ran, resting, run_after_steps, run_unless_halted}
+use Rattle.swi_dispatch_guest.specs.Step.{machine_step, module_loaded, store_called, without_x}
 use Rattle.command_shell.specs.Answers.{stepped_text, stop_text}
 use Rattle.command_shell.specs.Calls.{answer_after_steps, call_end, call_end_by, call_made, finished_by, step_made, step_then, stop_before_step, stop_before_step_by, stop_told}
 use Rattle.command_shell.specs.State.{Answered, ScriptState, answer}

@@ -10,12 +10,12 @@ use Rattle.profile.specs.declared.stop.Stop.TheVariants as stop
 use Rattle.debug_labels.specs.Labels.{ImageLabels}
 use Rattle.image_loader.specs.Entries.{Entry}
 use Rattle.law_frames.proofs.Keeping.{only_the_gate_closes}
-use Rattle.debugger.specs.swi_dispatch_guest.specs.swi_dispatch_frames.specs.declared.frame.Frame.{Frame}
-use Rattle.debugger.specs.swi_dispatch_guest.specs.declared.halt.Halt.{Halt}
-use Rattle.debugger.specs.swi_dispatch_guest.specs.MachineState.{MachineState, StepOutcome}
-use Rattle.debugger.specs.swi_dispatch_guest.specs.Run.{Run, count_after, go_on, is_among, quiet_run, ran, resting, run_after_steps}
-use Rattle.debugger.specs.swi_dispatch_guest.specs.Step.{machine_step}
-use Rattle.debugger.specs.swi_dispatch_guest.proofs.RunLoop.{ran-none}
+use Rattle.swi_dispatch_guest.specs.SwiDispatchAnswersFrame.{Frame}
+use Rattle.swi_dispatch_guest.specs.declared.halt.Halt.{Halt}
+use Rattle.swi_dispatch_guest.specs.MachineState.{MachineState, StepOutcome}
+use Rattle.swi_dispatch_guest.specs.Run.{Run, count_after, go_on, is_among, quiet_run, ran, resting, run_after_steps}
+use Rattle.swi_dispatch_guest.specs.Step.{machine_step}
+use Rattle.swi_dispatch_guest.proofs.RunLoop.{ran-none}
 use Rattle.command_shell.specs.Calls.{step_made}
 use Rattle.command_shell.specs.State.{ScriptState}
 use Rattle.command_shell.specs.Stepping.{IsAfterQuietSteps, script_after_quiet}

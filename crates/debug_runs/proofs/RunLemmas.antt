@@ -8,15 +8,14 @@ use Rattle.profile.specs.declared.stop.Stop.TheVariants as stop
 use Rattle.address_map.specs.Bytes.{Bytes}
 use Rattle.debug_labels.specs.Labels.{ImageLabels}
 use Rattle.debug_labels.specs.Standing.{first_of}
-use Rattle.debugger.specs.swi_dispatch_guest.specs.declared.halt.Halt.{Halt}
-use Rattle.debugger.specs.swi_dispatch_guest.specs.declared.halt.Halt.TheVariants as halt
-use Rattle.debugger.specs.swi_dispatch_guest.specs.MachineState.{StepOutcome, stop_of}
-use Rattle.debugger.specs.swi_dispatch_guest.specs.Run.{count_after}
+use Rattle.swi_dispatch_guest.specs.declared.halt.Halt.{Halt}
+use Rattle.swi_dispatch_guest.specs.declared.halt.Halt.TheVariants as halt
+use Rattle.swi_dispatch_guest.specs.MachineState.{StepOutcome, stop_of}
+use Rattle.swi_dispatch_guest.specs.Run.{count_after}
 use Rattle.command_shell.specs.Calls.{step_made}
 use Rattle.command_shell.specs.State.{ScriptState}
 use Rattle.view_items.specs.TextSink.{sink_text_of}
-use Rattle.debug_runs.specs.Runs.{SteppingRun, call_run, end_after, run_end_by, is_reached, next_step, run_behind, run_ended, run_step, run_unless}
-use Rattle.debug_runs.specs.Runs.{steps_run, text_of_next, watched_end}
+use Rattle.debug_runs.specs.Runs.{SteppingRun, call_run, end_after, run_end_by, is_reached, next_step, run_behind, run_ended, run_step, run_unless, steps_run, text_of_next, watched_end}
 use Rattle.debug_runs.specs.Telling.{one_told, told_of_step}
 use Rattle.debug_runs.specs.Told.{IsAfterStepping, IsToldOn}
 use Rattle.debug_tables.specs.WordWatches.{change_of_word, watch_hit, watched_change, watched_words}

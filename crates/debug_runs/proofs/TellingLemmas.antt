@@ -4,7 +4,7 @@ use Rattle.std.proofs.lemmas.Bool.{eqb-true}
 use Rattle.std.proofs.lemmas.List.{append-nil}
 use Rattle.std.specs.Prelude.{OnOk}
 use Rattle.std.specs.Io.KnownBytes.{Appends}
-use Rattle.debugger.specs.swi_dispatch_guest.specs.MachineState.{StepOutcome, outcome_with}
+use Rattle.swi_dispatch_guest.specs.MachineState.{StepOutcome, outcome_with}
 use Rattle.command_shell.specs.Calls.{step_made}
 use Rattle.command_shell.specs.State.{ScriptState, IsAnswered, answer}
 use Rattle.command_shell.specs.declared.calls.OutsideCall.{OutsideCall}

@@ -3,8 +3,8 @@ use Rattle.std.proofs.Common.{◌≡◌, ℕ, zero, suc, ◌-◌, ◌++◌, fals
 use Rattle.std.specs.Prelude.{min, nat_le}
 use Rattle.profile.specs.declared.stop.Stop.{Stop}
 use Rattle.debug_labels.specs.Labels.{ImageLabels}
-use Rattle.debugger.specs.swi_dispatch_guest.specs.MachineState.{StepOutcome}
-use Rattle.debugger.specs.swi_dispatch_guest.specs.Step.{module_loaded, store_called}
+use Rattle.swi_dispatch_guest.specs.MachineState.{StepOutcome}
+use Rattle.swi_dispatch_guest.specs.Step.{module_loaded, store_called}
 use Rattle.command_shell.specs.Calls.{step_made, stop_before_step_by}
 use Rattle.command_shell.specs.State.{ScriptState}
 use Rattle.trace_text.specs.Step.{call_start_text, load_start_text}

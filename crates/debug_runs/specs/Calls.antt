@@ -2,7 +2,7 @@
 use Rattle.std.specs.Prelude.{ℕ, List}
 use Rattle.command_shell.specs.declared.calls.OutsideCall.{OutsideCall}
 use Rattle.command_shell.specs.declared.calls.OutsideCall.TheVariants as outside
-use Rattle.debugger.specs.swi_dispatch_guest.specs.MachineState.{MachineState, StepOutcome}
+use Rattle.swi_dispatch_guest.specs.MachineState.{MachineState, StepOutcome}
 use Rattle.trace_text.specs.Step.{call_start_text, load_start_text}
 use Rattle.debug_runs.specs.Telling.{call_text_behind}
 

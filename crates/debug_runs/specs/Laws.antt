@@ -4,7 +4,7 @@ use Rattle.std.specs.List.{flat_map}
 use Rattle.debug_labels.specs.Labels.{ImageLabels}
 use Rattle.command_shell.specs.Script.{request_told}
 use Rattle.command_shell.specs.State.{Answered, ScriptState}
-use Rattle.debug_lines.specs.command_shell_lines.specs.Requests as script
+use Rattle.command_shell_lines.specs.Requests as script
 use Rattle.debug_lines.specs.SteppingRequests.{SteppingRequest, Run, Step, Call, Load, RunLast}
 use Rattle.debug_runs.specs.LastSteps.{texts_of_run, whole_text}
 use Rattle.debug_runs.specs.Lines.{SteppingTold, stepping_told}

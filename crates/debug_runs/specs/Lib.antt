@@ -1,11 +1,17 @@
 -- What the lines of a debugging script that take steps tell. Begin with Lines, over the runs of Runs.
-pub use Rattle.command_shell
-pub use Rattle.debug_counts
-pub use Rattle.debug_labels
-pub use Rattle.debug_tables
-pub use Rattle.debugger
-pub use Rattle.debugger.specs.swi_dispatch_guest
-pub use Rattle.trace_text
+pub use Rattle.debug_labels.specs.Images
+pub use Rattle.debug_labels.specs.Labels
+pub use Rattle.debug_labels.specs.Words
+pub use Rattle.debug_labels.specs.declared.images.ImagePlace
+pub use Rattle.debug_tables.specs.Modes
+pub use Rattle.debug_tables.specs.StubNames
+pub use Rattle.debug_tables.specs.Stubs
+pub use Rattle.debug_tables.specs.WordWatches
+pub use Rattle.debug_tables.specs.counts
+pub use Rattle.debug_tables.specs.declared.stubs.Stub
+pub use Rattle.debug_tables.specs.declared.stubs.StubError
+pub use Rattle.debug_tables.specs.declared.stubs.StubRegister
+pub use Rattle.debug_tables.specs.declared.watches.WordWatchError
 pub mod Calls
 pub mod Endings
 pub mod LastSteps

@@ -5,8 +5,8 @@ use Rattle.std.specs.Prelude.{ℕ, zero, suc, false, ◌-◌, ◌++◌, min, nat
 use Rattle.profile.specs.declared.stop.Stop.{Stop}
 use Rattle.debug_labels.specs.Labels.{ImageLabels}
 use Rattle.debug_lines.specs.SteppingRequests.{SteppingRequest, Run, Step, Call, Load, Finish, Gosub, RunLast}
-use Rattle.debugger.specs.swi_dispatch_guest.specs.MachineState.{StepOutcome}
-use Rattle.debugger.specs.swi_dispatch_guest.specs.Step.{module_loaded, store_called}
+use Rattle.swi_dispatch_guest.specs.MachineState.{StepOutcome}
+use Rattle.swi_dispatch_guest.specs.Step.{module_loaded, store_called}
 use Rattle.command_shell.specs.Answers.{refused_text}
 use Rattle.command_shell.specs.Calls.{stop_before_step_by}
 use Rattle.command_shell.specs.State.{ScriptState, Answered, answer}

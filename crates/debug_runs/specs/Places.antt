@@ -3,8 +3,8 @@
 use Rattle.std.specs.Prelude.{ℕ, zero, suc, ◌-◌, min, List, [], ◌∷◌, length, Option, Some, None}
 use Rattle.profile.specs.declared.stop.Stop.{Stop}
 use Rattle.debug_lines.specs.SteppingRequests.{SteppingRequest, Run, Step, Call, Load, Finish, Gosub, RunLast}
-use Rattle.debugger.specs.swi_dispatch_guest.specs.MachineState.{StepOutcome}
-use Rattle.debugger.specs.swi_dispatch_guest.specs.Step.{module_loaded, store_called}
+use Rattle.swi_dispatch_guest.specs.MachineState.{StepOutcome}
+use Rattle.swi_dispatch_guest.specs.Step.{module_loaded, store_called}
 use Rattle.command_shell.specs.Calls.{step_made, stop_before_step_by}
 use Rattle.command_shell.specs.State.{ScriptState}
 use Rattle.debug_runs.specs.Routines.{script_at_routine}

@@ -2,8 +2,8 @@
 use Rattle.std.specs.Prelude.{◌≡◌, ◌==◌, ℕ, Bool, true, false, nat_lt, List, length, None, if◌then◌else◌}
 use Rattle.profile.specs.MemoryMap.{return_gate}
 use Rattle.profile.specs.declared.stop.Stop.{Stop}
-use Rattle.debugger.specs.swi_dispatch_guest.specs.MachineState.{MachineState}
-use Rattle.debugger.specs.swi_dispatch_guest.specs.Run.{is_among, quiet_run, ran}
+use Rattle.swi_dispatch_guest.specs.MachineState.{MachineState}
+use Rattle.swi_dispatch_guest.specs.Run.{is_among, quiet_run, ran}
 use Rattle.command_shell.specs.State.{ScriptState}
 use Rattle.command_shell.specs.Stepping.{script_after_quiet}
 

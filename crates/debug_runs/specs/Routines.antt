@@ -3,9 +3,9 @@
 -- left it.
 use Rattle.std.specs.Prelude.{ℕ, ◌+◌, ◌++◌, List, codes}
 use Rattle.std.specs.Fmt.{decimal}
-use Rattle.debugger.specs.swi_dispatch.specs.arm_core.specs.Psr.{psr_bits}
-use Rattle.debugger.specs.swi_dispatch.specs.arm_core.specs.State.{register_of}
-use Rattle.debugger.specs.swi_dispatch.specs.arm_core.specs.declared.psr.Mode.{Mode}
+use Rattle.arm_core.specs.Psr.{psr_bits}
+use Rattle.arm_core.specs.State.{register_of}
+use Rattle.arm_core.specs.declared.psr.Mode.{Mode}
 use Rattle.command_shell.specs.Memory.{script_at, script_with_bank_register, script_with_register}
 use Rattle.command_shell.specs.State.{ScriptState}
 use Rattle.debug_runs.specs.Runs.{routine_end}

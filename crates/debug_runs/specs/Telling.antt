@@ -6,8 +6,8 @@ use Rattle.arm_core.specs.State.{State}
 use Rattle.debug_labels.specs.Labels.{ImageLabels}
 use Rattle.debug_labels.specs.Places.{LabelledPlace, place_of}
 use Rattle.debug_labels.specs.Words.{Naming}
-use Rattle.debugger.specs.swi_dispatch_guest.specs.MachineState.{MachineState, StepOutcome}
-use Rattle.trace_changes.specs.Status.{following_word}
+use Rattle.swi_dispatch_guest.specs.MachineState.{MachineState, StepOutcome}
+use Rattle.trace_effects.specs.changes.Status.{following_word}
 use Rattle.trace_effects.specs.Cause.{cause_of}
 use Rattle.trace_effects.specs.declared.cause.Cause.{Cause}
 use Rattle.trace_text.specs.Below.{prints_word}

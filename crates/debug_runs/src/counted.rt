@@ -4,7 +4,7 @@ ghost use Rattle.std.specs.Prelude.{◌≡◌, ◌≤◌, ◌<◌, ◌-◌, List
 ghost use Rattle.image_loader.specs.Entries.{Entry};
 ghost use Rattle.address_map.specs.Memory.{bytes_of};
 ghost use Rattle.command_shell.specs.Session.{script_state};
-ghost use Rattle.debug_counts.specs.Counts.{step_counted, steps_counted};
+ghost use Rattle.debug_tables.specs.counts.Counts.{step_counted, steps_counted};
 ghost use Rattle.debug_runs.specs.Places.{places_of_run};
 ghost use Rattle.debug_runs.specs.Runs.{steps_run};
 ghost use Rattle.debug_runs.specs.Told.{IsAfterStepping};
@@ -13,7 +13,7 @@ use crate::context::StepContext;
 use crate::running::{RunEnd, RunGoal, end_after, take_steps};
 use crate::telling::Telling;
 use command_shell::Session;
-use debug_counts::StepCounts;
+use debug_tables::counts::StepCounts;
 use profile::{Stop, WriteFault};
 
 /// Takes so many steps at most, until the goal is reached or the run is stopped, and counts them

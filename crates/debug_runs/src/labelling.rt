@@ -4,10 +4,10 @@ ghost use Rattle.std.specs.Prelude.{◌≡◌, option_map};
 ghost use Rattle.debug_labels.specs.Places.{told_of_place_label};
 ghost use Rattle.profile.specs.Output.{Writes};
 ghost use Rattle.debug_runs.specs.Telling.{step_label_line, label_line_in};
-ghost use Rattle.debugger.specs.swi_dispatch_guest.specs.Parts.{state_of};
+ghost use Rattle.swi_dispatch_guest.specs.Parts.{state_of};
 
+use command_shell::Machine;
 use debug_labels::{LabelTable, PlaceLabel, PlaceNames};
-use debugger::swi_dispatch::Machine;
 use profile::{Sink, WriteFault, push_parts};
 
 /// Writes `image:label:` where a label stands at the program counter.

@@ -4,7 +4,7 @@ ghost use Rattle.std.specs.Prelude.{◌≡◌, ◌≤◌, ◌<◌, ◌+◌, ◌^
 ghost use Rattle.image_loader.specs.Entries.{Entry};
 ghost use Rattle.command_shell.specs.Calls.{step_made};
 ghost use Rattle.command_shell.specs.Session.{script_state};
-ghost use Rattle.debug_counts.specs.Counts.{steps_counted};
+ghost use Rattle.debug_tables.specs.counts.Counts.{steps_counted};
 ghost use Rattle.debug_runs.specs.LastSteps.{last_run, text_of_step, texts_of_run, with_step, with_steps};
 ghost use Rattle.debug_runs.specs.Places.{places_of_run};
 ghost use Rattle.debug_runs.specs.Runs.{next_step, steps_run};
@@ -18,7 +18,7 @@ use crate::last_steps::{KeptStep, LastSteps};
 use crate::running::{RunEnd, RunGoal, end_after};
 use crate::telling::Telling;
 use command_shell::Session;
-use debug_counts::StepCounts;
+use debug_tables::counts::StepCounts;
 use profile::{Stop, WriteFault, push_all};
 use std::alloc::Global;
 use view_items::TextSink;

@@ -16,9 +16,7 @@ mod running;
 mod stub_lines;
 mod telling;
 
-pub use command_shell;
-pub use debug_counts;
-pub use debug_labels;
-pub use debug_tables;
-pub use debugger;
+pub use debug_labels::{ImagePlace, LabelTable, PlaceNames};
+pub use debug_tables::counts::StepCounts;
+pub use debug_tables::{MOST_STUB_REGISTERS, StepModes, Stub, StubRegister};
 pub use lines::{LineTold, answer_stepping};

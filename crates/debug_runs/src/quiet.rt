@@ -7,8 +7,8 @@ ghost use Rattle.command_shell.specs.Session.{script_state};
 ghost use Rattle.debug_runs.specs.Quiet.{IsAfterQuietUpTo, stay_open};
 ghost use Rattle.debug_runs.specs.Runs.{are_unseen, end_of_unseen, run_unless, steps_run};
 ghost use Rattle.debug_tables.specs.declared.modes.StepModes.{StepModes};
-ghost use Rattle.debugger.specs.swi_dispatch_guest.specs.Parts.{state_of};
-ghost use Rattle.debugger.specs.swi_dispatch_guest.specs.Run.{is_among};
+ghost use Rattle.swi_dispatch_guest.specs.Parts.{state_of};
+ghost use Rattle.swi_dispatch_guest.specs.Run.{is_among};
 
 use crate::running::{ROUTINE_END, RunGoal};
 use command_shell::Session;

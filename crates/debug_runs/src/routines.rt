@@ -8,10 +8,10 @@ ghost use Rattle.debug_runs.specs.Routines.{caller_in, returned_text, script_at_
 
 use crate::running::ROUTINE_END;
 use command_shell::Session;
-use debugger::arm_step::Mode;
 use itoa::Buffer;
 use profile::{Sink, WriteFault, push_all, push_parts};
 use std::marker::Model;
+use swi_dispatch_guest::Mode;
 
 /// The number of the link register.
 const LINK: u32 = 14;

@@ -6,23 +6,21 @@ ghost use Rattle.address_map.specs.Memory.{bytes_of};
 ghost use Rattle.command_shell.specs.Calls.{first_step};
 ghost use Rattle.command_shell.specs.Session.{script_state};
 ghost use Rattle.command_shell.specs.State.{ScriptState};
-ghost use Rattle.debug_runs.specs.Runs.{are_unseen, call_run, end_after, end_of_unseen, is_reached};
-ghost use Rattle.debug_runs.specs.Runs.{run_unless, steps_run, watched_end};
+ghost use Rattle.debug_runs.specs.Runs.{are_unseen, call_run, end_after, end_of_unseen, is_reached, run_unless, steps_run, watched_end};
 ghost use Rattle.debug_runs.specs.Calls.{outside_text};
 ghost use Rattle.debug_runs.specs.Places.{places_of_call};
 ghost use Rattle.debug_runs.specs.Told.{IsAfterStepping};
-ghost use Rattle.debug_counts.specs.Counts.{steps_counted};
+ghost use Rattle.debug_tables.specs.counts.Counts.{steps_counted};
 ghost use Rattle.debug_tables.specs.WordWatches.{watched_words};
-ghost use Rattle.debugger.specs.swi_dispatch_guest.specs.Parts.{state_of};
+ghost use Rattle.swi_dispatch_guest.specs.Parts.{state_of};
 
 use crate::context::StepContext;
 use crate::counted::run_steps;
 use crate::quiet::take_quietly;
 use crate::telling::{Telling, is_step_told};
-use command_shell::{OutsideCall, Session};
-use debug_counts::StepCounts;
+use command_shell::{Machine, OutsideCall, Session};
+use debug_tables::counts::StepCounts;
 use debug_tables::{StepModes, WatchHit, WatchedWord, first_change};
-use debugger::swi_dispatch::Machine;
 use profile::memory_map::ADDRESS_LIMIT;
 use profile::{Stop, WriteFault};
 

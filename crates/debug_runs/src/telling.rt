@@ -3,7 +3,7 @@
 ghost use Rattle.std.specs.Io.KnownBytes.{Appends};
 ghost use Rattle.std.specs.Prelude.{◌≡◌, ◌<◌, ◌++◌, [], List, Some, IfOk, OnOk};
 ghost use Rattle.command_shell.specs.Session.{script_state};
-ghost use Rattle.debugger.specs.swi_dispatch_guest.specs.Parts.{state_of};
+ghost use Rattle.swi_dispatch_guest.specs.Parts.{state_of};
 ghost use Rattle.trace_text.specs.Start.{known_in};
 ghost use Rattle.trace_text.specs.Step.{known_outside};
 ghost use Rattle.image_loader.specs.Entries.{Entry};
@@ -15,9 +15,8 @@ ghost use Rattle.view_items.specs.TextSink.{sink_text_of};
 use crate::context::StepContext;
 use crate::labelling::push_label_line;
 use crate::stub_lines::push_stub_line;
-use command_shell::{OutsideCall, Session};
+use command_shell::{Machine, OutsideCall, Session};
 use debug_tables::Stub;
-use debugger::swi_dispatch::Machine;
 use image_loader::Images;
 use itoa::Buffer;
 use profile::{Sink, WriteFault, push_all, push_parts};
@@ -38,7 +37,7 @@ pub(crate) struct Telling {
 
 impl Telling {
     ghost use Rattle.command_shell.specs.Calls.{first_step, step_made};
-    ghost use Rattle.debugger.specs.swi_dispatch_guest.specs.Step.{machine_step};
+    ghost use Rattle.swi_dispatch_guest.specs.Step.{machine_step};
     ghost use Rattle.trace_text.specs.Step.{step_text};
     ghost use Rattle.debug_runs.specs.Calls.{outside_text};
     ghost use Rattle.debug_runs.specs.Runs.{next_step, text_of_next};

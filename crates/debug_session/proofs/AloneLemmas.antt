@@ -6,11 +6,8 @@ use Rattle.debug_lines.specs.Expectations.{text_behind}
 use Rattle.std.specs.Option.{option_or}
 use Rattle.debug_labels.specs.Lines.{line_with_numbers}
 use Rattle.debug_labels.specs.Words.{Naming}
-use Rattle.command_shell_lines.specs.Requests.{Request, Nothing, Hex, Asm, Boot, Run, Regs, Set, Poke, Call, Load, Step}
-use Rattle.command_shell_lines.specs.Requests.{Break, Unbreak, Mem, Code, Heap, Areas, Modules, Flex, Unknown}
-use Rattle.command_shell_lines.specs.Requests.{opens_block, request_of}
-use Rattle.debug_lines.specs.DebugRequests.{DebugRequest, Script, Stepping, Mode, Source, Remark, View, SetPc, SetPsr, Put, Forget, Counts, Reset, Quit, Expect, Repeat, NotKnown}
-use Rattle.debug_lines.specs.DebugRequests.{debug_opens_block, is_known, is_repeatable, is_script_request, own_request, own_request_by, repeated_at, repeated_behind, repeated_if, repeated_line, simple_request}
+use Rattle.command_shell_lines.specs.Requests.{Request, Nothing, Hex, Asm, Boot, Run, Regs, Set, Poke, Call, Load, Step, Break, Unbreak, Mem, Code, Heap, Areas, Modules, Flex, Unknown, opens_block, request_of}
+use Rattle.debug_lines.specs.DebugRequests.{DebugRequest, Script, Stepping, Mode, Remark, View, SetPc, SetPsr, Put, Forget, Counts, Reset, Quit, Expect, Repeat, NotKnown, debug_opens_block, is_known, is_repeatable, is_script_request, own_request, own_request_by, repeated_at, repeated_behind, repeated_if, repeated_line, simple_request}
 use Rattle.debug_lines.specs.Repeats.{repeated_text}
 use Rattle.debug_lines.specs.SteppingRequests.{SteppingRequest}
 use Rattle.debug_lines.specs.Tidy.{tidied_line}
@@ -64,7 +61,6 @@ request_alone : (c : DebugSetting) (d : DebugState) (number : ℕ) (words : List
 request_alone c d number words (Script request) block other alone = script_alone c d number request block other alone
 request_alone c d number words (Stepping is_traced request) block other alone = refl
 request_alone c d number words (Mode request) block other alone = refl
-request_alone c d number words (Source language name origin) block other alone = absurd (cc)
 request_alone c d number words Remark block other alone = refl
 request_alone c d number words (View shown) block other alone = refl
 request_alone c d number words (SetPc address) block other alone = refl

@@ -1,3 +1,4 @@
+pub use Rattle.run_meter.proofs.SliceLemmas
 pub mod AloneLemmas
 pub mod AsBeforeLemmas
 pub mod JoinLemmas
@@ -5,7 +6,6 @@ pub mod LineLemmas
 pub mod NamingLemmas
 pub mod OwnLemmas
 pub mod RepeatLemmas
-pub mod SourceLineLemmas
 pub mod SteppingLemmas
 pub mod TakenLemmas
 pub mod UnreadLemmas

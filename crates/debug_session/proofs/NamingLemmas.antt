@@ -5,7 +5,7 @@ use Rattle.std.proofs.lemmas.Bool.{not-true}
 use Rattle.debug_labels.specs.Lines.{line_with_numbers}
 use Rattle.debug_labels.specs.Words.{Naming}
 use Rattle.command_shell_lines.specs.Requests.{opens_block}
-use Rattle.debug_lines.specs.DebugRequests.{DebugRequest, Script, Stepping, Mode, Source, Remark, View, SetPc, SetPsr, Put, Forget, Counts, Reset, Quit, Expect, Repeat, NotKnown, debug_opens_block, is_known, is_repeatable, own_request, own_request_by, repeated_line, simple_request}
+use Rattle.debug_lines.specs.DebugRequests.{DebugRequest, Script, Stepping, Mode, Remark, View, SetPc, SetPsr, Put, Forget, Counts, Reset, Quit, Expect, Repeat, NotKnown, debug_opens_block, is_known, is_repeatable, own_request, own_request_by, repeated_line, simple_request}
 use Rattle.debug_lines.specs.Repeats.{repeated_text}
 use Rattle.debug_session.specs.Naming.{if_repeatable, meant_request, repeated_with_places, unless_alone}
 
@@ -14,7 +14,6 @@ pub repeatable_alone : (r : DebugRequest) → is_repeatable r ≡ true → debug
 repeatable_alone (Script request) may = not-true (opens_block request) may
 repeatable_alone (Stepping is_traced request) may = refl
 repeatable_alone (Mode request) may = refl
-repeatable_alone (Source language name origin) may = absurd (cc)
 repeatable_alone (Put name address) may = refl
 repeatable_alone Remark may = refl
 repeatable_alone (View shown) may = refl
@@ -33,7 +32,6 @@ pub unknown_alone : (r : DebugRequest) → is_known r ≡ false → debug_opens_
 unknown_alone (Script request) none = absurd (cc)
 unknown_alone (Stepping is_traced request) none = refl
 unknown_alone (Mode request) none = refl
-unknown_alone (Source language name origin) none = absurd (cc)
 unknown_alone (Put name address) none = refl
 unknown_alone Remark none = refl
 unknown_alone (View shown) none = refl

@@ -1,7 +1,7 @@
 -- A script is answered by a debugging session as a script is, byte for byte; and looking and
 -- expecting change nothing.
 use Rattle.std.specs.Prelude.{◌≡◌, ◌≤◌, ℕ, zero, suc, ◌+◌, ◌&&◌, Bool, true, false, List, [], ◌∷◌, length, None, if◌then◌else◌}
-use Rattle.command_shell.specs.Script.{lines_told}
+use Rattle.run_meter.specs.Script.{lines_told}
 use Rattle.command_shell_lines.specs.Blocks.{lines_after}
 use Rattle.command_shell_lines.specs.Requests.{opens_block, request_of}
 use Rattle.debug_lines.specs.DebugRequests.{DebugRequest, Expect, View, ViewRequest, is_script_request}
@@ -9,7 +9,7 @@ use Rattle.debug_lines.specs.Expectations.{ExpectRequest}
 use Rattle.debug_modes.specs.Modes.{takes_over}
 use Rattle.debug_session.specs.DebugScript.{debug_lines_told, simple_request_told, takes_steps}
 use Rattle.debug_session.specs.DebugState.{DebugState}
-use Rattle.debug_reports.specs.declared.reports.ReportForm.TheVariants.{Answers}
+use Rattle.debug_checks.specs.declared.reports.reports.ReportForm.TheVariants.{Answers}
 use Rattle.debug_session.specs.declared.session.DebugSetting.{DebugSetting}
 
 -- Whether at most so many lines, and blocks between them, are those of a script; and of these, how

@@ -2,30 +2,23 @@
 -- line of a script is answered as in a script, but that each line may take the whole budget.
 use Rattle.std.specs.Prelude.{ℕ, zero, suc, ◌+◌, ◌-◌, ◌&&◌, ◌||◌, Bool, true, false, not, List, [], ◌∷◌, ◌++◌, length, codes, Option, Some, None, Result, Ok, Err, is_some, if◌then◌else◌}
 use Rattle.std.specs.Str.Lines.{lines}
-use Rattle.image_loader.specs.Entries.{Entry, bytes_of_image, refusal_for, without_entry}
+use Rattle.image_loader.specs.Entries.{Entry, bytes_of_image, without_entry}
 use Rattle.byte_writes.specs.Put.{script_after_put}
 use Rattle.profile.specs.Digits.{hex_number}
 use Rattle.profile.specs.FaultNames.{fault_name}
 use Rattle.profile.specs.declared.fault.Fault.{Fault}
-use Rattle.command_shell.specs.Answers.{refused_text, unknown_text}
-use Rattle.command_shell.specs.Memory.{script_at, script_started_anew, script_with_budget, script_with_status}
-use Rattle.command_shell.specs.Script.{request_told}
-use Rattle.command_shell.specs.State.{Answered, ScriptState}
+use Rattle.run_meter.specs.Answers.{refused_text, unknown_text}
+use Rattle.run_meter.specs.Memory.{script_at, script_started_anew, script_with_budget, script_with_status}
+use Rattle.run_meter.specs.Script.{request_told}
+use Rattle.run_meter.specs.State.{Answered, ScriptState}
 use Rattle.command_shell_lines.specs.Blocks.{block_lines, lines_after, lines_taken}
-use Rattle.command_shell_lines.specs.Requests.{Request, Nothing, Hex, Asm, Run, Call, Load, Step, opens_block}
+use Rattle.command_shell_lines.specs.Requests.{Request, Nothing, Hex, Asm, Run, Call, Load, Step, opens_block, request_of}
 use Rattle.debug_checks.specs.Checks.{Seen, check_told, status_after_pattern}
 use Rattle.debug_checks.specs.Endings.{ending_of, output_of}
-use Rattle.debug_lines.specs.DebugRequests.{DebugRequest, Script, Stepping, Mode, Source, Remark, SetPc, SetPsr, Put, Forget, Counts, Reset, Quit, Expect, Repeat, NotKnown}
-use Rattle.debug_lines.specs.DebugRequests.{debug_opens_block, debug_request, is_script_request}
-use Rattle.debug_lines.specs.DebugRequests.{ViewRequest, View, Words, Where, Banks, Stack, Frames, Labels, Help}
-use Rattle.source_conversion.specs.Conversion.{SourceConversion, conversion_of_text, is_unrefused, refusals_text}
-use Rattle.source_conversion.specs.Naming.{text_from_lines, named_text}
-use Rattle.debugger.specs.swi_dispatch_guest.specs.MachineState.{MachineState}
-use Rattle.command_shell_lines.specs.Requests.{request_of}
+use Rattle.debug_lines.specs.DebugRequests.{DebugRequest, Script, Stepping, Mode, Remark, SetPc, SetPsr, Put, Forget, Counts, Reset, Quit, Expect, Repeat, NotKnown, debug_opens_block, debug_request, is_script_request, ViewRequest, View, Words, Where, Banks, Stack, Frames, Labels, Help}
+use Rattle.run_meter.specs.MachineState.{MachineState}
 use Rattle.debug_lines.specs.ModeRequests.{ModeRequest}
-use Rattle.debug_lines.specs.SourceLanguages.{is_basic}
 use Rattle.debug_lines.specs.SteppingRequests.{SteppingRequest, stepping_in}
-use Rattle.debug_lines.specs.declared.requests.SourceLanguage.{SourceLanguage}
 use Rattle.debug_modes.specs.Changes.{ModeTold, mode_told}
 use Rattle.debug_modes.specs.Counting.{counts_text}
 use Rattle.debug_modes.specs.Modes.{takes_over}
@@ -36,13 +29,13 @@ use Rattle.debug_labels.specs.Views.{labels_text}
 use Rattle.debug_places.specs.Frames.{frames_text}
 use Rattle.debug_places.specs.Places.{naming_on, where_text}
 use Rattle.debug_places.specs.Stack.{stack_words_text}
-use Rattle.debug_views.specs.Banks.{banks_text}
-use Rattle.debug_views.specs.Words.{memory_words_text}
+use Rattle.debug_checks.specs.views.Banks.{banks_text}
+use Rattle.debug_checks.specs.views.Words.{memory_words_text}
 use Rattle.debug_session.specs.DebugState.{DebugAnswered, DebugState, debug_answer, debug_start_state, then_debugged}
 use Rattle.debug_session.specs.Naming.{labels_with_block, meant_request, naming_of, repeated_now}
 use Rattle.debug_session.specs.declared.help.TheConstants.{HELP}
 use Rattle.debug_session.specs.declared.session.DebugSetting.{DebugSetting}
-use Rattle.debug_reports.specs.Reports.{answer_in, fail_text, pass_text, report_of_refusal, summary_text, with_fail, with_pass, with_refusal}
+use Rattle.debug_checks.specs.reports.Reports.{answer_in, fail_text, pass_text, report_of_refusal, summary_text, with_fail, with_pass, with_refusal}
 
 -- LINES OF A SCRIPT
 
@@ -107,35 +100,6 @@ abbrev pub plain_line_told : DebugSetting → DebugState → ℕ → Request →
 plain_line_told c d number request block =
     script_line_told_by c d number request
     (request_told (script_with_budget d.script c.budget) number request block) block
-
--- BLOCKS OF OLD SOURCES
-
--- `asm counter: line 12: LDRH: not understood` for each line that is refused
-abbrev pub refused_source_text : List ℕ → SourceConversion → List ℕ
-refused_source_text name s = refusals_text ((codes "asm " ++ name) ∷ []) (codes ": line ") s
-
-abbrev pub refused_source_told : DebugSetting → DebugState → ℕ → List ℕ → DebugAnswered
-refused_source_told c d number text = told_or_refused c d number true (record d { answer = text }) text
-
--- the program that a source is, as a block ASM of its lines; its labels are the source's own
-abbrev pub program_told : DebugSetting → DebugState → ℕ → List ℕ → ℕ → SourceConversion → DebugAnswered
-program_told c d number name origin s = script_line_told_by c d number (Asm name origin)
-    (request_told (script_with_budget d.script c.budget) number (Asm name origin)
-    (block_lines (lines s.body))) (block_lines (lines (named_text s)))
-
-abbrev pub is_name_refused : List Entry → List ℕ → Bool
-is_name_refused images name = is_some (refusal_for images name 0)
-
--- An image that isn't let in is refused as one of ASM is, and else all lines that are refused are told.
-abbrev pub conversion_told : DebugSetting → DebugState → ℕ → List ℕ → ℕ → SourceConversion → DebugAnswered
-conversion_told c d number name origin s = if is_unrefused s || is_name_refused d.script.images name
-    then program_told c d number name origin s
-    else refused_source_told c d number (refused_source_text name s)
-
-abbrev pub source_line_told : DebugSetting → DebugState → ℕ → SourceLanguage → List ℕ → ℕ → List (List ℕ)
-    → DebugAnswered
-source_line_told c d number language name origin block = conversion_told c d number name origin
-    (conversion_of_text (is_basic language) (text_from_lines block) origin)
 
 -- LINES THAT TAKE STEPS IN MODES
 
@@ -265,8 +229,6 @@ simple_request_told c d number words (Script request) block = script_line_told c
 simple_request_told c d number words (Stepping is_traced request) block =
     stepping_line_told c d is_traced request
 simple_request_told c d number words (Mode request) block = mode_line_told c d request
-simple_request_told c d number words (Source language name origin) block =
-    source_line_told c d number language name origin block
 simple_request_told c d number words Remark block = debug_answer d []
 simple_request_told c d number words (View shown) block = view_told c d (view_text d.labels d.script.machine shown)
 simple_request_told c d number words (SetPc address) block = machine_change_told d (script_at d.script address)

@@ -5,7 +5,7 @@ use Rattle.std.specs.Option.{option_or}
 use Rattle.image_loader.specs.Entries.{Entry, bytes_of_image}
 use Rattle.assembler.specs.Passes.{labels_of_lines}
 use Rattle.assembler.specs.declared.error.AsmError.{AsmError}
-use Rattle.debug_labels.specs.assembler_names.specs.Labels.{Entries}
+use Rattle.assembler_names.specs.Labels.{Entries}
 use Rattle.command_shell_lines.specs.Requests.{Request, Asm}
 use Rattle.debug_labels.specs.Labels.{ImageLabels, labels_of_image}
 use Rattle.debug_labels.specs.Lines.{line_with_numbers}

@@ -1,13 +1,11 @@
 //! One line of a debugging script, answered.
 
 ghost use Rattle.std.specs.Prelude.{◌≡◌, ◌+◌, true, false, List, Some, option_map, IfErr, IfOk, IfNone, IfSome, OnOk};
-ghost use Rattle.command_shell.specs.Error.{IsLineError};
+ghost use Rattle.run_meter.specs.Error.{IsLineError};
 ghost use Rattle.command_shell_lines.specs.Blocks.{block_lines, lines_after, lines_taken};
 
 use crate::session::DebugSession;
-use command_shell::RunError;
 use command_shell_lines::command_of;
-use command_shell_lines::text_lines::Lines;
 use debug_lines::{
     DebugCommand, RepeatedLine, is_known_line, is_repeatable_line, is_script_command,
     repeated_line, repeated_text, simple_command, tidied,
@@ -15,7 +13,9 @@ use debug_lines::{
 use debug_places::names_on;
 use image_loader::Images;
 use profile::Sink;
+use run_meter::RunError;
 use std::alloc::AllocError;
+use text_lines::Lines;
 
 impl DebugSession {
     ghost use Rattle.image_loader.specs.Entries.{Entry};
@@ -251,9 +251,6 @@ impl DebugSession {
                 self.stepping_line(images, sink, is_traced, &command)
             }
             DebugCommand::Mode(command) => self.mode_line(sink, &command),
-            DebugCommand::Source(language, name, origin) => {
-                self.source_line(images, sink, language, name, origin, script)
-            }
             DebugCommand::Remark => Ok(()),
             DebugCommand::View(view) => self.look(sink, view),
             DebugCommand::SetPc(address) => {

@@ -9,7 +9,6 @@ pub const HELP: &[u8] = b"lines of a script:
   SET Rn v, POKE a v
 lines of a debugging script:
   ; text, # text                             a comment, a heading
-  OBJASM name origin .. END, BASIC .. END    an image from an old source
   WORDS a n, STACK n, BANKS, WHERE           words, the stack, the banks, the PC
   FRAMES, LABELS                             open calls of module code; labels of images
   SET PC a, SET PSR Nz SVC                   letters left out stay

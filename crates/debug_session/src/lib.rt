@@ -9,13 +9,11 @@ mod looking;
 mod own_lines;
 mod script_lines;
 mod session;
-mod source_blocks;
 mod stepping_lines;
 mod typing;
 
-pub use debug_reports;
-pub use debug_reports::{CheckTally, ReportForm};
-pub use run_meter;
+pub use byte_writes::put_bytes;
+pub use debug_checks::reports::{CheckTally, ReportForm};
 pub use run_meter::RunMeter;
 pub use session::{DebugSession, DebugSetting};
 pub use typing::{DebugTyping, TypedPiece};

@@ -2,13 +2,13 @@
 //! tally; and how it reads and answers a line.
 
 ghost use Rattle.std.specs.Prelude.{◌≡◌, List, IfOk};
-ghost use Rattle.debugger.specs.swi_dispatch_guest.specs.Parts.{state_of};
+ghost use Rattle.run_meter.specs.Parts.{state_of};
 
 use crate::session::DebugSession;
+use debug_checks::reports::CheckTally;
 use debug_lines::is_known_line;
 use debug_places::names_on;
-use debug_reports::CheckTally;
-use debugger::swi_dispatch::Machine;
+use run_meter::Machine;
 use std::alloc::{AllocError, Global};
 
 impl DebugSession {

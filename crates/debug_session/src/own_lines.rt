@@ -3,7 +3,7 @@
 ghost use Rattle.std.specs.Prelude.{◌≡◌, ◌%◌, ◌<◌, ◌^◌, is_some, true, List, IfOk, IfErr, OnOk, OnErr};
 ghost use Rattle.std.specs.Option.{option_map};
 ghost use Rattle.image_loader.specs.Entries.{bytes_of_image};
-ghost use Rattle.command_shell.specs.Error.{IsLineError};
+ghost use Rattle.run_meter.specs.Error.{IsLineError};
 ghost use Rattle.debug_checks.specs.Reasons.{reason_text};
 ghost use Rattle.debug_session.specs.DebugScript.{forget_text, put_text};
 ghost use Rattle.profile.specs.Output.{Writes};
@@ -11,29 +11,30 @@ ghost use Rattle.profile.specs.Output.{Writes};
 use crate::help::HELP;
 use crate::session::DebugSession;
 use byte_writes::put_bytes;
-use command_shell::{RunError, tell_unknown};
 use command_shell_lines::Origin;
-use debug_checks::{Mismatch, SeenMachine, check, push_reason, status_with};
+use debug_checks::reports::{push_answer, push_fail, push_pass, push_refusal};
+use debug_checks::{
+    Mismatch, SeenMachine, check, push_reason, show_banks, show_words, status_with,
+};
 use debug_lines::{DebugView, Expectation, StatusPattern};
 use debug_modes::refused_line;
 use debug_places::{names_on, show_frames, show_stack, show_where};
-use debug_reports::{push_answer, push_fail, push_pass, push_refusal};
-use debug_views::{show_banks, show_words};
 use image_loader::Images;
 use profile::{HexText, Sink, WriteFault, push_all};
+use run_meter::{RunError, tell_unknown};
 use std::alloc::{AllocError, Global};
 use view_items::TextSink;
 
 impl DebugSession {
     ghost use Rattle.image_loader.specs.Entries.{Entry};
-    ghost use Rattle.command_shell.specs.Memory.{script_at, script_started_anew, script_with_status};
+    ghost use Rattle.run_meter.specs.Memory.{script_at, script_started_anew, script_with_status};
     ghost use Rattle.debug_checks.specs.Checks.{check_told, status_after_pattern};
     ghost use Rattle.debug_lines.specs.Expectations.{expect_request_of};
     ghost use Rattle.debug_lines.specs.DebugRequests.{view_request_of};
     ghost use Rattle.debug_session.specs.DebugScript.{checked_told, forget_told, machine_change_told, put_told, reset_told, seen_of, unknown_told, view_text, view_told};
     ghost use Rattle.debug_session.specs.DebugState.{IsDebugged};
     ghost use Rattle.debug_session.specs.Session.{debug_state};
-    ghost use Rattle.debugger.specs.swi_dispatch_guest.specs.Parts.{state_of};
+    ghost use Rattle.run_meter.specs.Parts.{state_of};
 
     /// Writes what a line shows that only looks.
     fn show_view<W: Sink>(&self, sink: &mut W, view: DebugView) -> Result<(), WriteFault>

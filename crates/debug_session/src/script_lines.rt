@@ -2,8 +2,8 @@
 //! answered is kept for the lines that expect something of it.
 
 ghost use Rattle.std.specs.Prelude.{◌≡◌, ◌+◌, ◌-◌, ◌&&◌, ◌||◌, not, false, true, List, Some, [], IfOk, IfErr, OnOk, OnErr, if◌then◌else◌};
-ghost use Rattle.command_shell.specs.Error.{IsLineError};
-ghost use Rattle.command_shell.specs.Script.{request_told};
+ghost use Rattle.run_meter.specs.Error.{IsLineError};
+ghost use Rattle.run_meter.specs.Script.{request_told};
 ghost use Rattle.command_shell_lines.specs.Blocks.{block_lines, lines_after, lines_taken};
 ghost use Rattle.debug_checks.specs.Endings.{ending_of, output_of};
 ghost use Rattle.command_shell_lines.specs.Requests.{opens_block, request_of_command};
@@ -13,22 +13,21 @@ ghost use Rattle.debug_session.specs.Naming.{labels_with_block, labels_with_imag
 
 use crate::session::DebugSession;
 use assembler::labels_of_lines;
-use command_shell::RunError;
-use command_shell_lines::text_lines::Lines;
 use command_shell_lines::{Origin, ScriptCommand, skip_block};
 use debug_checks::answer_parts;
-use debug_reports::{push_answer, push_refusal};
+use debug_checks::reports::{push_answer, push_refusal};
 use image_loader::Images;
 use profile::{Sink, WriteFault};
-use run_meter::answer_metered;
+use run_meter::{RunError, answer_metered};
 use std::alloc::AllocError;
 use std::mem::replace;
+use text_lines::Lines;
 use view_items::TextSink;
 
 impl DebugSession {
-    ghost use Rattle.command_shell.specs.Memory.{script_with_budget};
-    ghost use Rattle.command_shell.specs.Session.{script_state};
-    ghost use Rattle.command_shell.specs.State.{IsAnswered};
+    ghost use Rattle.run_meter.specs.Memory.{script_with_budget};
+    ghost use Rattle.run_meter.specs.Session.{script_state};
+    ghost use Rattle.run_meter.specs.State.{IsAnswered};
     ghost use Rattle.image_loader.specs.Entries.{Entry};
     ghost use Rattle.debug_session.specs.DebugScript.{plain_line_told, script_line_told_by, told_or_refused};
     ghost use Rattle.debug_session.specs.DebugState.{IsDebugged};
@@ -95,7 +94,7 @@ impl DebugSession {
 
     // The same of a line at that number; of one that opens a block, `named` are the lines from which
     // its labels are taken.
-    pub(crate) fn named_line<W: Sink>(
+    fn named_line<W: Sink>(
         &mut self,
         images: &mut Images,
         sink: &mut W,
@@ -254,7 +253,7 @@ impl DebugSession {
     }
 
     // Writes an answer, or that of a block that is refused.
-    pub(crate) fn tell<W: Sink>(
+    fn tell<W: Sink>(
         &mut self,
         sink: &mut W,
         number: usize,

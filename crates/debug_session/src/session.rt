@@ -1,19 +1,18 @@
 //! What a debugging script works on, and how its lines are answered, one after another.
 
 ghost use Rattle.std.specs.Prelude.{◌≡◌, ◌+◌, false, List, [], IfOk, IfErr, OnOk, length};
-ghost use Rattle.command_shell.specs.Error.{IsLineError};
+ghost use Rattle.run_meter.specs.Error.{IsLineError};
 ghost use Rattle.profile.specs.Output.{Writes};
 
-use command_line::stop_status;
-use command_shell::{RunError, Session};
-use command_shell_lines::text_lines::Lines;
+use debug_checks::reports::{CheckTally, ReportForm, push_summary};
 use debug_labels::LabelTable;
 use debug_modes::DebugModes;
-use debug_reports::{CheckTally, ReportForm, push_summary};
 use image_loader::Images;
 use profile::{Config, Sink, WriteFault};
-use run_meter::RunMeter;
+use rosm_settings::command_line::stop_status;
+use run_meter::{RunError, RunMeter, Session};
 use std::alloc::{AllocError, Global};
+use text_lines::Lines;
 
 /// What a debugging script is answered on.
 #[derive(Clone, Copy, Debug)]
@@ -47,11 +46,11 @@ pub struct DebugSession {
 }
 
 impl DebugSession {
-    ghost use Rattle.command_shell.specs.Memory.{script_with_budget};
+    ghost use Rattle.run_meter.specs.Memory.{script_with_budget};
     ghost use Rattle.image_loader.specs.Entries.{Entry};
     ghost use Rattle.debug_session.specs.DebugScript.{debug_lines_told};
     ghost use Rattle.debug_session.specs.DebugState.{IsDebugged, debug_start_state};
-    ghost use Rattle.debug_reports.specs.Reports.{summary_text};
+    ghost use Rattle.debug_checks.specs.reports.Reports.{summary_text};
     ghost use Rattle.debug_session.specs.ExitStatus.{debug_status};
     ghost use Rattle.debug_session.specs.Session.{debug_state};
 

@@ -8,12 +8,12 @@ ghost use Rattle.debug_lines.specs.WholeDebugRequests.{AreWholeDebugRequests};
 ghost use Rattle.debug_session.specs.DebugState.{IsDebugTypingError};
 
 use crate::session::{DebugSession, DebugSetting};
-use command_shell::RunError;
-use command_shell_lines::text_lines::{Lines, cut_line};
 use debug_lines::{missing_ends, read_requests};
 use image_loader::Images;
 use profile::Sink;
+use run_meter::RunError;
 use std::alloc::{AllocError, Global};
+use text_lines::{Lines, cut_line};
 
 // The most bytes that may wait for the end of a request, as many as a script may have.
 const MOST_BYTES: usize = 1_048_576;

@@ -15,13 +15,12 @@ use Rattle.arm_decode.specs.Fields.{condition_in}
 use Rattle.arm_decode.specs.declared.action.Action.{Action}
 use Rattle.arm_decode.specs.declared.action.Action.TheVariants as action
 use Rattle.arm_decode.specs.declared.condition.Condition.{Condition}
-use Rattle.debugger.specs.swi_dispatch.specs.arm_step.specs.Step.{acted_if_decoded, executed_if_fetched, or_fault, result_of_action, result_of_step}
-use Rattle.debugger.specs.swi_dispatch.specs.arm_step.specs.Step.{result_of_word}
-use Rattle.debugger.specs.swi_dispatch.specs.arm_step.specs.Transfers.{result_of_transfer}
-use Rattle.debugger.specs.swi_dispatch.specs.arm_step.specs.Blocks.{result_of_block_transfer}
+use Rattle.arm_step.specs.Step.{acted_if_decoded, executed_if_fetched, or_fault, result_of_action, result_of_step, result_of_word}
+use Rattle.arm_step.specs.Transfers.{result_of_transfer}
+use Rattle.arm_step.specs.Blocks.{result_of_block_transfer}
 use Rattle.debug_tables.specs.Stubs.{swi_next, swi_decoded, swi_fetched, swi_in_action, swi_in_turn, swi_in_word, swi_unless_halted}
-use Rattle.debugger.specs.swi_dispatch_guest.specs.MachineState.{stop_of}
-use Rattle.debugger.specs.swi_dispatch_guest.specs.declared.halt.Halt.{Halt}
+use Rattle.command_shell.specs.MachineState.{stop_of}
+use Rattle.command_shell.specs.Halt.{Halt}
 
 none_in_memory : (r : Result (State × Bytes) Fault) → swi_in_turn (or_fault r) ≡ None
 none_in_memory (Ok w) = refl

@@ -2,3 +2,4 @@ pub mod AheadLemmas
 pub mod StubLemmas
 pub mod TextLemmas
 pub mod WatchLemmas
+pub mod CountsLemmas

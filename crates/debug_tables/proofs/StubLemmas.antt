@@ -2,18 +2,16 @@
 use Rattle.std.proofs.lemmas.List.{drop_more}
 use Rattle.std.proofs.Common.{◌≡◌, ℕ, ◌+◌, ◌-◌, ◌<◌, drop, get_or, length, Bool, true, false, List, [], ◌∷◌, Option, Some, None, if◌then◌else◌, refl, sym, ap, ◌∙◌}
 use Rattle.image_loader.specs.Entries.{Entry}
-use Rattle.debugger.specs.swi_dispatch_guest.specs.MachineState.{MachineState, quiet}
+use Rattle.command_shell.specs.MachineState.{MachineState, quiet}
 use Rattle.arm_core.specs.declared.psr.Psr.{Psr}
-use Rattle.debugger.specs.swi_dispatch_guest.specs.Run.{count_after}
-use Rattle.debugger.specs.swi_dispatch_guest.specs.Step.{machine_step, result_of_instruction, without_x}
-use Rattle.debugger.specs.swi_dispatch_guest.specs.Writes.{machine_with_register}
-use Rattle.debugger.specs.swi_dispatch_guest.specs.declared.halt.Halt.{Halt}
+use Rattle.command_shell.specs.Run.{count_after}
+use Rattle.command_shell.specs.Step.{machine_step, result_of_instruction, without_x}
+use Rattle.command_shell.specs.Writes.{machine_with_register}
+use Rattle.command_shell.specs.Halt.{Halt}
 use Rattle.command_shell.specs.Calls.{step_made}
 use Rattle.command_shell.specs.Memory.{script_with_budget, script_with_machine, script_with_register}
 use Rattle.command_shell.specs.State.{ScriptState}
-use Rattle.debug_tables.specs.Stubs.{machine_after_stub, machine_after_return, machine_with_registers, next_address, script_after_stub, script_after_return}
-use Rattle.debug_tables.specs.Stubs.{script_with_registers, step_or_stub}
-use Rattle.debug_tables.specs.Stubs.{is_known_swi, stub_ahead, stub_numbered, stub_of_swi, stubbed_step, swi_ahead, swi_in_turn, swi_unless_halted}
+use Rattle.debug_tables.specs.Stubs.{machine_after_stub, machine_after_return, machine_with_registers, next_address, script_after_stub, script_after_return, script_with_registers, step_or_stub, is_known_swi, stub_ahead, stub_numbered, stub_of_swi, stubbed_step, swi_ahead, swi_in_turn, swi_unless_halted}
 use Rattle.debug_tables.specs.declared.stubs.Stub.{Stub}
 use Rattle.debug_tables.specs.declared.stubs.StubRegister.{StubRegister}
 

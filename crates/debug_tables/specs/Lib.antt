@@ -3,3 +3,4 @@ pub mod Modes
 pub mod StubNames
 pub mod Stubs
 pub mod WordWatches
+pub mod counts

@@ -1,7 +1,6 @@
 -- Stubs: what a debugger lets a SWI do that the machine doesn't have: registers are set, V is
 -- clear, and the guest goes on as after a real call.
-use Rattle.std.specs.Prelude.{ℕ, Bool, false, ◌+◌, ◌-◌, ◌%◌, ◌^◌, ◌==◌, ◌||◌, nat_le, length, List, [], ◌∷◌, ◌++◌}
-use Rattle.std.specs.Prelude.{Option, Some, None, is_some, Result, Ok, Err, slice_get, if◌then◌else◌}
+use Rattle.std.specs.Prelude.{ℕ, Bool, false, ◌+◌, ◌-◌, ◌%◌, ◌^◌, ◌==◌, ◌||◌, nat_le, length, List, [], ◌∷◌, ◌++◌, Option, Some, None, is_some, Result, Ok, Err, slice_get, if◌then◌else◌}
 use Rattle.std.specs.List.{position, remove}
 use Rattle.profile.specs.SwiNames.{swi_of}
 use Rattle.profile.specs.declared.fault.Fault.{Fault}
@@ -20,13 +19,12 @@ use Rattle.arm_decode.specs.declared.action.Action.{Action}
 use Rattle.arm_decode.specs.declared.action.Action.TheVariants as action
 use Rattle.arm_decode.specs.declared.condition.Condition.{Condition}
 use Rattle.image_loader.specs.Entries.{Entry}
-use Rattle.debugger.specs.swi_dispatch.specs.instances_table.specs.Lookup.{handler_of}
-use Rattle.debugger.specs.swi_dispatch_guest.specs.MachineState.{MachineState, StepOutcome, quiet}
-use Rattle.debugger.specs.swi_dispatch_guest.specs.Step.{machine_step, result_of_instruction, without_x}
-use Rattle.debugger.specs.swi_dispatch_guest.specs.Writes.{machine_at, machine_with_bank_register, machine_with_register, machine_with_status}
-use Rattle.debugger.specs.swi_dispatch_guest.specs.declared.halt.Halt.{Halt}
-use Rattle.command_shell.specs.Memory.{script_at, script_with_bank_register, script_with_budget, script_with_register}
-use Rattle.command_shell.specs.Memory.{script_with_status}
+use Rattle.instances_table.specs.Lookup.{handler_of}
+use Rattle.command_shell.specs.MachineState.{MachineState, StepOutcome, quiet}
+use Rattle.command_shell.specs.Step.{machine_step, result_of_instruction, without_x}
+use Rattle.command_shell.specs.Writes.{machine_at, machine_with_bank_register, machine_with_register, machine_with_status}
+use Rattle.command_shell.specs.Halt.{Halt}
+use Rattle.command_shell.specs.Memory.{script_at, script_with_bank_register, script_with_budget, script_with_register, script_with_status}
 use Rattle.command_shell.specs.State.{ScriptState}
 use Rattle.debug_tables.specs.declared.stubs.Stub.{Stub}
 use Rattle.debug_tables.specs.declared.stubs.StubError.{StubError}

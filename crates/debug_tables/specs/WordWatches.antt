@@ -1,12 +1,11 @@
 -- WordWatches: words of memory, where a change of one ends a run.
-use Rattle.std.specs.Prelude.{ℕ, Bool, true, false, ◌==◌, nat_le, length, List, [], ◌∷◌, ◌++◌, map, codes}
-use Rattle.std.specs.Prelude.{Option, Some, None, Result, Ok, Err, if◌then◌else◌}
+use Rattle.std.specs.Prelude.{ℕ, Bool, true, false, ◌==◌, nat_le, length, List, [], ◌∷◌, ◌++◌, map, codes, Option, Some, None, Result, Ok, Err, if◌then◌else◌}
 use Rattle.std.specs.List.{position, remove}
 use Rattle.std.specs.Result.{result_ok}
 use Rattle.profile.specs.Digits.{hex_number, hex_word}
 use Rattle.address_map.specs.Bytes.{Bytes, word_loaded}
 use Rattle.debug_labels.specs.Standing.{first_of}
-unfoldable pub use Rattle.debugger.specs.swi_dispatch_guest.specs.Run.{is_among}
+unfoldable pub use Rattle.command_shell.specs.Run.{is_among}
 use Rattle.debug_tables.specs.declared.watches.WordWatchError.{WordWatchError}
 use Rattle.debug_tables.specs.declared.watches.WordWatchError.TheVariants.{WatchTableFull, NoWatch}
 use Rattle.debug_tables.specs.declared.watches.WatchHit.{WatchHit}

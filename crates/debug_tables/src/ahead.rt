@@ -3,13 +3,13 @@
 ghost use Rattle.std.specs.Prelude.{◌≡◌};
 ghost use Rattle.address_map.specs.Memory.{bytes_of};
 ghost use Rattle.debug_tables.specs.Stubs.{is_known_swi, swi_ahead, swi_next, swi_in_action, swi_in_word};
-ghost use Rattle.debugger.specs.swi_dispatch_guest.specs.Parts.{state_of};
+ghost use Rattle.command_shell.specs.Parts.{state_of};
 
 use address_map::AddressMap;
 use arm_core::condition::is_met;
 use arm_core::{Cpu, Psr};
 use arm_decode::{Action, Condition, decode};
-use debugger::swi_dispatch::Machine;
+use command_shell::Machine;
 use profile::SwiName;
 use profile::memory_map::RETURN_GATE;
 

@@ -3,6 +3,7 @@
 #![tactic(auto)]
 
 mod ahead;
+pub mod counts;
 mod modes;
 mod stubbing;
 mod stubs;

@@ -6,12 +6,12 @@ ghost use Rattle.std.specs.List.{remove};
 ghost use Rattle.std.specs.Option.{option_copied};
 ghost use Rattle.profile.specs.Outcome.{Leaves};
 ghost use Rattle.debug_tables.specs.StubNames.{stub_error_name};
-ghost use Rattle.debugger.specs.swi_dispatch_guest.specs.Parts.{state_of};
+ghost use Rattle.command_shell.specs.Parts.{state_of};
 
 use crate::ahead::{is_known_swi, swi_ahead};
 use arrayvec::ArrayVec;
+use command_shell::{Machine, without_x_bit};
 use command_shell_lines::RegisterNumber;
-use debugger::swi_dispatch::{Machine, without_x_bit};
 use std::marker::Model;
 
 /// How many registers a stub can set.

@@ -6,8 +6,7 @@ ghost use Rattle.address_map.specs.Memory.{bytes_of};
 ghost use Rattle.debug_labels.specs.Standing.{first_of};
 ghost use Rattle.profile.specs.Outcome.{Leaves};
 ghost use Rattle.profile.specs.Output.{Writes};
-ghost use Rattle.debug_tables.specs.WordWatches.{change_of_word, hit_unless_same, is_unchanged_word, mapped_word, mapped_word_text, watch_error_name};
-ghost use Rattle.debug_tables.specs.WordWatches.{watch_change_text, was_text, watch_text, watched_text, watched_words};
+ghost use Rattle.debug_tables.specs.WordWatches.{change_of_word, hit_unless_same, is_unchanged_word, mapped_word, mapped_word_text, watch_error_name, watch_change_text, was_text, watch_text, watched_text, watched_words};
 
 use address_map::AddressMap;
 use arrayvec::ArrayVec;
@@ -71,7 +70,7 @@ impl Model for WordWatches {
 }
 
 impl WordWatches {
-    ghost use Rattle.debugger.specs.swi_dispatch_guest.specs.Run.{is_among};
+    ghost use Rattle.command_shell.specs.Run.{is_among};
     ghost use Rattle.debug_tables.specs.WordWatches.{with_word_watch, without_word_watch};
 
     /// No watch.

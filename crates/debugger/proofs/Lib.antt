@@ -3,3 +3,4 @@ pub mod FlexLemmas
 pub mod HeapLemmas
 pub mod MemoryLemmas
 pub mod ModuleLemmas
+pub mod ViewsLemmas

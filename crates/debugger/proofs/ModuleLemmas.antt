@@ -6,8 +6,8 @@ use Rattle.std.proofs.lemmas.List.{drop_more, drop_all}
 use Rattle.std.proofs.lemmas.Option.{slice_get-get_or}
 use Rattle.profile.proofs.OutputLemmas.{AddsAllBut-start, AddsAllBut-more, AddsAllBut-same, Appends-from_all_but}
 use Rattle.address_map.specs.Bytes.{Bytes}
-use Rattle.swi_dispatch.specs.instances_table.specs.Lookup.{told_of_instance, told_of_place, instance_count}
-use Rattle.swi_dispatch.specs.instances_table.specs.Modules.{Instance, Module}
+use Rattle.instances.specs.Lookup.{told_of_instance, told_of_place, instance_count}
+use Rattle.instances.specs.Modules.{Instance, Module}
 use Rattle.debugger.specs.Modules.{one_text, instance_line, instances_text}
 
 pub next_shown : {X : Type 0} (text : X → List ℕ) (xs : List X) (n : ℕ) → n < length xs

@@ -1,8 +1,7 @@
 -- The text of each view, a file for each.
-pub use Rattle.address_map
-pub use Rattle.swi_dispatch.specs.flex_store
-pub use Rattle.swi_dispatch
-pub use Rattle.swi_dispatch.specs.swi_dispatch_guest
+pub use Rattle.swi_dispatch.specs.MachineState
+pub use Rattle.swi_dispatch.specs.Parts
+pub use Rattle.swi_dispatch.specs.Step
 pub mod Areas
 pub mod Code
 pub mod Flex
@@ -10,3 +9,4 @@ pub mod Heap
 pub mod Memory
 pub mod Modules
 pub mod Registers
+pub mod views

@@ -9,13 +9,14 @@ mod heap;
 mod memory;
 mod modules;
 mod registers;
+pub mod views;
 
 pub use areas::show_areas;
 pub use code::show_code;
 pub use flex::show_flex;
 pub use heap::show_blocks;
+pub use instances::{Instances, ModuleInfo};
 pub use memory::{hex_byte, show_memory};
 pub use modules::show_modules;
 pub use registers::{mode_name, push_flags, push_status, show_regs};
-pub use swi_dispatch;
-pub use swi_dispatch::arm_step;
+pub use swi_dispatch::{CodeKind, Frame, FrameKind, Machine, without_x_bit};

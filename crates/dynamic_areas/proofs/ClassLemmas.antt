@@ -7,8 +7,8 @@ use Rattle.address_map.specs.Memory.{bytes_of, class_of}
 use Rattle.address_map.proofs.Anchors.{unanchored}
 use Rattle.address_map.specs.Records.{anchor_among, HasNoAnchor, with_plain_at}
 use Rattle.address_map.specs.declared.map.AddressMap.{AddressMap}
-use Rattle.os_heap.specs.os_heap_lists.specs.Heap.{HeapList}
-use Rattle.os_heap.specs.os_heap_lists.specs.Marks.{spells_any}
+use Rattle.os_heap.specs.lists.Heap.{HeapList}
+use Rattle.os_heap.specs.lists.Marks.{spells_any}
 use Rattle.os_heap.specs.Store.{store_of, AreClasses, IsSound, IsClearOfHeaps}
 use Rattle.os_heap.proofs.Frame.{clear_unowned}
 

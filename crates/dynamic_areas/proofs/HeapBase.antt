@@ -7,7 +7,7 @@ use Rattle.address_map.specs.declared.map.AddressMap.{AddressMap}
 use Rattle.address_map.specs.Bytes.{word_loaded, word_at}
 use Rattle.address_map.specs.Items.{size_of}
 use Rattle.address_map.specs.Memory.{is_mapped, byte_at, bytes_of}
-use Rattle.os_heap.specs.os_heap_lists.specs.Heap.{HeapList, IsHeapIn}
+use Rattle.os_heap.specs.lists.Heap.{HeapList, IsHeapIn}
 use Rattle.os_heap.specs.Store.{IsSound, store_of, find_heap}
 use Rattle.os_heap.proofs.RangeTests.{range_end}
 use Rattle.os_heap.proofs.Found.{found_heap, found_start}

@@ -16,8 +16,8 @@ use Rattle.address_map.specs.declared.region.Kind.TheVariants.{Heap}
 use Rattle.address_map.specs.declared.item.Item.{Item}
 use Rattle.address_map.specs.declared.region.Region.{Region}
 use Rattle.address_map.specs.Items.{size_of}
-use Rattle.os_heap.specs.os_heap_lists.specs.Heap.{HeapList}
-use Rattle.os_heap.specs.os_heap_lists.specs.Lists.{Claim, changed_by, claim_in_items, live_total, items_after_release, resized_in_place, round_up_8}
+use Rattle.os_heap.specs.lists.Heap.{HeapList}
+use Rattle.os_heap.specs.lists.Lists.{Claim, changed_by, claim_in_items, live_total, items_after_release, resized_in_place, round_up_8}
 use Rattle.os_heap.specs.Store.{Store, store_of, heap_in, heaps_in, others_in, IsSound, find_heap, guest_count, has_image}
 use Rattle.os_heap.specs.Ranges.{is_heap_region, overgrows, overlaps}
 use Rattle.os_heap.specs.Calls.{with_end, store_after_init, store_after_change, store_after_copy, gave_back, handed_over, has_own_size, store_holding, holds_anchor, store_after_move, own_size, end_changed, store_after_resize, resized_or_moved, total_or_0, unless_image, heaps_with_items}

@@ -5,8 +5,8 @@ use Rattle.std.proofs.lemmas.Bool.{both_ways, eq-eqb, ne_eqb, false_from_ne_true
 use Rattle.address_map.specs.declared.region.Region.{Region}
 use Rattle.address_map.specs.Bytes.{Bytes, in_range}
 use Rattle.address_map.specs.Items.{size_of}
-use Rattle.os_heap.specs.os_heap_lists.specs.Heap.{HeapList, IsHeapIn}
-use Rattle.os_heap.specs.os_heap_lists.proofs.LiveBlocks.{LiveBytes, law_live_bytes}
+use Rattle.os_heap.specs.lists.Heap.{HeapList, IsHeapIn}
+use Rattle.os_heap.proofs.LiveBlocks.{LiveBytes, law_live_bytes}
 use Rattle.os_heap.specs.Store.{Store, IsSound, IsClearOfHeaps, AreClear, ArePlaced, find_heap, is_module_area}
 use Rattle.address_map.proofs.Anchors.{among_none}
 use Rattle.address_map.proofs.InRange.{range_inside}

@@ -10,7 +10,7 @@ use Rattle.address_map.proofs.Anchors.{among_none}
 use Rattle.address_map.specs.Records.{anchor_among}
 use Rattle.address_map.specs.Bytes.{Bytes, in_range, shares_address, AreMapped, AreUnmapped}
 use Rattle.address_map.specs.Items.{size_of}
-use Rattle.os_heap.specs.os_heap_lists.specs.Heap.{HeapList, IsHeapIn}
+use Rattle.os_heap.specs.lists.Heap.{HeapList, IsHeapIn}
 use Rattle.os_heap.specs.Store.{Store, IsSound, IsClearOfHeaps, find_heap, is_module_area}
 use Rattle.os_heap.specs.Ranges.{is_heap_region, is_in_heap, is_obstructed, MayEnd}
 use Rattle.os_heap.specs.Calls.{ending, with_end, MayEndArea, IsAreaEnded}

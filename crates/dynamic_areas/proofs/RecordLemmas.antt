@@ -9,7 +9,7 @@ use Rattle.address_map.specs.Bytes.{Bytes, shares_address}
 use Rattle.address_map.specs.Records.{is_heap_kind, meets_record}
 use Rattle.os_heap.specs.Store.{AreClear, IsClearOfHeaps, heaps_in, others_in}
 use Rattle.os_heap.proofs.RangeTests.{clear_unless, range_high, range_low}
-use Rattle.os_heap.specs.os_heap_lists.specs.Heap.{HeapList}
+use Rattle.os_heap.specs.lists.Heap.{HeapList}
 use Rattle.dynamic_areas.specs.Changing.{AreRangesClear}
 
 pub unmet : (at len other other_len : ℕ) → AreClear at len other other_len → shares_address at len other other_len ≡ false

@@ -11,8 +11,8 @@ use Rattle.address_map.specs.Memory.{is_mapped, byte_at, bytes_of, regions, clas
 use Rattle.address_map.proofs.Anchors.{none_among}
 use Rattle.address_map.specs.Records.{anchor_among, with_plain_at}
 use Rattle.address_map.specs.declared.region.Region.{Region}
-use Rattle.os_heap.specs.os_heap_lists.specs.Heap.{HeapList, IsHeapIn}
-use Rattle.os_heap.specs.os_heap_lists.proofs.HeapWords.{heap_kept}
+use Rattle.os_heap.specs.lists.Heap.{HeapList, IsHeapIn}
+use Rattle.os_heap.proofs.HeapWords.{heap_kept}
 use Rattle.os_heap.specs.Store.{Store, store_of, IsSound, AreHeapsIn, IsClearOfHeaps, AreClear, is_flex_store, is_in_flex_store}
 use Rattle.os_heap.proofs.FlexWords.{AreSameFlex, same_flex}
 use Rattle.os_heap.proofs.Frame.{store_spelled}

@@ -13,7 +13,7 @@ use Rattle.address_map.specs.Classes.{is_anchor, is_flex_header}
 use Rattle.address_map.specs.Records.{anchor_among}
 use Rattle.address_map.specs.declared.class.Class.TheVariants as class
 use Rattle.address_map.specs.Memory.{anchor_of, Mapping, mapping, is_mapped, byte_at, bytes_of, regions, free_pages, class_of, place}
-use Rattle.os_heap.specs.os_heap_lists.specs.Heap.{HeapList}
+use Rattle.os_heap.specs.lists.Heap.{HeapList}
 use Rattle.os_heap.specs.Calls.{store_with_new_heap}
 use Rattle.os_heap.specs.Ranges.{MayBegin}
 use Rattle.os_heap.specs.Store.{Store, store_of, AreClasses, IsSound, AreClear, heaps_in, others_in}

@@ -6,7 +6,7 @@ use Rattle.std.proofs.lemmas.Bool.{cases_Bool, false≢true, false_from_ne_true}
 use Rattle.address_map.proofs.InRange.{range_inside}
 use Rattle.address_map.specs.Bytes.{in_range}
 use Rattle.os_heap.proofs.RangeTests.{range_high, range_low}
-use Rattle.os_heap.specs.os_heap_lists.specs.Heap.{HeapList}
+use Rattle.os_heap.specs.lists.Heap.{HeapList}
 use Rattle.os_heap.specs.Store.{Store, find_heap}
 use Rattle.dynamic_areas.specs.declared.area.Area.{Area}
 use Rattle.dynamic_areas.specs.Areas.{Land, find_area}

@@ -6,7 +6,7 @@ use Rattle.address_map.specs.declared.map.AddressMap.{AddressMap}
 use Rattle.address_map.specs.declared.region.Region.{Region}
 use Rattle.address_map.specs.Bytes.{in_range}
 use Rattle.address_map.specs.Memory.{byte_at, class_of, layout}
-use Rattle.os_heap.specs.os_heap_lists.specs.Heap.{HeapList}
+use Rattle.os_heap.specs.lists.Heap.{HeapList}
 use Rattle.os_heap.specs.Store.{Store, AreClasses, ArePlaced, IsClearOfHeaps, IsSound, store_of}
 use Rattle.os_heap.proofs.Frame.{IsKept, classes_same, clear_kept}
 use Rattle.os_heap.proofs.Stores.{image_kind, placed_either}

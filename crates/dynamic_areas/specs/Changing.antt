@@ -9,7 +9,7 @@ use Rattle.profile.specs.declared.error.ErrorNumber.TheVariants.{AreaUnknown, Ar
 use Rattle.address_map.specs.Items.{size_of}
 use Rattle.address_map.specs.Records.{anchor_among}
 use Rattle.address_map.specs.declared.region.Region.{Region}
-use Rattle.os_heap.specs.os_heap_lists.specs.Heap.{HeapList}
+use Rattle.os_heap.specs.lists.Heap.{HeapList}
 use Rattle.os_heap.specs.Store.{Store, AreClear, IsClearOfHeaps, find_heap}
 use Rattle.os_heap.specs.Calls.{ending}
 use Rattle.os_heap.specs.Ranges.{meets_any}

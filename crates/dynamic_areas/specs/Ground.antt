@@ -10,7 +10,7 @@ use Rattle.address_map.specs.declared.region.Kind.TheVariants.{Rma, SystemPage}
 use Rattle.address_map.specs.declared.region.Region.{Region}
 use Rattle.address_map.specs.Memory.{free_pages}
 use Rattle.address_map.specs.Bytes.{in_range, AreMapped}
-use Rattle.os_heap.specs.os_heap_lists.specs.Heap.{HeapList}
+use Rattle.os_heap.specs.lists.Heap.{HeapList}
 use Rattle.os_heap.specs.Store.{Store, IsSound, find_heap, store_of}
 use Rattle.dynamic_areas.specs.declared.area.Area.{Area}
 use Rattle.dynamic_areas.specs.Areas.{Land, find_area, pages_of}

@@ -1,5 +1,15 @@
 -- What calls on dynamic areas do. Begin with Areas, then Creating and Changing.
-pub use Rattle.profile
+pub use Rattle.address_map.specs.Memory
+pub use Rattle.address_map.specs.declared.map.AddressMap
+pub use Rattle.os_heap.specs.Calls
+pub use Rattle.os_heap.specs.Forgetting
+pub use Rattle.os_heap.specs.Nesting
+pub use Rattle.os_heap.specs.Order
+pub use Rattle.os_heap.specs.Payloads
+pub use Rattle.os_heap.specs.Ranges
+pub use Rattle.os_heap.specs.Room
+pub use Rattle.os_heap.specs.Store
+pub use Rattle.os_heap.specs.declared.payload.Payload
 pub mod Areas
 pub mod Changing
 pub mod Creating

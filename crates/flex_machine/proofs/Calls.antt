@@ -3,27 +3,27 @@ use Rattle.std.proofs.Common.{ℕ, ◌≡◌, ◌+◌, ◌-◌, ◌%◌, ◌≤�
 use Rattle.std.specs.Prelude.{nat_le, if◌then◌else◌}
 use Rattle.std.specs.List.{list_any}
 use Rattle.std.proofs.lemmas.Bool.{and_parts, both_ways, cases_Bool, false_from_ne_true, lt-ltb, not-true, or_parts, or_from, false≢true, true≢false}
-use Rattle.module_world.specs.profile.specs.Outcome.{Gives, bind}
-use Rattle.module_world.specs.profile.specs.declared.error.ErrorNumber.{ErrorNumber}
-use Rattle.module_world.specs.profile.specs.declared.error.ErrorNumber.TheVariants.{FlexAnchorInUse, FlexBadAnchor, FlexHoldsAnchor}
+use Rattle.flex_store.specs.Outcome.{Gives, bind}
+use Rattle.flex_store.specs.ErrorNumber.{ErrorNumber}
+use Rattle.flex_store.specs.ErrorNumber.TheVariants.{FlexAnchorInUse, FlexBadAnchor, FlexHoldsAnchor}
 use Rattle.address_map.specs.Bytes.{in_range, shares_address, word_start}
 use Rattle.address_map.specs.Classes.{is_anchor, is_flex_header}
 use Rattle.address_map.specs.Memory.{byte_at, bytes_of, class_of}
 use Rattle.address_map.specs.declared.map.AddressMap.{AddressMap}
 use Rattle.address_map.specs.declared.region.Region.{Region}
-use Rattle.module_world.specs.os_heap.proofs.Apart.{range_parts}
-use Rattle.module_world.specs.os_heap.proofs.Frame.{layout-others}
-use Rattle.module_world.specs.os_heap.specs.Payloads.{is_other, payload_of}
-use Rattle.module_world.specs.os_heap.specs.Store.{IsSound, Store, is_flex_store, store_of}
-use Rattle.module_world.specs.flex_frame.specs.Keeping.{AreAnchorsFree, is_in_other_record}
-use Rattle.module_world.specs.flex_frame.proofs.Writes.{flex_alone}
+use Rattle.flex_store.proofs.Apart.{range_parts}
+use Rattle.flex_store.proofs.Frame.{layout-others}
+use Rattle.flex_store.specs.Payloads.{is_other, payload_of}
+use Rattle.flex_store.specs.Store.{IsSound, Store, is_flex_store, store_of}
+use Rattle.instances.specs.flex_frame.Keeping.{AreAnchorsFree, is_in_other_record}
+use Rattle.instances.proofs.Writes.{flex_alone}
 use Rattle.flex_store.specs.Blocks.{before, behind_of, Block, contents, cut_of, FlexStore, find_block, has_anchor, block_holding, more_of, new_block, bytes_after_splice, bytes_taken_by_all}
 use Rattle.flex_store.specs.Calls.{flex_after_alloc, end_in, flex_after_extend, flex_if_room, FlexState, header_place_in, is_anchor_place, may_stand, mid_extended, flex_after_release, spliced_at}
 use Rattle.flex_store.specs.Shifts.{following, splice_shifts}
 use Rattle.flex_store.specs.State.{IsFlex, IsFlexAt, flex_in, state_of_flex}
 use Rattle.flex_store.specs.declared.flex.Extent.{Extent}
 use Rattle.flex_store.specs.declared.flex.Flex.{Flex}
-use Rattle.module_world.specs.Sound.{count_beside}
+use Rattle.instances.specs.world.Sound.{count_beside}
 use Rattle.flex_machine.specs.CallLaws.{IsFlexCall, IsLeft}
 use Rattle.flex_machine.specs.Ground.{HasFlex, anchors_in, flex_of, flex_state, headers_in, records_with, spelled_store, store_flexed}
 

@@ -2,9 +2,9 @@
 -- the start.
 use Rattle.std.proofs.Common.{◌≡◌, ◌≤◌, ◌<◌, ℕ, ◌+◌, ◌-◌, ◌&&◌, ◌||◌, ◌==◌, Bool, true, false, List, [], ◌∷◌, Option, Some, None, length, suc, inl, inr, refl, sym, ap, subst, ◌∙◌, arith}
 use Rattle.std.proofs.lemmas.Bool.{and_parts, both_ways, cases_Bool, false_from_ne_true, eqb-true, false≢true, or_left, or_right}
-use Rattle.module_world.specs.profile.specs.Sizes.{Sizes}
+use Rattle.flex_store.specs.Sizes.{Sizes}
 use Rattle.address_map.proofs.Bytes.{is_mapped-layout}
-use Rattle.address_map.specs.Bytes.{AreMapped, Bytes, word_start}
+use Rattle.address_map.specs.Bytes.{AreMapped, Bytes, word_start, in_range}
 use Rattle.address_map.specs.Classes.{is_anchor, is_flex_header}
 use Rattle.address_map.specs.Memory.{byte_at, bytes_of, class_of, is_mapped}
 use Rattle.address_map.specs.declared.class.Class.{Class}
@@ -12,28 +12,27 @@ use Rattle.address_map.specs.declared.map.AddressMap.{AddressMap}
 use Rattle.address_map.specs.declared.region.Kind.{Kind}
 use Rattle.address_map.specs.declared.region.Kind.TheVariants as kind
 use Rattle.address_map.specs.declared.region.Region.{Region}
-use Rattle.module_world.specs.os_heap.proofs.Frame.{layout-others}
-use Rattle.module_world.specs.os_heap.specs.Store.{IsSound, Store, is_flex_store, is_flex_word, is_image, is_in_flex_store, owned_in, store_of}
-use Rattle.module_world.specs.dynamic_areas.specs.Areas.{Land}
-use Rattle.module_world.specs.dynamic_areas.specs.Ground.{AreAreas, AreRangesMapped}
-use Rattle.module_world.specs.dynamic_areas.specs.Start.{start_store}
-use Rattle.module_world.specs.flex_frame.specs.Keeping.{AreAnchorsFree, IsFlexKept, KeepsFlex, beside_images, is_flex_byte, is_in_other_record}
+use Rattle.flex_store.proofs.Frame.{layout-others}
+use Rattle.flex_store.specs.Store.{IsSound, Store, is_flex_store, is_flex_word, is_image, is_in_flex_store, owned_in, store_of}
+use Rattle.instances.specs.Areas.{Land}
+use Rattle.instances.specs.Ground.{AreAreas, AreRangesMapped}
+use Rattle.instances.specs.DynamicAreasStart.{start_store}
+use Rattle.instances.specs.flex_frame.Keeping.{AreAnchorsFree, IsFlexKept, KeepsFlex, beside_images, is_flex_byte, is_in_other_record}
 use Rattle.flex_store.proofs.Staying.{flex_stays}
 use Rattle.flex_store.specs.Staying.{IsExtentThere, StaysFlex}
 use Rattle.flex_store.specs.State.{IsFlex, IsFlexAt, IsNoFlex, IsRecordedStore, blocks_of, flex_in, is_recorded, is_store_record}
 use Rattle.flex_store.specs.declared.flex.Extent.{Extent}
 use Rattle.flex_store.specs.declared.flex.Flex.{Flex}
-use Rattle.module_world.specs.Sound.{count_beside}
+use Rattle.instances.specs.world.Sound.{count_beside}
 use Rattle.flex_machine.specs.Ground.{records_with}
 use Rattle.flex_store.proofs.Keeping.{in_extent}
 use Rattle.flex_store.proofs.Listing.{store_text}
 use Rattle.flex_store.proofs.Texts.{text_kept, text_read}
 use Rattle.flex_store.specs.Blocks.{Block, bytes_taken_by_all}
-use Rattle.address_map.specs.Bytes.{in_range}
-use Rattle.module_world.specs.os_heap.proofs.Anchored.{header_outside}
-use Rattle.module_world.specs.os_heap.proofs.Apart.{block_inside}
-use Rattle.module_world.specs.os_heap.proofs.Found.{found_heap}
-use Rattle.flex_store.specs.os_heap_lists.specs.Heap.{IsHeapIn}
+use Rattle.flex_store.proofs.Anchored.{header_outside}
+use Rattle.flex_store.proofs.Apart.{block_inside}
+use Rattle.flex_store.proofs.Found.{found_heap}
+use Rattle.flex_store.specs.lists.Heap.{IsHeapIn}
 use Rattle.flex_machine.specs.Laws.{BlocksKept, StoreIsApart, FlexKept, FlexStarted, FlexStored, FlexUnmade}
 
 -- The records beside module images: how many there are, and the store's is one of these.

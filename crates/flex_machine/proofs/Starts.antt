@@ -5,18 +5,18 @@ use Rattle.address_map.specs.Bytes.{AreMapped}
 use Rattle.address_map.specs.Classes.{is_anchor}
 use Rattle.address_map.specs.Memory.{Mapping, class_of, free_pages, is_mapped, mapping, regions}
 use Rattle.address_map.specs.declared.map.AddressMap.{AddressMap}
-use Rattle.module_world.specs.os_heap.specs.Store.{IsSound, others_in, store_of}
-use Rattle.module_world.specs.dynamic_areas.specs.Areas.{Land}
-use Rattle.module_world.specs.dynamic_areas.specs.Ground.{AreAreas}
-use Rattle.module_world.specs.flex_frame.specs.Keeping.{AreAnchorsFree}
-use Rattle.module_world.specs.rma.proofs.ImageLemmas.{mapped_more}
+use Rattle.flex_store.specs.Store.{IsSound, others_in, store_of}
+use Rattle.instances.specs.Areas.{Land}
+use Rattle.instances.specs.Ground.{AreAreas}
+use Rattle.instances.specs.flex_frame.Keeping.{AreAnchorsFree}
+use Rattle.instances.proofs.ImageLemmas.{mapped_more}
 use Rattle.flex_store.specs.Calls.{FlexState, flex_record, is_flex_range}
 use Rattle.flex_store.specs.State.{IsFlex, IsFlexAt, state_of_flex}
 use Rattle.flex_store.specs.declared.flex.Extent.{Extent}
 use Rattle.flex_store.specs.declared.flex.Flex.{Flex}
 use Rattle.flex_store.proofs.Starting.{good_range}
-use Rattle.module_world.specs.Sound.{count_beside}
-use Rattle.module_world.specs.rma.specs.os_heap.proofs.Recorded.{others_in-other}
+use Rattle.instances.specs.world.Sound.{count_beside}
+use Rattle.flex_store.proofs.Recorded.{others_in-other}
 use Rattle.flex_machine.proofs.Worlds.{beside_begun}
 use Rattle.flex_machine.proofs.Calls.{flex_is, flex_stays_by, store_spelled}
 use Rattle.flex_machine.specs.Ground.{HasFlex, flex_of, records_with, store_flexed, with_flex_record}

@@ -2,11 +2,11 @@
 use Rattle.std.proofs.Common.{◌≡◌, ℕ, List, [], ◌∷◌, ◌++◌, map, suc, inl, inr, refl, ap, sym, ◌∙◌, arith}
 use Rattle.std.proofs.lemmas.Bool.{cases_Bool, false≢true}
 use Rattle.address_map.specs.declared.region.Region.{Region}
-use Rattle.module_world.specs.os_heap.specs.Store.{is_image}
+use Rattle.flex_store.specs.Store.{is_image}
 use Rattle.flex_store.specs.Calls.{flex_record}
-use Rattle.module_world.specs.instances_table.specs.Modules.{Module}
-use Rattle.module_world.specs.Sound.{AreSolid, count_beside, image_ranges, images_of, range_of}
-use Rattle.module_world.proofs.Images.{system_more}
+use Rattle.instances.specs.Modules.{Module}
+use Rattle.instances.specs.world.Sound.{AreSolid, count_beside, image_ranges, images_of, range_of}
+use Rattle.instances.proofs.WorldLemmas.Images.{system_more}
 use Rattle.flex_machine.specs.WorldLaws.{BegunWorld}
 
 pub ranges_begun : (start end : ℕ) (rs : List Region) → image_ranges (rs ++ flex_record start end ∷ []) ≡ image_ranges rs

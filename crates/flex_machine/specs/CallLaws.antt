@@ -3,7 +3,7 @@ use Rattle.std.specs.Prelude.{ℕ, ◌≡◌, ◌⊎◌, true}
 use Rattle.address_map.specs.Bytes.{word_start}
 use Rattle.address_map.specs.Memory.{layout}
 use Rattle.address_map.specs.declared.map.AddressMap.{AddressMap}
-use Rattle.module_world.specs.os_heap.specs.Store.{is_in_flex_store, store_of}
+use Rattle.flex_store.specs.Store.{is_in_flex_store, store_of}
 use Rattle.flex_store.specs.Calls.{FlexState, is_anchor_place}
 use Rattle.flex_store.specs.State.{IsFlex}
 use Rattle.flex_store.specs.declared.flex.Flex.{Flex}

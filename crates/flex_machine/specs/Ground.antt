@@ -4,15 +4,15 @@
 use Rattle.std.specs.Prelude.{ℕ, ◌≡◌, Bool, false, ◌+◌, Option, Some, None, [], ◌∷◌, ◌++◌}
 use Rattle.address_map.specs.Bytes.{word_start}
 use Rattle.address_map.specs.declared.map.AddressMap.{AddressMap}
-use Rattle.module_world.specs.os_heap.specs.Store.{Store, store_of}
-use Rattle.module_world.specs.flex_frame.specs.Keeping.{AreAnchorsFree}
+use Rattle.flex_store.specs.Store.{Store, store_of}
+use Rattle.instances.specs.flex_frame.Keeping.{AreAnchorsFree}
 use Rattle.flex_store.specs.declared.flex.Extent.{Extent}
 use Rattle.flex_store.specs.declared.flex.Flex.{Flex}
 use Rattle.flex_store.specs.Blocks.{FlexStore, has_anchor, is_header, bytes_taken_by_all}
 use Rattle.flex_store.specs.Calls.{FlexState, flex_record}
 use Rattle.flex_store.specs.Memory.{blocks_in}
 use Rattle.flex_store.specs.State.{IsFlex}
-use Rattle.module_world.specs.Sound.{count_beside}
+use Rattle.instances.specs.world.Sound.{count_beside}
 
 abbrev pub records_with : Option Extent → ℕ
 records_with None = 1

@@ -1,20 +1,20 @@
 -- The flex store over calls other than its own, over what guests store, and at the start of a
 -- machine.
 use Rattle.std.specs.Prelude.{ℕ, ◌≡◌, ◌≤◌, ◌<◌, ◌+◌, ◌-◌, true, false, Some, None}
-use Rattle.module_world.specs.profile.specs.Sizes.{Sizes}
+use Rattle.flex_store.specs.Sizes.{Sizes}
 use Rattle.address_map.specs.Memory.{byte_at, class_of, layout}
 use Rattle.address_map.specs.declared.map.AddressMap.{AddressMap}
-use Rattle.module_world.specs.os_heap.specs.Store.{IsSound, find_heap, owned_in, store_of}
-use Rattle.module_world.specs.dynamic_areas.specs.Areas.{Land}
-use Rattle.module_world.specs.dynamic_areas.specs.Ground.{AreAreas}
-use Rattle.module_world.specs.dynamic_areas.specs.Start.{start_store}
-use Rattle.module_world.specs.flex_frame.specs.Keeping.{KeepsFlex}
+use Rattle.flex_store.specs.Store.{IsSound, find_heap, owned_in, store_of}
+use Rattle.instances.specs.Areas.{Land}
+use Rattle.instances.specs.Ground.{AreAreas}
+use Rattle.instances.specs.DynamicAreasStart.{start_store}
+use Rattle.instances.specs.flex_frame.Keeping.{KeepsFlex}
 use Rattle.flex_store.specs.State.{flex_in}
 use Rattle.flex_store.specs.declared.flex.Extent.{Extent}
 use Rattle.flex_store.specs.declared.flex.Flex.{Flex}
 use Rattle.address_map.specs.Bytes.{in_range}
-use Rattle.flex_store.specs.os_heap_lists.specs.Heap.{HeapList}
-use Rattle.flex_store.specs.os_heap_lists.specs.Lists.{live_total}
+use Rattle.flex_store.specs.lists.Heap.{HeapList}
+use Rattle.flex_store.specs.lists.Lists.{live_total}
 use Rattle.flex_machine.specs.Ground.{HasFlex}
 
 -- a call that keeps the store's bytes and words

@@ -1,10 +1,10 @@
 -- The world of modules once the flex store has begun.
 use Rattle.std.specs.Prelude.{ℕ, ◌≡◌, List, [], ◌∷◌, ◌++◌}
-use Rattle.module_world.specs.dynamic_areas.specs.Ground.{IsEstate}
+use Rattle.instances.specs.Ground.{IsEstate}
 use Rattle.flex_store.specs.Calls.{flex_record}
-use Rattle.module_world.specs.instances_table.specs.declared.parts.Image.{Image}
-use Rattle.module_world.specs.Sound.{IsWorld, count_beside}
-use Rattle.module_world.specs.World.{World}
+use Rattle.instances.specs.Image.{Image}
+use Rattle.instances.specs.world.Sound.{IsWorld, count_beside}
+use Rattle.instances.specs.world.World.{World}
 
 -- the range of the store was recorded, the second record that is no image; the modules are what
 -- they were

@@ -3,7 +3,3 @@
 
 pub mod laws;
 pub mod world_laws;
-
-pub use flex_store;
-pub use module_world;
-pub use module_world::rma;

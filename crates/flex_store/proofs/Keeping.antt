@@ -10,7 +10,7 @@ use Rattle.address_map.specs.declared.map.AddressMap.{AddressMap}
 use Rattle.address_map.specs.declared.region.Region.{Region}
 use Rattle.os_heap.proofs.Anchored.{not_flex}
 use Rattle.os_heap.proofs.Stores.{image_kind, placed_either}
-use Rattle.os_heap.specs.os_heap_lists.specs.Heap.{HeapList}
+use Rattle.os_heap_words.specs.lists.Heap.{HeapList}
 use Rattle.os_heap.proofs.FlexSound.{flex_unspelled, IsSoundFlexed, place_unspelled, sound_flexed}
 use Rattle.os_heap.proofs.Frame.{layout-others, store_bytes}
 use Rattle.os_heap.proofs.PayloadLemmas.{anchor_placed}

@@ -6,7 +6,7 @@ use Rattle.std.proofs.lemmas.List.FromFn.{take-map-range_with_len}
 use Rattle.std.proofs.Math.ListN.{length-append}
 use Rattle.address_map.proofs.Moving.{moved_in}
 use Rattle.address_map.proofs.Viewing.{bytes_counted}
-use Rattle.address_map.specs.raw_store.specs.Region.{word_bytes}
+use Rattle.address_map.specs.RawStoreRegion.{word_bytes}
 use Rattle.address_map.specs.Bytes.{bytes_between, with_bytes_at, with_moved_at, with_word_at, with_zeros_at}
 use Rattle.flex_store.specs.Blocks.{Block, whole_words_of_bytes, bytes_after_splice, whole_words}
 use Rattle.flex_store.specs.Memory.{Holds}

@@ -1,3 +1,8 @@
+pub use Rattle.os_heap.proofs.Anchored
+pub use Rattle.os_heap.proofs.Apart
+pub use Rattle.os_heap.proofs.Found
+pub use Rattle.os_heap.proofs.Frame
+pub use Rattle.os_heap.proofs.Recorded
 pub mod Allocating
 pub mod Anchoring
 pub mod Answering

@@ -5,7 +5,7 @@ use Rattle.std.proofs.lemmas.Bool.{both_ways, cases_Bool, eqb-false, eq-eqb, or_
 use Rattle.profile.specs.Outcome.{Gives}
 use Rattle.profile.specs.declared.error.ErrorNumber.{ErrorNumber}
 use Rattle.profile.specs.declared.error.ErrorNumber.TheVariants.{FlexHoldsAnchor}
-use Rattle.address_map.specs.raw_store.specs.Region.{word_bytes}
+use Rattle.address_map.specs.RawStoreRegion.{word_bytes}
 use Rattle.address_map.specs.Records.{anchor_among}
 use Rattle.address_map.proofs.Bytes.{is_mapped-layout}
 use Rattle.address_map.specs.Bytes.{AreMapped, with_word_at, word_start}

@@ -3,7 +3,7 @@
 use Rattle.std.proofs.Common.{◌≡◌, ℕ, Bool, ◌+◌, ◌%◌, ◌<◌, ◌≤◌, ◌||◌, true, nat_eq, List, [], ◌∷◌, ◌++◌, length, refl, ap, ◌∙◌, arith}
 use Rattle.std.proofs.lemmas.Bool.{eq-eqb, or_left, or_right}
 use Rattle.address_map.proofs.Viewing.{bytes_counted}
-use Rattle.address_map.specs.raw_store.specs.Region.{word_bytes}
+use Rattle.address_map.specs.RawStoreRegion.{word_bytes}
 use Rattle.address_map.specs.Bytes.{bytes_between, word_start}
 use Rattle.flex_store.specs.Blocks.{Block, has_anchor, is_header, is_in_contents, is_held_word, bytes_taken_by, bytes_taken_by_all, whole_words}
 use Rattle.flex_store.specs.Memory.{AreAnchored, Holds, standing, blocks_text_of}

@@ -12,10 +12,9 @@ use Rattle.address_map.specs.Memory.{byte_at, bytes_of, class_of, is_mapped, is_
 use Rattle.address_map.specs.declared.class.Class.{Class}
 use Rattle.address_map.specs.declared.class.Class.TheVariants as class
 use Rattle.address_map.specs.declared.map.AddressMap.{AddressMap}
-use Rattle.os_heap.proofs.Frame.{heads_kept, IsKept, layout-others, spelled_owned}
+use Rattle.os_heap.proofs.Frame.{heads_kept, IsKept, layout-others, spelled_owned, classes_same}
 use Rattle.os_heap.proofs.Owned.{owned_marks}
 use Rattle.os_heap.specs.Store.{owned_in, Store, store_of}
-use Rattle.os_heap.proofs.Frame.{classes_same}
 use Rattle.flex_store.specs.declared.flex.Extent.{Extent}
 use Rattle.flex_store.specs.declared.flex.Flex.{Flex}
 use Rattle.flex_store.specs.State.{blocks_of, IsFlexAt, IsRecordedStore}

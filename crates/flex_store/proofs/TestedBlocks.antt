@@ -3,7 +3,7 @@ use Rattle.std.proofs.Common.{◌≡◌, ℕ, ◌<◌, ◌≤◌, ◌++◌, ◌�
 use Rattle.profile.specs.Outcome.{bind, Gives}
 use Rattle.profile.specs.declared.error.ErrorNumber.{ErrorNumber}
 use Rattle.std.proofs.lemmas.Bool.{cases_Bool}
-use Rattle.std.specs.Prelude.{MatchResult}
+use Rattle.std.specs.Prelude.{MatchResult, if◌then◌else◌, nat_le, not, ok_or, ◌+◌, ◌-◌}
 use Rattle.address_map.specs.Records.{is_heap_kind}
 use Rattle.flex_store.specs.Calls.{flex_record}
 use Rattle.address_map.specs.Classes.{is_anchor, is_flex_header}
@@ -16,8 +16,7 @@ use Rattle.os_heap.proofs.Frame.{classes_empty, classes_same, layout-others}
 use Rattle.os_heap.proofs.Recorded.{recorded_sound, store_recorded}
 use Rattle.os_heap.specs.Calls.{store_after_init, store_with_new_heap, store_after_get, heap_at, store_holding}
 use Rattle.os_heap.specs.Ranges.{is_heap_region, overlaps}
-use Rattle.os_heap.specs.os_heap_lists.specs.Lists.{claim_in_items, total_for}
-use Rattle.std.specs.Prelude.{if◌then◌else◌, nat_le, not, ok_or, ◌+◌, ◌-◌}
+use Rattle.os_heap_words.specs.lists.Lists.{claim_in_items, total_for}
 use Rattle.profile.specs.declared.error.ErrorNumber.TheVariants.{HeapBadRegion, HeapOverlaps, HeapNoRoom, HeapTableFull}
 use Rattle.os_heap.specs.Store.{AreClasses, guest_count, IsSound, others_in, Store, store_of}
 use Rattle.flex_store.specs.declared.flex.Extent.{Extent}

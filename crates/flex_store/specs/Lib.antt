@@ -1,6 +1,11 @@
 -- What the flex calls do to a list of blocks, and how memory spells it. Begin with Blocks and
 -- Calls.
-pub use Rattle.os_heap.specs.os_heap_lists
+pub use Rattle.os_heap.specs.Payloads
+pub use Rattle.os_heap.specs.Store
+pub use Rattle.os_heap.specs.lists
+pub use Rattle.profile.specs.Outcome
+pub use Rattle.profile.specs.Sizes
+pub use Rattle.profile.specs.declared.error.ErrorNumber
 pub mod Blocks
 pub mod Calls
 pub mod Changes

@@ -7,10 +7,10 @@ use crate::scripts::script;
 use crate::taken::{Done, taken_after};
 use address_map::AddressMap;
 use assembler::{Reason, assemble};
-use command_line::{SettingsError, settings};
 use image_loader::{ImageError, Images};
 use profile::Config;
 use raw_store::RawStore;
+use rosm_settings::command_line::{SettingsError, settings};
 use std::alloc::Global;
 use swi_dispatch::Machine;
 

@@ -2,8 +2,7 @@
 use Rattle.std.proofs.Common.{◌≡◌, ◌≤◌, ◌<◌, ◌+◌, ℕ, List, [], length, get_or, drop, map}
 use Rattle.std.proofs.lemmas.List.{at_drop_more, at_drop_all}
 use denote.Ref.{Bor}
-use Rattle.gdb_face.specs.Options.{and_machine_word, and_start_path, gdb_word_after, is_machine_word}
-use Rattle.gdb_face.specs.Options.{last_gdb_word, machine_words_from, start_paths_from}
+use Rattle.gdb_face.specs.Options.{and_machine_word, and_start_path, gdb_word_after, is_machine_word, last_gdb_word, machine_words_from, start_paths_from}
 use Rattle.gdb_face.specs.declared.options.GdbWord.{GdbWord}
 
 abbrev word_texts : List (Bor (List ℕ)) → List (List ℕ)

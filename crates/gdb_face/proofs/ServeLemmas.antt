@@ -7,9 +7,9 @@ use Rattle.std.specs.declared.io.buffered.BufWriter.{BufWriter}
 use Rattle.std.proofs.KnownBytes.{Appends-kept}
 use Rattle.profile.specs.declared.stop.Stop.{Stop}
 use Rattle.image_loader.specs.Entries.{Entry}
-use Rattle.gdb_server.specs.gdb_session.specs.Runs.{begin_told, begun_anew}
-use Rattle.gdb_server.specs.gdb_session.specs.State.{GdbState, gdb_start}
-use Rattle.gdb_server.specs.gdb_session.specs.debug_session.specs.declared.session.DebugSetting.{DebugSetting}
+use Rattle.gdb_server.specs.session.Runs.{begin_told, begun_anew}
+use Rattle.gdb_server.specs.session.State.{GdbState, gdb_start}
+use Rattle.gdb_server.specs.DebugSetting.{DebugSetting}
 use Rattle.gdb_server.specs.Serving.{ServerState, Served, bytes_served}
 use Rattle.gdb_server.specs.Server.{IsServed}
 use Rattle.rosm_settings.specs.ImageFiles.{AddsFiles}

@@ -7,7 +7,7 @@ use Rattle.std.proofs.KnownBytes.{Appends-kept, Appends-trans, Consumes-nil, Con
 use Rattle.profile.specs.Output.{AddsFront}
 use Rattle.profile.proofs.OutputLemmas.{Appends-nothing}
 use Rattle.command_shell.proofs.FrontLemmas.{AddsFront-start}
-use Rattle.gdb_server.specs.gdb_session.specs.debug_session.specs.declared.session.DebugSetting.{DebugSetting}
+use Rattle.gdb_server.specs.DebugSetting.{DebugSetting}
 use Rattle.gdb_server.specs.Serving.{ServerState, Served, bytes_served}
 use Rattle.gdb_server.specs.Server.{IsServed}
 use Rattle.gdb_server.proofs.ServingLemmas.{front_after, served_append, served_ended, served_none}

@@ -1,8 +1,8 @@
 -- What the words ask for, and why they are refused, by the parts of them.
 use Rattle.std.proofs.Common.{◌≡◌, ℕ, List, Option, None, Some, Result, ap, subst, ◌∙◌}
-use Rattle.command_line.specs.Settings.{settings_for}
-use Rattle.command_line.specs.declared.options.Settings.{Settings}
-use Rattle.command_line.specs.declared.options.SettingsError.{SettingsError}
+use Rattle.rosm_settings.specs.command_line.Settings.{settings_for}
+use Rattle.rosm_settings.specs.declared.command_line.options.Settings.{Settings}
+use Rattle.rosm_settings.specs.declared.command_line.options.SettingsError.{SettingsError}
 use Rattle.gdb_face.specs.Endings.{IsGdbRefusalOf, IsMachineRefusal, IsRefusalOfWords}
 use Rattle.gdb_face.specs.Options.{last_gdb_word, machine_words, one_start_path, start_path_wanted, start_paths, unless_path_lacks}
 use Rattle.gdb_face.specs.declared.options.GdbWord.{GdbWord}

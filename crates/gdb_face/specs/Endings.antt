@@ -4,11 +4,11 @@ use Rattle.std.specs.Prelude.{◌≡◌, ℕ, List, Option, Some, None, Result, 
 use Rattle.std.specs.declared.io.ErrorKind.{ErrorKind}
 use Rattle.std.specs.declared.io.ErrorKind.TheVariants.{OutOfMemory}
 use Rattle.profile.specs.declared.stop.Stop.{Stop}
-use Rattle.command_line.specs.Settings.{settings_for}
-use Rattle.command_line.specs.Status.{status_after}
-use Rattle.command_line.specs.declared.options.Settings.{Settings}
-use Rattle.command_line.specs.declared.options.SettingsError.{SettingsError}
-use Rattle.command_line.specs.declared.options.SettingsError.TheVariants as refused
+use Rattle.rosm_settings.specs.command_line.Settings.{settings_for}
+use Rattle.rosm_settings.specs.command_line.Status.{status_after}
+use Rattle.rosm_settings.specs.declared.command_line.options.Settings.{Settings}
+use Rattle.rosm_settings.specs.declared.command_line.options.SettingsError.{SettingsError}
+use Rattle.rosm_settings.specs.declared.command_line.options.SettingsError.TheVariants as refused
 use Rattle.gdb_face.specs.Options.{machine_words, start_path_wanted}
 use Rattle.gdb_face.specs.declared.refusal.GdbRefusal.{GdbRefusal}
 use Rattle.gdb_face.specs.declared.refusal.GdbRefusal.TheVariants as refusal

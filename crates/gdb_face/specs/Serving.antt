@@ -3,11 +3,11 @@ use Rattle.std.specs.Prelude.{◌≡◌, ℕ, true, false, Bool, List, [], Optio
 use Rattle.std.specs.Io.KnownBytes.{Appends}
 use Rattle.profile.specs.declared.stop.Stop.{Stop}
 use Rattle.image_loader.specs.Entries.{Entry}
-use Rattle.gdb_server.specs.gdb_session.specs.debug_session.specs.DebugState.{DebugAnswered}
+use Rattle.gdb_server.specs.DebugState.{DebugAnswered}
 use Rattle.gdb_packets.specs.Reading.{reading_start}
-use Rattle.gdb_server.specs.gdb_session.specs.Runs.{begin_told, begun_anew}
-use Rattle.gdb_server.specs.gdb_session.specs.State.{GdbState, debug_setting, gdb_start}
-use Rattle.gdb_server.specs.gdb_session.specs.debug_session.specs.declared.session.DebugSetting.{DebugSetting}
+use Rattle.gdb_server.specs.session.Runs.{begin_told, begun_anew}
+use Rattle.gdb_server.specs.session.State.{GdbState, debug_setting, gdb_start}
+use Rattle.gdb_server.specs.DebugSetting.{DebugSetting}
 use Rattle.gdb_server.specs.Serving.{ServerState, Served, bytes_served}
 use Rattle.rosm_settings.specs.ImageFiles.{AddsFiles}
 use Rattle.gdb_face.specs.Start.{AreFirstLines}

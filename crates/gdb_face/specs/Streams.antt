@@ -5,7 +5,7 @@ use Rattle.std.specs.Io.KnownBytes.{Consumes, IsAtEnd}
 use Rattle.profile.specs.Output.{AddsFront}
 use Rattle.command_shell.specs.declared.error.RunError.{RunError}
 use Rattle.command_shell.specs.declared.error.RunError.TheVariants as run
-use Rattle.gdb_server.specs.gdb_session.specs.debug_session.specs.declared.session.DebugSetting.{DebugSetting}
+use Rattle.gdb_server.specs.DebugSetting.{DebugSetting}
 use Rattle.gdb_server.specs.Serving.{ServerState, bytes_served}
 use Rattle.gdb_server.specs.Server.{IsServed}
 use Rattle.gdb_face.specs.declared.serve.ServeError.{ServeError}

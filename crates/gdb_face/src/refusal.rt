@@ -3,8 +3,8 @@
 ghost use Rattle.std.specs.Prelude.{◌≡◌};
 
 use crate::serve::ServeError;
-use command_line::SettingsError;
 use command_shell::RunError;
+use rosm_settings::command_line::SettingsError;
 use rosm_settings::image_files::FileError;
 use std::alloc::AllocError;
 use thiserror::Error;

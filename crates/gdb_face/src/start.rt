@@ -7,11 +7,11 @@ ghost use Rattle.gdb_face.specs.Endings.{gdb_refusal_status};
 
 use crate::refusal::GdbRefusal;
 use crate::words::WantedGdb;
-use command_line::Files;
 use command_shell_lines::read_script;
 use image_loader::Images;
 use profile::Device;
 use rosm_settings::SettingsRefusal;
+use rosm_settings::command_line::Files;
 use rosm_settings::image_files::{FileError, add_files};
 use std::alloc::{AllocError, Global};
 use std::fs;

@@ -1,13 +1,13 @@
 //! The words behind the face's own: those that it alone takes, and those that `rosm` takes too.
 
 ghost use Rattle.std.specs.Prelude.{◌≡◌, drop, map, string_bytes, option_map, IfErr, IfOk, Ok, Option, None, Result};
-ghost use Rattle.command_line.specs.Settings.{settings_for};
+ghost use Rattle.rosm_settings.specs.command_line.Settings.{settings_for};
 ghost use Rattle.gdb_face.specs.Options.{one_start_path, unless_path_lacks};
 ghost use Rattle.gdb_face.specs.Endings.{AsksForGdb, IsGdbRefusalOf, IsMachineRefusal, IsRefusalOfWords, gdb_words_refused};
 
 use crate::options::{GdbWord, PartedGdbWords, part_words};
 use crate::refusal::GdbRefusal;
-use command_line::{Settings, SettingsError, line_reason, settings, sizes_reason};
+use rosm_settings::command_line::{Settings, SettingsError, line_reason, settings, sizes_reason};
 use std::alloc::{AllocError, Global};
 use std::env;
 use std::env::Env;

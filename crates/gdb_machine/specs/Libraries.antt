@@ -5,9 +5,9 @@ use Rattle.std.specs.Prelude.{ℕ, ◌++◌, List, codes}
 use Rattle.std.specs.List.{flat_map}
 use Rattle.profile.specs.Digits.{hex_word}
 use Rattle.page_markup.specs.Escape.{escaped_bytes}
-use Rattle.debugger.specs.swi_dispatch.specs.instances_table.specs.Lookup.{told_of_module}
-use Rattle.debugger.specs.swi_dispatch.specs.instances_table.specs.Modules.{Module}
-use Rattle.debugger.specs.swi_dispatch.specs.instances_table.specs.declared.parts.ModuleInfo.{ModuleInfo}
+use Rattle.instances_table.specs.Lookup.{told_of_module}
+use Rattle.instances_table.specs.Modules.{Module}
+use Rattle.instances_table.specs.declared.parts.ModuleInfo.{ModuleInfo}
 use Rattle.gdb_packets.specs.declared.requests.ByteRange.{ByteRange}
 use Rattle.gdb_machine.specs.Description.{part_of}
 

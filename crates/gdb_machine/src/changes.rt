@@ -2,9 +2,7 @@
 
 ghost use Rattle.std.specs.Prelude.{◌≡◌, IfSome};
 ghost use Rattle.arm_core.specs.Psr.{mode_of as mode_told};
-ghost use Rattle.gdb_machine.specs.Changes.{CanBeMade, bank_change as bank_change_told, place_change as place_change_told};
-ghost use Rattle.gdb_machine.specs.Changes.{register_write as change_told, status_change as status_change_told};
-ghost use Rattle.gdb_machine.specs.Changes.{status_in as status_in_told};
+ghost use Rattle.gdb_machine.specs.Changes.{CanBeMade, bank_change as bank_change_told, place_change as place_change_told, register_write as change_told, status_change as status_change_told, status_in as status_in_told};
 ghost use Rattle.gdb_machine.specs.Registers.{register_bank as bank_told};
 
 use crate::registers::{register_bank, status_word};

@@ -4,11 +4,10 @@ ghost use Rattle.std.specs.Prelude.{◌≡◌, ◌++◌, IfOk, slice_get};
 ghost use Rattle.debugger.specs.Modules.{one_text};
 ghost use Rattle.profile.specs.Digits.{hex_word};
 ghost use Rattle.profile.specs.Output.{Writes};
-ghost use Rattle.gdb_machine.specs.Libraries.{libraries_part, libraries_text, library_ending, library_line};
-ghost use Rattle.gdb_machine.specs.Libraries.{library_lines, library_opening, module_library};
+ghost use Rattle.gdb_machine.specs.Libraries.{libraries_part, libraries_text, library_ending, library_line, library_lines, library_opening, module_library};
 
 use crate::description::part;
-use debugger::swi_dispatch::instances::{Instances, ModuleInfo};
+use debugger::{Instances, ModuleInfo};
 use gdb_packets::ByteRange;
 use page_markup::push_escaped;
 use profile::{HexText, Sink, WriteFault, push_all};

@@ -2,8 +2,7 @@
 
 ghost use Rattle.std.specs.Prelude.{◌≡◌, ◌<◌, ℕ, IfOk, IfSome};
 ghost use Rattle.arm_core.specs.Psr.{mode_number as mode_number_told};
-ghost use Rattle.gdb_machine.specs.Registers.{all_registers_text, register_bank as bank_told, register_shown as shown};
-ghost use Rattle.gdb_machine.specs.Registers.{register_reply, status_word as status_told, word_digits as word_told};
+ghost use Rattle.gdb_machine.specs.Registers.{all_registers_text, register_bank as bank_told, register_shown as shown, register_reply, status_word as status_told, word_digits as word_told};
 
 use arm_core::{Cpu, Mode, Psr};
 use hex::encode;

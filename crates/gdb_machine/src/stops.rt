@@ -2,8 +2,7 @@
 
 ghost use Rattle.std.specs.Prelude.{◌≡◌, ◌∷◌, [], IfOk};
 ghost use Rattle.hex.specs.Hex.{encode_lower};
-ghost use Rattle.gdb_machine.specs.Stops.{first_registers_text, reached_text, signal_number, signal_of};
-ghost use Rattle.gdb_machine.specs.Stops.{signal_of_fault as fault_told, stop_packet as packet_told, told_value};
+ghost use Rattle.gdb_machine.specs.Stops.{first_registers_text, reached_text, signal_number, signal_of, signal_of_fault as fault_told, stop_packet as packet_told, told_value};
 
 use crate::registers::{register_shown, word_digits};
 use arm_core::Cpu;

@@ -4,9 +4,7 @@ ghost use Rattle.std.specs.Prelude.{◌≡◌, ◌++◌, ◌↔◌, [], IsTrue, 
 ghost use Rattle.address_map.specs.Memory.{bytes_of};
 ghost use Rattle.address_map.specs.Bytes.{byte_loaded};
 ghost use Rattle.profile.specs.Outcome.{Leaves};
-ghost use Rattle.gdb_machine.specs.Watches.{byte_seen as byte_seen_told, bytes_seen, first_changed as changed_told};
-ghost use Rattle.gdb_machine.specs.Watches.{is_byte_changed as has_changed_told, loaded_byte, range_place, watched_bytes};
-ghost use Rattle.gdb_machine.specs.Watches.{with_watch, without_watch};
+ghost use Rattle.gdb_machine.specs.Watches.{byte_seen as byte_seen_told, bytes_seen, first_changed as changed_told, is_byte_changed as has_changed_told, loaded_byte, range_place, watched_bytes, with_watch, without_watch};
 
 use address_map::AddressMap;
 use arrayvec::ArrayVec;

@@ -1,6 +1,5 @@
 -- How the value of digits goes on.
-use Rattle.std.proofs.Common.{◌≡◌, ℕ, ◌+◌, ◌≤◌, ◌<◌, List, [], ◌∷◌, length, drop, get_or, Option, Some, None}
-use Rattle.std.proofs.Common.{ap, ◌∙◌, arith, refl, sym, drop-cons, add-one, length-drop}
+use Rattle.std.proofs.Common.{◌≡◌, ℕ, ◌+◌, ◌≤◌, ◌<◌, List, [], ◌∷◌, length, drop, get_or, Option, Some, None, ap, ◌∙◌, arith, refl, sym, drop-cons, add-one, length-drop}
 use Rattle.std.specs.Prelude.{option_and_then}
 use Rattle.gdb_packets.specs.Digits.{digit_value}
 use Rattle.gdb_packets.specs.Numbers.{number_onto, packet_number, with_digit}

@@ -2,8 +2,7 @@
 
 ghost use Rattle.std.specs.Prelude.{◌≡◌, IfOk};
 ghost use Rattle.profile.specs.Output.{Writes};
-ghost use Rattle.gdb_packets.specs.Frames.{check_sum, packet_frame, is_escaped as is_escaped_told};
-ghost use Rattle.gdb_packets.specs.Frames.{sent_byte, sent_bytes, turned_byte as turned_told};
+ghost use Rattle.gdb_packets.specs.Frames.{check_sum, packet_frame, is_escaped as is_escaped_told, sent_byte, sent_bytes, turned_byte as turned_told};
 
 use crate::digits::digit;
 use profile::{Sink, WriteFault, push_all};

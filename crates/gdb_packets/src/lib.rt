@@ -15,6 +15,3 @@ pub use frames::push_packet;
 pub use laws::packets_are_read;
 pub use reader::{FramePlace, MOST_PACKET, PacketReader, Piece};
 pub use requests::{ByteRange, PointKind, Request, request_of};
-
-#[cfg(test)]
-mod tests;

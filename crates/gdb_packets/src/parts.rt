@@ -2,8 +2,7 @@
 
 ghost use Rattle.std.specs.Prelude.{◌≡◌, ◌==◌, option_map};
 ghost use Rattle.std.specs.List.{position};
-ghost use Rattle.gdb_packets.specs.Requests.{PacketParts, behind_opening as behind_told, is_thread as is_thread_told};
-ghost use Rattle.gdb_packets.specs.Requests.{parts_around as parted_told, parts_of, byte_range_of as range_told};
+ghost use Rattle.gdb_packets.specs.Requests.{PacketParts, behind_opening as behind_told, is_thread as is_thread_told, parts_around as parted_told, parts_of, byte_range_of as range_told};
 
 use crate::numbers::number_of;
 use crate::requests::ByteRange;

@@ -1,8 +1,7 @@
 //! The bytes of the other side, taken one after another.
 
 ghost use Rattle.std.specs.Prelude.{◌≡◌};
-ghost use Rattle.gdb_packets.specs.Reading.{with_sent, after_frame, frame_start, reading_start, byte_taken, taken_between};
-ghost use Rattle.gdb_packets.specs.Reading.{taken_first_digit, taken_inside, taken_last_digit, with_packet_byte};
+ghost use Rattle.gdb_packets.specs.Reading.{with_sent, after_frame, frame_start, reading_start, byte_taken, taken_between, taken_first_digit, taken_inside, taken_last_digit, with_packet_byte};
 
 use crate::digits::digit_value;
 use crate::frames::turned_byte;

@@ -1,11 +1,7 @@
 //! What a packet asks for.
 
 ghost use Rattle.std.specs.Prelude.{◌≡◌, option_map};
-ghost use Rattle.gdb_packets.specs.Requests.{gdb_request, packet_request, parts_around, Memory, AddPoint, RemovePoint};
-ghost use Rattle.gdb_packets.specs.Requests.{lone_request, access_request, control_request, lettered_request};
-ghost use Rattle.gdb_packets.specs.Requests.{register_request, set_register_request, store_pairs_request};
-ghost use Rattle.gdb_packets.specs.Requests.{store_bytes_request, point_kind, point_request, thread_request};
-ghost use Rattle.gdb_packets.specs.Requests.{is_process, begins_word, of_range};
+ghost use Rattle.gdb_packets.specs.Requests.{gdb_request, packet_request, parts_around, Memory, AddPoint, RemovePoint, lone_request, access_request, control_request, lettered_request, register_request, set_register_request, store_pairs_request, store_bytes_request, point_kind, point_request, thread_request, is_process, begins_word, of_range};
 
 use crate::numbers::number_of;
 use crate::parts::{byte_range_of, is_thread, parts_around};

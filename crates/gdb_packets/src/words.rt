@@ -1,10 +1,7 @@
 //! Packets that are words, or begin with one.
 
 ghost use Rattle.std.specs.Prelude.{◌≡◌, option_map};
-ghost use Rattle.gdb_packets.specs.Requests.{gdb_request, action_request, action_for_thread, actions_request};
-ghost use Rattle.gdb_packets.specs.Requests.{is_known_packet, host_answer_request, host_answer_flagged, parts_around};
-ghost use Rattle.gdb_packets.specs.Requests.{whole_word_request, opened_request, word_request};
-ghost use Rattle.gdb_packets.specs.Requests.{about_attachment, about_libraries, about_process, about_session, about_target};
+ghost use Rattle.gdb_packets.specs.Requests.{gdb_request, action_request, action_for_thread, actions_request, is_known_packet, host_answer_request, host_answer_flagged, parts_around, whole_word_request, opened_request, word_request, about_attachment, about_libraries, about_process, about_session, about_target};
 
 use crate::numbers::number_of;
 use crate::parts::{behind_opening, byte_range_of, is_thread, parts_around};

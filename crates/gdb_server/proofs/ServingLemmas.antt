@@ -11,9 +11,8 @@ use Rattle.std.specs.Io.KnownBytes.{Appends}
 use Rattle.profile.specs.Output.{AddsAllBut, AddsFront, AddsPart}
 use Rattle.profile.proofs.OutputLemmas.{AddsAllBut-more, AddsAllBut-start, Appends-from_all_but, Appends-nothing}
 use Rattle.gdb_server.specs.Server.{IsServed}
-use Rattle.gdb_server.specs.Serving.{ServerState, Served, asked_to_stop, byte_served, bytes_served, piece_served, then_served}
-use Rattle.gdb_server.specs.Serving.{text_packet, text_packets, told_packets}
-use Rattle.gdb_session.specs.debug_session.specs.declared.session.DebugSetting.{DebugSetting}
+use Rattle.gdb_server.specs.Serving.{ServerState, Served, asked_to_stop, byte_served, bytes_served, piece_served, then_served, text_packet, text_packets, told_packets}
+use Rattle.debug_session.specs.declared.session.DebugSetting.{DebugSetting}
 
 served_cons : (setting : DebugSetting) (start : List ℕ) (byte : ℕ) (bytes : List ℕ) (s : ServerState) → s.session.has_ended ≡ false
     → bytes_served setting start (byte ∷ bytes) s

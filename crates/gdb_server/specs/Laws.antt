@@ -1,6 +1,6 @@
 -- GDB's bytes, however they are cut.
 use Rattle.std.specs.Prelude.{◌≡◌, ℕ, List, ◌++◌}
-use Rattle.gdb_session.specs.debug_session.specs.declared.session.DebugSetting.{DebugSetting}
+use Rattle.debug_session.specs.declared.session.DebugSetting.{DebugSetting}
 use Rattle.gdb_server.specs.Serving.{ServerState, bytes_served, then_served}
 
 -- Two pieces, one after the other, are served as the two in one.

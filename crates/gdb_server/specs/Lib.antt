@@ -1,5 +1,7 @@
 -- What GDB's bytes are answered with. Begin with Serving.
-pub use Rattle.gdb_session
+pub use Rattle.debug_session.specs.DebugState
+pub use Rattle.debug_session.specs.declared.session.DebugSetting
 pub mod Serving
 pub mod Server
 pub mod Laws
+pub mod session

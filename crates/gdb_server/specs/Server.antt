@@ -4,7 +4,7 @@ use Rattle.std.specs.Io.KnownBytes.{Appends}
 use Rattle.image_loader.specs.Entries.{Entry}
 use Rattle.gdb_server.specs.Serving.{ServerState, Served}
 use Rattle.gdb_server.specs.declared.server.GdbServer.{GdbServer}
-use Rattle.gdb_session.specs.Session.{gdb_state}
+use Rattle.gdb_server.specs.session.Session.{gdb_state}
 
 abbrev pub server_state : GdbServer → List Entry → ServerState
 server_state s images = record {

@@ -3,9 +3,9 @@
 -- asks a run to stop.
 use Rattle.std.specs.Prelude.{ℕ, zero, suc, ◌+◌, ◌/◌, Bool, true, false, List, [], ◌∷◌, ◌++◌, take, drop, length, codes, Option, Some, None, if◌then◌else◌}
 use Rattle.hex.specs.Hex.{encode_lower}
-use Rattle.gdb_session.specs.Requests.{gdb_answered}
-use Rattle.gdb_session.specs.State.{GdbState, GdbAnswered}
-use Rattle.gdb_session.specs.debug_session.specs.declared.session.DebugSetting.{DebugSetting}
+use Rattle.gdb_server.specs.session.Requests.{gdb_answered}
+use Rattle.gdb_server.specs.session.State.{GdbState, GdbAnswered}
+use Rattle.debug_session.specs.declared.session.DebugSetting.{DebugSetting}
 use Rattle.gdb_packets.specs.Frames.{packet_frame}
 use Rattle.gdb_packets.specs.Reading.{Reading, Taken, reading_start, byte_taken}
 use Rattle.gdb_packets.specs.Requests as request

@@ -3,7 +3,7 @@
 
 mod laws;
 mod server;
+pub mod session;
 
-pub use gdb_session;
 pub use laws::pieces_are_served;
 pub use server::GdbServer;

@@ -8,9 +8,9 @@ ghost use Rattle.gdb_server.specs.Serving.{ack_text, told_packets, text_packet, 
 ghost use Rattle.gdb_packets.specs.Requests.{gdb_request};
 ghost use Rattle.std.specs.Option.{option_map};
 
+use crate::session::{GdbAnswer, GdbSession};
 use command_shell::RunError;
 use gdb_packets::{PacketReader, Piece, Request, push_packet, request_of};
-use gdb_session::{GdbAnswer, GdbSession};
 use image_loader::Images;
 use profile::{Sink, WriteFault, push_all};
 use std::alloc::Global;
@@ -35,7 +35,7 @@ impl GdbServer {
     ghost use Rattle.image_loader.specs.Entries.{Entry};
     ghost use Rattle.gdb_server.specs.Server.{IsServed, server_state};
     ghost use Rattle.gdb_server.specs.Serving.{byte_served, packet_served, bytes_served};
-    ghost use Rattle.gdb_session.specs.Session.{gdb_state};
+    ghost use Rattle.gdb_server.specs.session.Session.{gdb_state};
     ghost use Rattle.gdb_packets.specs.Reading.{reading_start};
 
     /// Before the first byte.

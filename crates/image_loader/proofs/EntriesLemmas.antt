@@ -1,6 +1,5 @@
 -- A table stays a table where a new image is put at its end, and where one is taken out.
-use Rattle.std.proofs.Common.{◌≡◌, ◌≤◌, ◌<◌, ℕ, zero, suc, Bool, true, false, List, [], ◌∷◌, length, get_or, Some, None, inl, inr, arith, refl, ap}
-use Rattle.std.proofs.Common.{length-append}
+use Rattle.std.proofs.Common.{◌≡◌, ◌≤◌, ◌<◌, ℕ, zero, suc, Bool, true, false, List, [], ◌∷◌, length, get_or, Some, None, inl, inr, arith, refl, ap, length-append}
 use Rattle.std.specs.List.{list_any, position, position_or_len, remove}
 use Rattle.std.proofs.lemmas.Bool.{cases_Bool, lt-ltb, or_parts}
 use Rattle.std.proofs.lemmas.Bool.Decides.{nat_tests}

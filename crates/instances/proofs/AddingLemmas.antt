@@ -7,25 +7,25 @@ use Rattle.address_map.specs.Bytes.{AreMapped, bytes_between, in_range}
 use Rattle.address_map.proofs.Viewing.{bytes_counted}
 use Rattle.address_map.specs.declared.region.Kind.TheVariants as kind
 use Rattle.address_map.specs.declared.region.Region.{Region}
-use Rattle.instances_plans.specs.module_header.specs.Header.{header_of}
-use Rattle.instances_plans.specs.module_header.specs.declared.fault.HeaderFault.{HeaderFault}
-use Rattle.instances_plans.specs.module_header.specs.declared.fault.HeaderFault.TheVariants.{Short}
-use Rattle.instances_plans.specs.module_header.specs.declared.header.Header.{Header}
-use Rattle.module_tidy.specs.os_heap_lists.specs.Lists.{total_for}
-use Rattle.module_tidy.specs.os_heap.proofs.RangeTests.{are_mapped_all, clear_of_heaps}
-use Rattle.module_tidy.specs.os_heap.specs.Ranges.{are_bytes_mapped}
-use Rattle.module_tidy.specs.os_heap.specs.Store.{Store, has_image, is_image}
-use Rattle.module_tidy.specs.dynamic_areas.specs.Ground.{Estate, IsEstate}
-use Rattle.module_tidy.specs.rma.specs.Copies.{has_bare, may_be_copied}
-use Rattle.module_tidy.specs.flex_frame.specs.Keeping.{is_in_record}
-use Rattle.module_tidy.specs.rma.specs.NewImages.{image_record, may_be_in_place, with_image_in_place}
-use Rattle.module_tidy.specs.rma.proofs.InPlaceLemmas.{MayBe, may_be}
+use Rattle.instances_plans.specs.ModuleHeaderHeader.{header_of}
+use Rattle.instances_plans.specs.HeaderFault.{HeaderFault}
+use Rattle.instances_plans.specs.HeaderFault.TheVariants.{Short}
+use Rattle.instances_plans.specs.Header.{Header}
+use Rattle.rma.specs.lists.Lists.{total_for}
+use Rattle.dynamic_areas.proofs.RangeTests.{are_mapped_all, clear_of_heaps}
+use Rattle.dynamic_areas.specs.Ranges.{are_bytes_mapped}
+use Rattle.dynamic_areas.specs.Store.{Store, has_image, is_image}
+use Rattle.dynamic_areas.specs.Ground.{Estate, IsEstate}
+use Rattle.rma.specs.Copies.{has_bare, may_be_copied}
+use Rattle.rma.specs.flex_frame.Keeping.{is_in_record}
+use Rattle.rma.specs.NewImages.{image_record, may_be_in_place, with_image_in_place}
+use Rattle.rma.proofs.InPlaceLemmas.{MayBe, may_be}
 use Rattle.instances_table.specs.ModuleArea.{is_in_module_area}
 use Rattle.instances_table.specs.declared.parts.Image.{Image}
-use Rattle.module_tidy.specs.module_world.specs.Sound.{AreSolid, IsWorld, range_of, recorded_len}
-use Rattle.module_tidy.specs.module_world.specs.World.{World}
-use Rattle.module_tidy.specs.module_world.proofs.AreaLemmas.{stays_outside}
-use Rattle.module_tidy.specs.module_world.proofs.Worlds.{world_more}
+use Rattle.instances.specs.world.Sound.{AreSolid, IsWorld, range_of, recorded_len}
+use Rattle.instances.specs.world.World.{World}
+use Rattle.instances.proofs.WorldLemmas.AreaLemmas.{stays_outside}
+use Rattle.instances.proofs.WorldLemmas.Worlds.{world_more}
 use Rattle.instances.specs.Adding.{good_header}
 
 -- where no record lies no image begins, since none is empty

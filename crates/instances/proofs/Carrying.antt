@@ -11,9 +11,9 @@ use Rattle.instances_plans.specs.declared.code.Outcome.TheVariants.{Well}
 use Rattle.instances_plans.specs.Carrying.{Advanced, Carried, Doing, advance_of_plan, advanced_by, advanced_from, carry_of_plan, carried_after}
 use Rattle.instances_plans.specs.Plans.{Plan, all_but_first, plan_after_action, plan_after_code}
 use Rattle.instances_plans.proofs.Carrying.{carries_by_turns}
-use Rattle.module_tidy.specs.module_world.specs.Sound.{IsWorld}
-use Rattle.module_tidy.specs.module_world.specs.World.{World}
-use Rattle.instances_actions.specs.Pending.{is_pending, pending_by, pending_of}
+use Rattle.instances.specs.world.Sound.{IsWorld}
+use Rattle.instances.specs.world.World.{World}
+use Rattle.instances.specs.actions.Pending.{is_pending, pending_by, pending_of}
 use Rattle.instances.specs.Turns.{IsUnderWay, module_doing}
 
 pub turned : (w : World) (p : Plan) (o : Outcome) (r : Advanced World) → advance_of_plan module_doing w p o ≡ r

@@ -12,7 +12,7 @@ use Rattle.instances_table.specs.Modules.{AreModules, Module, has_instance, has_
 use Rattle.instances_table.specs.Changes.{module_has_slot, is_slot_held, modules_of_title, titled_otherwise}
 use Rattle.instances_table.proofs.Counting.{none_counted}
 use Rattle.instances_table.proofs.RoomLemmas.{at_most_one, slots_counted}
-use Rattle.instances_actions.proofs.Slots.{used_slots}
+use Rattle.instances.proofs.ActionsLemmas.Slots.{used_slots}
 
 -- a slot is used exactly where an instance has it
 used_here : (s k : ℕ) (ms : List Module) → module_has_slot s (slice_get ms k) ≡ true → is_used s (slots_of ms) ≡ true

@@ -7,8 +7,8 @@ use Rattle.std.proofs.lemmas.Bool.{cases_Bool, false≢true}
 use Rattle.profile.specs.Outcome.{Leaves, bind}
 use Rattle.profile.specs.declared.error.ErrorNumber.{ErrorNumber}
 use Rattle.profile.specs.declared.error.ErrorNumber.TheVariants.{InstanceExists}
-use Rattle.instances_plans.specs.module_header.specs.declared.header.Header.{Header}
-use Rattle.module_tidy.specs.dynamic_areas.specs.Ground.{Estate, IsEstate}
+use Rattle.instances_plans.specs.Header.{Header}
+use Rattle.dynamic_areas.specs.Ground.{Estate, IsEstate}
 use Rattle.instances_plans.specs.declared.action.PlanAction.{PlanAction}
 use Rattle.instances_plans.specs.declared.action.PlanAction.TheVariants.{Finalise, Remove, FreePrivate, Insert, Instantiate, GiveUp, Slide, Initialise}
 use Rattle.instances_plans.specs.declared.given.Given.{Given}
@@ -19,12 +19,12 @@ use Rattle.instances_table.specs.Changes.{is_named, modules_with_names, preferri
 use Rattle.instances_table.specs.Lookup.{place_meant, slot_at}
 use Rattle.instances_table.specs.Modules.{Instance, Module, changed_at, slots_of}
 use Rattle.instances_table.specs.Names.{name_given, new_name, full_name_parts}
-use Rattle.module_tidy.specs.module_world.specs.Sound.{IsWorld, images_of}
-use Rattle.module_tidy.specs.module_world.specs.World.{World}
-use Rattle.module_tidy.specs.module_world.proofs.Worlds.{world_kept, world_renewed}
-use Rattle.instances_actions.specs.Pending.{IsSettledOnce, pending_of, slots_titled}
-use Rattle.instances_actions.specs.Ready.{CanNameFirst, IsReady, instantiates}
-use Rattle.instances_actions.proofs.Slots.{slots_in}
+use Rattle.instances.specs.world.Sound.{IsWorld, images_of}
+use Rattle.instances.specs.world.World.{World}
+use Rattle.instances.proofs.WorldLemmas.Worlds.{world_kept, world_renewed}
+use Rattle.instances.specs.actions.Pending.{IsSettledOnce, pending_of, slots_titled}
+use Rattle.instances.specs.actions.Ready.{CanNameFirst, IsReady, instantiates}
+use Rattle.instances.proofs.ActionsLemmas.Slots.{slots_in}
 use Rattle.instances.specs.Turns.{IsUnderWay, MayGoOn, calls_module}
 
 -- a module with another's title, image and slots

@@ -9,7 +9,7 @@ use Rattle.instances_table.specs.declared.parts.Handler.{Handler}
 use Rattle.instances_table.specs.Changes.{is_slot_held}
 use Rattle.instances_table.specs.Lookup.{handled_at, handled_in, handler_of, has_call}
 use Rattle.instances_table.specs.Modules.{AreModules, EachIsModule, Module, has_instance, slots_of}
-use Rattle.instances_actions.proofs.Slots.{used_slots}
+use Rattle.instances.proofs.ActionsLemmas.Slots.{used_slots}
 
 held_before : (m : Module) (ms : List Module) (h : Handler) → is_slot_held h.slot ms ≡ true → is_slot_held h.slot (m ∷ ms) ≡ true
 held_before m ms h held = elim (cases_Bool (has_instance h.slot m)) [

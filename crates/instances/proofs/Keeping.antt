@@ -1,2 +1,2 @@
 -- What keeps the flex store where nothing happens to it.
-pub use Rattle.module_tidy.specs.flex_frame.proofs.Keeping.{keeps_same}
+pub use Rattle.rma.proofs.FlexFrameLemmas.Keeping.{keeps_same}

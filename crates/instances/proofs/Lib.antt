@@ -1,3 +1,9 @@
+pub use Rattle.rma.proofs.FlexFrameLemmas.Areas
+pub use Rattle.rma.proofs.FlexFrameLemmas.Heaps
+pub use Rattle.rma.proofs.FlexFrameLemmas.Keeping as RmaKeeping
+pub use Rattle.rma.proofs.FlexFrameLemmas.Writes
+pub use Rattle.rma.proofs.ImageLemmas
+pub use Rattle.rma.proofs.InPlaceLemmas
 pub mod AddingLemmas
 pub mod Carrying
 pub mod DoableLemmas
@@ -9,3 +15,6 @@ pub mod Naming
 pub mod NextCode
 pub mod ReadyLemmas
 pub mod Turning
+pub mod WorldLemmas
+pub mod ActionsLemmas
+pub mod TidyingLemmas

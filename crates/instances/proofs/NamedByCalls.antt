@@ -7,12 +7,12 @@ use Rattle.profile.specs.Outcome.{Gives, bind}
 use Rattle.profile.specs.declared.error.ErrorNumber.{ErrorNumber}
 use Rattle.profile.specs.declared.error.ErrorNumber.TheVariants.{BadPointer, BadString}
 use Rattle.address_map.specs.Bytes.{bytes_between}
-use Rattle.instances_plans.specs.module_header.specs.declared.fault.HeaderFault.{HeaderFault}
-use Rattle.instances_plans.specs.module_header.specs.declared.header.Header.{Header}
-use Rattle.instances_plans.specs.module_header.specs.Header.{header_of}
-use Rattle.module_tidy.specs.rma.specs.Calls.{with_store}
-use Rattle.module_tidy.specs.rma.specs.Copies.{may_be_copied}
-use Rattle.module_tidy.specs.rma.specs.NewImages.{image_copied, image_made, may_be_in_place, with_image_in_place}
+use Rattle.instances_plans.specs.HeaderFault.{HeaderFault}
+use Rattle.instances_plans.specs.Header.{Header}
+use Rattle.instances_plans.specs.ModuleHeaderHeader.{header_of}
+use Rattle.rma.specs.Calls.{with_store}
+use Rattle.rma.specs.Copies.{may_be_copied}
+use Rattle.rma.specs.NewImages.{image_copied, image_made, may_be_in_place, with_image_in_place}
 use Rattle.instances_plans.specs.declared.action.PlanAction.{PlanAction}
 use Rattle.instances_plans.specs.declared.action.PlanAction.TheVariants.{GiveUp, Initialise, Insert}
 use Rattle.instances_plans.specs.Calls.{clear_actions, delete_plan, reinit_plan}
@@ -23,9 +23,9 @@ use Rattle.instances_table.specs.declared.parts.Place.{Place}
 use Rattle.instances_table.specs.Changes.{instance_room, modules_of_title}
 use Rattle.instances_table.specs.Lookup.{looked_up, module_at, slot_at}
 use Rattle.instances_table.specs.Modules.{Module, slots_of}
-use Rattle.module_tidy.specs.module_world.specs.World.{World}
-use Rattle.instances_actions.specs.Ready.{IsReady}
-use Rattle.instances_actions.proofs.Used.{others_stay}
+use Rattle.instances.specs.world.World.{World}
+use Rattle.instances.specs.actions.Ready.{IsReady}
+use Rattle.instances.proofs.ActionsLemmas.Used.{others_stay}
 use Rattle.instances.specs.Adding.{adding_plan, copying, good_header, inserting, instantiation, loading, slot_for}
 use Rattle.instances.specs.Given.{given_only, is_text_too_long}
 use Rattle.instances.specs.Naming.{NamesOnly, NamesTitled, slots_of_actions}

@@ -25,13 +25,13 @@ use Rattle.instances_table.specs.Additions.{added_to}
 use Rattle.instances_table.specs.Changes.{is_slot_held, is_new, new_module, still, with_instance, with_module, without_first_passing, without_instance}
 use Rattle.instances_table.specs.Lookup.{number_of_title, place_of_slot}
 use Rattle.instances_table.specs.Modules.{Instance, Module, changed_at, has_instance, has_slot, slots_of}
-use Rattle.module_tidy.specs.module_world.specs.World.{World, world_after_remove}
-use Rattle.instances_actions.proofs.Readying.{slots_outlined}
-use Rattle.instances_actions.specs.Actions.{world_after_action, image_given, with_another, with_new}
-use Rattle.instances_actions.specs.Codes.{code_among, code_at, code_to_enter, entered_at, entered_in, entry_offset, fatal_word}
-use Rattle.instances_actions.specs.Ready.{HaveSameOutlines}
-use Rattle.instances_actions.proofs.Slots.{used_append, used_slots}
-use Rattle.module_tidy.specs.Slid.{world_slid}
+use Rattle.instances.specs.world.World.{World, world_after_remove}
+use Rattle.instances.proofs.ActionsLemmas.Readying.{slots_outlined}
+use Rattle.instances.specs.actions.Actions.{world_after_action, image_given, with_another, with_new}
+use Rattle.instances.specs.actions.Codes.{code_among, code_at, code_to_enter, entered_at, entered_in, entry_offset, fatal_word}
+use Rattle.instances.specs.actions.Ready.{HaveSameOutlines}
+use Rattle.instances.proofs.ActionsLemmas.Slots.{used_append, used_slots}
+use Rattle.instances.specs.tidying.Slid.{world_slid}
 use Rattle.instances.specs.Naming.{KeepsOtherInstances, slot_of_action, slots_of_actions, slots_of_plan}
 use Rattle.instances.specs.Turns.{IsUnderWay, module_doing}
 use Rattle.instances.proofs.Turning.{after_slide}

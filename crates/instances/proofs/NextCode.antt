@@ -7,10 +7,10 @@ use Rattle.instances_plans.specs.declared.given.Given.{Given}
 use Rattle.instances_plans.specs.Carrying.{Carried, carry_of_plan, carried_by, carried_from}
 use Rattle.instances_plans.specs.Plans.{Plan, first_action}
 use Rattle.instances_table.specs.Modules.{Module}
-use Rattle.module_tidy.specs.module_world.specs.World.{World}
-use Rattle.instances_actions.specs.Actions.{world_after_action}
-use Rattle.instances_actions.specs.Codes.{code_among}
-use Rattle.module_tidy.specs.Slid.{world_slid}
+use Rattle.instances.specs.world.World.{World}
+use Rattle.instances.specs.actions.Actions.{world_after_action}
+use Rattle.instances.specs.actions.Codes.{code_among}
+use Rattle.instances.specs.tidying.Slid.{world_slid}
 use Rattle.instances.specs.Turns.{code_called, module_doing}
 use Rattle.instances.proofs.Turning.{calls_by, same_modules}
 

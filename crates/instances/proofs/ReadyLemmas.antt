@@ -22,11 +22,11 @@ use Rattle.instances_table.specs.Lookup.{number_of_title, told_of_module}
 use Rattle.instances_table.specs.Modules.{AreModules, Instance, Module, has_title, slots_of}
 use Rattle.instances_table.specs.Names.{name_given, new_name, full_name_parts}
 use Rattle.instances_table.proofs.Counting.{same_test}
-use Rattle.instances_actions.specs.Actions.{image_given}
-use Rattle.instances_actions.specs.Pending.{pending_of, slots_titled}
-use Rattle.instances_actions.specs.Ready.{CanName, IsReady}
-use Rattle.instances_actions.proofs.CallsReady.{all_go, clear_is_ready, instantiate_is_ready, load_is_ready, reinit_is_ready, tidy_is_ready}
-use Rattle.instances_actions.proofs.Settling.{clear_none, clear_then, tidy_none}
+use Rattle.instances.specs.actions.Actions.{image_given}
+use Rattle.instances.specs.actions.Pending.{pending_of, slots_titled}
+use Rattle.instances.specs.actions.Ready.{CanName, IsReady}
+use Rattle.instances.proofs.ActionsLemmas.CallsReady.{all_go, clear_is_ready, instantiate_is_ready, load_is_ready, reinit_is_ready, tidy_is_ready}
+use Rattle.instances.proofs.ActionsLemmas.Settling.{clear_none, clear_then, tidy_none}
 use Rattle.instances.proofs.DoableLemmas.{clear_doable, delete_doable, instantiate_doable, load_doable, reinit_doable, tidy_doable}
 
 -- a load's plan

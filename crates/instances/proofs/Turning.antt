@@ -4,8 +4,8 @@ use Rattle.std.proofs.Common.{◌≡◌, ℕ, Bool, true, false, Some, None, inl
 use Rattle.std.specs.Prelude.{Option, if◌then◌else◌}
 use Rattle.std.proofs.lemmas.Bool.{cases_Bool, false≢true}
 use Rattle.address_map.specs.declared.follow.Move.{Move}
-use Rattle.module_tidy.specs.os_heap_lists.specs.Heap.{HeapList}
-use Rattle.module_tidy.specs.os_heap.specs.Store.{find_heap}
+use Rattle.rma.specs.lists.Heap.{HeapList}
+use Rattle.dynamic_areas.specs.Store.{find_heap}
 use Rattle.instances_plans.specs.declared.action.PlanAction.{PlanAction}
 use Rattle.instances_plans.specs.declared.action.PlanAction.TheVariants.{Finalise, Remove, FreePrivate, Insert, Instantiate, GiveUp, Slide, Initialise}
 use Rattle.instances_plans.specs.declared.code.Advance.TheVariants as advance
@@ -17,15 +17,15 @@ use Rattle.instances_plans.specs.Carrying.{Advanced, Doing, advance_of_plan, adv
 use Rattle.instances_plans.specs.Plans.{Plan, end_by, plan_after_action, first_action, plan_after_refusal, plan_after_code, settled_by, plan_with_code_entered}
 use Rattle.instances_table.specs.declared.parts.Image.{Image}
 use Rattle.instances_table.specs.Modules.{AreModules, Module}
-use Rattle.module_tidy.specs.module_world.specs.Sound.{IsWorld}
-use Rattle.module_tidy.specs.module_world.specs.World.{World, world_after_remove}
-use Rattle.instances_actions.specs.Actions.{world_after_action, image_given}
-use Rattle.instances_actions.specs.Codes.{code_among}
-use Rattle.instances_actions.specs.Pending.{pending_of, settles}
-use Rattle.instances_actions.specs.Ready.{AreAfter, IsReady, HaveSameOutlines, outline}
-use Rattle.instances_actions.proofs.Readying.{stays_ready, stays_ready_refused}
-use Rattle.instances_actions.proofs.Settling.{none_slides, pending_is_settled, pending_outlasts, pending_stays}
-use Rattle.module_tidy.specs.Slid.{image_moved, world_slid, world_slid_in}
+use Rattle.instances.specs.world.Sound.{IsWorld}
+use Rattle.instances.specs.world.World.{World, world_after_remove}
+use Rattle.instances.specs.actions.Actions.{world_after_action, image_given}
+use Rattle.instances.specs.actions.Codes.{code_among}
+use Rattle.instances.specs.actions.Pending.{pending_of, settles}
+use Rattle.instances.specs.actions.Ready.{AreAfter, IsReady, HaveSameOutlines, outline}
+use Rattle.instances.proofs.ActionsLemmas.Readying.{stays_ready, stays_ready_refused}
+use Rattle.instances.proofs.ActionsLemmas.Settling.{none_slides, pending_is_settled, pending_outlasts, pending_stays}
+use Rattle.instances.specs.tidying.Slid.{image_moved, world_slid, world_slid_in}
 use Rattle.instances.specs.Turns.{IsUnderWay, calls_module, module_doing}
 
 -- A call begins.

@@ -9,20 +9,20 @@ use Rattle.profile.specs.declared.error.ErrorNumber.TheVariants.{BadPointer, Bad
 use Rattle.address_map.specs.Bytes.{bytes_between}
 use Rattle.address_map.specs.declared.map.AddressMap.{AddressMap}
 use Rattle.address_map.specs.declared.region.Kind.TheVariants as kind
-use Rattle.instances_plans.specs.module_header.specs.Header.{header_of}
-use Rattle.instances_plans.specs.module_header.specs.declared.fault.HeaderFault.{HeaderFault}
-use Rattle.instances_plans.specs.module_header.specs.declared.header.Header.{Header}
-use Rattle.module_tidy.specs.os_heap.specs.Order.{AddsRecord}
-use Rattle.module_tidy.specs.rma.specs.Calls.{with_store}
-use Rattle.module_tidy.specs.rma.specs.Copies.{may_be_copied}
-use Rattle.module_tidy.specs.rma.specs.NewImages.{image_copied, image_made, may_be_in_place, with_image_in_place}
+use Rattle.instances_plans.specs.ModuleHeaderHeader.{header_of}
+use Rattle.instances_plans.specs.HeaderFault.{HeaderFault}
+use Rattle.instances_plans.specs.Header.{Header}
+use Rattle.dynamic_areas.specs.Order.{AddsRecord}
+use Rattle.rma.specs.Calls.{with_store}
+use Rattle.rma.specs.Copies.{may_be_copied}
+use Rattle.rma.specs.NewImages.{image_copied, image_made, may_be_in_place, with_image_in_place}
 use Rattle.instances_plans.specs.Calls.{instantiate_plan, load_plan}
 use Rattle.instances_plans.specs.Plans.{Plan}
 use Rattle.instances_table.specs.declared.parts.Image.{Image}
 use Rattle.instances_table.specs.Modules.{Module, slots_of}
 use Rattle.instances_table.specs.Changes.{free_slot_for, instance_room, modules_of_title}
 use Rattle.instances_table.specs.Lookup.{module_at}
-use Rattle.module_tidy.specs.module_world.specs.World.{World}
+use Rattle.instances.specs.world.World.{World}
 use Rattle.instances.specs.Given.{given_instance, given_module, is_text_too_long}
 
 -- Reason 14: a new instance of a module that is there, with its name, and a text, which has to be

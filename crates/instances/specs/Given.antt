@@ -2,7 +2,7 @@
 -- project's own).
 use Rattle.std.specs.Prelude.{ℕ, Bool, nat_lt, List, [], length}
 use Rattle.arrayvec.specs.ArrayVec.{ArrayVec}
-use Rattle.instances_plans.specs.module_header.specs.declared.header.Header.{Header}
+use Rattle.instances_plans.specs.Header.{Header}
 use Rattle.instances_plans.specs.declared.given.Given.{Given}
 use Rattle.instances_table.specs.declared.parts.Image.{Image}
 use Rattle.instances_table.specs.declared.parts.NewInstance.{NewInstance}

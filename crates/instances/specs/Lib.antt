@@ -1,6 +1,19 @@
 -- What the calls on modules and instances answer and leave. Begin with Reading and Adding.
-pub use Rattle.instances_actions
-pub use Rattle.instances_actions.specs.module_world
+pub use Rattle.dynamic_areas.specs.Areas
+pub use Rattle.dynamic_areas.specs.Ground
+pub use Rattle.dynamic_areas.specs.Start as DynamicAreasStart
+pub use Rattle.dynamic_areas.specs.declared.area.Area
+pub use Rattle.instances_table.specs.Changes
+pub use Rattle.instances_table.specs.Lookup
+pub use Rattle.instances_table.specs.Modules
+pub use Rattle.instances_table.specs.declared.parts.Image
+pub use Rattle.instances_table.specs.declared.parts.InstanceInfo as InstancesTableInstanceInfo
+pub use Rattle.instances_table.specs.declared.parts.ModuleInfo as InstancesTableModuleInfo
+pub use Rattle.instances_table.specs.declared.parts.Place as InstancesTablePlace
+pub use Rattle.rma.specs.Calls
+pub use Rattle.rma.specs.Copies
+pub use Rattle.rma.specs.NewImages
+pub use Rattle.rma.specs.flex_frame
 pub mod Adding
 pub mod Given
 pub mod Memory
@@ -8,3 +21,6 @@ pub mod Naming
 pub mod Plans
 pub mod Reading
 pub mod Turns
+pub mod world
+pub mod actions
+pub mod tidying

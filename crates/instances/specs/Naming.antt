@@ -1,8 +1,8 @@
 -- The instances that a call on modules may still come to: those that its plan names, by their slots
 -- (this project's own).
 use Rattle.std.specs.Prelude.{◌≡◌, ◌==◌, ℕ, true, false, IfSome, Option, Some, None, Result, Ok, Err, List, [], ◌∷◌, ◌++◌}
-use Rattle.instances_plans.specs.module_header.specs.declared.fault.HeaderFault.{HeaderFault}
-use Rattle.instances_plans.specs.module_header.specs.declared.header.Header.{Header}
+use Rattle.instances_plans.specs.HeaderFault.{HeaderFault}
+use Rattle.instances_plans.specs.Header.{Header}
 use Rattle.instances_plans.specs.declared.action.PlanAction.{PlanAction}
 use Rattle.instances_plans.specs.declared.action.PlanAction.TheVariants.{Finalise, Remove, FreePrivate, Insert, Instantiate, Initialise}
 use Rattle.instances_plans.specs.declared.code.Code.{Code}

@@ -6,14 +6,14 @@ use Rattle.instances_plans.specs.declared.action.PlanAction.TheVariants.{Finalis
 use Rattle.instances_plans.specs.declared.code.Code.{Code}
 use Rattle.instances_plans.specs.Carrying.{Doing}
 use Rattle.instances_plans.specs.Plans.{Plan, first_action}
-use Rattle.module_tidy.specs.module_world.specs.Sound.{IsWorld}
-use Rattle.module_tidy.specs.module_world.specs.World.{World}
+use Rattle.instances.specs.world.Sound.{IsWorld}
+use Rattle.instances.specs.world.World.{World}
 use Rattle.instances_table.specs.Modules.{Module}
-use Rattle.instances_actions.specs.Actions.{doing}
-use Rattle.instances_actions.specs.Codes.{code_among}
-use Rattle.instances_actions.specs.Pending.{pending_of}
-use Rattle.instances_actions.specs.Ready.{IsReady}
-use Rattle.module_tidy.specs.Slid.{world_slid}
+use Rattle.instances.specs.actions.Actions.{doing}
+use Rattle.instances.specs.actions.Codes.{code_among}
+use Rattle.instances.specs.actions.Pending.{pending_of}
+use Rattle.instances.specs.actions.Ready.{IsReady}
+use Rattle.instances.specs.tidying.Slid.{world_slid}
 
 -- What actions do to the world, the slide of the module area among them.
 abbrev pub module_doing : Doing World

@@ -3,27 +3,26 @@ ghost use Rattle.std.specs.Prelude.{◌≡◌, ◌≤◌, ◌<◌, ◌∷◌, []
 ghost use Rattle.profile.specs.Outcome.{Gives};
 ghost use Rattle.address_map.specs.Bytes.{bytes_between, AreMapped};
 ghost use Rattle.address_map.specs.Memory.{is_mapped};
-ghost use Rattle.module_tidy.specs.os_heap.specs.Order.{KeepsOrder};
-ghost use Rattle.module_tidy.specs.os_heap.specs.Store.{store_of, AreClasses};
-ghost use Rattle.module_tidy.specs.flex_frame.specs.Keeping.{KeepsFlex};
-ghost use Rattle.module_tidy.specs.rma.specs.Places.{KeepsPlaces};
-ghost use Rattle.instances_plans.specs.module_header.specs.Header.{header_of};
-ghost use Rattle.instances_actions.specs.Pending.{pending_of};
-ghost use Rattle.instances_actions.specs.Ready.{IsReady};
+ghost use Rattle.dynamic_areas.specs.Order.{KeepsOrder};
+ghost use Rattle.dynamic_areas.specs.Store.{store_of, AreClasses};
+ghost use Rattle.rma.specs.flex_frame.Keeping.{KeepsFlex};
+ghost use Rattle.rma.specs.Places.{KeepsPlaces};
+ghost use Rattle.instances_plans.specs.ModuleHeaderHeader.{header_of};
+ghost use Rattle.instances.specs.actions.Pending.{pending_of};
+ghost use Rattle.instances.specs.actions.Ready.{IsReady};
 ghost use Rattle.instances_table.specs.Changes.{is_slot_held, titled_otherwise};
-ghost use Rattle.module_tidy.specs.module_world.specs.Sound.{IsWorld};
-ghost use Rattle.module_tidy.specs.module_world.specs.World.{world_of};
+ghost use Rattle.instances.specs.world.Sound.{IsWorld};
+ghost use Rattle.instances.specs.world.World.{world_of};
 ghost use Rattle.instances.specs.Adding.{AddsImage, adding_plan, good_header, loading, slot_for};
 
 use crate::given::{given_module, is_too_long};
 use crate::instances::Instances;
 use address_map::AddressMap;
-use instances_plans::Plan;
-use instances_plans::module_header::{Header, HeaderFault};
+use dynamic_areas::Areas;
+use instances_plans::{Header, HeaderFault, Plan};
 use instances_table::Image;
-use module_tidy::dynamic_areas::Areas;
-use module_tidy::rma::Rma;
 use profile::ErrorNumber;
+use rma::Rma;
 
 impl Instances {
     /// Loads a module: its image gets a block of the module area at once. Then the instances of an

@@ -3,25 +3,25 @@
 
 ghost use Rattle.std.specs.Prelude.{◌≡◌, [], None, Some, IfSome};
 ghost use Rattle.address_map.specs.Memory.{mapping, regions};
-ghost use Rattle.module_tidy.specs.os_heap.specs.Store.{AreClasses, store_of};
-ghost use Rattle.module_tidy.specs.flex_frame.specs.Keeping.{KeepsFlex};
+ghost use Rattle.dynamic_areas.specs.Store.{AreClasses, store_of};
+ghost use Rattle.rma.specs.flex_frame.Keeping.{KeepsFlex};
 ghost use Rattle.instances_plans.specs.Carrying.{advance_of_plan, carry_of_plan};
 ghost use Rattle.instances_plans.specs.Plans.{plan_after_action, first_action, plan_after_code};
-ghost use Rattle.module_tidy.specs.module_world.specs.Records.{CarriesRecords, MayTurnRecords, TurnsRecords};
-ghost use Rattle.module_tidy.specs.module_world.specs.Sound.{IsWorld};
-ghost use Rattle.module_tidy.specs.module_world.specs.World.{world_of};
-ghost use Rattle.instances_actions.specs.Actions.{world_after_action};
-ghost use Rattle.instances_actions.specs.Pending.{pending_of};
-ghost use Rattle.module_tidy.specs.Slid.{world_slid};
+ghost use Rattle.instances.specs.world.Records.{CarriesRecords, MayTurnRecords, TurnsRecords};
+ghost use Rattle.instances.specs.world.Sound.{IsWorld};
+ghost use Rattle.instances.specs.world.World.{world_of};
+ghost use Rattle.instances.specs.actions.Actions.{world_after_action};
+ghost use Rattle.instances.specs.actions.Pending.{pending_of};
+ghost use Rattle.instances.specs.tidying.Slid.{world_slid};
 ghost use Rattle.instances.specs.Naming.{KeepsOtherInstances};
 ghost use Rattle.instances.specs.Turns.{IsUnderWay, code_called, module_doing};
 
+use crate::actions::{act, code_of};
 use crate::instances::Instances;
+use crate::tidying::slide;
 use address_map::AddressMap;
-use instances_actions::{act, code_of};
+use dynamic_areas::Areas;
 use instances_plans::{Advance, Code, Outcome, Plan, PlanAction};
-use module_tidy::dynamic_areas::Areas;
-use module_tidy::slide;
 
 impl Instances {
     /// Carries a call on: the code that was under way, if any was, has come back with this outcome;

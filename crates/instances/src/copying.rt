@@ -2,28 +2,27 @@
 ghost use Rattle.std.specs.Prelude.{◌≡◌, [], false, true, IfOk, MatchResult, Ok};
 ghost use Rattle.profile.specs.Outcome.{Gives};
 ghost use Rattle.address_map.specs.Bytes.{bytes_between};
-ghost use Rattle.module_tidy.specs.dynamic_areas.specs.Ground.{estate_of};
-ghost use Rattle.module_tidy.specs.os_heap.specs.Order.{KeepsOrder};
-ghost use Rattle.module_tidy.specs.os_heap.specs.Store.{AreClasses, store_of};
-ghost use Rattle.module_tidy.specs.flex_frame.specs.Keeping.{KeepsFlex};
-ghost use Rattle.module_tidy.specs.rma.specs.Places.{KeepsPlaces};
-ghost use Rattle.module_tidy.specs.rma.specs.Copies.{may_be_copied};
-ghost use Rattle.instances_plans.specs.module_header.specs.Header.{header_of};
-ghost use Rattle.instances_actions.specs.Pending.{pending_of};
-ghost use Rattle.instances_actions.specs.Ready.{IsReady};
-ghost use Rattle.module_tidy.specs.module_world.specs.Sound.{IsWorld};
-ghost use Rattle.module_tidy.specs.module_world.specs.World.{world_of};
+ghost use Rattle.dynamic_areas.specs.Ground.{estate_of};
+ghost use Rattle.dynamic_areas.specs.Order.{KeepsOrder};
+ghost use Rattle.dynamic_areas.specs.Store.{AreClasses, store_of};
+ghost use Rattle.rma.specs.flex_frame.Keeping.{KeepsFlex};
+ghost use Rattle.rma.specs.Places.{KeepsPlaces};
+ghost use Rattle.rma.specs.Copies.{may_be_copied};
+ghost use Rattle.instances_plans.specs.ModuleHeaderHeader.{header_of};
+ghost use Rattle.instances.specs.actions.Pending.{pending_of};
+ghost use Rattle.instances.specs.actions.Ready.{IsReady};
+ghost use Rattle.instances.specs.world.Sound.{IsWorld};
+ghost use Rattle.instances.specs.world.World.{world_of};
 ghost use Rattle.instances.specs.Adding.{AddsImage, copying};
 
 use crate::adding::header_at;
 use crate::instances::Instances;
 use address_map::AddressMap;
-use instances_plans::Plan;
-use instances_plans::module_header::Header;
+use dynamic_areas::Areas;
+use instances_plans::{Header, Plan};
 use instances_table::Image;
-use module_tidy::dynamic_areas::Areas;
-use module_tidy::rma::Rma;
 use profile::ErrorNumber;
+use rma::Rma;
 
 impl Instances {
     /// Inserts a module whose image is a copy of the `len` bytes from an address on: it gets a

@@ -4,7 +4,7 @@ ghost use Rattle.std.specs.Prelude.{◌≡◌, ◌<◌, [], Option, option_map, 
 ghost use Rattle.profile.specs.Outcome.{Leaves};
 ghost use Rattle.address_map.specs.Bytes.{AreMapped};
 ghost use Rattle.address_map.specs.Memory.{byte_at, is_mapped};
-ghost use Rattle.module_tidy.specs.dynamic_areas.specs.Ground.{Estate};
+ghost use Rattle.dynamic_areas.specs.Ground.{Estate};
 ghost use Rattle.instances_plans.specs.Plans.{Plan};
 ghost use Rattle.instances_table.specs.Lookup.{told_of_module, told_of_place};
 ghost use Rattle.instances_table.specs.Changes.{preferring, modules_after_rename};
@@ -13,9 +13,9 @@ ghost use Rattle.instances.specs.Reading.{instance_looked_up, instance_info};
 ghost use Rattle.instances.specs.Turns.{MayGoOn};
 
 use crate::answers::{Found, Told};
+use crate::world::private_value;
 use address_map::AddressMap;
 use instances_table::{InstanceInfo, InstanceTable, ModuleInfo, Place};
-use module_tidy::module_world::private_value;
 use profile::ErrorNumber;
 use std::marker::Model;
 

@@ -1,7 +1,7 @@
 //! The plan of the call that adds an instance to a module.
 ghost use Rattle.std.specs.Prelude.{◌≡◌, [], false, IfOk};
-ghost use Rattle.instances_actions.specs.Pending.{pending_of};
-ghost use Rattle.instances_actions.specs.Ready.{IsReady};
+ghost use Rattle.instances.specs.actions.Pending.{pending_of};
+ghost use Rattle.instances.specs.actions.Ready.{IsReady};
 ghost use Rattle.instances.specs.Adding.{instantiation};
 
 use crate::given::{given_instance, is_too_long};

@@ -2,6 +2,7 @@
 //! OS_Module.
 #![tactic(auto)]
 
+pub mod actions;
 pub mod adding;
 pub mod advance;
 pub mod answers;
@@ -12,9 +13,12 @@ pub mod instances;
 pub mod instantiating;
 pub mod plans;
 pub mod reading;
+pub mod tidying;
+pub mod world;
 
 pub use answers::{Found, Start, Told};
+pub use dynamic_areas::Area;
 pub use instances::Instances;
-pub use instances_actions::module_world;
 pub use instances_plans::{Advance, Code, CodeKind, Ended, Outcome, Plan};
 pub use instances_table::{Handler, InstanceInfo, InstanceTable, ModuleInfo, Place};
+pub use rma::Rma;

@@ -2,8 +2,8 @@
 #![tactic(auto, using(crate::proofs::ReadyLemmas::plans_ready), unfolding(crate::specs::Plans::deletion, crate::specs::Plans::reinitialisation))]
 
 ghost use Rattle.std.specs.Prelude.{◌≡◌, [], false, IfOk};
-ghost use Rattle.instances_actions.specs.Pending.{pending_of};
-ghost use Rattle.instances_actions.specs.Ready.{IsReady};
+ghost use Rattle.instances.specs.actions.Pending.{pending_of};
+ghost use Rattle.instances.specs.actions.Ready.{IsReady};
 ghost use Rattle.instances.specs.Plans.{clearing, deletion, reinitialisation, tidying};
 
 use crate::given::{given_only, is_too_long};

@@ -3,8 +3,7 @@
 ghost use Rattle.std.specs.Prelude.{◌≡◌, ◌<◌};
 ghost use Rattle.instances_plans.specs.Code.{private_of};
 
-use module_header::profile::ErrorNumber;
-use module_header::profile::memory_map::PRIVATE_WORDS;
+use module_header::{ErrorNumber, PRIVATE_WORDS};
 
 /// Which of its entries a module is entered at.
 #[derive(Clone, Copy, Debug, PartialEq, Eq)]

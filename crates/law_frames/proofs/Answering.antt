@@ -4,10 +4,10 @@ use Rattle.profile.specs.declared.swi.SwiName.{SwiName}
 use Rattle.profile.specs.declared.swi.SwiName.TheVariants as swi
 use Rattle.arm_core.specs.State.{State, register_of}
 use Rattle.os_heap.specs.Store.{Store}
-use Rattle.flex_machine.specs.module_world.specs.dynamic_areas.specs.Ground.{Estate}
-use Rattle.flex_machine.specs.module_world.specs.World.{World}
+use Rattle.swi_dispatch_plans.specs.Ground.{Estate}
+use Rattle.swi_dispatch_plans.specs.world.World.{World}
 use Rattle.swi_dispatch_answers.specs.declared.refusal.Refusal.{Refusal}
-use Rattle.swi_dispatch_flex.specs.Calls.{FlexMemory}
+use Rattle.swi_dispatch_guest.specs.SwiDispatchFlexCalls.{FlexMemory}
 use Rattle.swi_dispatch_guest.specs.Answers.{went_on}
 use Rattle.swi_dispatch_guest.specs.Calls.{call_answer, on_estate, on_flex, on_store, on_world, wrote_text_after, wrote_text_at}
 use Rattle.swi_dispatch_guest.specs.MachineState.{MachineState, StepOutcome}

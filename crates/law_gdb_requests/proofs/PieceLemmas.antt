@@ -1,19 +1,14 @@
 -- Pieces of packets, read: ranges, points, stores, threads, actions and what calls came to.
-use Rattle.std.proofs.Common.{◌≡◌, inl, inr, ℕ, Bool, true, false, not}
-use Rattle.std.proofs.Common.{List, [], ◌∷◌, refl, ap, sym, subst, ◌∙◌}
+use Rattle.std.proofs.Common.{◌≡◌, inl, inr, ℕ, Bool, true, false, not, List, [], ◌∷◌, refl, ap, sym, subst, ◌∙◌}
 use Rattle.std.specs.Prelude.{Option, Some, None, is_some, ◌==◌, codes}
 use Rattle.gdb_packets.specs.Digits.{digit_value}
 use Rattle.gdb_packets.specs.Numbers.{packet_number}
 use Rattle.gdb_packets.specs.Requests as request
-use Rattle.gdb_packets.specs.Requests.{GdbRequest, PacketParts, action_for_parts, action_for_thread, action_request, actions_in, actions_request}
-use Rattle.gdb_packets.specs.Requests.{byte_range_of, host_answer_flagged, host_answer_in, host_answer_request, if_told, is_known_packet, is_thread}
-use Rattle.gdb_packets.specs.Requests.{parts_around, point_kind, point_of_kind, point_request, range_of_both, range_of_parts}
-use Rattle.gdb_packets.specs.Requests.{set_register_request, store_bytes_request, store_pairs_request}
+use Rattle.gdb_packets.specs.Requests.{GdbRequest, PacketParts, action_for_parts, action_for_thread, action_request, actions_in, actions_request, byte_range_of, host_answer_flagged, host_answer_in, host_answer_request, if_told, is_known_packet, is_thread, parts_around, point_kind, point_of_kind, point_request, range_of_both, range_of_parts, set_register_request, store_bytes_request, store_pairs_request}
 use Rattle.gdb_packets.specs.declared.requests.ByteRange.{ByteRange}
 use Rattle.gdb_packets.specs.declared.requests.PointKind.{PointKind}
 use Rattle.gdb_packets.specs.declared.requests.PointKind.TheVariants as point
-use Rattle.law_gdb_requests.specs.Grammar.{AreActions, HasNumber, Is, IsAction, IsAnyForThread, IsCallEnd, IsCallStopped, IsForThread, IsKind}
-use Rattle.law_gdb_requests.specs.Grammar.{IsNumber, IsPoint, IsRange, IsStoreText, IsThread, Parted}
+use Rattle.law_gdb_requests.specs.Grammar.{AreActions, HasNumber, Is, IsAction, IsAnyForThread, IsCallEnd, IsCallStopped, IsForThread, IsKind, IsNumber, IsPoint, IsRange, IsStoreText, IsThread, Parted}
 use Rattle.law_gdb_requests.proofs.PartLemmas.{Free, free_append, free_cons, number_free, or_true, parts_found, parts_none, some_free, thread_free}
 
 -- what parts a text in two kinds is read as

@@ -2,15 +2,12 @@
 use Rattle.std.proofs.Common.{◌≡◌, ◌<◌, ◌⊎◌, inl, inr, ℕ, Bool, true, false, List, [], ◌∷◌, ◌++◌, length, refl, ap, sym, subst, ◌∙◌, arith}
 use Rattle.std.specs.Prelude.{Option, None, codes, take}
 use Rattle.gdb_packets.specs.Requests as request
-use Rattle.gdb_packets.specs.Requests.{GdbRequest, about_attachment, about_libraries, about_process, about_session, about_target, actions_or, attachment_or}
-use Rattle.gdb_packets.specs.Requests.{begins_word, byte_range_of, if_told, kill_or_run, lettered_request, libraries_or, line_or_description, of_range}
-use Rattle.gdb_packets.specs.Requests.{opened_request, packet_request, register_request, supported_or, whole_word_request, word_request}
+use Rattle.gdb_packets.specs.Requests.{GdbRequest, about_attachment, about_libraries, about_process, about_session, about_target, actions_or, attachment_or, begins_word, byte_range_of, if_told, kill_or_run, lettered_request, libraries_or, line_or_description, of_range, opened_request, packet_request, register_request, supported_or, whole_word_request, word_request}
 use Rattle.gdb_packets.specs.declared.requests.ByteRange.{ByteRange}
 use Rattle.std.specs.Str.{bytes_eq}
 use Rattle.law_gdb_requests.specs.Grammar.{AsksFor, Behind, HasNumber, Is, IsCallEnd, IsGoing, IsNumber, IsRange, IsThread}
 use Rattle.law_gdb_requests.proofs.PartLemmas.{behind_found, behind_missing, number_long, parted_long, some_long, thread_long}
-use Rattle.law_gdb_requests.proofs.PieceLemmas.{call_end_read, call_stopped_read, continues_read, point_read, range_read, set_register_read}
-use Rattle.law_gdb_requests.proofs.PieceLemmas.{steps_read, store_bytes_read, store_pairs_read, thread_read}
+use Rattle.law_gdb_requests.proofs.PieceLemmas.{call_end_read, call_stopped_read, continues_read, point_read, range_read, set_register_read, steps_read, store_bytes_read, store_pairs_read, thread_read}
 
 -- PACKETS OF A LETTER AND WHAT FOLLOWS
 

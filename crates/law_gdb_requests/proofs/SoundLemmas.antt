@@ -1,23 +1,17 @@
 -- What a text is read as, it asks for by the grammar.
-use Rattle.std.proofs.Common.{◌≡◌, ◌<◌, ◌⊎◌, inl, inr, ℕ, Bool, true, false, ◌&&◌, ◌||◌}
-use Rattle.std.proofs.Common.{List, [], ◌∷◌, ◌++◌, length, refl, ap, subst, ◌∙◌, arith}
+use Rattle.std.proofs.Common.{◌≡◌, ◌<◌, ◌⊎◌, inl, inr, ℕ, Bool, true, false, ◌&&◌, ◌||◌, List, [], ◌∷◌, ◌++◌, length, refl, ap, subst, ◌∙◌, arith}
 use Rattle.std.proofs.lemmas.Bool.{eqb-true}
 use Rattle.std.proofs.lemmas.Option.{none-some}
 use Rattle.std.specs.Prelude.{Option, Some, None, is_some, ◌==◌, codes, if◌then◌else◌}
 use Rattle.std.specs.Str.{bytes_eq}
 use Rattle.gdb_packets.specs.Numbers.{packet_number}
 use Rattle.gdb_packets.specs.Requests as request
-use Rattle.gdb_packets.specs.Requests.{GdbRequest, PacketParts}
-use Rattle.gdb_packets.specs.Requests.{byte_range_of, control_request, first_told, host_answer_flagged, host_answer_in, host_answer_request}
-use Rattle.gdb_packets.specs.Requests.{if_told, is_process, is_thread, lettered_request, lone_request, of_range, parts_around, point_kind}
-use Rattle.gdb_packets.specs.Requests.{point_of_kind, point_request, range_of_both, range_of_parts, register_request, set_register_numbered}
-use Rattle.gdb_packets.specs.Requests.{set_register_request, store_bytes_request, store_pairs_request, thread_request}
+use Rattle.gdb_packets.specs.Requests.{GdbRequest, PacketParts, byte_range_of, control_request, first_told, host_answer_flagged, host_answer_in, host_answer_request, if_told, is_process, is_thread, lettered_request, lone_request, of_range, parts_around, point_kind, point_of_kind, point_request, range_of_both, range_of_parts, register_request, set_register_numbered, set_register_request, store_bytes_request, store_pairs_request, thread_request}
 use Rattle.gdb_packets.specs.declared.requests.ByteRange.{ByteRange}
 use Rattle.gdb_packets.specs.declared.requests.PointKind.{PointKind}
 use Rattle.gdb_packets.specs.declared.requests.PointKind.TheVariants as point
 use Rattle.gdb_packets.proofs.ReadingLemmas.{both_true}
-use Rattle.law_gdb_requests.specs.Grammar.{AsksFor, IsCallEnd}
-use Rattle.law_gdb_requests.specs.Grammar.{IsKind, IsPoint, IsRange, IsThread}
+use Rattle.law_gdb_requests.specs.Grammar.{AsksFor, IsCallEnd, IsKind, IsPoint, IsRange, IsThread}
 use Rattle.law_gdb_requests.proofs.PartLemmas.{or_either, parts_were, same_bytes}
 
 abbrev AsksOrUnknown : GdbRequest → List ℕ → Type 0

@@ -5,10 +5,7 @@ use Rattle.std.proofs.lemmas.Bool.{eqb-true}
 use Rattle.std.specs.Str.{bytes_eq}
 use Rattle.gdb_packets.specs.Numbers.{packet_number}
 use Rattle.gdb_packets.specs.Requests as request
-use Rattle.gdb_packets.specs.Requests.{GdbRequest, PacketParts, about_attachment, about_libraries, about_process, about_session, about_target, action_for_parts}
-use Rattle.gdb_packets.specs.Requests.{action_for_thread, action_request, actions_in, actions_or, actions_request, attachment_or, behind_opening, byte_range_of}
-use Rattle.gdb_packets.specs.Requests.{is_known_packet, is_thread, kill_or_run, libraries_or, line_or_description}
-use Rattle.gdb_packets.specs.Requests.{opened_request, packet_request, parts_around, supported_or, whole_word_request, word_request}
+use Rattle.gdb_packets.specs.Requests.{GdbRequest, PacketParts, about_attachment, about_libraries, about_process, about_session, about_target, action_for_parts, action_for_thread, action_request, actions_in, actions_or, actions_request, attachment_or, behind_opening, byte_range_of, is_known_packet, is_thread, kill_or_run, libraries_or, line_or_description, opened_request, packet_request, parts_around, supported_or, whole_word_request, word_request}
 use Rattle.law_gdb_requests.specs.Grammar.{AreActions, IsAction, IsAnyForThread, IsForThread}
 use Rattle.law_gdb_requests.proofs.PartLemmas.{behind_was, parts_were, same_bytes}
 use Rattle.law_gdb_requests.proofs.SoundLemmas.{Sound, first_sound, if_sound, lettered_sound, lone_sound, of_range_sound, range_was, thread_was, told_sound, unknown}

@@ -12,14 +12,14 @@ use Rattle.profile.specs.declared.swi.SwiName.{SwiName}
 use Rattle.profile.specs.declared.swi.SwiName.TheVariants as swi
 use Rattle.arm_core.specs.State.{State, register_of, with_register}
 use Rattle.image_loader.specs.Entries.{Entry}
-use Rattle.os_heap_lists.specs.Heap.{HeapList}
+use Rattle.os_heap_words.specs.lists.Heap.{HeapList}
 use Rattle.os_heap.specs.Calls.{has_own_size}
 use Rattle.os_heap.specs.Store.{IsSound, Store, find_heap}
 use Rattle.dynamic_areas.specs.Areas.{extent_asked}
 use Rattle.dynamic_areas.specs.declared.area.Extent.{Extent}
 use Rattle.instances_table.specs.Lookup.{handler_of}
 use Rattle.instances_table.specs.declared.parts.Handler.{Handler}
-use Rattle.flex_machine.specs.flex_store.specs.Calls.{flex_block_size}
+use Rattle.flex_store.specs.Calls.{flex_block_size}
 use Rattle.law_heap_calls.proofs.WholeHeaps.{others_whole}
 use Rattle.law_heap_calls.specs.Laws.{HeapHasNoAnchor, IsLeftWhole, KeepsHeap}
 use Rattle.law_heap_calls.specs.Lists.{is_call_to}
@@ -27,9 +27,9 @@ use Rattle.law_heap_calls.specs.Turns.{call_on}
 use Rattle.swi_dispatch_answers.specs.Refusals.{or_error}
 use Rattle.swi_dispatch_answers.specs.declared.refusal.Refusal.{Refusal}
 use Rattle.swi_dispatch_answers.specs.declared.refusal.Refusal.TheVariants as refusal
-use Rattle.swi_dispatch_flex.specs.Calls.{flex_called, state_in}
-use Rattle.swi_dispatch_store.specs.Areas.{area_called, area_changed, area_read, change_asked, with_extent}
-use Rattle.swi_dispatch_store.specs.Heaps.{heap_called, heap_called_for}
+use Rattle.swi_dispatch_guest.specs.SwiDispatchFlexCalls.{flex_called, state_in}
+use Rattle.swi_dispatch_plans.specs.store.Areas.{area_called, area_changed, area_read, change_asked, with_extent}
+use Rattle.swi_dispatch_plans.specs.store.Heaps.{heap_called, heap_called_for}
 use Rattle.swi_dispatch_guest.specs.declared.halt.Halt.TheVariants as halt
 use Rattle.swi_dispatch_guest.specs.Answers.{Answer, refusal_answer, went_on}
 use Rattle.swi_dispatch_guest.specs.Calls.{call_answer, machine_flex, on_estate, on_flex, on_store, printable_at, with_guest, wrote_text_after, wrote_text_at}

@@ -19,11 +19,11 @@ use Rattle.arm_core.specs.declared.turn.Turn.TheVariants as turn
 use Rattle.dynamic_areas.specs.Areas.{extent_asked}
 use Rattle.dynamic_areas.specs.declared.area.Extent.{Extent}
 use Rattle.flex_machine.specs.Ground.{with_flex_record}
-use Rattle.flex_machine.specs.flex_store.specs.Calls.{FlexState, flex_after_alloc, flex_after_init, flex_after_extend, mid_extended, flex_after_release, flex_block_size}
+use Rattle.flex_store.specs.Calls.{FlexState, flex_after_alloc, flex_after_init, flex_after_extend, mid_extended, flex_after_release, flex_block_size}
 use Rattle.image_loader.specs.Entries.{Entry}
 use Rattle.instances_table.specs.Lookup.{handler_of}
 use Rattle.instances_table.specs.declared.parts.Handler.{Handler}
-use Rattle.os_heap_lists.specs.Heap.{HeapList}
+use Rattle.os_heap_words.specs.lists.Heap.{HeapList}
 use Rattle.os_heap.proofs.Found.{found_start}
 use Rattle.os_heap.specs.Calls.{has_own_size}
 use Rattle.os_heap.specs.Store.{Store, find_heap}
@@ -34,9 +34,9 @@ use Rattle.law_heap_frame.specs.Fits.{LiesInArea}
 use Rattle.swi_dispatch_answers.specs.Refusals.{or_error}
 use Rattle.swi_dispatch_answers.specs.declared.refusal.Refusal.{Refusal}
 use Rattle.swi_dispatch_answers.specs.declared.refusal.Refusal.TheVariants as refusal
-use Rattle.swi_dispatch_flex.specs.Calls.{fit_told, flex_called, memory_after_flex, state_in}
-use Rattle.swi_dispatch_store.specs.Areas.{area_called, area_changed, area_read, with_extent}
-use Rattle.swi_dispatch_store.specs.Heaps.{heap_called, heap_called_for}
+use Rattle.swi_dispatch_guest.specs.SwiDispatchFlexCalls.{fit_told, flex_called, memory_after_flex, state_in}
+use Rattle.swi_dispatch_plans.specs.store.Areas.{area_called, area_changed, area_read, with_extent}
+use Rattle.swi_dispatch_plans.specs.store.Heaps.{heap_called, heap_called_for}
 use Rattle.swi_dispatch_guest.specs.declared.halt.Halt.TheVariants as halt
 use Rattle.swi_dispatch_guest.proofs.NextTurn.{awake_step, outside_call}
 use Rattle.swi_dispatch_guest.specs.Answers.{Answer, refusal_answer, went_on}

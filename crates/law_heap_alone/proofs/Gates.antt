@@ -5,7 +5,7 @@ use Rattle.std.specs.Prelude.{IfSome, if◌then◌else◌}
 use Rattle.profile.specs.declared.fault.Fault.TheVariants.{StackChanged}
 use Rattle.arm_core.specs.State.{register_in}
 use Rattle.arm_core.specs.declared.psr.Mode.TheVariants.{Supervisor}
-use Rattle.os_heap_lists.specs.Heap.{HeapList}
+use Rattle.os_heap_words.specs.lists.Heap.{HeapList}
 use Rattle.instances.proofs.Turning.{going_back}
 use Rattle.instances.specs.Turns.{IsUnderWay, MayGoOn}
 use Rattle.instances_plans.specs.declared.action.PlanAction.{PlanAction}
@@ -13,10 +13,10 @@ use Rattle.instances_plans.specs.declared.code.Outcome.{Outcome as CodeOutcome}
 use Rattle.instances_plans.specs.declared.code.Outcome.TheVariants.{Refused, Well}
 use Rattle.instances_plans.specs.declared.given.Given.{Given}
 use Rattle.instances_plans.specs.Plans.{Plan, first_action, plan_after_code, settled_by}
-use Rattle.swi_dispatch_frames.specs.declared.frame.Frame.{Frame}
-use Rattle.swi_dispatch_frames.specs.declared.frame.FrameKind.{FrameKind}
-use Rattle.swi_dispatch_frames.specs.declared.frame.FrameKind.TheVariants as frame_kind
-use Rattle.swi_dispatch_frames.specs.Frames.{innermost_frame}
+use Rattle.swi_dispatch_answers.specs.declared.frames.frame.Frame.{Frame}
+use Rattle.swi_dispatch_answers.specs.declared.frames.frame.FrameKind.{FrameKind}
+use Rattle.swi_dispatch_answers.specs.declared.frames.frame.FrameKind.TheVariants as frame_kind
+use Rattle.swi_dispatch_answers.specs.frames.Frames.{innermost_frame}
 use Rattle.swi_dispatch_guest.specs.declared.halt.Halt.TheVariants as halt
 use Rattle.swi_dispatch_guest.specs.Gates.{carried_on, come_back, entry_left, fault_ahead, frame_closed, frame_left, outcome_of_gate, gated_by, outcome_left, plan_left, unless_fault}
 use Rattle.swi_dispatch_guest.specs.MachineState.{MachineState, machine_world, quiet}
@@ -26,7 +26,7 @@ use Rattle.law_heap_frame.proofs.Slots.{doable_below}
 use Rattle.law_heap_frame.specs.PlanLaws.{IsFitWorld}
 use Rattle.law_heap_alone.proofs.ModuleHosts.{IsHost, KeepsRecorded, carried_out, fit_world, outside_stays}
 use Rattle.law_heap_alone.proofs.ModulePlans.{IsFitPlan}
-use Rattle.instances_actions.proofs.Readying.{given_stays}
+use Rattle.instances.proofs.ActionsLemmas.Readying.{given_stays}
 
 -- code that comes back leaves what its plan was given
 pub given_by : (p : Plan) (o : CodeOutcome) (a : Option PlanAction) → (settled_by p o a).given ≡ p.given

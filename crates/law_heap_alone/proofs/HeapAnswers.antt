@@ -16,7 +16,7 @@ use Rattle.swi_dispatch_answers.specs.Refusals.{or_error}
 use Rattle.swi_dispatch_answers.specs.Returns.{return_word, state_after_return}
 use Rattle.swi_dispatch_answers.specs.declared.refusal.Refusal.{Refusal}
 use Rattle.swi_dispatch_answers.specs.declared.refusal.Refusal.TheVariants as refusal
-use Rattle.swi_dispatch_store.specs.Heaps.{heap_called_for}
+use Rattle.swi_dispatch_plans.specs.store.Heaps.{heap_called_for}
 use Rattle.law_heap_calls.specs.Turns.{call_on}
 
 -- R2 and R3 are the same registers in all modes, and so are those of a call that goes back

@@ -6,7 +6,7 @@ use Rattle.std.proofs.lemmas.Bool.{both_ways, false_from_ne_true}
 use Rattle.profile.specs.ErrorNames.{error_code, error_name}
 use Rattle.profile.specs.declared.error.ErrorNumber.{ErrorNumber}
 use Rattle.address_map.specs.Bytes.{Bytes, in_range, with_word_at}
-use Rattle.os_heap_lists.specs.Heap.{HeapList}
+use Rattle.os_heap_words.specs.lists.Heap.{HeapList}
 use Rattle.os_heap.proofs.Stores.{clear_of-found}
 use Rattle.os_heap.specs.Store.{IsSound, Store, find_heap}
 use Rattle.dynamic_areas.proofs.SystemWrites.{system_clear}

@@ -3,7 +3,7 @@ use Rattle.swi_dispatch_guest.specs.Moves.{Move, machine_after_move, moved_all}
 use Rattle.std.proofs.Common.{ℕ, ◌≡◌, ◌++◌, ◌∙◌, Bool, true, false, List, [], ◌∷◌, Some, refl, sym, ap, subst, inl, inr, if◌then◌else◌}
 use Rattle.std.proofs.lemmas.Bool.{cases_Bool}
 use Rattle.image_loader.specs.Entries.{Entry}
-use Rattle.os_heap_lists.specs.Heap.{HeapList}
+use Rattle.os_heap_words.specs.lists.Heap.{HeapList}
 use Rattle.law_heap_calls.specs.Alone.{Alone, HeapCall, alone_in}
 use Rattle.law_heap_calls.proofs.NoHeapInside.{whole_alone}
 use Rattle.law_heap_calls.specs.Laws.{KeepsHeap}

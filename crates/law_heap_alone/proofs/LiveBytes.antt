@@ -18,9 +18,9 @@ use Rattle.arm_core.specs.State.{State, register_of}
 use Rattle.arm_core.specs.declared.turn.Turn.{Turn}
 use Rattle.arm_core.specs.declared.turn.Turn.TheVariants as turn
 use Rattle.image_loader.specs.Entries.{Entry}
-use Rattle.os_heap_lists.proofs.LiveBlocks.{LiveBytes, law_live_bytes}
-use Rattle.os_heap_lists.specs.Heap.{HeapList, IsHeapIn}
-use Rattle.os_heap_lists.specs.Lists.{live_total}
+use Rattle.os_heap_words.proofs.ListsLemmas.LiveBlocks.{LiveBytes, law_live_bytes}
+use Rattle.os_heap_words.specs.lists.Heap.{HeapList, IsHeapIn}
+use Rattle.os_heap_words.specs.lists.Lists.{live_total}
 use Rattle.address_map.specs.Items.{size_of}
 use Rattle.os_heap.proofs.Apart.{block_inside, range_parts}
 use Rattle.os_heap.proofs.Found.{found_heap}
@@ -34,7 +34,7 @@ use Rattle.law_heap_calls.specs.Laws.{IsNotForgotten, KeepsHeap, starts_inside}
 use Rattle.law_heap_calls.specs.Lists.{is_call_to, is_on_heap}
 use Rattle.law_heap_calls.specs.Turns.{call_on}
 use Rattle.swi_dispatch_answers.specs.declared.refusal.Refusal.{Refusal}
-use Rattle.swi_dispatch_store.specs.Heaps.{heap_called, heap_called_for}
+use Rattle.swi_dispatch_plans.specs.store.Heaps.{heap_called, heap_called_for}
 use Rattle.swi_dispatch_guest.proofs.Kept.{by_words}
 use Rattle.swi_dispatch_guest.proofs.NextTurn.{awake_step, outside_call}
 use Rattle.swi_dispatch_guest.specs.declared.halt.Halt.TheVariants as halt

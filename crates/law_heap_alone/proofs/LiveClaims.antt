@@ -13,10 +13,10 @@ use Rattle.os_heap.proofs.Found.{found_start}
 use Rattle.os_heap.specs.Store.{Store, find_heap}
 use Rattle.dynamic_areas.specs.Ground.{Estate}
 use Rattle.rma.specs.Calls.{rma_claimed, rma_freed}
-use Rattle.module_world.specs.World.{World}
+use Rattle.instances.specs.world.World.{World}
 use Rattle.swi_dispatch_answers.specs.Refusals.{or_error}
 use Rattle.swi_dispatch_answers.specs.declared.refusal.Refusal.{Refusal}
-use Rattle.swi_dispatch_modules.specs.Calls.{result_of_module_call as area_called, module_called_for as area_called_for}
+use Rattle.swi_dispatch_plans.specs.modules.Calls.{result_of_module_call as area_called, module_called_for as area_called_for}
 use Rattle.swi_dispatch_guest.specs.Answers.{went_on}
 use Rattle.swi_dispatch_guest.specs.Calls.{call_answer, on_world}
 use Rattle.swi_dispatch_guest.specs.Errors.{with_error}

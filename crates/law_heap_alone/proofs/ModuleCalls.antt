@@ -11,12 +11,12 @@ use Rattle.profile.specs.declared.reason.ModuleReason.TheVariants as reason
 use Rattle.profile.specs.declared.swi.SwiName.TheVariants as swi
 use Rattle.arm_core.specs.State.{State, register_of, with_register}
 use Rattle.image_loader.specs.Entries.{Entry}
-use Rattle.os_heap_lists.specs.Heap.{HeapList}
+use Rattle.os_heap_words.specs.lists.Heap.{HeapList}
 use Rattle.dynamic_areas.specs.Ground.{Estate}
 use Rattle.rma.specs.Calls.{rma_claimed, rma_extended, rma_freed}
 use Rattle.instances.proofs.GoingOn.{bound as bound_any}
 use Rattle.instances.specs.Reading.{instance_info}
-use Rattle.module_world.specs.World.{World}
+use Rattle.instances.specs.world.World.{World}
 use Rattle.instances_plans.specs.Plans.{Plan}
 use Rattle.instances_table.specs.Changes.{preferring, modules_after_rename}
 use Rattle.instances_table.specs.Modules.{Module}
@@ -26,8 +26,8 @@ use Rattle.swi_dispatch_answers.specs.Strings.{string_in}
 use Rattle.swi_dispatch_answers.specs.Words.{host_string}
 use Rattle.swi_dispatch_answers.specs.declared.refusal.Refusal.{Refusal}
 use Rattle.swi_dispatch_answers.specs.declared.refusal.Refusal.TheVariants as refusal
-use Rattle.swi_dispatch_modules.specs.Calls.{result_of_module_call as area_called, module_called_for as area_called_for}
-use Rattle.swi_dispatch_modules.specs.Naming.{instance_found, instance_preferred, instance_renamed, place_asked, with_told}
+use Rattle.swi_dispatch_plans.specs.modules.Calls.{result_of_module_call as area_called, module_called_for as area_called_for}
+use Rattle.swi_dispatch_plans.specs.modules.Naming.{instance_found, instance_preferred, instance_renamed, place_asked, with_told}
 use Rattle.swi_dispatch_plans.specs.Openings.{opening_asked}
 use Rattle.swi_dispatch_plans.specs.declared.openings.Opening.{Opening}
 use Rattle.swi_dispatch_plans.specs.ImagePlans.{instantiation_planned}

@@ -3,22 +3,22 @@
 use Rattle.std.proofs.Common.{ℕ, ◌≡◌, ◌≤◌, Bool, true, false, length, List, [], ◌∷◌, Option, Some, None, Result, Ok, Err, refl, sym, subst}
 use Rattle.std.specs.Prelude.{IfSome}
 use Rattle.profile.specs.declared.error.ErrorNumber.{ErrorNumber}
-use Rattle.os_heap_lists.specs.Heap.{HeapList}
+use Rattle.os_heap_words.specs.lists.Heap.{HeapList}
 use Rattle.os_heap.specs.Calls.{has_own_size}
 use Rattle.os_heap.specs.Store.{Store, find_heap}
 use Rattle.instances.specs.Turns.{MayGoOn, module_doing}
 use Rattle.instances.specs.declared.answers.Start.{Start}
 use Rattle.instances.specs.Reading.{start_found}
-use Rattle.instances_actions.specs.Actions.{world_after_action}
-use Rattle.module_world.specs.World.{World}
+use Rattle.instances.specs.actions.Actions.{world_after_action}
+use Rattle.instances.specs.world.World.{World}
 use Rattle.instances_plans.specs.declared.action.PlanAction.{PlanAction}
 use Rattle.instances_plans.specs.declared.code.Code.{Code}
 use Rattle.instances_plans.specs.declared.given.Given.{Given}
 use Rattle.instances_plans.specs.Carrying.{Carried, carry_of_plan, carried_by, carried_from}
 use Rattle.instances_plans.specs.Plans.{Plan, actions_owed}
-use Rattle.module_tidy.specs.Slid.{world_slid}
+use Rattle.instances.specs.tidying.Slid.{world_slid}
 use Rattle.instances_table.specs.Modules.{AreModules}
-use Rattle.swi_dispatch_frames.specs.declared.call.Call.{Call}
+use Rattle.swi_dispatch_answers.specs.declared.frames.call.Call.{Call}
 use Rattle.swi_dispatch_plans.specs.Trials.{world_carried}
 use Rattle.swi_dispatch_guest.specs.Gates.{call_ended_by, carried_on, ended_of, entered_if, entered_with, state_after_plan, state_with_code_entered}
 use Rattle.swi_dispatch_guest.specs.MachineState.{MachineState, machine_estate, machine_world}

@@ -18,7 +18,7 @@ use Rattle.instances.proofs.GoingOn.{bound as bound_any}
 use Rattle.instances.specs.Adding.{adding_plan, copying, good_header, inserting, instantiation, loading, slot_for}
 use Rattle.instances.specs.Given.{given_module}
 use Rattle.instances.specs.Reading.{slot_meant, start_found}
-use Rattle.module_world.specs.World.{World}
+use Rattle.instances.specs.world.World.{World}
 use Rattle.instances_plans.specs.Plans.{Plan}
 use Rattle.instances_table.specs.declared.parts.Image.{Image}
 use Rattle.instances_table.specs.Changes.{free_slot_for, modules_of_title, titled_otherwise}

@@ -10,7 +10,7 @@ use Rattle.profile.specs.declared.swi.SwiName.{SwiName}
 use Rattle.profile.specs.declared.swi.SwiName.TheVariants as swi
 use Rattle.address_map.specs.Bytes.{in_range}
 use Rattle.arm_core.specs.State.{State, register_of}
-use Rattle.os_heap_lists.specs.Heap.{HeapList}
+use Rattle.os_heap_words.specs.lists.Heap.{HeapList}
 use Rattle.os_heap.specs.Calls.{has_own_size}
 use Rattle.os_heap.specs.Store.{Store, find_heap}
 use Rattle.dynamic_areas.specs.Areas.{Land, area_in, find_area, next_number, areas_after_renumber, with_areas}
@@ -35,8 +35,8 @@ use Rattle.law_sliding.specs.Turning.{Call, Init, StoreTurn, stores_after_flex, 
 use Rattle.swi_dispatch_answers.specs.Refusals.{or_error, system_error}
 use Rattle.swi_dispatch_answers.specs.Strings.{string_at}
 use Rattle.swi_dispatch_answers.specs.declared.refusal.Refusal.{Refusal}
-use Rattle.swi_dispatch_flex.specs.Calls.{fit_told, flex_called, memory_after_flex as memory_left}
-use Rattle.swi_dispatch_store.specs.Areas.{area_called_for, area_changed, area_made, area_named, area_resized, change_asked, change_left, wanted_of, with_land}
+use Rattle.swi_dispatch_guest.specs.SwiDispatchFlexCalls.{fit_told, flex_called, memory_after_flex as memory_left}
+use Rattle.swi_dispatch_plans.specs.store.Areas.{area_called_for, area_changed, area_made, area_named, area_resized, change_asked, change_left, wanted_of, with_land}
 use Rattle.swi_dispatch_guest.specs.Calls.{machine_flex, on_estate, on_flex, with_guest}
 use Rattle.swi_dispatch_guest.specs.MachineState.{MachineState, machine_estate}
 use Rattle.law_heap_alone.proofs.Keeping.{Went}

@@ -3,7 +3,7 @@ use Rattle.profile.specs.MemoryMap.{error_block_start}
 use Rattle.std.proofs.Common.{ℕ, ◌≡◌, ◌≤◌, ◌+◌, true, lit≤, List, [], ◌∷◌, length, Option, Some, None, refl, sym, ap, subst}
 use Rattle.address_map.specs.declared.region.Region.{Region}
 use Rattle.arm_core.specs.State.{State}
-use Rattle.os_heap_lists.specs.Heap.{HeapList}
+use Rattle.os_heap_words.specs.lists.Heap.{HeapList}
 use Rattle.os_heap.specs.Store.{IsSound, store_of}
 use Rattle.dynamic_areas.proofs.HeapCalls.{system_mapped}
 use Rattle.dynamic_areas.specs.Ground.{IsEstate, IsRecorded, system_pages_range}
@@ -11,12 +11,12 @@ use Rattle.instances_plans.specs.Plans.{Plan}
 use Rattle.instances_table.specs.Modules.{AreModules}
 use Rattle.instances_table.specs.declared.parts.Image.{Image}
 use Rattle.flex_machine.specs.Ground.{HasFlex}
-use Rattle.flex_machine.specs.module_world.specs.Sound.{AreSolid}
-use Rattle.flex_machine.specs.module_world.specs.World.{World}
+use Rattle.instances.specs.world.Sound.{AreSolid}
+use Rattle.instances.specs.world.World.{World}
 use Rattle.law_sliding.proofs.Turns.{machines_have}
 use Rattle.law_sliding.specs.Meaning.{AreStores, Stores}
-use Rattle.swi_dispatch_plans.specs.instances.specs.Turns.{MayGoOn}
-use Rattle.swi_dispatch_plans.specs.instances.specs.instances_actions.specs.Pending.{is_pending, pending_of}
+use Rattle.instances.specs.Turns.{MayGoOn}
+use Rattle.instances.specs.actions.Pending.{is_pending, pending_of}
 use Rattle.law_heap_calls.specs.Laws.{AreImagesFull, IsGuestHeap}
 use Rattle.swi_dispatch_guest.proofs.FlexCalls.{pending_one}
 use Rattle.swi_dispatch_guest.specs.MachineState.{MachineState, machine_estate, machine_world}

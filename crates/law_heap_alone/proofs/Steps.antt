@@ -13,7 +13,7 @@ use Rattle.arm_core.specs.State.{State, register_of}
 use Rattle.arm_core.specs.declared.turn.Turn.{Turn}
 use Rattle.arm_core.specs.declared.turn.Turn.TheVariants as turn
 use Rattle.image_loader.specs.Entries.{Entry}
-use Rattle.os_heap_lists.specs.Heap.{HeapList}
+use Rattle.os_heap_words.specs.lists.Heap.{HeapList}
 use Rattle.os_heap.specs.Calls.{has_own_size}
 use Rattle.os_heap.specs.Store.{IsSound, Store, find_heap, owned_in}
 use Rattle.law_heap_calls.proofs.NoHeapInside.{whole_recorded}

@@ -4,7 +4,7 @@
 -- block, or with what is cut off that.
 use Rattle.std.specs.Prelude.{ℕ, ◌≡◌, Bool, true, Option, Some, None, List}
 use Rattle.image_loader.specs.Entries.{Entry}
-use Rattle.os_heap_lists.specs.Heap.{HeapList}
+use Rattle.os_heap_words.specs.lists.Heap.{HeapList}
 use Rattle.os_heap.specs.Calls.{has_own_size}
 use Rattle.os_heap.specs.Store.{find_heap}
 use Rattle.instances_table.specs.declared.parts.Handler.{Handler}

@@ -10,8 +10,8 @@ use Rattle.address_map.proofs.Stores.{in_range-cases}
 use Rattle.address_map.specs.Bytes.{AreMapped, in_range, shares_address}
 use Rattle.address_map.specs.Items.{size_of}
 use Rattle.address_map.specs.Records.{anchor_among}
-use Rattle.os_heap_lists.specs.Heap.{HeapList, IsHeapIn}
-use Rattle.os_heap_lists.specs.Lists.{changed_by}
+use Rattle.os_heap_words.specs.lists.Heap.{HeapList, IsHeapIn}
+use Rattle.os_heap_words.specs.lists.Lists.{changed_by}
 use Rattle.os_heap.proofs.RangeTests.{are_mapped_all, are_mapped_from}
 use Rattle.os_heap.proofs.Apart.{range_parts}
 use Rattle.os_heap.proofs.Beside.{grown_alone}

@@ -12,10 +12,10 @@ use Rattle.address_map.specs.Items.{is_total, size_of}
 use Rattle.address_map.specs.Records.{anchor_among}
 use Rattle.address_map.specs.declared.item.Item.{Item}
 use Rattle.address_map.specs.declared.region.Kind.TheVariants as kind
-use Rattle.os_heap_lists.proofs.Reading.{total_facts}
-use Rattle.os_heap_lists.proofs.Spelling.{total_of-numbers}
-use Rattle.os_heap_lists.specs.Heap.{HeapList}
-use Rattle.os_heap_lists.specs.Lists.{Claim, changed_by, claim_in_items, live_total, items_after_release, resized_in_place, round_up_8, total_for}
+use Rattle.os_heap_words.proofs.ListsLemmas.Reading.{total_facts}
+use Rattle.os_heap_words.proofs.ListsLemmas.Spelling.{total_of-numbers}
+use Rattle.os_heap_words.specs.lists.Heap.{HeapList}
+use Rattle.os_heap_words.specs.lists.Lists.{Claim, changed_by, claim_in_items, live_total, items_after_release, resized_in_place, round_up_8, total_for}
 use Rattle.os_heap.proofs.Calls.{claimed_in}
 use Rattle.os_heap.proofs.Found.{found_start}
 use Rattle.os_heap.proofs.Moving.{found_held}

@@ -8,10 +8,10 @@ use Rattle.address_map.specs.Bytes.{word_start}
 use Rattle.address_map.specs.Items.{is_heap_word, size_of}
 use Rattle.address_map.specs.declared.item.Item.{Item}
 use Rattle.address_map.specs.declared.region.Kind.TheVariants as kind
-use Rattle.os_heap_lists.proofs.LiveBlocks.{LiveBytes, law_live_bytes}
-use Rattle.os_heap_lists.proofs.Payloads.{heap_beside}
-use Rattle.os_heap_lists.specs.Heap.{HeapList, IsHeapIn}
-use Rattle.os_heap_lists.specs.Lists.{Claim, changed_by, live_total, round_up_8}
+use Rattle.os_heap_words.proofs.ListsLemmas.LiveBlocks.{LiveBytes, law_live_bytes}
+use Rattle.os_heap_words.proofs.ListsLemmas.Payloads.{heap_beside}
+use Rattle.os_heap_words.specs.lists.Heap.{HeapList, IsHeapIn}
+use Rattle.os_heap_words.specs.lists.Lists.{Claim, changed_by, live_total, round_up_8}
 use Rattle.os_heap.proofs.Apart.{found_other}
 use Rattle.os_heap.proofs.Forgetting.{IsIn, StartsIn, find_left, in_block, lowest_least, own_left as heap_left, starts_so}
 use Rattle.os_heap.proofs.Found.{found_ended, found_heap, found_start}

@@ -10,8 +10,8 @@ use Rattle.profile.specs.declared.reason.HeapReason.TheVariants as reason
 use Rattle.address_map.specs.Bytes.{in_range, shares_address}
 use Rattle.address_map.specs.Items.{size_of}
 use Rattle.address_map.specs.Records.{anchor_among}
-use Rattle.os_heap_lists.specs.Heap.{HeapList, IsHeapIn}
-use Rattle.os_heap_lists.specs.Lists.{changed_by}
+use Rattle.os_heap_words.specs.lists.Heap.{HeapList, IsHeapIn}
+use Rattle.os_heap_words.specs.lists.Lists.{changed_by}
 use Rattle.os_heap.proofs.Apart.{found_other, within_here}
 use Rattle.os_heap.proofs.Beside.{grown_alone}
 use Rattle.os_heap.proofs.Ending.{may_grow, unobstructed}

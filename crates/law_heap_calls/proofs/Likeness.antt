@@ -9,7 +9,7 @@ use Rattle.address_map.specs.Bytes.{in_range, with_word_at}
 use Rattle.address_map.specs.Items.{size_of}
 use Rattle.address_map.specs.declared.item.Item.{Item}
 use Rattle.address_map.specs.declared.item.Item.TheVariants.{Free, Live}
-use Rattle.os_heap_lists.specs.Heap.{HeapList, next_free, with_heads, with_heap}
+use Rattle.os_heap_words.specs.lists.Heap.{HeapList, next_free, with_heads, with_heap}
 use Rattle.os_heap.proofs.Moving.{found_held}
 use Rattle.os_heap.specs.Calls.{store_holding}
 use Rattle.os_heap.specs.Store.{Store, find_heap}

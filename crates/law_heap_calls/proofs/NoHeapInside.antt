@@ -3,7 +3,7 @@ use Rattle.std.proofs.Common.{ℕ, ◌≡◌, ◌+◌, ◌-◌, ◌≤◌, ◌<�
 use Rattle.std.proofs.lemmas.Bool.{both_ways, cases_Bool, cases_lt, false_from_ne_true, le-leb, le-ltb, lt-ltb, or_from, or_left, or_parts, or_right}
 use Rattle.std.specs.List.{list_any}
 use Rattle.address_map.specs.Bytes.{Bytes, in_range}
-use Rattle.os_heap_lists.specs.Heap.{HeapList}
+use Rattle.os_heap_words.specs.lists.Heap.{HeapList}
 use Rattle.os_heap.proofs.RangeTests.{clear_unless}
 use Rattle.os_heap.proofs.Forgetting.{StartsIn, so_starts, starts_so}
 use Rattle.os_heap.proofs.LostHeaps.{none_lowest, none_without, same_heaps}

@@ -13,11 +13,11 @@ use Rattle.address_map.specs.Bytes.{in_range, with_moved_at}
 use Rattle.address_map.specs.Items.{is_total, size_of}
 use Rattle.address_map.specs.Records.{anchor_among}
 use Rattle.address_map.specs.declared.item.Item.{Item}
-use Rattle.os_heap_lists.proofs.LiveBlocks.{LiveBytes, law_live_bytes}
-use Rattle.os_heap_lists.proofs.Reading.{total_facts}
-use Rattle.os_heap_lists.proofs.Spelling.{total_of-numbers}
-use Rattle.os_heap_lists.specs.Heap.{HeapList, IsHeapIn, with_heap}
-use Rattle.os_heap_lists.specs.Lists.{Claim, changed_by, claim_in_items, live_total, items_after_release, resized_in_place, round_up_8, total_for}
+use Rattle.os_heap_words.proofs.ListsLemmas.LiveBlocks.{LiveBytes, law_live_bytes}
+use Rattle.os_heap_words.proofs.ListsLemmas.Reading.{total_facts}
+use Rattle.os_heap_words.proofs.ListsLemmas.Spelling.{total_of-numbers}
+use Rattle.os_heap_words.specs.lists.Heap.{HeapList, IsHeapIn, with_heap}
+use Rattle.os_heap_words.specs.lists.Lists.{Claim, changed_by, claim_in_items, live_total, items_after_release, resized_in_place, round_up_8, total_for}
 use Rattle.os_heap.proofs.Apart.{range_parts}
 use Rattle.os_heap.proofs.Calls.{claimed_in}
 use Rattle.os_heap.proofs.Forgetting.{StartsIn, starts_so}

@@ -10,9 +10,9 @@ use Rattle.address_map.specs.Items.{size_of}
 use Rattle.address_map.specs.Records.{anchor_among}
 use Rattle.address_map.specs.declared.item.Item.{Item}
 use Rattle.address_map.specs.declared.item.Item.TheVariants.{Free, Live}
-use Rattle.os_heap_lists.proofs.LiveBlocks.{LiveBytes, law_live_bytes}
-use Rattle.os_heap_lists.specs.Heap.{AreTotals, HeapList}
-use Rattle.os_heap_lists.specs.Lists.{changed_by, claim_in_items, items_after_free, live_total, items_after_release, resized_in_place, round_up_8, total_for}
+use Rattle.os_heap_words.proofs.ListsLemmas.LiveBlocks.{LiveBytes, law_live_bytes}
+use Rattle.os_heap_words.specs.lists.Heap.{AreTotals, HeapList}
+use Rattle.os_heap_words.specs.lists.Lists.{changed_by, claim_in_items, items_after_free, live_total, items_after_release, resized_in_place, round_up_8, total_for}
 use Rattle.os_heap.proofs.Calls.{claimed_in}
 use Rattle.os_heap.specs.Calls.{gave_back, store_after_get, store_holding, holds_anchor, resized_or_moved}
 use Rattle.os_heap.specs.Forgetting.{store_after_forget, holds_heap}

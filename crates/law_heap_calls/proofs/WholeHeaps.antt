@@ -6,8 +6,8 @@ use Rattle.profile.specs.declared.reason.HeapReason.{HeapReason}
 use Rattle.address_map.specs.Bytes.{in_range}
 use Rattle.address_map.specs.Items.{size_of}
 use Rattle.address_map.specs.declared.region.Kind.TheVariants as kind
-use Rattle.os_heap_lists.proofs.LiveBlocks.{LiveBytes, law_live_bytes}
-use Rattle.os_heap_lists.specs.Heap.{HeapList, IsHeapIn}
+use Rattle.os_heap_words.proofs.ListsLemmas.LiveBlocks.{LiveBytes, law_live_bytes}
+use Rattle.os_heap_words.specs.lists.Heap.{HeapList, IsHeapIn}
 use Rattle.os_heap.proofs.Apart.{found_other, range_parts}
 use Rattle.os_heap.proofs.Forgetting.{own_left as heap_left, so_starts}
 use Rattle.os_heap.proofs.Found.{found_ended, found_heap}

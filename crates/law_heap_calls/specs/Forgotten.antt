@@ -6,8 +6,8 @@ use Rattle.profile.specs.declared.reason.HeapReason.{HeapReason}
 use Rattle.profile.specs.declared.reason.HeapReason.TheVariants as reason
 use Rattle.address_map.specs.Bytes.{word_start}
 use Rattle.address_map.specs.Items.{is_heap_word}
-use Rattle.os_heap_lists.specs.Heap.{HeapList}
-use Rattle.os_heap_lists.specs.Lists.{changed_by, live_total, round_up_8}
+use Rattle.os_heap_words.specs.lists.Heap.{HeapList}
+use Rattle.os_heap_words.specs.lists.Lists.{changed_by, live_total, round_up_8}
 use Rattle.os_heap.specs.Laws.{IsLost}
 use Rattle.os_heap.specs.Store.{Store, IsSound, find_heap}
 use Rattle.law_heap_calls.specs.Laws.{LiesInBlock}

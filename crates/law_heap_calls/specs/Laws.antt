@@ -3,7 +3,7 @@ use Rattle.std.specs.Prelude.{ℕ, ◌≡◌, ◌<◌, ◌+◌, ◌-◌, Bool, t
 use Rattle.profile.specs.declared.reason.HeapReason.{HeapReason}
 use Rattle.address_map.specs.Bytes.{in_range}
 use Rattle.address_map.specs.declared.region.Region.{Region}
-use Rattle.os_heap_lists.specs.Heap.{HeapList}
+use Rattle.os_heap_words.specs.lists.Heap.{HeapList}
 use Rattle.os_heap.specs.Calls.{OfHeap, has_own_size}
 use Rattle.os_heap.specs.Forgetting.{holds_heap}
 use Rattle.os_heap.specs.Nesting.{IsWithin}

@@ -1,5 +1,4 @@
 -- One heap by itself. Begin with Alone and Turns, then Laws.
-pub use Rattle.os_heap
 pub mod Alone
 pub mod Forgotten
 pub mod Growths

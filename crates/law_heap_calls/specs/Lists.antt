@@ -4,7 +4,7 @@ use Rattle.std.specs.Prelude.{ℕ, ◌==◌, ◌&&◌, Bool, true, false, Option
 use Rattle.profile.specs.declared.error.ErrorNumber.{ErrorNumber}
 use Rattle.profile.specs.declared.reason.HeapReason.{HeapReason}
 use Rattle.profile.specs.declared.reason.HeapReason.TheVariants as reason
-use Rattle.os_heap_lists.specs.Heap.{HeapList}
+use Rattle.os_heap_words.specs.lists.Heap.{HeapList}
 use Rattle.os_heap.specs.Store.{Store, IsSound, find_heap}
 use Rattle.law_heap_calls.specs.Alone.{HeapCall, call_given}
 use Rattle.law_heap_calls.specs.Turns.{Reply, call_on, reply_of}

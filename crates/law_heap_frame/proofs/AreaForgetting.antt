@@ -9,9 +9,9 @@ use Rattle.profile.specs.declared.reason.HeapReason.TheVariants as reason
 use Rattle.address_map.specs.Bytes.{with_bytes, with_moved}
 use Rattle.address_map.specs.Items.{size_of}
 use Rattle.address_map.specs.declared.item.Item.{Item}
-use Rattle.os_heap_lists.proofs.LiveBlocks.{IsStill, LiveBytes, claim_still, law_live_bytes}
-use Rattle.os_heap_lists.specs.Heap.{AreTotals, HeapList, IsHeapIn}
-use Rattle.os_heap_lists.specs.Lists.{Claim, live_total, total_for}
+use Rattle.os_heap_words.proofs.ListsLemmas.LiveBlocks.{IsStill, LiveBytes, claim_still, law_live_bytes}
+use Rattle.os_heap_words.specs.lists.Heap.{AreTotals, HeapList, IsHeapIn}
+use Rattle.os_heap_words.specs.lists.Lists.{Claim, live_total, total_for}
 use Rattle.os_heap.proofs.Forgetting.{AreFound, are_found}
 use Rattle.os_heap.proofs.Found.{found_ended, found_heap}
 use Rattle.os_heap.proofs.LostRecords.{found_listed}

@@ -7,8 +7,8 @@ use Rattle.profile.specs.declared.error.ErrorNumber.{ErrorNumber}
 use Rattle.profile.specs.declared.reason.HeapReason.TheVariants as reason
 use Rattle.address_map.specs.Bytes.{word_start}
 use Rattle.address_map.specs.Items.{is_heap_word, size_of}
-use Rattle.os_heap_lists.proofs.LiveBlocks.{LiveBytes, law_live_bytes}
-use Rattle.os_heap_lists.specs.Heap.{HeapList, IsHeapIn}
+use Rattle.os_heap_words.proofs.ListsLemmas.LiveBlocks.{LiveBytes, law_live_bytes}
+use Rattle.os_heap_words.specs.lists.Heap.{HeapList, IsHeapIn}
 use Rattle.os_heap.proofs.Forgetting.{own_left}
 use Rattle.os_heap.proofs.Found.{found_heap}
 use Rattle.os_heap.specs.Calls.{gave_back}
@@ -18,7 +18,7 @@ use Rattle.dynamic_areas.proofs.ModuleArea.{IsModuleArea, module_area_known}
 use Rattle.dynamic_areas.specs.declared.area.Area.{Area}
 use Rattle.dynamic_areas.specs.Ground.{Estate, IsEstate}
 use Rattle.rma.specs.Calls.{in_area, rma_freed}
-use Rattle.module_world.specs.World.{or_same, private_freed, private_word}
+use Rattle.instances.specs.world.World.{or_same, private_freed, private_word}
 use Rattle.law_heap_calls.proofs.DoneCalls.{OnDone, gave_done}
 use Rattle.law_heap_calls.proofs.Forgotten.{KeepsByte, calls_forget, left_bytes}
 use Rattle.law_heap_calls.specs.Forgotten.{IsForgotten}

@@ -9,11 +9,11 @@ use Rattle.profile.specs.declared.error.ErrorNumber.TheVariants.{HeapBadDesc, He
 use Rattle.address_map.specs.Bytes.{Bytes, in_range, with_bytes, with_moved}
 use Rattle.address_map.specs.Items.{is_total, size_of}
 use Rattle.address_map.specs.declared.item.Item.{Item}
-use Rattle.os_heap_lists.proofs.ClaimedLists.{HasTotals, IsUnheld, claim_totals, claim_unheld}
-use Rattle.os_heap_lists.proofs.LiveBlocks.{IsFresh, IsStill, claim_fresh, claim_still, live_apart}
-use Rattle.os_heap_lists.proofs.Spelling.{total_of-numbers}
-use Rattle.os_heap_lists.specs.Heap.{AreTotals, HeapList}
-use Rattle.os_heap_lists.specs.Lists.{Claim, claim_in_items, live_total, items_after_release, total_for}
+use Rattle.os_heap_words.proofs.ListsLemmas.ClaimedLists.{HasTotals, IsUnheld, claim_totals, claim_unheld}
+use Rattle.os_heap_words.proofs.ListsLemmas.LiveBlocks.{IsFresh, IsStill, claim_fresh, claim_still, live_apart}
+use Rattle.os_heap_words.proofs.ListsLemmas.Spelling.{total_of-numbers}
+use Rattle.os_heap_words.specs.lists.Heap.{AreTotals, HeapList}
+use Rattle.os_heap_words.specs.lists.Lists.{Claim, claim_in_items, live_total, items_after_release, total_for}
 use Rattle.os_heap.proofs.Apart.{range_parts}
 use Rattle.os_heap.proofs.Found.{found_start}
 use Rattle.os_heap.specs.Calls.{block_sized, ending, gave_back, store_after_get, store_holding, holds_anchor, total_or_0, unless_image}
@@ -26,7 +26,7 @@ use Rattle.dynamic_areas.specs.Ground.{Estate}
 use Rattle.rma.specs.Calls.{area_pages, area_room, grown_by, grown_to, in_area, is_full, pages_short, rma_base, rma_claimed, rma_freed, with_store}
 use Rattle.rma.specs.Images.{image_recorded, store_with_image}
 use Rattle.rma.specs.NewImages.{image_copied, image_made}
-use Rattle.rma.specs.flex_frame.proofs.Heaps.{OnDone, on_if, on_some}
+use Rattle.rma.proofs.FlexFrameLemmas.Heaps.{OnDone, on_if, on_some}
 use Rattle.law_heap_calls.proofs.Plain.{unlive}
 use Rattle.law_heap_frame.proofs.Blocks.{AreSame, beside_same, held_total, release_were, same_all, same_both, same_stay, stay_both, unspelled}
 use Rattle.law_heap_frame.proofs.HeapCalls.{items_of_fit, unless_some}

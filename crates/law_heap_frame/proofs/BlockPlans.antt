@@ -9,7 +9,7 @@ use Rattle.os_heap.specs.Store.{Store}
 use Rattle.dynamic_areas.specs.Ground.{Estate}
 use Rattle.rma.specs.Calls.{rma_freed}
 use Rattle.rma.specs.Images.{image_dropped, image_freed, or_kept}
-use Rattle.rma.specs.flex_frame.proofs.Heaps.{OnDone}
+use Rattle.rma.proofs.FlexFrameLemmas.Heaps.{OnDone}
 use Rattle.instances_table.specs.Changes.{module_without}
 use Rattle.instances_table.specs.ModuleArea.{is_in_module_area}
 use Rattle.instances_table.specs.Modules.{Module, has_instance}
@@ -21,9 +21,9 @@ use Rattle.instances_plans.specs.declared.given.Given.{Given}
 use Rattle.instances_plans.specs.Carrying.{carry_of_plan, carried_by, carried_from}
 use Rattle.instances_plans.specs.Code.{private_of}
 use Rattle.instances_plans.specs.Plans.{Plan, actions_owed}
-use Rattle.module_world.specs.World.{World, estate_after_free, image_gone, image_gone_of, image_gone_with, or_same, private_freed, private_word, world_after_remove, with_private, with_text}
-use Rattle.module_tidy.specs.Slid.{world_slid}
-use Rattle.instances_actions.specs.Actions.{world_after_action, code_of, image_given}
+use Rattle.instances.specs.world.World.{World, estate_after_free, image_gone, image_gone_of, image_gone_with, or_same, private_freed, private_word, world_after_remove, with_private, with_text}
+use Rattle.instances.specs.tidying.Slid.{world_slid}
+use Rattle.instances.specs.actions.Actions.{world_after_action, code_of, image_given}
 use Rattle.instances.specs.Turns.{module_doing}
 use Rattle.law_heap_frame.proofs.BlockCalls.{WereIn, WereLiveIn, freed_were, gave_were}
 use Rattle.law_heap_frame.proofs.Blocks.{AreSame, beside_same, same_all, same_were, were_both}

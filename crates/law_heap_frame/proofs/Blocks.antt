@@ -8,12 +8,12 @@ use Rattle.address_map.specs.Bytes.{Bytes, in_range}
 use Rattle.address_map.specs.Items.{size_of}
 use Rattle.address_map.specs.declared.item.Item.{Item}
 use Rattle.address_map.specs.declared.item.Item.TheVariants.{Live, Free}
-use Rattle.os_heap_lists.proofs.LinkWalk.{live_low, live_next}
-use Rattle.os_heap_lists.proofs.LiveBlocks.{LiveBytes, law_live_bytes}
-use Rattle.os_heap_lists.proofs.Payloads.{heap_beside, payload_unspelled}
-use Rattle.os_heap_lists.proofs.Reading.{total_facts}
-use Rattle.os_heap_lists.specs.Heap.{AreTotals, HeapList, with_heap}
-use Rattle.os_heap_lists.specs.Lists.{items_after_free, live_total, items_after_release}
+use Rattle.os_heap_words.proofs.ListsLemmas.LinkWalk.{live_low, live_next}
+use Rattle.os_heap_words.proofs.ListsLemmas.LiveBlocks.{LiveBytes, law_live_bytes}
+use Rattle.os_heap_words.proofs.ListsLemmas.Payloads.{heap_beside, payload_unspelled}
+use Rattle.os_heap_words.proofs.ListsLemmas.Reading.{total_facts}
+use Rattle.os_heap_words.specs.lists.Heap.{AreTotals, HeapList, with_heap}
+use Rattle.os_heap_words.specs.lists.Lists.{items_after_free, live_total, items_after_release}
 use Rattle.os_heap.proofs.Apart.{range_parts}
 use Rattle.os_heap.proofs.Found.{found_start}
 use Rattle.os_heap.proofs.Moving.{found_held}

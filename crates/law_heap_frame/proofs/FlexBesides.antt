@@ -6,7 +6,7 @@ use Rattle.std.specs.Prelude.{if◌then◌else◌, nat_le, nat_lt}
 use Rattle.std.proofs.lemmas.Bool.{and_parts, both_ways, cases_Bool, eq-eqb, eqb-false, leb-true, ltb-true, ne_eqb, or_parts, or_right}
 use Rattle.std.proofs.Math.ListN.{length-append}
 use Rattle.address_map.specs.Bytes.{with_bytes_at, with_word_at, word_start}
-use Rattle.flex_machine.specs.Ground.{anchors_in}
+use Rattle.law_sliding.specs.Ground.{anchors_in}
 use Rattle.flex_store.proofs.Anchoring.{other_word}
 use Rattle.flex_store.proofs.Filled.{AreFilled, holding_filled, whole_filled}
 use Rattle.flex_store.proofs.Following.{following_used}

@@ -2,7 +2,7 @@
 use Rattle.std.proofs.Common.{ℕ, ◌+◌, ◌%◌, ◌≡◌, ◌≤◌, ◌<◌, ◌∙◌, Bool, true, false, Option, Some, None, Result, Ok, refl, sym, ap, subst, inl, inr, arith}
 use Rattle.std.proofs.lemmas.Bool.{both_ways, cases_Bool, false_from_ne_true, le-leb, lt-ltb}
 use Rattle.address_map.specs.Bytes.{Bytes, in_range, word_start}
-use Rattle.os_heap_lists.specs.Heap.{HeapList, IsHeapIn}
+use Rattle.os_heap_words.specs.lists.Heap.{HeapList, IsHeapIn}
 use Rattle.os_heap.proofs.Anchored.{header_outside}
 use Rattle.os_heap.proofs.Apart.{range_parts}
 use Rattle.os_heap.proofs.Found.{found_heap}
@@ -14,7 +14,7 @@ use Rattle.flex_store.specs.declared.flex.Extent.{Extent}
 use Rattle.flex_store.specs.declared.flex.Flex.{Flex}
 use Rattle.flex_store.proofs.Words.{word_of}
 use Rattle.flex_store.specs.Runs.{Alloc, Extend, FlexCall, IsFlexCallDone, MidExtend, Release}
-use Rattle.flex_machine.specs.Ground.{anchors_in, flex_state, spelled_store, store_flexed, with_flex_record}
+use Rattle.law_sliding.specs.Ground.{anchors_in, flex_state, spelled_store, store_flexed, with_flex_record}
 use Rattle.law_sliding.proofs.CalledSeen.{out_of}
 use Rattle.law_sliding.specs.FlexStore.{IsSpelledAt, spelled_blocks}
 use Rattle.law_heap_frame.proofs.FlexBesides.{HasAligned, IsBeside, IsStill}

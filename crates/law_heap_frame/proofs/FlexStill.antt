@@ -7,7 +7,7 @@ use Rattle.address_map.specs.Bytes.{Bytes, word_start}
 use Rattle.address_map.specs.Records.{anchor_among}
 use Rattle.os_heap.specs.Store.{Store}
 use Rattle.profile.specs.declared.error.ErrorNumber.{ErrorNumber}
-use Rattle.flex_machine.specs.Ground.{anchors_in}
+use Rattle.law_sliding.specs.Ground.{anchors_in}
 use Rattle.flex_store.proofs.Filled.{new_filled}
 use Rattle.flex_store.proofs.Following.{has_following}
 use Rattle.flex_store.proofs.Keeping.{place_parts}

@@ -5,7 +5,7 @@ use Rattle.std.proofs.Common.{ℕ, ◌≡◌, ◌≢◌, ◌+◌, ◌-◌, ◌==
 use Rattle.std.proofs.lemmas.Bool.{both_ways, cases_Bool, eqb-true, false_from_ne_true, false≢true, le-leb, lt-ltb}
 use Rattle.address_map.specs.Bytes.{in_range}
 use Rattle.address_map.specs.declared.item.Item.{Item}
-use Rattle.os_heap_lists.specs.Heap.{HeapList}
+use Rattle.os_heap_words.specs.lists.Heap.{HeapList}
 use Rattle.os_heap.proofs.Apart.{range_parts}
 use Rattle.os_heap.proofs.Forgetting.{StartsIn, so_starts, starts_so}
 use Rattle.os_heap.specs.Calls.{with_end, heaps_with_items}

@@ -5,7 +5,7 @@ use Rattle.std.specs.Prelude.{min, nat_lt}
 use Rattle.std.proofs.Math.Nat.{min-le_left}
 use Rattle.std.proofs.lemmas.Bool.{ltb-false}
 use Rattle.address_map.specs.Items.{size_of}
-use Rattle.os_heap_lists.specs.Heap.{AreTotals, HeapList}
+use Rattle.os_heap_words.specs.lists.Heap.{AreTotals, HeapList}
 use Rattle.os_heap.proofs.Found.{found_start}
 use Rattle.os_heap.specs.Calls.{ending}
 use Rattle.os_heap.specs.Store.{Store, find_heap}

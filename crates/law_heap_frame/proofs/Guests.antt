@@ -7,7 +7,7 @@ use Rattle.std.specs.Prelude.{nat_le}
 use Rattle.std.specs.List.{list_any}
 use Rattle.address_map.specs.Bytes.{in_range}
 use Rattle.address_map.specs.declared.region.Kind.TheVariants.{Rma}
-use Rattle.os_heap_lists.specs.Heap.{HeapList, IsHeapIn}
+use Rattle.os_heap_words.specs.lists.Heap.{HeapList, IsHeapIn}
 use Rattle.os_heap.proofs.Apart.{found_other, range_parts}
 use Rattle.os_heap.proofs.Found.{found_heap, found_start}
 use Rattle.os_heap.proofs.Stores.{are_others, clear_of-found}

@@ -10,12 +10,12 @@ use Rattle.address_map.specs.Bytes.{in_range}
 use Rattle.address_map.specs.Records.{anchor_among}
 use Rattle.address_map.specs.Items.{is_total, size_of}
 use Rattle.address_map.specs.declared.item.Item.{Item}
-use Rattle.os_heap_lists.proofs.ClaimedLists.{HasTotals, IsWithin, claim_totals, claim_within}
-use Rattle.os_heap_lists.proofs.LiveBlocks.{IsFresh, LiveBytes, claim_fresh, law_live_bytes}
-use Rattle.os_heap_lists.proofs.Reading.{total_facts}
-use Rattle.os_heap_lists.proofs.Spelling.{total_of-numbers}
-use Rattle.os_heap_lists.specs.Heap.{AreTotals, HeapList}
-use Rattle.os_heap_lists.specs.Lists.{Claim, changed_by, claim_in_items, live_total, items_after_release, resized_in_place, round_up_8, total_for}
+use Rattle.os_heap_words.proofs.ListsLemmas.ClaimedLists.{HasTotals, IsWithin, claim_totals, claim_within}
+use Rattle.os_heap_words.proofs.ListsLemmas.LiveBlocks.{IsFresh, LiveBytes, claim_fresh, law_live_bytes}
+use Rattle.os_heap_words.proofs.ListsLemmas.Reading.{total_facts}
+use Rattle.os_heap_words.proofs.ListsLemmas.Spelling.{total_of-numbers}
+use Rattle.os_heap_words.specs.lists.Heap.{AreTotals, HeapList}
+use Rattle.os_heap_words.specs.lists.Lists.{Claim, changed_by, claim_in_items, live_total, items_after_release, resized_in_place, round_up_8, total_for}
 use Rattle.os_heap.proofs.Found.{found_start}
 use Rattle.os_heap.proofs.Resizing.{larger_where_none}
 use Rattle.os_heap.specs.Calls.{store_after_copy, gave_back, store_after_get, handed_over, store_holding, holds_anchor, store_after_move, store_after_resize, resized_or_moved, total_or_0, unless_image}
@@ -29,7 +29,7 @@ use Rattle.law_heap_frame.specs.Fits.{IsFitStore, LiesInArea, StaysFit}
 use Rattle.law_heap_frame.specs.HeapLaws.{HeapCallsStayFit}
 use Rattle.law_heap_calls.specs.Laws.{IsNotForgotten}
 use Rattle.rma.proofs.NewImageLemmas.{shorter}
-use Rattle.rma.specs.flex_frame.proofs.Heaps.{OnDone, on_if, on_some}
+use Rattle.rma.proofs.FlexFrameLemmas.Heaps.{OnDone, on_if, on_some}
 
 abbrev pub LeavesFit : {A : Type 0} → ℕ → Store → Store × A → Type 0
 LeavesFit limit s x = StaysFit limit s x.0

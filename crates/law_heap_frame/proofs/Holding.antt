@@ -6,9 +6,9 @@ use Rattle.address_map.proofs.Stores.{in_range-cases}
 use Rattle.address_map.specs.Bytes.{Bytes, in_range}
 use Rattle.address_map.specs.Items.{size_of}
 use Rattle.address_map.specs.declared.item.Item.{Item}
-use Rattle.os_heap_lists.proofs.LiveBlocks.{LiveBytes, law_live_bytes}
-use Rattle.os_heap_lists.proofs.Payloads.{heap_beside, spelled_inside}
-use Rattle.os_heap_lists.specs.Heap.{AreTotals, HeapList, with_heap}
+use Rattle.os_heap_words.proofs.ListsLemmas.LiveBlocks.{LiveBytes, law_live_bytes}
+use Rattle.os_heap_words.proofs.ListsLemmas.Payloads.{heap_beside, spelled_inside}
+use Rattle.os_heap_words.specs.lists.Heap.{AreTotals, HeapList, with_heap}
 use Rattle.os_heap.proofs.Apart.{range_parts}
 use Rattle.os_heap.proofs.Forgetting.{areas_stand, lowest_least, own_left}
 use Rattle.os_heap.proofs.Found.{found_start}

@@ -7,13 +7,13 @@ use Rattle.std.proofs.lemmas.Bool.{both_ways, cases_eq, cases_lt, false_from_ne_
 use Rattle.address_map.specs.Bytes.{Bytes, in_range}
 use Rattle.address_map.specs.Items.{is_total, size_of}
 use Rattle.address_map.specs.declared.item.Item.{Item}
-use Rattle.os_heap_lists.proofs.ClaimedLists.{HasTotals, IsUnheld, claim_totals, claim_unheld}
-use Rattle.os_heap_lists.proofs.LinkWalk.{live_low}
-use Rattle.os_heap_lists.proofs.LiveBlocks.{IsFresh, IsStill, IsStillIn, LiveBytes, claim_fresh, claim_still, live_apart, law_live_bytes, refit_own, refit_still, release_still}
-use Rattle.os_heap_lists.proofs.Payloads.{heap_beside, payload_unspelled}
-use Rattle.os_heap_lists.proofs.Reading.{total_facts}
-use Rattle.os_heap_lists.specs.Heap.{AreTotals, HeapList}
-use Rattle.os_heap_lists.specs.Lists.{Claim, claim_in_items, live_total, items_after_release, resized_in_place}
+use Rattle.os_heap_words.proofs.ListsLemmas.ClaimedLists.{HasTotals, IsUnheld, claim_totals, claim_unheld}
+use Rattle.os_heap_words.proofs.ListsLemmas.LinkWalk.{live_low}
+use Rattle.os_heap_words.proofs.ListsLemmas.LiveBlocks.{IsFresh, IsStill, IsStillIn, LiveBytes, claim_fresh, claim_still, live_apart, law_live_bytes, refit_own, refit_still, release_still}
+use Rattle.os_heap_words.proofs.ListsLemmas.Payloads.{heap_beside, payload_unspelled}
+use Rattle.os_heap_words.proofs.ListsLemmas.Reading.{total_facts}
+use Rattle.os_heap_words.specs.lists.Heap.{AreTotals, HeapList}
+use Rattle.os_heap_words.specs.lists.Lists.{Claim, claim_in_items, live_total, items_after_release, resized_in_place}
 use Rattle.os_heap.proofs.Apart.{range_parts}
 use Rattle.os_heap.proofs.Forgetting.{IsAbove, StartsIn, above_found, are_above, lowest_least, lowest_most, own_left as heap_left, so_starts}
 use Rattle.os_heap.proofs.Found.{found_start}

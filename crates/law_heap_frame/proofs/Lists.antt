@@ -6,10 +6,10 @@ use Rattle.std.specs.Option.{option_map}
 use Rattle.address_map.specs.Items.{is_total, size_of}
 use Rattle.address_map.specs.declared.item.Item.{Item}
 use Rattle.address_map.specs.declared.item.Item.TheVariants.{Live, Free}
-use Rattle.os_heap_lists.proofs.Reading.{total_facts}
-use Rattle.os_heap_lists.proofs.Spelling.{total_of-numbers}
-use Rattle.os_heap_lists.specs.Heap.{AreTotals}
-use Rattle.os_heap_lists.specs.Lists.{items_after_free, items_with_gap, items_after_growth, left_free, items_after_refit, items_after_release, resized_in_place}
+use Rattle.os_heap_words.proofs.ListsLemmas.Reading.{total_facts}
+use Rattle.os_heap_words.proofs.ListsLemmas.Spelling.{total_of-numbers}
+use Rattle.os_heap_words.specs.lists.Heap.{AreTotals}
+use Rattle.os_heap_words.specs.lists.Lists.{items_after_free, items_with_gap, items_after_growth, left_free, items_after_refit, items_after_release, resized_in_place}
 
 abbrev pub HasRoomFor : ℕ → List Item → Type 0
 HasRoomFor room xs = AreTotals xs × (size_of xs ≤ room)

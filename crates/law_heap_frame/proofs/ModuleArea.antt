@@ -14,8 +14,8 @@ use Rattle.dynamic_areas.specs.Ground.{Estate}
 use Rattle.rma.specs.Calls.{area_pages, area_room, end_if_moved, end_in_place, grown_by, grown_in_place, grown_to, in_area, is_full, or_as_before, or_grown, pages_short, resized_or_grown, rma_base, rma_claimed, rma_extended, rma_freed, room_in, with_pages_more, with_store}
 use Rattle.rma.specs.Images.{image_recorded, store_with_image}
 use Rattle.rma.specs.NewImages.{image_copied, image_made}
-use Rattle.rma.specs.flex_frame.proofs.Heaps.{OnDone}
-use Rattle.os_heap_lists.specs.Lists.{total_for}
+use Rattle.rma.proofs.FlexFrameLemmas.Heaps.{OnDone}
+use Rattle.os_heap_words.specs.lists.Lists.{total_for}
 use Rattle.law_heap_frame.proofs.Growing.{pages_fit, room_fits}
 use Rattle.law_heap_frame.proofs.HeapCalls.{IsNewBlock, LeavesFit, gave_fit, got_fit, resized_fit}
 use Rattle.law_heap_frame.proofs.Holding.{keeps_all, keeps_both, range_within, still_between, written_is_fit}

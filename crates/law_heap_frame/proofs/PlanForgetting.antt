@@ -4,17 +4,17 @@ use Rattle.std.proofs.Common.{ℕ, ◌+◌, ◌∙◌, List, [], ◌∷◌, is_s
 use Rattle.std.proofs.lemmas.Bool.{false≢true}
 use Rattle.address_map.specs.Moves.{moved_to}
 use Rattle.address_map.specs.declared.follow.Move.{Move}
-use Rattle.os_heap_lists.specs.Heap.{HeapList}
+use Rattle.os_heap_words.specs.lists.Heap.{HeapList}
 use Rattle.os_heap.proofs.LostRecords.{found_listed}
 use Rattle.os_heap.specs.Store.{Store, find_heap}
-use Rattle.os_heap_slide.specs.Slide.{is_listed, slid, with_slid}
+use Rattle.rma.specs.heap_slide.Slide.{is_listed, slid, with_slid}
 use Rattle.dynamic_areas.specs.Ground.{Estate}
 use Rattle.rma.specs.Calls.{with_store}
 use Rattle.instances_table.specs.Modules.{slots_of}
 use Rattle.instances_plans.specs.declared.action.PlanAction.TheVariants as act
-use Rattle.module_world.specs.World.{World, private_word, with_private}
-use Rattle.module_tidy.specs.Movable.{movable_blocks}
-use Rattle.module_tidy.specs.Slid.{moves_in, private_words_of, words_moved, world_slid, world_slid_in}
+use Rattle.instances.specs.world.World.{World, private_word, with_private}
+use Rattle.instances.specs.tidying.Movable.{movable_blocks}
+use Rattle.instances.specs.tidying.Slid.{moves_in, private_words_of, words_moved, world_slid, world_slid_in}
 use Rattle.law_heap_calls.specs.Laws.{IsNotForgotten}
 use Rattle.law_heap_frame.specs.ForgettingLaws.{OtherActsForgetNone}
 

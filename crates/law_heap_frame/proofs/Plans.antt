@@ -4,11 +4,11 @@ use Rattle.std.proofs.Common.{ℕ, ◌+◌, ◌-◌, ◌*◌, ◌≡◌, ◌≢�
 use Rattle.std.proofs.lemmas.Bool.{cases_Bool}
 use Rattle.address_map.specs.Moves.{moved_to}
 use Rattle.address_map.specs.declared.follow.Move.{Move}
-use Rattle.os_heap_lists.specs.Heap.{AreTotals, HeapList}
+use Rattle.os_heap_words.specs.lists.Heap.{AreTotals, HeapList}
 use Rattle.os_heap.proofs.Found.{found_start}
 use Rattle.os_heap.specs.Forgetting.{holds_heap}
 use Rattle.os_heap.specs.Store.{Store, find_heap}
-use Rattle.os_heap_slide.specs.Slide.{HoldNoHeap, is_listed, slid, with_slid}
+use Rattle.rma.specs.heap_slide.Slide.{HoldNoHeap, is_listed, slid, with_slid}
 use Rattle.dynamic_areas.specs.Ground.{Estate}
 use Rattle.rma.specs.Calls.{with_store}
 use Rattle.instances_table.specs.Changes.{module_without}
@@ -18,13 +18,13 @@ use Rattle.instances_plans.specs.declared.action.PlanAction.TheVariants as act
 use Rattle.instances_plans.specs.declared.code.Code.{Code}
 use Rattle.instances_plans.specs.Carrying.{carry_of_plan, carried_by, carried_from}
 use Rattle.instances_plans.specs.Plans.{Plan, actions_owed}
-use Rattle.module_world.specs.World.{World, image_gone_of, image_gone_with, private_freed, private_word, world_after_remove, with_private}
-use Rattle.module_tidy.proofs.Choosing.{IsChosen, chosen}
-use Rattle.module_tidy.proofs.LawLemmas.{words_heaps}
-use Rattle.module_tidy.proofs.Tidying.{holds_none, payload_empty}
-use Rattle.module_tidy.specs.Movable.{can_move, movable_blocks}
-use Rattle.module_tidy.specs.Slid.{moves_in, private_words_of, words_moved, world_moved, world_slid, world_slid_in}
-use Rattle.instances_actions.specs.Actions.{world_after_action, code_of, image_given}
+use Rattle.instances.specs.world.World.{World, image_gone_of, image_gone_with, private_freed, private_word, world_after_remove, with_private}
+use Rattle.instances.proofs.TidyingLemmas.Choosing.{IsChosen, chosen}
+use Rattle.instances.proofs.TidyingLemmas.LawLemmas.{words_heaps}
+use Rattle.instances.proofs.TidyingLemmas.Tidying.{holds_none, payload_empty}
+use Rattle.instances.specs.tidying.Movable.{can_move, movable_blocks}
+use Rattle.instances.specs.tidying.Slid.{moves_in, private_words_of, words_moved, world_moved, world_slid, world_slid_in}
+use Rattle.instances.specs.actions.Actions.{world_after_action, code_of, image_given}
 use Rattle.instances.specs.Turns.{module_doing}
 use Rattle.law_heap_frame.proofs.Holding.{area_of}
 use Rattle.law_heap_frame.proofs.ModuleArea.{fit_both, fit_same, store_fit}

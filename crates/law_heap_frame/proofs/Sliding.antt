@@ -6,9 +6,9 @@ use Rattle.address_map.proofs.Stores.{in_range-cases}
 use Rattle.address_map.specs.Items.{size_of}
 use Rattle.address_map.specs.Moves.{moved_to}
 use Rattle.address_map.specs.declared.item.Item.{Item}
-use Rattle.os_heap_lists.proofs.LiveBlocks.{LiveBytes, law_live_bytes}
-use Rattle.os_heap_lists.specs.Heap.{AreTotals, HeapList}
-use Rattle.os_heap_lists.specs.Lists.{live_total}
+use Rattle.os_heap_words.proofs.ListsLemmas.LiveBlocks.{LiveBytes, law_live_bytes}
+use Rattle.os_heap_words.specs.lists.Heap.{AreTotals, HeapList}
+use Rattle.os_heap_words.specs.lists.Lists.{live_total}
 use Rattle.os_heap.proofs.Apart.{range_parts}
 use Rattle.os_heap.proofs.Forgetting.{so_starts}
 use Rattle.os_heap.proofs.Found.{found_start}
@@ -18,10 +18,10 @@ use Rattle.os_heap.specs.Calls.{store_holding, total_or_0}
 use Rattle.os_heap.specs.Forgetting.{holds_heap, starts_in}
 use Rattle.os_heap.specs.Nesting.{IsWithin}
 use Rattle.os_heap.specs.Store.{Store, find_heap}
-use Rattle.os_heap_slide.proofs.KeptBlocks.{bytes_fixed, slide_keeps_blocks}
-use Rattle.os_heap_slide.proofs.LawLemmas.{slid_totals, slide_fits}
-use Rattle.os_heap_slide.proofs.Places.{bytes_low, bytes_past, moved_stays}
-use Rattle.os_heap_slide.specs.Slide.{HoldNoHeap, is_listed, moves_of, slid, slid_bytes, with_slid}
+use Rattle.rma.proofs.HeapSlideLemmas.KeptBlocks.{bytes_fixed, slide_keeps_blocks}
+use Rattle.rma.proofs.HeapSlideLemmas.LawLemmas.{slid_totals, slide_fits}
+use Rattle.rma.proofs.HeapSlideLemmas.Places.{bytes_low, bytes_past, moved_stays}
+use Rattle.rma.specs.heap_slide.Slide.{HoldNoHeap, is_listed, moves_of, slid, slid_bytes, with_slid}
 use Rattle.law_heap_calls.proofs.KeptHeaps.{found_beside}
 use Rattle.law_heap_calls.proofs.NoHeapInside.{found_holds}
 use Rattle.law_heap_frame.proofs.Holding.{area_of, held_is_fit, words_within}

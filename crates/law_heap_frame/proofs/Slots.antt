@@ -10,8 +10,8 @@ use Rattle.instances_table.specs.Additions.{added_to}
 use Rattle.instances_table.specs.Changes.{still, with_instance, with_module, without_first_passing, without_instance, is_new, new_module}
 use Rattle.instances_table.specs.Lookup.{number_of_title}
 use Rattle.instances_table.specs.Modules.{Instance, Module, changed_at, has_instance, has_slot, number_passing, slots_of}
-use Rattle.instances_actions.specs.Actions.{image_given, with_another, with_new}
-use Rattle.module_tidy.specs.Slid.{image_moved}
+use Rattle.instances.specs.actions.Actions.{image_given, with_another, with_new}
+use Rattle.instances.specs.tidying.Slid.{image_moved}
 use Rattle.address_map.specs.declared.follow.Move.{Move}
 use Rattle.law_sliding.proofs.SlidWorlds.{slots_below}
 use Rattle.law_heap_frame.specs.PlanLaws.{AreActionsBelow, AreBelow, DoablePlansAreBelow, ModulesAreBelow}

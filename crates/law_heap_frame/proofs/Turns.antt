@@ -4,11 +4,11 @@ use Rattle.std.proofs.lemmas.Bool.{cases_lt}
 use Rattle.address_map.specs.Bytes.{in_range}
 use Rattle.profile.specs.Outcome.{bind}
 use Rattle.profile.specs.declared.error.ErrorNumber.{ErrorNumber}
-use Rattle.os_heap_lists.specs.Heap.{HeapList}
+use Rattle.os_heap_words.specs.lists.Heap.{HeapList}
 use Rattle.os_heap.specs.Calls.{has_own_size}
 use Rattle.os_heap.specs.Store.{Store}
-use Rattle.module_tidy.specs.Slid.{world_slid}
-use Rattle.flex_machine.specs.Ground.{flex_state, spelled_store, store_flexed, with_flex_record}
+use Rattle.instances.specs.tidying.Slid.{world_slid}
+use Rattle.law_sliding.specs.Ground.{flex_state, spelled_store, store_flexed, with_flex_record}
 use Rattle.law_flex.specs.Laws.{IsOfWords}
 use Rattle.flex_store.proofs.LawLemmas.{Answers, same_answer}
 use Rattle.flex_store.proofs.Words.{word_of}

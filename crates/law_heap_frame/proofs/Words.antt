@@ -1,8 +1,7 @@
 -- Private words, the environment text, and blocks and images that are given back.
 use Rattle.profile.specs.MemoryMap.{environment_text_start, module_area_start, system_start}
-use Rattle.std.proofs.Common.{ℕ, ◌+◌, ◌*◌, ◌≡◌, ◌≤◌, ◌<◌, ◌++◌, false, List, [], ◌∷◌, length, Result, Ok, Err, refl, inl, inr, arith}
+use Rattle.std.proofs.Common.{ℕ, ◌+◌, ◌*◌, ◌≡◌, ◌≤◌, ◌<◌, ◌++◌, false, List, [], ◌∷◌, length, Result, Ok, Err, refl, inl, inr, arith, length-append}
 use Rattle.std.proofs.lemmas.Bool.{both_ways, cases_Bool, false_from_ne_true, le-leb, lt-ltb, ne_eqb}
-use Rattle.std.proofs.Common.{length-append}
 use Rattle.profile.specs.declared.error.ErrorNumber.{ErrorNumber}
 use Rattle.address_map.proofs.Stores.{in_range-cases}
 use Rattle.address_map.specs.Bytes.{Bytes, in_range, with_bytes_at, with_word_at}
@@ -12,11 +11,11 @@ use Rattle.os_heap.specs.Store.{Store}
 use Rattle.dynamic_areas.specs.Ground.{Estate}
 use Rattle.rma.specs.Calls.{rma_freed, with_store}
 use Rattle.rma.specs.Images.{image_dropped, image_freed, or_kept}
-use Rattle.rma.specs.flex_frame.proofs.Heaps.{OnDone}
+use Rattle.rma.proofs.FlexFrameLemmas.Heaps.{OnDone}
 use Rattle.instances_table.specs.ModuleArea.{is_in_module_area}
 use Rattle.instances_table.specs.declared.parts.Image.{Image}
 use Rattle.instances_plans.specs.Code.{private_of}
-use Rattle.module_world.specs.World.{estate_after_free, image_gone, or_same, private_freed, private_word, with_private, with_text}
+use Rattle.instances.specs.world.World.{estate_after_free, image_gone, or_same, private_freed, private_word, with_private, with_text}
 use Rattle.law_heap_frame.proofs.HeapCalls.{LeavesFit, gave_fit}
 use Rattle.law_heap_frame.proofs.Holding.{keeps_all, stays_both, system_writes, written_fit}
 use Rattle.law_heap_frame.proofs.ModuleArea.{IsAny, Leaves, OnEstate, fit_both, fit_same, freed_fit, records_fit, store_fit}

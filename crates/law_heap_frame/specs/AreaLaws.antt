@@ -1,6 +1,6 @@
 -- The calls on dynamic areas keep each heap that a guest made: pages that go have no byte of it.
 use Rattle.std.specs.Prelude.{ℕ, ◌≡◌, ◌*◌, List, Ok}
-use Rattle.os_heap_lists.specs.Heap.{HeapList}
+use Rattle.os_heap_words.specs.lists.Heap.{HeapList}
 use Rattle.dynamic_areas.specs.declared.area.Created.{Created}
 use Rattle.dynamic_areas.specs.declared.area.Wanted.{Wanted}
 use Rattle.dynamic_areas.specs.Areas.{find_area}

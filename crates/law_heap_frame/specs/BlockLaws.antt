@@ -4,8 +4,8 @@
 use Rattle.profile.specs.MemoryMap.{module_area_start}
 use Rattle.std.specs.Prelude.{ℕ, ◌≡◌, ◌≤◌, ◌+◌, ◌-◌, true, length, Option, Some, None, Ok, List, [], ◌∷◌}
 use Rattle.address_map.specs.Bytes.{in_range}
-use Rattle.os_heap_lists.specs.Heap.{HeapList}
-use Rattle.os_heap_lists.specs.Lists.{live_total}
+use Rattle.os_heap_words.specs.lists.Heap.{HeapList}
+use Rattle.os_heap_words.specs.lists.Lists.{live_total}
 use Rattle.os_heap.specs.Store.{Store, find_heap}
 use Rattle.dynamic_areas.specs.Ground.{Estate}
 use Rattle.rma.specs.Calls.{rma_claimed, rma_freed}
@@ -14,7 +14,7 @@ use Rattle.instances_plans.specs.declared.action.PlanAction.{PlanAction}
 use Rattle.instances_plans.specs.declared.action.PlanAction.TheVariants as act
 use Rattle.instances_plans.specs.Carrying.{carry_of_plan}
 use Rattle.instances_plans.specs.Plans.{Plan}
-use Rattle.module_world.specs.World.{World}
+use Rattle.instances.specs.world.World.{World}
 use Rattle.instances.specs.Turns.{module_doing}
 use Rattle.law_heap_frame.specs.FitEstates.{IsFitEstate}
 use Rattle.law_heap_frame.specs.PlanLaws.{AreActionsBelow, IsFitWorld}

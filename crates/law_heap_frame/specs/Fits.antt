@@ -6,7 +6,7 @@ use Rattle.profile.specs.MemoryMap.{module_area_start}
 use Rattle.std.specs.Prelude.{ℕ, ◌≡◌, ◌≢◌, ◌≤◌, ◌<◌, ◌+◌, Bool, true, false, Some}
 use Rattle.address_map.specs.Bytes.{Bytes, in_range}
 use Rattle.address_map.specs.Items.{size_of}
-use Rattle.os_heap_lists.specs.Heap.{AreTotals, HeapList}
+use Rattle.os_heap_words.specs.lists.Heap.{AreTotals, HeapList}
 use Rattle.os_heap.specs.Nesting.{IsWithin}
 use Rattle.os_heap.specs.Store.{StandAreas, Store, find_heap}
 use Rattle.law_heap_calls.specs.Laws.{IsNotForgotten}

@@ -2,12 +2,12 @@
 -- write the store's own range and the words of anchors (Acorn C manual, "flex").
 use Rattle.std.specs.Prelude.{ℕ, ◌≡◌, Bool, true, false, Some, Ok}
 use Rattle.address_map.specs.Bytes.{in_range}
-use Rattle.os_heap_lists.specs.Heap.{HeapList}
+use Rattle.os_heap_words.specs.lists.Heap.{HeapList}
 use Rattle.os_heap.specs.Store.{IsSound, Store, find_heap}
 use Rattle.flex_store.specs.Calls.{FlexState, flex_after_init}
 use Rattle.flex_store.specs.Runs.{Alloc, FlexCall, IsFlexCallDone}
 use Rattle.flex_store.specs.declared.flex.Flex.{Flex}
-use Rattle.flex_machine.specs.Ground.{flex_state, store_flexed, with_flex_record}
+use Rattle.law_sliding.specs.Ground.{flex_state, store_flexed, with_flex_record}
 use Rattle.law_sliding.specs.FlexStore.{IsSpelledAt}
 use Rattle.law_heap_calls.specs.Laws.{KeepsHeap}
 

@@ -6,7 +6,7 @@ use Rattle.std.specs.Prelude.{ℕ, ◌≡◌, ◌↔◌, Bool, true, false, is_o
 use Rattle.profile.specs.declared.reason.HeapReason.TheVariants as reason
 use Rattle.address_map.specs.Bytes.{word_start}
 use Rattle.address_map.specs.Items.{is_heap_word}
-use Rattle.os_heap_lists.specs.Heap.{HeapList}
+use Rattle.os_heap_words.specs.lists.Heap.{HeapList}
 use Rattle.os_heap.specs.Store.{IsSound, find_heap}
 use Rattle.dynamic_areas.specs.Ground.{Estate, IsEstate}
 use Rattle.rma.specs.Calls.{rma_claimed, rma_extended, rma_freed}
@@ -14,9 +14,9 @@ use Rattle.rma.specs.NewImages.{image_copied, image_made}
 use Rattle.instances_plans.specs.declared.action.PlanAction.{PlanAction}
 use Rattle.instances_plans.specs.declared.action.PlanAction.TheVariants as act
 use Rattle.instances_plans.specs.declared.given.Given.{Given}
-use Rattle.module_world.specs.World.{World, private_freed, private_word}
-use Rattle.module_tidy.specs.Slid.{world_slid}
-use Rattle.instances_actions.specs.Actions.{world_after_action}
+use Rattle.instances.specs.world.World.{World, private_freed, private_word}
+use Rattle.instances.specs.tidying.Slid.{world_slid}
+use Rattle.instances.specs.actions.Actions.{world_after_action}
 use Rattle.law_heap_calls.specs.Forgotten.{IsForgotten}
 use Rattle.law_heap_calls.specs.Laws.{IsNotForgotten}
 

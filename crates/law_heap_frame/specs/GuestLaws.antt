@@ -3,7 +3,7 @@
 -- forgotten.
 use Rattle.std.specs.Prelude.{ℕ, ◌≡◌, ◌⊎◌, true, false, Some}
 use Rattle.address_map.specs.Bytes.{in_range}
-use Rattle.os_heap_lists.specs.Heap.{HeapList}
+use Rattle.os_heap_words.specs.lists.Heap.{HeapList}
 use Rattle.os_heap.specs.Calls.{has_own_size}
 use Rattle.os_heap.specs.Store.{Store, find_heap}
 use Rattle.dynamic_areas.specs.Ground.{Estate, IsEstate, IsRecorded, system_pages_range}

@@ -2,7 +2,7 @@
 use Rattle.profile.specs.MemoryMap.{module_area_start}
 use Rattle.std.specs.Prelude.{ℕ, ◌≡◌, ◌≤◌, true, Some, Ok}
 use Rattle.address_map.specs.Items.{is_total}
-use Rattle.os_heap_lists.specs.Heap.{HeapList}
+use Rattle.os_heap_words.specs.lists.Heap.{HeapList}
 use Rattle.os_heap.specs.Calls.{gave_back, store_after_get, store_after_move, store_after_resize}
 use Rattle.os_heap.specs.Store.{Store, find_heap}
 use Rattle.law_heap_frame.specs.Fits.{IsFitStore, StaysFit}

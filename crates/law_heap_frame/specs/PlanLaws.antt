@@ -13,9 +13,9 @@ use Rattle.instances_plans.specs.declared.given.Given.{Given}
 use Rattle.instances_plans.specs.Carrying.{carry_of_plan}
 use Rattle.instances_plans.specs.Doable.{IsDoable}
 use Rattle.instances_plans.specs.Plans.{Plan}
-use Rattle.module_world.specs.World.{World, image_gone, private_freed, with_private, with_text}
-use Rattle.module_tidy.specs.Slid.{world_slid}
-use Rattle.instances_actions.specs.Actions.{world_after_action}
+use Rattle.instances.specs.world.World.{World, image_gone, private_freed, with_private, with_text}
+use Rattle.instances.specs.tidying.Slid.{world_slid}
+use Rattle.instances.specs.actions.Actions.{world_after_action}
 use Rattle.instances.specs.Turns.{module_doing}
 use Rattle.law_heap_frame.specs.FitEstates.{EstateStaysFit, IsFitEstate}
 use Rattle.law_heap_frame.specs.Fits.{WritesThere}

@@ -2,9 +2,9 @@
 -- where no heap lies in one of these.
 use Rattle.profile.specs.MemoryMap.{module_area_start}
 use Rattle.std.specs.Prelude.{ℕ, ◌≡◌, List, Some}
-use Rattle.os_heap_lists.specs.Heap.{HeapList}
+use Rattle.os_heap_words.specs.lists.Heap.{HeapList}
 use Rattle.os_heap.specs.Store.{Store, find_heap}
-use Rattle.os_heap_slide.specs.Slide.{HoldNoHeap, with_slid}
+use Rattle.rma.specs.heap_slide.Slide.{HoldNoHeap, with_slid}
 use Rattle.law_heap_frame.specs.Fits.{IsFitStore, StaysFit}
 
 abbrev pub SlidesStayFit : Type 0

@@ -1,7 +1,7 @@
 -- Each turn of a machine's stores, a flex call or a slide of the module area, keeps a heap that a
 -- guest made and in which no anchor lies.
 use Rattle.std.specs.Prelude.{◌≡◌, true}
-use Rattle.os_heap_lists.specs.Heap.{HeapList}
+use Rattle.os_heap_words.specs.lists.Heap.{HeapList}
 use Rattle.os_heap.specs.Calls.{has_own_size}
 use Rattle.law_sliding.specs.Meaning.{AreStores, Stores, store_in}
 use Rattle.law_sliding.specs.Turning.{Call, Init, Slide, StoreTurn, stores_after_turn}

@@ -3,10 +3,10 @@ use Rattle.std.proofs.Common.{ℕ, ◌≡◌, Bool, true, false, not, List, [], 
 use Rattle.std.proofs.lemmas.Bool.{and_parts, false≢true}
 use Rattle.profile.specs.declared.swi.SwiName.TheVariants as swi
 use Rattle.image_loader.specs.Entries.{Entry}
-use Rattle.os_heap_lists.specs.Heap.{HeapList}
-use Rattle.swi_dispatch.specs.swi_dispatch_guest.specs.MachineState.{MachineState}
+use Rattle.os_heap_words.specs.lists.Heap.{HeapList}
+use Rattle.swi_dispatch.specs.MachineState.{MachineState}
 use Rattle.law_heap_alone.specs.Laws.{IsAside}
-use Rattle.swi_dispatch.specs.swi_dispatch_guest.specs.Moves.{Call, Move, Step, machine_after_move, outside_name}
+use Rattle.swi_dispatch.specs.Moves.{Call, Move, Step, machine_after_move, outside_name}
 use Rattle.law_heap_runs.specs.Calls.{CallsStandAside, are_plain_calls, is_anchored}
 
 is_step : Move → Bool

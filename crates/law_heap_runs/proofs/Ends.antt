@@ -1,6 +1,6 @@
 -- How a list of moves ends: at its end, by a move that halts the machine, or by one whose answer
 -- has no room.
-use Rattle.swi_dispatch.specs.swi_dispatch_guest.specs.Moves.{Move as WrittenMove, machine_after_move, moved_all}
+use Rattle.swi_dispatch.specs.Moves.{Move as WrittenMove, machine_after_move, moved_all}
 use Rattle.std.proofs.Common.{ℕ, ◌≡◌, ◌≤◌, ◌<◌, ◌+◌, ◌-◌, ◌++◌, ◌∙◌, ◌&&◌, ◌==◌, Bool, true, false, List, [], ◌∷◌, length, take, option_map, Some, None, get_or, refl, sym, ap, subst, arith, length-append, if◌then◌else◌}
 use Rattle.std.proofs.Math.Seq.{take-length}
 use Rattle.std.proofs.lemmas.Bool.Decides.{nat_tests}
@@ -8,7 +8,7 @@ use Rattle.std.proofs.lemmas.List.{length-map}
 use Rattle.profile.specs.declared.stop.Stop.{Stop}
 use Rattle.image_loader.specs.Entries.{Entry}
 use Rattle.law_heap_calls.specs.Turns.{Reply as WrittenReply}
-use Rattle.swi_dispatch.specs.swi_dispatch_guest.specs.MachineState.{MachineState, stop_of}
+use Rattle.swi_dispatch.specs.MachineState.{MachineState, stop_of}
 use Rattle.swi_dispatch.specs.Value.{IsMachine, MachineValue}
 use Rattle.law_heap_alone.specs.Moves.{answers_in, is_own, reply_of_machine}
 use Rattle.law_heap_runs.proofs.Fronts.{IsUnder, answered, answers_more, moved_more, next_front, under_more}
@@ -18,7 +18,7 @@ use Rattle.law_heap_runs.specs.Moves.{written_reply_of, noted_all, reply_if, wri
 use Rattle.law_heap_runs.specs.declared.moves.End.TheVariants as end
 use Rattle.law_heap_runs.specs.declared.moves.MachineMove.{MachineMove}
 use Rattle.law_heap_runs.specs.declared.moves.Reply.{Reply}
-use Rattle.swi_dispatch.specs.swi_dispatch_guest.specs.Parts.{state_of}
+use Rattle.swi_dispatch.specs.Parts.{state_of}
 
 pub ends_all : (images : List Entry) (start : ℕ) (s t : MachineState) (moves : List WrittenMove) (most count : ℕ) (told : List Reply)
     → StateGoesOn s → IsUnder images start s t moves told → count ≡ length moves → t.halt ≡ None → AreMade images start s t moves most count end.All told

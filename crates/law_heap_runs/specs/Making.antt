@@ -1,18 +1,18 @@
 -- A list of moves made on a machine: how far it was made, what the machine then is, and what the
 -- heap at an address answered, which is what it answers by itself.
-use Rattle.swi_dispatch.specs.swi_dispatch_guest.specs.Moves.{Move, machine_after_move, moved_all}
+use Rattle.swi_dispatch.specs.Moves.{Move, machine_after_move, moved_all}
 use Rattle.std.specs.Prelude.{ℕ, ◌≡◌, ◌≤◌, ◌<◌, ◌+◌, ◌-◌, true, false, Option, Some, None, option_map, List, [], ◌∷◌, length, take}
 use Rattle.profile.specs.declared.stop.Stop.{Stop}
 use Rattle.image_loader.specs.Entries.{Entry}
-use Rattle.os_heap_lists.specs.Heap.{HeapList}
+use Rattle.os_heap_words.specs.lists.Heap.{HeapList}
 use Rattle.os_heap.specs.Calls.{has_own_size}
 use Rattle.os_heap.specs.Store.{find_heap}
 use Rattle.law_heap_calls.specs.Alone.{alone_in}
 use Rattle.law_heap_calls.specs.Laws.{HeapHasNoAnchor, HoldsNoHeap, IsLeftWhole}
 use Rattle.law_heap_calls.specs.Turns.{replies}
-use Rattle.swi_dispatch.specs.swi_dispatch_guest.specs.declared.halt.Halt.{Halt}
-use Rattle.swi_dispatch.specs.swi_dispatch_guest.specs.MachineState.{MachineState, stop_of}
-use Rattle.swi_dispatch.specs.swi_dispatch_guest.specs.Parts.{IsState}
+use Rattle.swi_dispatch.specs.SwiDispatchGuestHalt.{Halt}
+use Rattle.swi_dispatch.specs.MachineState.{MachineState, stop_of}
+use Rattle.swi_dispatch.specs.Parts.{IsState}
 use Rattle.law_heap_alone.specs.Laws.{IsAside, MachineHeapStandsAlone}
 use Rattle.law_heap_alone.specs.Moves.{answers_in, calls_in, is_own}
 use Rattle.law_heap_runs.specs.declared.moves.End.{End}

@@ -1,8 +1,8 @@
 -- Moves and replies as programs have them, and as the written machine has them.
-use Rattle.swi_dispatch.specs.swi_dispatch_guest.specs.Moves.{Call, Move as WrittenMove, Step}
+use Rattle.swi_dispatch.specs.Moves.{Call, Move as WrittenMove, Step}
 use Rattle.std.specs.Prelude.{Bool, List, [], ◌∷◌, map, if◌then◌else◌}
 use Rattle.law_heap_calls.specs.Turns.{Answered, Refused, Reply as WrittenReply}
-use Rattle.swi_dispatch.specs.swi_dispatch_guest.specs.MachineState.{MachineState}
+use Rattle.swi_dispatch.specs.MachineState.{MachineState}
 use Rattle.law_heap_alone.specs.Moves.{reply_of_machine}
 use Rattle.law_heap_runs.specs.declared.moves.MachineMove.{MachineMove}
 use Rattle.law_heap_runs.specs.declared.moves.MachineMove.TheVariants as move

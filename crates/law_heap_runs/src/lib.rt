@@ -11,6 +11,3 @@ pub mod pairs;
 pub use making::make_moves;
 pub use moves::{End, MachineMove, MachineMoves, Made, Reply};
 pub use pairs::make_in_two;
-
-#[cfg(test)]
-mod tests;

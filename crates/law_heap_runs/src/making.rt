@@ -1,12 +1,12 @@
 //! A list of moves on one machine.
 
-ghost use Rattle.swi_dispatch.specs.swi_dispatch_guest.specs.Moves.{machine_with_words, machine_after_move};
+ghost use Rattle.swi_dispatch.specs.Moves.{machine_with_words, machine_after_move};
 ghost use Rattle.std.specs.Prelude.{◌≡◌, ◌==◌, ◌≤◌, ◌&&◌, ◌++◌, true, false, length};
 ghost use Rattle.swi_dispatch.specs.Value.{IsMachine};
 ghost use Rattle.law_heap_alone.specs.Moves.{is_own};
 ghost use Rattle.law_heap_runs.specs.Making.{AreMade};
 ghost use Rattle.law_heap_runs.specs.Moves.{reply_if, written_move_of, written_all};
-ghost use Rattle.swi_dispatch.specs.swi_dispatch_guest.specs.Parts.{state_of};
+ghost use Rattle.swi_dispatch.specs.Parts.{state_of};
 
 use crate::moves::{End, MachineMove, MachineMoves, Made, Reply};
 use crate::own_calls::{is_own_call, reply_of};

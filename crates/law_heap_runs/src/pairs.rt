@@ -5,7 +5,7 @@ ghost use Rattle.swi_dispatch.specs.Value.{IsMachine};
 ghost use Rattle.law_heap_runs.specs.Making.{AreMade, done_of};
 ghost use Rattle.law_heap_runs.specs.Moves.{written_all};
 ghost use Rattle.law_heap_runs.specs.Pairs.{AreAlike};
-ghost use Rattle.swi_dispatch.specs.swi_dispatch_guest.specs.Parts.{state_of};
+ghost use Rattle.swi_dispatch.specs.Parts.{state_of};
 
 use crate::making::make_moves;
 use crate::moves::{MachineMoves, Made};

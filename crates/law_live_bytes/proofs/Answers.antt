@@ -15,14 +15,14 @@ use Rattle.os_heap.specs.Store.{Store}
 use Rattle.dynamic_areas.specs.Areas.{extent_asked}
 use Rattle.dynamic_areas.specs.Ground.{Estate}
 use Rattle.dynamic_areas.specs.declared.area.Extent.{Extent}
-use Rattle.flex_machine.specs.flex_store.specs.Calls.{flex_block_size}
+use Rattle.flex_store.specs.Calls.{flex_block_size}
 use Rattle.instances_table.specs.Lookup.{handler_of}
 use Rattle.instances_table.specs.declared.parts.Handler.{Handler}
 use Rattle.swi_dispatch_answers.specs.Refusals.{or_error}
 use Rattle.swi_dispatch_answers.specs.declared.refusal.Refusal.{Refusal}
 use Rattle.swi_dispatch_answers.specs.declared.refusal.Refusal.TheVariants as refusal
 use Rattle.swi_dispatch_flex.specs.Calls.{flex_called, state_in}
-use Rattle.swi_dispatch_store.specs.Areas.{area_called, area_read, with_extent}
+use Rattle.swi_dispatch_plans.specs.store.Areas.{area_called, area_read, with_extent}
 use Rattle.swi_dispatch_guest.specs.declared.halt.Halt.TheVariants as halt
 use Rattle.swi_dispatch_guest.specs.Answers.{Answer, refusal_answer, went_on}
 use Rattle.swi_dispatch_guest.specs.Calls.{call_answer, machine_flex, on_estate, on_flex, printable_at, wrote_text_after, wrote_text_at}

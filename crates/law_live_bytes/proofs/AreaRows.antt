@@ -20,7 +20,7 @@ use Rattle.dynamic_areas.specs.declared.area.Wanted.{Wanted}
 use Rattle.swi_dispatch_answers.specs.Refusals.{or_error, system_error}
 use Rattle.swi_dispatch_answers.specs.Strings.{string_at}
 use Rattle.swi_dispatch_answers.specs.declared.refusal.Refusal.{Refusal}
-use Rattle.swi_dispatch_store.specs.Areas.{area_called, area_called_for, area_changed, area_made, area_named, area_resized, change_asked, change_left, wanted_of, with_land}
+use Rattle.swi_dispatch_plans.specs.store.Areas.{area_called, area_called_for, area_changed, area_made, area_named, area_resized, change_asked, change_left, wanted_of, with_land}
 use Rattle.swi_dispatch_guest.specs.Calls.{on_estate, with_guest}
 use Rattle.swi_dispatch_guest.specs.MachineState.{MachineState, machine_estate}
 use Rattle.law_live_bytes.specs.AreaLaws.{AreaCallHas}

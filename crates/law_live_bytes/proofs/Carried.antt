@@ -5,14 +5,14 @@ use Rattle.std.proofs.lemmas.Bool.{true≢false}
 use Rattle.profile.specs.declared.error.ErrorNumber.{ErrorNumber}
 use Rattle.instances.specs.Reading.{start_found}
 use Rattle.instances.specs.declared.answers.Start.{Start}
-use Rattle.module_world.specs.World.{World}
+use Rattle.instances.specs.world.World.{World}
 use Rattle.instances_plans.specs.Carrying.{Carried}
 use Rattle.instances_plans.specs.Plans.{Plan, plan_after_code}
 use Rattle.instances_plans.specs.declared.action.PlanAction.{PlanAction}
 use Rattle.instances_plans.specs.declared.action.PlanAction.TheVariants as act
 use Rattle.instances_plans.specs.declared.code.Code.{Code}
 use Rattle.instances_plans.specs.declared.given.Given.{Given}
-use Rattle.swi_dispatch_frames.specs.declared.call.Call.{Call}
+use Rattle.swi_dispatch_answers.specs.declared.frames.call.Call.{Call}
 use Rattle.swi_dispatch_plans.specs.Trials.{world_carried}
 use Rattle.swi_dispatch_guest.specs.Gates.{call_ended_by, carried_on, come_back, ended_of, entered_if, entered_with, state_after_plan, outcome_of_gate, state_with_code_entered, outcome_left}
 use Rattle.swi_dispatch_guest.specs.MachineState.{MachineState, machine_estate, machine_world}

@@ -10,12 +10,12 @@ use Rattle.address_map.specs.Bytes.{Bytes, in_range}
 use Rattle.address_map.specs.Items.{is_total, size_of}
 use Rattle.address_map.specs.Records.{anchor_among}
 use Rattle.address_map.specs.declared.item.Item.{Item}
-use Rattle.os_heap_lists.proofs.ClaimedLists.{HasTotals, IsUnheld, IsWithin, claim_totals, claim_unheld, claim_within}
-use Rattle.os_heap_lists.proofs.LiveBlocks.{IsFresh, IsStill, LiveBytes, claim_fresh, claim_still, live_apart, law_live_bytes}
-use Rattle.os_heap_lists.proofs.Reading.{total_facts}
-use Rattle.os_heap_lists.proofs.Spelling.{total_of-numbers}
-use Rattle.os_heap_lists.specs.Heap.{AreTotals, HeapList}
-use Rattle.os_heap_lists.specs.Lists.{Claim, changed_by, claim_in_items, live_total, resized_in_place, round_up_8}
+use Rattle.os_heap_words.proofs.ListsLemmas.ClaimedLists.{HasTotals, IsUnheld, IsWithin, claim_totals, claim_unheld, claim_within}
+use Rattle.os_heap_words.proofs.ListsLemmas.LiveBlocks.{IsFresh, IsStill, LiveBytes, claim_fresh, claim_still, live_apart, law_live_bytes}
+use Rattle.os_heap_words.proofs.ListsLemmas.Reading.{total_facts}
+use Rattle.os_heap_words.proofs.ListsLemmas.Spelling.{total_of-numbers}
+use Rattle.os_heap_words.specs.lists.Heap.{AreTotals, HeapList}
+use Rattle.os_heap_words.specs.lists.Lists.{Claim, changed_by, claim_in_items, live_total, resized_in_place, round_up_8}
 use Rattle.os_heap.proofs.Apart.{range_parts}
 use Rattle.os_heap.proofs.Found.{found_start}
 use Rattle.os_heap.proofs.Resizing.{larger_where_none}
@@ -35,7 +35,7 @@ use Rattle.law_heap_frame.specs.FitEstates.{IsFitEstate}
 use Rattle.law_heap_frame.specs.Fits.{IsFitStore}
 use Rattle.law_live_bytes.proofs.Growing.{same_then}
 use Rattle.law_live_bytes.specs.AreaLaws.{ExtendsKeepBlocks, KeepsBoth}
-use Rattle.flex_frame.proofs.Heaps.{OnDone, on_if, on_some}
+use Rattle.rma.proofs.FlexFrameLemmas.Heaps.{OnDone, on_if, on_some}
 
 -- blocks that stay, and then blocks that were there
 pub stay_were : (s t u : Store) → StayLive s t → WereLive t u → KeepsBoth s u

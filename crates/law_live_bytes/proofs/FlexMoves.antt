@@ -22,9 +22,9 @@ use Rattle.image_loader.specs.Entries.{Entry}
 use Rattle.os_heap.specs.Calls.{store_after_init, block_sized, store_after_change, heap_description, gave_back, store_after_get, store_after_resize}
 use Rattle.os_heap.specs.Store.{IsSound, Store, is_in_flex_store}
 use Rattle.dynamic_areas.specs.Ground.{Estate}
-use Rattle.flex_frame.proofs.Heaps.{heap_calls_keep}
-use Rattle.flex_frame.specs.Keeping.{AreAnchorsFree, KeepsFlex}
-use Rattle.flex_frame.specs.Laws.{HeapCallKeeps}
+use Rattle.rma.proofs.FlexFrameLemmas.Heaps.{heap_calls_keep}
+use Rattle.rma.specs.flex_frame.Keeping.{AreAnchorsFree, KeepsFlex}
+use Rattle.rma.specs.flex_frame.Laws.{HeapCallKeeps}
 use Rattle.law_heap_calls.proofs.DoneCalls.{OnDone}
 use Rattle.law_heap_calls.specs.Turns.{call_on}
 use Rattle.law_heap_frame.proofs.Holding.{keeps_all, keeps_both, system_outside}
@@ -34,7 +34,7 @@ use Rattle.law_heap_frame.specs.PlanLaws.{IsFitWorld}
 use Rattle.instances_plans.specs.Plans.{Plan, plan_after_code}
 use Rattle.swi_dispatch_answers.specs.declared.refusal.Refusal.{Refusal}
 use Rattle.swi_dispatch_answers.specs.declared.refusal.Refusal.TheVariants as refusal
-use Rattle.swi_dispatch_store.specs.Heaps.{heap_called, heap_called_for}
+use Rattle.swi_dispatch_plans.specs.store.Heaps.{heap_called, heap_called_for}
 use Rattle.swi_dispatch_guest.proofs.NextTurn.{awake_step, outside_call}
 use Rattle.swi_dispatch_guest.specs.declared.halt.Halt.{Halt}
 use Rattle.swi_dispatch_guest.specs.declared.halt.Halt.TheVariants as halt

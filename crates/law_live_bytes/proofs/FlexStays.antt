@@ -4,12 +4,11 @@ use Rattle.profile.specs.MemoryMap.{application_start, module_area_start, system
 use Rattle.std.proofs.Common.{ℕ, ◌+◌, ◌-◌, ◌*◌, ◌&&◌, ◌≡◌, ◌≢◌, ◌≤◌, ◌<◌, ◌∙◌, Bool, true, false, List, [], ◌∷◌, Option, Some, refl, sym, ap, subst, inl, inr, arith}
 use Rattle.std.proofs.lemmas.Bool.{and_parts, both_ways, cases_eq, false_from_ne_true, false≢true, or_cases}
 use Rattle.std.specs.List.{list_any}
-use Rattle.address_map.specs.Bytes.{in_range}
+use Rattle.address_map.specs.Bytes.{in_range, word_start}
 use Rattle.address_map.specs.Items.{is_heap_word}
-use Rattle.address_map.specs.Bytes.{word_start}
 use Rattle.address_map.specs.declared.region.Region.{Region}
-use Rattle.os_heap_lists.proofs.Payloads.{heap_beside, spelled_inside}
-use Rattle.os_heap_lists.specs.Heap.{HeapList, with_heap}
+use Rattle.os_heap_words.proofs.ListsLemmas.Payloads.{heap_beside, spelled_inside}
+use Rattle.os_heap_words.specs.lists.Heap.{HeapList, with_heap}
 use Rattle.os_heap.proofs.Anchored.{header_outside}
 use Rattle.os_heap.proofs.Apart.{range_parts}
 use Rattle.os_heap.specs.Calls.{ending}
@@ -23,8 +22,8 @@ use Rattle.dynamic_areas.specs.Ground.{AreRangesMapped, Estate, IsEstate, IsReco
 use Rattle.law_heap_frame.proofs.Guests.{IsHeldBy, created_low, held_by}
 use Rattle.law_heap_frame.specs.Fits.{is_module_byte}
 use Rattle.law_live_bytes.proofs.AreaCases.{HoldsAfter}
-use Rattle.flex_frame.proofs.Areas.{flex_clear}
-use Rattle.flex_frame.proofs.Writes.{clear_of_flex}
+use Rattle.rma.proofs.FlexFrameLemmas.Areas.{flex_clear}
+use Rattle.rma.proofs.FlexFrameLemmas.Writes.{clear_of_flex}
 
 -- nor have the system pages
 system_beside : (r : Region) (rs : List Region) → IsClearOfRanges r rs → IsRecorded system_pages_range rs → AreClear r.at r.len system_start 0x3000

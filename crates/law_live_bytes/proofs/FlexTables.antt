@@ -21,9 +21,9 @@ use Rattle.arm_core.specs.declared.turn.Turn.TheVariants as turn
 use Rattle.image_loader.specs.Entries.{Entry}
 use Rattle.os_heap.specs.Store.{Store}
 use Rattle.dynamic_areas.specs.Ground.{Estate}
-use Rattle.flex_machine.specs.flex_store.specs.Calls.{flex_block_size}
-use Rattle.flex_machine.specs.flex_store.specs.declared.flex.Flex.{Flex}
-use Rattle.module_world.specs.World.{World}
+use Rattle.flex_store.specs.Calls.{flex_block_size}
+use Rattle.flex_store.specs.declared.flex.Flex.{Flex}
+use Rattle.instances.specs.world.World.{World}
 use Rattle.instances_plans.specs.Carrying.{Carried}
 use Rattle.instances_plans.specs.Plans.{Plan, plan_after_code}
 use Rattle.instances_plans.specs.declared.code.Code.{Code}
@@ -35,19 +35,19 @@ use Rattle.swi_dispatch_answers.specs.Words.{host_string}
 use Rattle.swi_dispatch_answers.specs.declared.refusal.Refusal.{Refusal}
 use Rattle.swi_dispatch_answers.specs.declared.refusal.Refusal.TheVariants as refusal
 use Rattle.swi_dispatch_flex.specs.Calls.{flex_called, state_in}
-use Rattle.swi_dispatch_frames.specs.declared.call.Call.{Call}
-use Rattle.swi_dispatch_frames.specs.declared.frame.Frame.{Frame}
-use Rattle.swi_dispatch_frames.specs.declared.frame.FrameKind.{FrameKind}
-use Rattle.swi_dispatch_frames.specs.declared.frame.FrameKind.TheVariants as frame_kind
-use Rattle.swi_dispatch_frames.specs.Frames.{innermost_frame}
-use Rattle.swi_dispatch_modules.specs.Calls.{result_of_module_call as area_called}
+use Rattle.swi_dispatch_answers.specs.declared.frames.call.Call.{Call}
+use Rattle.swi_dispatch_answers.specs.declared.frames.frame.Frame.{Frame}
+use Rattle.swi_dispatch_answers.specs.declared.frames.frame.FrameKind.{FrameKind}
+use Rattle.swi_dispatch_answers.specs.declared.frames.frame.FrameKind.TheVariants as frame_kind
+use Rattle.swi_dispatch_answers.specs.frames.Frames.{innermost_frame}
+use Rattle.swi_dispatch_plans.specs.modules.Calls.{result_of_module_call as area_called}
 use Rattle.swi_dispatch_plans.specs.Openings.{opening_asked}
 use Rattle.swi_dispatch_plans.specs.Trials.{world_carried}
 use Rattle.swi_dispatch_plans.specs.declared.openings.Opening.{Opening}
-use Rattle.swi_dispatch_plans.specs.instances.specs.declared.answers.Start.{Start}
-use Rattle.swi_dispatch_plans.specs.instances.specs.Reading.{start_found}
-use Rattle.swi_dispatch_store.specs.Areas.{area_called as area_work, area_read}
-use Rattle.swi_dispatch_store.specs.Heaps.{heap_called}
+use Rattle.instances.specs.declared.answers.Start.{Start}
+use Rattle.instances.specs.Reading.{start_found}
+use Rattle.swi_dispatch_plans.specs.store.Areas.{area_called as area_work, area_read}
+use Rattle.swi_dispatch_plans.specs.store.Heaps.{heap_called}
 use Rattle.swi_dispatch_guest.specs.declared.halt.Halt.{Halt}
 use Rattle.swi_dispatch_guest.specs.declared.halt.Halt.TheVariants as halt
 use Rattle.swi_dispatch_guest.specs.Additions.{Planned, load_planned}

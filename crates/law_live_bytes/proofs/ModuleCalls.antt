@@ -11,12 +11,12 @@ use Rattle.profile.specs.declared.swi.SwiName.TheVariants as swi
 use Rattle.arm_core.specs.State.{State, register_of}
 use Rattle.image_loader.specs.Entries.{Entry}
 use Rattle.os_heap.specs.Store.{Store}
-use Rattle.module_world.specs.World.{World}
+use Rattle.instances.specs.world.World.{World}
 use Rattle.instances_plans.specs.Plans.{Plan}
 use Rattle.swi_dispatch_answers.specs.declared.refusal.Refusal.{Refusal}
 use Rattle.swi_dispatch_answers.specs.declared.refusal.Refusal.TheVariants as refusal
-use Rattle.swi_dispatch_frames.specs.declared.call.Call.{Call}
-use Rattle.swi_dispatch_modules.specs.Calls.{result_of_module_call as area_called}
+use Rattle.swi_dispatch_answers.specs.declared.frames.call.Call.{Call}
+use Rattle.swi_dispatch_plans.specs.modules.Calls.{result_of_module_call as area_called}
 use Rattle.swi_dispatch_plans.specs.Openings.{opening_asked}
 use Rattle.swi_dispatch_plans.specs.declared.openings.Opening.{Opening}
 use Rattle.swi_dispatch_plans.specs.ImagePlans.{instantiation_planned}

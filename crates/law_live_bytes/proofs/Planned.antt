@@ -15,7 +15,7 @@ use Rattle.instances.proofs.GoingOn.{bound as bound_any}
 use Rattle.instances.specs.Adding.{adding_plan, copying, good_header, inserting, instantiation, loading, slot_for}
 use Rattle.instances.specs.Plans.{deletion, reinitialisation}
 use Rattle.instances.specs.Reading.{slot_meant}
-use Rattle.module_world.specs.World.{World}
+use Rattle.instances.specs.world.World.{World}
 use Rattle.instances_plans.specs.Calls.{clear_actions}
 use Rattle.instances_plans.specs.Plans.{Plan}
 use Rattle.instances_plans.specs.declared.action.PlanAction.{PlanAction}

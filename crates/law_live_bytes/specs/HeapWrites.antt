@@ -9,8 +9,8 @@ use Rattle.profile.specs.declared.reason.HeapReason.TheVariants as reason
 use Rattle.address_map.specs.Bytes.{in_range, word_start}
 use Rattle.address_map.specs.Items.{is_heap_word}
 use Rattle.arm_core.specs.State.{State, register_of}
-use Rattle.os_heap_lists.specs.Heap.{HeapList}
-use Rattle.os_heap_lists.specs.Lists.{Claim, changed_by, claim_in_items, live_total, round_up_8}
+use Rattle.os_heap_words.specs.lists.Heap.{HeapList}
+use Rattle.os_heap_words.specs.lists.Lists.{Claim, changed_by, claim_in_items, live_total, round_up_8}
 use Rattle.os_heap.specs.Store.{Store, find_heap}
 use Rattle.swi_dispatch_guest.specs.MachineState.{MachineState}
 

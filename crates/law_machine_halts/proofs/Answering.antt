@@ -4,8 +4,8 @@ use Rattle.profile.specs.declared.swi.SwiName.{SwiName}
 use Rattle.profile.specs.declared.swi.SwiName.TheVariants as swi
 use Rattle.arm_core.specs.State.{State, register_of}
 use Rattle.os_heap.specs.Store.{Store}
-use Rattle.flex_machine.specs.module_world.specs.dynamic_areas.specs.Ground.{Estate}
-use Rattle.flex_machine.specs.module_world.specs.World.{World}
+use Rattle.dynamic_areas.specs.Ground.{Estate}
+use Rattle.instances.specs.world.World.{World}
 use Rattle.swi_dispatch_answers.specs.declared.refusal.Refusal.{Refusal}
 use Rattle.swi_dispatch_flex.specs.Calls.{FlexMemory}
 use Rattle.swi_dispatch_guest.specs.Answers.{went_on}

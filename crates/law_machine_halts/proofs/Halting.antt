@@ -23,24 +23,24 @@ use Rattle.image_loader.specs.Entries.{Entry}
 use Rattle.instances_plans.specs.declared.given.Given.{Given}
 use Rattle.instances_plans.specs.Carrying.{Carried}
 use Rattle.instances_plans.specs.Plans.{Plan, plan_after_code}
-use Rattle.flex_machine.specs.module_world.specs.World.{World}
+use Rattle.instances.specs.world.World.{World}
 use Rattle.instances_table.specs.declared.parts.Handler.{Handler}
 use Rattle.instances_table.specs.Lookup.{handler_of}
 use Rattle.swi_dispatch_answers.specs.Words.{host_string}
 use Rattle.swi_dispatch_answers.specs.declared.refusal.Refusal.{Refusal}
 use Rattle.swi_dispatch_answers.specs.declared.refusal.Refusal.TheVariants as refusal
-use Rattle.swi_dispatch_frames.specs.declared.call.Call.{Call}
-use Rattle.swi_dispatch_frames.specs.declared.frame.Frame.{Frame}
-use Rattle.swi_dispatch_frames.specs.declared.frame.FrameKind.{FrameKind}
-use Rattle.swi_dispatch_frames.specs.declared.frame.FrameKind.TheVariants as frame
-use Rattle.swi_dispatch_frames.specs.Frames.{innermost_frame}
+use Rattle.swi_dispatch_answers.specs.declared.frames.call.Call.{Call}
+use Rattle.swi_dispatch_answers.specs.declared.frames.frame.Frame.{Frame}
+use Rattle.swi_dispatch_answers.specs.declared.frames.frame.FrameKind.{FrameKind}
+use Rattle.swi_dispatch_answers.specs.declared.frames.frame.FrameKind.TheVariants as frame
+use Rattle.swi_dispatch_answers.specs.frames.Frames.{innermost_frame}
 use Rattle.swi_dispatch_plans.specs.ImagePlans.{instantiation_planned}
 use Rattle.swi_dispatch_plans.specs.ModulePlans.{clear_planned, delete_planned, reinit_planned, tidy_planned}
 use Rattle.swi_dispatch_plans.specs.Openings.{opening_asked}
 use Rattle.swi_dispatch_plans.specs.Trials.{world_carried}
 use Rattle.swi_dispatch_plans.specs.declared.openings.Opening.{Opening}
-use Rattle.swi_dispatch_plans.specs.instances.specs.declared.answers.Start.{Start}
-use Rattle.swi_dispatch_plans.specs.instances.specs.Reading.{start_found}
+use Rattle.instances.specs.declared.answers.Start.{Start}
+use Rattle.instances.specs.Reading.{start_found}
 use Rattle.swi_dispatch_guest.proofs.NextTurn.{awake_step}
 use Rattle.swi_dispatch_guest.specs.declared.halt.Halt.{Halt}
 use Rattle.swi_dispatch_guest.specs.declared.halt.Halt.TheVariants as halt

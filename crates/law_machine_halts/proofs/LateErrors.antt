@@ -13,14 +13,14 @@ use Rattle.arm_core.specs.declared.psr.Psr.{Psr}
 use Rattle.arm_core.specs.State.{State, register_of}
 use Rattle.image_loader.specs.Entries.{Entry}
 use Rattle.instances_plans.specs.Plans.{Plan}
-use Rattle.flex_machine.specs.module_world.specs.dynamic_areas.specs.Ground.{Estate}
-use Rattle.flex_machine.specs.module_world.specs.dynamic_areas.specs.Areas.{find_area}
-use Rattle.flex_machine.specs.module_world.specs.dynamic_areas.specs.declared.area.Area.{Area}
+use Rattle.dynamic_areas.specs.Ground.{Estate}
+use Rattle.dynamic_areas.specs.Areas.{find_area}
+use Rattle.dynamic_areas.specs.declared.area.Area.{Area}
 use Rattle.swi_dispatch_answers.specs.Words.{host_string}
 use Rattle.swi_dispatch_answers.specs.declared.refusal.Refusal.TheVariants as refusal
 use Rattle.swi_dispatch_plans.specs.ImagePlans.{instantiation_planned}
 use Rattle.swi_dispatch_plans.specs.ModulePlans.{clear_planned, delete_planned, reinit_planned, tidy_planned}
-use Rattle.swi_dispatch_plans.specs.swi_dispatch_store.specs.Areas.{area_changed, change_asked, change_left}
+use Rattle.swi_dispatch_plans.specs.store.Areas.{area_changed, change_asked, change_left}
 use Rattle.swi_dispatch_guest.specs.declared.halt.Halt.{Halt}
 use Rattle.swi_dispatch_guest.specs.Additions.{Planned, copy_planned, insertion_planned, load_planned, named_load_planned}
 use Rattle.swi_dispatch_guest.specs.Calls.{area_changing, call_answer, with_guest}

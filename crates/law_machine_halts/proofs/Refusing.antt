@@ -26,15 +26,15 @@ use Rattle.image_loader.specs.Entries.{Entry}
 use Rattle.instances_table.specs.declared.parts.Handler.{Handler}
 use Rattle.instances_table.specs.Lookup.{handler_of}
 use Rattle.os_heap.specs.Store.{Store}
-use Rattle.flex_machine.specs.flex_store.proofs.Holding.{bytes_beside, word_beside}
-use Rattle.flex_machine.specs.module_world.specs.dynamic_areas.specs.Ground.{Estate}
-use Rattle.flex_machine.specs.module_world.specs.World.{World}
+use Rattle.flex_store.proofs.Holding.{bytes_beside, word_beside}
+use Rattle.dynamic_areas.specs.Ground.{Estate}
+use Rattle.instances.specs.world.World.{World}
 use Rattle.swi_dispatch_answers.specs.Errors.{memory_with_error}
 use Rattle.swi_dispatch_answers.specs.Returns.{return_word, state_after_return}
 use Rattle.swi_dispatch_answers.specs.declared.refusal.Refusal.{Refusal}
 use Rattle.swi_dispatch_answers.specs.declared.refusal.Refusal.TheVariants as refusal
 use Rattle.swi_dispatch_flex.specs.Calls.{FlexMemory}
-use Rattle.swi_dispatch_frames.specs.Entering.{swi_entered}
+use Rattle.swi_dispatch_answers.specs.frames.Entering.{swi_entered}
 use Rattle.swi_dispatch_plans.specs.Openings.{opening_asked}
 use Rattle.swi_dispatch_plans.specs.declared.openings.Opening.{Opening}
 use Rattle.swi_dispatch_guest.proofs.GateReturns.{first_slot}

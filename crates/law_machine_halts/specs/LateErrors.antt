@@ -15,7 +15,7 @@ use Rattle.image_loader.specs.Entries.{Entry}
 use Rattle.swi_dispatch_answers.specs.Words.{host_string}
 use Rattle.swi_dispatch_plans.specs.ImagePlans.{instantiation_planned}
 use Rattle.swi_dispatch_plans.specs.ModulePlans.{clear_planned, delete_planned, reinit_planned, tidy_planned}
-use Rattle.swi_dispatch_plans.specs.swi_dispatch_store.specs.Areas.{area_changed, change_asked}
+use Rattle.swi_dispatch_plans.specs.store.Areas.{area_changed, change_asked}
 use Rattle.swi_dispatch_guest.specs.Additions.{Planned, copy_planned, insertion_planned, load_planned, named_load_planned}
 use Rattle.swi_dispatch_guest.specs.Calls.{with_guest}
 use Rattle.swi_dispatch_guest.specs.MachineState.{MachineState, machine_estate, setting_of}

@@ -2,10 +2,8 @@
 //! that does nothing.
 
 ghost use Rattle.law_machine_halts.specs.Halts.{ExitsAreCalls, HaltsChangeNothing, NoFaultFromOutside};
-ghost use Rattle.law_machine_halts.specs.LateErrors.{ErringChangesMovePages};
-ghost use Rattle.law_machine_halts.specs.LateErrors.{RefusedLoadsChangeNothing, RefusedPlansChangeNothing};
-ghost use Rattle.law_machine_halts.specs.Refusals.{GoingOnIsDone, RefusalsChangeNothing};
-ghost use Rattle.law_machine_halts.specs.Refusals.{RefusedStepsChangeNothing, RefusedStoreCallsChangeNothing};
+ghost use Rattle.law_machine_halts.specs.LateErrors.{ErringChangesMovePages, RefusedLoadsChangeNothing, RefusedPlansChangeNothing};
+ghost use Rattle.law_machine_halts.specs.Refusals.{GoingOnIsDone, RefusalsChangeNothing, RefusedStepsChangeNothing, RefusedStoreCallsChangeNothing};
 
 /// A step that ends in a halt changes nothing but that the machine is halted, and prints nothing.
 pub fn halts_change_nothing()

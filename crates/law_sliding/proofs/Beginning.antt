@@ -4,16 +4,16 @@ use Rattle.std.proofs.Common.{ℕ, Bool, true, false, not, nat_eq, suc, ◌+◌,
 use Rattle.std.specs.Prelude.{nat_lt, if◌then◌else◌}
 use Rattle.std.specs.List.{list_any}
 use Rattle.std.proofs.lemmas.Bool.{and_parts, cases_Bool, eqb-true, false≢true, ltb-true, not-true, or_parts}
-use Rattle.rma.specs.profile.specs.declared.error.ErrorNumber.{ErrorNumber}
+use Rattle.profile.specs.declared.error.ErrorNumber.{ErrorNumber}
 use Rattle.address_map.specs.Bytes.{AreMapped, shares_address, word_start}
 use Rattle.address_map.specs.declared.region.Region.{Region}
 use Rattle.os_heap.proofs.RangeTests.{are_mapped_all, clear_unless}
 use Rattle.os_heap.proofs.Recorded.{IsClearOfAll, recorded_sound}
 use Rattle.os_heap.specs.Ranges.{are_bytes_mapped}
 use Rattle.os_heap.specs.Store.{IsClearOfHeaps, IsSound, Store, find_heap, is_image}
-use Rattle.os_heap_lists.specs.Heap.{HeapList}
+use Rattle.os_heap_words.specs.lists.Heap.{HeapList}
 use Rattle.dynamic_areas.specs.Ground.{IsEstate}
-use Rattle.flex_frame.specs.Keeping.{AreAnchorsFree}
+use Rattle.rma.specs.flex_frame.Keeping.{AreAnchorsFree}
 use Rattle.flex_machine.proofs.Worlds.{begun_world, beside_begun}
 use Rattle.flex_machine.specs.Ground.{flex_state, records_with, spelled_store, with_flex_record}
 use Rattle.flex_store.proofs.Recording.{last_recorded, range_clear_back}
@@ -28,10 +28,10 @@ use Rattle.flex_store.specs.State.{AreAnchorWords, AreInner, AreWhole}
 use Rattle.flex_store.specs.declared.flex.Extent.{Extent}
 use Rattle.flex_store.specs.declared.flex.Flex.{Flex}
 use Rattle.rma.proofs.ImageLemmas.{mapped_more}
-use Rattle.module_world.proofs.Worlds.{few_records}
+use Rattle.flex_machine.proofs.InstancesWorlds.{few_records}
 use Rattle.instances_table.proofs.RoomLemmas.{few_modules}
-use Rattle.module_world.specs.Sound.{count_beside}
-use Rattle.module_world.specs.World.{World}
+use Rattle.flex_machine.specs.world.Sound.{count_beside}
+use Rattle.flex_machine.specs.world.World.{World}
 use Rattle.law_sliding.proofs.Called.{words_said}
 use Rattle.law_sliding.proofs.Calling.{IsFollowedBy, stays}
 use Rattle.law_sliding.specs.FlexStore.{IsFlexRangeSpelled, IsSpelledAt, IsUnmade, spelled_blocks}

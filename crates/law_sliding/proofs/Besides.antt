@@ -7,16 +7,16 @@ use Rattle.address_map.proofs.Stores.{in_range-cases}
 use Rattle.address_map.specs.Bytes.{Bytes, in_range, word_at}
 use Rattle.address_map.specs.Items.{size_of}
 use Rattle.address_map.specs.declared.region.Region.{Region}
-use Rattle.os_heap_lists.specs.Heap.{HeapList, IsHeapIn}
+use Rattle.os_heap_words.specs.lists.Heap.{HeapList, IsHeapIn}
 use Rattle.os_heap.proofs.Found.{found_heap}
 use Rattle.os_heap.specs.Store.{IsClearOfHeaps, IsSound, Store, find_heap, is_image}
 use Rattle.dynamic_areas.proofs.SystemWrites.{system_clear}
 use Rattle.dynamic_areas.specs.Ground.{IsRecorded, system_pages_range}
-use Rattle.flex_frame.proofs.Writes.{system_keeps}
-use Rattle.flex_frame.specs.Keeping.{IsFlexKept, KeepsFlex}
+use Rattle.rma.proofs.FlexFrameLemmas.Writes.{system_keeps}
+use Rattle.rma.specs.flex_frame.Keeping.{IsFlexKept, KeepsFlex}
 use Rattle.flex_store.specs.Laws.{contents_in}
 use Rattle.instances_plans.specs.Code.{private_of}
-use Rattle.module_world.specs.World.{private_word}
+use Rattle.flex_machine.specs.world.World.{private_word}
 use Rattle.instances_table.proofs.RoomLemmas.{slots_once}
 use Rattle.instances_table.specs.Changes.{is_slot_held}
 use Rattle.law_sliding.proofs.Called.{images_same, word_same}

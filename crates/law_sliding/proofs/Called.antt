@@ -8,18 +8,18 @@ use Rattle.address_map.specs.Bytes.{bytes_between, in_range, word_at}
 use Rattle.address_map.specs.Items.{size_of}
 use Rattle.address_map.specs.declared.item.Item.{Item}
 use Rattle.address_map.specs.declared.item.Item.TheVariants.{Free, Live}
-use Rattle.os_heap_lists.proofs.Reading.{total_facts}
+use Rattle.os_heap_words.proofs.ListsLemmas.Reading.{total_facts}
 use Rattle.address_map.specs.declared.region.Region.{Region}
-use Rattle.os_heap_lists.specs.Heap.{AreTotals, HeapList, IsHeapIn}
+use Rattle.os_heap_words.specs.lists.Heap.{AreTotals, HeapList, IsHeapIn}
 use Rattle.os_heap.proofs.Anchored.{header_outside}
 use Rattle.os_heap.proofs.Found.{found_heap}
 use Rattle.os_heap.specs.Store.{IsSound, Store, find_heap, is_flex_store, is_image, is_in_flex_store}
 use Rattle.dynamic_areas.specs.Ground.{IsRecorded, system_pages_range}
-use Rattle.flex_frame.specs.Keeping.{AreAnchorsFree, is_in_other_record}
+use Rattle.rma.specs.flex_frame.Keeping.{AreAnchorsFree, is_in_other_record}
 use Rattle.law_flex.specs.Laws.{outside_of}
 use Rattle.flex_store.specs.Runs.{Alloc, Extend, FlexCall, MidExtend, Release}
 use Rattle.instances_plans.specs.Code.{private_of}
-use Rattle.module_world.specs.World.{World, private_word}
+use Rattle.flex_machine.specs.world.World.{World, private_word}
 use Rattle.instances_table.proofs.RoomLemmas.{slots_once}
 use Rattle.instances_table.specs.Changes.{is_slot_held}
 use Rattle.instances_table.specs.Modules.{AreModules}

@@ -2,8 +2,8 @@
 use Rattle.std.proofs.Common.{ℕ, Bool, true, false, nat_eq, ◌%◌, is_some, List, ◌≡◌, ◌∙◌, [], ◌∷◌, map, Option, Some, None, Result, Ok, Err, refl, sym, ap, subst, inl, inr}
 use Rattle.std.specs.Prelude.{if◌then◌else◌}
 use Rattle.std.proofs.lemmas.Bool.{cases_Bool, eqb-false, eqb-true, false≢true}
-use Rattle.rma.specs.profile.specs.Outcome.{bind}
-use Rattle.rma.specs.profile.specs.declared.error.ErrorNumber.{ErrorNumber}
+use Rattle.profile.specs.Outcome.{bind}
+use Rattle.profile.specs.declared.error.ErrorNumber.{ErrorNumber}
 use Rattle.os_heap.specs.Store.{IsSound, Store, is_in_flex_store}
 use Rattle.dynamic_areas.specs.Ground.{Estate, IsEstate}
 use Rattle.flex_machine.specs.Ground.{flex_of, flex_state, records_with, spelled_store, store_flexed}
@@ -19,8 +19,8 @@ use Rattle.flex_store.specs.Runs.{Alloc, Extend, FlexCall, MidExtend, Release}
 use Rattle.flex_store.specs.declared.flex.Extent.{Extent}
 use Rattle.flex_store.specs.declared.flex.Flex.{Flex}
 use Rattle.rma.specs.Calls.{with_store}
-use Rattle.module_world.proofs.Worlds.{world_kept}
-use Rattle.module_world.specs.World.{private_word}
+use Rattle.flex_machine.proofs.InstancesWorlds.{world_kept}
+use Rattle.flex_machine.specs.world.World.{private_word}
 use Rattle.law_sliding.proofs.Called.{IsCalledOn, anchors_left, images_left, names_left, words_left, words_said}
 use Rattle.law_sliding.proofs.Leaving.{IsAfter, IsBefore, IsCalledBy, after_called, same_flex, same_store, state_at, state_spelled, store_at}
 use Rattle.law_sliding.proofs.CalledSeen.{byte_seen, byte_stays, mark_left, none_odd, some_is}

@@ -2,10 +2,10 @@
 use Rattle.std.proofs.Common.{ℕ, Bool, true, nat_eq, ◌+◌, ◌%◌, ◌≡◌, ◌≤◌, ◌∙◌, List, [], ◌∷◌, length, Option, Some, None, sym, ap, subst, arith}
 use Rattle.std.proofs.lemmas.Bool.{eq-eqb, or_left, or_right}
 use Rattle.address_map.specs.Bytes.{word_start}
-use Rattle.address_map.specs.raw_store.specs.Region.{word_bytes}
+use Rattle.raw_store.specs.Region.{word_bytes}
 use Rattle.address_map.specs.declared.region.Region.{Region}
 use Rattle.os_heap.specs.Store.{Store, is_in_flex_store}
-use Rattle.flex_frame.specs.Keeping.{IsFlexKept, KeepsFlex}
+use Rattle.rma.specs.flex_frame.Keeping.{IsFlexKept, KeepsFlex}
 use Rattle.flex_store.proofs.Holding.{holds_kept}
 use Rattle.flex_store.proofs.Keeping.{in_store}
 use Rattle.flex_store.proofs.Lists.{text_used}

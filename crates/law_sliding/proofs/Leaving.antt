@@ -7,9 +7,9 @@ use Rattle.os_heap.proofs.FlexSound.{flex_unspelled, place_unspelled}
 use Rattle.os_heap.proofs.Frame.{parts_kept}
 use Rattle.os_heap.proofs.PayloadLemmas.{anchor_placed}
 use Rattle.os_heap.specs.Store.{AreHeapsIn, IsAnchorPlace, IsSound, Store}
-use Rattle.os_heap_lists.proofs.HeadWords.{are_owned}
-use Rattle.flex_frame.proofs.Writes.{flex_alone}
-use Rattle.flex_frame.specs.Keeping.{AreAnchorsFree}
+use Rattle.os_heap_words.proofs.ListsLemmas.HeadWords.{are_owned}
+use Rattle.rma.proofs.FlexFrameLemmas.Writes.{flex_alone}
+use Rattle.rma.specs.flex_frame.Keeping.{AreAnchorsFree}
 use Rattle.flex_machine.proofs.Calls.{place_free}
 use Rattle.flex_machine.specs.Ground.{flex_of, spelled_store, store_flexed}
 use Rattle.law_flex.specs.Laws.{IsLeftBy, IsSpelledState, anchor_of_call, outside_of}
@@ -25,7 +25,7 @@ use Rattle.flex_store.specs.Runs.{FlexCall}
 use Rattle.flex_store.specs.State.{AreAnchorWords, AreInner, AreWhole, IsFlexRange, IsText}
 use Rattle.flex_store.specs.declared.flex.Extent.{Extent}
 use Rattle.flex_store.specs.declared.flex.Flex.{Flex}
-use Rattle.module_world.specs.Sound.{count_beside}
+use Rattle.flex_machine.specs.world.Sound.{count_beside}
 use Rattle.law_sliding.specs.FlexStore.{HasFlexStore, IsFlexRangeSpelled, spelled_blocks}
 use Rattle.law_sliding.specs.Meaning.{IsMemory}
 

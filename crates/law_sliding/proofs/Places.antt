@@ -9,8 +9,8 @@ use Rattle.address_map.specs.Items.{size_of}
 use Rattle.address_map.specs.declared.item.Item.{Item}
 use Rattle.address_map.specs.declared.item.Item.TheVariants.{Free, Live}
 use Rattle.os_heap.proofs.Apart.{range_parts}
-use Rattle.os_heap_lists.proofs.Reading.{total_facts}
-use Rattle.os_heap_lists.specs.Heap.{AreTotals}
+use Rattle.os_heap_words.proofs.ListsLemmas.Reading.{total_facts}
+use Rattle.os_heap_words.specs.lists.Heap.{AreTotals}
 use Rattle.law_sliding.proofs.SlidLists.{map_same}
 use Rattle.law_sliding.specs.Meaning.{PayloadPlace, one_further, payloads, place_among}
 use Rattle.law_sliding.specs.Rules.{with_place_seen, with_word_seen}

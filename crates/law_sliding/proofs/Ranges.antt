@@ -7,7 +7,7 @@ use Rattle.address_map.specs.declared.region.Region.{Region}
 use Rattle.os_heap.proofs.Stores.{clear_both_ways}
 use Rattle.os_heap.specs.Store.{AreClear, AreRangesApart, is_flex_store, is_in_flex_store}
 use Rattle.dynamic_areas.specs.Ground.{IsRecorded}
-use Rattle.flex_frame.proofs.Writes.{clear_of_recorded}
+use Rattle.rma.proofs.FlexFrameLemmas.Writes.{clear_of_recorded}
 
 pub recorded_apart : (r q : Region) (rs : List Region) → (r ≡ q → ⊥) → AreRangesApart rs → IsRecorded r rs → IsRecorded q rs → AreClear r.at r.len q.at q.len
 recorded_apart r q [] other apart first second = absurd first

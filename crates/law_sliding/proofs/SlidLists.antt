@@ -10,13 +10,13 @@ use Rattle.address_map.specs.Moves.{moved_to}
 use Rattle.address_map.specs.declared.follow.Move.{Move}
 use Rattle.address_map.specs.declared.item.Item.{Item}
 use Rattle.address_map.specs.declared.item.Item.TheVariants.{Free, Live}
-use Rattle.os_heap_lists.proofs.Reading.{total_facts}
-use Rattle.os_heap_lists.specs.Heap.{AreTotals}
-use Rattle.os_heap_lists.specs.Lists.{left_free, live_total}
+use Rattle.os_heap_words.proofs.ListsLemmas.Reading.{total_facts}
+use Rattle.os_heap_words.specs.lists.Heap.{AreTotals}
+use Rattle.os_heap_words.specs.lists.Lists.{left_free, live_total}
 use Rattle.os_heap.proofs.Apart.{range_parts}
 use Rattle.os_heap.specs.Store.{IsInBlock}
-use Rattle.os_heap_slide.proofs.Places.{between, first_moved, low_still, one_moved, some_low}
-use Rattle.os_heap_slide.specs.Slide.{move_of, moves_of, item_place_after, slid}
+use Rattle.rma.proofs.HeapSlideLemmas.Places.{between, first_moved, low_still, one_moved, some_low}
+use Rattle.rma.specs.heap_slide.Slide.{move_of, moves_of, item_place_after, slid}
 use Rattle.law_sliding.specs.Meaning.{PayloadPlace, block_number, one_further, payloads, place_among, seen_byte_at}
 
 -- two functions that are the same over two ranges

@@ -8,33 +8,33 @@ use Rattle.address_map.proofs.Stores.{in_range-cases}
 use Rattle.address_map.specs.Bytes.{Bytes, in_range, with_word_at, word_at}
 use Rattle.address_map.specs.Moves.{moved_to}
 use Rattle.address_map.specs.declared.follow.Move.{Move}
-use Rattle.os_heap_lists.specs.Heap.{HeapList, IsHeapIn}
+use Rattle.os_heap_words.specs.lists.Heap.{HeapList, IsHeapIn}
 use Rattle.os_heap.proofs.Found.{found_heap, found_start}
 use Rattle.os_heap.proofs.Frame.{store_clear}
 use Rattle.os_heap.specs.Forgetting.{holds_heap}
 use Rattle.os_heap.specs.Store.{IsClearOfHeaps, IsImageIn, IsSound, Store, find_heap}
 use Rattle.os_heap.proofs.Stores.{image_kind}
-use Rattle.os_heap_slide.specs.Slide.{HoldNoAnchor, HoldNoHeap, MaySlide, is_listed, slid_bytes, with_slid}
-use Rattle.os_heap_slide.proofs.Records.{moves_in, slid_in}
+use Rattle.rma.specs.heap_slide.Slide.{HoldNoAnchor, HoldNoHeap, MaySlide, is_listed, slid_bytes, with_slid}
+use Rattle.rma.proofs.HeapSlideLemmas.Records.{moves_in, slid_in}
 use Rattle.dynamic_areas.specs.Ground.{Estate, IsEstate, IsRecorded, system_pages_range}
-use Rattle.flex_frame.proofs.Keeping.{keeps_same, keeps_then}
-use Rattle.flex_frame.proofs.Slides.{slides_keep}
-use Rattle.flex_frame.proofs.Writes.{system_keeps}
-use Rattle.flex_frame.specs.Keeping.{KeepsFlex}
+use Rattle.rma.proofs.FlexFrameLemmas.Keeping.{keeps_same, keeps_then}
+use Rattle.rma.proofs.FlexFrameLemmas.Slides.{slides_keep}
+use Rattle.rma.proofs.FlexFrameLemmas.Writes.{system_keeps}
+use Rattle.rma.specs.flex_frame.Keeping.{KeepsFlex}
 use Rattle.rma.specs.Calls.{with_store}
 use Rattle.instances_plans.specs.Code.{private_of}
 use Rattle.instances_table.proofs.RoomLemmas.{few_modules, most_slots}
 use Rattle.instances_table.specs.Modules.{AreModules, EachIsModule, Module, has_slot, has_title, number_passing, slot_count, slots_of}
-use Rattle.module_world.proofs.Worlds.{world_kept}
-use Rattle.module_world.specs.Sound.{IsWorld}
-use Rattle.module_world.specs.World.{World, private_word, with_private}
-use Rattle.module_tidy.proofs.Choosing.{are_blocks, few_blocks}
-use Rattle.module_tidy.proofs.LawLemmas.{slid_where}
-use Rattle.module_tidy.proofs.NameLemmas.{heap_small, slid_small}
-use Rattle.module_tidy.proofs.Tidying.{HasHeap, after_blocks, blocks_sound, heap_there}
-use Rattle.module_tidy.specs.Laws.{AreBytes}
-use Rattle.module_tidy.specs.Movable.{can_move, movable_blocks}
-use Rattle.module_tidy.specs.Slid.{image_moved, private_words_of, words_moved, world_moved, world_slid}
+use Rattle.flex_machine.proofs.InstancesWorlds.{world_kept}
+use Rattle.flex_machine.specs.world.Sound.{IsWorld}
+use Rattle.flex_machine.specs.world.World.{World, private_word, with_private}
+use Rattle.flex_machine.proofs.Choosing.{are_blocks, few_blocks}
+use Rattle.flex_machine.proofs.LawLemmas.{slid_where}
+use Rattle.flex_machine.proofs.NameLemmas.{heap_small, slid_small}
+use Rattle.flex_machine.proofs.Tidying.{HasHeap, after_blocks, blocks_sound, heap_there}
+use Rattle.flex_machine.specs.tidying.Laws.{AreBytes}
+use Rattle.flex_machine.specs.tidying.Movable.{can_move, movable_blocks}
+use Rattle.flex_machine.specs.tidying.Slid.{image_moved, private_words_of, words_moved, world_moved, world_slid}
 use Rattle.law_sliding.proofs.SlidStores.{sound_slid}
 use Rattle.law_sliding.proofs.SlidWorlds.{holds_no_heap, holds_none, placed_of, slots_below, word_outside}
 use Rattle.law_flex.proofs.Small.{word_small}

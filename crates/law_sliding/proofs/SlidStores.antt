@@ -6,18 +6,18 @@ use Rattle.address_map.proofs.Stores.{in_range-cases}
 use Rattle.address_map.specs.Bytes.{Bytes, in_range}
 use Rattle.address_map.specs.Moves.{moved_region}
 use Rattle.address_map.specs.declared.region.Region.{Region}
-use Rattle.os_heap_lists.specs.Heap.{HeapList, IsHeapIn}
+use Rattle.os_heap_words.specs.lists.Heap.{HeapList, IsHeapIn}
 use Rattle.os_heap.proofs.Anchored.{place_held}
 use Rattle.os_heap.proofs.Found.{found_heap}
 use Rattle.os_heap.proofs.Stores.{AreOthers, are_others, places-held, same_limits}
 use Rattle.os_heap.specs.Store.{IsSound, Store, find_heap}
-use Rattle.os_heap_slide.proofs.Beside.{AreBeside, KeepsBytes, heaps_beside, heaps_stay, parts_beside}
-use Rattle.os_heap_slide.proofs.Ending.{moved_flex, slide_keeps}
-use Rattle.os_heap_slide.proofs.KeptBlocks.{bytes_fixed}
-use Rattle.os_heap_slide.proofs.LawLemmas.{slid_totals, slide_fits}
-use Rattle.os_heap_slide.proofs.Records.{IsSlide, all_placed, moves_in, ranges_apart, slid_in}
-use Rattle.os_heap_slide.specs.Slide.{HoldNoAnchor, HoldNoHeap, is_listed, slid_bytes, with_slid}
-use Rattle.module_tidy.proofs.NameLemmas.{slid_outside}
+use Rattle.rma.proofs.HeapSlideLemmas.Beside.{AreBeside, KeepsBytes, heaps_beside, heaps_stay, parts_beside}
+use Rattle.rma.proofs.HeapSlideLemmas.Ending.{moved_flex, slide_keeps}
+use Rattle.rma.proofs.HeapSlideLemmas.KeptBlocks.{bytes_fixed}
+use Rattle.rma.proofs.HeapSlideLemmas.LawLemmas.{slid_totals, slide_fits}
+use Rattle.rma.proofs.HeapSlideLemmas.Records.{IsSlide, all_placed, moves_in, ranges_apart, slid_in}
+use Rattle.rma.specs.heap_slide.Slide.{HoldNoAnchor, HoldNoHeap, is_listed, slid_bytes, with_slid}
+use Rattle.flex_machine.proofs.NameLemmas.{slid_outside}
 use Rattle.law_sliding.proofs.Spelling.{heap_spelled}
 
 module _ (s : Store) (h : HeapList) (movable : List ℕ) (sound : IsSound s) (found : find_heap h.start s.heaps ≡ Some h) (free : HoldNoAnchor s h movable)

@@ -10,32 +10,32 @@ use Rattle.address_map.specs.Moves.{moved_place, moved_regions, moved_to}
 use Rattle.address_map.specs.Records.{anchor_among}
 use Rattle.address_map.specs.declared.follow.Move.{Move}
 use Rattle.address_map.specs.declared.region.Region.{Region}
-use Rattle.os_heap_lists.specs.Heap.{HeapList, IsHeapIn}
+use Rattle.os_heap_words.specs.lists.Heap.{HeapList, IsHeapIn}
 use Rattle.os_heap.proofs.Anchored.{place_in as block_of_anchor}
 use Rattle.os_heap.proofs.Found.{found_heap}
 use Rattle.os_heap.proofs.Stores.{clear_of-found, placed_either}
 use Rattle.os_heap.specs.Calls.{holds_anchor}
 use Rattle.os_heap.specs.Forgetting.{holds_heap}
 use Rattle.os_heap.specs.Store.{ArePlaced, IsClearOfHeaps, IsImageBlock, IsImageIn, Store, find_heap, is_image}
-use Rattle.os_heap_slide.proofs.Places.{low_still, past_still, some_low}
-use Rattle.os_heap_slide.proofs.Records.{image_place, moves_in, still_place}
-use Rattle.os_heap_slide.specs.Slide.{HoldNoAnchor, HoldNoHeap, is_listed, with_slid}
+use Rattle.rma.proofs.HeapSlideLemmas.Places.{low_still, past_still, some_low}
+use Rattle.rma.proofs.HeapSlideLemmas.Records.{image_place, moves_in, still_place}
+use Rattle.rma.specs.heap_slide.Slide.{HoldNoAnchor, HoldNoHeap, is_listed, with_slid}
 use Rattle.dynamic_areas.specs.Ground.{Estate, IsRecorded, system_pages_range}
 use Rattle.rma.specs.Calls.{with_store}
 use Rattle.instances_plans.specs.Code.{private_of}
 use Rattle.instances_table.proofs.RoomLemmas.{below_64, slots_counted}
 use Rattle.instances_table.specs.Changes.{is_slot_held}
 use Rattle.instances_table.specs.Modules.{AreModules, Module, has_instance, number_passing, slot_count, slots_of}
-use Rattle.module_world.specs.Sound.{AreSolid, IsSolid, IsWorld}
-use Rattle.module_world.specs.World.{World, private_word, with_private}
-use Rattle.module_world.proofs.AreaLemmas.{image_found}
-use Rattle.module_tidy.proofs.Choosing.{IsChosen, chosen}
-use Rattle.module_tidy.proofs.LawLemmas.{heap_after, keeps_moved, slid_where}
-use Rattle.module_tidy.proofs.NameLemmas.{names_moved, slid_outside}
-use Rattle.module_tidy.proofs.Tidying.{HasHeap, heap_there, holds_none as movable_empty, payload_empty}
-use Rattle.module_tidy.specs.Laws.{AreBytes}
-use Rattle.module_tidy.specs.Movable.{can_move, movable_blocks}
-use Rattle.module_tidy.specs.Slid.{image_moved, private_words_of, words_moved, world_moved, world_slid}
+use Rattle.flex_machine.specs.world.Sound.{AreSolid, IsSolid, IsWorld}
+use Rattle.flex_machine.specs.world.World.{World, private_word, with_private}
+use Rattle.flex_machine.proofs.AreaLemmas.{image_found}
+use Rattle.flex_machine.proofs.Choosing.{IsChosen, chosen}
+use Rattle.flex_machine.proofs.LawLemmas.{heap_after, keeps_moved, slid_where}
+use Rattle.flex_machine.proofs.NameLemmas.{names_moved, slid_outside}
+use Rattle.flex_machine.proofs.Tidying.{HasHeap, heap_there, holds_none as movable_empty, payload_empty}
+use Rattle.flex_machine.specs.tidying.Laws.{AreBytes}
+use Rattle.flex_machine.specs.tidying.Movable.{can_move, movable_blocks}
+use Rattle.flex_machine.specs.tidying.Slid.{image_moved, private_words_of, words_moved, world_moved, world_slid}
 use Rattle.law_sliding.proofs.Ranges.{recorded_apart}
 use Rattle.law_sliding.proofs.SlidLists.{CanSlide, map_same, number_slid, payloads_slid, place_slid, unnamed_still}
 use Rattle.law_sliding.specs.Meaning.{BlockNumber, PrivateWord, Value, area_blocks, area_images, area_names, block_number, images_in, payload_place_in, word_said}

@@ -4,7 +4,7 @@ use Rattle.std.proofs.lemmas.Bool.{or_left}
 use Rattle.address_map.specs.Bytes.{Bytes}
 use Rattle.address_map.specs.declared.map.AddressMap.{AddressMap}
 use Rattle.os_heap.specs.Store.{Store, is_in_flex_store, store_of}
-use Rattle.flex_frame.specs.Keeping.{IsFlexKept}
+use Rattle.rma.specs.flex_frame.Keeping.{IsFlexKept}
 use Rattle.flex_store.proofs.Keeping.{in_store}
 use Rattle.flex_store.proofs.Texts.{text_kept, text_read}
 use Rattle.flex_store.proofs.Words.{words_low}

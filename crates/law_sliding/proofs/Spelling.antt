@@ -5,10 +5,10 @@ use Rattle.address_map.specs.Bytes.{Bytes, with_word_at, word_at}
 use Rattle.address_map.specs.Items.{size_of}
 use Rattle.address_map.specs.declared.item.Item.{Item}
 use Rattle.address_map.specs.declared.item.Item.TheVariants.{Free, Live}
-use Rattle.os_heap_lists.proofs.Reading.{total_facts}
-use Rattle.os_heap_lists.proofs.Words.{written}
-use Rattle.os_heap_lists.specs.Heap.{AreSpaced, AreTotals, IsHeapIn, Spells, next_free, with_heads, with_heap}
-use Rattle.os_heap_lists.specs.Words.{IsWordWritten}
+use Rattle.os_heap_words.proofs.ListsLemmas.Reading.{total_facts}
+use Rattle.os_heap_words.proofs.ListsLemmas.Words.{written}
+use Rattle.os_heap_words.specs.lists.Heap.{AreSpaced, AreTotals, IsHeapIn, Spells, next_free, with_heads, with_heap}
+use Rattle.os_heap_words.specs.lists.Words.{IsWordWritten}
 
 -- words that stay spell the same
 spells_kept : (v w : ℕ → ℕ) (at : ℕ) (xs : List Item) (other : ℕ) → ((q : ℕ) → at ≤ q → w q ≡ v q) → Spells v at xs other → Spells w at xs other

@@ -8,19 +8,19 @@ use Rattle.address_map.proofs.Spans.{mapped_below}
 use Rattle.address_map.specs.Bytes.{word_start}
 use Rattle.address_map.specs.declared.follow.Move.{Move}
 use Rattle.address_map.specs.declared.map.AddressMap.{AddressMap}
-use Rattle.os_heap_lists.specs.Heap.{HeapList}
+use Rattle.os_heap_words.specs.lists.Heap.{HeapList}
 use Rattle.os_heap.specs.Store.{find_heap, store_of}
-use Rattle.flex_frame.specs.Keeping.{IsFlexKept, KeepsFlex}
+use Rattle.rma.specs.flex_frame.Keeping.{IsFlexKept, KeepsFlex}
 use Rattle.flex_store.specs.Blocks.{FlexStore}
 use Rattle.law_flex.specs.Numbered.{blocks_seen}
 use Rattle.law_flex.specs.Padding.{all_paddings}
 use Rattle.flex_store.specs.Laws.{contents_in}
 use Rattle.instances_table.specs.declared.parts.Image.{Image}
 use Rattle.instances_table.specs.Modules.{Module}
-use Rattle.module_world.specs.Sound.{IsWorld}
-use Rattle.module_world.specs.World.{World}
-use Rattle.module_tidy.specs.Movable.{movable_blocks}
-use Rattle.module_tidy.specs.Slid.{image_moved, moves_in, private_words_of, world_slid, world_slid_in}
+use Rattle.flex_machine.specs.world.Sound.{IsWorld}
+use Rattle.flex_machine.specs.world.World.{World}
+use Rattle.flex_machine.specs.tidying.Movable.{movable_blocks}
+use Rattle.flex_machine.specs.tidying.Slid.{image_moved, moves_in, private_words_of, world_slid, world_slid_in}
 use Rattle.law_sliding.proofs.Beginning.{init_followed}
 use Rattle.law_sliding.proofs.CalledSeen.{anchor_word}
 use Rattle.law_sliding.proofs.Calling.{call_followed}

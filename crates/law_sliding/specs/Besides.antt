@@ -3,7 +3,7 @@
 use Rattle.profile.specs.MemoryMap.{error_block_start}
 use Rattle.std.specs.Prelude.{ℕ, ◌≡◌, true, false}
 use Rattle.address_map.specs.Bytes.{Bytes, in_range}
-use Rattle.module_world.specs.World.{private_word}
+use Rattle.flex_machine.specs.world.World.{private_word}
 use Rattle.instances_table.specs.Changes.{is_slot_held}
 use Rattle.rma.specs.Calls.{with_store}
 use Rattle.law_sliding.specs.Meaning.{AreStores, Stores, meaning_of, store_in}

@@ -5,14 +5,14 @@
 use Rattle.std.specs.Prelude.{ℕ, ◌≡◌, ◌≤◌, ◌+◌, true, false, List, Option, Some, None}
 use Rattle.address_map.specs.Bytes.{word_start}
 use Rattle.os_heap.specs.Store.{Store}
-use Rattle.flex_frame.specs.Keeping.{AreAnchorsFree}
+use Rattle.rma.specs.flex_frame.Keeping.{AreAnchorsFree}
 use Rattle.flex_store.specs.Blocks.{Block, has_anchor, is_header, bytes_taken_by_all}
 use Rattle.flex_store.specs.Memory.{AreAnchored, Holds, blocks_in, blocks_text_of}
 use Rattle.flex_store.specs.State.{AreAnchorWords, AreInner, AreWhole, IsFlexRange, is_recorded}
 use Rattle.flex_store.specs.declared.flex.Extent.{Extent}
 use Rattle.flex_store.specs.declared.flex.Flex.{Flex}
 use Rattle.flex_machine.specs.Ground.{records_with}
-use Rattle.module_world.specs.Sound.{count_beside}
+use Rattle.flex_machine.specs.world.Sound.{count_beside}
 
 -- the blocks that the words from the store's start on spell
 abbrev pub spelled_blocks : Store → Extent → List Block

@@ -7,8 +7,8 @@ use Rattle.flex_machine.specs.Ground.{HasFlex}
 use Rattle.flex_store.specs.declared.flex.Flex.{Flex}
 use Rattle.instances_table.specs.declared.parts.Image.{Image}
 use Rattle.instances_table.specs.Modules.{AreModules, Module}
-use Rattle.module_world.specs.Sound.{IsWorld}
-use Rattle.module_world.specs.World.{private_word, world_of}
+use Rattle.flex_machine.specs.world.Sound.{IsWorld}
+use Rattle.flex_machine.specs.world.World.{private_word, world_of}
 use Rattle.law_sliding.specs.Meaning.{AreStores, Stores, Value, meaning_of, store_in}
 use Rattle.law_sliding.specs.Rules.{IsTurned}
 use Rattle.law_sliding.specs.Turning.{AreAllowed, StoreTurn, answer_of_turn, anchor_place_of_turn, stores_after_turn}

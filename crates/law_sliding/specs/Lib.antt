@@ -1,4 +1,5 @@
 -- The rules of flex calls and slides, without addresses. Begin with Meaning and Rules, then Laws.
+pub use Rattle.flex_machine.specs.Ground
 pub mod Besides
 pub mod FlexStore
 pub mod Laws

@@ -3,15 +3,14 @@
 -- place among the live ones, an image by its place among the images, and a private word by its slot
 -- (this project's own).
 use Rattle.profile.specs.MemoryMap.{module_area_start}
-use Rattle.std.specs.Prelude.{ℕ, suc, ◌≡◌, ◌≤◌, ◌<◌, ◌+◌, ◌-◌, ◌^◌, ◌==◌, Bool, true, map, length, List, [], ◌∷◌}
-use Rattle.std.specs.Prelude.{Option, Some, None, is_some, if◌then◌else◌}
+use Rattle.std.specs.Prelude.{ℕ, suc, ◌≡◌, ◌≤◌, ◌<◌, ◌+◌, ◌-◌, ◌^◌, ◌==◌, Bool, true, map, length, List, [], ◌∷◌, Option, Some, None, is_some, if◌then◌else◌}
 use Rattle.std.specs.List.{range_with_len}
 use Rattle.std.specs.Option.{option_map}
 use Rattle.address_map.specs.Bytes.{Bytes, bytes_between, in_range, word_start}
 use Rattle.address_map.specs.declared.item.Item.{Item}
 use Rattle.address_map.specs.declared.item.Item.TheVariants.{Free, Live}
 use Rattle.address_map.specs.declared.region.Region.{Region}
-use Rattle.os_heap_lists.specs.Heap.{HeapList}
+use Rattle.os_heap_words.specs.lists.Heap.{HeapList}
 use Rattle.os_heap.specs.Store.{Store, find_heap, is_image}
 use Rattle.flex_store.specs.Laws.{contents_in}
 use Rattle.flex_store.specs.declared.flex.Flex.{Flex}
@@ -21,9 +20,9 @@ use Rattle.law_flex.specs.Padding.{all_paddings}
 use Rattle.instances_table.specs.Changes.{is_slot_held}
 use Rattle.instances_table.specs.declared.parts.Image.{Image}
 use Rattle.instances_table.specs.Modules.{AreModules}
-use Rattle.module_world.specs.Sound.{IsWorld}
-use Rattle.module_world.specs.World.{World, private_word}
-use Rattle.module_tidy.specs.Laws.{AreBytes}
+use Rattle.flex_machine.specs.world.Sound.{IsWorld}
+use Rattle.flex_machine.specs.world.World.{World, private_word}
+use Rattle.flex_machine.specs.tidying.Laws.{AreBytes}
 use Rattle.law_sliding.specs.FlexStore.{HasFlexStore}
 
 -- A machine's memory with its areas and its modules, and where its flex store is; and the images

@@ -1,10 +1,9 @@
 -- What a flex call and a slide of the module area do to the meaning of a machine's stores: rules in
 -- which no address of a block stands (Acorn C manual, "flex"; RISC OS 3 Programmer's Reference
 -- Manual, "OS_Module", reason 8).
-use Rattle.std.specs.Prelude.{ℕ, zero, suc, ◌+◌, ◌≡◌, ◌⊎◌, Bool, true, false, List, [], ◌∷◌, Option, Some, None}
-use Rattle.std.specs.Prelude.{Result, Ok, Err, if◌then◌else◌}
+use Rattle.std.specs.Prelude.{ℕ, zero, suc, ◌+◌, ◌≡◌, ◌⊎◌, Bool, true, false, List, [], ◌∷◌, Option, Some, None, Result, Ok, Err, if◌then◌else◌}
 use Rattle.address_map.specs.Bytes.{in_range}
-use Rattle.rma.specs.profile.specs.declared.error.ErrorNumber.{ErrorNumber}
+use Rattle.profile.specs.declared.error.ErrorNumber.{ErrorNumber}
 use Rattle.flex_store.specs.Runs.{Alloc, Extend, FlexCall, MidExtend, Release}
 use Rattle.law_flex.specs.Numbered.{Anchor, IsCalledSeen}
 use Rattle.law_flex.specs.Padding.{IsCalledPadding}

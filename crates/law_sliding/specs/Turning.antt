@@ -1,8 +1,8 @@
 -- The turns that stores take: flex calls, and slides of the module area, each as its definition has
 -- it (Acorn C manual, "flex"; RISC OS 3 Programmer's Reference Manual, "OS_Module", reason 8).
 use Rattle.std.specs.Prelude.{ℕ, ◌≡◌, Bool, true, List, [], ◌∷◌, Option, None, Some, Result, Ok, Err}
-use Rattle.rma.specs.profile.specs.Outcome.{bind}
-use Rattle.rma.specs.profile.specs.declared.error.ErrorNumber.{ErrorNumber}
+use Rattle.profile.specs.Outcome.{bind}
+use Rattle.profile.specs.declared.error.ErrorNumber.{ErrorNumber}
 use Rattle.os_heap.specs.Store.{Store}
 use Rattle.flex_machine.specs.Ground.{flex_of, flex_state, store_flexed, with_flex_record}
 use Rattle.law_flex.specs.Laws.{IsOfWords, anchor_of_call}
@@ -13,7 +13,7 @@ use Rattle.flex_store.specs.Runs.{Alloc, Extend, FlexCall, MidExtend, Release}
 use Rattle.flex_store.specs.declared.flex.Flex.{Flex}
 use Rattle.rma.specs.Calls.{with_store}
 use Rattle.instances_table.specs.declared.parts.Image.{Image}
-use Rattle.module_tidy.specs.Slid.{world_slid}
+use Rattle.flex_machine.specs.tidying.Slid.{world_slid}
 use Rattle.law_sliding.specs.Meaning.{Stores, store_in}
 
 -- Flex_Init of the range from a start up to an end; another flex call; or a slide, in a call that

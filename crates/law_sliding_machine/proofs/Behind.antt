@@ -1,13 +1,12 @@
 -- Stores that differ in what stands in the system pages after the private words, and in nothing
 -- else.
 use Rattle.profile.specs.MemoryMap.{environment_text_start, error_block_start}
-use Rattle.std.proofs.Common.{ℕ, Bool, true, false, ◌+◌, ◌≡◌, ◌≤◌, ◌∙◌, ◌||◌, List, [], ◌∷◌, ◌++◌, map, length, Some, None, refl, sym, ap, subst, inl, inr, arith}
-use Rattle.std.proofs.Common.{length-append}
+use Rattle.std.proofs.Common.{ℕ, Bool, true, false, ◌+◌, ◌≡◌, ◌≤◌, ◌∙◌, ◌||◌, List, [], ◌∷◌, ◌++◌, map, length, Some, None, refl, sym, ap, subst, inl, inr, arith, length-append}
 use Rattle.std.proofs.lemmas.Bool.{both_ways, cases_Bool}
 use Rattle.address_map.proofs.Stores.{in_range-cases}
 use Rattle.address_map.specs.Bytes.{Bytes, in_range, with_bytes_at}
-use Rattle.flex_machine.specs.rma.specs.Calls.{with_store}
-use Rattle.flex_machine.specs.module_world.specs.World.{World, private_word, with_text}
+use Rattle.rma.specs.Calls.{with_store}
+use Rattle.instances.specs.world.World.{World, private_word, with_text}
 use Rattle.instances_table.specs.Changes.{is_slot_held}
 use Rattle.instances_table.specs.Modules.{Module, has_instance}
 use Rattle.law_sliding.proofs.Besides.{behind}

@@ -6,10 +6,10 @@ use Rattle.instances_plans.specs.declared.code.Code.{Code}
 use Rattle.instances_plans.specs.declared.given.Given.{Given}
 use Rattle.instances_plans.specs.Carrying.{Carried}
 use Rattle.instances_plans.specs.Plans.{Plan}
-use Rattle.flex_machine.specs.module_world.specs.World.{World}
-use Rattle.swi_dispatch_plans.specs.instances.specs.declared.answers.Start.{Start}
-use Rattle.swi_dispatch_plans.specs.instances.specs.Reading.{start_found}
-use Rattle.swi_dispatch_frames.specs.declared.call.Call.{Call}
+use Rattle.instances.specs.world.World.{World}
+use Rattle.instances.specs.declared.answers.Start.{Start}
+use Rattle.instances.specs.Reading.{start_found}
+use Rattle.swi_dispatch_answers.specs.declared.frames.call.Call.{Call}
 use Rattle.swi_dispatch_guest.specs.Gates.{call_ended_by, entered_if, entered_with, ended_of, state_after_plan, kept_by, state_with_code_entered}
 use Rattle.swi_dispatch_guest.specs.Returns.{gone_back}
 use Rattle.swi_dispatch_guest.specs.MachineState.{MachineState, machine_world}

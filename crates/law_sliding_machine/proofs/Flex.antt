@@ -15,9 +15,9 @@ use Rattle.image_loader.specs.Entries.{Entry}
 use Rattle.instances_table.specs.declared.parts.Image.{Image}
 use Rattle.os_heap.specs.Store.{Store}
 use Rattle.flex_machine.specs.Ground.{flex_state, with_flex_record}
-use Rattle.flex_machine.specs.flex_store.specs.Calls.{FlexState, flex_after_alloc, flex_after_init, flex_after_extend, mid_extended, flex_after_release}
-use Rattle.flex_machine.specs.flex_store.proofs.Holding.{word_beside}
-use Rattle.flex_machine.specs.rma.specs.Calls.{with_store}
+use Rattle.flex_store.specs.Calls.{FlexState, flex_after_alloc, flex_after_init, flex_after_extend, mid_extended, flex_after_release}
+use Rattle.flex_store.proofs.Holding.{word_beside}
+use Rattle.rma.specs.Calls.{with_store}
 use Rattle.swi_dispatch_answers.specs.Errors.{memory_with_error}
 use Rattle.swi_dispatch_answers.specs.Refusals.{or_error}
 use Rattle.swi_dispatch_answers.specs.declared.refusal.Refusal.{Refusal}

@@ -8,7 +8,7 @@ use Rattle.arm_core.specs.declared.turn.Turn.{Turn}
 use Rattle.arm_core.specs.declared.turn.Turn.TheVariants as turn
 use Rattle.image_loader.specs.Entries.{Entry}
 use Rattle.instances_plans.specs.Plans.{Plan}
-use Rattle.swi_dispatch_plans.specs.instances.specs.Turns.{MayGoOn}
+use Rattle.instances.specs.Turns.{MayGoOn}
 use Rattle.swi_dispatch_guest.specs.declared.halt.Halt.{Halt}
 use Rattle.swi_dispatch_guest.specs.MachineState.{MachineState, StepOutcome}
 use Rattle.swi_dispatch_guest.specs.Parts.{Parts, parts_world, state_of}

@@ -17,8 +17,8 @@ use Rattle.arm_core.specs.declared.turn.Turn.{Turn}
 use Rattle.arm_core.specs.declared.turn.Turn.TheVariants as turn
 use Rattle.image_loader.specs.Entries.{Entry, bytes_of_image}
 use Rattle.os_heap.specs.Store.{Store}
-use Rattle.flex_machine.specs.module_world.specs.dynamic_areas.specs.Ground.{Estate}
-use Rattle.flex_machine.specs.module_world.specs.World.{World}
+use Rattle.dynamic_areas.specs.Ground.{Estate}
+use Rattle.instances.specs.world.World.{World}
 use Rattle.instances_table.specs.declared.parts.Handler.{Handler}
 use Rattle.instances_table.specs.Lookup.{handler_of}
 use Rattle.swi_dispatch_answers.specs.declared.refusal.Refusal.{Refusal}
@@ -29,16 +29,16 @@ use Rattle.swi_dispatch_plans.specs.ModulePlans.{clear_planned, delete_planned, 
 use Rattle.swi_dispatch_plans.specs.Openings.{opening_asked}
 use Rattle.swi_dispatch_plans.specs.Setting.{Setting, string_asked}
 use Rattle.swi_dispatch_plans.specs.declared.image_plans.ImageRange.{ImageRange}
-use Rattle.swi_dispatch_plans.specs.instances.specs.Adding.{good_header, instantiation}
-use Rattle.swi_dispatch_plans.specs.instances.specs.Plans.{clearing, deletion, reinitialisation, tidying}
-use Rattle.swi_dispatch_plans.specs.instances.specs.Reading.{slot_meant}
+use Rattle.instances.specs.Adding.{good_header, instantiation}
+use Rattle.instances.specs.Plans.{clearing, deletion, reinitialisation, tidying}
+use Rattle.instances.specs.Reading.{slot_meant}
 use Rattle.swi_dispatch_answers.specs.Words.{host_string, name_part, text_part}
 use Rattle.instances_plans.specs.Plans.{Plan}
 use Rattle.instances_table.specs.Changes.{modules_of_title}
 use Rattle.instances_table.specs.Modules.{slots_of}
-use Rattle.instances_plans.specs.module_header.specs.Header.{header_of}
-use Rattle.flex_machine.specs.rma.specs.Copies.{may_be_copied}
-use Rattle.flex_machine.specs.rma.specs.NewImages.{may_be_in_place}
+use Rattle.module_header.specs.Header.{header_of}
+use Rattle.rma.specs.Copies.{may_be_copied}
+use Rattle.rma.specs.NewImages.{may_be_in_place}
 use Rattle.profile.specs.Word.{bit_of}
 use Rattle.profile.specs.declared.error.ErrorNumber.TheVariants.{BadPointer, BadString, FrameLimit, ImageUnknown, SwiUnknown}
 use Rattle.swi_dispatch_plans.specs.declared.openings.Opening.{Opening}

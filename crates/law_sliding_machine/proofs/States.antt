@@ -3,8 +3,8 @@ use Rattle.std.proofs.Common.{◌≤◌, [], Option, Some, None, lit≤}
 use Rattle.instances_plans.specs.Plans.{Plan}
 use Rattle.instances_table.specs.Modules.{AreModules}
 use Rattle.flex_machine.specs.Ground.{HasFlex}
-use Rattle.swi_dispatch_plans.specs.instances.specs.Turns.{MayGoOn}
-use Rattle.swi_dispatch_plans.specs.instances.specs.instances_actions.specs.Pending.{is_pending, pending_of}
+use Rattle.instances.specs.Turns.{MayGoOn}
+use Rattle.instances.specs.actions.Pending.{is_pending, pending_of}
 use Rattle.swi_dispatch_guest.proofs.FlexCalls.{pending_one}
 use Rattle.swi_dispatch_guest.specs.Parts.{Parts, parts_world}
 use Rattle.law_sliding.proofs.Turns.{machines_have}

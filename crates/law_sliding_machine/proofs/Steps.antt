@@ -23,19 +23,19 @@ use Rattle.instances_plans.specs.declared.code.Outcome.TheVariants.{Well, Refuse
 use Rattle.instances_plans.specs.declared.given.Given.{Given}
 use Rattle.instances_plans.specs.Carrying.{Carried, carry_of_plan}
 use Rattle.instances_plans.specs.Plans.{Plan, first_action, plan_after_code}
-use Rattle.module_tidy.specs.Slid.{world_slid}
+use Rattle.instances.specs.tidying.Slid.{world_slid}
 use Rattle.instances_table.specs.Modules.{slots_of}
-use Rattle.flex_machine.specs.module_world.specs.World.{World}
-use Rattle.swi_dispatch_plans.specs.instances.specs.Plans.{tidying}
-use Rattle.swi_dispatch_plans.specs.instances.specs.Turns.{calls_module}
-use Rattle.swi_dispatch_plans.specs.instances.specs.instances_actions.specs.Pending.{is_pending, pending_by}
+use Rattle.instances.specs.world.World.{World}
+use Rattle.instances.specs.Plans.{tidying}
+use Rattle.instances.specs.Turns.{calls_module}
+use Rattle.instances.specs.actions.Pending.{is_pending, pending_by}
 use Rattle.swi_dispatch_plans.specs.ModulePlans.{may_begin_alone, tidy_planned}
 use Rattle.swi_dispatch_plans.specs.Setting.{Setting}
 use Rattle.swi_dispatch_plans.specs.Trials.{world_carried}
-use Rattle.swi_dispatch_frames.specs.declared.frame.Frame.{Frame}
-use Rattle.swi_dispatch_frames.specs.declared.frame.FrameKind.{FrameKind}
-use Rattle.swi_dispatch_frames.specs.declared.frame.FrameKind.TheVariants.{Swi, Entry as EntryFrame}
-use Rattle.swi_dispatch_frames.specs.Frames.{innermost_frame}
+use Rattle.swi_dispatch_answers.specs.declared.frames.frame.Frame.{Frame}
+use Rattle.swi_dispatch_answers.specs.declared.frames.frame.FrameKind.{FrameKind}
+use Rattle.swi_dispatch_answers.specs.declared.frames.frame.FrameKind.TheVariants.{Swi, Entry as EntryFrame}
+use Rattle.swi_dispatch_answers.specs.frames.Frames.{innermost_frame}
 use Rattle.swi_dispatch_guest.specs.declared.halt.Halt.TheVariants as halt
 use Rattle.swi_dispatch_guest.specs.Gates.{carried_on, come_back, fault_ahead, frame_closed, frame_left, outcome_of_gate, gated_by, kept_by, outcome_left, plan_left, unless_fault}
 use Rattle.swi_dispatch_guest.specs.MachineState.{MachineState, machine_world, quiet, setting_of}

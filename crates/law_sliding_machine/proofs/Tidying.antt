@@ -9,11 +9,11 @@ use Rattle.instances_plans.specs.declared.given.Given.{Given}
 use Rattle.instances_plans.specs.Calls.{finalise_all, initialise_all}
 use Rattle.instances_plans.specs.Carrying.{Carried, carried_by, carried_from}
 use Rattle.instances_plans.specs.Plans.{Plan, actions_owed}
-use Rattle.module_tidy.specs.Slid.{world_slid}
-use Rattle.flex_machine.specs.module_world.specs.World.{World, with_text}
-use Rattle.swi_dispatch_plans.specs.instances.specs.Turns.{module_doing}
-use Rattle.swi_dispatch_plans.specs.instances.specs.instances_actions.specs.Codes.{code_among}
-use Rattle.swi_dispatch_plans.specs.instances.specs.instances_actions.specs.Pending.{is_pending}
+use Rattle.instances.specs.tidying.Slid.{world_slid}
+use Rattle.instances.specs.world.World.{World, with_text}
+use Rattle.instances.specs.Turns.{module_doing}
+use Rattle.instances.specs.actions.Codes.{code_among}
+use Rattle.instances.specs.actions.Pending.{is_pending}
 use Rattle.law_sliding_machine.proofs.Behind.{IsTexted, text_texted, texted_same, texted_then}
 use Rattle.law_sliding_machine.specs.Turns.{AreInitialisations, AreTidying, IsTidy, is_slide}
 

@@ -5,7 +5,7 @@ use Rattle.profile.specs.declared.error.ErrorNumber.{ErrorNumber}
 use Rattle.arm_core.specs.State.{register_of, with_register}
 use Rattle.os_heap.specs.Store.{Store}
 use Rattle.flex_machine.specs.Ground.{flex_state}
-use Rattle.flex_machine.specs.flex_store.specs.Calls.{FlexState, flex_after_alloc, flex_after_extend, mid_extended}
+use Rattle.flex_store.specs.Calls.{FlexState, flex_after_alloc, flex_after_extend, mid_extended}
 use Rattle.swi_dispatch_flex.specs.Calls.{fit_told, flex_called, memory_after_flex as memory_left, room_word_of}
 use Rattle.swi_dispatch_guest.proofs.ErrorNumbers.{zero_kept, zero_set}
 use Rattle.swi_dispatch_guest.specs.Answers.{went_on}

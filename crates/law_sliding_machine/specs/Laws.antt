@@ -14,8 +14,7 @@ use Rattle.swi_dispatch_plans.specs.ModulePlans.{tidy_planned}
 use Rattle.swi_dispatch_guest.specs.Gates.{outcome_left}
 use Rattle.swi_dispatch_guest.specs.MachineState.{MachineState, setting_of}
 use Rattle.swi_dispatch_guest.specs.Parts.{IsGuest, Parts, state_of}
-use Rattle.swi_dispatch_guest.specs.Step.{outcome_of_call, result_of_instruction, machine_step, module_loaded, store_called}
-use Rattle.swi_dispatch_guest.specs.Step.{without_x}
+use Rattle.swi_dispatch_guest.specs.Step.{outcome_of_call, result_of_instruction, machine_step, module_loaded, store_called, without_x}
 use Rattle.law_sliding_machine.specs.MachineStores.{stores_of}
 use Rattle.law_sliding_machine.specs.Turns.{StoresAreStill, FlexSwi, IsTidied, IsTidyKept, IsTurnMade, flex_name, flex_turn}
 

@@ -2,7 +2,7 @@
 use Rattle.std.specs.Prelude.{Option, Some, None, List, []}
 use Rattle.instances_plans.specs.Plans.{Plan}
 use Rattle.instances_table.specs.declared.parts.Image.{Image}
-use Rattle.swi_dispatch_plans.specs.instances.specs.instances_actions.specs.Pending.{pending_of}
+use Rattle.instances.specs.actions.Pending.{pending_of}
 use Rattle.swi_dispatch_guest.specs.MachineState.{MachineState, machine_world}
 use Rattle.swi_dispatch_guest.specs.Parts.{IsGuest, Parts, state_of}
 use Rattle.law_sliding.specs.Meaning.{AreStores, Stores}

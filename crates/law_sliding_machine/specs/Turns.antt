@@ -10,8 +10,8 @@ use Rattle.instances_plans.specs.declared.action.PlanAction.{PlanAction}
 use Rattle.instances_plans.specs.declared.action.PlanAction.TheVariants as act
 use Rattle.instances_plans.specs.Plans.{Plan}
 use Rattle.instances_table.specs.Changes.{is_slot_held}
-use Rattle.flex_machine.specs.module_world.specs.World.{private_word}
-use Rattle.flex_machine.specs.flex_store.specs.Runs.{Alloc, Extend, MidExtend, Release}
+use Rattle.instances.specs.world.World.{private_word}
+use Rattle.flex_store.specs.Runs.{Alloc, Extend, MidExtend, Release}
 use Rattle.swi_dispatch_guest.specs.MachineState.{MachineState}
 use Rattle.law_sliding.specs.Laws.{IsFollowed}
 use Rattle.law_sliding.specs.Meaning.{AreStores, Stores, meaning_of, store_in}

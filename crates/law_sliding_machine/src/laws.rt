@@ -1,8 +1,7 @@
 //! Laws of a machine's flex calls and tidies: they are turns of its stores. Each is the contract of
 //! a function that does nothing.
 
-ghost use Rattle.law_sliding_machine.specs.Laws.{CallsAreTurns, StepsAreTurns, PlansStay, PlansStayFromOutside, TidiesGoOn};
-ghost use Rattle.law_sliding_machine.specs.Laws.{StoreCallsAreTurns};
+ghost use Rattle.law_sliding_machine.specs.Laws.{CallsAreTurns, StepsAreTurns, PlansStay, PlansStayFromOutside, TidiesGoOn, StoreCallsAreTurns};
 ghost use Rattle.law_sliding_machine.specs.MachineStores.{StatesHaveStores};
 ghost use Rattle.law_sliding_machine.specs.Told.{FlexCallsTellRoom};
 

@@ -8,5 +8,6 @@ mod words;
 
 pub use fault::HeaderFault;
 pub use header::Header;
-pub use profile;
+pub use profile::ErrorNumber;
+pub use profile::memory_map::{PRIVATE_WORDS, RMA_MAXIMUM, RMA_START};
 pub use title::is_title_byte;

@@ -1,10 +1,10 @@
 -- A heap more, behind all others: its descriptor is written, and its range recorded.
-use Rattle.profile.specs.MemoryMap.{heap_name}
+use Rattle.os_heap_words.specs.MemoryMap.{heap_name}
 use Rattle.std.proofs.Common.{Bool, ap, cond, subst, arith, inl, ◌+◌, ◌≡◌, ℕ, true, inr, refl, false, [], List, ◌∷◌, ◌++◌, ◌≤◌, ◌&&◌, ◌-◌, leb, ◌^◌, ◌<◌, ◌⊎◌, ◌∙◌, sym, Err, Ok}
 use Rattle.std.proofs.lemmas.Bool.{cases_lt, and_parts, both_ways, false_from_ne_true, or_parts, le-leb, lt-ltb, cases_Bool, false≢true, or_from}
 use Rattle.std.proofs.lemmas.Bool.Decides.{nat_tests}
 use Rattle.std.specs.List.{list_any}
-use Rattle.profile.specs.declared.error.ErrorNumber.TheVariants.{HeapBadRegion, HeapOverlaps, HeapTableFull}
+use Rattle.os_heap_words.specs.ErrorNumber.TheVariants.{HeapBadRegion, HeapOverlaps, HeapTableFull}
 use Rattle.address_map.specs.Bytes.{in_range, shares_address, word_start, Bytes, with_word_at, word_at}
 use Rattle.address_map.specs.Items.{is_heap_word, items_in}
 use Rattle.address_map.specs.Classes.{is_flex_header, is_anchor}
@@ -15,10 +15,10 @@ use Rattle.address_map.specs.declared.class.Class.TheVariants as class
 use Rattle.address_map.specs.declared.map.AddressMap.{AddressMap}
 use Rattle.address_map.specs.declared.region.Kind.{Kind}
 use Rattle.address_map.specs.declared.region.Region.{Region}
-use Rattle.os_heap_lists.proofs.HeadWords.{are_owned, byte_inside}
-use Rattle.os_heap_lists.proofs.Payloads.{payload_unspelled}
-use Rattle.os_heap_lists.proofs.Reading.{items_in-heap}
-use Rattle.os_heap_lists.specs.Heap.{HeapList, IsHeapIn, with_heap}
+use Rattle.os_heap_words.proofs.ListsLemmas.HeadWords.{are_owned, byte_inside}
+use Rattle.os_heap_words.proofs.ListsLemmas.Payloads.{payload_unspelled}
+use Rattle.os_heap_words.proofs.ListsLemmas.Reading.{items_in-heap}
+use Rattle.os_heap_words.specs.lists.Heap.{HeapList, IsHeapIn, with_heap}
 use Rattle.os_heap.proofs.Held.{AreBy, marks_begun}
 use Rattle.os_heap.proofs.Anchored.{place_more}
 use Rattle.os_heap.proofs.FlexWords.{AreSameFlex, IsUnflexed}

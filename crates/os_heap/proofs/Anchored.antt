@@ -12,10 +12,10 @@ use Rattle.address_map.specs.declared.map.AddressMap.{AddressMap}
 use Rattle.address_map.specs.declared.region.Kind.{Kind}
 use Rattle.address_map.specs.declared.region.Kind.TheVariants as kind
 use Rattle.address_map.specs.declared.region.Region.{Region}
-use Rattle.os_heap_lists.proofs.HeadWords.{head_inside}
-use Rattle.os_heap_lists.proofs.LiveBlocks.{IsStillIn, LiveBytes, law_live_bytes, live_unspelled, release_still, refit_own, refit_still}
-use Rattle.os_heap_lists.specs.Heap.{HeapList, IsHeapIn}
-use Rattle.os_heap_lists.specs.Lists.{live_total, items_after_release, resized_in_place}
+use Rattle.os_heap_words.proofs.ListsLemmas.HeadWords.{head_inside}
+use Rattle.os_heap_words.proofs.ListsLemmas.LiveBlocks.{IsStillIn, LiveBytes, law_live_bytes, live_unspelled, release_still, refit_own, refit_still}
+use Rattle.os_heap_words.specs.lists.Heap.{HeapList, IsHeapIn}
+use Rattle.os_heap_words.specs.lists.Lists.{live_total, items_after_release, resized_in_place}
 use Rattle.os_heap.proofs.FlexWords.{AreUnflexed}
 use Rattle.os_heap.proofs.Stores.{AreOthers, placed_by}
 use Rattle.os_heap.specs.Calls.{holds_anchor, heaps_with_items, with_end}

@@ -3,9 +3,9 @@ use Rattle.std.proofs.Common.{List, ℕ, [], ◌∷◌, ◌≡◌, ◌==◌, ◌
 use Rattle.std.proofs.lemmas.Bool.{cases_Bool, cases_eq, both_ways, and_parts, leb-true, ltb-true, le-leb, lt-ltb}
 use Rattle.address_map.specs.Bytes.{in_range, Bytes}
 use Rattle.address_map.specs.Items.{size_of}
-use Rattle.os_heap_lists.proofs.LiveBlocks.{LiveBytes, law_live_bytes, live_apart}
-use Rattle.os_heap_lists.specs.Heap.{HeapList, IsHeapIn}
-use Rattle.os_heap_lists.specs.Lists.{live_total}
+use Rattle.os_heap_words.proofs.ListsLemmas.LiveBlocks.{LiveBytes, law_live_bytes, live_apart}
+use Rattle.os_heap_words.specs.lists.Heap.{HeapList, IsHeapIn}
+use Rattle.os_heap_words.specs.lists.Lists.{live_total}
 use Rattle.os_heap.proofs.Found.{found_heap}
 use Rattle.os_heap.proofs.Stores.{IsOther, AreOthers, are_others}
 use Rattle.os_heap.specs.Laws.{IsInPayload}

@@ -3,10 +3,10 @@ use Rattle.std.proofs.Common.{arith, ◌+◌, ◌*◌, ◌≤◌, Option, None, 
 use Rattle.std.proofs.lemmas.Bool.{cases_Bool}
 use Rattle.std.specs.Prelude.{nat_le}
 use Rattle.address_map.specs.declared.item.Item.{Item}
-use Rattle.os_heap_lists.proofs.Counts.{below_most, IsNoMore, looked_most, claim_no_more, begun_most}
-use Rattle.os_heap_lists.specs.Counts.{free_count, begun_below}
-use Rattle.os_heap_lists.specs.Heap.{HeapList}
-use Rattle.os_heap_lists.specs.Lists.{Claim, claim_in_items, resized_in_place, round_up_8, changed_by, live_total}
+use Rattle.os_heap_words.proofs.ListsLemmas.Counts.{below_most, IsNoMore, looked_most, claim_no_more, begun_most}
+use Rattle.os_heap_words.specs.lists.Counts.{free_count, begun_below}
+use Rattle.os_heap_words.specs.lists.Heap.{HeapList}
+use Rattle.os_heap_words.specs.lists.Lists.{Claim, claim_in_items, resized_in_place, round_up_8, changed_by, live_total}
 use Rattle.os_heap.specs.Probes.{move_probes, refit_probes, sum_probes, probes_after_walk, AreInBounds, resize_probes, counted_of}
 use Rattle.os_heap.specs.Calls.{holds_anchor, unless_image}
 use Rattle.os_heap.specs.Forgetting.{holds_heap}

@@ -1,13 +1,13 @@
 -- From one heap to the calls on all heaps.
 use Rattle.std.proofs.Common.{Bool, if◌then◌else◌, true, false, [], ◌∷◌, inl, inr, ◌≢◌, ok_or, Ok, ℕ, ◌≡◌, ◌≤◌, ◌∙◌, Some, ap, ◌-◌, subst, sym, Result, refl, Err, None, Option, List, ◌+◌, arith}
 use Rattle.std.proofs.lemmas.Bool.{cases_Bool, both_ways}
-use Rattle.profile.specs.Outcome.{bind, Gives}
-use Rattle.profile.specs.declared.error.ErrorNumber.{ErrorNumber}
-use Rattle.profile.specs.declared.error.ErrorNumber.TheVariants.{HeapNoRoom, HeapBadDesc, HeapHoldsAnchor, HeapNotABlock}
+use Rattle.os_heap_words.specs.Outcome.{bind, Gives}
+use Rattle.os_heap_words.specs.ErrorNumber.{ErrorNumber}
+use Rattle.os_heap_words.specs.ErrorNumber.TheVariants.{HeapNoRoom, HeapBadDesc, HeapHoldsAnchor, HeapNotABlock}
 use Rattle.address_map.proofs.Stores.{layout-mapping}
 use Rattle.address_map.specs.Records.{is_heap_kind}
 use Rattle.address_map.specs.declared.region.Kind.TheVariants as kind
-use Rattle.os_heap_lists.proofs.LiveBlocks.{IsStill, claim_still, IsStillIn, LiveBytes, law_live_bytes, release_still}
+use Rattle.os_heap_words.proofs.ListsLemmas.LiveBlocks.{IsStill, claim_still, IsStillIn, LiveBytes, law_live_bytes, release_still}
 use Rattle.address_map.specs.Bytes.{word_at}
 use Rattle.address_map.specs.Items.{items_in, size_of}
 use Rattle.address_map.specs.Memory.{anchor_of, bytes_of, byte_at, regions, layout, class_of}
@@ -15,10 +15,10 @@ use Rattle.address_map.specs.declared.item.Item.{Item}
 use Rattle.address_map.specs.declared.map.AddressMap.{AddressMap}
 use Rattle.address_map.specs.declared.region.Kind.{Kind}
 use Rattle.address_map.specs.declared.region.Region.{Region}
-use Rattle.os_heap_lists.specs.Counts.{looked_at, begun_below}
-use Rattle.os_heap_lists.specs.Heap.{HeapList, IsHeapIn}
-use Rattle.os_heap_lists.specs.Marks.{AreMarked, Remarks}
-use Rattle.os_heap_lists.specs.Lists.{Claim, claim_in_items, total_for, items_after_release, live_total}
+use Rattle.os_heap_words.specs.lists.Counts.{looked_at, begun_below}
+use Rattle.os_heap_words.specs.lists.Heap.{HeapList, IsHeapIn}
+use Rattle.os_heap_words.specs.lists.Marks.{AreMarked, Remarks}
+use Rattle.os_heap_words.specs.lists.Lists.{Claim, claim_in_items, total_for, items_after_release, live_total}
 use Rattle.os_heap.proofs.Anchored.{KeepsAnchors, heads_unflexed, place_held, release_keeps}
 use Rattle.os_heap.proofs.FlexWords.{AreSameFlex, flex_held}
 use Rattle.os_heap.proofs.Forgetting.{own_left}

@@ -2,10 +2,10 @@
 use Rattle.std.proofs.Common.{ℕ, ◌≡◌, ◌+◌, ◌-◌, ◌≤◌, Some, is_some, true, false, subst, arith}
 use Rattle.address_map.specs.Bytes.{Bytes}
 use Rattle.address_map.specs.Items.{is_total, size_of}
-use Rattle.os_heap_lists.proofs.ClaimedLists.{HasTotals, claim_totals, IsUnheld, claim_unheld, IsWithin, claim_within}
-use Rattle.os_heap_lists.proofs.LiveBlocks.{IsFresh, claim_fresh, IsStill, claim_still}
-use Rattle.os_heap_lists.specs.Heap.{AreTotals, HeapList, IsHeapIn}
-use Rattle.os_heap_lists.specs.Lists.{Claim, claim_in_items, live_total}
+use Rattle.os_heap_words.proofs.ListsLemmas.ClaimedLists.{HasTotals, claim_totals, IsUnheld, claim_unheld, IsWithin, claim_within}
+use Rattle.os_heap_words.proofs.ListsLemmas.LiveBlocks.{IsFresh, claim_fresh, IsStill, claim_still}
+use Rattle.os_heap_words.specs.lists.Heap.{AreTotals, HeapList, IsHeapIn}
+use Rattle.os_heap_words.specs.lists.Lists.{Claim, claim_in_items, live_total}
 
 pub record IsClaim (h : HeapList) (new : ℕ) (c : Claim) : Type 0 where
   pub totals : AreTotals c.items

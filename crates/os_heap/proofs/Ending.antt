@@ -15,13 +15,13 @@ use Rattle.address_map.specs.declared.item.Item.{Item}
 use Rattle.address_map.specs.declared.map.AddressMap.{AddressMap}
 use Rattle.address_map.specs.declared.region.Kind.{Kind}
 use Rattle.address_map.specs.declared.region.Region.{Region}
-use Rattle.os_heap_lists.proofs.HeadWords.{law_heap_frame}
-use Rattle.os_heap_lists.proofs.HeapWords.{cons_part}
-use Rattle.os_heap_lists.proofs.Marks.{unmarked}
-use Rattle.os_heap_lists.proofs.Reading.{items_in-heap}
-use Rattle.os_heap_lists.proofs.Spelling.{spells-kept}
-use Rattle.os_heap_lists.specs.Heap.{IsHeapIn, HeapList, with_heap}
-use Rattle.os_heap_lists.specs.Words.{IsWordWritten, AreApart}
+use Rattle.os_heap_words.proofs.ListsLemmas.HeadWords.{law_heap_frame}
+use Rattle.os_heap_words.proofs.ListsLemmas.HeapWords.{cons_part}
+use Rattle.os_heap_words.proofs.ListsLemmas.Marks.{unmarked}
+use Rattle.os_heap_words.proofs.ListsLemmas.Reading.{items_in-heap}
+use Rattle.os_heap_words.proofs.ListsLemmas.Spelling.{spells-kept}
+use Rattle.os_heap_words.specs.lists.Heap.{IsHeapIn, HeapList, with_heap}
+use Rattle.os_heap_words.specs.lists.Words.{IsWordWritten, AreApart}
 use Rattle.os_heap.proofs.RangeTests.{CanHold, clear_unless, can_hold}
 use Rattle.os_heap.proofs.Found.{found_heap}
 use Rattle.os_heap.proofs.Held.{AreBy, marks_ended}

@@ -12,10 +12,10 @@ use Rattle.os_heap.proofs.Anchored.{IsPlacedBy, not_flex}
 use Rattle.os_heap.proofs.Frame.{clear_unowned, heaps_in-spelled, layout-regions, parts_kept}
 use Rattle.os_heap.proofs.Stores.{image_kind, placed_either}
 use Rattle.os_heap.specs.Store.{AreClasses, AreHeapsIn, ArePlaced, heaps_in, IsAnchorPlace, is_flex_store, is_in_flex_store, IsSound, store_of}
-use Rattle.os_heap_lists.proofs.HeadWords.{byte_inside}
-use Rattle.os_heap_lists.proofs.LiveBlocks.{LiveBytes, law_live_bytes, live_unspelled}
-use Rattle.os_heap_lists.specs.Heap.{HeapList, IsHeapIn}
-use Rattle.os_heap_lists.specs.Marks.{spells_any}
+use Rattle.os_heap_words.proofs.ListsLemmas.HeadWords.{byte_inside}
+use Rattle.os_heap_words.proofs.ListsLemmas.LiveBlocks.{LiveBytes, law_live_bytes, live_unspelled}
+use Rattle.os_heap_words.specs.lists.Heap.{HeapList, IsHeapIn}
+use Rattle.os_heap_words.specs.lists.Marks.{spells_any}
 
 -- what a call on the flex store did to memory
 pub record IsFlexed (m n : AddressMap) : Type 0 where

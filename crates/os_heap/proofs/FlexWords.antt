@@ -7,7 +7,7 @@ use Rattle.address_map.specs.Items.{is_head}
 use Rattle.address_map.specs.declared.class.Class.{Class}
 use Rattle.address_map.specs.declared.class.Class.TheVariants as class
 use Rattle.address_map.specs.declared.item.Item.{Item}
-use Rattle.os_heap_lists.specs.Marks.{class_after_marking, Remarks, AreMarked}
+use Rattle.os_heap_words.specs.lists.Marks.{class_after_marking, Remarks, AreMarked}
 
 -- a word that is no one of the flex store's
 pub record IsUnflexed (own : Class) : Type 0 where

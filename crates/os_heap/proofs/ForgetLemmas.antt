@@ -14,11 +14,11 @@ use Rattle.address_map.specs.declared.item.Item.{Item}
 use Rattle.address_map.specs.declared.item.Item.TheVariants.{Free, Live}
 use Rattle.address_map.specs.declared.map.AddressMap.{AddressMap}
 use Rattle.address_map.specs.declared.region.Region.{Region}
-use Rattle.os_heap_lists.proofs.LiveBlocks.{LiveBytes, law_live_bytes}
-use Rattle.os_heap_lists.proofs.Reading.{total_facts}
-use Rattle.os_heap_lists.specs.Heap.{AreTotals, HeapList, IsHeapIn}
-use Rattle.os_heap_lists.specs.Lists.{live_total}
-use Rattle.os_heap_lists.specs.Walks.{IsBlock}
+use Rattle.os_heap_words.proofs.ListsLemmas.LiveBlocks.{LiveBytes, law_live_bytes}
+use Rattle.os_heap_words.proofs.ListsLemmas.Reading.{total_facts}
+use Rattle.os_heap_words.specs.lists.Heap.{AreTotals, HeapList, IsHeapIn}
+use Rattle.os_heap_words.specs.lists.Lists.{live_total}
+use Rattle.os_heap_words.specs.lists.Walks.{IsBlock}
 use Rattle.os_heap.proofs.FlexWords.{AreSameFlex}
 use Rattle.os_heap.proofs.Forgetting.{forgot_sound, lowest_found, lowest_least}
 use Rattle.os_heap.proofs.Found.{found_heap}

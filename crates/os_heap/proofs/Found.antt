@@ -2,15 +2,15 @@
 use Rattle.std.proofs.Common.{true, false, ap, sym, ◌∙◌, ℕ, ◌==◌, ◌-◌, inl, ◌≡◌, [], List, subst, Some, inr, ◌∷◌, None, refl, Err, ◌+◌, Ok}
 use Rattle.std.proofs.lemmas.Bool.{eqb-true, cases_Bool, or_parts}
 use Rattle.std.specs.List.{list_any}
-use Rattle.profile.specs.declared.error.ErrorNumber.TheVariants.{HeapBadDesc}
+use Rattle.os_heap_words.specs.ErrorNumber.TheVariants.{HeapBadDesc}
 use Rattle.address_map.specs.Bytes.{Bytes}
 use Rattle.address_map.specs.Items.{size_of}
 use Rattle.address_map.specs.Records.{is_heap_kind}
 use Rattle.address_map.specs.Memory.{regions, bytes_of}
 use Rattle.address_map.specs.declared.map.AddressMap.{AddressMap}
 use Rattle.address_map.specs.declared.region.Region.{Region}
-use Rattle.os_heap_lists.specs.Counts.{larger, largest_free, free_total, round_down_8, free_count}
-use Rattle.os_heap_lists.specs.Heap.{HeapList, IsHeapIn}
+use Rattle.os_heap_words.specs.lists.Counts.{larger, largest_free, free_total, round_down_8, free_count}
+use Rattle.os_heap_words.specs.lists.Heap.{HeapList, IsHeapIn}
 use Rattle.os_heap_words.specs.Outcomes.{IsHeapAt, items_at}
 use Rattle.os_heap.specs.Store.{heaps_in, find_heap, AreHeapsIn, IsSound, heap_in, store_of, Store}
 use Rattle.os_heap.specs.Calls.{heap_description, items_of, with_end}

@@ -12,10 +12,10 @@ use Rattle.address_map.specs.declared.class.Class.TheVariants as class
 use Rattle.address_map.specs.declared.map.AddressMap.{AddressMap}
 use Rattle.address_map.specs.declared.region.Region.{Region}
 use Rattle.os_heap.proofs.FlexWords.{AreSameFlex, same_flex}
-use Rattle.os_heap_lists.proofs.HeadWords.{law_heap_frame, are_owned, byte_inside}
-use Rattle.os_heap_lists.proofs.Reading.{items_in-heap}
-use Rattle.os_heap_lists.specs.Heap.{HeapList}
-use Rattle.os_heap_lists.specs.Marks.{spells_any}
+use Rattle.os_heap_words.proofs.ListsLemmas.HeadWords.{law_heap_frame, are_owned, byte_inside}
+use Rattle.os_heap_words.proofs.ListsLemmas.Reading.{items_in-heap}
+use Rattle.os_heap_words.specs.lists.Heap.{HeapList}
+use Rattle.os_heap_words.specs.lists.Marks.{spells_any}
 use Rattle.os_heap.specs.Store.{AreClasses, AreHeapsIn, heaps_in, store_of, others_in, IsSound, Store, owned_in, is_flex_word, IsClearOfHeaps}
 
 -- all heaps are kept where no byte of their words changes

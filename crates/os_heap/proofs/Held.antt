@@ -7,9 +7,9 @@ use Rattle.address_map.specs.Items.{is_head, is_heap_word, size_of}
 use Rattle.address_map.specs.declared.class.Class.{Class}
 use Rattle.address_map.specs.declared.class.Class.TheVariants as class
 use Rattle.address_map.specs.declared.item.Item.{Item}
-use Rattle.os_heap_lists.proofs.HeadWords.{head_inside}
-use Rattle.os_heap_lists.specs.Heap.{HeapList, IsHeapIn}
-use Rattle.os_heap_lists.specs.Marks.{class_after_marking, Remarks, AreMarked, spells_any}
+use Rattle.os_heap_words.proofs.ListsLemmas.HeadWords.{head_inside}
+use Rattle.os_heap_words.specs.lists.Heap.{HeapList, IsHeapIn}
+use Rattle.os_heap_words.specs.lists.Marks.{class_after_marking, Remarks, AreMarked, spells_any}
 use Rattle.os_heap_words.proofs.Marking.{heap_class}
 use Rattle.os_heap.proofs.Found.{found_heap}
 use Rattle.os_heap.proofs.Nesting.{words_apart}

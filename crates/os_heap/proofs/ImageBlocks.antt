@@ -4,9 +4,9 @@ use Rattle.std.proofs.lemmas.Bool.{both_ways, cases_eq, false_from_ne_true, le-l
 use Rattle.address_map.specs.Bytes.{Bytes, in_range}
 use Rattle.address_map.specs.Items.{size_of}
 use Rattle.address_map.specs.declared.region.Region.{Region}
-use Rattle.os_heap_lists.proofs.LiveBlocks.{LiveBytes, live_apart, law_live_bytes}
-use Rattle.os_heap_lists.specs.Heap.{HeapList, IsHeapIn}
-use Rattle.os_heap_lists.specs.Lists.{live_total}
+use Rattle.os_heap_words.proofs.ListsLemmas.LiveBlocks.{LiveBytes, live_apart, law_live_bytes}
+use Rattle.os_heap_words.specs.lists.Heap.{HeapList, IsHeapIn}
+use Rattle.os_heap_words.specs.lists.Lists.{live_total}
 use Rattle.os_heap.proofs.Apart.{block_inside, range_parts}
 use Rattle.os_heap.proofs.Forgetting.{StartsIn, so_starts, starts_so}
 use Rattle.os_heap.proofs.Stores.{AreOthers, IsOther}

@@ -7,8 +7,8 @@ use Rattle.address_map.specs.Records.{is_heap_kind}
 use Rattle.address_map.specs.declared.item.Item.{Item}
 use Rattle.address_map.specs.declared.item.Item.TheVariants.{Live, Free}
 use Rattle.address_map.specs.declared.region.Region.{Region}
-use Rattle.os_heap_lists.specs.Heap.{HeapList, IsHeapIn}
-use Rattle.os_heap_lists.specs.Lists.{live_total}
+use Rattle.os_heap_words.specs.lists.Heap.{HeapList, IsHeapIn}
+use Rattle.os_heap_words.specs.lists.Lists.{live_total}
 use Rattle.os_heap.proofs.RangeTests.{or_none}
 use Rattle.os_heap.proofs.Holding.{held_range}
 use Rattle.os_heap.proofs.Nesting.{apart_turned, apart_starts, within_low}

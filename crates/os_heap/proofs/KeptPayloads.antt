@@ -2,25 +2,25 @@
 use Rattle.std.proofs.Common.{if◌then◌else◌, Bool, List, ℕ, [], ◌∷◌, ◌++◌, ◌≡◌, ◌≢◌, ◌==◌, ◌&&◌, ◌+◌, ◌-◌, ◌%◌, ◌≤◌, ◌<◌, ◌⊎◌, Option, Some, None, ok_or, is_some, Result, Ok, Err, not, true, false, refl, sym, ap, subst, ◌∙◌, inl, inr, arith}
 use Rattle.std.proofs.lemmas.Bool.{cases_Bool, eq-eqb, ne_eqb, or_parts, both_ways, not-false, false_from_ne_true, false≢true, le-leb, lt-ltb, leb-false, ltb-false}
 use Rattle.std.specs.Prelude.{nat_le, nat_lt}
-use Rattle.profile.specs.Outcome.{bind}
-use Rattle.profile.specs.declared.error.ErrorNumber.{ErrorNumber}
-use Rattle.profile.specs.declared.error.ErrorNumber.TheVariants.{BlockHoldsHeap, HeapHoldsAnchor, HeapBadDesc, HeapBadRegion, HeapOverlaps, HeapTableFull, HeapNotABlock, HeapNoRoom, HeapBadShrink}
+use Rattle.os_heap_words.specs.Outcome.{bind}
+use Rattle.os_heap_words.specs.ErrorNumber.{ErrorNumber}
+use Rattle.os_heap_words.specs.ErrorNumber.TheVariants.{BlockHoldsHeap, HeapHoldsAnchor, HeapBadDesc, HeapBadRegion, HeapOverlaps, HeapTableFull, HeapNotABlock, HeapNoRoom, HeapBadShrink}
 use Rattle.address_map.specs.Records.{anchor_among}
 use Rattle.address_map.specs.Bytes.{Bytes, in_range, shares_address, word_start}
 use Rattle.address_map.specs.Items.{is_heap_word, is_total, size_of}
 use Rattle.address_map.specs.declared.item.Item.{Item}
 use Rattle.address_map.specs.declared.region.Kind.TheVariants as kind
-use Rattle.os_heap_lists.proofs.LiveBlocks.{LiveBytes, law_live_bytes, live_apart}
-use Rattle.os_heap_lists.proofs.Payloads.{heap_beside, payload_unspelled, spelled_inside}
-use Rattle.os_heap_lists.proofs.Spelling.{total_of-numbers}
-use Rattle.os_heap_lists.specs.Heap.{AreTotals, HeapList, IsHeapIn}
-use Rattle.os_heap_lists.specs.Lists.{Claim, changed_by, claim_in_items, live_total, items_after_release, resized_in_place, round_up_8, total_for}
+use Rattle.os_heap_words.proofs.ListsLemmas.LiveBlocks.{LiveBytes, law_live_bytes, live_apart}
+use Rattle.os_heap_words.proofs.ListsLemmas.Payloads.{heap_beside, payload_unspelled, spelled_inside}
+use Rattle.os_heap_words.proofs.ListsLemmas.Spelling.{total_of-numbers}
+use Rattle.os_heap_words.specs.lists.Heap.{AreTotals, HeapList, IsHeapIn}
+use Rattle.os_heap_words.specs.lists.Lists.{Claim, changed_by, claim_in_items, live_total, items_after_release, resized_in_place, round_up_8, total_for}
 use Rattle.os_heap.proofs.RangeTests.{unlapped, CanHold, can_hold}
 use Rattle.os_heap.proofs.Holding.{range_bounds}
 use Rattle.os_heap.proofs.Limits.{empty}
 use Rattle.os_heap.specs.Nesting.{holds_range, is_crossed}
 use Rattle.std.specs.List.{list_any}
-use Rattle.os_heap_lists.proofs.Reading.{total_facts}
+use Rattle.os_heap_words.proofs.ListsLemmas.Reading.{total_facts}
 use Rattle.os_heap.proofs.Apart.{range_parts}
 use Rattle.os_heap.proofs.Calls.{claimed_in, released_in}
 pub use Rattle.os_heap.proofs.ClaimFacts.{IsClaim, is_claim}

@@ -1,3 +1,5 @@
+pub use Rattle.os_heap_words.proofs.ListsLemmas.HeapWords
+pub use Rattle.os_heap_words.proofs.ListsLemmas.LiveBlocks
 pub mod Added
 pub mod Anchored
 pub mod Apart

@@ -1,5 +1,5 @@
 -- How many heaps a store has, and how many ranges are recorded.
-use Rattle.profile.specs.MemoryMap.{module_area_start}
+use Rattle.os_heap_words.specs.MemoryMap.{module_area_start}
 use Rattle.std.proofs.Common.{ap, arith, inl, ◌+◌, ◌≡◌, ℕ, true, inr, refl, false, [], List, ◌∷◌, ◌++◌, ◌≤◌, ◌<◌, length}
 use Rattle.std.proofs.lemmas.Bool.{cases_Bool, false≢true, leb-false}
 use Rattle.address_map.specs.Bytes.{Bytes}
@@ -8,7 +8,7 @@ use Rattle.address_map.specs.Records.{is_heap_kind}
 use Rattle.address_map.specs.declared.map.AddressMap.{AddressMap}
 use Rattle.address_map.specs.declared.region.Kind.{Kind}
 use Rattle.address_map.specs.declared.region.Region.{Region}
-use Rattle.os_heap_lists.specs.Heap.{HeapList}
+use Rattle.os_heap_words.specs.lists.Heap.{HeapList}
 use Rattle.os_heap.specs.Ranges.{IsWithinHeapLimit}
 use Rattle.os_heap.specs.Store.{Store, IsSound, heaps_in, others_in, store_of, is_module_area, guest_count, area_count, StandAreas, AreInLimits}
 use Rattle.address_map.specs.declared.region.Kind.TheVariants as kind

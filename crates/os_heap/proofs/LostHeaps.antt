@@ -5,12 +5,12 @@ use Rattle.std.specs.List.{list_any}
 use Rattle.address_map.specs.Bytes.{Bytes, in_range, word_start}
 use Rattle.address_map.specs.Items.{is_heap_word, size_of}
 use Rattle.address_map.specs.declared.item.Item.{Item}
-use Rattle.os_heap_lists.proofs.HeadWords.{byte_inside}
-use Rattle.os_heap_lists.proofs.LiveBlocks.{LiveBytes, law_live_bytes}
-use Rattle.os_heap_lists.proofs.Payloads.{payload_unspelled}
-use Rattle.os_heap_lists.specs.Heap.{HeapList, IsHeapIn}
-use Rattle.os_heap_lists.specs.Lists.{live_total}
-use Rattle.os_heap_lists.specs.Marks.{spells_any}
+use Rattle.os_heap_words.proofs.ListsLemmas.HeadWords.{byte_inside}
+use Rattle.os_heap_words.proofs.ListsLemmas.LiveBlocks.{LiveBytes, law_live_bytes}
+use Rattle.os_heap_words.proofs.ListsLemmas.Payloads.{payload_unspelled}
+use Rattle.os_heap_words.specs.lists.Heap.{HeapList, IsHeapIn}
+use Rattle.os_heap_words.specs.lists.Lists.{live_total}
+use Rattle.os_heap_words.specs.lists.Marks.{spells_any}
 use Rattle.os_heap.proofs.Apart.{found_other, range_parts, within_here}
 use Rattle.os_heap.proofs.Forgetting.{AreAbove, AreFound, IsAbove, IsIn, StartsIn, above_found, are_above, are_found, in_block, lowest_found, lowest_least, so_starts, starts_so}
 use Rattle.os_heap.proofs.Found.{found_heap}

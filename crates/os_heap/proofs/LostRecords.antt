@@ -10,7 +10,7 @@ use Rattle.address_map.specs.Records.{is_guest_heap, is_heap_kind}
 use Rattle.address_map.specs.declared.item.Item.{Item}
 use Rattle.address_map.specs.declared.map.AddressMap.{AddressMap}
 use Rattle.address_map.specs.declared.region.Region.{Region}
-use Rattle.os_heap_lists.specs.Heap.{HeapList}
+use Rattle.os_heap_words.specs.lists.Heap.{HeapList}
 use Rattle.os_heap.proofs.Forgetting.{AreFound, are_found, find_gone, find_left}
 use Rattle.os_heap.proofs.Frame.{layout-regions}
 use Rattle.os_heap.proofs.GuestKinds.{guest_kind, plain_kind}

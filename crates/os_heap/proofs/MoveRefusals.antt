@@ -1,14 +1,14 @@
 -- A block that is not moved: where no room is for a new one, or a heap lies in it.
 use Rattle.std.proofs.Common.{◌≡◌, List, ℕ, Some, ◌-◌, subst, sym, None, Option, true, refl, ◌+◌, Ok, Err, Result, ap, arith}
 use Rattle.std.specs.Result.{result_and}
-use Rattle.profile.specs.Outcome.{Gives}
-use Rattle.profile.specs.declared.error.ErrorNumber.{ErrorNumber}
-use Rattle.profile.specs.declared.error.ErrorNumber.TheVariants.{BlockHoldsHeap, HeapNoRoom}
+use Rattle.os_heap_words.specs.Outcome.{Gives}
+use Rattle.os_heap_words.specs.ErrorNumber.{ErrorNumber}
+use Rattle.os_heap_words.specs.ErrorNumber.TheVariants.{BlockHoldsHeap, HeapNoRoom}
 use Rattle.address_map.specs.declared.item.Item.{Item}
 use Rattle.address_map.specs.declared.map.AddressMap.{AddressMap}
-use Rattle.os_heap_lists.specs.Counts.{looked_at}
-use Rattle.os_heap_lists.specs.Heap.{HeapList}
-use Rattle.os_heap_lists.specs.Lists.{Claim, claim_in_items}
+use Rattle.os_heap_words.specs.lists.Counts.{looked_at}
+use Rattle.os_heap_words.specs.lists.Heap.{HeapList}
+use Rattle.os_heap_words.specs.lists.Lists.{Claim, claim_in_items}
 use Rattle.os_heap.proofs.Calls.{part_at}
 use Rattle.os_heap.proofs.LostRecords.{rest_kept}
 use Rattle.os_heap.specs.Calls.{store_after_move}

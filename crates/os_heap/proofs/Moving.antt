@@ -2,9 +2,9 @@
 use Rattle.std.proofs.Common.{Bool, ◌≡◌, ◌≢◌, ◌||◌, List, ℕ, Some, ◌-◌, subst, sym, None, Option, true, is_some, refl, ◌+◌, Ok, Err, ◌≤◌, ◌^◌, Result, ◌∙◌, ap, ◌%◌, arith, ◌<◌, false, inl, [], inr, ◌∷◌, ◌==◌}
 use Rattle.std.proofs.lemmas.Bool.{false≢true, both_ways, or_from, false_from_ne_true, cases_Bool, eq-eqb, ne_eqb, le-leb, lt-ltb}
 use Rattle.std.specs.List.{filter}
-use Rattle.profile.specs.Outcome.{bind, Gives}
-use Rattle.profile.specs.declared.error.ErrorNumber.{ErrorNumber}
-use Rattle.profile.specs.declared.error.ErrorNumber.TheVariants.{HeapNoRoom}
+use Rattle.os_heap_words.specs.Outcome.{bind, Gives}
+use Rattle.os_heap_words.specs.ErrorNumber.{ErrorNumber}
+use Rattle.os_heap_words.specs.ErrorNumber.TheVariants.{HeapNoRoom}
 use Rattle.address_map.proofs.Equations.{stored_moved}
 use Rattle.address_map.proofs.Stores.{in_range-cases, layout-mapping}
 use Rattle.address_map.specs.Bytes.{AreMapped, Bytes, word_start, in_range, with_moved_at}
@@ -13,15 +13,15 @@ use Rattle.address_map.specs.Memory.{anchor_of, bytes_of, layout, is_mapped, byt
 use Rattle.address_map.specs.declared.item.Item.{Item}
 use Rattle.address_map.specs.declared.map.AddressMap.{AddressMap}
 use Rattle.address_map.specs.declared.region.Kind.{Kind}
-use Rattle.os_heap_lists.proofs.HeadWords.{byte_inside, are_owned}
-use Rattle.os_heap_lists.proofs.LinkWalk.{below_few}
-use Rattle.os_heap_lists.proofs.ClaimedLists.{IsUnheld, claim_unheld}
-use Rattle.os_heap_lists.proofs.LiveBlocks.{claim_fresh, claim_still, IsFresh, IsStill, LiveBytes, live_apart, law_live_bytes}
-use Rattle.os_heap_lists.proofs.Payloads.{payload_unspelled}
-use Rattle.os_heap_lists.proofs.Reading.{items_in-heap}
-use Rattle.os_heap_lists.specs.Counts.{looked_at, free_below}
-use Rattle.os_heap_lists.specs.Heap.{AreTotals, HeapList, IsHeapIn}
-use Rattle.os_heap_lists.specs.Lists.{Claim, claim_in_items, live_total, items_after_release}
+use Rattle.os_heap_words.proofs.ListsLemmas.HeadWords.{byte_inside, are_owned}
+use Rattle.os_heap_words.proofs.ListsLemmas.LinkWalk.{below_few}
+use Rattle.os_heap_words.proofs.ListsLemmas.ClaimedLists.{IsUnheld, claim_unheld}
+use Rattle.os_heap_words.proofs.ListsLemmas.LiveBlocks.{claim_fresh, claim_still, IsFresh, IsStill, LiveBytes, live_apart, law_live_bytes}
+use Rattle.os_heap_words.proofs.ListsLemmas.Payloads.{payload_unspelled}
+use Rattle.os_heap_words.proofs.ListsLemmas.Reading.{items_in-heap}
+use Rattle.os_heap_words.specs.lists.Counts.{looked_at, free_below}
+use Rattle.os_heap_words.specs.lists.Heap.{AreTotals, HeapList, IsHeapIn}
+use Rattle.os_heap_words.specs.lists.Lists.{Claim, claim_in_items, live_total, items_after_release}
 use Rattle.os_heap.proofs.Apart.{range_parts}
 use Rattle.os_heap.proofs.Calls.{part_at, heap_there, free_given, IsHeld, is_held, store_anchor}
 use Rattle.os_heap.proofs.ForgetLemmas.{forgets_unheld}

@@ -7,7 +7,7 @@ use Rattle.address_map.specs.Memory.{anchor_of, bytes_of, regions}
 use Rattle.address_map.specs.Records.{anchor_among, is_heap_kind}
 use Rattle.address_map.specs.declared.map.AddressMap.{AddressMap}
 use Rattle.address_map.specs.declared.region.Region.{Region}
-use Rattle.os_heap_lists.specs.Heap.{HeapList, IsHeapIn}
+use Rattle.os_heap_words.specs.lists.Heap.{HeapList, IsHeapIn}
 use Rattle.os_heap.proofs.RangeTests.{or_middle, or_next, or_none}
 use Rattle.os_heap.proofs.Holding.{range_bounds}
 use Rattle.os_heap.proofs.Innermost.{IsRound, round_so, so_round, last_tells, ranges_nested}

@@ -8,7 +8,7 @@ use Rattle.address_map.specs.Records.{is_heap_kind, is_record, with_len}
 use Rattle.address_map.specs.declared.map.AddressMap.{AddressMap}
 use Rattle.address_map.specs.declared.region.Kind.{Kind}
 use Rattle.address_map.specs.declared.region.Region.{Region}
-use Rattle.os_heap_lists.specs.Heap.{HeapList}
+use Rattle.os_heap_words.specs.lists.Heap.{HeapList}
 use Rattle.os_heap.proofs.Frame.{layout-regions}
 use Rattle.os_heap.specs.Laws.{RecordsAreTold}
 use Rattle.os_heap.specs.Order.{kind_and_start, stays, stays_at, AddsRecord, KeepsOrder, LosesHeaps, LosesInOrder}

@@ -7,7 +7,7 @@ use Rattle.address_map.specs.declared.class.Class.{Class}
 use Rattle.address_map.specs.declared.class.Class.TheVariants as class
 use Rattle.address_map.specs.declared.map.AddressMap.{AddressMap}
 use Rattle.address_map.proofs.Words.{class_of-word}
-use Rattle.os_heap_lists.specs.Marks.{spells_any}
+use Rattle.os_heap_words.specs.lists.Marks.{spells_any}
 use Rattle.os_heap.specs.Store.{AreClasses, owned_in, store_of}
 
 owned_mark : (own : Class) → not (is_plain own) ≡ (is_heap_class own || (is_flex_header own || is_anchor own))

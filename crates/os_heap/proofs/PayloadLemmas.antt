@@ -7,9 +7,9 @@ use Rattle.address_map.specs.Records.{is_heap_kind}
 use Rattle.address_map.specs.declared.item.Item.{Item}
 use Rattle.address_map.specs.declared.item.Item.TheVariants.{Live, Free}
 use Rattle.address_map.specs.declared.region.Region.{Region}
-use Rattle.os_heap_lists.specs.Heap.{AreTotals, HeapList, IsHeapIn}
-use Rattle.os_heap_lists.proofs.LinkWalk.{live_low, live_next}
-use Rattle.os_heap_lists.proofs.Reading.{total_facts}
+use Rattle.os_heap_words.specs.lists.Heap.{AreTotals, HeapList, IsHeapIn}
+use Rattle.os_heap_words.proofs.ListsLemmas.LinkWalk.{live_low, live_next}
+use Rattle.os_heap_words.proofs.ListsLemmas.Reading.{total_facts}
 use Rattle.os_heap.specs.Payloads.{is_other, payload_from, payload_in, payload_of, payload_or}
 use Rattle.os_heap.specs.Store.{AreHeapsIn, heap_in, heaps_in, IsAnchorPlace, IsInBlock}
 use Rattle.os_heap.specs.declared.payload.Payload.{Payload}

@@ -1,14 +1,14 @@
 -- A call that is done writes another list into a heap: no word of it is a byte of a block that is live then.
 use Rattle.std.proofs.Common.{if◌then◌else◌, Bool, List, ℕ, ◌≡◌, ◌+◌, ◌-◌, ◌%◌, ◌≤◌, ◌<◌, ◌⊎◌, Option, Some, None, ok_or, Result, Ok, Err, true, false, refl, sym, ap, subst, ◌∙◌, inl, inr}
 use Rattle.std.proofs.lemmas.Bool.{both_ways, false_from_ne_true}
-use Rattle.profile.specs.Outcome.{bind}
-use Rattle.profile.specs.declared.error.ErrorNumber.{ErrorNumber}
+use Rattle.os_heap_words.specs.Outcome.{bind}
+use Rattle.os_heap_words.specs.ErrorNumber.{ErrorNumber}
 use Rattle.address_map.specs.Bytes.{Bytes, in_range, word_start}
 use Rattle.address_map.specs.Items.{is_heap_word, size_of}
 use Rattle.address_map.specs.declared.item.Item.{Item}
-use Rattle.os_heap_lists.proofs.Payloads.{heap_beside, payload_unspelled, spelled_inside}
-use Rattle.os_heap_lists.specs.Heap.{AreTotals, HeapList, IsHeapIn}
-use Rattle.os_heap_lists.specs.Lists.{live_total}
+use Rattle.os_heap_words.proofs.ListsLemmas.Payloads.{heap_beside, payload_unspelled, spelled_inside}
+use Rattle.os_heap_words.specs.lists.Heap.{AreTotals, HeapList, IsHeapIn}
+use Rattle.os_heap_words.specs.lists.Lists.{live_total}
 use Rattle.os_heap.proofs.Apart.{range_parts}
 use Rattle.os_heap.proofs.Found.{found_heap, found_start}
 use Rattle.os_heap.proofs.Moving.{found_held}

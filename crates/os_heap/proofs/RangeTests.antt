@@ -10,7 +10,7 @@ use Rattle.address_map.specs.Memory.{anchor_of, is_mapped, bytes_of, regions}
 use Rattle.address_map.specs.Records.{anchor_among, is_heap_kind}
 use Rattle.address_map.specs.declared.map.AddressMap.{AddressMap}
 use Rattle.address_map.specs.declared.region.Region.{Region}
-use Rattle.os_heap_lists.specs.Heap.{HeapList, IsHeapIn}
+use Rattle.os_heap_words.specs.lists.Heap.{HeapList, IsHeapIn}
 use Rattle.os_heap.proofs.Holding.{HoldsRange, range_held}
 use Rattle.os_heap.specs.Ranges.{are_bytes_mapped, is_heap_region, meets_any, overlaps}
 use Rattle.os_heap.specs.Nesting.{holds_range, is_crossed}

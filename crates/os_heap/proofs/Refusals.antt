@@ -1,11 +1,11 @@
 -- What the change of a heap's size answers, case by case, and what it looks at.
 use Rattle.std.proofs.Common.{◌≡◌, None, refl, ℕ, Err, Bool, false, Some, true, cond, ap, ◌≢◌, ◌%◌, arith, inl, inr, ◌<◌, ◌==◌, ◌+◌, Ok}
 use Rattle.std.proofs.lemmas.Bool.{ne_eqb, eq-eqb, cases_Bool, lt-ltb}
-use Rattle.profile.specs.declared.error.ErrorNumber.TheVariants.{HeapBadDesc, HeapBadRegion, HeapOverlaps, HeapBadShrink}
+use Rattle.os_heap_words.specs.ErrorNumber.TheVariants.{HeapBadDesc, HeapBadRegion, HeapOverlaps, HeapBadShrink}
 use Rattle.address_map.specs.Bytes.{Bytes}
 use Rattle.address_map.specs.Items.{size_of}
-use Rattle.os_heap_lists.specs.Heap.{HeapList}
-use Rattle.os_heap_lists.specs.Lists.{changed_by}
+use Rattle.os_heap_words.specs.lists.Heap.{HeapList}
+use Rattle.os_heap_words.specs.lists.Lists.{changed_by}
 use Rattle.os_heap.proofs.RangeTests.{can_hold}
 use Rattle.os_heap.specs.Calls.{store_after_change, has_own_size, end_changed, ending}
 use Rattle.os_heap.specs.Probes.{change_probes, change_probes_of, counted_of, end_probes, growth_probes}

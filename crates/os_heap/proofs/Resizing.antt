@@ -2,9 +2,9 @@
 use Rattle.std.proofs.Common.{Bool, ok_or, if◌then◌else◌, ◌==◌, ◌-◌, inl, ◌≡◌, [], None, List, subst, ℕ, Some, inr, ap, ◌∷◌, ◌∙◌, true, is_some, ◌+◌, Option, ◌%◌, arith, sym, Err, refl, Result, Ok, ◌≤◌, false, ◌<◌, ◌*◌, ◌^◌}
 use Rattle.std.proofs.lemmas.Bool.{both_ways, cases_lt, eqb-true, cases_Bool, le-leb, false≢true, lt-leb, leb-false}
 use Rattle.std.specs.Prelude.{nat_le}
-use Rattle.profile.specs.Outcome.{bind, Gives}
-use Rattle.profile.specs.declared.error.ErrorNumber.{ErrorNumber}
-use Rattle.profile.specs.declared.error.ErrorNumber.TheVariants.{HeapNotABlock, HeapHoldsAnchor, HeapBadDesc}
+use Rattle.os_heap_words.specs.Outcome.{bind, Gives}
+use Rattle.os_heap_words.specs.ErrorNumber.{ErrorNumber}
+use Rattle.os_heap_words.specs.ErrorNumber.TheVariants.{HeapNotABlock, HeapHoldsAnchor, HeapBadDesc}
 use Rattle.address_map.proofs.Anchors.{among_none}
 use Rattle.address_map.specs.Bytes.{Bytes, word_at}
 use Rattle.address_map.specs.Items.{items_in, size_of}
@@ -15,14 +15,14 @@ use Rattle.address_map.specs.declared.item.Item.TheVariants.{Free, Live}
 use Rattle.address_map.specs.declared.map.AddressMap.{AddressMap}
 use Rattle.address_map.specs.declared.region.Kind.{Kind}
 use Rattle.address_map.specs.declared.region.Region.{Region}
-use Rattle.os_heap_lists.proofs.Counts.{claim_no_more}
-use Rattle.os_heap_lists.proofs.Reading.{total_facts}
-use Rattle.os_heap_lists.proofs.LiveBlocks.{IsStillIn, LiveBytes, law_live_bytes, refit_own, refit_still}
-use Rattle.os_heap_lists.proofs.Resizes.{map_none, unreleased}
-use Rattle.os_heap_lists.specs.Counts.{begun_below, free_count}
-use Rattle.os_heap_lists.specs.Heap.{HeapList, IsHeapIn, AreTotals}
-use Rattle.os_heap_lists.specs.Lists.{live_total, items_after_release, changed_by, resized_in_place, round_up_8, items_after_refit, claim_in_items}
-use Rattle.os_heap_lists.specs.Walks.{IsBlock}
+use Rattle.os_heap_words.proofs.ListsLemmas.Counts.{claim_no_more}
+use Rattle.os_heap_words.proofs.ListsLemmas.Reading.{total_facts}
+use Rattle.os_heap_words.proofs.ListsLemmas.LiveBlocks.{IsStillIn, LiveBytes, law_live_bytes, refit_own, refit_still}
+use Rattle.os_heap_words.proofs.ListsLemmas.Resizes.{map_none, unreleased}
+use Rattle.os_heap_words.specs.lists.Counts.{begun_below, free_count}
+use Rattle.os_heap_words.specs.lists.Heap.{HeapList, IsHeapIn, AreTotals}
+use Rattle.os_heap_words.specs.lists.Lists.{live_total, items_after_release, changed_by, resized_in_place, round_up_8, items_after_refit, claim_in_items}
+use Rattle.os_heap_words.specs.lists.Walks.{IsBlock}
 use Rattle.os_heap.proofs.Anchored.{refit_keeps}
 use Rattle.os_heap.proofs.Bounds.{move_most}
 use Rattle.os_heap.proofs.Calls.{part_at, heap_of-part, heap_there, IsLeft, is_left, image_recorded}
@@ -34,9 +34,8 @@ use Rattle.os_heap_words.proofs.Refitted.{block_total}
 use Rattle.os_heap.specs.Calls.{gave_back, holds_anchor, unless_image, store_after_resize, resized_or_moved, store_after_move}
 use Rattle.os_heap.specs.Probes.{resize_probes, probes_after_walk, refit_probes, move_probes}
 use Rattle.os_heap_words.specs.Outcomes.{items_at, end_at, Refits}
-use Rattle.os_heap.specs.GuestBlocks.{IsGuestBlock, has_anchor_in}
+use Rattle.os_heap.specs.GuestBlocks.{IsGuestBlock, has_anchor_in, ResizesInPlace}
 use Rattle.os_heap_words.specs.Cursors.{RefitsBlock}
-use Rattle.os_heap.specs.GuestBlocks.{ResizesInPlace}
 use Rattle.os_heap.specs.Sound.{Forgets, GivesBack, HasBlock, IsSoundMap, KeepsRest}
 use Rattle.os_heap.specs.Store.{has_image, heap_in, heaps_in, find_heap, store_of, IsSound, Store}
 

@@ -1,6 +1,6 @@
 -- What a call answers that asks for the size of a block, or for where the items of a heap end.
 use Rattle.std.proofs.Common.{List, refl, false, inl, inr, ◌-◌, ◌+◌, ◌≡◌, ℕ, ◌++◌, ◌∙◌, Some, ◌∷◌, None, Err, Ok}
-use Rattle.profile.specs.declared.error.ErrorNumber.TheVariants.{HeapBadDesc, HeapNotABlock}
+use Rattle.os_heap_words.specs.ErrorNumber.TheVariants.{HeapBadDesc, HeapNotABlock}
 use Rattle.std.proofs.lemmas.Bool.{cases_Bool}
 use Rattle.address_map.specs.declared.item.Item.{Item}
 use Rattle.address_map.specs.declared.region.Region.{Region}
@@ -8,8 +8,8 @@ use Rattle.address_map.specs.Items.{size_of}
 use Rattle.address_map.specs.Memory.{regions}
 use Rattle.address_map.specs.declared.map.AddressMap.{AddressMap}
 use Rattle.address_map.specs.declared.region.Kind.{Kind}
-use Rattle.os_heap_lists.proofs.Resizes.{unreleased}
-use Rattle.os_heap_lists.specs.Lists.{live_total, items_after_release}
+use Rattle.os_heap_words.proofs.ListsLemmas.Resizes.{unreleased}
+use Rattle.os_heap_words.specs.lists.Lists.{live_total, items_after_release}
 use Rattle.os_heap.proofs.Calls.{part_at, image_recorded}
 use Rattle.os_heap.specs.Calls.{block_sized, bytes_held, unless_image, guests_total}
 use Rattle.os_heap_words.specs.Outcomes.{items_at}

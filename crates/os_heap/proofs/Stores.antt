@@ -12,12 +12,12 @@ use Rattle.address_map.specs.declared.class.Class.{Class}
 use Rattle.address_map.specs.declared.item.Item.{Item}
 use Rattle.address_map.specs.declared.map.AddressMap.{AddressMap}
 use Rattle.address_map.specs.declared.region.Region.{Region}
-use Rattle.os_heap_lists.proofs.HeapWords.{part_back, cons_part}
-use Rattle.os_heap_lists.proofs.HeadWords.{law_heap_frame}
-use Rattle.os_heap_lists.proofs.Payloads.{heap_beside}
-use Rattle.os_heap_lists.proofs.Reading.{items_in-heap}
-use Rattle.os_heap_lists.specs.Heap.{with_heap, HeapList, IsHeapIn}
-use Rattle.os_heap_lists.specs.Lists.{live_total}
+use Rattle.os_heap_words.proofs.ListsLemmas.HeapWords.{part_back, cons_part}
+use Rattle.os_heap_words.proofs.ListsLemmas.HeadWords.{law_heap_frame}
+use Rattle.os_heap_words.proofs.ListsLemmas.Payloads.{heap_beside}
+use Rattle.os_heap_words.proofs.ListsLemmas.Reading.{items_in-heap}
+use Rattle.os_heap_words.specs.lists.Heap.{with_heap, HeapList, IsHeapIn}
+use Rattle.os_heap_words.specs.lists.Lists.{live_total}
 use Rattle.os_heap.proofs.FlexWords.{AreSameFlex}
 use Rattle.os_heap.proofs.Found.{found_heap}
 use Rattle.os_heap.proofs.Nesting.{KeepsHeaps, KeepsWithin, apart_starts, apart_turned, listed, not_itself, stands_own, words_apart}

@@ -5,7 +5,7 @@ use Rattle.std.specs.Prelude.{ℕ, ◌≡◌, Bool, false, ◌&&◌, ◌+◌, na
 use Rattle.address_map.specs.Bytes.{Bytes, in_range, shares_address}
 use Rattle.address_map.specs.Records.{is_heap_kind}
 use Rattle.address_map.specs.declared.region.Region.{Region}
-use Rattle.os_heap_lists.specs.Heap.{HeapList}
+use Rattle.os_heap_words.specs.lists.Heap.{HeapList}
 use Rattle.os_heap.specs.Nesting.{innermost_heap}
 use Rattle.os_heap.specs.Ranges.{has_before}
 use Rattle.os_heap.specs.Store.{heap_in, heaps_in}

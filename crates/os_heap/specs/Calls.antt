@@ -1,11 +1,11 @@
 -- The heap calls. A call changes the list of one heap, and of memory only the words that the new list spells; every other byte keeps its value.
 -- Refusals come in the order of their numbers (RISC OS 3 Programmer's Reference Manual, "OS_Heap", reasons 0 to 6; the numbers, the limits, this
 -- order, and that a block whose size falls to 0 or below is freed, are this project's own).
-use Rattle.profile.specs.MemoryMap.{module_area_start}
+use Rattle.os_heap_words.specs.MemoryMap.{module_area_start}
 use Rattle.std.specs.Prelude.{ℕ, ◌≡◌, Bool, true, false, not, ◌+◌, ◌-◌, ◌%◌, ◌==◌, ◌&&◌, nat_le, nat_lt, Option, Some, None, ok_or, option_map, Result, Ok, Err, List, [], ◌∷◌, ◌++◌, if◌then◌else◌}
-use Rattle.profile.specs.Outcome.{bind}
-use Rattle.profile.specs.declared.error.ErrorNumber.{ErrorNumber}
-use Rattle.profile.specs.declared.error.ErrorNumber.TheVariants.{HeapBadDesc, HeapBadRegion, HeapOverlaps, HeapTableFull, HeapNotABlock, HeapHoldsAnchor, HeapNoRoom, HeapBadShrink, BlockHoldsHeap}
+use Rattle.os_heap_words.specs.Outcome.{bind}
+use Rattle.os_heap_words.specs.ErrorNumber.{ErrorNumber}
+use Rattle.os_heap_words.specs.ErrorNumber.TheVariants.{HeapBadDesc, HeapBadRegion, HeapOverlaps, HeapTableFull, HeapNotABlock, HeapHoldsAnchor, HeapNoRoom, HeapBadShrink, BlockHoldsHeap}
 use Rattle.address_map.specs.declared.item.Item.{Item}
 use Rattle.address_map.specs.declared.region.Kind.{Kind}
 use Rattle.address_map.specs.declared.region.Kind.TheVariants as kind
@@ -13,9 +13,9 @@ use Rattle.address_map.specs.declared.region.Region.{Region}
 use Rattle.address_map.specs.Bytes.{with_moved}
 use Rattle.address_map.specs.Items.{size_of}
 use Rattle.address_map.specs.Records.{anchor_among}
-use Rattle.os_heap_lists.specs.Heap.{HeapList, with_heap}
-use Rattle.os_heap_lists.specs.Lists.{round_up_8, total_for, claim_in_items, items_after_release, changed_by, live_total, resized_in_place}
-use Rattle.os_heap_lists.specs.Counts.{all_free, largest_block}
+use Rattle.os_heap_words.specs.lists.Heap.{HeapList, with_heap}
+use Rattle.os_heap_words.specs.lists.Lists.{round_up_8, total_for, claim_in_items, items_after_release, changed_by, live_total, resized_in_place}
+use Rattle.os_heap_words.specs.lists.Counts.{all_free, largest_block}
 use Rattle.os_heap.specs.Forgetting.{store_after_forget, holds_heap}
 use Rattle.os_heap.specs.Store.{Store, find_heap, guest_count, has_image}
 use Rattle.os_heap.specs.Ranges.{is_heap_region, overlaps, overgrows, MayEnd}

@@ -5,8 +5,8 @@ use Rattle.address_map.specs.Memory.{anchor_of, regions}
 use Rattle.address_map.specs.declared.item.Item.{Item}
 use Rattle.address_map.specs.declared.map.AddressMap.{AddressMap}
 use Rattle.address_map.specs.declared.region.Region.{Region}
-use Rattle.os_heap_lists.specs.Lists.{live_total, items_after_release, resized_in_place}
-use Rattle.os_heap_lists.specs.Walks.{IsBlock}
+use Rattle.os_heap_words.specs.lists.Lists.{live_total, items_after_release, resized_in_place}
+use Rattle.os_heap_words.specs.lists.Walks.{IsBlock}
 use Rattle.os_heap_words.specs.Cursors.{RefitsBlock}
 use Rattle.os_heap_words.specs.Outcomes.{HasHeapAt, end_at, items_at}
 use Rattle.os_heap_words.specs.declared.walk.Cursor.{Cursor}

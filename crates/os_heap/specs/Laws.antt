@@ -5,8 +5,8 @@ use Rattle.std.specs.List.{list_any}
 use Rattle.address_map.specs.Bytes.{in_range, shares_address}
 use Rattle.address_map.specs.Memory.{regions}
 use Rattle.address_map.specs.declared.map.AddressMap.{AddressMap}
-use Rattle.os_heap_lists.specs.Heap.{HeapList}
-use Rattle.os_heap_lists.specs.Lists.{live_total}
+use Rattle.os_heap_words.specs.lists.Heap.{HeapList}
+use Rattle.os_heap_words.specs.lists.Lists.{live_total}
 use Rattle.os_heap.specs.Calls.{store_after_init, store_after_change, gave_back, store_after_get, store_after_resize}
 use Rattle.os_heap.specs.Forgetting.{store_after_forget, starts_in}
 use Rattle.os_heap.specs.Nesting.{holds_range, innermost_heap, is_crossed, is_round, last_of}

@@ -1,6 +1,6 @@
 -- What the heap calls do to memory. Begin with Calls and Store.
-pub use Rattle.os_heap_lists
-pub use Rattle.os_heap_words
+pub use Rattle.address_map.specs.Memory
+pub use Rattle.os_heap_words.specs.lists
 pub mod Bars
 pub mod Calls
 pub mod Forgetting

@@ -6,7 +6,7 @@ use Rattle.address_map.specs.declared.region.Kind.{Kind}
 use Rattle.address_map.specs.declared.region.Region.{Region}
 use Rattle.address_map.specs.Memory.{regions}
 use Rattle.address_map.specs.Records.{is_heap_kind}
-use Rattle.os_heap_lists.specs.Heap.{HeapList}
+use Rattle.os_heap_words.specs.lists.Heap.{HeapList}
 use Rattle.os_heap.specs.Store.{find_heap, store_of}
 
 -- what a record says beside its length: what the range is for, and where it starts

@@ -1,12 +1,12 @@
 -- Where a byte lies among the heaps: in none, in what a live block holds, or in a heap's own words and free room (RISC OS 3 Programmer's Reference
 -- Manual, "OS_Heap", the internal format).
-use Rattle.profile.specs.MemoryMap.{module_area_start}
+use Rattle.os_heap_words.specs.MemoryMap.{module_area_start}
 use Rattle.std.specs.Prelude.{ℕ, ◌+◌, ◌-◌, Bool, true, false, Option, Some, None, List, [], ◌∷◌, if◌then◌else◌}
 use Rattle.address_map.specs.Bytes.{in_range}
 use Rattle.address_map.specs.Items.{total_of}
 use Rattle.address_map.specs.declared.item.Item.{Item}
 use Rattle.address_map.specs.declared.item.Item.TheVariants.{Live, Free}
-use Rattle.os_heap_lists.specs.Heap.{HeapList}
+use Rattle.os_heap_words.specs.lists.Heap.{HeapList}
 use Rattle.os_heap.specs.Store.{Store, find_heap}
 use Rattle.os_heap.specs.declared.payload.Payload.{Payload}
 use Rattle.os_heap.specs.declared.payload.Payload.TheVariants.{Outside, Inside, Other}

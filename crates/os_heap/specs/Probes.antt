@@ -6,9 +6,9 @@ use Rattle.address_map.specs.Bytes.{shares_address}
 use Rattle.address_map.specs.Items.{total_of}
 use Rattle.address_map.specs.Records.{anchor_among}
 use Rattle.address_map.specs.declared.item.Item.{Item}
-use Rattle.os_heap_lists.specs.Counts.{looked_at, begun_below, free_below, free_count}
-use Rattle.os_heap_lists.specs.Heap.{HeapList}
-use Rattle.os_heap_lists.specs.Lists.{Claim, round_up_8, total_for, claim_in_items, changed_by, live_total, resized_in_place}
+use Rattle.os_heap_words.specs.lists.Counts.{looked_at, begun_below, free_below, free_count}
+use Rattle.os_heap_words.specs.lists.Heap.{HeapList}
+use Rattle.os_heap_words.specs.lists.Lists.{Claim, round_up_8, total_for, claim_in_items, changed_by, live_total, resized_in_place}
 use Rattle.os_heap.specs.Store.{Store, find_heap, has_image}
 use Rattle.os_heap.specs.Bars.{bars}
 use Rattle.os_heap.specs.Calls.{has_own_size, unless_image, holds_anchor}

@@ -1,7 +1,7 @@
 -- How far a heap's items reach, which tells how much room there is behind them.
 use Rattle.std.specs.Prelude.{ℕ, ◌+◌, Option, Some, None}
 use Rattle.address_map.specs.Items.{size_of}
-use Rattle.os_heap_lists.specs.Heap.{HeapList}
+use Rattle.os_heap_words.specs.lists.Heap.{HeapList}
 use Rattle.os_heap.specs.Store.{Store, find_heap}
 
 -- the byte behind the last item, counted from the heap's start; 0 where there is no heap

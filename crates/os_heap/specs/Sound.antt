@@ -1,11 +1,11 @@
 -- A map that stands for a sound store, and what a step of a call keeps of it.
 use Rattle.std.specs.Prelude.{ℕ, ◌≡◌, ◌+◌, Some, Result, Ok}
-use Rattle.profile.specs.Outcome.{Gives}
-use Rattle.profile.specs.declared.error.ErrorNumber.{ErrorNumber}
+use Rattle.os_heap_words.specs.Outcome.{Gives}
+use Rattle.os_heap_words.specs.ErrorNumber.{ErrorNumber}
 use Rattle.address_map.specs.Memory.{byte_at, layout, mapping}
 use Rattle.address_map.specs.declared.map.AddressMap.{AddressMap}
-use Rattle.os_heap_lists.specs.Heap.{HeapList}
-use Rattle.os_heap_lists.specs.Lists.{live_total}
+use Rattle.os_heap_words.specs.lists.Heap.{HeapList}
+use Rattle.os_heap_words.specs.lists.Lists.{live_total}
 use Rattle.os_heap.specs.Calls.{gave_back}
 use Rattle.os_heap.specs.Forgetting.{store_after_forget}
 use Rattle.os_heap.specs.Order.{LosesHeaps}

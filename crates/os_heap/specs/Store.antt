@@ -1,6 +1,6 @@
 -- All heaps together with memory: the heaps that the words of memory spell at the recorded places, and what holds of them whatever is called (RISC
 -- OS 3 Programmer's Reference Manual, "OS_Heap", "The relocatable module area"; the limits are this project's own).
-use Rattle.profile.specs.MemoryMap.{module_area_start}
+use Rattle.os_heap_words.specs.MemoryMap.{module_area_start}
 use Rattle.std.specs.Prelude.{ℕ, ◌≡◌, ◌≤◌, ◌<◌, ◌⊎◌, Bool, true, false, suc, ◌+◌, ◌==◌, ◌&&◌, ◌||◌, Option, Some, None, List, [], ◌∷◌, length, if◌then◌else◌}
 use Rattle.std.specs.List.{list_any}
 use Rattle.address_map.specs.declared.region.Kind.{Kind}
@@ -14,9 +14,9 @@ use Rattle.address_map.specs.declared.item.Item.{Item}
 use Rattle.address_map.specs.Records.{is_heap_kind}
 use Rattle.address_map.specs.Memory.{bytes_of, class_of, regions}
 pub use Rattle.os_heap.specs.Nesting.{AreClear, IsClearOfHeaps, StandApart, is_module_area}
-use Rattle.os_heap_lists.specs.Heap.{HeapList, IsHeapIn}
-use Rattle.os_heap_lists.specs.Lists.{live_total}
-use Rattle.os_heap_lists.specs.Marks.{spells_any}
+use Rattle.os_heap_words.specs.lists.Heap.{HeapList, IsHeapIn}
+use Rattle.os_heap_words.specs.lists.Lists.{live_total}
+use Rattle.os_heap_words.specs.lists.Marks.{spells_any}
 
 -- memory, the heaps in the order in which they were made, the other recorded ranges, and which bytes are those of words that the flex store
 -- keeps its records in: the anchors of its blocks, and their headers

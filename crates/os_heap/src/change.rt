@@ -1,10 +1,10 @@
 //! OS_Heap 5: a heap gets another size, where that is allowed.
 
 ghost use Rattle.std.specs.Prelude.{ℕ, ◌≡◌, ◌≤◌, ◌+◌, ◌%◌, true, Some, Err, MatchResult};
-ghost use Rattle.profile.specs.Outcome.{Gives};
+ghost use Rattle.os_heap_words.specs.Outcome.{Gives};
 ghost use Rattle.address_map.specs.Memory.{byte_at, mapping, bytes_of};
 ghost use Rattle.address_map.specs.Records.{is_heap_kind};
-ghost use Rattle.os_heap_lists.specs.Words.{AreApart};
+ghost use Rattle.os_heap_words.specs.lists.Words.{AreApart};
 ghost use Rattle.os_heap.specs.Calls.{store_after_change, end_changed, ending, has_own_size, MayEndArea, IsAreaEnded};
 ghost use Rattle.os_heap.specs.Order.{KeepsOrder};
 ghost use Rattle.os_heap.specs.Probes.{change_probes, end_probes, growth_probes};
@@ -17,11 +17,9 @@ use crate::heaps::{Heaps, find};
 use crate::init::{MOST_HEAP, is_heap_region};
 use crate::obstacles::{Tested, is_obstructed};
 use address_map::{AddressMap, Kind, Region};
-use os_heap_words::changed_by;
 use os_heap_words::counted::{Counted, refused};
 use os_heap_words::words::{BASE, END, put, word};
-use profile::ErrorNumber;
-use profile::memory_map::RMA_START;
+use os_heap_words::{ErrorNumber, RMA_START, changed_by};
 
 impl Heaps {
     /// Changes the size of a heap by `change`, a signed word in two's complement. Its items stay as they are.

@@ -1,7 +1,7 @@
 //! The call that claims a block.
 
 ghost use Rattle.std.specs.Prelude.{◌≡◌};
-ghost use Rattle.profile.specs.Outcome.{Gives};
+ghost use Rattle.os_heap_words.specs.Outcome.{Gives};
 ghost use Rattle.address_map.specs.Memory.{layout};
 ghost use Rattle.os_heap.specs.Store.{store_of, AreClasses, IsSound};
 ghost use Rattle.os_heap.specs.Calls.{store_after_get};
@@ -9,9 +9,9 @@ ghost use Rattle.os_heap.specs.Probes.{get_probes};
 
 use crate::heaps::{Heaps, find};
 use address_map::AddressMap;
+use os_heap_words::ErrorNumber;
 use os_heap_words::claim::{claim_total, total_for};
 use os_heap_words::counted::{Counted, refused};
-use profile::ErrorNumber;
 
 impl Heaps {
     /// Claims a block of `size` bytes in the heap that starts at `heap`, and answers the address of its first byte. The

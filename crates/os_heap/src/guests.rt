@@ -1,7 +1,7 @@
 //! The blocks that are a guest's: those that are no module images.
 
 ghost use Rattle.std.specs.Prelude.{◌≡◌, ◌+◌};
-ghost use Rattle.os_heap_lists.specs.Counts.{begun_below};
+ghost use Rattle.os_heap_words.specs.lists.Counts.{begun_below};
 ghost use Rattle.os_heap_words.specs.Outcomes.{HasHeapAt, items_at};
 ghost use Rattle.os_heap.specs.GuestBlocks.{FindsGuestBlock};
 ghost use Rattle.os_heap.specs.Store.{has_image, is_image};

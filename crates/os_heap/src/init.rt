@@ -1,7 +1,7 @@
 //! OS_Heap 0: a heap is made, where that is allowed.
 
 ghost use Rattle.std.specs.Prelude.{ℕ, [], true, ◌≡◌, ◌≤◌, ◌%◌, length, IsTrue, MatchResult, Err};
-ghost use Rattle.profile.specs.Outcome.{Gives};
+ghost use Rattle.os_heap_words.specs.Outcome.{Gives};
 ghost use Rattle.address_map.specs.Bytes.{Bytes, AreMapped};
 ghost use Rattle.address_map.specs.Memory.{mapping, byte_at, is_mapped, bytes_of, layout, class_of};
 ghost use Rattle.address_map.specs.Records.{is_heap_kind};
@@ -9,7 +9,7 @@ ghost use Rattle.address_map.specs.declared.region.Kind.TheVariants.{Heap, Rma};
 ghost use Rattle.os_heap.specs.Order.{AddsRecord, KeepsOrder};
 ghost use Rattle.os_heap.specs.Probes.{init_probes};
 ghost use Rattle.os_heap.specs.Ranges.{MayBegin, is_heap_region};
-ghost use Rattle.os_heap_lists.specs.Heap.{with_heap};
+ghost use Rattle.os_heap_words.specs.lists.Heap.{with_heap};
 ghost use Rattle.os_heap.specs.Sound.{IsSoundMap, KeepsOtherRanges};
 ghost use Rattle.os_heap.specs.Store.{store_of, heaps_in, guest_count, AreClasses, IsSound};
 ghost use Rattle.os_heap.specs.Calls.{store_after_init, store_with_new_heap};
@@ -20,8 +20,7 @@ use address_map::{AddressMap, Kind, Region};
 use os_heap_words::counted::{Counted, refused};
 use os_heap_words::marks::mark_descriptor;
 use os_heap_words::words::{BASE, END, LINK};
-use profile::ErrorNumber;
-use profile::memory_map::{HEAP_DESCRIPTOR, HEAP_NAME};
+use os_heap_words::{ErrorNumber, HEAP_DESCRIPTOR, HEAP_NAME};
 
 /// The most bytes of a heap.
 pub(crate) const MOST_HEAP: u32 = 16_777_216;

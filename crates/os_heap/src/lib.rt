@@ -19,7 +19,7 @@ pub mod resize;
 pub mod room;
 pub mod size;
 
+pub use address_map::AddressMap;
 pub use heaps::Heaps;
 pub use os_heap_words::{Blocks, Counted, Item, changed_by, round_up_8, total_for};
 pub use payload::Payload;
-pub use profile;

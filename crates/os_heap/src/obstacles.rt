@@ -7,7 +7,7 @@ ghost use Rattle.std.specs.Option.{option_map};
 ghost use Rattle.address_map.specs.Bytes.{Bytes, in_range};
 ghost use Rattle.address_map.specs.Items.{size_of};
 ghost use Rattle.address_map.specs.Records.{is_heap_kind};
-ghost use Rattle.os_heap_lists.specs.Heap.{AreTotals};
+ghost use Rattle.os_heap_words.specs.lists.Heap.{AreTotals};
 ghost use Rattle.os_heap.specs.Bars.{IsInnermost, bars_record};
 ghost use Rattle.os_heap.specs.Nesting.{holds_range, is_round, later_heap};
 ghost use Rattle.os_heap_words.specs.Outcomes.{IsHeapAt, items_at};
@@ -18,8 +18,8 @@ ghost use Rattle.os_heap.specs.Store.{heap_in, store_of};
 
 use crate::payload::holds_byte;
 use address_map::{AddressMap, Region, do_meet};
+use os_heap_words::HEAP_DESCRIPTOR;
 use os_heap_words::blocks::{Blocks, blocks_of};
-use profile::memory_map::HEAP_DESCRIPTOR;
 
 /// What a test of a range answers, and how many items it looked at.
 #[derive(Clone, Copy)]

@@ -1,23 +1,23 @@
 //! A block moved to a larger one, with its bytes.
 
 ghost use Rattle.std.specs.Prelude.{◌≡◌, ◌<◌, ◌+◌, ◌-◌, Some};
-ghost use Rattle.profile.specs.Outcome.{Gives};
+ghost use Rattle.os_heap_words.specs.Outcome.{Gives};
 ghost use Rattle.os_heap.specs.Calls.{store_after_move};
 ghost use Rattle.os_heap_words.specs.Cursors.{IsNewTotal};
 ghost use Rattle.os_heap.specs.GuestBlocks.{MayMove};
 ghost use Rattle.os_heap.specs.Probes.{move_probes};
-ghost use Rattle.os_heap_lists.specs.Heap.{HeapList};
-ghost use Rattle.os_heap_lists.specs.Lists.{claim_in_items};
+ghost use Rattle.os_heap_words.specs.lists.Heap.{HeapList};
+ghost use Rattle.os_heap_words.specs.lists.Lists.{claim_in_items};
 ghost use Rattle.os_heap.specs.Sound.{IsSoundMap, KeepsRest};
 ghost use Rattle.os_heap.specs.Store.{store_of, find_heap};
 
 use crate::forget::holds_heap;
 use address_map::AddressMap;
+use os_heap_words::ErrorNumber;
 use os_heap_words::by_links::find_by_links;
 use os_heap_words::claim::{claim_total, find_room};
 use os_heap_words::counted::Counted;
 use os_heap_words::free::give_back;
-use profile::ErrorNumber;
 
 /// Moves a block to one of `needed` bytes: claims that, copies the bytes that the old block holds, and gives the old
 /// block back. A block in which a heap lies is not moved.

@@ -1,14 +1,13 @@
 //! OS_Heap 4: a block gets another size, in place or elsewhere.
 
 ghost use Rattle.std.specs.Prelude.{◌≡◌, ◌≤◌, ◌<◌, ◌+◌, ◌-◌, ◌^◌, is_some, true};
-ghost use Rattle.profile.specs.Outcome.{Gives};
+ghost use Rattle.os_heap_words.specs.Outcome.{Gives};
 ghost use Rattle.address_map.specs.Memory.{anchor_of, mapping, regions};
 ghost use Rattle.address_map.specs.Records.{anchor_among};
 ghost use Rattle.os_heap.specs.Calls.{store_after_resize};
 ghost use Rattle.os_heap_words.specs.Cursors.{IsNewTotal};
-ghost use Rattle.os_heap.specs.GuestBlocks.{ResizesInPlace};
+ghost use Rattle.os_heap.specs.GuestBlocks.{ResizesInPlace, IsGuestBlock};
 ghost use Rattle.os_heap_words.specs.Outcomes.{items_at};
-ghost use Rattle.os_heap.specs.GuestBlocks.{IsGuestBlock};
 ghost use Rattle.os_heap.specs.Probes.{resize_probes, AreInBounds};
 ghost use Rattle.os_heap.specs.Order.{LosesHeaps};
 ghost use Rattle.os_heap.specs.Sound.{IsSoundMap, KeepsRest};
@@ -25,8 +24,7 @@ use os_heap_words::neighbour::own_total;
 use os_heap_words::refit::refit;
 use os_heap_words::walk::Cursor;
 use os_heap_words::words::word;
-use os_heap_words::{changed_by, round_up_8};
-use profile::ErrorNumber;
+use os_heap_words::{ErrorNumber, changed_by, round_up_8};
 
 impl Heaps {
     /// Changes the total of the block whose first byte is at `block` by `change`, a signed word in two's complement,

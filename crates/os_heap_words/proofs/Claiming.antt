@@ -8,15 +8,15 @@ use Rattle.address_map.specs.Memory.{bytes_of, byte_at, layout, class_of}
 use Rattle.address_map.specs.declared.item.Item.{Item}
 use Rattle.address_map.specs.declared.item.Item.TheVariants.{Live, Free}
 use Rattle.address_map.specs.declared.map.AddressMap.{AddressMap}
-use Rattle.os_heap_lists.proofs.LastLink.{LinkFacts, link_facts, link_word}
-use Rattle.os_heap_lists.proofs.Marks.{remarked, still-same}
-use Rattle.os_heap_lists.proofs.Reading.{total_facts}
-use Rattle.os_heap_lists.proofs.Spelling.{totals-back, spells-back, spells-kept, spaced-before, spaced-join, size_of-append, spaced-back, totals-front, total_of-numbers}
-use Rattle.os_heap_lists.specs.Heap.{AreTotals, next_free, last_free, IsHeapIn, AreSpaced}
-use Rattle.os_heap_lists.specs.Lists.{first_fit, or_at_base}
-use Rattle.os_heap_lists.specs.Marks.{Remarks}
-use Rattle.os_heap_lists.specs.Walks.{IsFit}
-use Rattle.os_heap_lists.specs.Words.{IsWordWritten, link_at, IsFreed}
+use Rattle.os_heap_words.proofs.ListsLemmas.LastLink.{LinkFacts, link_facts, link_word}
+use Rattle.os_heap_words.proofs.ListsLemmas.Marks.{remarked, still-same}
+use Rattle.os_heap_words.proofs.ListsLemmas.Reading.{total_facts}
+use Rattle.os_heap_words.proofs.ListsLemmas.Spelling.{totals-back, spells-back, spells-kept, spaced-before, spaced-join, size_of-append, spaced-back, totals-front, total_of-numbers}
+use Rattle.os_heap_words.specs.lists.Heap.{AreTotals, next_free, last_free, IsHeapIn, AreSpaced}
+use Rattle.os_heap_words.specs.lists.Lists.{first_fit, or_at_base}
+use Rattle.os_heap_words.specs.lists.Marks.{Remarks}
+use Rattle.os_heap_words.specs.lists.Walks.{IsFit}
+use Rattle.os_heap_words.specs.lists.Words.{IsWordWritten, link_at, IsFreed}
 use Rattle.os_heap_words.proofs.Replace.{becomes}
 use Rattle.os_heap_words.specs.Outcomes.{Becomes, Claims}
 

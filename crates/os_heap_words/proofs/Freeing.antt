@@ -7,17 +7,17 @@ use Rattle.address_map.specs.Memory.{byte_at, bytes_of, layout, class_of}
 use Rattle.address_map.specs.declared.item.Item.{Item}
 use Rattle.address_map.specs.declared.item.Item.TheVariants.{Live, Free}
 use Rattle.address_map.specs.declared.map.AddressMap.{AddressMap}
-use Rattle.os_heap_lists.proofs.ItemWalk.{begun_more, near, released_past, begun_past, released_free-none, released_here, size_of-gap, next_apart, rest_none, glued_nothing, size_of-old, glued_free, rest_live}
-use Rattle.os_heap_lists.proofs.LastLink.{LinkFacts, link_facts, link_of-item}
-use Rattle.os_heap_lists.proofs.Marks.{remarked_as, still-same, size_of-left}
-use Rattle.os_heap_lists.proofs.Reading.{total_facts}
-use Rattle.os_heap_lists.proofs.Spelling.{totals-back, size_of-multiple, totals-front, size_of-append, spaced-join, spells-kept, total_of-numbers}
-use Rattle.os_heap_lists.specs.Counts.{begun_below}
-use Rattle.os_heap_lists.specs.Heap.{AreTotals, IsHeapIn, next_free, last_free, AreSpaced, begins_live, Spells}
-use Rattle.os_heap_lists.specs.Lists.{items_after_release, left_free, items_after_free, items_with_gap}
-use Rattle.os_heap_lists.specs.Marks.{AreMarked, Remarks}
-use Rattle.os_heap_lists.specs.Walks.{IsWalkedTo, IsWalked, IsBlock}
-use Rattle.os_heap_lists.specs.Words.{link_at, IsWordWritten, IsFreed}
+use Rattle.os_heap_words.proofs.ListsLemmas.ItemWalk.{begun_more, near, released_past, begun_past, released_free-none, released_here, size_of-gap, next_apart, rest_none, glued_nothing, size_of-old, glued_free, rest_live}
+use Rattle.os_heap_words.proofs.ListsLemmas.LastLink.{LinkFacts, link_facts, link_of-item}
+use Rattle.os_heap_words.proofs.ListsLemmas.Marks.{remarked_as, still-same, size_of-left}
+use Rattle.os_heap_words.proofs.ListsLemmas.Reading.{total_facts}
+use Rattle.os_heap_words.proofs.ListsLemmas.Spelling.{totals-back, size_of-multiple, totals-front, size_of-append, spaced-join, spells-kept, total_of-numbers}
+use Rattle.os_heap_words.specs.lists.Counts.{begun_below}
+use Rattle.os_heap_words.specs.lists.Heap.{AreTotals, IsHeapIn, next_free, last_free, AreSpaced, begins_live, Spells}
+use Rattle.os_heap_words.specs.lists.Lists.{items_after_release, left_free, items_after_free, items_with_gap}
+use Rattle.os_heap_words.specs.lists.Marks.{AreMarked, Remarks}
+use Rattle.os_heap_words.specs.lists.Walks.{IsWalkedTo, IsWalked, IsBlock}
+use Rattle.os_heap_words.specs.lists.Words.{link_at, IsWordWritten, IsFreed}
 use Rattle.os_heap_words.proofs.Marking.{can_stand}
 use Rattle.os_heap_words.proofs.Replace.{becomes}
 use Rattle.os_heap_words.proofs.Searching.{FreeFacts, free_facts}

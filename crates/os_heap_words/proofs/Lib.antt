@@ -10,3 +10,4 @@ pub mod Searching
 pub mod Tally
 pub mod Walking
 pub mod Writing
+pub mod ListsLemmas

@@ -5,15 +5,15 @@ use Rattle.address_map.specs.Items.{link_target}
 use Rattle.address_map.specs.Memory.{byte_at}
 use Rattle.address_map.specs.declared.item.Item.{Item}
 use Rattle.address_map.specs.declared.map.AddressMap.{AddressMap}
-use Rattle.os_heap_lists.proofs.ItemWalk.{free_walked, size_of-gap}
-use Rattle.os_heap_lists.proofs.LastLink.{link_of-item}
-use Rattle.os_heap_lists.proofs.LinkWalk.{link_reached, below_few, AtLink, below_more, live_low}
-use Rattle.os_heap_lists.proofs.Spelling.{totals-back}
-use Rattle.os_heap_lists.specs.Counts.{free_below}
-use Rattle.os_heap_lists.specs.Heap.{next_free, AreTotals}
-use Rattle.os_heap_lists.specs.Lists.{left_free}
-use Rattle.os_heap_lists.specs.Walks.{last_link, IsLinked}
-use Rattle.os_heap_lists.specs.Words.{link_at}
+use Rattle.os_heap_words.proofs.ListsLemmas.ItemWalk.{free_walked, size_of-gap}
+use Rattle.os_heap_words.proofs.ListsLemmas.LastLink.{link_of-item}
+use Rattle.os_heap_words.proofs.ListsLemmas.LinkWalk.{link_reached, below_few, AtLink, below_more, live_low}
+use Rattle.os_heap_words.proofs.ListsLemmas.Spelling.{totals-back}
+use Rattle.os_heap_words.specs.lists.Counts.{free_below}
+use Rattle.os_heap_words.specs.lists.Heap.{next_free, AreTotals}
+use Rattle.os_heap_words.specs.lists.Lists.{left_free}
+use Rattle.os_heap_words.specs.lists.Walks.{last_link, IsLinked}
+use Rattle.os_heap_words.specs.lists.Words.{link_at}
 use Rattle.os_heap_words.proofs.Searching.{FreeFacts, free_facts}
 use Rattle.os_heap_words.specs.Outcomes.{items_at, IsHeapAt}
 

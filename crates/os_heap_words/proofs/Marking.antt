@@ -18,11 +18,11 @@ use Rattle.address_map.specs.declared.map.AddressMap.{AddressMap}
 use Rattle.address_map.specs.declared.region.Kind.{Kind}
 use Rattle.address_map.specs.declared.region.Kind.TheVariants as kind
 use Rattle.address_map.specs.declared.region.Region.{Region}
-use Rattle.os_heap_lists.proofs.Reading.{total_facts}
-use Rattle.os_heap_lists.proofs.Spelling.{size_of-append, size_of-multiple, totals-back, totals-front}
-use Rattle.os_heap_lists.specs.Heap.{AreTotals, IsHeapIn}
-use Rattle.os_heap_lists.specs.Marks.{Remarks}
-use Rattle.os_heap_lists.specs.Words.{IsDivided, IsFreed, IsWordWritten}
+use Rattle.os_heap_words.proofs.ListsLemmas.Reading.{total_facts}
+use Rattle.os_heap_words.proofs.ListsLemmas.Spelling.{size_of-append, size_of-multiple, totals-back, totals-front}
+use Rattle.os_heap_words.specs.lists.Heap.{AreTotals, IsHeapIn}
+use Rattle.os_heap_words.specs.lists.Marks.{Remarks}
+use Rattle.os_heap_words.specs.lists.Words.{IsDivided, IsFreed, IsWordWritten}
 use Rattle.os_heap_words.proofs.Writing.{still_mapped}
 use Rattle.os_heap_words.specs.Marks.{class_without_head, with_no_heads}
 use Rattle.os_heap_words.specs.Outcomes.{CanStand}

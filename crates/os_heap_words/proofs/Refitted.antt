@@ -6,16 +6,16 @@ use Rattle.address_map.specs.Memory.{bytes_of, byte_at, layout, class_of}
 use Rattle.address_map.specs.declared.item.Item.{Item}
 use Rattle.address_map.specs.declared.item.Item.TheVariants.{Live, Free}
 use Rattle.address_map.specs.declared.map.AddressMap.{AddressMap}
-use Rattle.os_heap_lists.proofs.ItemWalk.{glued_none, rest_none, glued_free, rest_live, glued_some}
-use Rattle.os_heap_lists.proofs.Marks.{unmarked}
-use Rattle.os_heap_lists.proofs.Reading.{total_facts}
-use Rattle.os_heap_lists.proofs.Resizes.{live_total-at, in_place-at, fewer, last_some, last_none, left_some, grown_some, left_none, grown_none, grown_blocked}
-use Rattle.os_heap_lists.proofs.Spelling.{total_of-numbers, totals-front}
-use Rattle.os_heap_lists.specs.Heap.{IsHeapIn, begins_live, AreTotals, Spells, next_free, AreSpaced}
-use Rattle.os_heap_lists.specs.Lists.{live_total, resized_in_place, items_after_refit, left_free, items_with_gap}
-use Rattle.os_heap_lists.specs.Marks.{Remarks}
-use Rattle.os_heap_lists.specs.Walks.{IsBlock, last_link}
-use Rattle.os_heap_lists.specs.Words.{IsWordWritten, IsDivided, link_at}
+use Rattle.os_heap_words.proofs.ListsLemmas.ItemWalk.{glued_none, rest_none, glued_free, rest_live, glued_some}
+use Rattle.os_heap_words.proofs.ListsLemmas.Marks.{unmarked}
+use Rattle.os_heap_words.proofs.ListsLemmas.Reading.{total_facts}
+use Rattle.os_heap_words.proofs.ListsLemmas.Resizes.{live_total-at, in_place-at, fewer, last_some, last_none, left_some, grown_some, left_none, grown_none, grown_blocked}
+use Rattle.os_heap_words.proofs.ListsLemmas.Spelling.{total_of-numbers, totals-front}
+use Rattle.os_heap_words.specs.lists.Heap.{IsHeapIn, begins_live, AreTotals, Spells, next_free, AreSpaced}
+use Rattle.os_heap_words.specs.lists.Lists.{live_total, resized_in_place, items_after_refit, left_free, items_with_gap}
+use Rattle.os_heap_words.specs.lists.Marks.{Remarks}
+use Rattle.os_heap_words.specs.lists.Walks.{IsBlock, last_link}
+use Rattle.os_heap_words.specs.lists.Words.{IsWordWritten, IsDivided, link_at}
 use Rattle.os_heap_words.proofs.Freeing.{NextFree}
 use Rattle.os_heap_words.proofs.Refitting.{rebased, place_facts, PlaceFacts, divided, swallowed}
 use Rattle.os_heap_words.specs.Outcomes.{IsHeapAt, items_at, Refits, Becomes}

@@ -7,17 +7,17 @@ use Rattle.address_map.specs.Memory.{bytes_of, byte_at, layout, class_of}
 use Rattle.address_map.specs.declared.item.Item.{Item}
 use Rattle.address_map.specs.declared.item.Item.TheVariants.{Live, Free}
 use Rattle.address_map.specs.declared.map.AddressMap.{AddressMap}
-use Rattle.os_heap_lists.proofs.ItemWalk.{size_of-gap}
-use Rattle.os_heap_lists.proofs.LastLink.{LinkFacts, link_facts, link_word}
-use Rattle.os_heap_lists.proofs.Marks.{remarked_as, still-same, unmarked, last_still}
-use Rattle.os_heap_lists.proofs.Reading.{total_facts}
-use Rattle.os_heap_lists.proofs.Resizes.{spaced-block, gap_link}
-use Rattle.os_heap_lists.proofs.Spelling.{spells-kept, size_of-append, totals-front}
-use Rattle.os_heap_lists.specs.Heap.{begins_live, AreTotals, Spells, next_free, last_free, AreSpaced, IsHeapIn}
-use Rattle.os_heap_lists.specs.Lists.{left_free}
-use Rattle.os_heap_lists.specs.Marks.{Remarks}
-use Rattle.os_heap_lists.specs.Walks.{last_link, IsBlock}
-use Rattle.os_heap_lists.specs.Words.{IsDivided, IsWordWritten, link_at}
+use Rattle.os_heap_words.proofs.ListsLemmas.ItemWalk.{size_of-gap}
+use Rattle.os_heap_words.proofs.ListsLemmas.LastLink.{LinkFacts, link_facts, link_word}
+use Rattle.os_heap_words.proofs.ListsLemmas.Marks.{remarked_as, still-same, unmarked, last_still}
+use Rattle.os_heap_words.proofs.ListsLemmas.Reading.{total_facts}
+use Rattle.os_heap_words.proofs.ListsLemmas.Resizes.{spaced-block, gap_link}
+use Rattle.os_heap_words.proofs.ListsLemmas.Spelling.{spells-kept, size_of-append, totals-front}
+use Rattle.os_heap_words.specs.lists.Heap.{begins_live, AreTotals, Spells, next_free, last_free, AreSpaced, IsHeapIn}
+use Rattle.os_heap_words.specs.lists.Lists.{left_free}
+use Rattle.os_heap_words.specs.lists.Marks.{Remarks}
+use Rattle.os_heap_words.specs.lists.Walks.{last_link, IsBlock}
+use Rattle.os_heap_words.specs.lists.Words.{IsDivided, IsWordWritten, link_at}
 use Rattle.os_heap_words.proofs.Replace.{becomes}
 use Rattle.os_heap_words.proofs.Walking.{LiveFacts, live_facts}
 use Rattle.os_heap_words.specs.Outcomes.{Becomes, IsHeapAt, items_at}

@@ -5,12 +5,12 @@ use Rattle.address_map.specs.Items.{size_of}
 use Rattle.address_map.specs.Memory.{bytes_of, is_mapped, layout, byte_at, class_of}
 use Rattle.address_map.specs.declared.item.Item.{Item}
 use Rattle.address_map.specs.declared.map.AddressMap.{AddressMap}
-use Rattle.os_heap_lists.proofs.LastLink.{IsReplaced, outside-back, outside-link, replaced}
-use Rattle.os_heap_lists.proofs.Reading.{items_in-heap}
-use Rattle.os_heap_lists.proofs.Spelling.{totals-front}
-use Rattle.os_heap_lists.specs.Heap.{IsHeapIn, last_free}
-use Rattle.os_heap_lists.specs.Marks.{AreMarked, Remarks}
-use Rattle.os_heap_lists.specs.Words.{IsOutside, link_at, AreApart}
+use Rattle.os_heap_words.proofs.ListsLemmas.LastLink.{IsReplaced, outside-back, outside-link, replaced}
+use Rattle.os_heap_words.proofs.ListsLemmas.Reading.{items_in-heap}
+use Rattle.os_heap_words.proofs.ListsLemmas.Spelling.{totals-front}
+use Rattle.os_heap_words.specs.lists.Heap.{IsHeapIn, last_free}
+use Rattle.os_heap_words.specs.lists.Marks.{AreMarked, Remarks}
+use Rattle.os_heap_words.specs.lists.Words.{IsOutside, link_at, AreApart}
 use Rattle.os_heap_words.specs.Outcomes.{Becomes}
 
 -- words of a heap are mapped, and lie in the address space

@@ -5,9 +5,9 @@ use Rattle.address_map.specs.Bytes.{word_at}
 use Rattle.address_map.specs.Items.{link_target, size_of}
 use Rattle.address_map.specs.Memory.{bytes_of, byte_at}
 use Rattle.address_map.specs.declared.map.AddressMap.{AddressMap}
-use Rattle.os_heap_lists.proofs.Reading.{linked_to}
-use Rattle.os_heap_lists.specs.Heap.{next_free}
-use Rattle.os_heap_lists.specs.Walks.{IsRestOfHeap}
+use Rattle.os_heap_words.proofs.ListsLemmas.Reading.{linked_to}
+use Rattle.os_heap_words.specs.lists.Heap.{next_free}
+use Rattle.os_heap_words.specs.lists.Walks.{IsRestOfHeap}
 use Rattle.os_heap_words.specs.Outcomes.{IsHeapAt, items_at}
 
 -- the rest of a heap lies below 2^26

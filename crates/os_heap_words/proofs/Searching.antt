@@ -6,14 +6,14 @@ use Rattle.address_map.specs.Memory.{byte_at, bytes_of}
 use Rattle.address_map.specs.declared.item.Item.{Item}
 use Rattle.address_map.specs.declared.item.Item.TheVariants.{Free}
 use Rattle.address_map.specs.declared.map.AddressMap.{AddressMap}
-use Rattle.os_heap_lists.proofs.LastLink.{link_of-heap, LinkFacts, link_facts, link_of-item}
-use Rattle.os_heap_lists.proofs.Reading.{total_facts, linked_to}
-use Rattle.os_heap_lists.proofs.Search.{looked-small, IsMet, search_met, looked_some}
-use Rattle.os_heap_lists.proofs.Spelling.{totals-back, spells-back, next_free-bounds, size_of-multiple, size_of-append, totals-front}
-use Rattle.os_heap_lists.specs.Counts.{looked_at}
-use Rattle.os_heap_lists.specs.Heap.{next_free, AreTotals, Spells, IsHeapIn}
-use Rattle.os_heap_lists.specs.Walks.{IsFit, IsSearched}
-use Rattle.os_heap_lists.specs.Words.{link_at}
+use Rattle.os_heap_words.proofs.ListsLemmas.LastLink.{link_of-heap, LinkFacts, link_facts, link_of-item}
+use Rattle.os_heap_words.proofs.ListsLemmas.Reading.{total_facts, linked_to}
+use Rattle.os_heap_words.proofs.ListsLemmas.Search.{looked-small, IsMet, search_met, looked_some}
+use Rattle.os_heap_words.proofs.ListsLemmas.Spelling.{totals-back, spells-back, next_free-bounds, size_of-multiple, size_of-append, totals-front}
+use Rattle.os_heap_words.specs.lists.Counts.{looked_at}
+use Rattle.os_heap_words.specs.lists.Heap.{next_free, AreTotals, Spells, IsHeapIn}
+use Rattle.os_heap_words.specs.lists.Walks.{IsFit, IsSearched}
+use Rattle.os_heap_words.specs.lists.Words.{link_at}
 use Rattle.os_heap_words.proofs.Replace.{heap_below}
 use Rattle.os_heap_words.specs.Outcomes.{IsHeapAt, items_at}
 

@@ -6,10 +6,10 @@ use Rattle.address_map.specs.Bytes.{word_at}
 use Rattle.address_map.specs.Items.{size_of, link_target}
 use Rattle.address_map.specs.Memory.{byte_at}
 use Rattle.address_map.specs.declared.map.AddressMap.{AddressMap}
-use Rattle.os_heap_lists.proofs.Reading.{linked_to}
-use Rattle.os_heap_lists.proofs.Tally.{link_below}
-use Rattle.os_heap_lists.specs.Heap.{next_free}
-use Rattle.os_heap_lists.specs.Walks.{IsTallied}
+use Rattle.os_heap_words.proofs.ListsLemmas.Reading.{linked_to}
+use Rattle.os_heap_words.proofs.ListsLemmas.Tally.{link_below}
+use Rattle.os_heap_words.specs.lists.Heap.{next_free}
+use Rattle.os_heap_words.specs.lists.Walks.{IsTallied}
 use Rattle.os_heap_words.specs.Outcomes.{IsHeapAt, items_at}
 
 -- a heap lies below 2^26

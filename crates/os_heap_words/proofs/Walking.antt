@@ -6,15 +6,15 @@ use Rattle.address_map.specs.Memory.{byte_at, bytes_of}
 use Rattle.address_map.specs.declared.item.Item.{Item}
 use Rattle.address_map.specs.declared.item.Item.TheVariants.{Live, Free}
 use Rattle.address_map.specs.declared.map.AddressMap.{AddressMap}
-use Rattle.os_heap_lists.proofs.ItemWalk.{begun_small, next_apart, size_of-gap, free_walked, live_walked}
-use Rattle.os_heap_lists.proofs.LastLink.{link_of-item}
-use Rattle.os_heap_lists.proofs.Reading.{total_facts}
-use Rattle.os_heap_lists.proofs.Spelling.{totals-back, spells-back, next_free-bounds, size_of-multiple, size_of-append, spaced-back, totals-front}
-use Rattle.os_heap_lists.specs.Counts.{begun_below}
-use Rattle.os_heap_lists.specs.Heap.{next_free, Spells, AreSpaced, AreTotals, IsHeapIn}
-use Rattle.os_heap_lists.specs.Lists.{left_free}
-use Rattle.os_heap_lists.specs.Walks.{IsWalkedTo, IsWalked, last_link}
-use Rattle.os_heap_lists.specs.Words.{link_at}
+use Rattle.os_heap_words.proofs.ListsLemmas.ItemWalk.{begun_small, next_apart, size_of-gap, free_walked, live_walked}
+use Rattle.os_heap_words.proofs.ListsLemmas.LastLink.{link_of-item}
+use Rattle.os_heap_words.proofs.ListsLemmas.Reading.{total_facts}
+use Rattle.os_heap_words.proofs.ListsLemmas.Spelling.{totals-back, spells-back, next_free-bounds, size_of-multiple, size_of-append, spaced-back, totals-front}
+use Rattle.os_heap_words.specs.lists.Counts.{begun_below}
+use Rattle.os_heap_words.specs.lists.Heap.{next_free, Spells, AreSpaced, AreTotals, IsHeapIn}
+use Rattle.os_heap_words.specs.lists.Lists.{left_free}
+use Rattle.os_heap_words.specs.lists.Walks.{IsWalkedTo, IsWalked, last_link}
+use Rattle.os_heap_words.specs.lists.Words.{link_at}
 use Rattle.os_heap_words.proofs.Replace.{heap_below}
 use Rattle.os_heap_words.proofs.Searching.{FreeFacts, free_facts}
 use Rattle.os_heap_words.specs.Outcomes.{items_at, IsHeapAt}

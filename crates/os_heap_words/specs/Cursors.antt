@@ -2,8 +2,8 @@
 use Rattle.std.specs.Prelude.{ℕ, ◌≡◌, ◌+◌, ◌<◌, ◌^◌, Bool, true, None, Option, MatchOption}
 use Rattle.address_map.specs.Items.{is_total}
 use Rattle.address_map.specs.declared.map.AddressMap.{AddressMap}
-use Rattle.os_heap_lists.specs.Lists.{items_after_release, resized_in_place}
-use Rattle.os_heap_lists.specs.Walks.{IsBlock, IsLinked, IsWalked}
+use Rattle.os_heap_words.specs.lists.Lists.{items_after_release, resized_in_place}
+use Rattle.os_heap_words.specs.lists.Walks.{IsBlock, IsLinked, IsWalked}
 use Rattle.os_heap_words.specs.Outcomes.{HasHeapAt, Refits, end_at, items_at}
 use Rattle.os_heap_words.specs.declared.walk.Cursor.{Cursor}
 

@@ -6,7 +6,7 @@ use Rattle.address_map.specs.declared.class.Class.{Class}
 use Rattle.address_map.specs.declared.class.Class.TheVariants as class
 use Rattle.address_map.specs.declared.item.Item.{Item}
 use Rattle.address_map.specs.declared.map.AddressMap.{AddressMap}
-use Rattle.os_heap_lists.specs.Marks.{Remarks}
+use Rattle.os_heap_words.specs.lists.Marks.{Remarks}
 
 -- the words got these classes
 pub record SetsClasses (old new : AddressMap) (classes : ℕ → Class) : Type 0 where

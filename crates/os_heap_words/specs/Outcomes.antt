@@ -7,10 +7,10 @@ use Rattle.address_map.specs.Items.{items_in, size_of}
 use Rattle.address_map.specs.Memory.{byte_at, bytes_of, is_mapped, layout, class_of}
 use Rattle.address_map.specs.declared.item.Item.{Item}
 use Rattle.address_map.specs.declared.map.AddressMap.{AddressMap}
-use Rattle.os_heap_lists.specs.Heap.{AreTotals, IsHeapIn}
-use Rattle.os_heap_lists.specs.Marks.{AreMarked, Remarks}
-use Rattle.os_heap_lists.specs.Lists.{Claim}
-use Rattle.os_heap_lists.specs.Words.{IsOutside, AreApart}
+use Rattle.os_heap_words.specs.lists.Heap.{AreTotals, IsHeapIn}
+use Rattle.os_heap_words.specs.lists.Marks.{AreMarked, Remarks}
+use Rattle.os_heap_words.specs.lists.Lists.{Claim}
+use Rattle.os_heap_words.specs.lists.Words.{IsOutside, AreApart}
 
 -- memory spells a heap at `start`, whose items are those that its words tell
 abbrev pub items_at : AddressMap → ℕ → List Item

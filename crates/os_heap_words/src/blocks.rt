@@ -4,7 +4,7 @@ ghost use Rattle.std.specs.Prelude.{◌≡◌, ◌+◌, ◌≤◌, List};
 ghost use Rattle.std.specs.Iterator.{YieldsFirst, item_count};
 ghost use Rattle.address_map.specs.declared.item.Item.{Item};
 ghost use Rattle.address_map.specs.Memory.{bytes_of};
-ghost use Rattle.os_heap_lists.specs.Walks.{rest_from, IsRestOfHeap};
+ghost use Rattle.os_heap_words.specs.lists.Walks.{rest_from, IsRestOfHeap};
 ghost use Rattle.os_heap_words.specs.Outcomes.{IsHeapAt, items_at};
 
 use crate::links::linked;

@@ -1,9 +1,9 @@
 //! A block's place among the free items of its heap, found along their links.
 
 ghost use Rattle.std.specs.Prelude.{◌≡◌, ◌≢◌, ◌<◌, ◌+◌, true, is_some};
-ghost use Rattle.os_heap_lists.specs.Counts.{free_below};
-ghost use Rattle.os_heap_lists.specs.Lists.{live_total};
-ghost use Rattle.os_heap_lists.specs.Walks.{IsBlock};
+ghost use Rattle.os_heap_words.specs.lists.Counts.{free_below};
+ghost use Rattle.os_heap_words.specs.lists.Lists.{live_total};
+ghost use Rattle.os_heap_words.specs.lists.Walks.{IsBlock};
 ghost use Rattle.os_heap_words.specs.Cursors.{HasFollowed};
 ghost use Rattle.os_heap_words.specs.Outcomes.{HasHeapAt, items_at};
 

@@ -2,11 +2,11 @@
 
 ghost use Rattle.std.specs.Prelude.{◌≡◌, ◌≤◌, ◌-◌, ◌+◌, Ok, Some, None, MatchOption, nat_le, true};
 ghost use Rattle.address_map.specs.Items.{is_total, size_of};
-ghost use Rattle.os_heap_lists.specs.Lists.{total_for, first_fit, claim_in_items, or_at_base};
-ghost use Rattle.os_heap_lists.specs.Counts.{looked_at};
+ghost use Rattle.os_heap_words.specs.lists.Lists.{total_for, first_fit, claim_in_items, or_at_base};
+ghost use Rattle.os_heap_words.specs.lists.Counts.{looked_at};
 ghost use Rattle.os_heap_words.specs.Cursors.{IsNewTotal};
 ghost use Rattle.os_heap_words.specs.Outcomes.{HasHeapAt, end_at, items_at, Claims, room_of};
-ghost use Rattle.os_heap_lists.specs.Walks.{IsFit};
+ghost use Rattle.os_heap_words.specs.lists.Walks.{IsFit};
 
 use crate::counted::{Counted, refused};
 use crate::marks::{make, remark};
@@ -113,7 +113,7 @@ fn fits_at_base(map: &AddressMap, heap: u32, needed: u64) -> bool
 
 /// Whether a claim of `needed` bytes would find room, and how many free items the search for it looks at. Nothing is
 /// changed.
-#[tactic(auto, unfolding(os_heap_lists::specs::Lists::claim_in_items))]
+#[tactic(auto, unfolding(crate::specs::lists::Lists::claim_in_items))]
 pub fn find_room(map: &AddressMap, heap: u32, needed: u64) -> Counted<()>
     requires heap { HasHeapAt map.now heap }
     requires needed { IsNewTotal needed }
@@ -132,7 +132,7 @@ pub fn find_room(map: &AddressMap, heap: u32, needed: u64) -> Counted<()>
 }
 
 /// Claims a block of `needed` bytes in one heap, its length word among them.
-#[tactic(auto, unfolding(os_heap_lists::specs::Lists::claim_in_items))]
+#[tactic(auto, unfolding(crate::specs::lists::Lists::claim_in_items))]
 pub fn claim_total(map: &mut AddressMap, heap: u32, needed: u64) -> Counted<u32>
     requires heap { HasHeapAt map.old heap }
     requires needed { IsNewTotal needed }

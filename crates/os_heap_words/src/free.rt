@@ -1,7 +1,7 @@
 //! A block of one heap that becomes free room.
 
 ghost use Rattle.std.specs.Prelude.{◌+◌, Ok};
-ghost use Rattle.os_heap_lists.specs.Lists.{items_after_release};
+ghost use Rattle.os_heap_words.specs.lists.Lists.{items_after_release};
 ghost use Rattle.os_heap_words.specs.Cursors.{IsAtBlock};
 ghost use Rattle.os_heap_words.specs.Outcomes.{end_at, items_at, Releases};
 

@@ -3,8 +3,8 @@
 ghost use Rattle.std.specs.Prelude.{◌≡◌, ◌≢◌, ◌<◌, ◌+◌};
 ghost use Rattle.address_map.specs.Bytes.{word_at};
 ghost use Rattle.address_map.specs.Memory.{byte_at};
-ghost use Rattle.os_heap_lists.specs.Counts.{free_count, free_total, largest_free};
-ghost use Rattle.os_heap_lists.specs.Walks.{IsTallied};
+ghost use Rattle.os_heap_words.specs.lists.Counts.{free_count, free_total, largest_free};
+ghost use Rattle.os_heap_words.specs.lists.Walks.{IsTallied};
 ghost use Rattle.os_heap_words.specs.Outcomes.{IsHeapAt, items_at};
 
 use crate::links::linked;

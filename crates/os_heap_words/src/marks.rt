@@ -6,8 +6,8 @@ ghost use Rattle.address_map.specs.Classes.{is_heap_class};
 ghost use Rattle.address_map.specs.Memory.{byte_at, is_mapped, layout, class_of};
 ghost use Rattle.address_map.specs.Records.{with_class};
 ghost use Rattle.address_map.specs.declared.class.Class.TheVariants.{Heap};
-ghost use Rattle.os_heap_lists.specs.Lists.{left_free};
-ghost use Rattle.os_heap_lists.specs.Marks.{head_class, Remarks, with_item_marked, with_items_marked};
+ghost use Rattle.os_heap_words.specs.lists.Lists.{left_free};
+ghost use Rattle.os_heap_words.specs.lists.Marks.{head_class, Remarks, with_item_marked, with_items_marked};
 ghost use Rattle.os_heap_words.specs.Marks.{RemarksItems, SetsClasses, with_no_heads};
 ghost use Rattle.os_heap_words.specs.Outcomes.{CanStand};
 

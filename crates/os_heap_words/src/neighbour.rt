@@ -6,7 +6,7 @@ ghost use Rattle.address_map.specs.Items.{link_target};
 ghost use Rattle.address_map.specs.Memory.{byte_at};
 ghost use Rattle.os_heap_words.specs.Cursors.{IsAtBlock};
 ghost use Rattle.os_heap_words.specs.Outcomes.{end_at};
-ghost use Rattle.os_heap_lists.specs.Words.{link_at};
+ghost use Rattle.os_heap_words.specs.lists.Words.{link_at};
 
 use crate::walk::Cursor;
 use crate::words::{follow, word};

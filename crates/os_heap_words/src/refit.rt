@@ -6,8 +6,8 @@ ghost use Rattle.address_map.specs.Items.{is_total};
 ghost use Rattle.address_map.specs.Memory.{byte_at, layout, class_of};
 ghost use Rattle.os_heap_words.specs.Cursors.{IsAtBlock, IsNewTotal, RefitsBlock};
 ghost use Rattle.os_heap_words.specs.Outcomes.{end_at};
-ghost use Rattle.os_heap_lists.specs.Words.{IsDivided};
-ghost use Rattle.os_heap_lists.specs.Walks.{last_link};
+ghost use Rattle.os_heap_words.specs.lists.Words.{IsDivided};
+ghost use Rattle.os_heap_words.specs.lists.Walks.{last_link};
 
 use crate::marks::remark;
 use crate::neighbour::{free_behind, own_total};

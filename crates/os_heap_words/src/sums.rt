@@ -1,7 +1,7 @@
 //! Sums of sizes: a size after a signed change, and a size rounded up.
 
 ghost use Rattle.std.specs.Prelude.{◌≡◌, ◌<◌, ◌^◌};
-ghost use Rattle.os_heap_lists.specs.Lists.{round_up_8, changed_by};
+ghost use Rattle.os_heap_words.specs.lists.Lists.{round_up_8, changed_by};
 
 /// A size after a change of it, a signed word in two's complement; a sum below 0 counts as 0.
 pub fn changed_by(size: u32, change: u32) -> u64

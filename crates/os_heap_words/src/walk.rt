@@ -3,9 +3,9 @@
 ghost use Rattle.std.specs.Prelude.{ℕ, ◌≡◌, ◌≤◌, ◌<◌, ◌-◌, ◌+◌};
 ghost use Rattle.address_map.specs.Bytes.{word_at};
 ghost use Rattle.address_map.specs.Memory.{byte_at};
-ghost use Rattle.os_heap_lists.specs.Counts.{begun_below};
+ghost use Rattle.os_heap_words.specs.lists.Counts.{begun_below};
 ghost use Rattle.os_heap_words.specs.Outcomes.{HasHeapAt, items_at};
-ghost use Rattle.os_heap_lists.specs.Walks.{last_link};
+ghost use Rattle.os_heap_words.specs.lists.Walks.{last_link};
 ghost use Rattle.os_heap_words.specs.Cursors.{FindsBlock, HasWalked};
 
 use crate::words::{BASE, follow, word};

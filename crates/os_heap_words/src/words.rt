@@ -4,7 +4,7 @@ ghost use Rattle.std.specs.Prelude.{◌≡◌, ◌<◌, ◌+◌, ◌-◌, ◌%�
 ghost use Rattle.address_map.specs.Bytes.{word_at};
 ghost use Rattle.address_map.specs.Items.{link_target};
 ghost use Rattle.address_map.specs.Memory.{byte_at, is_mapped, layout, class_of};
-ghost use Rattle.os_heap_lists.specs.Words.{link_at, AreApart, IsWordWritten, IsFreed};
+ghost use Rattle.os_heap_words.specs.lists.Words.{link_at, AreApart, IsWordWritten, IsFreed};
 
 use crate::links::linked;
 use address_map::AddressMap;

@@ -1,12 +1,10 @@
 -- What stands in HTML: how a loop writes it, that no tag stands there, and that it is read back.
-use Rattle.std.proofs.Common.{◌≡◌, ◌≤◌, ◌<◌, ◌+◌, ◌*◌, ◌/◌, ◌%◌, ℕ, suc, zero, Bool, true, false, not, List, [], ◌∷◌, ◌++◌}
-use Rattle.std.proofs.Common.{length, length-append, arith, refl, ap, ◌∙◌}
+use Rattle.std.proofs.Common.{◌≡◌, ◌≤◌, ◌<◌, ◌+◌, ◌*◌, ◌/◌, ◌%◌, ℕ, suc, zero, Bool, true, false, not, List, [], ◌∷◌, ◌++◌, length, length-append, arith, refl, ap, ◌∙◌}
 use Rattle.std.specs.Prelude.{◌==◌, ◌&&◌, ◌||◌, nat_lt, if◌then◌else◌}
 use Rattle.std.proofs.lemmas.Bool.{agree_below_at, eqb-true, ltb-true}
 use Rattle.std.proofs.lemmas.List.Folds.{list_all-append}
 use Rattle.profile.specs.Digits.{hex_digit}
-use Rattle.page_markup.specs.Escape.{are_bytes, escaped_bytes, escaped_byte, has_no_tag, hex_value, is_markup, mark}
-use Rattle.page_markup.specs.Escape.{reference, unescaped_bytes, shown_in}
+use Rattle.page_markup.specs.Escape.{are_bytes, escaped_bytes, escaped_byte, has_no_tag, hex_value, is_markup, mark, reference, unescaped_bytes, shown_in}
 use Rattle.view_pictures.specs.Spelt.{is_shown}
 
 -- two digits have the byte's value

@@ -1,6 +1,5 @@
 -- Bytes as they stand in HTML, and how they are read back from there.
-use Rattle.std.specs.Prelude.{ℕ, suc, zero, ◌+◌, ◌-◌, ◌*◌, ◌/◌, ◌%◌, ◌==◌, ◌||◌, Bool, not, nat_lt}
-use Rattle.std.specs.Prelude.{List, [], ◌∷◌, length, drop, if◌then◌else◌}
+use Rattle.std.specs.Prelude.{ℕ, suc, zero, ◌+◌, ◌-◌, ◌*◌, ◌/◌, ◌%◌, ◌==◌, ◌||◌, Bool, not, nat_lt, List, [], ◌∷◌, length, drop, if◌then◌else◌}
 use Rattle.std.specs.List.{flat_map, list_all}
 use Rattle.profile.specs.Digits.{hex_digit}
 use Rattle.view_pictures.specs.Spelt.{is_shown}

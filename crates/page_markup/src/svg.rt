@@ -4,9 +4,7 @@
 ghost use Rattle.std.specs.Prelude.{◌≡◌};
 ghost use Rattle.std.specs.List.{flat_map};
 ghost use Rattle.profile.specs.Output.{Writes};
-ghost use Rattle.page_markup.specs.Svg.{address_svg, anchor_svg, anchors_svg, box_address, box_bottom, box_itself, box_signs, box_svg, boxes_svg};
-ghost use Rattle.page_markup.specs.Svg.{break_svg, chain_svg, change_svg, end_svg, goes_on, link_svg, outline_svg, short_change, stack_head, stack_height};
-ghost use Rattle.page_markup.specs.Svg.{stack_svg, svg_head, told_box_svg, zigzag, zigzag_line, zigzag_start};
+ghost use Rattle.page_markup.specs.Svg.{address_svg, anchor_svg, anchors_svg, box_address, box_bottom, box_itself, box_signs, box_svg, boxes_svg, break_svg, chain_svg, change_svg, end_svg, goes_on, link_svg, outline_svg, short_change, stack_head, stack_height, stack_svg, svg_head, told_box_svg, zigzag, zigzag_line, zigzag_start};
 
 use crate::anchors::anchor_place;
 use crate::markup::{open_text, push_decimal, push_rectangle, push_text};

@@ -2,8 +2,7 @@
 
 ghost use Rattle.std.specs.Prelude.{◌≡◌};
 ghost use Rattle.profile.specs.Output.{Writes};
-ghost use Rattle.page_markup.specs.ToldSvg.{base_after, changed_svg, changes_svg, gone_box_svg, gone_svg, height_with, line_count_of};
-ghost use Rattle.page_markup.specs.ToldSvg.{name_by, picture_name, told_count, told_svg};
+ghost use Rattle.page_markup.specs.ToldSvg.{base_after, changed_svg, changes_svg, gone_box_svg, gone_svg, height_with, line_count_of, name_by, picture_name, told_count, told_svg};
 
 use crate::markup::open_text;
 use profile::{HexText, Sink, WriteFault, push_all, push_parts};

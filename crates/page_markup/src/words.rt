@@ -2,8 +2,7 @@
 
 ghost use Rattle.std.specs.Prelude.{◌≡◌, ◌≤◌, ◌<◌, ◌^◌, take};
 ghost use Rattle.profile.specs.Output.{Writes};
-ghost use Rattle.page_markup.specs.Words.{anchor_words, base_line_of, block_line, holder_words, inset_of, name_line, own_address_svg};
-ghost use Rattle.page_markup.specs.Words.{second_line, size_svg, words_svg};
+ghost use Rattle.page_markup.specs.Words.{anchor_words, base_line_of, block_line, holder_words, inset_of, name_line, own_address_svg, second_line, size_svg, words_svg};
 
 use crate::markup::{open_text, push_decimal, push_text};
 use profile::{HexText, Sink, WriteFault, push_all, push_parts};

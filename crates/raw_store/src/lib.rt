@@ -6,5 +6,6 @@ pub mod block;
 mod lanes;
 pub mod store;
 
-pub use profile;
+pub use profile::memory_map::{ADDRESS_LIMIT, MOST_PAGES, PAGE_SIZE};
+pub use profile::{Fault, ImageBytes};
 pub use store::RawStore;

@@ -8,15 +8,15 @@ use Rattle.address_map.proofs.InRange.{range_before, range_inside, range_past}
 use Rattle.address_map.specs.Bytes.{in_range}
 use Rattle.address_map.specs.declared.item.Item.{Item}
 use Rattle.address_map.specs.declared.item.Item.TheVariants.{Live, Free}
-use Rattle.os_heap.specs.os_heap_lists.specs.Heap.{AreTotals, HeapList}
-use Rattle.os_heap.specs.os_heap_lists.proofs.Reading.{total_facts}
-use Rattle.os_heap.specs.Payloads.{area_payload, is_other, payload_from, payload_in}
-use Rattle.os_heap.specs.Store.{find_heap}
-use Rattle.os_heap.specs.declared.payload.Payload.TheVariants.{Inside, Other}
-use Rattle.os_heap.proofs.Apart.{range_parts}
-use Rattle.flex_frame.specs.dynamic_areas.specs.Changing.{pages_had}
-use Rattle.flex_frame.specs.dynamic_areas.specs.Ground.{Estate, IsEstate}
-use Rattle.flex_frame.specs.dynamic_areas.specs.declared.area.Area.{Area}
+use Rattle.os_heap_words.specs.lists.Heap.{AreTotals, HeapList}
+use Rattle.os_heap_words.proofs.ListsLemmas.Reading.{total_facts}
+use Rattle.dynamic_areas.specs.Payloads.{area_payload, is_other, payload_from, payload_in}
+use Rattle.dynamic_areas.specs.Store.{find_heap}
+use Rattle.dynamic_areas.specs.Payload.TheVariants.{Inside, Other}
+use Rattle.dynamic_areas.proofs.Apart.{range_parts}
+use Rattle.dynamic_areas.specs.Changing.{pages_had}
+use Rattle.dynamic_areas.specs.Ground.{Estate, IsEstate}
+use Rattle.dynamic_areas.specs.declared.area.Area.{Area}
 use Rattle.rma.specs.Calls.{area_pages}
 use Rattle.rma.specs.Copies.{has_bare, is_bare}
 use Rattle.rma.proofs.GrowthLemmas.{HasArea, area_there}

@@ -5,9 +5,9 @@ use Rattle.profile.specs.Outcome.{Gives}
 use Rattle.profile.specs.declared.error.ErrorNumber.{ErrorNumber}
 use Rattle.address_map.specs.Memory.{Mapping, mapping, free_pages}
 use Rattle.address_map.specs.declared.map.AddressMap.{AddressMap}
-use Rattle.os_heap.specs.Store.{Store, store_of}
-use Rattle.flex_frame.specs.dynamic_areas.specs.Areas.{Land}
-use Rattle.flex_frame.specs.dynamic_areas.specs.Ground.{Estate, estate_of}
+use Rattle.dynamic_areas.specs.Store.{Store, store_of}
+use Rattle.dynamic_areas.specs.Areas.{Land}
+use Rattle.dynamic_areas.specs.Ground.{Estate, estate_of}
 use Rattle.rma.specs.Calls.{in_area, is_full, is_no_room, or_grown, rma_error, with_store}
 use Rattle.rma.specs.Images.{or_kept}
 

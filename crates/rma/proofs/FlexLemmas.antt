@@ -6,19 +6,19 @@ use Rattle.std.proofs.lemmas.Bool.{cases_Bool}
 use Rattle.address_map.specs.Bytes.{with_bytes, with_moved}
 use Rattle.address_map.specs.Memory.{free_pages}
 use Rattle.address_map.specs.declared.map.AddressMap.{AddressMap}
-use Rattle.os_heap.specs.os_heap_lists.specs.Heap.{HeapList}
-use Rattle.os_heap.specs.os_heap_lists.specs.Lists.{live_total}
-use Rattle.os_heap.specs.Calls.{OfHeap, block_sized, store_after_copy}
-use Rattle.os_heap.specs.Forgetting.{holds_heap}
-use Rattle.os_heap.specs.Store.{IsSound, Store, find_heap, has_image, store_of}
-use Rattle.flex_frame.specs.dynamic_areas.specs.declared.area.Changed.{Changed}
-use Rattle.flex_frame.specs.dynamic_areas.specs.Areas.{Land}
-use Rattle.flex_frame.specs.dynamic_areas.specs.Changing.{change_answer, store_changed}
-use Rattle.flex_frame.specs.dynamic_areas.specs.Ground.{IsEstate, estate_of}
-use Rattle.flex_frame.specs.Keeping.{RangeHasNoAnchor, KeepsFlex}
-use Rattle.flex_frame.proofs.Areas.{area_changed_keeps}
-use Rattle.flex_frame.proofs.Keeping.{keeps_then}
-use Rattle.flex_frame.proofs.Writes.{block_keeps}
+use Rattle.os_heap_words.specs.lists.Heap.{HeapList}
+use Rattle.os_heap_words.specs.lists.Lists.{live_total}
+use Rattle.dynamic_areas.specs.Calls.{OfHeap, block_sized, store_after_copy}
+use Rattle.dynamic_areas.specs.Forgetting.{holds_heap}
+use Rattle.dynamic_areas.specs.Store.{IsSound, Store, find_heap, has_image, store_of}
+use Rattle.dynamic_areas.specs.declared.area.Changed.{Changed}
+use Rattle.dynamic_areas.specs.Areas.{Land}
+use Rattle.dynamic_areas.specs.Changing.{change_answer, store_changed}
+use Rattle.dynamic_areas.specs.Ground.{IsEstate, estate_of}
+use Rattle.rma.specs.flex_frame.Keeping.{RangeHasNoAnchor, KeepsFlex}
+use Rattle.rma.proofs.FlexFrameLemmas.Areas.{area_changed_keeps}
+use Rattle.rma.proofs.FlexFrameLemmas.Keeping.{keeps_then}
+use Rattle.rma.proofs.FlexFrameLemmas.Writes.{block_keeps}
 use Rattle.rma.specs.NewImages.{IsLiveBlock, store_with_image_bytes}
 use Rattle.rma.proofs.NewImageLemmas.{IsLiveIn, live_in, outside, shorter, unmoved}
 

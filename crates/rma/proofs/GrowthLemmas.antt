@@ -7,21 +7,21 @@ use Rattle.profile.specs.Outcome.{Leaves}
 use Rattle.profile.specs.declared.error.ErrorNumber.{ErrorNumber}
 use Rattle.profile.specs.declared.error.ErrorNumber.TheVariants.{AreaNoPages, RmaNoRoom}
 use Rattle.address_map.specs.Bytes.{in_range}
-use Rattle.os_heap.specs.os_heap_lists.specs.Heap.{HeapList, AreTotals}
-use Rattle.os_heap.specs.Calls.{with_end}
-use Rattle.os_heap.specs.Forgetting.{holds_heap, starts_in}
-use Rattle.os_heap.specs.Store.{Store, find_heap}
-use Rattle.flex_frame.specs.dynamic_areas.specs.declared.area.Area.{Area}
-use Rattle.flex_frame.specs.dynamic_areas.specs.declared.area.Changed.{Changed}
-use Rattle.flex_frame.specs.dynamic_areas.specs.Areas.{Land, find_area}
-use Rattle.flex_frame.specs.dynamic_areas.specs.Changing.{change_answer, growth_room, is_growth, land_changed, land_more, moving, pages_had, store_changed, store_extended}
-use Rattle.flex_frame.specs.dynamic_areas.specs.Creating.{pages_for}
-use Rattle.flex_frame.specs.dynamic_areas.specs.Ground.{AreAreas, Estate, IsEstate}
-use Rattle.flex_frame.specs.dynamic_areas.specs.Rooms.{IsAreaRoom}
-use Rattle.flex_frame.specs.dynamic_areas.proofs.GroundLemmas.{or_true}
-use Rattle.flex_frame.specs.dynamic_areas.proofs.LandLemmas.{pages_counted}
-use Rattle.flex_frame.specs.dynamic_areas.proofs.ModuleArea.{IsModuleArea, module_area_known, find_ended}
-use Rattle.flex_frame.specs.dynamic_areas.proofs.RoomLemmas.{found_room}
+use Rattle.os_heap_words.specs.lists.Heap.{HeapList, AreTotals}
+use Rattle.dynamic_areas.specs.Calls.{with_end}
+use Rattle.dynamic_areas.specs.Forgetting.{holds_heap, starts_in}
+use Rattle.dynamic_areas.specs.Store.{Store, find_heap}
+use Rattle.dynamic_areas.specs.declared.area.Area.{Area}
+use Rattle.dynamic_areas.specs.declared.area.Changed.{Changed}
+use Rattle.dynamic_areas.specs.Areas.{Land, find_area}
+use Rattle.dynamic_areas.specs.Changing.{change_answer, growth_room, is_growth, land_changed, land_more, moving, pages_had, store_changed, store_extended}
+use Rattle.dynamic_areas.specs.Creating.{pages_for}
+use Rattle.dynamic_areas.specs.Ground.{AreAreas, Estate, IsEstate}
+use Rattle.dynamic_areas.specs.Rooms.{IsAreaRoom}
+use Rattle.dynamic_areas.proofs.GroundLemmas.{or_true}
+use Rattle.dynamic_areas.proofs.LandLemmas.{pages_counted}
+use Rattle.dynamic_areas.proofs.ModuleArea.{IsModuleArea, module_area_known, find_ended}
+use Rattle.dynamic_areas.proofs.RoomLemmas.{found_room}
 use Rattle.rma.specs.Calls.{area_pages, area_room, grown_to, pages_short, room_in, with_pages_more}
 
 -- the area, with its heap

@@ -1,8 +1,7 @@
 -- Records of images in the module area: one more, and one less.
 use Rattle.profile.specs.MemoryMap.{module_area_start}
-use Rattle.std.proofs.Common.{◌≡◌, ◌≢◌, ℕ, ◌+◌, ◌-◌, ◌==◌, ◌%◌, ◌&&◌, ◌<◌, ◌≤◌, ◌⊎◌, Bool, true, false, List, [], ◌∷◌, ◌++◌, length, refl, sym, ap, subst, ◌∙◌, Some, None, Ok, inl, inr, arith}
+use Rattle.std.proofs.Common.{◌≡◌, ◌≢◌, ℕ, ◌+◌, ◌-◌, ◌==◌, ◌%◌, ◌&&◌, ◌<◌, ◌≤◌, ◌⊎◌, Bool, true, false, List, [], ◌∷◌, ◌++◌, length, refl, sym, ap, subst, ◌∙◌, Some, None, Ok, inl, inr, arith, length-append}
 use Rattle.std.specs.Prelude.{Option}
-use Rattle.std.proofs.Common.{length-append}
 use Rattle.std.proofs.lemmas.Bool.{and_parts, cases_Bool, both_ways, false_from_ne_true, false≢true, eq-eqb, le-leb, lt-ltb, or_parts}
 use Rattle.address_map.specs.Bytes.{Bytes, AreMapped, in_range}
 use Rattle.address_map.specs.Classes.{is_anchor, is_flex_header}
@@ -13,19 +12,19 @@ use Rattle.address_map.specs.declared.map.AddressMap.{AddressMap}
 use Rattle.address_map.specs.declared.region.Kind.{Kind}
 use Rattle.address_map.specs.declared.region.Kind.TheVariants as kind
 use Rattle.address_map.specs.declared.region.Region.{Region}
-use Rattle.os_heap.specs.os_heap_lists.specs.Heap.{HeapList, IsHeapIn}
-use Rattle.os_heap.specs.os_heap_lists.specs.Lists.{live_total}
-use Rattle.os_heap.specs.os_heap_lists.proofs.LiveBlocks.{LiveBytes, law_live_bytes}
-use Rattle.os_heap.specs.Calls.{OfHeap, block_sized}
-use Rattle.os_heap.specs.Store.{AreClear, ArePlaced, AreRangesApart, IsClearOfRanges, IsImageBlock, IsPlacedIn, IsSound, Store, find_heap, has_image, heaps_in, is_module_area, is_flex_store, is_image, is_in_flex_store, others_in, store_of}
-use Rattle.os_heap.proofs.Apart.{block_inside, one_block, range_parts}
-use Rattle.os_heap.proofs.Found.{found_heap, found_start}
-use Rattle.os_heap.proofs.Recorded.{IsClearOfAll, apart_other, in_more}
-use Rattle.os_heap.proofs.ImageBlocks.{image_placed}
-use Rattle.os_heap.proofs.Stores.{are_others, placed_by}
-use Rattle.os_heap.specs.Forgetting.{holds_heap}
-use Rattle.flex_frame.specs.dynamic_areas.specs.Areas.{Land}
-use Rattle.flex_frame.specs.dynamic_areas.specs.Ground.{AreAreas, AreRangesMapped, Estate, IsEstate}
+use Rattle.os_heap_words.specs.lists.Heap.{HeapList, IsHeapIn}
+use Rattle.os_heap_words.specs.lists.Lists.{live_total}
+use Rattle.os_heap_words.proofs.ListsLemmas.LiveBlocks.{LiveBytes, law_live_bytes}
+use Rattle.dynamic_areas.specs.Calls.{OfHeap, block_sized}
+use Rattle.dynamic_areas.specs.Store.{AreClear, ArePlaced, AreRangesApart, IsClearOfRanges, IsImageBlock, IsPlacedIn, IsSound, Store, find_heap, has_image, heaps_in, is_module_area, is_flex_store, is_image, is_in_flex_store, others_in, store_of}
+use Rattle.dynamic_areas.proofs.Apart.{block_inside, one_block, range_parts}
+use Rattle.dynamic_areas.proofs.Found.{found_heap, found_start}
+use Rattle.dynamic_areas.proofs.Recorded.{IsClearOfAll, apart_other, in_more}
+use Rattle.dynamic_areas.proofs.ImageBlocks.{image_placed}
+use Rattle.dynamic_areas.proofs.Stores.{are_others, placed_by}
+use Rattle.dynamic_areas.specs.Forgetting.{holds_heap}
+use Rattle.dynamic_areas.specs.Areas.{Land}
+use Rattle.dynamic_areas.specs.Ground.{AreAreas, AreRangesMapped, Estate, IsEstate}
 use Rattle.rma.specs.Images.{CanRecord}
 use Rattle.rma.proofs.ExtendLemmas.{IsSized, sized_by}
 use Rattle.rma.proofs.GrowthLemmas.{HasArea, area_there}

@@ -7,11 +7,11 @@ use Rattle.address_map.specs.Records.{IsRegion, anchor_among}
 use Rattle.address_map.specs.declared.map.AddressMap.{AddressMap}
 use Rattle.address_map.specs.declared.region.Kind.TheVariants as kind
 use Rattle.address_map.specs.declared.region.Region.{Region}
-use Rattle.os_heap.proofs.RangeTests.{are_mapped_all, clear_of_heaps, range_end}
-use Rattle.os_heap.proofs.Apart.{range_parts}
-use Rattle.os_heap.proofs.Recorded.{IsClearOfAll, recorded_sound}
-use Rattle.os_heap.specs.Ranges.{are_bytes_mapped, meets_any}
-use Rattle.os_heap.specs.Store.{IsSound, Store, store_of}
+use Rattle.dynamic_areas.proofs.RangeTests.{are_mapped_all, clear_of_heaps, range_end}
+use Rattle.dynamic_areas.proofs.Apart.{range_parts}
+use Rattle.dynamic_areas.proofs.Recorded.{IsClearOfAll, recorded_sound}
+use Rattle.dynamic_areas.specs.Ranges.{are_bytes_mapped, meets_any}
+use Rattle.dynamic_areas.specs.Store.{IsSound, Store, store_of}
 use Rattle.rma.specs.NewImages.{may_be_in_place}
 use Rattle.rma.proofs.ImageLemmas.{IsRecorded}
 

@@ -1,3 +1,8 @@
+pub use Rattle.os_heap_words.proofs.ListsLemmas.LiveBlocks
+pub use Rattle.os_heap_words.proofs.ListsLemmas.Payloads
+pub use Rattle.os_heap_words.proofs.ListsLemmas.Reading
+pub use Rattle.os_heap_words.proofs.ListsLemmas.Words
+pub use Rattle.os_heap_words.proofs.Writing
 mod CopyLemmas
 mod Estates
 mod ExtendLemmas
@@ -8,3 +13,5 @@ pub mod InPlaceLemmas
 pub mod NewImageLemmas
 mod ResizeLemmas
 mod Undoing
+pub mod HeapSlideLemmas
+pub mod FlexFrameLemmas

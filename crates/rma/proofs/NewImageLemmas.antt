@@ -15,22 +15,22 @@ use Rattle.address_map.specs.declared.map.AddressMap.{AddressMap}
 use Rattle.address_map.specs.declared.region.Kind.{Kind}
 use Rattle.address_map.specs.declared.region.Kind.TheVariants as kind
 use Rattle.address_map.specs.declared.region.Region.{Region}
-use Rattle.os_heap.specs.os_heap_lists.proofs.LiveBlocks.{LiveBytes, law_live_bytes}
-use Rattle.os_heap.specs.os_heap_lists.proofs.Spelling.{total_of-numbers}
-use Rattle.os_heap.specs.os_heap_lists.specs.Heap.{HeapList, IsHeapIn}
-use Rattle.os_heap.specs.os_heap_lists.specs.Lists.{Claim, claim_in_items, live_total, total_for}
-use Rattle.os_heap.proofs.Apart.{range_parts}
-use Rattle.os_heap.proofs.ClaimedBlocks.{IsNewBlock, is_new_block}
-use Rattle.os_heap.proofs.Found.{found_heap, found_start}
-use Rattle.os_heap.proofs.Frame.{IsKept, store_bytes}
-use Rattle.os_heap.proofs.KeptPayloads.{IsClaim, is_claim}
-use Rattle.os_heap.proofs.Order.{order_laid}
-use Rattle.os_heap.proofs.PayloadWrites.{payload_kept}
-use Rattle.os_heap.specs.Calls.{OfHeap, block_sized, store_after_copy, store_after_get}
-use Rattle.os_heap.specs.Forgetting.{holds_heap}
-use Rattle.os_heap.specs.Order.{AddsRecord, KeepsOrder}
-use Rattle.os_heap.specs.Store.{IsSound, Store, find_heap, has_image, store_of}
-use Rattle.flex_frame.specs.dynamic_areas.specs.Ground.{Estate, IsEstate}
+use Rattle.os_heap_words.proofs.ListsLemmas.LiveBlocks.{LiveBytes, law_live_bytes}
+use Rattle.os_heap_words.proofs.ListsLemmas.Spelling.{total_of-numbers}
+use Rattle.os_heap_words.specs.lists.Heap.{HeapList, IsHeapIn}
+use Rattle.os_heap_words.specs.lists.Lists.{Claim, claim_in_items, live_total, total_for}
+use Rattle.dynamic_areas.proofs.Apart.{range_parts}
+use Rattle.dynamic_areas.proofs.ClaimedBlocks.{IsNewBlock, is_new_block}
+use Rattle.dynamic_areas.proofs.Found.{found_heap, found_start}
+use Rattle.dynamic_areas.proofs.Frame.{IsKept, store_bytes}
+use Rattle.dynamic_areas.proofs.KeptPayloads.{IsClaim, is_claim}
+use Rattle.dynamic_areas.proofs.Order.{order_laid}
+use Rattle.dynamic_areas.proofs.PayloadWrites.{payload_kept}
+use Rattle.dynamic_areas.specs.Calls.{OfHeap, block_sized, store_after_copy, store_after_get}
+use Rattle.dynamic_areas.specs.Forgetting.{holds_heap}
+use Rattle.dynamic_areas.specs.Order.{AddsRecord, KeepsOrder}
+use Rattle.dynamic_areas.specs.Store.{IsSound, Store, find_heap, has_image, store_of}
+use Rattle.dynamic_areas.specs.Ground.{Estate, IsEstate}
 use Rattle.rma.specs.Calls.{grown_to, rma_base, rma_claimed}
 use Rattle.rma.specs.Images.{image_recorded}
 use Rattle.rma.specs.NewImages.{IsLiveBlock, store_with_image_bytes}

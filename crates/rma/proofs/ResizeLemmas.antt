@@ -10,15 +10,15 @@ use Rattle.address_map.specs.Items.{size_of}
 use Rattle.address_map.specs.Records.{anchor_among}
 use Rattle.address_map.specs.declared.item.Item.{Item}
 use Rattle.address_map.specs.declared.item.Item.TheVariants.{Live, Free}
-use Rattle.os_heap.specs.os_heap_lists.specs.Heap.{HeapList, AreTotals}
-use Rattle.os_heap.specs.os_heap_lists.specs.Lists.{Claim, changed_by, claim_in_items, first_fit, live_total, or_at_base, items_after_refit, items_after_release, resized_in_place, round_up_8, total_for}
-use Rattle.os_heap.specs.os_heap_lists.proofs.LiveBlocks.{IsStill, LiveBytes, claim_still, law_live_bytes}
-use Rattle.os_heap.specs.os_heap_lists.proofs.Reading.{total_facts}
-use Rattle.os_heap.specs.os_heap_lists.proofs.Resizes.{last_some, unreleased}
-use Rattle.os_heap.specs.Calls.{store_after_copy, gave_back, store_after_get, handed_over, store_holding, holds_anchor, store_after_move, store_after_resize, resized_or_moved}
-use Rattle.os_heap.specs.Forgetting.{store_after_forget, holds_heap}
-use Rattle.os_heap.specs.Store.{Store, find_heap, has_image}
-use Rattle.os_heap.proofs.Moving.{found_held}
+use Rattle.os_heap_words.specs.lists.Heap.{HeapList, AreTotals}
+use Rattle.os_heap_words.specs.lists.Lists.{Claim, changed_by, claim_in_items, first_fit, live_total, or_at_base, items_after_refit, items_after_release, resized_in_place, round_up_8, total_for}
+use Rattle.os_heap_words.proofs.ListsLemmas.LiveBlocks.{IsStill, LiveBytes, claim_still, law_live_bytes}
+use Rattle.os_heap_words.proofs.ListsLemmas.Reading.{total_facts}
+use Rattle.os_heap_words.proofs.ListsLemmas.Resizes.{last_some, unreleased}
+use Rattle.dynamic_areas.specs.Calls.{store_after_copy, gave_back, store_after_get, handed_over, store_holding, holds_anchor, store_after_move, store_after_resize, resized_or_moved}
+use Rattle.dynamic_areas.specs.Forgetting.{store_after_forget, holds_heap}
+use Rattle.dynamic_areas.specs.Store.{Store, find_heap, has_image}
+use Rattle.dynamic_areas.proofs.Moving.{found_held}
 use Rattle.rma.specs.Calls.{is_full}
 
 some_ok : {A B : Type 0} (o : Option A) (e : ErrorNumber) (f : A → B) → is_some o ≡ true

@@ -9,19 +9,19 @@ use Rattle.profile.specs.declared.error.ErrorNumber.TheVariants.{HeapNoRoom}
 use Rattle.address_map.proofs.Anchors.{among_none}
 use Rattle.address_map.specs.Bytes.{in_range}
 use Rattle.address_map.specs.Items.{is_total, size_of}
-use Rattle.os_heap.specs.os_heap_lists.specs.Heap.{HeapList, AreSpaced, AreTotals, IsHeapIn}
-use Rattle.os_heap.specs.os_heap_lists.specs.Lists.{Claim, claim_in_items, live_total, items_after_release, total_for}
-use Rattle.os_heap.specs.os_heap_lists.proofs.ClaimedLists.{HasTotals, IsUnheld, IsWithin, claim_totals, claim_unheld, claim_within}
-use Rattle.os_heap.specs.os_heap_lists.proofs.LiveBlocks.{IsFresh, IsStill, LiveBytes, claim_fresh, claim_still, live_apart, law_live_bytes}
-use Rattle.os_heap.specs.os_heap_lists.proofs.ReleaseOfClaim.{gives_back}
-use Rattle.os_heap.specs.os_heap_lists.proofs.Spelling.{total_of-numbers}
-use Rattle.os_heap.specs.Calls.{gave_back, store_after_get, store_holding, holds_anchor, items_of, total_or_0, heaps_with_items}
-use Rattle.os_heap.specs.Forgetting.{store_after_forget}
-use Rattle.os_heap.specs.Store.{IsSound, Store, find_heap, has_image}
-use Rattle.os_heap.proofs.Anchored.{place_in}
-use Rattle.os_heap.proofs.KeptPayloads.{own_there}
-use Rattle.os_heap.proofs.Moving.{found_held}
-use Rattle.flex_frame.specs.dynamic_areas.specs.Ground.{Estate, IsEstate}
+use Rattle.os_heap_words.specs.lists.Heap.{HeapList, AreSpaced, AreTotals, IsHeapIn}
+use Rattle.os_heap_words.specs.lists.Lists.{Claim, claim_in_items, live_total, items_after_release, total_for}
+use Rattle.os_heap_words.proofs.ListsLemmas.ClaimedLists.{HasTotals, IsUnheld, IsWithin, claim_totals, claim_unheld, claim_within}
+use Rattle.os_heap_words.proofs.ListsLemmas.LiveBlocks.{IsFresh, IsStill, LiveBytes, claim_fresh, claim_still, live_apart, law_live_bytes}
+use Rattle.os_heap_words.proofs.ListsLemmas.ReleaseOfClaim.{gives_back}
+use Rattle.os_heap_words.proofs.ListsLemmas.Spelling.{total_of-numbers}
+use Rattle.dynamic_areas.specs.Calls.{gave_back, store_after_get, store_holding, holds_anchor, items_of, total_or_0, heaps_with_items}
+use Rattle.dynamic_areas.specs.Forgetting.{store_after_forget}
+use Rattle.dynamic_areas.specs.Store.{IsSound, Store, find_heap, has_image}
+use Rattle.dynamic_areas.proofs.Anchored.{place_in}
+use Rattle.dynamic_areas.proofs.KeptPayloads.{own_there}
+use Rattle.dynamic_areas.proofs.Moving.{found_held}
+use Rattle.dynamic_areas.specs.Ground.{Estate, IsEstate}
 use Rattle.rma.specs.Calls.{is_full, or_grown, rma_base, rma_claimed, rma_freed, with_store}
 use Rattle.rma.specs.Laws.{FreeUndoesClaim, IsUndone}
 use Rattle.rma.proofs.GrowthLemmas.{HasArea, area_there}

@@ -7,16 +7,16 @@ use Rattle.std.specs.Prelude.{ℕ, Bool, true, false, ◌+◌, ◌-◌, ◌*◌,
 use Rattle.profile.specs.Outcome.{bind}
 use Rattle.profile.specs.declared.error.ErrorNumber.{ErrorNumber}
 use Rattle.profile.specs.declared.error.ErrorNumber.TheVariants.{HeapNotABlock, HeapHoldsAnchor, HeapNoRoom, BlockHoldsHeap, RmaNotABlock, RmaHoldsAnchor, RmaNoRoom, RmaBlockHoldsHeap}
-use Rattle.os_heap.specs.os_heap_lists.specs.Lists.{round_up_8, total_for, changed_by}
-use Rattle.os_heap.specs.Calls.{heap_description, store_after_get, gave_back, store_after_resize, block_sized}
-use Rattle.os_heap.specs.Forgetting.{holds_heap}
-use Rattle.os_heap.specs.Room.{base_offset}
-use Rattle.os_heap.specs.Store.{Store}
-use Rattle.flex_frame.specs.dynamic_areas.specs.declared.area.Area.{Area}
-use Rattle.flex_frame.specs.dynamic_areas.specs.Areas.{find_area}
-use Rattle.flex_frame.specs.dynamic_areas.specs.Changing.{growth_room, land_more, pages_had, store_extended}
-use Rattle.flex_frame.specs.dynamic_areas.specs.Creating.{pages_for}
-use Rattle.flex_frame.specs.dynamic_areas.specs.Ground.{Estate}
+use Rattle.os_heap_words.specs.lists.Lists.{round_up_8, total_for, changed_by}
+use Rattle.dynamic_areas.specs.Calls.{heap_description, store_after_get, gave_back, store_after_resize, block_sized}
+use Rattle.dynamic_areas.specs.Forgetting.{holds_heap}
+use Rattle.dynamic_areas.specs.Room.{base_offset}
+use Rattle.dynamic_areas.specs.Store.{Store}
+use Rattle.dynamic_areas.specs.declared.area.Area.{Area}
+use Rattle.dynamic_areas.specs.Areas.{find_area}
+use Rattle.dynamic_areas.specs.Changing.{growth_room, land_more, pages_had, store_extended}
+use Rattle.dynamic_areas.specs.Creating.{pages_for}
+use Rattle.dynamic_areas.specs.Ground.{Estate}
 
 -- what a heap refuses has a name of its own in the module area
 abbrev pub rma_error : ErrorNumber → ErrorNumber

@@ -5,9 +5,9 @@ use Rattle.profile.specs.MemoryMap.{module_area_start}
 use Rattle.std.specs.Prelude.{ℕ, ◌*◌, ◌&&◌, not, Bool}
 use Rattle.std.specs.List.{list_any, range_with_len}
 use Rattle.address_map.specs.Bytes.{in_range}
-use Rattle.os_heap.specs.Payloads.{area_payload, is_other}
-use Rattle.os_heap.specs.Ranges.{are_bytes_mapped}
-use Rattle.flex_frame.specs.dynamic_areas.specs.Ground.{Estate}
+use Rattle.dynamic_areas.specs.Payloads.{area_payload, is_other}
+use Rattle.dynamic_areas.specs.Ranges.{are_bytes_mapped}
+use Rattle.dynamic_areas.specs.Ground.{Estate}
 use Rattle.rma.specs.Calls.{area_pages}
 
 -- Is a byte one of the module area's that no live block holds: of the heap's own words, of free

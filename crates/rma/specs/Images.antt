@@ -6,9 +6,9 @@ use Rattle.std.specs.Prelude.{ℕ, ◌≡◌, ◌<◌, true, false, length, IfOk
 use Rattle.profile.specs.declared.error.ErrorNumber.{ErrorNumber}
 use Rattle.address_map.specs.declared.region.Kind.TheVariants as kind
 use Rattle.address_map.specs.Records.{without_region}
-use Rattle.os_heap.specs.Calls.{OfHeap, block_sized, gave_back}
-use Rattle.os_heap.specs.Forgetting.{holds_heap}
-use Rattle.os_heap.specs.Store.{Store, find_heap, is_module_area}
+use Rattle.dynamic_areas.specs.Calls.{OfHeap, block_sized, gave_back}
+use Rattle.dynamic_areas.specs.Forgetting.{holds_heap}
+use Rattle.dynamic_areas.specs.Store.{Store, find_heap, is_module_area}
 
 -- the store with a block of the module area as an image
 abbrev pub store_with_image : Store → ℕ → Result ℕ ErrorNumber → Store

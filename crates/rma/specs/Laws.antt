@@ -3,9 +3,9 @@
 use Rattle.profile.specs.MemoryMap.{module_area_start}
 use Rattle.std.specs.Prelude.{ℕ, ◌≡◌, false, Result, Ok, Err}
 use Rattle.profile.specs.declared.error.ErrorNumber.{ErrorNumber}
-use Rattle.os_heap.specs.Calls.{store_after_get, items_of}
-use Rattle.os_heap.specs.Store.{has_image}
-use Rattle.flex_frame.specs.dynamic_areas.specs.Ground.{Estate, IsEstate}
+use Rattle.dynamic_areas.specs.Calls.{store_after_get, items_of}
+use Rattle.dynamic_areas.specs.Store.{has_image}
+use Rattle.dynamic_areas.specs.Ground.{Estate, IsEstate}
 use Rattle.rma.specs.Calls.{is_full, rma_claimed, rma_freed}
 
 -- the blocks and the free room are those of an estate, and the area has its size

@@ -8,11 +8,11 @@ use Rattle.profile.specs.declared.error.ErrorNumber.{ErrorNumber}
 use Rattle.address_map.specs.declared.region.Kind.TheVariants as kind
 use Rattle.address_map.specs.declared.region.Region.{Region}
 use Rattle.address_map.specs.Bytes.{with_bytes}
-use Rattle.os_heap.specs.os_heap_lists.specs.Lists.{live_total, total_for}
-use Rattle.os_heap.specs.Calls.{OfHeap, store_after_copy}
-use Rattle.os_heap.specs.Ranges.{are_bytes_mapped, meets_any}
-use Rattle.os_heap.specs.Store.{Store, find_heap}
-use Rattle.flex_frame.specs.dynamic_areas.specs.Ground.{Estate}
+use Rattle.os_heap_words.specs.lists.Lists.{live_total, total_for}
+use Rattle.dynamic_areas.specs.Calls.{OfHeap, store_after_copy}
+use Rattle.dynamic_areas.specs.Ranges.{are_bytes_mapped, meets_any}
+use Rattle.dynamic_areas.specs.Store.{Store, find_heap}
+use Rattle.dynamic_areas.specs.Ground.{Estate}
 use Rattle.rma.specs.Calls.{rma_claimed, with_store}
 use Rattle.rma.specs.Images.{image_recorded}
 

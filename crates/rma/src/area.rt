@@ -1,11 +1,11 @@
 //! The module area, and OS_Module 5: what is free in it.
 
 ghost use Rattle.std.specs.Prelude.{◌≡◌, Ok};
-ghost use Rattle.os_heap.specs.Store.{store_of, IsSound};
+ghost use Rattle.dynamic_areas.specs.Store.{store_of, IsSound};
 ghost use Rattle.rma.specs.Calls.{rma_described};
 
 use address_map::AddressMap;
-use os_heap::Heaps;
+use dynamic_areas::Heaps;
 use profile::ErrorNumber;
 use profile::memory_map::RMA_START;
 

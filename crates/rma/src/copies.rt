@@ -1,15 +1,14 @@
 //! Whether a range of memory may be copied into the module area as an image.
 
 ghost use Rattle.std.specs.Prelude.{◌≡◌};
-ghost use Rattle.flex_frame.specs.dynamic_areas.specs.Ground.{estate_of, IsEstate};
+ghost use Rattle.dynamic_areas.specs.Ground.{estate_of, IsEstate};
 ghost use Rattle.rma.specs.Copies.{has_bare, may_be_copied};
 
 use crate::area::Rma;
 use crate::growth::area_size;
 use crate::in_place::are_mapped;
 use address_map::AddressMap;
-use flex_frame::dynamic_areas::Areas;
-use os_heap::{Heaps, Payload};
+use dynamic_areas::{Areas, Heaps, Payload};
 use profile::memory_map::RMA_START;
 
 impl Rma {

@@ -5,11 +5,11 @@ ghost use Rattle.std.specs.Prelude.{◌≡◌, ◌<◌, ◌+◌, ◌^◌, true, 
 ghost use Rattle.profile.specs.Outcome.{Gives};
 ghost use Rattle.profile.specs.declared.error.ErrorNumber.TheVariants.{RmaBlockHoldsHeap, RmaNoRoom};
 ghost use Rattle.address_map.specs.Memory.{StaysInPlace};
-ghost use Rattle.os_heap.specs.Calls.{block_sized, store_after_resize};
-ghost use Rattle.os_heap.specs.Order.{KeepsOrder, LosesInOrder};
-ghost use Rattle.os_heap.specs.Store.{store_of, AreClasses, IsSound};
-ghost use Rattle.flex_frame.specs.dynamic_areas.specs.Ground.{estate_of, IsEstate};
-ghost use Rattle.flex_frame.specs.Keeping.{KeepsFlex};
+ghost use Rattle.dynamic_areas.specs.Calls.{block_sized, store_after_resize};
+ghost use Rattle.dynamic_areas.specs.Order.{KeepsOrder, LosesInOrder};
+ghost use Rattle.dynamic_areas.specs.Store.{store_of, AreClasses, IsSound};
+ghost use Rattle.dynamic_areas.specs.Ground.{estate_of, IsEstate};
+ghost use Rattle.rma.specs.flex_frame.Keeping.{KeepsFlex};
 ghost use Rattle.rma.specs.Calls.{block_holds, end_if_moved, end_in_place, grown_in_place, grown_to, in_grown_area, is_full, rma_base, rma_extended, total_changed};
 ghost use Rattle.rma.specs.Places.{KeepsPlaces};
 
@@ -17,8 +17,7 @@ use crate::area::Rma;
 use crate::errors::{is_no_room, rma_error};
 use crate::growth::{can_grow_to, grow_to};
 use address_map::AddressMap;
-use flex_frame::dynamic_areas::Areas;
-use os_heap::{Heaps, changed_by, round_up_8};
+use dynamic_areas::{Areas, Heaps, changed_by, round_up_8};
 use profile::ErrorNumber;
 use profile::memory_map::RMA_START;
 

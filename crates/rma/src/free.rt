@@ -3,18 +3,17 @@
 ghost use Rattle.std.specs.Prelude.{◌≡◌};
 ghost use Rattle.profile.specs.Outcome.{Gives};
 ghost use Rattle.address_map.specs.Memory.{mapping};
-ghost use Rattle.os_heap.specs.Store.{AreClasses};
-ghost use Rattle.flex_frame.specs.dynamic_areas.specs.Areas.{Land};
-ghost use Rattle.flex_frame.specs.dynamic_areas.specs.Ground.{estate_of, IsEstate};
-ghost use Rattle.os_heap.specs.Order.{LosesHeaps};
-ghost use Rattle.os_heap.specs.Store.{store_of, IsSound};
-ghost use Rattle.flex_frame.specs.Keeping.{KeepsFlex};
+ghost use Rattle.dynamic_areas.specs.Store.{AreClasses, store_of, IsSound};
+ghost use Rattle.dynamic_areas.specs.Areas.{Land};
+ghost use Rattle.dynamic_areas.specs.Ground.{estate_of, IsEstate};
+ghost use Rattle.dynamic_areas.specs.Order.{LosesHeaps};
+ghost use Rattle.rma.specs.flex_frame.Keeping.{KeepsFlex};
 ghost use Rattle.rma.specs.Calls.{rma_freed};
 
 use crate::area::Rma;
 use crate::errors::rma_error;
 use address_map::AddressMap;
-use os_heap::Heaps;
+use dynamic_areas::Heaps;
 use profile::ErrorNumber;
 use profile::memory_map::RMA_START;
 

@@ -2,18 +2,18 @@
 
 ghost use Rattle.std.specs.Prelude.{◌≡◌, ◌*◌, is_ok};
 ghost use Rattle.profile.specs.Outcome.{Leaves};
-ghost use Rattle.os_heap.specs.Order.{KeepsOrder};
-ghost use Rattle.os_heap.specs.Store.{store_of, AreClasses};
-ghost use Rattle.flex_frame.specs.dynamic_areas.specs.Areas.{find_area};
-ghost use Rattle.flex_frame.specs.dynamic_areas.specs.Changing.{pages_had};
-ghost use Rattle.flex_frame.specs.dynamic_areas.specs.Ground.{estate_of, IsEstate};
-ghost use Rattle.flex_frame.specs.dynamic_areas.specs.Rooms.{IsAreaTable};
-ghost use Rattle.flex_frame.specs.Keeping.{KeepsFlex};
+ghost use Rattle.dynamic_areas.specs.Order.{KeepsOrder};
+ghost use Rattle.dynamic_areas.specs.Store.{store_of, AreClasses};
+ghost use Rattle.dynamic_areas.specs.Areas.{find_area};
+ghost use Rattle.dynamic_areas.specs.Changing.{pages_had};
+ghost use Rattle.dynamic_areas.specs.Ground.{estate_of, IsEstate};
+ghost use Rattle.dynamic_areas.specs.Rooms.{IsAreaTable};
+ghost use Rattle.rma.specs.flex_frame.Keeping.{KeepsFlex};
 ghost use Rattle.rma.specs.Calls.{grown_to};
 ghost use Rattle.rma.specs.Places.{KeepsPlaces};
 
 use address_map::AddressMap;
-use flex_frame::dynamic_areas::{Areas, MODULE_AREA};
+use dynamic_areas::{Areas, MODULE_AREA};
 use profile::ErrorNumber;
 use profile::memory_map::{PAGE_SIZE, RMA_MAXIMUM};
 

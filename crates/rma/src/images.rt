@@ -6,17 +6,17 @@ ghost use Rattle.std.specs.List.{filter};
 ghost use Rattle.address_map.specs.Memory.{mapping, regions};
 ghost use Rattle.address_map.specs.Records.{without_region};
 ghost use Rattle.address_map.specs.declared.region.Kind.TheVariants.{Image};
-ghost use Rattle.os_heap.specs.Calls.{block_sized};
-ghost use Rattle.os_heap.specs.Order.{stays, AddsRecord, KeepsOrder};
-ghost use Rattle.os_heap.specs.Store.{store_of, AreClasses, IsSound};
-ghost use Rattle.flex_frame.specs.dynamic_areas.specs.Areas.{Land};
-ghost use Rattle.flex_frame.specs.dynamic_areas.specs.Ground.{estate_of, IsEstate};
-ghost use Rattle.flex_frame.specs.Keeping.{RangeHasNoAnchor, KeepsFlex};
+ghost use Rattle.dynamic_areas.specs.Calls.{block_sized};
+ghost use Rattle.dynamic_areas.specs.Order.{stays, AddsRecord, KeepsOrder};
+ghost use Rattle.dynamic_areas.specs.Store.{store_of, AreClasses, IsSound};
+ghost use Rattle.dynamic_areas.specs.Areas.{Land};
+ghost use Rattle.dynamic_areas.specs.Ground.{estate_of, IsEstate};
+ghost use Rattle.rma.specs.flex_frame.Keeping.{RangeHasNoAnchor, KeepsFlex};
 ghost use Rattle.rma.specs.Images.{image_dropped, image_freed, image_recorded, CanRecord};
 
 use crate::area::Rma;
 use address_map::{AddressMap, Kind};
-use os_heap::Heaps;
+use dynamic_areas::Heaps;
 use profile::memory_map::RMA_START;
 
 impl Rma {

@@ -3,12 +3,12 @@
 ghost use Rattle.std.specs.Prelude.{◌≡◌, ◌<◌, true, length};
 ghost use Rattle.address_map.specs.Memory.{mapping};
 ghost use Rattle.address_map.specs.declared.region.Kind.TheVariants.{Image};
-ghost use Rattle.os_heap.specs.Order.{AddsRecord};
-ghost use Rattle.os_heap.specs.Ranges.{are_bytes_mapped, meets_any};
-ghost use Rattle.os_heap.specs.Store.{store_of, AreClasses, IsSound};
-ghost use Rattle.flex_frame.specs.dynamic_areas.specs.Areas.{Land};
-ghost use Rattle.flex_frame.specs.dynamic_areas.specs.Ground.{estate_of, IsEstate};
-ghost use Rattle.flex_frame.specs.Keeping.{KeepsFlex};
+ghost use Rattle.dynamic_areas.specs.Order.{AddsRecord};
+ghost use Rattle.dynamic_areas.specs.Ranges.{are_bytes_mapped, meets_any};
+ghost use Rattle.dynamic_areas.specs.Store.{store_of, AreClasses, IsSound};
+ghost use Rattle.dynamic_areas.specs.Areas.{Land};
+ghost use Rattle.dynamic_areas.specs.Ground.{estate_of, IsEstate};
+ghost use Rattle.rma.specs.flex_frame.Keeping.{KeepsFlex};
 ghost use Rattle.rma.specs.Calls.{with_store};
 ghost use Rattle.rma.specs.NewImages.{may_be_in_place, with_image_in_place};
 

@@ -5,21 +5,21 @@ ghost use Rattle.profile.specs.MemoryMap.{module_area_maximum, module_area_start
 ghost use Rattle.profile.specs.Outcome.{Gives};
 ghost use Rattle.address_map.specs.Bytes.{in_range, AreMapped};
 ghost use Rattle.address_map.specs.Memory.{is_mapped, layout};
-ghost use Rattle.os_heap.specs.os_heap_lists.specs.Lists.{total_for};
-ghost use Rattle.os_heap.specs.Calls.{store_after_copy};
-ghost use Rattle.os_heap.specs.Forgetting.{holds_heap};
+ghost use Rattle.os_heap_words.specs.lists.Lists.{total_for};
+ghost use Rattle.dynamic_areas.specs.Calls.{store_after_copy};
+ghost use Rattle.dynamic_areas.specs.Forgetting.{holds_heap};
 ghost use Rattle.address_map.specs.declared.region.Kind.TheVariants.{Image};
-ghost use Rattle.os_heap.specs.Order.{AddsRecord, KeepsOrder};
-ghost use Rattle.os_heap.specs.Store.{store_of, AreClasses, IsSound, has_image};
-ghost use Rattle.flex_frame.specs.dynamic_areas.specs.Areas.{Land};
-ghost use Rattle.flex_frame.specs.dynamic_areas.specs.Ground.{estate_of, IsEstate};
-ghost use Rattle.flex_frame.specs.Keeping.{is_in_record, RangeHasNoAnchor, KeepsFlex};
+ghost use Rattle.dynamic_areas.specs.Order.{AddsRecord, KeepsOrder};
+ghost use Rattle.dynamic_areas.specs.Store.{store_of, AreClasses, IsSound, has_image};
+ghost use Rattle.dynamic_areas.specs.Areas.{Land};
+ghost use Rattle.dynamic_areas.specs.Ground.{estate_of, IsEstate};
+ghost use Rattle.rma.specs.flex_frame.Keeping.{is_in_record, RangeHasNoAnchor, KeepsFlex};
 ghost use Rattle.rma.specs.NewImages.{store_with_image_bytes, image_copied, image_made, image_record, IsLiveBlock};
 ghost use Rattle.rma.specs.Places.{KeepsPlaces};
 
 use crate::area::Rma;
 use address_map::AddressMap;
-use flex_frame::dynamic_areas::Areas;
+use dynamic_areas::Areas;
 use profile::ErrorNumber;
 use profile::memory_map::RMA_MAXIMUM;
 

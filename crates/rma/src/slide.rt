@@ -4,13 +4,13 @@ ghost use Rattle.profile.specs.MemoryMap.{module_area_start};
 ghost use Rattle.std.specs.Prelude.{◌≡◌};
 ghost use Rattle.address_map.specs.Memory.{mapping, regions};
 ghost use Rattle.address_map.specs.Moves.{moved_regions};
-ghost use Rattle.os_heap.specs.Store.{store_of, AreClasses, IsSound};
-ghost use Rattle.flex_frame.specs.os_heap_slide.specs.Slide.{MaySlide, IsHeapSlid};
-ghost use Rattle.flex_frame.specs.Keeping.{KeepsFlex};
+ghost use Rattle.dynamic_areas.specs.Store.{store_of, AreClasses, IsSound};
+ghost use Rattle.rma.specs.heap_slide.Slide.{MaySlide, IsHeapSlid};
+ghost use Rattle.rma.specs.flex_frame.Keeping.{KeepsFlex};
 
 use crate::area::Rma;
+use crate::heap_slide::{Moves, slide};
 use address_map::AddressMap;
-use flex_frame::os_heap_slide::{Moves, slide};
 use profile::memory_map::RMA_START;
 
 impl Rma {
@@ -24,7 +24,7 @@ impl Rma {
     ///
     /// RISC OS 3 Programmer's Reference Manual, "OS_Module", reason 8; which blocks can be moved is
     /// this project's own.
-    #[tactic(auto, using(flex_frame::proofs::Slides::slides_keep))]
+    #[tactic(auto, using(crate::proofs::FlexFrameLemmas::Slides::slides_keep))]
     pub fn slide(&self, map: &mut AddressMap, movable: &[u32]) -> Moves
         requires sound { IsSound (store_of map.old) }
         requires classes { AreClasses map.old }

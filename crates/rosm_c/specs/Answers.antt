@@ -1,7 +1,7 @@
 -- What a caller in C finds after a script: the exit status of the program `rosm`, the front of the
 -- answers for which there was room, and how long all of them are.
 use Rattle.std.specs.Prelude.{◌≡◌, ◌⊎◌, ℕ, ◌++◌, List, length, take, drop}
-use Rattle.command_line.specs.Status.{status_after}
+use Rattle.rosm_settings.specs.command_line.Status.{status_after}
 use Rattle.command_shell.specs.State.{Answered}
 
 -- the room, with as much of a text as fits at its front

@@ -5,10 +5,10 @@ ghost use Rattle.view_items.specs.TextSink.{sink_text_of};
 ghost use Rattle.command_shell.specs.Script.{script_told};
 ghost use Rattle.rosm_c.specs.Answers.{TellsAnswersUnlessNone, room_with};
 
-use command_line::stop_status;
 use command_shell::{RunError, run_script};
 use image_loader::Images;
 use profile::{Config, Device, Stop};
+use rosm_settings::command_line::stop_status;
 use std::alloc::Global;
 use view_items::TextSink;
 
@@ -79,105 +79,4 @@ fn put(text: &[u8], room: &mut [u8])
 {
     let count = text.len().min(room.len());
     room[..count].copy_from_slice(&text[..count]);
-}
-
-#[cfg(test)]
-mod tests {
-    use crate::{rosm_run, rosm_run_image};
-    use std::test::Fail;
-
-    // the usual sizes of `rosm`
-    const PAGES: u32 = 256;
-
-    const APP: u32 = 64;
-
-    const RMA: u32 = 16;
-
-    #[test]
-    fn answers_with_the_status_of_rosm(rt: HostRuntime) -> Result<(), Fail> {
-        let (mut out, mut written) = ([0u8; 64], 7);
-        let status = rosm_run(
-            rt.alloc(),
-            PAGES,
-            APP,
-            RMA,
-            1000,
-            b"STEP 0\n",
-            &mut out,
-            &mut written,
-        );
-        assert!(rt; (status, written) == (3, 9));
-        assert!(rt; out.starts_with(b"at &8000\n\0"));
-        Ok(())
-    }
-
-    #[test]
-    fn fills_no_more_than_its_room(rt: HostRuntime) -> Result<(), Fail> {
-        let (mut out, mut written) = (*b"......", 0);
-        let status = rosm_run(
-            rt.alloc(),
-            PAGES,
-            APP,
-            RMA,
-            1000,
-            b"STEP 0\n",
-            &mut out[..4],
-            &mut written,
-        );
-        assert!(rt; (status, written) == (3, 9));
-        assert!(rt; out == *b"at &..");
-        Ok(())
-    }
-
-    #[test]
-    fn refuses_sizes_that_no_machine_has(rt: HostRuntime) -> Result<(), Fail> {
-        let (mut out, mut written) = ([7u8; 4], 7);
-        let status = rosm_run(
-            rt.alloc(),
-            1,
-            APP,
-            RMA,
-            1000,
-            b"STEP 0\n",
-            &mut out,
-            &mut written,
-        );
-        assert!(rt; (status, written, out) == (2, 0, [7; 4]));
-        Ok(())
-    }
-
-    #[test]
-    fn boots_an_image(rt: HostRuntime) -> Result<(), Fail> {
-        // SWI OS_Exit
-        let image = [0x11, 0, 0, 0xEF];
-        let (mut out, mut written) = ([0u8; 64], 0);
-        let status = rosm_run_image(
-            rt.alloc(),
-            PAGES,
-            APP,
-            RMA,
-            1000,
-            b"quit",
-            &image,
-            b"BOOT quit\nRUN\n",
-            &mut out,
-            &mut written,
-        );
-        assert!(rt; (status, written) == (0, 20));
-        assert!(rt; out.starts_with(b"boot quit\nstop Exit\n"));
-        let status = rosm_run_image(
-            rt.alloc(),
-            PAGES,
-            APP,
-            RMA,
-            1000,
-            b"a b",
-            &image,
-            b"RUN\n",
-            &mut out,
-            &mut written,
-        );
-        assert!(rt; (status, written) == (4, 0));
-        Ok(())
-    }
 }

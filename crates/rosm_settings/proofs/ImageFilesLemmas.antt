@@ -1,7 +1,5 @@
 -- A file's front of one byte more than an image can have tells whether the file can be an image.
-use Rattle.std.proofs.Common.{◌≡◌, ◌≤◌, ◌<◌, ◌∙◌, ◌+◌, ◌++◌, ◌∷◌, [], ℕ, List, length, take, append_assoc, slice_get, nat_lt}
-use Rattle.std.proofs.Common.{Option, Some, None, Result, Ok, Err, IfSome, IsOkUnless, MatchOption, false, arith, refl, sym, ap}
-use Rattle.std.proofs.Common.{subst}
+use Rattle.std.proofs.Common.{◌≡◌, ◌≤◌, ◌<◌, ◌∙◌, ◌+◌, ◌++◌, ◌∷◌, [], ℕ, List, length, take, append_assoc, slice_get, nat_lt, Option, Some, None, Result, Ok, Err, IfSome, IsOkUnless, MatchOption, false, arith, refl, sym, ap, subst}
 use Rattle.std.proofs.lemmas.Bool.Decides.{nat_tests}
 use Rattle.std.proofs.lemmas.List.{append-nil, length-take, map-append, take_all, take_more}
 use Rattle.std.proofs.lemmas.Option.{get_or_from_slice_get, slice_get_within}
@@ -9,8 +7,7 @@ use Rattle.image_loader.specs.Entries.{Entry, refusal_for, with_entry}
 use Rattle.image_loader.specs.declared.error.ImageError.{ImageError}
 use Rattle.image_loader.specs.declared.error.ImageError.TheVariants as image
 use Rattle.std.specs.Path.{path_file_name}
-use Rattle.rosm_settings.specs.ImageFiles.{AddsFile, AddsFiles, AddsImageFile, RefusesImage, front_of, is_host_error}
-use Rattle.rosm_settings.specs.ImageFiles.{names_for, names_of}
+use Rattle.rosm_settings.specs.ImageFiles.{AddsFile, AddsFiles, AddsImageFile, RefusesImage, front_of, is_host_error, names_for, names_of}
 use Rattle.rosm_settings.specs.declared.image_files.FileError.TheVariants as file
 
 in_limit : (entries : List Entry) (name : List ℕ) (len : ℕ) → refusal_for entries name len ≡ None → len ≤ 1048576

@@ -1,3 +1,4 @@
 pub mod ImageFilesLemmas
 pub mod StreamLemmas
 pub mod TextLemmas
+pub mod CommandLineLemmas

@@ -1,7 +1,7 @@
 -- What a run over the standard streams tells, by what the run to a stream does.
 use Rattle.std.proofs.Common.{◌≡◌, ℕ, List, Option, IfSome, subst}
 use Rattle.profile.specs.declared.stop.Stop.{Stop}
-use Rattle.command_line.specs.declared.options.Settings.{Settings}
+use Rattle.rosm_settings.specs.declared.command_line.options.Settings.{Settings}
 use Rattle.rosm_settings.specs.Answering.{AnswersScript, StopsWithScript, answers_to}
 
 -- the last stop of a script that a reader tells

@@ -6,7 +6,7 @@ use Rattle.image_loader.specs.Entries.{Entry}
 use Rattle.profile.specs.Output.{AddsFront}
 use Rattle.command_shell.specs.Script.{script_told}
 use Rattle.command_shell.specs.State.{Answered}
-use Rattle.command_line.specs.declared.options.Settings.{Settings}
+use Rattle.rosm_settings.specs.declared.command_line.options.Settings.{Settings}
 use Rattle.rosm_settings.specs.ImageFiles.{AddsFiles, StopsAtFile}
 use Rattle.rosm_settings.specs.declared.refusal.SettingsRefusal.{SettingsRefusal}
 use Rattle.rosm_settings.specs.declared.refusal.SettingsRefusal.TheVariants as refusal

@@ -5,10 +5,10 @@ use Rattle.std.specs.Io.KnownBytes.{Appends}
 use Rattle.std.specs.declared.io.ErrorKind.{ErrorKind}
 use Rattle.std.specs.declared.io.ErrorKind.TheVariants.{OutOfMemory}
 use Rattle.profile.specs.declared.stop.Stop.{Stop}
-use Rattle.command_line.specs.Status.{status_after}
-use Rattle.command_line.specs.declared.options.Settings.{Settings}
-use Rattle.command_line.specs.declared.options.SettingsError.{SettingsError}
-use Rattle.command_line.specs.declared.options.SettingsError.TheVariants as refused
+use Rattle.rosm_settings.specs.command_line.Status.{status_after}
+use Rattle.rosm_settings.specs.declared.command_line.options.Settings.{Settings}
+use Rattle.rosm_settings.specs.declared.command_line.options.SettingsError.{SettingsError}
+use Rattle.rosm_settings.specs.declared.command_line.options.SettingsError.TheVariants as refused
 use Rattle.rosm_settings.specs.Texts.{refusal_text}
 use Rattle.rosm_settings.specs.declared.refusal.SettingsRefusal.{SettingsRefusal}
 use Rattle.rosm_settings.specs.declared.refusal.SettingsRefusal.TheVariants as refusal

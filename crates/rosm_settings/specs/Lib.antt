@@ -1,6 +1,6 @@
 -- The whole run of the program. Begin with Answering.
-pub use Rattle.command_line
 pub mod Answering
 pub mod Endings
 pub mod ImageFiles
 pub mod Texts
+pub mod command_line

@@ -4,7 +4,7 @@ use Rattle.std.specs.Fmt.{debug_str}
 use Rattle.image_loader.specs.ErrorNames.{image_error_name}
 use Rattle.image_loader.specs.declared.error.ImageError.{ImageError}
 use Rattle.image_loader.specs.declared.error.ImageError.TheVariants as image
-use Rattle.command_line.specs.Texts.{usage_text}
+use Rattle.rosm_settings.specs.command_line.Texts.{usage_text}
 use Rattle.command_shell.specs.Error.{run_error_text}
 use Rattle.rosm_settings.specs.declared.image_files.FileError.{FileError}
 use Rattle.rosm_settings.specs.declared.image_files.FileError.TheVariants as file

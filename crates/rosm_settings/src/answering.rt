@@ -6,9 +6,9 @@ ghost use Rattle.command_shell.specs.Whole.{AnswersWhole};
 ghost use Rattle.rosm_settings.specs.Answering.{AnswersScript, EndsWithin, RefusesFiles, TellsOfFile, answers_to, is_of_run};
 ghost use Rattle.rosm_settings.specs.Endings.{refusal_status};
 
+use crate::command_line::Settings;
 use crate::image_files::add_files;
 use crate::refusal::SettingsRefusal;
-use command_line::Settings;
 use command_shell::{RunError, run_script};
 use image_loader::Images;
 use profile::{Device, Sink, Source, Stop};

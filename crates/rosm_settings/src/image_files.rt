@@ -2,13 +2,11 @@
 
 ghost use Rattle.std.specs.Prelude.{◌≡◌, [], ◌∷◌, ◌++◌, false, IfErr, IfOk, IfSome, OnErr, OnOk, Some};
 ghost use Rattle.std.specs.Path.{path_file_name};
-ghost use Rattle.rosm_settings.specs.ImageFiles.{file_error as error_of};
-ghost use Rattle.rosm_settings.specs.ImageFiles.{AddsFile, AddsFiles, AddsImageFile, RefusesFile, RefusesImage, StopsAtFile};
-ghost use Rattle.rosm_settings.specs.ImageFiles.{front_of, is_host_error, names_for, names_of};
+ghost use Rattle.rosm_settings.specs.ImageFiles.{file_error as error_of, AddsFile, AddsFiles, AddsImageFile, RefusesFile, RefusesImage, StopsAtFile, front_of, is_host_error, names_for, names_of};
 ghost use Rattle.rosm_settings.specs.Texts.{rule_text};
 
+use crate::command_line::Files;
 use crate::refusal::SettingsRefusal;
-use command_line::Files;
 use image_loader::{ImageError, Images};
 use profile::memory_map::MOST_BYTES;
 use std::alloc::Global;

@@ -3,14 +3,14 @@
 #![tactic(auto)]
 
 pub mod answering;
+pub mod command_line;
 pub mod image_files;
 pub mod process;
 pub mod refusal;
 pub mod watched;
 
+pub use crate::command_line::{Files, Settings, SettingsError, settings, stop_status};
 pub use answering::{answer_script, run, run_to_stream};
-pub use command_line;
-pub use command_line::{Files, Settings, SettingsError, settings, stop_status};
 pub use command_shell::RunError;
 pub use process::{exit_code, read_settings, run_on_standard_streams};
 pub use refusal::SettingsRefusal;

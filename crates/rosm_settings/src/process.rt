@@ -2,16 +2,18 @@
 ghost use Rattle.std.specs.Prelude.{◌≡◌, ◌++◌, true, Err, IfErr, IfOk, Ok, OnErr, OnOk, codes, map, string_bytes};
 ghost use Rattle.std.specs.Process.{exit_status};
 ghost use Rattle.profile.specs.Output.{Writes};
-ghost use Rattle.command_line.specs.Settings.{settings_for};
+ghost use Rattle.rosm_settings.specs.command_line.Settings.{settings_for};
 ghost use Rattle.command_shell.specs.declared.error.RunError.TheVariants.{ScriptTooLong};
 ghost use Rattle.rosm_settings.specs.Answering.{StopsWithScript, TellsOfFile, TellsTooMuch};
 ghost use Rattle.rosm_settings.specs.Endings.{IsSettingsRefusalOf, TellsEnding, TellsLine, refusal_status, status_of, words_refused};
 ghost use Rattle.rosm_settings.specs.Texts.{refusal_text};
 
 use crate::answering::run_to_stream;
+use crate::command_line::{
+    Settings, SettingsError, line_reason, settings, sizes_reason, stop_status,
+};
 use crate::refusal::SettingsRefusal;
 use crate::watched::Watched;
-use command_line::{Settings, SettingsError, line_reason, settings, sizes_reason, stop_status};
 use profile::{Device, Sink, Stop, WriteFault, push_parts};
 use std::alloc::{AllocError, Global};
 use std::env::Env;

@@ -2,8 +2,8 @@
 
 ghost use Rattle.std.specs.Prelude.{◌≡◌};
 
+use crate::command_line::USAGE;
 use crate::image_files::FileError;
-use command_line::USAGE;
 use command_shell::RunError;
 use std::alloc::AllocError;
 use std::error::Error;

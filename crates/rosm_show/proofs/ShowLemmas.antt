@@ -5,7 +5,7 @@ use Rattle.std.proofs.lemmas.Option.{get_or_from_slice_get, slice_get_within}
 use Rattle.std.specs.Io.KnownBytes.{Appends, Keeps}
 use Rattle.std.specs.Path.{path_file_name}
 use Rattle.profile.specs.declared.stop.Stop.{Stop}
-use Rattle.command_shell.specs.Error.{reading_end}
+use Rattle.script_page.specs.Error.{reading_end}
 use Rattle.command_shell_lines.specs.declared.error.ReadingError.{ReadingError}
 use Rattle.command_shell_lines.specs.declared.error.ReadingError.TheVariants as reading
 use Rattle.rosm_settings.specs.ImageFiles.{names_for}

@@ -4,8 +4,8 @@ use Rattle.std.specs.Prelude.{◌||◌}
 use Rattle.std.proofs.lemmas.List.{at_drop_more, at_drop_all}
 use denote.Ref.{Bor}
 use Rattle.script_page.specs.declared.form.PageForm.{PageForm}
-use Rattle.command_line.specs.declared.options.Settings.{Settings}
-use Rattle.command_line.specs.declared.options.SettingsError.{SettingsError}
+use Rattle.rosm_settings.specs.declared.command_line.options.Settings.{Settings}
+use Rattle.rosm_settings.specs.declared.command_line.options.SettingsError.{SettingsError}
 use Rattle.rosm_show.specs.Endings.{form_wanted, formless_words, settings_wanted, IsRefusalBy, IsRefusedBy, IsShowRefusalOf}
 use Rattle.rosm_show.specs.Width.{form_if_in_width, form_in_width, widths_from}
 use Rattle.rosm_show.specs.declared.width.Expected.TheVariants as expected

@@ -5,13 +5,13 @@ use Rattle.std.specs.Prelude.{◌≡◌, ℕ, Bool, true, false, List, Option, S
 use Rattle.std.specs.declared.io.ErrorKind.{ErrorKind}
 use Rattle.std.specs.declared.io.ErrorKind.TheVariants.{OutOfMemory}
 use Rattle.profile.specs.declared.stop.Stop.{Stop}
-use Rattle.command_line.specs.Settings.{settings_for}
-use Rattle.command_line.specs.Status.{status_after}
-use Rattle.command_line.specs.declared.options.Settings.{Settings}
-use Rattle.command_line.specs.declared.options.SettingsError.{SettingsError}
-use Rattle.command_line.specs.declared.options.SettingsError.TheVariants as refused
-use Rattle.command_shell.specs.declared.error.RunError.{RunError}
-use Rattle.command_shell.specs.declared.error.RunError.TheVariants.{WriteFault}
+use Rattle.rosm_settings.specs.command_line.Settings.{settings_for}
+use Rattle.rosm_settings.specs.command_line.Status.{status_after}
+use Rattle.rosm_settings.specs.declared.command_line.options.Settings.{Settings}
+use Rattle.rosm_settings.specs.declared.command_line.options.SettingsError.{SettingsError}
+use Rattle.rosm_settings.specs.declared.command_line.options.SettingsError.TheVariants as refused
+use Rattle.script_page.specs.CommandShellRunError.{RunError}
+use Rattle.script_page.specs.CommandShellRunError.TheVariants.{WriteFault}
 use Rattle.script_page.specs.declared.form.PageForm.{PageForm}
 use Rattle.rosm_show.specs.Width.{form_if_in_width, widths_from, words_left_from}
 use Rattle.rosm_show.specs.Words.{page_form_of, forms_from, others_from}

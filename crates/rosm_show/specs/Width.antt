@@ -1,6 +1,5 @@
 -- The words that ask for how wide the pictures of a text are: `--width N` or `--width=N`.
-use Rattle.std.specs.Prelude.{ℕ, ◌+◌, ◌-◌, ◌*◌, ◌&&◌, Bool, true, false, not, nat_le, List, [], ◌∷◌, take, drop}
-use Rattle.std.specs.Prelude.{Option, Some, None, is_some, option_map, codes, if◌then◌else◌}
+use Rattle.std.specs.Prelude.{ℕ, ◌+◌, ◌-◌, ◌*◌, ◌&&◌, Bool, true, false, not, nat_le, List, [], ◌∷◌, take, drop, Option, Some, None, is_some, option_map, codes, if◌then◌else◌}
 use Rattle.std.specs.Str.{bytes_eq}
 use Rattle.script_page.specs.declared.form.PageForm.{PageForm}
 use Rattle.script_page.specs.declared.form.PageForm.TheVariants as form

@@ -1,9 +1,7 @@
 //! The words that ask for the form of a page.
 
 ghost use Rattle.std.specs.Prelude.{◌≡◌, false, map, IfOk};
-ghost use Rattle.rosm_show.specs.Words.{ends_options, form_asked, forms_from, others_from};
-ghost use Rattle.rosm_show.specs.Words.{form_at as form_asked_at};
-ghost use Rattle.rosm_show.specs.Words.{page_form_of as form_told};
+ghost use Rattle.rosm_show.specs.Words.{ends_options, form_asked, forms_from, others_from, form_at as form_asked_at, page_form_of as form_told};
 
 use script_page::PageForm;
 use std::alloc::{AllocError, Global};

@@ -7,8 +7,8 @@ ghost use Rattle.rosm_show.specs.Endings.{show_status_of};
 use crate::refusal::ShowRefusal;
 use crate::show::show_to_stream;
 use crate::words::WantedPage;
-use command_line::stop_status;
 use profile::{Device, Stop};
+use rosm_settings::command_line::stop_status;
 use std::process::ExitCode;
 use std::{fs, io};
 

@@ -2,9 +2,9 @@
 
 ghost use Rattle.std.specs.Prelude.{◌≡◌};
 
-use command_line::SettingsError;
-use command_shell::RunError;
+use rosm_settings::command_line::SettingsError;
 use rosm_settings::image_files::FileError;
+use script_page::RunError;
 use std::alloc::AllocError;
 use thiserror::Error;
 

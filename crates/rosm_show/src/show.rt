@@ -9,14 +9,13 @@ ghost use Rattle.rosm_show.specs.Showing.{names_in, ShowsFirstLines, ShowsPage};
 
 use crate::refusal::ShowRefusal;
 use crate::words::WantedPage;
-use command_line::Files;
-use command_shell::RunError;
 use command_shell_lines::read_script;
 use image_loader::Images;
 use profile::{Device, Source, Stop};
+use rosm_settings::command_line::Files;
 use rosm_settings::image_files::{FileError, add_files};
 use script_page::style::{BACK, FRONT};
-use script_page::{NamedImage, Setting, push_page};
+use script_page::{NamedImage, RunError, Setting, push_page};
 use std::alloc::Global;
 use std::fs;
 use std::io::{BufWriter, Write};

@@ -1,8 +1,7 @@
 //! The words that ask for how wide the pictures of a text are.
 
 ghost use Rattle.std.specs.Prelude.{◌≡◌, map, option_map, IfOk, OnOk};
-ghost use Rattle.rosm_show.specs.Width.{expected_after, form_in_width, is_left, page_width, short_number, width_at, width_option, width_wanted};
-ghost use Rattle.rosm_show.specs.Width.{widths_from, words_left_from};
+ghost use Rattle.rosm_show.specs.Width.{expected_after, form_in_width, is_left, page_width, short_number, width_at, width_option, width_wanted, widths_from, words_left_from};
 ghost use Rattle.rosm_show.specs.declared.width.Expected.TheVariants.{Option as expects_option};
 
 use script_page::PageForm;

@@ -1,13 +1,13 @@
 //! The words of the program: the form of the page, and what `rosm` takes too.
 
 ghost use Rattle.std.specs.Prelude.{◌≡◌, IfErr, IfOk, None, Ok, Result, map, string_bytes};
-ghost use Rattle.command_line.specs.Settings.{settings_for};
+ghost use Rattle.rosm_settings.specs.command_line.Settings.{settings_for};
 ghost use Rattle.rosm_show.specs.Endings.{Asks, IsRefusalBy, IsShowRefusalOf, IsRefusedBy, show_words_refused};
 
 use crate::form::{form_of, part_words};
 use crate::refusal::ShowRefusal;
 use crate::width::{form_in_width, part_widths};
-use command_line::{Settings, SettingsError, line_reason, settings, sizes_reason};
+use rosm_settings::command_line::{Settings, SettingsError, line_reason, settings, sizes_reason};
 use script_page::PageForm;
 use std::alloc::{AllocError, Global};
 use std::env;

@@ -14,8 +14,6 @@ pub enum Face {
     Debug,
     /// `gdb`.
     Gdb,
-    /// `source`.
-    Source,
     /// `symbols`.
     Symbols,
 }
@@ -39,8 +37,6 @@ fn face_of(word: &[u8]) -> Option<Face>
         Some(Face::Debug)
     } else if word == b"gdb".as_slice() {
         Some(Face::Gdb)
-    } else if word == b"source".as_slice() {
-        Some(Face::Source)
     } else if word == b"symbols".as_slice() {
         Some(Face::Symbols)
     } else {
@@ -53,7 +49,7 @@ pub fn refuse<R: Eprint>(rt: &R) -> ExitCode
     ensures { exit_status result ≡ 2 }
 {
     let _ = eprintln!(rt;
-        "rosm_tools: the first word is debug, gdb, source or symbols; usage: rosm_tools (debug | gdb | source | symbols) [WORD...]"
+        "rosm_tools: the first word is debug, gdb or symbols; usage: rosm_tools (debug | gdb | symbols) [WORD...]"
     );
     ExitCode::from(2)
 }

@@ -1,2 +1,3 @@
 -- A run in slices is one run.
+pub use Rattle.command_shell.proofs.ScriptLemmas
 pub mod SliceLemmas

@@ -10,11 +10,11 @@ use Rattle.command_shell.specs.Stepping.{IsAfterRun, run_told, script_after_run,
 use Rattle.image_loader.specs.Entries.{Entry}
 use Rattle.profile.specs.declared.stop.Stop.{Stop}
 use Rattle.profile.specs.declared.stop.Stop.TheVariants as stop
-use Rattle.debugger.specs.swi_dispatch_guest.specs.declared.halt.Halt.{Halt}
-use Rattle.debugger.specs.swi_dispatch_guest.specs.MachineState.{MachineState, StepOutcome}
-use Rattle.debugger.specs.swi_dispatch_guest.specs.Run.{Run, go_on, is_among, ran, resting, run_after_steps, run_unless_halted, then_run}
-use Rattle.debugger.specs.swi_dispatch_guest.specs.Step.{machine_step}
-use Rattle.debugger.specs.swi_dispatch_guest.proofs.Runs.{halt-no_budget, runs_on}
+use Rattle.command_shell.specs.Halt.{Halt}
+use Rattle.command_shell.specs.MachineState.{MachineState, StepOutcome}
+use Rattle.command_shell.specs.Run.{Run, go_on, is_among, ran, resting, run_after_steps, run_unless_halted, then_run}
+use Rattle.command_shell.specs.Step.{machine_step}
+use Rattle.command_shell.proofs.Runs.{halt-no_budget, runs_on}
 
 branch_counts : (b : Bool) (a : StepOutcome) (n : ℕ) (r : Run) → (r.stop ≡ stop.Budget → r.taken ≡ n)
     → (let broken : Run = record { now = a.now; printed = a.printed; last = Some a.printed; taken = 1; stop = stop.Break a.now.cpu.pc } in

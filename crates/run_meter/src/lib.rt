@@ -4,5 +4,6 @@
 mod meter;
 mod metered;
 
+pub use command_shell::{Machine, RunError, Session, tell_unknown};
 pub use meter::RunMeter;
 pub use metered::answer_metered;

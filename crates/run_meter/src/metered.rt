@@ -14,9 +14,9 @@ ghost use Rattle.image_loader.specs.Entries.{Entry};
 use crate::meter::RunMeter;
 use command_shell::{RunError, Session, tell_stepped, tell_stop};
 use command_shell_lines::ScriptCommand;
-use command_shell_lines::text_lines::Lines;
 use image_loader::Images;
 use profile::{Sink, Stop, WriteFault};
+use text_lines::Lines;
 
 /// So many steps are taken before the meter is told.
 const STEPS_TOLD: u64 = 20_000_000;

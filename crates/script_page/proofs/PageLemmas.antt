@@ -1,6 +1,5 @@
 -- How a page goes on, entry by entry, and what its first and its last line stand on.
-use Rattle.std.proofs.Common.{◌≡◌, ◌≤◌, ◌<◌, ◌+◌, ◌-◌, ℕ, suc, Bool, true, false, ◌⊎◌, List, [], ◌∷◌, ◌++◌, length, map, take, All, Option, Some, None}
-use Rattle.std.proofs.Common.{refl, ap, sym, ◌∙◌, subst, arith, length-append, inl, inr}
+use Rattle.std.proofs.Common.{◌≡◌, ◌≤◌, ◌<◌, ◌+◌, ◌-◌, ℕ, suc, Bool, true, false, ◌⊎◌, List, [], ◌∷◌, ◌++◌, length, map, take, All, Option, Some, None, refl, ap, sym, ◌∙◌, subst, arith, length-append, inl, inr}
 use Rattle.std.proofs.lemmas.List.{append_assoc, append-nil, map-append, take-append-le, take_all}
 use Rattle.std.proofs.lemmas.List.Elements.{All-nil, All-push}
 use Rattle.std.proofs.lemmas.Bool.{cases_lt}
@@ -17,9 +16,8 @@ use Rattle.command_shell_lines.specs.Requests.{request_of}
 use Rattle.script_page.proofs.FrontLineLemmas.{both_end, no_lines, nothing_ends}
 use Rattle.script_page.proofs.LeadingLemmas.{leads_from_start, leads_on, state_so_far, text_so_far, LeadsTo}
 use Rattle.script_page.specs.Answering.{count_of_block, line_told, state_of_answering, EndsItsLines, IsNextEntry, IsOneRequest}
-use Rattle.view_reading.specs.swi_dispatch_guest.specs.MachineState.{MachineState}
-use Rattle.script_page.specs.Page.{answers_of, left_behind, lines_of, machine_behind, number_after, numbers_from, steps_behind, steps_text}
-use Rattle.script_page.specs.Page.{views_behind, AreShown, HasSteps, IsPageBy, IsPage, ShowViews}
+use Rattle.view_reading.specs.MachineState.{MachineState}
+use Rattle.script_page.specs.Page.{answers_of, left_behind, lines_of, machine_behind, number_after, numbers_from, steps_behind, steps_text, views_behind, AreShown, HasSteps, IsPageBy, IsPage, ShowViews}
 use Rattle.script_page.specs.Views.{view_asked, AskedView}
 use Rattle.script_page.specs.Pictures.{IsPicture}
 use Rattle.script_page.specs.Setting.{script_answer_in, start_state_in}
@@ -28,8 +26,7 @@ use Rattle.script_page.specs.PictureIndex.{entry_link, index_links, link_if_draw
 use Rattle.script_page.specs.TextPage.{has_picture, text_entry}
 use Rattle.script_page.specs.HtmlPage.{entry_html}
 use Rattle.script_page.specs.Transcript.{transcript_entry}
-use Rattle.script_page.specs.Writing.{page_back, page_begun, page_entries, page_entry, page_front}
-use Rattle.script_page.specs.Writing.{WritesPage}
+use Rattle.script_page.specs.Writing.{page_back, page_begun, page_entries, page_entry, page_front, WritesPage}
 use Rattle.script_page.specs.declared.answering.Answering.{Answering}
 use Rattle.script_page.specs.declared.entry.Entry.{Entry}
 use Rattle.script_page.specs.declared.form.PageForm.{PageForm}

@@ -1,6 +1,6 @@
 -- What a page is and how it is written. Begin with Page, then Writing.
-pub use Rattle.command_shell
-pub use Rattle.view_reading
+pub use Rattle.command_shell.specs.Error
+pub use Rattle.command_shell.specs.declared.error.RunError as CommandShellRunError
 pub mod Answering
 pub mod GuestText
 pub mod HtmlPage

@@ -3,7 +3,7 @@ use Rattle.std.specs.Prelude.{◌≡◌, ℕ, zero, suc, ◌+◌, ◌-◌, ◌^�
 use Rattle.std.specs.Fmt.{decimal}
 use Rattle.std.specs.List.{flat_map}
 use Rattle.std.specs.Str.Lines.{lines}
-use Rattle.view_reading.specs.swi_dispatch_guest.specs.MachineState.{MachineState}
+use Rattle.view_reading.specs.MachineState.{MachineState}
 use Rattle.script_page.specs.Setting.{script_answer_in}
 use Rattle.script_page.specs.GuestText.{guest_text}
 use Rattle.script_page.specs.Pictures.{IsPicture}

@@ -3,13 +3,13 @@ use Rattle.std.specs.Prelude.{ℕ, List, [], ◌∷◌, map, unwrap_or}
 use Rattle.std.specs.Str.Lines.{lines}
 use Rattle.command_shell_lines.specs.Requests.{Request, Areas, Flex, Heap, Mem, Modules, request_of}
 use Rattle.view_items.specs.Items.{picture_items_text}
-use Rattle.view_reading.specs.debugger.specs.Areas.{areas_text}
-use Rattle.view_reading.specs.debugger.specs.Flex.{flex_text}
-use Rattle.view_reading.specs.debugger.specs.Heap.{heap_blocks_text}
-use Rattle.view_reading.specs.debugger.specs.Memory.{memory_text}
-use Rattle.view_reading.specs.debugger.specs.Modules.{modules_text}
+use Rattle.view_reading.specs.DebuggerAreas.{areas_text}
+use Rattle.view_reading.specs.DebuggerFlex.{flex_text}
+use Rattle.view_reading.specs.DebuggerHeap.{heap_blocks_text}
+use Rattle.view_reading.specs.DebuggerMemory.{memory_text}
+use Rattle.view_reading.specs.DebuggerModules.{modules_text}
 use Rattle.view_reading.specs.Inner.{inner_texts}
-use Rattle.view_reading.specs.swi_dispatch_guest.specs.MachineState.{MachineState}
+use Rattle.view_reading.specs.MachineState.{MachineState}
 use Rattle.script_page.specs.declared.views.ViewItems.{ViewItems}
 
 -- the text of a view, and those of the heaps that lie in blocks of its heap

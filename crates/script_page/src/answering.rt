@@ -6,16 +6,16 @@ ghost use Rattle.command_shell.specs.Script.{request_told};
 ghost use Rattle.command_shell_lines.specs.Blocks.{block_lines, lines_after};
 ghost use Rattle.command_shell_lines.specs.Requests.{opens_block, request_of};
 ghost use Rattle.command_shell.specs.State.{IsAnswered};
-ghost use Rattle.view_reading.specs.swi_dispatch_guest.specs.Parts.{state_of};
+ghost use Rattle.view_reading.specs.Parts.{state_of};
 ghost use Rattle.script_page.specs.Answering.{count_of_block, state_of_answering, IsNextEntry};
 
 use crate::entry::Entry;
 use crate::front_lines::cut_lines;
 use command_shell::Session;
-use command_shell_lines::text_lines::Lines;
 use image_loader::Images;
 use profile::Stop;
 use std::alloc::{AllocError, Global};
+use text_lines::Lines;
 use view_items::TextSink;
 use view_reading::Machine;
 

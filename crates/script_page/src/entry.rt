@@ -1,8 +1,8 @@
 //! A part of a page: a line of the script, and what it is answered.
 ghost use Rattle.std.specs.Prelude.{◌≡◌};
 
-use command_shell_lines::text_lines::Lines;
 use command_shell_lines::{ScriptCommand, command_of};
+use text_lines::Lines;
 
 /// What a line is, as far as a page shows it in a way of its own.
 #[derive(Clone, Copy, Debug, PartialEq, Eq)]

@@ -2,14 +2,13 @@
 
 ghost use Rattle.std.specs.Str.Lines.{lines};
 ghost use Rattle.profile.specs.Output.{Writes};
-ghost use Rattle.script_page.specs.HtmlPage.{answer_part, answers_html, entry_html};
-ghost use Rattle.script_page.specs.HtmlPage.{figure, figure_html, guest_html, guest_part, opening, part_html, typed_line, typed_lines};
+ghost use Rattle.script_page.specs.HtmlPage.{answer_part, answers_html, entry_html, figure, figure_html, guest_html, guest_part, opening, part_html, typed_line, typed_lines};
 
 use crate::shown::Shown;
-use command_shell_lines::text_lines::Lines;
 use page_markup::markup::push_decimal;
 use page_markup::push_escaped;
 use profile::{Sink, WriteFault, push_all};
+use text_lines::Lines;
 
 /// Writes an entry: each line with its number, its answer, what the guest printed apart, and beside
 /// a view its picture. Nothing of a script or of a guest is taken for HTML's own.

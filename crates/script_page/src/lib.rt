@@ -20,8 +20,8 @@ pub mod text;
 pub mod transcript;
 mod views;
 
-pub use command_shell;
+pub use command_shell::RunError;
 pub use form::PageForm;
 pub use page::push_page;
 pub use setting::{NamedImage, Setting};
-pub use view_reading;
+pub use view_reading::Machine;

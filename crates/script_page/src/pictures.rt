@@ -2,10 +2,9 @@
 
 ghost use Rattle.std.specs.Prelude.{◌≡◌, ◌∷◌, ◌++◌, ◌⊎◌, [], true, false, All, map, IfOk, OnOk};
 ghost use Rattle.profile.specs.Output.{Writes};
-ghost use Rattle.view_reading.specs.swi_dispatch_guest.specs.Parts.{state_of};
+ghost use Rattle.view_reading.specs.Parts.{state_of};
 ghost use Rattle.view_items.specs.Items.{are_of_memory, picture_items_text};
-ghost use Rattle.script_page.specs.Pictures.{boxes_text, line_width, rows_text, view_drawn, AreViewsOf, HasItsBoxes, IsDrawn};
-ghost use Rattle.script_page.specs.Pictures.{IsOfBoxes, IsOfRows, IsPicture};
+ghost use Rattle.script_page.specs.Pictures.{boxes_text, line_width, rows_text, view_drawn, AreViewsOf, HasItsBoxes, IsDrawn, IsOfBoxes, IsOfRows, IsPicture};
 ghost use Rattle.script_page.specs.Views.{asked_of, view_asked};
 
 use crate::form::PageForm;

@@ -8,9 +8,9 @@ ghost use Rattle.script_page.specs.TextPage.{has_picture};
 use crate::answers::parts_of;
 use crate::entry::{Entry, LineKind};
 use crate::guest_text::guest_text;
-use command_shell_lines::text_lines::Lines;
 use itoa::Buffer;
 use std::alloc::{AllocError, Global};
+use text_lines::Lines;
 
 /// What a page shows of an entry.
 #[derive(Drop)]

@@ -3,13 +3,12 @@
 ghost use Rattle.std.specs.Prelude.{◌≡◌, length};
 ghost use Rattle.std.specs.Str.Lines.{lines};
 ghost use Rattle.profile.specs.Output.{Writes};
-ghost use Rattle.script_page.specs.TextPage.{lines_behind, blanks_before, column, shown_line_behind, numbered_lines};
-ghost use Rattle.script_page.specs.TextPage.{legend, numbered_line, text_entry, whole_line};
+ghost use Rattle.script_page.specs.TextPage.{lines_behind, blanks_before, column, shown_line_behind, numbered_lines, legend, numbered_line, text_entry, whole_line};
 
 use crate::shown::Shown;
-use command_shell_lines::text_lines::Lines;
 use itoa::Buffer;
 use profile::{Sink, WriteFault, push_all};
+use text_lines::Lines;
 use view_pictures::{push_bar_legend, push_spelt};
 
 // What stands before what isn't typed: an answer, and what the guest printed.

@@ -2,15 +2,15 @@
 
 ghost use Rattle.std.specs.Prelude.{◌≡◌, [], IfOk, option_map, unwrap_or};
 ghost use Rattle.command_shell_lines.specs.Requests.{request_of_command};
-ghost use Rattle.view_reading.specs.debugger.specs.Heap.{heap_blocks_text};
-ghost use Rattle.view_reading.specs.swi_dispatch_guest.specs.Parts.{state_of};
+ghost use Rattle.view_reading.specs.DebuggerHeap.{heap_blocks_text};
+ghost use Rattle.view_reading.specs.Parts.{state_of};
 ghost use Rattle.view_reading.specs.Inner.{inner_texts};
 ghost use Rattle.view_items.specs.Items.{picture_items_text};
 ghost use Rattle.script_page.specs.Views.{view_with, asked_alone, asked_of, view_asked, view_of_request};
 
-use command_shell_lines::text_lines::Lines;
 use command_shell_lines::{ScriptCommand, command_of};
 use std::alloc::{AllocError, Global};
+use text_lines::Lines;
 use view_items::PictureItem;
 use view_reading::{
     Machine, area_items, flex_items, heap_items, inner_heap_items, memory_items, module_items,

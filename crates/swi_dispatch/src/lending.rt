@@ -2,23 +2,20 @@
 
 ghost use Rattle.std.specs.Prelude.{◌≡◌, ◌≤◌, false, length, IsSome};
 ghost use Rattle.std.specs.Option.{option_map};
-ghost use Rattle.address_map.specs.Memory.{bytes_of, free_pages};
+ghost use Rattle.os_heap.specs.Memory.{bytes_of, free_pages};
 ghost use Rattle.os_heap.specs.Store.{store_of, IsSound};
-ghost use Rattle.dynamic_areas.specs.Rooms.{IsAreaTable};
-ghost use Rattle.swi_dispatch_guest.specs.flex_store.specs.State.{IsFlex};
+ghost use Rattle.swi_dispatch_guest.specs.Rooms.{IsAreaTable};
+ghost use Rattle.flex_store.specs.State.{IsFlex};
 ghost use Rattle.swi_dispatch_guest.specs.Errors.{error_number};
 ghost use Rattle.swi_dispatch_guest.specs.MachineState.{stop_of};
 ghost use Rattle.swi_dispatch_guest.specs.Parts.{state_of};
 
 use crate::machine::Machine;
-use address_map::AddressMap;
 use arm_core::Cpu;
+use flex_store::Flex;
+use os_heap::{AddressMap, Heaps};
 use profile::Stop;
-use swi_dispatch_guest::Frame;
-use swi_dispatch_guest::dynamic_areas::Areas;
-use swi_dispatch_guest::flex_store::Flex;
-use swi_dispatch_guest::instances::Instances;
-use swi_dispatch_guest::os_heap::Heaps;
+use swi_dispatch_guest::{Areas, Frame, Instances};
 
 impl Machine {
     /// The bytes that the last step or store call printed; none before the first.

@@ -8,9 +8,9 @@ pub mod machine;
 pub mod outside;
 
 pub use boot_error::BootError;
+pub use flex_store::{Flex, FlexBlock, FlexBlocks};
 pub use machine::Machine;
+pub use os_heap::Blocks;
 pub use swi_dispatch_guest::{
-    BreakError, Breaks, CodeKind, Frame, FrameKind, Halt, Ran, Refusal, TextEnd, arm_step,
-    dynamic_areas, flex_store, instances, instances_table, module_header, os_heap,
-    swi_dispatch_answers, without_x_bit,
+    BreakError, Breaks, CodeKind, Frame, FrameKind, Halt, Ran, Refusal, TextEnd, without_x_bit,
 };

@@ -2,8 +2,7 @@
 
 ghost use Rattle.std.specs.Prelude.{◌≡◌, ◌≤◌, ◌<◌, ◌%◌, ◌^◌, ◌&&◌, false, is_err};
 ghost use Rattle.profile.specs.Outcome.{Leaves};
-ghost use Rattle.swi_dispatch_guest.specs.Writes.{machine_after_poke, machine_at, machine_with_bank_register};
-ghost use Rattle.swi_dispatch_guest.specs.Writes.{machine_with_register, machine_with_status};
+ghost use Rattle.swi_dispatch_guest.specs.Writes.{machine_after_poke, machine_at, machine_with_bank_register, machine_with_register, machine_with_status};
 
 use crate::machine::Machine;
 use arm_core::{Mode, Psr};

@@ -1,2 +1,3 @@
 mod ErrorBlock
 mod StringLemmas
+pub mod FramesLemmas

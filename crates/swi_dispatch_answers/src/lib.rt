@@ -6,10 +6,12 @@
 #![tactic(auto)]
 
 pub mod errors;
+pub mod frames;
 pub mod refusal;
 pub mod returns;
 pub mod strings;
 pub mod words;
 
+pub use arm_core::{Cpu, Mode, Psr};
 pub use refusal::Refusal;
 pub use strings::{MAX_TEXT, TextEnd};

@@ -1,6 +1,5 @@
 -- The addresses at which a run stops: multiples of 4, at most 16.
-use Rattle.std.specs.Prelude.{ℕ, Bool, not, ◌+◌, ◌%◌, ◌/◌, ◌≡◌, true, false, get_or, ◌==◌, nat_le, Option, Some, None, Result, Ok, Err, List, [], ◌∷◌}
-use Rattle.std.specs.Prelude.{◌++◌, length, take, drop, if◌then◌else◌}
+use Rattle.std.specs.Prelude.{ℕ, Bool, not, ◌+◌, ◌%◌, ◌/◌, ◌≡◌, true, false, get_or, ◌==◌, nat_le, Option, Some, None, Result, Ok, Err, List, [], ◌∷◌, ◌++◌, length, take, drop, if◌then◌else◌}
 use Rattle.std.specs.List.{list_any, position, All}
 use Rattle.swi_dispatch_breaks.specs.declared.breaks.BreakError.{BreakError}
 use Rattle.swi_dispatch_breaks.specs.declared.breaks.BreakError.TheVariants.{Unaligned, BreakTableFull, NoBreak}

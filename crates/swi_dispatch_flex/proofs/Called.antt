@@ -3,19 +3,19 @@
 use Rattle.std.proofs.Common.{◌≡◌, Result, Ok, Err, refl, subst}
 use Rattle.profile.specs.Outcome.{Gives}
 use Rattle.profile.specs.declared.error.ErrorNumber.{ErrorNumber}
-use Rattle.address_map.specs.Memory.{layout}
-use Rattle.address_map.specs.declared.map.AddressMap.{AddressMap}
+use Rattle.dynamic_areas.specs.Memory.{layout}
+use Rattle.dynamic_areas.specs.AddressMap.{AddressMap}
 use Rattle.flex_machine.proofs.Calls.{flex_left, flex_stays_so, state_is}
 use Rattle.flex_machine.specs.CallLaws.{AreAnchorsAllowed, IsFlexCall, IsLeft}
 use Rattle.flex_machine.specs.Ground.{HasFlex}
-use Rattle.flex_machine.specs.flex_store.specs.Calls.{FlexState}
-use Rattle.flex_machine.specs.flex_store.specs.State.{IsFlex, state_of_flex as flex_state_of}
-use Rattle.flex_machine.specs.flex_store.specs.declared.flex.Flex.{Flex}
-use Rattle.flex_machine.specs.module_world.proofs.Worlds.{world_kept}
-use Rattle.flex_machine.specs.module_world.specs.dynamic_areas.proofs.HeapCalls.{areas_written}
-use Rattle.flex_machine.specs.module_world.specs.os_heap.proofs.Frame.{layout-others}
-use Rattle.flex_machine.specs.module_world.specs.os_heap.specs.Store.{AreClasses, IsSound, store_of}
-use Rattle.flex_machine.specs.module_world.specs.World.{world_of}
+use Rattle.flex_store.specs.Calls.{FlexState}
+use Rattle.flex_store.specs.State.{IsFlex, state_of_flex as flex_state_of}
+use Rattle.flex_store.specs.declared.flex.Flex.{Flex}
+use Rattle.flex_machine.proofs.InstancesWorlds.{world_kept}
+use Rattle.dynamic_areas.proofs.HeapCalls.{areas_written}
+use Rattle.dynamic_areas.proofs.Frame.{layout-others}
+use Rattle.dynamic_areas.specs.Store.{AreClasses, IsSound, store_of}
+use Rattle.flex_machine.specs.world.World.{world_of}
 use Rattle.swi_dispatch_flex.specs.Calls.{memory_after_flex, memory_of, state_in, memory_with_flex}
 use Rattle.swi_dispatch_flex.specs.Leaving.{CanCallFlex, LeavesFlex}
 

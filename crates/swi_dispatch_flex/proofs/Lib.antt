@@ -1,2 +1,3 @@
+pub use Rattle.flex_machine.proofs.Kept
 mod Called
 mod Made

@@ -1,26 +1,24 @@
 -- The making of the flex store: what is kept, and what memory and the store are then.
-use Rattle.std.proofs.Common.{◌≡◌, ℕ, true, Option, Some, None, Result, Ok, Err, [], ◌∷◌, ◌++◌, inl, inr, refl}
-use Rattle.std.proofs.Common.{sym, ap, subst, ◌∙◌}
+use Rattle.std.proofs.Common.{◌≡◌, ℕ, true, Option, Some, None, Result, Ok, Err, [], ◌∷◌, ◌++◌, inl, inr, refl, sym, ap, subst, ◌∙◌}
 use Rattle.std.specs.Prelude.{MatchResult, is_some}
 use Rattle.std.proofs.lemmas.Bool.{cases_Bool}
 use Rattle.profile.specs.Outcome.{Gives}
 use Rattle.profile.specs.declared.error.ErrorNumber.{ErrorNumber}
-use Rattle.address_map.specs.Memory.{regions}
-use Rattle.address_map.specs.declared.map.AddressMap.{AddressMap}
+use Rattle.dynamic_areas.specs.Memory.{regions}
+use Rattle.dynamic_areas.specs.AddressMap.{AddressMap}
 use Rattle.flex_machine.proofs.Calls.{ok_is, state_is}
-use Rattle.flex_machine.proofs.Starts.{IsFlexMade, has_made, made_areas, made_left, others_made, room_there}
-use Rattle.flex_machine.proofs.Starts.{unmade_areas, unmade_left}
+use Rattle.flex_machine.proofs.Starts.{IsFlexMade, has_made, made_areas, made_left, others_made, room_there, unmade_areas, unmade_left}
 use Rattle.flex_machine.proofs.Worlds.{begun_world}
 use Rattle.flex_machine.specs.Ground.{HasFlex, records_with, with_flex_record}
-use Rattle.flex_machine.specs.flex_store.specs.Blocks.{FlexStore}
-use Rattle.flex_machine.specs.flex_store.specs.Calls.{FlexState, flex_after_init, flex_after_init_over, flex_record, is_flex_range, with_flex_range}
-use Rattle.flex_machine.specs.flex_store.specs.State.{IsFlex, flex_in, state_of_flex as flex_state_of}
-use Rattle.flex_machine.specs.flex_store.specs.declared.flex.Extent.{Extent}
-use Rattle.flex_machine.specs.flex_store.specs.declared.flex.Flex.{Flex}
-use Rattle.flex_machine.specs.module_world.proofs.Worlds.{world_kept}
-use Rattle.flex_machine.specs.module_world.specs.os_heap.specs.Store.{AreClasses, Store, store_of}
-use Rattle.flex_machine.specs.module_world.specs.Sound.{count_beside}
-use Rattle.flex_machine.specs.module_world.specs.World.{world_of}
+use Rattle.flex_store.specs.Blocks.{FlexStore}
+use Rattle.flex_store.specs.Calls.{FlexState, flex_after_init, flex_after_init_over, flex_record, is_flex_range, with_flex_range}
+use Rattle.flex_store.specs.State.{IsFlex, flex_in, state_of_flex as flex_state_of}
+use Rattle.flex_store.specs.declared.flex.Extent.{Extent}
+use Rattle.flex_store.specs.declared.flex.Flex.{Flex}
+use Rattle.flex_machine.proofs.InstancesWorlds.{world_kept}
+use Rattle.dynamic_areas.specs.Store.{AreClasses, Store, store_of}
+use Rattle.flex_machine.specs.world.Sound.{count_beside}
+use Rattle.flex_machine.specs.world.World.{world_of}
 use Rattle.swi_dispatch_flex.specs.Calls.{flex_in_range, memory_after_flex, memory_of, state_in}
 use Rattle.swi_dispatch_flex.specs.Leaving.{LeavesFlex}
 

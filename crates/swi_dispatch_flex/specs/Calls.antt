@@ -8,13 +8,12 @@ use Rattle.profile.specs.declared.error.ErrorNumber.{ErrorNumber}
 use Rattle.profile.specs.declared.error.ErrorNumber.TheVariants.{SwiUnknown}
 use Rattle.profile.specs.declared.swi.SwiName.{SwiName}
 use Rattle.profile.specs.declared.swi.SwiName.TheVariants as swi
-use Rattle.address_map.specs.declared.map.AddressMap.{AddressMap}
-use Rattle.arm_core.specs.State.{State, register_of, with_register}
+use Rattle.dynamic_areas.specs.AddressMap.{AddressMap}
+use Rattle.swi_dispatch_answers.specs.State.{State, register_of, with_register}
 use Rattle.flex_machine.specs.Ground.{flex_of, flex_state, store_flexed, with_flex_record}
-use Rattle.flex_machine.specs.flex_store.specs.Calls.{FlexState, flex_after_alloc, flex_after_init, flex_after_extend, mid_extended, flex_after_release}
-use Rattle.flex_machine.specs.flex_store.specs.Calls.{flex_block_size}
-use Rattle.flex_machine.specs.flex_store.specs.declared.flex.Flex.{Flex}
-use Rattle.flex_machine.specs.module_world.specs.os_heap.specs.Store.{Store, store_of}
+use Rattle.flex_store.specs.Calls.{FlexState, flex_after_alloc, flex_after_init, flex_after_extend, mid_extended, flex_after_release, flex_block_size}
+use Rattle.flex_store.specs.declared.flex.Flex.{Flex}
+use Rattle.dynamic_areas.specs.Store.{Store, store_of}
 use Rattle.swi_dispatch_answers.specs.declared.refusal.Refusal.{Refusal}
 use Rattle.swi_dispatch_answers.specs.Refusals.{or_error, system_error}
 

@@ -1,14 +1,14 @@
 -- What flex calls ask of memory, and what they leave of all else.
 use Rattle.std.specs.Prelude.{◌<◌, List, length}
-use Rattle.address_map.specs.declared.map.AddressMap.{AddressMap}
+use Rattle.dynamic_areas.specs.AddressMap.{AddressMap}
 use Rattle.flex_machine.specs.Ground.{HasFlex}
-use Rattle.flex_machine.specs.flex_store.specs.declared.flex.Flex.{Flex}
-use Rattle.flex_machine.specs.module_world.specs.dynamic_areas.specs.Areas.{Land}
-use Rattle.flex_machine.specs.module_world.specs.instances_table.specs.Modules.{Module}
-use Rattle.flex_machine.specs.module_world.specs.instances_table.specs.declared.parts.Image.{Image}
-use Rattle.flex_machine.specs.module_world.specs.os_heap.specs.Store.{AreClasses, IsSound, store_of}
-use Rattle.flex_machine.specs.module_world.specs.Sound.{IsWorld}
-use Rattle.flex_machine.specs.module_world.specs.World.{world_of}
+use Rattle.flex_store.specs.declared.flex.Flex.{Flex}
+use Rattle.dynamic_areas.specs.Areas.{Land}
+use Rattle.instances_table.specs.Modules.{Module}
+use Rattle.instances_table.specs.declared.parts.Image.{Image}
+use Rattle.dynamic_areas.specs.Store.{AreClasses, IsSound, store_of}
+use Rattle.flex_machine.specs.world.Sound.{IsWorld}
+use Rattle.flex_machine.specs.world.World.{world_of}
 
 -- Memory is sound and spells the flex store, if there is one, and a range more can be recorded.
 pub record CanCallFlex (m : AddressMap) (f : Flex) : Type 0 where

@@ -2,17 +2,14 @@
 
 ghost use Rattle.std.specs.Prelude.{◌≡◌};
 ghost use Rattle.profile.specs.Outcome.{Gives, Leaves};
-ghost use Rattle.flex_machine.specs.flex_store.specs.Calls.{flex_after_alloc, flex_after_extend, mid_extended, flex_after_release, flex_block_size};
-ghost use Rattle.swi_dispatch_flex.specs.Calls.{flex_allocated, flex_called, flex_extended, flex_in_range, flex_made};
-ghost use Rattle.swi_dispatch_flex.specs.Calls.{flex_mid_extended, flex_released, flex_sized};
-ghost use Rattle.swi_dispatch_flex.specs.Calls.{memory_after_flex, memory_of, state_in, room_word_of};
+ghost use Rattle.flex_store.specs.Calls.{flex_after_alloc, flex_after_extend, mid_extended, flex_after_release, flex_block_size};
+ghost use Rattle.swi_dispatch_flex.specs.Calls.{flex_allocated, flex_called, flex_extended, flex_in_range, flex_made, flex_mid_extended, flex_released, flex_sized, memory_after_flex, memory_of, state_in, room_word_of};
 ghost use Rattle.swi_dispatch_flex.specs.Leaving.{CanCallFlex, LeavesFlex};
 
-use address_map::AddressMap;
-use arm_core::Cpu;
-use flex_machine::flex_store::Flex;
+use dynamic_areas::AddressMap;
+use flex_store::Flex;
 use profile::{ErrorNumber, SwiName};
-use swi_dispatch_answers::Refusal;
+use swi_dispatch_answers::{Cpu, Refusal};
 
 /// A flex call by its name; any other is unknown. What it asks for is in R0 to R2; what it answers
 /// goes to R0.

@@ -9,4 +9,4 @@
 pub mod calls;
 
 pub use calls::call_flex;
-pub use flex_machine;
+pub use flex_store::Flex;

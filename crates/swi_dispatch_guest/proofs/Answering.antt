@@ -1,7 +1,7 @@
 -- A call's answer, and then what the machine does with it, are the written call.
 use Rattle.std.proofs.Common.{◌≡◌, ℕ, Bool, true, false, List, [], Ok, Err, refl, sym, ◌∙◌, ap}
 use Rattle.swi_dispatch_answers.specs.declared.refusal.Refusal.{Refusal}
-use Rattle.swi_dispatch_frames.specs.declared.call.Call.{Call}
+use Rattle.swi_dispatch_answers.specs.declared.frames.call.Call.{Call}
 use Rattle.swi_dispatch_guest.specs.MachineState.{MachineState, StepOutcome, outcome_with, quiet}
 use Rattle.swi_dispatch_guest.specs.Answers.{Answer}
 use Rattle.swi_dispatch_guest.specs.Parts.{Answers}

@@ -18,7 +18,7 @@ use Rattle.dynamic_areas.proofs.SystemPages.{change_keeps_system}
 use Rattle.swi_dispatch_guest.specs.declared.halt.Halt.TheVariants as halt
 use Rattle.swi_dispatch_answers.specs.declared.refusal.Refusal.{Refusal}
 use Rattle.swi_dispatch_answers.specs.declared.refusal.Refusal.TheVariants as refusal
-use Rattle.swi_dispatch_plans.specs.swi_dispatch_store.specs.Areas.{change_asked, change_left}
+use Rattle.swi_dispatch_plans.specs.store.Areas.{change_asked, change_left}
 use Rattle.swi_dispatch_guest.specs.Calls.{area_changing, call_answer, moving_error, with_guest}
 use Rattle.swi_dispatch_guest.specs.MachineState.{MachineState, machine_estate, outcome_with, quiet}
 use Rattle.swi_dispatch_guest.specs.Parts.{Answers, IsWellFormed, Parts, state_of}

@@ -3,7 +3,7 @@ use Rattle.std.proofs.Common.{◌≡◌, ℕ, Bool, Option, Ok, Err, ap, subst, 
 use Rattle.std.specs.Prelude.{OnErr, Result}
 use Rattle.profile.specs.declared.error.ErrorNumber.{ErrorNumber}
 use Rattle.instances_plans.specs.Plans.{Plan}
-use Rattle.swi_dispatch_frames.specs.declared.call.Call.{Call}
+use Rattle.swi_dispatch_answers.specs.declared.frames.call.Call.{Call}
 use Rattle.swi_dispatch_guest.specs.Additions.{Planned, Starts}
 use Rattle.swi_dispatch_guest.specs.Gates.{state_after_plan}
 use Rattle.swi_dispatch_guest.specs.MachineState.{MachineState, StepOutcome, quiet}

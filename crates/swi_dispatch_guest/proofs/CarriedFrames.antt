@@ -9,19 +9,18 @@ use Rattle.instances_plans.specs.declared.code.Code.{Code}
 use Rattle.instances_plans.specs.Plans.{Plan, first_action}
 use Rattle.instances_table.specs.Changes.{modules_of_title}
 use Rattle.instances_table.specs.Modules.{Module, slots_of}
-use Rattle.swi_dispatch_plans.specs.instances.specs.Naming.{KeepsOtherInstances, NamesTitled, slots_of_kept, slots_of_plan}
-use Rattle.swi_dispatch_frames.specs.declared.call.Call.{Call}
-use Rattle.swi_dispatch_frames.specs.declared.frame.Frame.{Frame}
-use Rattle.swi_dispatch_frames.specs.declared.frame.FrameKind.TheVariants.{Entry}
-use Rattle.swi_dispatch_frames.specs.Busy.{has_swi_of, is_swi}
-use Rattle.swi_dispatch_frames.specs.Frames.{frames_after_close, frame_of, innermost_frame}
+use Rattle.instances.specs.Naming.{KeepsOtherInstances, NamesTitled, slots_of_kept, slots_of_plan}
+use Rattle.swi_dispatch_answers.specs.declared.frames.call.Call.{Call}
+use Rattle.swi_dispatch_answers.specs.declared.frames.frame.Frame.{Frame}
+use Rattle.swi_dispatch_answers.specs.declared.frames.frame.FrameKind.TheVariants.{Entry}
+use Rattle.swi_dispatch_answers.specs.frames.Busy.{has_swi_of, is_swi}
+use Rattle.swi_dispatch_answers.specs.frames.Frames.{frames_after_close, frame_of, innermost_frame}
 use Rattle.swi_dispatch_guest.specs.Gates.{plan_unless_code, frames_by, kept_by}
 use Rattle.swi_dispatch_guest.specs.MachineState.{MachineState, Tables, setting_of}
 use Rattle.swi_dispatch_guest.specs.OpenFrames.{AreFrames, AreHeld, entries, entry_called}
 use Rattle.swi_dispatch_plans.specs.Beginning.{CanBegin, IsFree, SparesTitle}
 use Rattle.swi_dispatch_plans.proofs.Sparing.{none_of}
-use Rattle.swi_dispatch_guest.proofs.OpenFrames.{closed_held, entry_closes, entry_opened, entry_spares, frames_idle}
-use Rattle.swi_dispatch_guest.proofs.OpenFrames.{held_still}
+use Rattle.swi_dispatch_guest.proofs.OpenFrames.{closed_held, entry_closes, entry_opened, entry_spares, frames_idle, held_still}
 
 pub record AreBeneath (ms : List Module) (p : Plan) (fs : List Frame) : Type 0 where
   pub idle : entries fs ≡ 0

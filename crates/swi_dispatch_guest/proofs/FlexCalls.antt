@@ -1,15 +1,14 @@
 -- The flex calls of the machine: what they ask of it, that it is well-formed after them, and what
 -- they leave of it.
-use Rattle.std.proofs.Common.{◌≡◌, ◌≤◌, ◌<◌, Bool, true, false, List, [], Option, Some, None, Result, Ok, Err}
-use Rattle.std.proofs.Common.{length, lit≤, refl, sym, ◌∙◌, ap, subst}
+use Rattle.std.proofs.Common.{◌≡◌, ◌≤◌, ◌<◌, Bool, true, false, List, [], Option, Some, None, Result, Ok, Err, length, lit≤, refl, sym, ◌∙◌, ap, subst}
 use Rattle.profile.specs.Outcome.{Leaves}
 use Rattle.address_map.specs.declared.map.AddressMap.{AddressMap}
 use Rattle.address_map.specs.Memory.{free_pages}
 use Rattle.arm_core.specs.State.{State}
-use Rattle.swi_dispatch_flex.specs.flex_machine.specs.flex_store.specs.declared.flex.Flex.{Flex}
-use Rattle.swi_dispatch_flex.specs.flex_machine.specs.module_world.proofs.Worlds.{few_records}
-use Rattle.swi_dispatch_flex.specs.flex_machine.specs.module_world.specs.Sound.{IsWorld}
-use Rattle.swi_dispatch_flex.specs.flex_machine.specs.module_world.specs.World.{World, world_of}
+use Rattle.swi_dispatch_flex.specs.Flex.{Flex}
+use Rattle.instances.proofs.WorldLemmas.Worlds.{few_records}
+use Rattle.instances.specs.world.Sound.{IsWorld}
+use Rattle.instances.specs.world.World.{World, world_of}
 use Rattle.instances_plans.specs.declared.given.Given.{Given}
 use Rattle.instances_plans.specs.Plans.{Plan}
 use Rattle.instances_table.specs.declared.parts.Image.{Image}
@@ -17,10 +16,9 @@ use Rattle.instances_table.specs.Modules.{Module, slots_of}
 use Rattle.swi_dispatch_answers.specs.declared.refusal.Refusal.{Refusal}
 use Rattle.swi_dispatch_flex.specs.Calls.{FlexMemory, memory_of}
 use Rattle.swi_dispatch_flex.specs.Leaving.{CanCallFlex, LeavesFlex}
-use Rattle.swi_dispatch_plans.specs.instances.specs.Turns.{MayGoOn}
-use Rattle.swi_dispatch_plans.specs.instances.specs.instances_actions.specs.Pending.{is_pending, pending_by}
-use Rattle.swi_dispatch_plans.specs.instances.specs.instances_actions.specs.Pending.{pending_of}
-use Rattle.swi_dispatch_plans.specs.instances.specs.instances_actions.specs.Ready.{IsReady}
+use Rattle.instances.specs.Turns.{MayGoOn}
+use Rattle.instances.specs.actions.Pending.{is_pending, pending_by, pending_of}
+use Rattle.instances.specs.actions.Ready.{IsReady}
 use Rattle.swi_dispatch_guest.specs.declared.halt.Halt.{Halt}
 use Rattle.swi_dispatch_guest.specs.Calls.{on_flex}
 use Rattle.swi_dispatch_guest.specs.MachineState.{Tables}

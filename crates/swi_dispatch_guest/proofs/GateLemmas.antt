@@ -1,14 +1,13 @@
 -- Calls on modules that are carried on: what they keep, and that the steps of the code are those of
 -- the definitions.
-use Rattle.std.proofs.Common.{◌≡◌, ℕ, true, false, Some, None, Ok, Err, List, [], ◌∷◌, refl, sym}
-use Rattle.std.proofs.Common.{ap, subst, ◌∙◌}
+use Rattle.std.proofs.Common.{◌≡◌, ℕ, true, false, Some, None, Ok, Err, List, [], ◌∷◌, refl, sym, ap, subst, ◌∙◌}
 use Rattle.std.specs.Prelude.{Option, Result}
 use Rattle.dynamic_areas.specs.Ground.{IsEstate, IsRecorded, system_pages_range}
 use Rattle.instances_table.specs.declared.parts.Image.{Image}
 use Rattle.instances_table.specs.Modules.{Module, slots_of}
 use Rattle.address_map.specs.declared.map.AddressMap.{AddressMap}
 use Rattle.dynamic_areas.specs.Areas.{Land}
-use Rattle.swi_dispatch_flex.specs.flex_machine.specs.flex_frame.proofs.Keeping.{keeps_then}
+use Rattle.instances.proofs.RmaKeeping.{keeps_then}
 use Rattle.os_heap.specs.Store.{AreClasses, store_of}
 use Rattle.profile.specs.Outcome.{Gives}
 use Rattle.profile.specs.declared.error.ErrorNumber.{ErrorNumber}
@@ -18,17 +17,16 @@ use Rattle.instances_plans.specs.declared.code.Outcome.{Outcome as CodeOutcome}
 use Rattle.instances_plans.specs.declared.code.Outcome.TheVariants.{Well}
 use Rattle.instances_plans.specs.Carrying.{Carried, Doing, carry_of_plan, carried_by, carried_from}
 use Rattle.instances_plans.specs.Plans.{Plan, plan_after_code}
-use Rattle.swi_dispatch_flex.specs.flex_machine.specs.module_world.specs.Sound.{IsWorld}
-use Rattle.swi_dispatch_flex.specs.flex_machine.specs.module_world.specs.World.{World, world_of}
-use Rattle.swi_dispatch_plans.specs.instances.specs.Turns.{IsUnderWay, MayGoOn, module_doing}
-use Rattle.swi_dispatch_plans.specs.instances.specs.instances_actions.specs.Pending.{pending_of}
+use Rattle.instances.specs.world.Sound.{IsWorld}
+use Rattle.instances.specs.world.World.{World, world_of}
+use Rattle.instances.specs.Turns.{IsUnderWay, MayGoOn, module_doing}
+use Rattle.instances.specs.actions.Pending.{pending_of}
 use Rattle.arm_core.specs.State.{State}
-use Rattle.swi_dispatch_frames.specs.declared.call.Call.{Call}
-use Rattle.swi_dispatch_frames.specs.declared.frame.Frame.{Frame}
+use Rattle.swi_dispatch_answers.specs.declared.frames.call.Call.{Call}
+use Rattle.swi_dispatch_answers.specs.declared.frames.frame.Frame.{Frame}
 use Rattle.profile.specs.declared.fault.Fault.TheVariants.{ErrorStop}
 use Rattle.swi_dispatch_guest.specs.declared.halt.Halt.TheVariants as halt
-use Rattle.swi_dispatch_guest.specs.Gates.{Resumes, come_back, ended_of, fault_kept, state_after_plan}
-use Rattle.swi_dispatch_guest.specs.Gates.{kept_by, state_with_code_entered, outcome_left, plan_left, with_code}
+use Rattle.swi_dispatch_guest.specs.Gates.{Resumes, come_back, ended_of, fault_kept, state_after_plan, kept_by, state_with_code_entered, outcome_left, plan_left, with_code}
 use Rattle.swi_dispatch_plans.specs.Trials.{world_carried}
 use Rattle.swi_dispatch_guest.specs.MachineState.{MachineState, StepOutcome, machine_world, quiet, with_world}
 use Rattle.swi_dispatch_guest.specs.Additions.{Starts, planned_of}
@@ -36,8 +34,8 @@ use Rattle.swi_dispatch_guest.specs.Carried.{CodeUnderWay, IsCarriedNext}
 use Rattle.swi_dispatch_guest.specs.OpenFrames.{AreFrames}
 use Rattle.swi_dispatch_guest.specs.Parts.{IsWellFormed, Parts, parts_world}
 use Rattle.swi_dispatch_guest.specs.Returns.{outcome_of_halt}
-use Rattle.swi_dispatch_flex.specs.flex_machine.specs.Ground.{HasFlex}
-use Rattle.swi_dispatch_flex.specs.flex_machine.specs.flex_frame.specs.Keeping.{KeepsFlex}
+use Rattle.swi_dispatch_flex.specs.Ground.{HasFlex}
+use Rattle.instances.specs.flex_frame.Keeping.{KeepsFlex}
 use Rattle.swi_dispatch_guest.proofs.CarriedFrames.{AreBeneath, opened_frames}
 use Rattle.swi_dispatch_guest.proofs.Kept.{flex_by}
 use Rattle.swi_dispatch_guest.proofs.OpenFrames.{frames_kept}

@@ -8,12 +8,12 @@ use Rattle.instances_plans.specs.declared.code.CodeKind.{CodeKind}
 use Rattle.instances_plans.specs.Plans.{Plan}
 use Rattle.profile.specs.declared.fault.Fault.TheVariants.{ErrorStop}
 use Rattle.swi_dispatch_answers.specs.Returns.{state_after_return}
-use Rattle.swi_dispatch_frames.specs.Busy.{is_swi}
-use Rattle.swi_dispatch_frames.specs.Frames.{innermost_frame}
-use Rattle.swi_dispatch_frames.specs.Leaving.{left}
-use Rattle.swi_dispatch_frames.specs.declared.frame.Frame.{Frame}
-use Rattle.swi_dispatch_frames.specs.declared.frame.FrameKind.{FrameKind}
-use Rattle.swi_dispatch_frames.specs.declared.frame.FrameKind.TheVariants.{Swi, Entry}
+use Rattle.swi_dispatch_answers.specs.frames.Busy.{is_swi}
+use Rattle.swi_dispatch_answers.specs.frames.Frames.{innermost_frame}
+use Rattle.swi_dispatch_answers.specs.frames.Leaving.{left}
+use Rattle.swi_dispatch_answers.specs.declared.frames.frame.Frame.{Frame}
+use Rattle.swi_dispatch_answers.specs.declared.frames.frame.FrameKind.{FrameKind}
+use Rattle.swi_dispatch_answers.specs.declared.frames.frame.FrameKind.TheVariants.{Swi, Entry}
 use Rattle.swi_dispatch_guest.specs.declared.halt.Halt.TheVariants as halt
 use Rattle.swi_dispatch_guest.specs.Errors.{error_number}
 use Rattle.swi_dispatch_guest.specs.Gates.{IsUntaken, frame_closed, frame_left, outcome_of_gate, returned_from}

@@ -16,7 +16,7 @@ use Rattle.address_map.proofs.Words.{unowned}
 use Rattle.arm_core.specs.State.{State}
 use Rattle.arm_step.specs.OwnedBytes.{IsByWords, KeepsOwnedBytes}
 use Rattle.address_map.specs.declared.region.Kind.TheVariants.{Rma}
-use Rattle.os_heap.specs.os_heap_lists.specs.Heap.{HeapList}
+use Rattle.os_heap.specs.lists.Heap.{HeapList}
 use Rattle.os_heap.specs.Store.{Store, store_of, owned_in, AreClasses, IsSound}
 use Rattle.os_heap.proofs.Frame.{IsKept, clear_kept, heads_kept, owned_word, spelled_owned}
 use Rattle.os_heap.proofs.Owned.{owned_marks}
@@ -25,15 +25,15 @@ use Rattle.dynamic_areas.proofs.HeapCalls.{areas_written}
 use Rattle.dynamic_areas.proofs.SystemWrites.{kept_classes, system_kept}
 use Rattle.swi_dispatch_guest.specs.declared.halt.Halt.{Halt}
 use Rattle.swi_dispatch_guest.specs.MachineState.{MachineState, Tables, with_memory}
-use Rattle.swi_dispatch_flex.specs.flex_machine.proofs.Kept.{flex_frame, flex_stored}
-use Rattle.swi_dispatch_flex.specs.flex_machine.specs.Ground.{HasFlex}
-use Rattle.swi_dispatch_flex.specs.flex_machine.specs.flex_store.specs.declared.flex.Flex.{Flex}
+use Rattle.swi_dispatch_flex.proofs.Kept.{flex_frame, flex_stored}
+use Rattle.swi_dispatch_flex.specs.Ground.{HasFlex}
+use Rattle.swi_dispatch_flex.specs.Flex.{Flex}
 use Rattle.dynamic_areas.specs.Areas.{Land}
-use Rattle.swi_dispatch_flex.specs.flex_machine.specs.flex_frame.proofs.Writes.{system_keeps}
-use Rattle.swi_dispatch_flex.specs.flex_machine.specs.flex_frame.specs.Keeping.{KeepsFlex}
+use Rattle.instances.proofs.Writes.{system_keeps}
+use Rattle.instances.specs.flex_frame.Keeping.{KeepsFlex}
 use Rattle.instances_table.specs.Modules.{slots_of}
-use Rattle.swi_dispatch_plans.specs.instances.specs.Turns.{MayGoOn}
-use Rattle.swi_dispatch_plans.specs.instances.proofs.GoingOn.{may_go_on_kept}
+use Rattle.instances.specs.Turns.{MayGoOn}
+use Rattle.instances.proofs.GoingOn.{may_go_on_kept}
 use Rattle.swi_dispatch_guest.specs.OpenFrames.{AreFrames}
 use Rattle.swi_dispatch_guest.specs.Parts.{Parts, IsWellFormed, parts_world}
 use Rattle.swi_dispatch_guest.specs.Writes.{machine_after_poke, with_program}

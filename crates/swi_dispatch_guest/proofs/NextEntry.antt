@@ -13,11 +13,9 @@ use Rattle.instances_plans.specs.Plans.{Plan, first_action}
 use Rattle.instances_table.specs.declared.parts.Place.{Place}
 use Rattle.instances_table.specs.Lookup.{place_of_slot}
 use Rattle.instances_table.specs.Modules.{Module}
-use Rattle.swi_dispatch_flex.specs.flex_machine.specs.module_world.specs.World.{World}
-use Rattle.swi_dispatch_plans.specs.instances.specs.Turns.{module_doing}
-use Rattle.swi_dispatch_plans.specs.instances.specs.instances_actions.specs.Codes.{code_among, code_at, code_to_enter}
-use Rattle.swi_dispatch_plans.specs.instances.specs.instances_actions.specs.Codes.{entered_at, entered_in, entry_offset}
-use Rattle.swi_dispatch_plans.specs.instances.specs.instances_actions.specs.Codes.{fatal_word}
+use Rattle.instances.specs.world.World.{World}
+use Rattle.instances.specs.Turns.{module_doing}
+use Rattle.instances.specs.actions.Codes.{code_among, code_at, code_to_enter, entered_at, entered_in, entry_offset, fatal_word}
 use Rattle.swi_dispatch_guest.specs.OpenFrames.{entry_called}
 
 -- an action's code is at the entry that the action calls

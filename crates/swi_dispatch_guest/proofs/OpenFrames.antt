@@ -1,26 +1,23 @@
 -- What holds of the frames of module code that is under way: that it is kept.
-use Rattle.std.proofs.Common.{◌≡◌, ◌+◌, ◌-◌, ◌==◌, ◌&&◌, length, take, drop, ℕ, zero, suc, Bool, true, false}
-use Rattle.std.proofs.Common.{Option, Some, None, List, [], ◌∷◌, ◌++◌, refl, sym, ◌∙◌, ap, inl, inr, append_assoc, length-append}
-use Rattle.std.proofs.Common.{arith}
+use Rattle.std.proofs.Common.{◌≡◌, ◌+◌, ◌-◌, ◌==◌, ◌&&◌, length, take, drop, ℕ, zero, suc, Bool, true, false, Option, Some, None, List, [], ◌∷◌, ◌++◌, refl, sym, ◌∙◌, ap, inl, inr, append_assoc, length-append, arith}
 use Rattle.std.specs.Prelude.{◌⊎◌, is_some, slice_get, if◌then◌else◌}
 use Rattle.std.specs.List.{All, list_any}
 use Rattle.std.proofs.lemmas.Bool.{false≢true, or_parts}
 use Rattle.std.proofs.lemmas.List.{take-append-drop}
 use Rattle.std.proofs.lemmas.List.Elements.{All-cons, All-head, All-nil, All-push, All-tail, All-take}
-use Rattle.swi_dispatch_plans.specs.instances.specs.Naming.{slots_of_kept, slots_of_plan}
+use Rattle.instances.specs.Naming.{slots_of_kept, slots_of_plan}
 use Rattle.instances_plans.specs.declared.code.CodeKind.{CodeKind}
 use Rattle.instances_plans.specs.Plans.{Plan, first_action}
 use Rattle.instances_plans.specs.Doable.{is_used}
 use Rattle.instances_table.specs.Modules.{Module, slots_of}
-use Rattle.swi_dispatch_frames.specs.declared.frame.Frame.{Frame}
-use Rattle.swi_dispatch_frames.specs.declared.frame.FrameKind.{FrameKind}
-use Rattle.swi_dispatch_frames.specs.declared.frame.FrameKind.TheVariants.{Swi, Entry}
-use Rattle.swi_dispatch_frames.specs.Busy.{has_swi_of, is_swi}
-use Rattle.swi_dispatch_frames.specs.Frames.{frames_after_close, innermost_frame}
+use Rattle.swi_dispatch_answers.specs.declared.frames.frame.Frame.{Frame}
+use Rattle.swi_dispatch_answers.specs.declared.frames.frame.FrameKind.{FrameKind}
+use Rattle.swi_dispatch_answers.specs.declared.frames.frame.FrameKind.TheVariants.{Swi, Entry}
+use Rattle.swi_dispatch_answers.specs.frames.Busy.{has_swi_of, is_swi}
+use Rattle.swi_dispatch_answers.specs.frames.Frames.{frames_after_close, innermost_frame}
 use Rattle.swi_dispatch_plans.proofs.Sparing.{among, none_of}
 use Rattle.swi_dispatch_guest.specs.MachineState.{Tables}
-use Rattle.swi_dispatch_guest.specs.OpenFrames.{AreCalled, AreFrames, AreHeld, AreSpared, IsFrameOfCode, entries}
-use Rattle.swi_dispatch_guest.specs.OpenFrames.{entry_called, entry_kept}
+use Rattle.swi_dispatch_guest.specs.OpenFrames.{AreCalled, AreFrames, AreHeld, AreSpared, IsFrameOfCode, entries, entry_called, entry_kept}
 
 -- the same frames and the same plan, of modules with the same slots
 pub frames_kept : (old new : Tables) → AreFrames old → new.frames ≡ old.frames → new.plan ≡ old.plan

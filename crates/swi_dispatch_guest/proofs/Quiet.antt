@@ -6,7 +6,7 @@ use Rattle.address_map.specs.Bytes.{Bytes}
 use Rattle.arm_core.specs.declared.turn.Turn.{Turn}
 use Rattle.arm_core.specs.declared.turn.Turn.TheVariants as turn
 use Rattle.arm_core.specs.State.{State}
-use Rattle.image_loader.specs.Entries.{Entry}
+use Rattle.swi_dispatch_plans.specs.Entries.{Entry}
 use Rattle.swi_dispatch_guest.specs.declared.halt.Halt.{Halt}
 use Rattle.swi_dispatch_guest.specs.MachineState.{MachineState, StepOutcome, quiet}
 use Rattle.swi_dispatch_guest.specs.Step.{outcome_of_turn, Turned, result_of_instruction, unless_halted, machine_step}

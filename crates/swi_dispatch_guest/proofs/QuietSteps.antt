@@ -14,7 +14,7 @@ use Rattle.arm_step.specs.Step.{result_of_step}
 use Rattle.arm_step.specs.Turns.{Turns}
 use Rattle.arm_step.proofs.Framing.{step_keeps}
 use Rattle.os_heap.specs.Store.{store_of, owned_in, IsSound}
-use Rattle.image_loader.specs.Entries.{Entry}
+use Rattle.swi_dispatch_plans.specs.Entries.{Entry}
 use Rattle.swi_dispatch_guest.specs.declared.halt.Halt.{Halt}
 use Rattle.swi_dispatch_guest.specs.MachineState.{MachineState, Tables}
 use Rattle.swi_dispatch_guest.specs.Step.{Turned, moved_on}

@@ -4,9 +4,9 @@ use Rattle.profile.specs.Sizes.{Sizes}
 use Rattle.address_map.specs.declared.map.AddressMap.{AddressMap}
 use Rattle.address_map.specs.Memory.{free_pages}
 use Rattle.arm_core.specs.State.{cpu_start_state}
-use Rattle.swi_dispatch_flex.specs.flex_machine.specs.module_world.specs.Sound.{IsWorld}
-use Rattle.swi_dispatch_flex.specs.flex_machine.specs.module_world.specs.World.{world_of}
-use Rattle.swi_dispatch_flex.specs.flex_machine.specs.module_world.proofs.Starting.{start_world}
+use Rattle.instances.specs.world.Sound.{IsWorld}
+use Rattle.instances.specs.world.World.{world_of}
+use Rattle.instances.proofs.WorldLemmas.Starting.{start_world}
 use Rattle.os_heap.specs.Store.{Store, store_of}
 use Rattle.dynamic_areas.specs.Areas.{start_land}
 use Rattle.dynamic_areas.specs.Ground.{AreAreas, IsRecorded, pool_of, system_pages_range}

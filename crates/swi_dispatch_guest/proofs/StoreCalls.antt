@@ -8,10 +8,10 @@ use Rattle.os_heap.specs.Store.{Store, store_of}
 use Rattle.dynamic_areas.specs.Areas.{Land}
 use Rattle.dynamic_areas.specs.Ground.{Estate, IsEstate, estate_of}
 use Rattle.dynamic_areas.proofs.HeapCalls.{pool_is}
-use Rattle.swi_dispatch_flex.specs.flex_machine.specs.module_world.specs.World.{World}
+use Rattle.instances.specs.world.World.{World}
 use Rattle.swi_dispatch_answers.specs.declared.refusal.Refusal.{Refusal}
-use Rattle.swi_dispatch_plans.specs.swi_dispatch_store.specs.Leaving.{LeavesSound}
-use Rattle.swi_dispatch_plans.specs.swi_dispatch_modules.specs.Leaving.{LeavesWorld}
+use Rattle.swi_dispatch_plans.specs.store.Leaving.{LeavesSound}
+use Rattle.swi_dispatch_plans.specs.modules.Leaving.{LeavesWorld}
 use Rattle.swi_dispatch_guest.specs.declared.halt.Halt.{Halt}
 use Rattle.swi_dispatch_guest.specs.Calls.{on_estate, on_store, on_world, with_guest}
 use Rattle.swi_dispatch_guest.specs.MachineState.{MachineState, Tables}

@@ -9,7 +9,7 @@ use Rattle.os_heap.specs.Store.{Store, store_of}
 use Rattle.dynamic_areas.specs.Areas.{Land}
 use Rattle.dynamic_areas.specs.Ground.{AreAreas, IsRecorded, system_pages_range}
 use Rattle.dynamic_areas.proofs.HeapCalls.{system_mapped}
-use Rattle.swi_dispatch_flex.specs.flex_machine.specs.module_world.specs.Sound.{HasSystemPages}
+use Rattle.instances.specs.world.Sound.{HasSystemPages}
 
 pub private_room : (s : Store) (free : ℕ) (l : Land) → AreAreas s free l → AreMapped s.bytes.mapped 0x01C02000 256
 private_room s free l areas a low high = system_mapped s free l areas a (range_inside system_start 0x3000 a (omega arith) (omega arith))

@@ -3,7 +3,7 @@ use Rattle.std.proofs.Common.{◌≡◌, List, Result, Ok, Err, ◌∙◌, ap}
 use Rattle.address_map.specs.Bytes.{Bytes}
 use Rattle.arm_core.specs.declared.turn.Turn.{Turn}
 use Rattle.arm_core.specs.State.{State}
-use Rattle.image_loader.specs.Entries.{Entry}
+use Rattle.swi_dispatch_plans.specs.Entries.{Entry}
 use Rattle.swi_dispatch_guest.specs.MachineState.{MachineState, quiet}
 use Rattle.swi_dispatch_guest.specs.Step.{outcome_of_turn, turn_end, Turned}
 

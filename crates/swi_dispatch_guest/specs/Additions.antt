@@ -3,11 +3,11 @@
 use Rattle.std.specs.Prelude.{◌≡◌, ℕ, Bool, List, Option, Result, Ok, Err}
 use Rattle.profile.specs.Outcome.{bind}
 use Rattle.profile.specs.declared.error.ErrorNumber.{ErrorNumber}
-use Rattle.image_loader.specs.Entries.{Entry}
+use Rattle.swi_dispatch_plans.specs.Entries.{Entry}
 use Rattle.instances_plans.specs.Plans.{Plan}
-use Rattle.swi_dispatch_flex.specs.flex_machine.specs.module_world.specs.World.{World}
-use Rattle.swi_dispatch_plans.specs.instances.specs.Adding.{copying, inserting, loading}
-use Rattle.swi_dispatch_frames.specs.declared.call.Call.{Call}
+use Rattle.instances.specs.world.World.{World}
+use Rattle.instances.specs.Adding.{copying, inserting, loading}
+use Rattle.swi_dispatch_answers.specs.declared.frames.call.Call.{Call}
 use Rattle.swi_dispatch_guest.specs.Gates.{ended_of, state_with_code_entered}
 use Rattle.swi_dispatch_plans.specs.Trials.{world_carried}
 use Rattle.swi_dispatch_plans.specs.Setting.{string_asked}

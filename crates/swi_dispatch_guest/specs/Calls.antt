@@ -1,8 +1,7 @@
 -- The store calls: what each answers, by the registers of the caller's mode, and what it leaves
 -- (RISC OS 3 Programmer's Reference Manual, the chapters on character output, program environment,
 -- generating and handling errors, memory management, and "OS_Heap").
-use Rattle.std.specs.Prelude.{ℕ, ◌+◌, ◌%◌, ◌==◌, ◌&&◌, Option, Some, None, option_map, Result, Ok, List, [], ◌∷◌}
-use Rattle.std.specs.Prelude.{length, if◌then◌else◌}
+use Rattle.std.specs.Prelude.{ℕ, ◌+◌, ◌%◌, ◌==◌, ◌&&◌, Option, Some, None, option_map, Result, Ok, List, [], ◌∷◌, length, if◌then◌else◌}
 use Rattle.profile.specs.Outcome.{bind}
 use Rattle.profile.specs.declared.error.ErrorNumber.{ErrorNumber}
 use Rattle.profile.specs.declared.error.ErrorNumber.TheVariants.{BadString, BadPointer}
@@ -13,16 +12,15 @@ use Rattle.arm_core.specs.declared.psr.Mode.TheVariants.{Supervisor}
 use Rattle.arm_core.specs.State.{State, register_of, with_mode}
 use Rattle.os_heap.specs.Store.{Store}
 use Rattle.dynamic_areas.specs.Ground.{Estate}
-use Rattle.swi_dispatch_flex.specs.flex_machine.specs.module_world.specs.World.{World}
+use Rattle.instances.specs.world.World.{World}
 use Rattle.swi_dispatch_answers.specs.declared.refusal.Refusal.{Refusal}
 use Rattle.swi_dispatch_answers.specs.declared.refusal.Refusal.TheVariants as refusal
 use Rattle.swi_dispatch_answers.specs.declared.strings.TextEnd.TheVariants as end
 use Rattle.swi_dispatch_answers.specs.Strings.{ends, text_at, next_word}
 use Rattle.swi_dispatch_flex.specs.Calls.{FlexMemory, flex_called}
-use Rattle.swi_dispatch_plans.specs.swi_dispatch_store.specs.Areas.{area_called, area_changed, area_read}
-use Rattle.swi_dispatch_plans.specs.swi_dispatch_store.specs.Areas.{change_asked}
-use Rattle.swi_dispatch_plans.specs.swi_dispatch_store.specs.Heaps.{heap_called}
-use Rattle.swi_dispatch_plans.specs.swi_dispatch_modules.specs.Calls.{result_of_module_call}
+use Rattle.swi_dispatch_plans.specs.store.Areas.{area_called, area_changed, area_read, change_asked}
+use Rattle.swi_dispatch_plans.specs.store.Heaps.{heap_called}
+use Rattle.swi_dispatch_plans.specs.modules.Calls.{result_of_module_call}
 use Rattle.swi_dispatch_guest.specs.Answers.{Answer, answer_without_error, refusal_answer, went_on, with_answer}
 use Rattle.swi_dispatch_guest.specs.MachineState.{MachineState, machine_estate, machine_world, quiet, with_estate, with_world}
 

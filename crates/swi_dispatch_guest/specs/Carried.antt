@@ -5,18 +5,18 @@ use Rattle.address_map.specs.declared.map.AddressMap.{AddressMap}
 use Rattle.arm_core.specs.State.{State}
 use Rattle.dynamic_areas.specs.Areas.{Land}
 use Rattle.os_heap.specs.Store.{AreClasses, store_of}
-use Rattle.swi_dispatch_flex.specs.flex_machine.specs.flex_frame.specs.Keeping.{KeepsFlex}
-use Rattle.swi_dispatch_flex.specs.flex_machine.specs.module_world.specs.Sound.{IsWorld}
-use Rattle.swi_dispatch_flex.specs.flex_machine.specs.module_world.specs.World.{world_of}
+use Rattle.instances.specs.flex_frame.Keeping.{KeepsFlex}
+use Rattle.instances.specs.world.Sound.{IsWorld}
+use Rattle.instances.specs.world.World.{world_of}
 use Rattle.instances_plans.specs.declared.code.Code.{Code}
 use Rattle.instances_plans.specs.declared.code.Outcome.{Outcome as CodeOutcome}
 use Rattle.instances_plans.specs.Carrying.{carry_of_plan}
 use Rattle.instances_plans.specs.Plans.{Plan, first_action, plan_after_code}
 use Rattle.instances_table.specs.Modules.{Module}
-use Rattle.swi_dispatch_frames.specs.declared.call.Call.{Call}
-use Rattle.swi_dispatch_frames.specs.declared.frame.Frame.{Frame}
-use Rattle.swi_dispatch_plans.specs.instances.specs.Naming.{KeepsOtherInstances}
-use Rattle.swi_dispatch_plans.specs.instances.specs.Turns.{IsUnderWay, module_doing}
+use Rattle.swi_dispatch_answers.specs.declared.frames.call.Call.{Call}
+use Rattle.swi_dispatch_answers.specs.declared.frames.frame.Frame.{Frame}
+use Rattle.instances.specs.Naming.{KeepsOtherInstances}
+use Rattle.instances.specs.Turns.{IsUnderWay, module_doing}
 use Rattle.swi_dispatch_guest.specs.Gates.{core_by, frames_by, kept_by, plan_unless_code}
 use Rattle.swi_dispatch_guest.specs.OpenFrames.{entry_called}
 

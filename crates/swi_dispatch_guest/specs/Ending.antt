@@ -4,7 +4,7 @@ use Rattle.std.specs.Io.KnownBytes.{Appends}
 use Rattle.profile.specs.Output.{AddsPart}
 use Rattle.profile.specs.declared.stop.Stop.{Stop}
 use Rattle.profile.specs.declared.stop.Stop.TheVariants as stop
-use Rattle.image_loader.specs.Entries.{Entry}
+use Rattle.swi_dispatch_plans.specs.Entries.{Entry}
 use Rattle.swi_dispatch_guest.specs.MachineState.{MachineState}
 use Rattle.swi_dispatch_guest.specs.Run.{Run, ran, last_or}
 

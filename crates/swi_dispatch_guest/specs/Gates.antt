@@ -2,8 +2,7 @@
 -- of module code to the next, and ends; and the return gate, where module code comes back (RISC OS
 -- 3 Programmer's Reference Manual, "Modules" and "OS_Module"; frames, the gate, and that a call
 -- that gives its caller no error does nothing where there is one, are this project's own).
-use Rattle.std.specs.Prelude.{◌≡◌, ℕ, Bool, true, false, ◌==◌, ◌&&◌, not, ◌++◌, ◌∷◌, [], List, Option, Some, None}
-use Rattle.std.specs.Prelude.{Result, Ok, Err, if◌then◌else◌}
+use Rattle.std.specs.Prelude.{◌≡◌, ℕ, Bool, true, false, ◌==◌, ◌&&◌, not, ◌++◌, ◌∷◌, [], List, Option, Some, None, Result, Ok, Err, if◌then◌else◌}
 use Rattle.profile.specs.declared.error.ErrorNumber.{ErrorNumber}
 use Rattle.profile.specs.declared.fault.Fault.TheVariants.{FetchUnmapped, ErrorStop, StackChanged}
 use Rattle.arm_core.specs.declared.psr.Mode.TheVariants.{Supervisor}
@@ -15,16 +14,16 @@ use Rattle.instances_plans.specs.declared.code.Outcome.TheVariants.{Well, Refuse
 use Rattle.instances_plans.specs.declared.given.Given.{Given}
 use Rattle.instances_plans.specs.Carrying.{Carried}
 use Rattle.instances_plans.specs.Plans.{Plan, plan_after_code}
-use Rattle.swi_dispatch_flex.specs.flex_machine.specs.module_world.specs.World.{World}
-use Rattle.swi_dispatch_plans.specs.instances.specs.declared.answers.Start.{Start}
-use Rattle.swi_dispatch_plans.specs.instances.specs.Reading.{start_found}
-use Rattle.swi_dispatch_frames.specs.declared.call.Call.{Call}
-use Rattle.swi_dispatch_frames.specs.declared.frame.Frame.{Frame}
-use Rattle.swi_dispatch_frames.specs.declared.frame.FrameKind.{FrameKind}
-use Rattle.swi_dispatch_frames.specs.declared.frame.FrameKind.TheVariants.{Swi, Entry}
-use Rattle.swi_dispatch_frames.specs.Entering.{code_entered}
-use Rattle.swi_dispatch_frames.specs.Frames.{frames_after_close, frame_of, innermost_frame}
-use Rattle.swi_dispatch_frames.specs.Leaving.{left}
+use Rattle.instances.specs.world.World.{World}
+use Rattle.instances.specs.declared.answers.Start.{Start}
+use Rattle.instances.specs.Reading.{start_found}
+use Rattle.swi_dispatch_answers.specs.declared.frames.call.Call.{Call}
+use Rattle.swi_dispatch_answers.specs.declared.frames.frame.Frame.{Frame}
+use Rattle.swi_dispatch_answers.specs.declared.frames.frame.FrameKind.{FrameKind}
+use Rattle.swi_dispatch_answers.specs.declared.frames.frame.FrameKind.TheVariants.{Swi, Entry}
+use Rattle.swi_dispatch_answers.specs.frames.Entering.{code_entered}
+use Rattle.swi_dispatch_answers.specs.frames.Frames.{frames_after_close, frame_of, innermost_frame}
+use Rattle.swi_dispatch_answers.specs.frames.Leaving.{left}
 use Rattle.swi_dispatch_guest.specs.declared.halt.Halt.TheVariants as halt
 use Rattle.swi_dispatch_guest.specs.Answers.{with_answer}
 use Rattle.swi_dispatch_guest.specs.MachineState.{MachineState, StepOutcome, machine_world, quiet, with_world}

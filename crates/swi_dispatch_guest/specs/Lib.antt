@@ -1,18 +1,10 @@
 -- The written machine. Begin with MachineState and Step; Run has many steps, Parts ties it to the
 -- real machine.
-pub use Rattle.swi_dispatch_answers
-pub use Rattle.swi_dispatch_breaks
-pub use Rattle.swi_dispatch_flex
-pub use Rattle.swi_dispatch_frames
-pub use Rattle.swi_dispatch_plans.specs.swi_dispatch_store
-pub use Rattle.swi_dispatch_plans.specs.swi_dispatch_modules
-pub use Rattle.arm_core
-pub use Rattle.arm_step
-pub use Rattle.os_heap.specs.os_heap_lists
-pub use Rattle.os_heap
-pub use Rattle.dynamic_areas
-pub use Rattle.swi_dispatch_flex.specs.flex_machine.specs.flex_store
-pub use Rattle.instances_table
+pub use Rattle.arm_core.specs.declared.psr.Mode as ArmCoreMode
+pub use Rattle.arm_core.specs.declared.psr.Psr as ArmCorePsr
+pub use Rattle.dynamic_areas.specs.Rooms
+pub use Rattle.swi_dispatch_answers.specs.declared.frames.frame.Frame as SwiDispatchAnswersFrame
+pub use Rattle.swi_dispatch_flex.specs.Calls as SwiDispatchFlexCalls
 pub mod Additions
 pub mod Answers
 pub mod Calls

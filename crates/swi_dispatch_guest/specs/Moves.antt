@@ -7,7 +7,7 @@ use Rattle.address_map.specs.Bytes.{Bytes}
 use Rattle.arm_core.specs.State.{State}
 use Rattle.arm_core.specs.declared.turn.Turn.{Turn}
 use Rattle.arm_core.specs.declared.turn.Turn.TheVariants as turn
-use Rattle.image_loader.specs.Entries.{Entry}
+use Rattle.swi_dispatch_plans.specs.Entries.{Entry}
 use Rattle.swi_dispatch_guest.specs.Writes.{machine_with_register}
 use Rattle.swi_dispatch_guest.specs.MachineState.{MachineState}
 use Rattle.swi_dispatch_guest.specs.Step.{result_of_instruction, machine_step, store_called, without_x}

@@ -6,11 +6,11 @@ use Rattle.instances_plans.specs.declared.action.PlanAction.TheVariants as act
 use Rattle.instances_plans.specs.declared.code.CodeKind.{CodeKind}
 use Rattle.instances_plans.specs.declared.code.CodeKind.TheVariants as kind
 use Rattle.instances_plans.specs.Plans.{Plan, first_action}
-use Rattle.swi_dispatch_frames.specs.Busy.{has_swi_of, is_swi}
-use Rattle.swi_dispatch_frames.specs.declared.frame.Frame.{Frame}
-use Rattle.swi_dispatch_frames.specs.declared.frame.FrameKind.{FrameKind}
-use Rattle.swi_dispatch_frames.specs.declared.frame.FrameKind.TheVariants.{Swi, Entry}
-use Rattle.swi_dispatch_plans.specs.instances.specs.Naming.{slots_of_kept}
+use Rattle.swi_dispatch_answers.specs.frames.Busy.{has_swi_of, is_swi}
+use Rattle.swi_dispatch_answers.specs.declared.frames.frame.Frame.{Frame}
+use Rattle.swi_dispatch_answers.specs.declared.frames.frame.FrameKind.{FrameKind}
+use Rattle.swi_dispatch_answers.specs.declared.frames.frame.FrameKind.TheVariants.{Swi, Entry}
+use Rattle.instances.specs.Naming.{slots_of_kept}
 pub use Rattle.swi_dispatch_plans.specs.Beginning.{AreHeld, entries}
 use Rattle.swi_dispatch_guest.specs.MachineState.{Tables}
 

@@ -1,7 +1,6 @@
 -- One step of the machine: an instruction, or a store call. A fault changes nothing but that the
 -- machine is halted with it.
-use Rattle.std.specs.Prelude.{◌≡◌, ℕ, Bool, true, false, ◌+◌, ◌-◌, ◌%◌, ◌^◌, ◌==◌, Option, Some, None, ok_or, Result}
-use Rattle.std.specs.Prelude.{Ok, Err, List, length, ◌++◌, ◌∷◌, [], if◌then◌else◌}
+use Rattle.std.specs.Prelude.{◌≡◌, ℕ, Bool, true, false, ◌+◌, ◌-◌, ◌%◌, ◌^◌, ◌==◌, Option, Some, None, ok_or, Result, Ok, Err, List, length, ◌++◌, ◌∷◌, [], if◌then◌else◌}
 use Rattle.profile.specs.declared.error.ErrorNumber.{ErrorNumber}
 use Rattle.profile.specs.declared.error.ErrorNumber.TheVariants.{BadString, FrameLimit, SwiUnknown}
 use Rattle.profile.specs.declared.swi.SwiName.{SwiName}
@@ -18,12 +17,12 @@ use Rattle.arm_core.specs.declared.turn.Turn.TheVariants as turn
 use Rattle.arm_core.specs.State.{State, register_of}
 use Rattle.arm_step.specs.Step.{result_of_step}
 use Rattle.os_heap.specs.Store.{owned_in}
-use Rattle.image_loader.specs.Entries.{Entry}
+use Rattle.swi_dispatch_plans.specs.Entries.{Entry}
 use Rattle.instances_plans.specs.Plans.{Plan}
-use Rattle.swi_dispatch_frames.specs.declared.call.Call.{Call}
-use Rattle.swi_dispatch_frames.specs.declared.frame.FrameKind.TheVariants.{Swi}
-use Rattle.swi_dispatch_frames.specs.Entering.{swi_entered}
-use Rattle.swi_dispatch_frames.specs.Frames.{frame_of}
+use Rattle.swi_dispatch_answers.specs.declared.frames.call.Call.{Call}
+use Rattle.swi_dispatch_answers.specs.declared.frames.frame.FrameKind.TheVariants.{Swi}
+use Rattle.swi_dispatch_answers.specs.frames.Entering.{swi_entered}
+use Rattle.swi_dispatch_answers.specs.frames.Frames.{frame_of}
 use Rattle.swi_dispatch_guest.specs.declared.halt.Halt.{Halt}
 use Rattle.swi_dispatch_guest.specs.declared.halt.Halt.TheVariants as halt
 use Rattle.instances_table.specs.declared.parts.Handler.{Handler}
@@ -37,8 +36,7 @@ use Rattle.swi_dispatch_plans.specs.ImagePlans.{instantiation_planned}
 use Rattle.swi_dispatch_plans.specs.Openings.{opening_asked}
 use Rattle.swi_dispatch_guest.specs.ModuleStart.{module_opened}
 use Rattle.swi_dispatch_answers.specs.Words.{host_string}
-use Rattle.swi_dispatch_guest.specs.Additions.{Planned, copy_planned, insertion_planned, load_planned, named_load_planned}
-use Rattle.swi_dispatch_guest.specs.Additions.{plan_alone}
+use Rattle.swi_dispatch_guest.specs.Additions.{Planned, copy_planned, insertion_planned, load_planned, named_load_planned, plan_alone}
 use Rattle.swi_dispatch_guest.specs.Answers.{Answer, refusal_answer}
 use Rattle.swi_dispatch_guest.specs.Calls.{call_answer}
 use Rattle.swi_dispatch_guest.specs.Gates.{carried_on, state_after_plan, outcome_of_gate}

@@ -3,16 +3,15 @@
 
 ghost use Rattle.std.specs.Prelude.{◌≡◌, ◌<◌, ◌^◌, false, true, Ok, OnErr};
 ghost use Rattle.module_header.specs.Header.{header_of};
-ghost use Rattle.swi_dispatch_flex.specs.flex_machine.specs.module_world.specs.rma.specs.Copies.{may_be_copied};
-ghost use Rattle.swi_dispatch_flex.specs.flex_machine.specs.module_world.specs.rma.specs.NewImages.{may_be_in_place};
+ghost use Rattle.instances.specs.Copies.{may_be_copied};
+ghost use Rattle.instances.specs.NewImages.{may_be_in_place};
 
 use crate::guest::Guest;
 use crate::module_steps::carry_next;
-use image_loader::Images;
 use instances_plans::{Outcome, Plan};
 use profile::ErrorNumber;
-use swi_dispatch_frames::Call;
-use swi_dispatch_plans::{ImageFound, ImageRange};
+use swi_dispatch_answers::frames::Call;
+use swi_dispatch_plans::{ImageFound, ImageRange, Images};
 
 /// What a call that adds a module has come to, if it isn't refused: its plan if that has ended;
 /// else its code runs.

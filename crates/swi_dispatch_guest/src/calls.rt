@@ -7,11 +7,11 @@ use crate::guest::Guest;
 use crate::halt::Halt;
 use crate::printing::Output;
 use arm_core::{Mode, Psr};
-use image_loader::Images;
 use profile::{Fault, ModuleReason, SwiName};
 use swi_dispatch_answers::Refusal;
+use swi_dispatch_answers::frames::Call;
 use swi_dispatch_answers::returns::return_to;
-use swi_dispatch_frames::Call;
+use swi_dispatch_plans::Images;
 
 impl Guest {
     ghost use Rattle.swi_dispatch_guest.specs.Answers.{with_answer};

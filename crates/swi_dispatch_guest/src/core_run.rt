@@ -2,7 +2,7 @@
 
 ghost use Rattle.std.specs.Prelude.{◌≡◌, ◌≢◌, ◌<◌, ◌≤◌, None, Err, List, [], IfOk, OnOk};
 ghost use Rattle.arm_core.specs.declared.turn.Turn.TheVariants.{Done};
-ghost use Rattle.image_loader.specs.Entries.{Entry};
+ghost use Rattle.swi_dispatch_plans.specs.Entries.{Entry};
 ghost use Rattle.swi_dispatch_guest.specs.Parts.{TakesTurn, state_of};
 ghost use Rattle.swi_dispatch_guest.specs.MachineState.{outcome_with};
 ghost use Rattle.swi_dispatch_guest.specs.Run.{ran, quiet_run, quiet_stop};
@@ -11,10 +11,9 @@ ghost use Rattle.swi_dispatch_guest.specs.Step.{machine_step};
 use crate::guest::Guest;
 use crate::printing::Output;
 use arm_core::Turn;
-use arm_run::run;
-use image_loader::Images;
+use arm_run::{Breaks, run};
 use profile::Stop;
-use swi_dispatch_breaks::Breaks;
+use swi_dispatch_plans::Images;
 
 impl Guest {
     /// Takes one step of a guest that isn't halted: an instruction or a store call.

@@ -9,7 +9,7 @@ use profile::memory_map::ERROR_BLOCK;
 use profile::{ErrorNumber, Fault};
 use swi_dispatch_answers::Refusal;
 use swi_dispatch_answers::errors::{error_at, write_error};
-use swi_dispatch_frames::Call;
+use swi_dispatch_answers::frames::Call;
 
 impl Guest {
     ghost use Rattle.swi_dispatch_guest.specs.Parts.{state_of};

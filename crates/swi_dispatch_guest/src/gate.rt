@@ -2,8 +2,8 @@
 
 ghost use Rattle.std.specs.Prelude.{◌≡◌, false, true, Some, MatchResult};
 ghost use Rattle.address_map.specs.Memory.{bytes_of};
-ghost use Rattle.swi_dispatch_frames.specs.Busy.{is_swi};
-ghost use Rattle.swi_dispatch_frames.specs.Frames.{innermost_frame};
+ghost use Rattle.swi_dispatch_answers.specs.frames.Busy.{is_swi};
+ghost use Rattle.swi_dispatch_answers.specs.frames.Frames.{innermost_frame};
 ghost use Rattle.swi_dispatch_guest.specs.Gates.{GoesBack, IsUntaken, Resumes, fault_kept, outcome_of_gate, outcome_left, plan_left};
 
 use crate::guest::Guest;
@@ -14,8 +14,8 @@ use arm_core::Cpu;
 use instances_plans::{Outcome, Plan};
 use profile::Fault;
 use swi_dispatch_answers::errors::error_at;
+use swi_dispatch_answers::frames::{Call, Frame, FrameKind};
 use swi_dispatch_answers::returns::return_to;
-use swi_dispatch_frames::{Call, Frame, FrameKind};
 
 impl Guest {
     ghost use Rattle.swi_dispatch_guest.specs.Parts.{state_of};

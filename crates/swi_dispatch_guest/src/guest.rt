@@ -7,9 +7,9 @@ use crate::halt::Halt;
 use crate::printing::Output;
 use address_map::AddressMap;
 use arm_core::{Cpu, Turn};
-use arm_ready::ReadyWords;
+use arm_run::ReadyWords;
 use dynamic_areas::{Areas, start_memory};
-use image_loader::Images;
+use instances::Instances;
 use instances_plans::Plan;
 use os_heap::Heaps;
 use profile::Config;
@@ -17,10 +17,9 @@ use profile::memory_map::{ADDRESS_LIMIT, APPLICATION_START};
 use profile::word::is_bit_set;
 use std::alloc::{AllocError, Global};
 use std::marker::Model;
-use swi_dispatch_flex::flex_machine::flex_store::Flex;
-use swi_dispatch_frames::Frames;
-use swi_dispatch_plans::Spare;
-use swi_dispatch_plans::instances::Instances;
+use swi_dispatch_answers::frames::Frames;
+use swi_dispatch_flex::Flex;
+use swi_dispatch_plans::{Images, Spare};
 
 /// The bit of a call's number that asks for errors to be returned.
 const X_BIT: u32 = 1 << 17;

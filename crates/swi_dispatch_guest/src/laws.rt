@@ -1,7 +1,7 @@
 //! Laws of the written machine.
 
 ghost use Rattle.std.specs.Prelude.{ℕ, List};
-ghost use Rattle.image_loader.specs.Entries.{Entry};
+ghost use Rattle.swi_dispatch_plans.specs.Entries.{Entry};
 ghost use Rattle.swi_dispatch_guest.specs.MachineState.{MachineState};
 ghost use Rattle.swi_dispatch_guest.specs.Run.{RunsOn};
 

@@ -5,7 +5,7 @@ ghost use Rattle.std.specs.Option.{option_map};
 ghost use Rattle.address_map.specs.Memory.{bytes_of, free_pages};
 ghost use Rattle.os_heap.specs.Store.{store_of, IsSound};
 ghost use Rattle.dynamic_areas.specs.Rooms.{IsAreaTable};
-ghost use Rattle.swi_dispatch_flex.specs.flex_machine.specs.flex_store.specs.State.{IsFlex};
+ghost use Rattle.swi_dispatch_flex.specs.State.{IsFlex};
 ghost use Rattle.swi_dispatch_guest.specs.MachineState.{stop_of, setting_of};
 ghost use Rattle.swi_dispatch_plans.specs.Setting.{setting_in};
 
@@ -14,12 +14,12 @@ use crate::halt::Halt;
 use address_map::AddressMap;
 use arm_core::Cpu;
 use dynamic_areas::Areas;
+use instances::Instances;
 use os_heap::Heaps;
 use profile::Stop;
-use swi_dispatch_flex::flex_machine::flex_store::Flex;
-use swi_dispatch_frames::Frame;
+use swi_dispatch_answers::frames::Frame;
+use swi_dispatch_flex::Flex;
 use swi_dispatch_plans::Planner;
-use swi_dispatch_plans::instances::Instances;
 
 impl Guest {
     ghost use Rattle.swi_dispatch_guest.specs.Parts.{state_of};

@@ -4,9 +4,9 @@
 ghost use Rattle.std.specs.Prelude.{◌≡◌, ◌<◌, ◌≤◌, ◌^◌, false, length};
 
 use crate::guest::Guest;
-use swi_dispatch_flex::flex_machine::module_world::put_text;
-use swi_dispatch_frames::Call;
-use swi_dispatch_plans::instances::Start;
+use instances::Start;
+use instances::world::put_text;
+use swi_dispatch_answers::frames::Call;
 use swi_dispatch_plans::{Opening, enter_as_user};
 
 impl Guest {

@@ -2,22 +2,21 @@
 //! ends (RISC OS 3 Programmer's Reference Manual, "Modules" and "OS_Module").
 
 ghost use Rattle.std.specs.Prelude.{◌≡◌, ◌<◌, false, length, IfOk};
-ghost use Rattle.swi_dispatch_flex.specs.flex_machine.specs.module_world.specs.World.{world_of};
+ghost use Rattle.instances.specs.world.World.{world_of};
 ghost use Rattle.os_heap.specs.Store.{AreClasses};
-ghost use Rattle.swi_dispatch_plans.specs.instances.specs.Turns.{IsUnderWay};
+ghost use Rattle.instances.specs.Turns.{IsUnderWay};
 ghost use Rattle.swi_dispatch_plans.specs.Trials.{world_carried};
 ghost use Rattle.swi_dispatch_guest.specs.Carried.{IsCarriedNext};
-ghost use Rattle.swi_dispatch_guest.specs.Gates.{call_ended, core_by, ended_of, frames_by, kept_by};
-ghost use Rattle.swi_dispatch_guest.specs.Gates.{loaded_entered, plan_unless_code, state_after_plan, state_with_code_entered};
+ghost use Rattle.swi_dispatch_guest.specs.Gates.{call_ended, core_by, ended_of, frames_by, kept_by, loaded_entered, plan_unless_code, state_after_plan, state_with_code_entered};
 
 use crate::guest::Guest;
 use address_map::AddressMap;
 use arm_core::Cpu;
 use dynamic_areas::Areas;
+use instances::Instances;
 use instances_plans::{Code, Ended, Given, Outcome, Plan};
 use profile::ErrorNumber;
-use swi_dispatch_frames::{Call, Frame, FrameKind, Frames, enter_code};
-use swi_dispatch_plans::instances::Instances;
+use swi_dispatch_answers::frames::{Call, Frame, FrameKind, Frames, enter_code};
 
 impl Guest {
     ghost use Rattle.swi_dispatch_guest.specs.Parts.{state_of};

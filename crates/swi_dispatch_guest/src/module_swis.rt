@@ -4,10 +4,10 @@ ghost use Rattle.std.specs.Prelude.{◌≡◌, ◌<◌, ◌^◌, false, true, le
 ghost use Rattle.instances_plans.specs.Doable.{is_used};
 
 use crate::guest::Guest;
+use instances::Handler;
 use profile::ErrorNumber;
 use swi_dispatch_answers::Refusal;
-use swi_dispatch_frames::{Call, Frame, FrameKind, MOST_FRAMES, enter_swi};
-use swi_dispatch_plans::instances::Handler;
+use swi_dispatch_answers::frames::{Call, Frame, FrameKind, MOST_FRAMES, enter_swi};
 
 impl Guest {
     ghost use Rattle.swi_dispatch_guest.specs.Parts.{state_of};

@@ -9,9 +9,9 @@ ghost use Rattle.swi_dispatch_answers.specs.Words.{host_string};
 use crate::guest::{Guest, without_x_bit};
 use crate::printing::Output;
 use arm_core::{Mode, Psr};
-use image_loader::Images;
 use profile::{ErrorNumber, Fault};
 use swi_dispatch_answers::words::host_string;
+use swi_dispatch_plans::Images;
 
 impl Guest {
     ghost use Rattle.swi_dispatch_guest.specs.Parts.{state_of};

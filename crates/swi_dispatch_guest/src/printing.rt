@@ -3,14 +3,14 @@
 
 ghost use Rattle.std.specs.Prelude.{ℕ, ◌≡◌, [], Some, OnErr};
 ghost use Rattle.swi_dispatch_guest.specs.Calls.{printable_at, wrote_text_after, wrote_text_at};
-ghost use Rattle.swi_dispatch_frames.specs.declared.call.Call.{Call};
+ghost use Rattle.swi_dispatch_answers.specs.declared.frames.call.Call.{Call};
 
 use crate::guest::Guest;
 use arrayvec::ArrayVec;
 use profile::ErrorNumber;
+use swi_dispatch_answers::frames::Call;
 use swi_dispatch_answers::strings::{next_word, text_at};
 use swi_dispatch_answers::{Refusal, TextEnd};
-use swi_dispatch_frames::Call;
 
 /// The most bytes that a step can print.
 pub const MOST_PRINTED: usize = 4096;

@@ -1,7 +1,6 @@
 //! Runs of steps, within a budget and up to a break, and what they print.
 
-ghost use Rattle.std.specs.Prelude.{◌≡◌, ◌≢◌, ◌<◌, ◌&&◌, ◌==◌, ◌≤◌, ◌↔◌, None, Some, Err, List, false, true, IsTrue, IfOk};
-ghost use Rattle.std.specs.Prelude.{OnOk, OnErr};
+ghost use Rattle.std.specs.Prelude.{◌≡◌, ◌≢◌, ◌<◌, ◌&&◌, ◌==◌, ◌≤◌, ◌↔◌, None, Some, Err, List, false, true, IsTrue, IfOk, OnOk, OnErr};
 ghost use Rattle.std.specs.Option.{option_map};
 ghost use Rattle.swi_dispatch_guest.specs.Parts.{TakesTurn, state_of};
 ghost use Rattle.swi_dispatch_guest.specs.Run.{ran, stop_after, count_after, last_or, quiet_run, quiet_last, quiet_stop};
@@ -14,9 +13,9 @@ ghost use Rattle.swi_dispatch_guest.specs.Ending.{Ends, StandsAfter};
 use crate::guest::Guest;
 use crate::printing::Output;
 use arm_core::Turn;
-use image_loader::Images;
+use arm_run::Breaks;
 use profile::{Sink, Stop, WriteFault, push_all};
-use swi_dispatch_breaks::Breaks;
+use swi_dispatch_plans::Images;
 
 /// Why a run ended, and how many of its steps count against a budget: all but one that ended in a
 /// fault.
@@ -36,7 +35,7 @@ impl Ran {
 }
 
 impl Guest {
-    ghost use Rattle.image_loader.specs.Entries.{Entry};
+    ghost use Rattle.swi_dispatch_plans.specs.Entries.{Entry};
 
     /// Takes steps and writes what each prints, until the guest is halted, or the new program
     /// counter is among the breaks, or `budget` steps are taken, tested in that order after each

@@ -7,20 +7,17 @@ ghost use Rattle.profile.specs.ErrorNames.{error_code};
 ghost use Rattle.profile.specs.declared.error.ErrorNumber.{ErrorNumber};
 ghost use Rattle.profile.specs.declared.fault.Fault.TheVariants.{ErrorStop};
 ghost use Rattle.swi_dispatch_flex.specs.Calls.{flex_called};
-ghost use Rattle.swi_dispatch_plans.specs.swi_dispatch_store.specs.Areas.{area_called, area_changed, area_read};
-ghost use Rattle.swi_dispatch_plans.specs.swi_dispatch_store.specs.Areas.{change_asked};
-ghost use Rattle.swi_dispatch_plans.specs.swi_dispatch_store.specs.Heaps.{heap_called};
-ghost use Rattle.swi_dispatch_plans.specs.swi_dispatch_modules.specs.Calls.{result_of_module_call};
+ghost use Rattle.swi_dispatch_plans.specs.store.Areas.{area_called, area_changed, area_read, change_asked};
+ghost use Rattle.swi_dispatch_plans.specs.store.Heaps.{heap_called};
+ghost use Rattle.swi_dispatch_plans.specs.modules.Calls.{result_of_module_call};
 
 use crate::guest::Guest;
 use crate::halt::Halt;
 use profile::{ErrorNumber, SwiName};
 use swi_dispatch_answers::Refusal;
 use swi_dispatch_flex::call_flex;
-use swi_dispatch_plans::swi_dispatch_modules::call_module;
-use swi_dispatch_plans::swi_dispatch_store::{
-    call_area, call_heap, change_area, change_error, read_area,
-};
+use swi_dispatch_plans::modules::call_module;
+use swi_dispatch_plans::store::{call_area, call_heap, change_area, change_error, read_area};
 
 impl Guest {
     ghost use Rattle.swi_dispatch_guest.specs.Calls.{area_changing, call_answer, machine_flex, moving_error, with_guest};

@@ -2,15 +2,15 @@
 use Rattle.std.proofs.Common.{◌≡◌, ℕ, false, Ok, Err, List, [], ◌∷◌, sym, subst, ◌∙◌}
 use Rattle.std.specs.Prelude.{IfOk, Result}
 use Rattle.std.proofs.lemmas.Bool.{true≢false}
-use Rattle.swi_dispatch_modules.specs.instances.specs.module_world.specs.Sound.{IsWorld}
+use Rattle.instances.specs.world.Sound.{IsWorld}
 use Rattle.instances_plans.specs.Plans.{Plan}
-use Rattle.instances_table.specs.Modules.{slots_of}
+use Rattle.instances.specs.Modules.{slots_of}
 use Rattle.profile.specs.declared.error.ErrorNumber.{ErrorNumber}
-use Rattle.swi_dispatch_frames.specs.Busy.{has_swi_of}
-use Rattle.swi_dispatch_modules.specs.instances.specs.Naming.{NamesOnly, slots_of_plan}
-use Rattle.swi_dispatch_modules.specs.instances.specs.instances_actions.specs.Pending.{pending_of}
-use Rattle.swi_dispatch_modules.specs.instances.specs.instances_actions.specs.Ready.{IsReady}
-use Rattle.swi_dispatch_modules.specs.instances.proofs.NamedByCalls.{NamesNone, NamesOne}
+use Rattle.swi_dispatch_answers.specs.frames.Busy.{has_swi_of}
+use Rattle.instances.specs.Naming.{NamesOnly, slots_of_plan}
+use Rattle.instances.specs.actions.Pending.{pending_of}
+use Rattle.instances.specs.actions.Ready.{IsReady}
+use Rattle.instances.proofs.NamedByCalls.{NamesNone, NamesOne}
 use Rattle.swi_dispatch_plans.specs.Beginning.{CanBegin, IsFree}
 use Rattle.swi_dispatch_plans.specs.Setting.{Setting}
 use Rattle.swi_dispatch_plans.proofs.Sparing.{none_of, none_of_none}

@@ -1,3 +1,5 @@
 pub mod Beginning
 pub mod Sparing
 pub mod Trials
+pub mod StoreLemmas
+pub mod ModulesLemmas

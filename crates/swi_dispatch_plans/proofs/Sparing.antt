@@ -5,8 +5,8 @@ use Rattle.std.specs.List.{All, list_any}
 use Rattle.std.proofs.lemmas.Bool.{or_parts}
 use Rattle.std.proofs.lemmas.List.Elements.{All-head, All-tail}
 use Rattle.instances_plans.specs.Doable.{is_used}
-use Rattle.swi_dispatch_frames.specs.declared.frame.Frame.{Frame}
-use Rattle.swi_dispatch_frames.specs.Busy.{has_swi_of, is_swi}
+use Rattle.swi_dispatch_answers.specs.declared.frames.frame.Frame.{Frame}
+use Rattle.swi_dispatch_answers.specs.frames.Busy.{has_swi_of, is_swi}
 
 -- There is none of others either, if of the instances that are there these are no more.
 unlike : (swi a b : Bool) → (a ≡ false → b ≡ false) → (swi && a) ≡ false → (swi && b) ≡ false

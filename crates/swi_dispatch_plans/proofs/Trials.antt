@@ -5,20 +5,20 @@ use Rattle.std.proofs.lemmas.Bool.{false≢true, true≢false}
 use Rattle.address_map.specs.Bytes.{Bytes}
 use Rattle.address_map.specs.declared.map.AddressMap.{AddressMap}
 use Rattle.address_map.specs.Memory.{Layout, byte_at, bytes_of, class_of, layout}
-use Rattle.swi_dispatch_modules.specs.instances.specs.module_world.specs.World.{World, world_of}
-use Rattle.swi_dispatch_modules.specs.instances.specs.module_world.specs.dynamic_areas.specs.Areas.{Land}
+use Rattle.instances.specs.world.World.{World, world_of}
+use Rattle.dynamic_areas.specs.Areas.{Land}
 use Rattle.instances_plans.specs.declared.code.Code.{Code}
 use Rattle.instances_plans.specs.declared.code.Ended.{Ended}
 use Rattle.instances_plans.specs.declared.code.Ended.TheVariants as ended
 use Rattle.instances_plans.specs.declared.code.Outcome.{Outcome as CodeOutcome}
 use Rattle.instances_plans.specs.Carrying.{Carried, carry_of_plan}
 use Rattle.instances_plans.specs.Plans.{Plan, end_by, plan_after_code}
-use Rattle.instances_table.specs.Modules.{Module}
+use Rattle.instances.specs.Modules.{Module}
 use Rattle.os_heap.proofs.Frame.{IsKept, classes_same, heads_kept}
 use Rattle.os_heap.specs.Store.{AreClasses, IsSound, Store, store_of}
 use Rattle.profile.specs.declared.error.ErrorNumber.{ErrorNumber}
 use Rattle.swi_dispatch_answers.specs.Errors.{error_at}
-use Rattle.swi_dispatch_modules.specs.instances.specs.Turns.{module_doing}
+use Rattle.instances.specs.Turns.{module_doing}
 use Rattle.swi_dispatch_plans.specs.Trials.{error_ahead, error_left}
 
 -- the error that a trial ends with

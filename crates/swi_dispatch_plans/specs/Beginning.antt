@@ -1,19 +1,18 @@
 -- When a call on modules may begin (this project's own).
-use Rattle.std.specs.Prelude.{◌≡◌, ◌<◌, ◌+◌, length, ℕ, true, false, IfOk, None, Result, List, [], ◌∷◌}
-use Rattle.std.specs.Prelude.{if◌then◌else◌}
+use Rattle.std.specs.Prelude.{◌≡◌, ◌<◌, ◌+◌, length, ℕ, true, false, IfOk, None, Result, List, [], ◌∷◌, if◌then◌else◌}
 use Rattle.std.specs.List.{All}
-use Rattle.swi_dispatch_modules.specs.instances.specs.module_world.specs.Sound.{IsWorld}
-use Rattle.swi_dispatch_modules.specs.instances.specs.module_world.specs.dynamic_areas.specs.Ground.{IsEstate}
+use Rattle.instances.specs.world.Sound.{IsWorld}
+use Rattle.dynamic_areas.specs.Ground.{IsEstate}
 use Rattle.instances_plans.specs.Doable.{is_used}
 use Rattle.instances_plans.specs.Plans.{Plan}
-use Rattle.instances_table.specs.Changes.{modules_of_title}
-use Rattle.instances_table.specs.Modules.{Module, slots_of}
+use Rattle.instances.specs.Changes.{modules_of_title}
+use Rattle.instances.specs.Modules.{Module, slots_of}
 use Rattle.module_header.specs.declared.fault.HeaderFault.{HeaderFault}
 use Rattle.module_header.specs.declared.header.Header.{Header}
-use Rattle.swi_dispatch_frames.specs.Busy.{has_swi_of, is_swi}
-use Rattle.swi_dispatch_frames.specs.declared.frame.Frame.{Frame}
-use Rattle.swi_dispatch_modules.specs.instances.specs.Naming.{slots_of_plan}
-use Rattle.swi_dispatch_modules.specs.instances.specs.Turns.{IsUnderWay, MayGoOn}
+use Rattle.swi_dispatch_answers.specs.frames.Busy.{has_swi_of, is_swi}
+use Rattle.swi_dispatch_answers.specs.declared.frames.frame.Frame.{Frame}
+use Rattle.instances.specs.Naming.{slots_of_plan}
+use Rattle.instances.specs.Turns.{IsUnderWay, MayGoOn}
 use Rattle.swi_dispatch_plans.specs.Setting.{Setting}
 
 -- how many of the frames are entries of modules, and not SWIs

@@ -7,18 +7,18 @@ use Rattle.profile.specs.Outcome.{bind}
 use Rattle.profile.specs.declared.error.ErrorNumber.{ErrorNumber}
 use Rattle.profile.specs.declared.error.ErrorNumber.TheVariants.{BadPointer, BadString, ImageUnknown, ModuleNotFound}
 use Rattle.address_map.specs.Bytes.{bytes_between}
-use Rattle.arm_core.specs.State.{register_of}
+use Rattle.swi_dispatch_answers.specs.State.{register_of}
 use Rattle.image_loader.specs.Entries.{Entry, bytes_of_image}
-use Rattle.swi_dispatch_modules.specs.instances.specs.module_world.specs.rma.specs.Copies.{may_be_copied}
-use Rattle.swi_dispatch_modules.specs.instances.specs.module_world.specs.rma.specs.NewImages.{may_be_in_place}
+use Rattle.instances.specs.Copies.{may_be_copied}
+use Rattle.instances.specs.NewImages.{may_be_in_place}
 use Rattle.instances_plans.specs.Plans.{Plan}
-use Rattle.instances_table.specs.Changes.{modules_of_title}
-use Rattle.instances_table.specs.Modules.{slots_of}
+use Rattle.instances.specs.Changes.{modules_of_title}
+use Rattle.instances.specs.Modules.{slots_of}
 use Rattle.module_header.specs.declared.fault.HeaderFault.{HeaderFault}
 use Rattle.module_header.specs.declared.header.Header.{Header}
 use Rattle.module_header.specs.Header.{header_of}
 use Rattle.swi_dispatch_answers.specs.Words.{name_part, text_part}
-use Rattle.swi_dispatch_modules.specs.instances.specs.Adding.{good_header, instantiation}
+use Rattle.instances.specs.Adding.{good_header, instantiation}
 use Rattle.swi_dispatch_plans.specs.Beginning.{SparesTitle}
 use Rattle.swi_dispatch_plans.specs.declared.image_plans.ImageFound.{ImageFound}
 use Rattle.swi_dispatch_plans.specs.declared.image_plans.ImageRange.{ImageRange}

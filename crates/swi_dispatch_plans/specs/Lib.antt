@@ -1,10 +1,14 @@
 -- OS_Module, what is refused first and what is planned. Begin with ModulePlans and ImagePlans.
-pub use Rattle.swi_dispatch_modules.specs.instances
-pub use Rattle.swi_dispatch_modules.specs.swi_dispatch_store
-pub use Rattle.swi_dispatch_modules
+pub use Rattle.dynamic_areas.specs.Ground
+pub use Rattle.image_loader.specs.Entries
+pub use Rattle.instances.specs.Reading
+pub use Rattle.instances.specs.declared.answers.Start
+pub use Rattle.instances.specs.world
 pub mod Beginning
 pub mod ImagePlans
 pub mod ModulePlans
 pub mod Openings
 pub mod Setting
 pub mod Trials
+pub mod store
+pub mod modules

@@ -7,9 +7,9 @@ use Rattle.profile.specs.declared.error.ErrorNumber.{ErrorNumber}
 use Rattle.profile.specs.declared.error.ErrorNumber.TheVariants.{FrameLimit, ModuleBusy}
 use Rattle.instances_plans.specs.Plans.{Plan}
 use Rattle.swi_dispatch_answers.specs.Words.{name_part, text_part}
-use Rattle.swi_dispatch_frames.specs.Busy.{has_swi_of}
-use Rattle.swi_dispatch_modules.specs.instances.specs.Plans.{clearing, deletion, reinitialisation, tidying}
-use Rattle.swi_dispatch_modules.specs.instances.specs.Reading.{slot_meant}
+use Rattle.swi_dispatch_answers.specs.frames.Busy.{has_swi_of}
+use Rattle.instances.specs.Plans.{clearing, deletion, reinitialisation, tidying}
+use Rattle.instances.specs.Reading.{slot_meant}
 use Rattle.swi_dispatch_plans.specs.Setting.{Setting, string_asked}
 
 -- A call that may run module code is refused while an initialisation or a finalisation is under

@@ -6,11 +6,11 @@ use Rattle.std.specs.Prelude.{ℕ, nat_lt, List, length, Result, Ok, Err, if◌t
 use Rattle.profile.specs.Outcome.{bind}
 use Rattle.profile.specs.declared.error.ErrorNumber.{ErrorNumber}
 use Rattle.profile.specs.declared.error.ErrorNumber.TheVariants.{ModuleBusy}
-use Rattle.arm_core.specs.declared.psr.Mode.TheVariants.{User}
-use Rattle.arm_core.specs.State.{State, start_psr, with_pc, with_psr, with_register_in}
+use Rattle.swi_dispatch_answers.specs.Mode.TheVariants.{User}
+use Rattle.swi_dispatch_answers.specs.State.{State, start_psr, with_pc, with_psr, with_register_in}
 use Rattle.instances_plans.specs.Code.{private_of}
-use Rattle.swi_dispatch_modules.specs.instances.specs.declared.answers.Start.{Start}
-use Rattle.swi_dispatch_modules.specs.instances.specs.Reading.{start_found}
+use Rattle.instances.specs.declared.answers.Start.{Start}
+use Rattle.instances.specs.Reading.{start_found}
 use Rattle.swi_dispatch_plans.specs.declared.openings.Opening.{Opening}
 use Rattle.swi_dispatch_plans.specs.Setting.{Setting, string_asked}
 

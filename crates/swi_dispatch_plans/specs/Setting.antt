@@ -2,13 +2,13 @@
 use Rattle.std.specs.Prelude.{ℕ, Option, Result, List}
 use Rattle.profile.specs.declared.error.ErrorNumber.{ErrorNumber}
 use Rattle.address_map.specs.declared.map.AddressMap.{AddressMap}
-use Rattle.arm_core.specs.State.{State}
-use Rattle.swi_dispatch_modules.specs.instances.specs.module_world.specs.World.{World, world_of}
-use Rattle.swi_dispatch_modules.specs.instances.specs.module_world.specs.dynamic_areas.specs.Areas.{Land}
+use Rattle.swi_dispatch_answers.specs.State.{State}
+use Rattle.instances.specs.world.World.{World, world_of}
+use Rattle.dynamic_areas.specs.Areas.{Land}
 use Rattle.instances_plans.specs.Plans.{Plan}
-use Rattle.instances_table.specs.Modules.{Module}
+use Rattle.instances.specs.Modules.{Module}
 use Rattle.swi_dispatch_answers.specs.Strings.{string_in}
-use Rattle.swi_dispatch_frames.specs.declared.frame.Frame.{Frame}
+use Rattle.swi_dispatch_answers.specs.declared.frames.frame.Frame.{Frame}
 
 -- The core, the modules and what they stand on, the frames of module code that is under way, and
 -- what is left to do of a call on modules whose code is under way.

@@ -1,12 +1,12 @@
 -- A call under way that is tried on a copy: what it comes to, and the error that it would end with
 -- (this project's own).
 use Rattle.std.specs.Prelude.{ℕ, Option, Some, None, option_map}
-use Rattle.swi_dispatch_modules.specs.instances.specs.module_world.specs.World.{World}
+use Rattle.instances.specs.world.World.{World}
 use Rattle.instances_plans.specs.declared.code.Code.{Code}
 use Rattle.instances_plans.specs.Carrying.{Carried, carry_of_plan}
 use Rattle.instances_plans.specs.Plans.{Plan}
 use Rattle.swi_dispatch_answers.specs.Errors.{error_at}
-use Rattle.swi_dispatch_modules.specs.instances.specs.Turns.{module_doing}
+use Rattle.instances.specs.Turns.{module_doing}
 
 abbrev pub world_carried : World → Plan → Carried World
 world_carried w p = carry_of_plan module_doing w p

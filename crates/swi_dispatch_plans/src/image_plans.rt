@@ -5,21 +5,19 @@ ghost use Rattle.std.specs.Prelude.{◌≡◌, ◌≤◌, length, true, IfOk, Ok
 ghost use Rattle.profile.specs.Outcome.{bind};
 ghost use Rattle.address_map.specs.Bytes.{AreMapped};
 ghost use Rattle.module_header.specs.Header.{header_of};
-ghost use Rattle.swi_dispatch_modules.specs.instances.specs.module_world.specs.rma.specs.Copies.{may_be_copied};
-ghost use Rattle.swi_dispatch_modules.specs.instances.specs.module_world.specs.rma.specs.NewImages.{may_be_in_place};
+ghost use Rattle.instances.specs.Copies.{may_be_copied};
+ghost use Rattle.instances.specs.NewImages.{may_be_in_place};
 ghost use Rattle.swi_dispatch_plans.specs.Beginning.{CanBegin, IsFree, SparesTitle};
-ghost use Rattle.swi_dispatch_plans.specs.ImagePlans.{SparesRange, copy_asked, image_header_in, insertion_asked};
-ghost use Rattle.swi_dispatch_plans.specs.ImagePlans.{instantiation_planned, load_asked, loading_of, may_add};
-ghost use Rattle.swi_dispatch_plans.specs.ImagePlans.{range_asked, range_found, well_named};
+ghost use Rattle.swi_dispatch_plans.specs.ImagePlans.{SparesRange, copy_asked, image_header_in, insertion_asked, instantiation_planned, load_asked, loading_of, may_add, range_asked, range_found, well_named};
 ghost use Rattle.swi_dispatch_plans.specs.Setting.{setting_in};
 
 use crate::planner::Planner;
 use image_loader::Images;
+use instances::Rma;
 use instances_plans::Plan;
 use module_header::Header;
 use profile::ErrorNumber;
 use swi_dispatch_answers::words::{name_part, text_part};
-use swi_dispatch_modules::instances::module_world::rma::Rma;
 
 /// What a load is given.
 #[derive(Clone, Copy)]

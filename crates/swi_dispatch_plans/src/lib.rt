@@ -9,14 +9,15 @@
 
 pub mod image_plans;
 pub mod module_plans;
+pub mod modules;
 pub mod openings;
 pub mod planner;
 pub mod refusals;
 pub mod spare;
+pub mod store;
 
+pub use image_loader::Images;
 pub use image_plans::{ImageFound, ImageRange, Load};
 pub use openings::{Opening, enter_as_user};
 pub use planner::Planner;
 pub use spare::Spare;
-pub use swi_dispatch_modules;
-pub use swi_dispatch_modules::{instances, swi_dispatch_store};

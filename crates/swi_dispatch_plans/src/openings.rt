@@ -6,13 +6,12 @@ ghost use Rattle.swi_dispatch_plans.specs.Openings.{as_user, opening_asked};
 ghost use Rattle.swi_dispatch_plans.specs.Setting.{setting_in};
 
 use crate::planner::Planner;
-use arm_core::{Cpu, Mode, Psr};
 use arrayvec::ArrayVec;
+use instances::Start;
 use instances_plans::private_word;
 use profile::ErrorNumber;
 use profile::memory_map::ENVIRONMENT_TEXT;
-use swi_dispatch_answers::MAX_TEXT;
-use swi_dispatch_modules::instances::Start;
+use swi_dispatch_answers::{Cpu, MAX_TEXT, Mode, Psr};
 
 /// A user's program finds all flags clear.
 const USER: Psr = Psr {

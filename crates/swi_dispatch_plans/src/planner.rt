@@ -6,16 +6,15 @@ ghost use Rattle.swi_dispatch_plans.specs.Beginning.{IsSetting};
 ghost use Rattle.swi_dispatch_plans.specs.Setting.{setting_in, string_asked};
 
 use address_map::AddressMap;
-use arm_core::Cpu;
 use arrayvec::ArrayVec;
+use dynamic_areas::Areas;
+use instances::Instances;
 use instances_plans::Plan;
 use profile::ErrorNumber;
 use std::marker::Model;
-use swi_dispatch_answers::MAX_TEXT;
+use swi_dispatch_answers::frames::Frames;
 use swi_dispatch_answers::strings::string_in;
-use swi_dispatch_frames::Frames;
-use swi_dispatch_modules::instances::Instances;
-use swi_dispatch_modules::instances::module_world::dynamic_areas::Areas;
+use swi_dispatch_answers::{Cpu, MAX_TEXT};
 
 /// The parts of a machine that a call on modules reads as it begins: the core, the memory, the
 /// areas and the modules on it, the frames of module code that is under way, and what is left to do

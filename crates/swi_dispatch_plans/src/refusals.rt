@@ -1,7 +1,7 @@
 //! What refuses a call on modules while module code is under way.
 
 ghost use Rattle.std.specs.Prelude.{◌≡◌, [], false, IfOk};
-ghost use Rattle.swi_dispatch_frames.specs.Busy.{has_swi_of};
+ghost use Rattle.swi_dispatch_answers.specs.frames.Busy.{has_swi_of};
 ghost use Rattle.swi_dispatch_plans.specs.Beginning.{IsFree, SparesTitled};
 ghost use Rattle.swi_dispatch_plans.specs.ImagePlans.{may_load, may_replace};
 ghost use Rattle.swi_dispatch_plans.specs.ModulePlans.{may_begin_alone, may_finalise};
@@ -9,7 +9,7 @@ ghost use Rattle.swi_dispatch_plans.specs.Setting.{setting_in};
 
 use crate::planner::Planner;
 use profile::ErrorNumber;
-use swi_dispatch_frames::MOST_FRAMES;
+use swi_dispatch_answers::frames::MOST_FRAMES;
 
 impl<'a> Planner<'a> {
     // Whether a call that finalises these instances may begin.

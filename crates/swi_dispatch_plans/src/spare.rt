@@ -5,18 +5,18 @@ ghost use Rattle.std.specs.Prelude.{◌≡◌, IfOk};
 ghost use Rattle.profile.specs.Sizes.{AreGood};
 ghost use Rattle.os_heap.specs.Store.{AreClasses};
 ghost use Rattle.instances_plans.specs.Plans.{plan_after_code};
-ghost use Rattle.swi_dispatch_modules.specs.instances.specs.module_world.specs.World.{world_of};
-ghost use Rattle.swi_dispatch_modules.specs.instances.specs.Turns.{IsUnderWay};
+ghost use Rattle.instances.specs.world.World.{world_of};
+ghost use Rattle.instances.specs.Turns.{IsUnderWay};
 ghost use Rattle.swi_dispatch_plans.specs.Trials.{error_ahead};
 
 use address_map::AddressMap;
+use dynamic_areas::{Areas, areas_count_pages};
+use instances::Instances;
 use instances_plans::{Ended, Outcome, Plan};
 use profile::Config;
 use std::alloc::{AllocError, Global};
 use std::marker::Model;
 use swi_dispatch_answers::errors::error_at;
-use swi_dispatch_modules::instances::Instances;
-use swi_dispatch_modules::instances::module_world::dynamic_areas::{Areas, areas_count_pages};
 
 /// What a call is tried on: a memory as large as the machine's, which is kept for the next call.
 /// The list of modules is no part of it: each trial makes its own.

@@ -2,4 +2,3 @@ pub mod OptionsLemmas
 pub mod BlockLemmas
 pub mod RowLemmas
 pub mod MakingLemmas
-pub mod SourceRowLemmas

@@ -1,22 +1,17 @@
 -- A block is told by what the assembler makes of its lines, one thing after another.
-use Rattle.std.proofs.Common.{◌≡◌, ◌≢◌, ◌∙◌, ◌+◌, ℕ, arith, Bool, true, false, List, Option, Some, Result, Ok, Err, length, take, refl, subst, sym, ap}
+use Rattle.std.proofs.Common.{◌≡◌, ◌≢◌, ◌∙◌, ◌+◌, ℕ, arith, Bool, true, false, List, Some, Result, Ok, Err, length, take, refl, sym, ap}
 use Rattle.std.specs.Prelude.{if◌then◌else◌}
 use Rattle.std.proofs.lemmas.List.{take_all}
-use Rattle.std.specs.Str.Lines.{lines}
 use Rattle.profile.specs.Outcome.{bind}
 use Rattle.assembler.specs.Passes.{labels_of_lines, means_lines}
 use Rattle.assembler.specs.declared.error.AsmError.{AsmError}
 use Rattle.assembler_names.specs.Labels.{Entries}
-use Rattle.debug_lines.specs.SourceLanguages.{is_basic}
-use Rattle.debug_lines.specs.declared.requests.SourceLanguage.{SourceLanguage}
 use Rattle.elf_lines.specs.Blocks.{BlockToTell}
 use Rattle.elf_lines.specs.Files.{elf_file}
 use Rattle.elf_lines.specs.declared.block.LineRow.{LineRow}
-use Rattle.source_conversion.specs.Conversion.{SourceConversion, conversion_of_text}
-use Rattle.source_conversion.specs.Naming.{named_text, text_from_lines}
 use Rattle.symbols_face.specs.FoundBlocks.{ScriptBlock}
-use Rattle.symbols_face.specs.Making.{IsFileOf, LinesToTell, block_in_language, block_told, found_block_told, is_memory_reason, lines_of_source, making_error_of_asm, parts_to_tell, refusal_told, block_or_refusal, source_block_told, source_told}
-use Rattle.symbols_face.specs.Rows.{line_places, rows_in_program, rows_of_lines, rows_of_source}
+use Rattle.symbols_face.specs.Making.{IsFileOf, block_told, is_memory_reason, making_error_of_asm, parts_to_tell, refusal_told, block_or_refusal}
+use Rattle.symbols_face.specs.Rows.{line_places, rows_in_program, rows_of_lines}
 use Rattle.symbols_face.specs.declared.making.MakingError.{MakingError}
 use Rattle.symbols_face.specs.declared.making.MakingError.TheVariants as making
 
@@ -60,22 +55,22 @@ rows_told number origin end texts program places rows are is same = rw (are, sam
 
 pub ruleset rows_steps = (rows_refused, rows_told)
 
-module _ (path : List ℕ) (block : LinesToTell) where
+module _ (path : List ℕ) (block : ScriptBlock) where
   by_program : (e : MakingError) → refusal_told (means_lines block.texts block.origin) ≡ Some e → refusal_told (block_told path block) ≡ Some e
   by_program e h = first_refusal_told (means_lines block.texts block.origin) _ e h
 
   by_labels : (program : List ℕ) (e : MakingError) → means_lines block.texts block.origin ≡ Ok program
-      → refusal_told (labels_of_lines block.named block.origin) ≡ Some e → refusal_told (block_told path block) ≡ Some e
-  by_labels program e is h = rw is (first_refusal_told (labels_of_lines block.named block.origin) _ e h)
+      → refusal_told (labels_of_lines block.texts block.origin) ≡ Some e → refusal_told (block_told path block) ≡ Some e
+  by_labels program e is h = rw is (first_refusal_told (labels_of_lines block.texts block.origin) _ e h)
 
   by_rows : (program : List ℕ) (labels : Entries) (e : MakingError) → means_lines block.texts block.origin ≡ Ok program
-      → labels_of_lines block.named block.origin ≡ Ok labels
+      → labels_of_lines block.texts block.origin ≡ Ok labels
       → refusal_told (rows_in_program block.number block.texts block.origin program) ≡ Some e → refusal_told (block_told path block) ≡ Some e
   by_rows program labels e is are h =
       rw (is, are) (first_refusal_told (rows_in_program block.number block.texts block.origin program) _ e h)
 
   told_is : (program : List ℕ) (labels : Entries) (rows : List LineRow) → means_lines block.texts block.origin ≡ Ok program
-      → labels_of_lines block.named block.origin ≡ Ok labels
+      → labels_of_lines block.texts block.origin ≡ Ok labels
       → rows_in_program block.number block.texts block.origin program ≡ Ok rows
       → block_told path block ≡ Ok (parts_to_tell path block.origin program labels rows)
   told_is program labels rows is are stand = rw (is, are, stand) refl
@@ -85,16 +80,16 @@ module _ (path : List ℕ) (block : LinesToTell) where
   program_refused e h = block_refusal_told (block_told path block) e (by_program e h)
 
   pub labels_refused : (program : List ℕ) (e : MakingError) → means_lines block.texts block.origin ≡ Ok program
-      → refusal_told (labels_of_lines block.named block.origin) ≡ Some e → block_or_refusal (block_told path block) ≡ Err e
+      → refusal_told (labels_of_lines block.texts block.origin) ≡ Some e → block_or_refusal (block_told path block) ≡ Err e
   labels_refused program e is h = block_refusal_told (block_told path block) e (by_labels program e is h)
 
   pub lines_refused : (program : List ℕ) (labels : Entries) (e : MakingError) → means_lines block.texts block.origin ≡ Ok program
-      → labels_of_lines block.named block.origin ≡ Ok labels
+      → labels_of_lines block.texts block.origin ≡ Ok labels
       → refusal_told (rows_in_program block.number block.texts block.origin program) ≡ Some e → block_or_refusal (block_told path block) ≡ Err e
   lines_refused program labels e is are h = block_refusal_told (block_told path block) e (by_rows program labels e is are h)
 
   pub block_is_told : (program file : List ℕ) (labels : Entries) (rows : List LineRow) → means_lines block.texts block.origin ≡ Ok program
-      → labels_of_lines block.named block.origin ≡ Ok labels
+      → labels_of_lines block.texts block.origin ≡ Ok labels
       → rows_in_program block.number block.texts block.origin program ≡ Ok rows
       → file ≡ elf_file (parts_to_tell path block.origin program labels rows)
       → IsFileOf (block_or_refusal (block_told path block)) file
@@ -103,52 +98,5 @@ module _ (path : List ℕ) (block : LinesToTell) where
 
 pub ruleset block_steps = (program_refused, labels_refused, lines_refused, block_is_told)
 
-source_refusal_told : (path : List ℕ) (number : ℕ) (s : SourceConversion) (r : Result BlockToTell AsmError) (e : MakingError)
-    → refusal_told r ≡ Some e → source_block_told path number s r ≡ Err e
-source_refusal_told path number s (Ok b) e h = cc
-source_refusal_told path number s (Err x) e h = let same : making.Refused x ≡ e = cc in ap (λ (m : MakingError). Err m) same
-
--- of the lines that a source was converted to
-module _ (path : List ℕ) (number origin : ℕ) (s : SourceConversion) where
-  pub program_of_source_refused : (e : MakingError) → refusal_told (means_lines (lines s.body) origin) ≡ Some e
-      → source_block_told path number s (block_told path (lines_of_source s origin)) ≡ Err e
-  program_of_source_refused e h =
-      source_refusal_told path number s (block_told path (lines_of_source s origin)) e (by_program path (lines_of_source s origin) e h)
-
-  pub labels_of_source_refused : (program : List ℕ) (e : MakingError) → means_lines (lines s.body) origin ≡ Ok program
-      → refusal_told (labels_of_lines (lines (named_text s)) origin) ≡ Some e
-      → source_block_told path number s (block_told path (lines_of_source s origin)) ≡ Err e
-  labels_of_source_refused program e is h =
-      source_refusal_told path number s (block_told path (lines_of_source s origin)) e (by_labels path (lines_of_source s origin) program e is h)
-
-  pub lines_of_source_refused : (program : List ℕ) (labels : Entries) (e : MakingError) → means_lines (lines s.body) origin ≡ Ok program
-      → labels_of_lines (lines (named_text s)) origin ≡ Ok labels
-      → refusal_told (rows_in_program 0 (lines s.body) origin program) ≡ Some e
-      → source_block_told path number s (block_told path (lines_of_source s origin)) ≡ Err e
-  lines_of_source_refused program labels e is are h =
-      source_refusal_told path number s (block_told path (lines_of_source s origin)) e (by_rows path (lines_of_source s origin) program labels e is are h)
-
-  pub source_is_told : (program file : List ℕ) (labels : Entries) (rows own : List LineRow) → means_lines (lines s.body) origin ≡ Ok program
-      → labels_of_lines (lines (named_text s)) origin ≡ Ok labels → rows_in_program 0 (lines s.body) origin program ≡ Ok rows
-      → own ≡ rows_of_source number s.origins 0 rows → file ≡ elf_file (parts_to_tell path origin program labels own)
-      → IsFileOf (source_block_told path number s (block_told path (lines_of_source s origin))) file
-  source_is_told program file labels rows own is are stand from same =
-      let told = told_is path (lines_of_source s origin) program labels rows is are stand in
-      let file_is : file ≡ elf_file (parts_to_tell path origin program labels (rows_of_source number s.origins 0 rows)) =
-      same ∙ ap (λ (xs : List LineRow). elf_file (parts_to_tell path origin program labels xs)) from in
-      rw told file_is
-
-pub ruleset source_steps = (program_of_source_refused, labels_of_source_refused, lines_of_source_refused, source_is_told)
-
 pub all_taken : (n : ℕ) (xs : List (List ℕ)) → n ≡ length xs → take n xs ≡ xs
 all_taken n xs e = take_all n xs (omega (arith, e))
-
--- what is told of a block of an old source, in any form
-pub told_in_language : (P : Result BlockToTell MakingError → Type 0) (path : List ℕ) (shown block : ScriptBlock) (language : SourceLanguage) (origin : ℕ)
-    → shown ≡ block → Some language ≡ shown.opening.language → origin ≡ shown.opening.origin
-    → P (source_told path shown.number origin (conversion_of_text (is_basic language) (text_from_lines shown.texts) origin))
-    → P (found_block_told path (Some block))
-told_in_language P path shown block language origin is written at told =
-    subst (λ (b : ScriptBlock). P (found_block_told path (Some b))) is
-    (subst (λ (l : Option SourceLanguage). P (block_in_language path shown l)) written
-    (subst (λ (o : ℕ). P (source_told path shown.number o (conversion_of_text (is_basic language) (text_from_lines shown.texts) o))) at told))

@@ -8,7 +8,7 @@ use Rattle.clap.specs.declared.error.kind.ErrorKind.TheVariants.{OutOfMemory}
 use Rattle.clap.specs.declared.parser.matches.ArgMatches.{ArgMatches}
 use Rattle.clap.proofs.OnLiterals.{clap_on_literals}
 use Rattle.symbols_face.specs.declared.options.SymbolsOptionsError.TheVariants.{Memory, Line}
-use Rattle.command_line.specs.Settings.{is_empty, is_memory}
+use Rattle.rosm_settings.specs.command_line.Settings.{is_empty, is_memory}
 use Rattle.symbols_face.specs.Options.{is_symbols_command, symbols_options_refusal, rosm_symbols, symbols_word_rows}
 
 rosm_symbols_is_simple : is_simple rosm_symbols ≡ true

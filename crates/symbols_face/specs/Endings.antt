@@ -22,7 +22,6 @@ symbols_refusal_status refusal.Name = 2
 symbols_refusal_status (refusal.File path error) = 4
 symbols_refusal_status (refusal.NoBlock name) = 2
 symbols_refusal_status (refusal.Block name error) = 2
-symbols_refusal_status (refusal.Source name) = 2
 symbols_refusal_status refusal.TooLarge = 4
 symbols_refusal_status refusal.Write = 4
 

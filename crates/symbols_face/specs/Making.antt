@@ -7,17 +7,13 @@ use Rattle.assembler.specs.declared.error.AsmError.{AsmError}
 use Rattle.assembler_names.specs.Labels.{Entries}
 use Rattle.assembler_names.specs.declared.reason.Reason.{Reason}
 use Rattle.assembler_names.specs.declared.reason.Reason.TheVariants as reasons
-use Rattle.debug_lines.specs.SourceLanguages.{is_basic}
-use Rattle.debug_lines.specs.declared.requests.SourceLanguage.{SourceLanguage}
 use Rattle.elf_lines.specs.Blocks.{BlockToTell}
 use Rattle.elf_lines.specs.Files.{elf_file}
 use Rattle.elf_lines.specs.declared.block.LineRow.{LineRow}
 use Rattle.text_lines.specs.Lines.{ReadingPlace}
-use Rattle.source_conversion.specs.Conversion.{SourceConversion, conversion_of_text, is_unrefused}
-use Rattle.source_conversion.specs.Naming.{text_from_lines, named_text}
 use Rattle.symbols_face.specs.AskedSymbols.{AskedSymbols}
 use Rattle.symbols_face.specs.FoundBlocks.{ScriptBlock, block_named}
-use Rattle.symbols_face.specs.Rows.{rows_in_program, rows_of_source}
+use Rattle.symbols_face.specs.Rows.{rows_in_program}
 use Rattle.symbols_face.specs.declared.making.MakingError.{MakingError}
 use Rattle.symbols_face.specs.declared.making.MakingError.TheVariants as making
 
@@ -25,19 +21,11 @@ abbrev pub parts_to_tell : List ℕ → ℕ → List ℕ → Entries → List Li
 parts_to_tell path origin program labels rows =
     record { path = path; origin = origin; program = program; labels = labels; rows = rows }
 
--- lines for the assembler, those from which their labels are taken, where they are assembled, and how
--- many lines stand before the first
-pub record LinesToTell : Type 0 where
-  pub texts : List (List ℕ)
-  pub named : List (List ℕ)
-  pub origin : ℕ
-  pub number : ℕ
-
 -- the block, or the first line that the assembler refuses
-abbrev pub block_told : List ℕ → LinesToTell → Result BlockToTell AsmError
+abbrev pub block_told : List ℕ → ScriptBlock → Result BlockToTell AsmError
 block_told path block =
     bind (means_lines block.texts block.origin) (λ program.
-    bind (labels_of_lines block.named block.origin) (λ labels.
+    bind (labels_of_lines block.texts block.origin) (λ labels.
     bind (rows_in_program block.number block.texts block.origin program) (λ rows.
     Ok (parts_to_tell path block.origin program labels rows))))
 
@@ -55,57 +43,17 @@ refusal_told (Ok a) = None
 refusal_told (Err e) = Some (making.Refused e)
 
 -- the next lines of a script, at most so many, as a block
-abbrev pub block_of_lines : ReadingPlace → ℕ → ℕ → LinesToTell
-block_of_lines place count origin = record {
-  texts = take count place.left;
-  named = take count place.left;
-  origin = origin;
-  number = place.number;
-}
+abbrev pub block_of_lines : ReadingPlace → ℕ → ℕ → ScriptBlock
+block_of_lines place count origin =
+    record { origin = origin; number = place.number; texts = take count place.left }
 
 abbrev pub block_or_refusal : Result BlockToTell AsmError → Result BlockToTell MakingError
 block_or_refusal (Ok b) = Ok b
 block_or_refusal (Err e) = Err (making.Refused e)
 
-abbrev pub lines_of_block : ScriptBlock → LinesToTell
-lines_of_block b = record {
-  texts = b.texts;
-  named = b.texts;
-  origin = b.opening.origin;
-  number = b.number;
-}
-
--- the lines that a source is converted to
-abbrev pub lines_of_source : SourceConversion → ℕ → LinesToTell
-lines_of_source s origin = record {
-  texts = lines s.body;
-  named = lines (named_text s);
-  origin = origin;
-  number = 0;
-}
-
-abbrev pub with_source_rows : ℕ → SourceConversion → BlockToTell → BlockToTell
-with_source_rows number s b = record b { rows = rows_of_source number s.origins 0 b.rows }
-
-abbrev pub source_block_told : List ℕ → ℕ → SourceConversion → Result BlockToTell AsmError
-    → Result BlockToTell MakingError
-source_block_told path number s (Ok b) = Ok (with_source_rows number s b)
-source_block_told path number s (Err e) = Err (making.Refused e)
-
--- a source, of which so many lines of the script stand before the first
-abbrev pub source_told : List ℕ → ℕ → ℕ → SourceConversion → Result BlockToTell MakingError
-source_told path number origin s = if is_unrefused s
-    then source_block_told path number s (block_told path (lines_of_source s origin))
-    else Err making.RefusedSource
-
-abbrev pub block_in_language : List ℕ → ScriptBlock → Option SourceLanguage → Result BlockToTell MakingError
-block_in_language path block None = block_or_refusal (block_told path (lines_of_block block))
-block_in_language path block (Some language) = source_told path block.number block.opening.origin
-    (conversion_of_text (is_basic language) (text_from_lines block.texts) block.opening.origin)
-
 abbrev pub found_block_told : List ℕ → Option ScriptBlock → Result BlockToTell MakingError
 found_block_told path None = Err making.NoBlock
-found_block_told path (Some block) = block_in_language path block block.opening.language
+found_block_told path (Some block) = block_or_refusal (block_told path block)
 
 -- the bytes are the file of a block that is told, and no refusal
 abbrev pub IsFileOf : Result BlockToTell MakingError → List ℕ → Type 0

@@ -3,7 +3,7 @@
 use Rattle.std.specs.Prelude.{ℕ, Bool, List, Option, Some, Result, Ok, Err, if◌then◌else◌, codes}
 use Rattle.clap.specs.Words.{App, Row, fault_of, first_of, matches_of, new_app, new_rule, with_rule}
 use Rattle.clap.specs.declared.error.kind.ErrorKind.{ErrorKind}
-use Rattle.command_line.specs.Settings.{is_empty, is_memory}
+use Rattle.rosm_settings.specs.command_line.Settings.{is_empty, is_memory}
 use Rattle.image_loader.specs.Entries.{can_name_image}
 use Rattle.symbols_face.specs.AskedSymbols.{AskedSymbols}
 use Rattle.symbols_face.specs.declared.options.SymbolsOptionsError.{SymbolsOptionsError}

@@ -1,7 +1,7 @@
 -- The lines of a block that have bytes of the program, each with the address of its first byte. The
 -- address of a line is where a label on it would stand: so each line is given one of its own, and
 -- the assembler asked for the labels.
-use Rattle.std.specs.Prelude.{ℕ, suc, ◌+◌, ◌-◌, ◌^◌, min, max, Bool, not, ◌&&◌, List, [], ◌∷◌, ◌++◌, drop, codes, decimal, nat_lt, is_none, length, Result, Ok, if◌then◌else◌}
+use Rattle.std.specs.Prelude.{ℕ, suc, ◌+◌, Bool, not, ◌&&◌, List, [], ◌∷◌, ◌++◌, drop, codes, decimal, nat_lt, is_none, length, Result, Ok, if◌then◌else◌}
 use Rattle.std.specs.Str.Lines.{lines}
 use Rattle.profile.specs.Outcome.{bind}
 use Rattle.assembler.specs.Directives.{directive_named}
@@ -10,8 +10,6 @@ use Rattle.assembler.specs.declared.error.AsmError.{AsmError}
 use Rattle.assembler_names.specs.Labels.{Entries}
 use Rattle.assembler_names.specs.Words.{after_spaces, after_word, is_end_of_line, word}
 use Rattle.elf_lines.specs.declared.block.LineRow.{LineRow}
-use Rattle.source_files.specs.Joined.{origin_of_line}
-use Rattle.source_files.specs.declared.joined.LineOrigin.{LineOrigin}
 
 -- a line with the label `line7` in place of its own
 abbrev pub labelled_line : ℕ → List ℕ → List ℕ
@@ -55,18 +53,3 @@ rows_of_lines end number places (text ∷ texts) =
 abbrev pub rows_in_program : ℕ → List (List ℕ) → ℕ → List ℕ → Result (List LineRow) AsmError
 rows_in_program number texts origin program = bind (line_places texts origin) (λ places.
     Ok (rows_of_lines (origin + length program) number places texts))
-
--- the line of the script that a line of a source's text is from; so many stand before the source
-abbrev pub line_of_source : ℕ → List LineOrigin → ℕ → ℕ
-line_of_source number origins line = min (number + (origin_of_line origins line).line) (2 ^ 64 - 1)
-
-abbrev pub row_at_line : LineRow → ℕ → LineRow
-row_at_line row n = record row { line = n }
-
--- Rows of such lines as those of lines of the script, after one of the line `last`. Lines go up from row
--- to row: one to which a loop goes back is told as the last before it.
-unfoldable pub rows_of_source : ℕ → List LineOrigin → ℕ → List LineRow → List LineRow
-rows_of_source number origins last [] = []
-rows_of_source number origins last (row ∷ rest) =
-    row_at_line row (max last (line_of_source number origins row.line))
-    ∷ rows_of_source number origins (max last (line_of_source number origins row.line)) rest

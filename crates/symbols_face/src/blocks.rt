@@ -6,29 +6,21 @@ ghost use Rattle.command_shell_lines.specs.Blocks.{block_lines};
 ghost use Rattle.command_shell_lines.specs.Requests.{request_of_command};
 ghost use Rattle.debug_lines.specs.DebugRequests.{debug_request, debug_request_of_command, own_request};
 ghost use Rattle.debug_lines.specs.WholeDebugRequests.{is_debug_block_open_after};
-ghost use Rattle.symbols_face.specs.FoundBlocks.{block_named, opening_at, opening_if, opening_named, opening_of_script};
+ghost use Rattle.symbols_face.specs.FoundBlocks.{block_named, origin_at, origin_if, origin_named, origin_of_script};
 
 use command_shell_lines::{Origin, ScriptCommand, command_of, is_block_end, skip_block};
 use debug_lines::{
-    DebugCommand, SourceLanguage, is_script_line, opens_block, repeated_line, simple_command,
-    tidied,
+    DebugCommand, is_script_line, opens_block, repeated_line, simple_command, tidied,
 };
 use std::alloc::{AllocError, Global};
 use std::marker::Model;
 use text_lines::Lines;
 
-/// What a block is written in, where that isn't the assembler's own language, and where it is
-/// assembled.
-#[derive(Clone, Copy, Debug)]
-pub(crate) struct BlockOpening {
-    pub(crate) language: Option<SourceLanguage>,
-    pub(crate) origin: Origin,
-}
-
-/// A block of a script.
+/// An ASM block of a script.
 #[derive(Drop)]
 pub(crate) struct FoundBlock<'s> {
-    pub(crate) opening: BlockOpening,
+    /// Where it is assembled.
+    pub(crate) origin: Origin,
     /// At its first line.
     pub(crate) lines: Lines<'s>,
     /// How many lines it has.
@@ -42,13 +34,13 @@ impl<'s> Model for FoundBlock<'s> {
     ghost Value = { ScriptBlock };
 
     ghost view = { λ b. record {
-      opening = b.opening;
+      origin = b.origin;
       number = b.lines.number;
       texts = take b.count b.lines.left;
     } };
 }
 
-/// The first block of that name.
+/// The first ASM block of that name.
 ///
 /// # Errors
 ///
@@ -64,9 +56,9 @@ pub(crate) fn block_named<'s>(
     let mut lines = Lines::new(script);
     let mut is_open = false;
     while let Some(line) = lines.next_line() {
-        let found = opening_at(alloc, name, is_open, line)?;
-        if let Some(opening) = found {
-            return Ok(Some(block_at(lines, opening)));
+        let found = origin_at(alloc, name, is_open, line)?;
+        if let Some(origin) = found {
+            return Ok(Some(block_at(lines, origin)));
         }
         is_open = is_open_after(alloc, is_open, line)?;
     }
@@ -74,93 +66,78 @@ pub(crate) fn block_named<'s>(
 }
 
 // The block whose lines are the next.
-fn block_at(lines: Lines<'_>, opening: BlockOpening) -> FoundBlock<'_>
+fn block_at(lines: Lines<'_>, origin: Origin) -> FoundBlock<'_>
     ensures { result ≡ record {
-      opening = opening;
+      origin = origin;
       number = lines.entry.number;
       texts = block_lines lines.entry.left;
     } }
 {
     let count = skip_block(&mut lines.again());
     FoundBlock {
-        opening,
+        origin,
         lines,
         count,
     }
 }
 
-// The block of that name that a line opens, which may be in another block.
-fn opening_at(
+// Where a block of that name is assembled that a line opens, which may be in another block.
+fn origin_at(
     alloc: Global,
     name: &[u8],
     is_open: bool,
     line: &[u8],
-) -> Result<Option<BlockOpening>, AllocError>
-    ensures { IfOk result (λ opening. opening ≡ opening_at name.now is_open line.now) }
+) -> Result<Option<Origin>, AllocError>
+    ensures { IfOk result (λ origin. origin ≡ origin_at name.now is_open line.now) }
 {
     if is_open {
         return Ok(None);
     }
-    opening_of_line(alloc, name, line)
+    origin_of_line(alloc, name, line)
 }
 
-fn opening_of_line(
-    alloc: Global,
-    name: &[u8],
-    line: &[u8],
-) -> Result<Option<BlockOpening>, AllocError>
-    ensures { IfOk result (λ opening. opening ≡ opening_named name.now (debug_request line.now)) }
+fn origin_of_line(alloc: Global, name: &[u8], line: &[u8]) -> Result<Option<Origin>, AllocError>
+    ensures { IfOk result (λ origin. origin ≡ origin_named name.now (debug_request line.now)) }
 {
     if is_script_line(line) {
-        return Ok(opening_of_script(name, &command_of(line)));
+        return Ok(origin_of_script(name, &command_of(line)));
     }
     let tidy = tidied(alloc, line)?;
-    Ok(opening_of_tidy(name, tidy.as_slice()))
+    Ok(origin_of_tidy(name, tidy.as_slice()))
 }
 
 // Of a tidy line.
-fn opening_of_tidy(name: &[u8], tidy: &[u8]) -> Option<BlockOpening>
-    ensures { result ≡ opening_named name.now (own_request tidy.now) }
+fn origin_of_tidy(name: &[u8], tidy: &[u8]) -> Option<Origin>
+    ensures { result ≡ origin_named name.now (own_request tidy.now) }
 {
     match repeated_line(tidy) {
         Some(_) => None,
-        None => opening_named(name, &simple_command(tidy)),
+        None => origin_named(name, &simple_command(tidy)),
     }
 }
 
-fn opening_named(name: &[u8], command: &DebugCommand<'_>) -> Option<BlockOpening>
-    ensures { result ≡ opening_named name.now (debug_request_of_command command.now) }
+fn origin_named(name: &[u8], command: &DebugCommand<'_>) -> Option<Origin>
+    ensures { result ≡ origin_named name.now (debug_request_of_command command.now) }
 {
     match command {
-        DebugCommand::Script(command) => opening_of_script(name, command),
-        DebugCommand::Source(language, other, origin) => {
-            opening_if(*other == name, Some(*language), *origin)
-        }
+        DebugCommand::Script(command) => origin_of_script(name, command),
         _ => None,
     }
 }
 
-fn opening_of_script(name: &[u8], command: &ScriptCommand<'_>) -> Option<BlockOpening>
-    ensures { result ≡ opening_of_script name.now (request_of_command command.now) }
+fn origin_of_script(name: &[u8], command: &ScriptCommand<'_>) -> Option<Origin>
+    ensures { result ≡ origin_of_script name.now (request_of_command command.now) }
 {
     match command {
-        ScriptCommand::Asm(other, origin) => opening_if(*other == name, None, *origin),
+        ScriptCommand::Asm(other, origin) => origin_if(*other == name, *origin),
         _ => None,
     }
 }
 
-fn opening_if(
-    is_named: bool,
-    language: Option<SourceLanguage>,
-    origin: Origin,
-) -> Option<BlockOpening>
-    ensures { result ≡ opening_if is_named (record { language = language; origin = origin }) }
+fn origin_if(is_named: bool, origin: Origin) -> Option<Origin>
+    ensures { result ≡ origin_if is_named origin }
 {
-    if is_named {
-        Some(BlockOpening { language, origin })
-    } else {
-        None
-    }
+    if is_named { Some(origin) } else { None }
 }
 
 // Whether a block is open after a line.

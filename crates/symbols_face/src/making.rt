@@ -4,20 +4,15 @@ ghost use Rattle.std.specs.Prelude.{◌≡◌, ◌≢◌, ◌<◌, ◌^◌, ◌+
 ghost use Rattle.std.specs.Str.Lines.{lines};
 ghost use Rattle.assembler.specs.Passes.{labels_of_lines, means_lines};
 ghost use Rattle.elf_lines.specs.Files.{elf_file};
-ghost use Rattle.source_conversion.specs.Conversion.{conversion_of_text};
-ghost use Rattle.source_conversion.specs.Naming.{text_from_lines, named_text};
-ghost use Rattle.debug_lines.specs.SourceLanguages.{is_basic};
-ghost use Rattle.symbols_face.specs.Making.{IsFileOf, asked_block_told, lines_of_source, parts_to_tell, block_of_lines, block_told, found_block_told, making_error_of_asm, refusal_told, block_or_refusal, source_block_told, source_told};
+ghost use Rattle.symbols_face.specs.Making.{IsFileOf, asked_block_told, parts_to_tell, block_of_lines, block_told, found_block_told, making_error_of_asm, refusal_told, block_or_refusal};
 ghost use Rattle.symbols_face.specs.Rows.{rows_in_program};
 
 use crate::blocks::{FoundBlock, block_named};
 use crate::options::SymbolsOptions;
-use crate::rows::{rows_of_lines, rows_of_source, text_with_labels};
+use crate::rows::{rows_of_lines, text_with_labels};
 use assembler::{AsmError, Labels, Program, assemble_lines, labels_of_lines};
 use assembler_names::Reason;
-use debug_lines::SourceLanguage;
 use elf_lines::{AssembledBlock, ElfError, LineRow, elf_of};
-use source_conversion::{ConvertedSource, converted_text, named_text, text_of_lines};
 use std::alloc::{AllocError, Global};
 use text_lines::Lines;
 
@@ -26,12 +21,10 @@ use text_lines::Lines;
 pub enum MakingError {
     /// Memory ran out.
     Memory,
-    /// The script has no block of the name that is a program's.
+    /// The script has no ASM block of the name.
     NoBlock,
     /// The assembler refuses a line of the block.
     Refused(AsmError),
-    /// Lines of a block OBJASM or BASIC are refused.
-    RefusedSource,
     /// A part of the file would have more than 2^28 bytes.
     TooLarge,
 }
@@ -50,8 +43,8 @@ impl From<AllocError> for MakingError {
 ///
 /// # Errors
 ///
-/// `NoBlock`; `Refused`, the first line that the assembler refuses; `RefusedSource`; `TooLarge`;
-/// `Memory`, at any point.
+/// `NoBlock`; `Refused`, the first line that the assembler refuses; `TooLarge`; `Memory`, at any
+/// point.
 pub(crate) fn symbols_of(
     alloc: Global,
     wanted: &SymbolsOptions,
@@ -72,11 +65,8 @@ fn file_of_block(alloc: Global, path: &[u8], block: &FoundBlock<'_>) -> Result<V
     ensures refused { IfErr result (λ e. e ≢ MakingError.Memory → e ≢ MakingError.TooLarge
         → found_block_told path.now (Some block.now) ≡ Err e) }
 {
-    let origin = block.opening.origin.address();
-    match block.opening.language {
-        None => file_of_lines(alloc, path, &block.lines, block.count, origin),
-        Some(language) => file_of_source(alloc, path, language, &block.lines, block.count, origin),
-    }
+    let origin = block.origin.address();
+    file_of_lines(alloc, path, &block.lines, block.count, origin)
 }
 
 // The ELF file of the next lines of a script, at most `count`.
@@ -104,84 +94,6 @@ fn file_of_lines(
         program.bytes(),
         &labels,
         rows.as_slice(),
-    )
-}
-
-// The ELF file of a source, which are the next lines of a script, at most `count`.
-fn file_of_source(
-    alloc: Global,
-    path: &[u8],
-    language: SourceLanguage,
-    lines: &Lines,
-    count: usize,
-    origin: u32,
-) -> Result<Vec<u8>, MakingError>
-    requires { origin < 2 ^ 26 }
-    ensures file { IfOk result (λ file. IsFileOf (source_told path.now lines.now.number origin
-        (conversion_of_text (is_basic language) (text_from_lines (take count lines.now.left)) origin))
-        file.items) }
-    ensures refused { IfErr result (λ e. e ≢ MakingError.Memory → e ≢ MakingError.TooLarge
-        → source_told path.now lines.now.number origin (conversion_of_text (is_basic language)
-        (text_from_lines (take count lines.now.left)) origin) ≡ Err e) }
-{
-    let text = text_of_lines(alloc, lines, count)?;
-    let is_basic = matches!(language, SourceLanguage::Basic);
-    let source = converted_text(alloc, is_basic, text.as_slice(), origin)?;
-    file_of_conversion(alloc, path, lines.number(), origin, &source)
-}
-
-fn file_of_conversion(
-    alloc: Global,
-    path: &[u8],
-    number: usize,
-    origin: u32,
-    source: &ConvertedSource,
-) -> Result<Vec<u8>, MakingError>
-    requires { origin < 2 ^ 26 }
-    ensures file { IfOk result (λ file.
-        IsFileOf (source_told path.now number origin source.now) file.items) }
-    ensures refused { IfErr result (λ e. e ≢ MakingError.Memory → e ≢ MakingError.TooLarge
-        → source_told path.now number origin source.now ≡ Err e) }
-{
-    if !source.is_unrefused() {
-        return Err(MakingError::RefusedSource);
-    }
-    let named = named_text(alloc, source)?;
-    file_of_program(alloc, path, number, origin, source, named.as_slice())
-}
-
-// The ELF file of a source that is a program, with the text whose labels are its own.
-#[tactic(auto, using(crate::proofs::MakingLemmas::source_steps))]
-fn file_of_program(
-    alloc: Global,
-    path: &[u8],
-    number: usize,
-    origin: u32,
-    source: &ConvertedSource,
-    named: &[u8],
-) -> Result<Vec<u8>, MakingError>
-    requires origin { origin < 2 ^ 26 }
-    requires named { named.now ≡ named_text source.now }
-    ensures file { IfOk result (λ file. IsFileOf (source_block_told path.now number source.now
-        (block_told path.now (lines_of_source source.now origin))) file.items) }
-    ensures refused { IfErr result (λ e. e ≢ MakingError.Memory → e ≢ MakingError.TooLarge
-        → source_block_told path.now number source.now
-        (block_told path.now (lines_of_source source.now origin)) ≡ Err e) }
-{
-    let lines = Lines::new(source.body());
-    let count = lines.count();
-    let labelled = Lines::new(named);
-    let program = program_of(alloc, &lines, count, origin)?;
-    let labels = labels_of(alloc, &labelled, labelled.count(), origin)?;
-    let rows = rows_of_program(alloc, &lines, count, origin, program.bytes())?;
-    let own_rows = rows_of_source(alloc, number, source, rows.as_slice())?;
-    file_of_parts(
-        alloc,
-        path,
-        origin,
-        program.bytes(),
-        &labels,
-        own_rows.as_slice(),
     )
 }
 

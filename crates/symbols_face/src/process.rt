@@ -56,7 +56,6 @@ fn refusal_of(wanted: &SymbolsOptions, error: MakingError) -> SymbolsRefusal<'_>
         MakingError::Memory => SymbolsRefusal::Memory,
         MakingError::NoBlock => SymbolsRefusal::NoBlock(wanted.name.as_str()),
         MakingError::Refused(error) => SymbolsRefusal::Block(wanted.name.as_str(), error),
-        MakingError::RefusedSource => SymbolsRefusal::Source(wanted.name.as_str()),
         MakingError::TooLarge => SymbolsRefusal::TooLarge,
     }
 }

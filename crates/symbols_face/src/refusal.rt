@@ -64,15 +64,12 @@ pub enum SymbolsRefusal<'a> {
     /// The file of this path can't be read, for this reason.
     #[error("{0:?}: {1}")]
     File(&'a str, ScriptFileError),
-    /// The script has no block ASM, OBJASM or BASIC of this name.
+    /// The script has no ASM block of this name.
     #[error("no ASM block is named {0}")]
     NoBlock(&'a str),
     /// The assembler refuses a line of the block of this name, for this reason.
     #[error("asm {0}: {1}")]
     Block(&'a str, AsmError),
-    /// Lines of the source are refused that the block of this name is.
-    #[error("asm {0}: lines of its source are refused; rosm_debug tells which")]
-    Source(&'a str),
     /// A part of the file would have more than 2^28 bytes.
     #[error("the file would be too large")]
     TooLarge,
@@ -93,8 +90,7 @@ impl SymbolsRefusal<'_> {
             | SymbolsRefusal::Line(_)
             | SymbolsRefusal::Name
             | SymbolsRefusal::NoBlock(_)
-            | SymbolsRefusal::Block(_, _)
-            | SymbolsRefusal::Source(_) => 2,
+            | SymbolsRefusal::Block(_, _) => 2,
             SymbolsRefusal::Memory
             | SymbolsRefusal::File(_, _)
             | SymbolsRefusal::TooLarge

@@ -1,14 +1,13 @@
 //! The lines of a block that have bytes, with their addresses.
 
-ghost use Rattle.std.specs.Prelude.{◌≡◌, ◌++◌, IfOk, OnOk, drop, max, take};
-ghost use Rattle.symbols_face.specs.Rows.{has_bytes, is_code_line, labelled_line, text_with_labels, line_of_source, place_of_next, row_at_line, row_of_line, rows_of_lines, rows_of_source};
+ghost use Rattle.std.specs.Prelude.{◌≡◌, ◌++◌, IfOk, OnOk, drop, take};
+ghost use Rattle.symbols_face.specs.Rows.{has_bytes, is_code_line, labelled_line, text_with_labels, place_of_next, row_of_line, rows_of_lines};
 
 use assembler::Labels;
 use assembler::directives::directive_named;
 use assembler_names::words::{after_spaces, after_word, is_end, word};
 use elf_lines::LineRow;
 use itoa::Buffer;
-use source_conversion::ConvertedSource;
 use std::alloc::{AllocError, Global};
 use text_lines::Lines;
 
@@ -108,40 +107,4 @@ fn is_code_line(line: &[u8]) -> bool
     ensures { result ≡ is_code_line line.now }
 {
     directive_named(word(after_spaces(after_word(line)))).is_none()
-}
-
-/// The rows of lines that a source was converted to as those of the lines of the script that they are
-/// from; so many stand before the source.
-///
-/// # Errors
-///
-/// There is no memory left.
-pub(crate) fn rows_of_source(
-    alloc: Global,
-    number: usize,
-    source: &ConvertedSource,
-    rows: &[LineRow],
-) -> Result<Vec<LineRow>, AllocError>
-    ensures { IfOk result (λ own. own.items ≡ rows_of_source number source.now.origins 0 rows.now) }
-{
-    let mut own = Vec::new(alloc);
-    let mut last = 0;
-    for row in rows {
-        last = line_after(last, number, source, *row);
-        own.push(row_at_line(*row, last))?;
-    }
-    Ok(own)
-}
-
-// The line of the script that a row's is, or the last before it where that is behind it.
-fn line_after(last: usize, number: usize, source: &ConvertedSource, row: LineRow) -> usize
-    ensures { result ≡ max last (line_of_source number source.now.origins row.line) }
-{
-    last.max(number.saturating_add(source.origin_of_line(row.line).line))
-}
-
-fn row_at_line(row: LineRow, line: usize) -> LineRow
-    ensures { result ≡ row_at_line row line }
-{
-    LineRow { line, ..row }
 }

@@ -1,11 +1,11 @@
 //! Pages of short debugging scripts. The answers are those of `docs/DEBUG.md`; the page round them is
 //! made by hand.
 
-use debug_page::debug_entries::script_page::PageForm;
-use debug_page::debug_session::{DebugSetting, ReportForm, RunMeter};
 use debug_page::push_debug_page;
+use debug_session::{DebugSetting, ReportForm, RunMeter};
 use image_loader::Images;
 use profile::Config;
+use script_page::PageForm;
 use std::process::Abort;
 use view_items::TextSink;
 

@@ -1,8 +1,6 @@
 //! Registers that changed, and counts. The marks and the bars are made by hand.
 
-use debug_page::debug_entries::answer_page::{
-    TextBeside, is_counted, push_caret_line, push_counts, push_registers,
-};
+use answer_page::{TextBeside, is_counted, push_caret_line, push_counts, push_registers};
 use std::process::Abort;
 use view_items::TextSink;
 

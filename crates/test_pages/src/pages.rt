@@ -1,8 +1,8 @@
 //! Pages of short scripts. The answers are those of `docs/VIEWS.md`; the bars are worked out by
 //! hand.
 
-use debug_page::debug_entries::script_page::{PageForm, Setting, push_page};
 use profile::Config;
+use script_page::{PageForm, Setting, push_page};
 use std::process::Abort;
 use std::test::Fail;
 use view_items::TextSink;

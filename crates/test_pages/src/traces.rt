@@ -1,6 +1,6 @@
 //! Traces as tables. The lines are those of `docs/TRACE.md`, the rows are made by hand.
 
-use debug_page::debug_entries::answer_page::push_table;
+use answer_page::push_table;
 use std::process::Abort;
 use view_items::TextSink;
 

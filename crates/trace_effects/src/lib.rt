@@ -3,8 +3,8 @@
 #![tactic(auto)]
 
 pub mod cause;
+pub mod changes;
 pub mod stored;
 
 pub use cause::{Cause, called_swi};
 pub use stored::{StoredWords, stored_words};
-pub use trace_changes;

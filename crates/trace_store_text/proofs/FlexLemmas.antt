@@ -2,11 +2,11 @@
 use Rattle.std.proofs.Common.{◌≡◌, ℕ, List, Option, Some, None, refl}
 use Rattle.address_map.specs.Memory.{bytes_of}
 use Rattle.address_map.specs.declared.map.AddressMap.{AddressMap}
-use Rattle.swi_dispatch.specs.flex_store.specs.Listed.{all_listed}
-use Rattle.swi_dispatch.specs.flex_store.specs.State.{flex_in}
-use Rattle.swi_dispatch.specs.flex_store.specs.declared.flex.Extent.{Extent}
-use Rattle.swi_dispatch.specs.flex_store.specs.declared.flex.Flex.{Flex}
-use Rattle.trace_flex.specs.Changes.{blocks_in_extent, flex_blocks_in}
+use Rattle.flex_store.specs.Listed.{all_listed}
+use Rattle.flex_store.specs.State.{flex_in}
+use Rattle.flex_store.specs.declared.flex.Extent.{Extent}
+use Rattle.flex_store.specs.declared.flex.Flex.{Flex}
+use Rattle.trace_store_text.specs.flex.Changes.{blocks_in_extent, flex_blocks_in}
 use Rattle.trace_store_text.specs.FlexLines.{flex_change_lines, flex_lines}
 
 listed_by : (m : AddressMap) (e : Option Extent) → blocks_in_extent (bytes_of m) e ≡ all_listed (flex_in m e)

@@ -6,9 +6,9 @@ use Rattle.os_heap.specs.Store.{Store}
 use Rattle.trace_words.specs.declared.changes.WordChange.{WordChange}
 use Rattle.trace_words.specs.declared.changes.WordChanges.{WordChanges}
 use Rattle.trace_words.specs.Words.{IsSummary, all_changes, is_told}
-use Rattle.trace_items.specs.Changes.{IsItemSummary}
-use Rattle.trace_items.specs.declared.changes.ItemChange.{ItemChange}
-use Rattle.trace_items.specs.declared.changes.ItemChanges.{ItemChanges}
+use Rattle.trace_store_text.specs.items.Changes.{IsItemSummary}
+use Rattle.trace_store_text.specs.declared.items.changes.ItemChange.{ItemChange}
+use Rattle.trace_store_text.specs.declared.items.changes.ItemChanges.{ItemChanges}
 use Rattle.trace_store_text.specs.ItemLines.{item_lines, item_summary_lines}
 use Rattle.trace_store_text.specs.StoreLines.{changed_word_lines}
 use Rattle.trace_store_text.specs.WordLines.{summary_lines, word_lines}

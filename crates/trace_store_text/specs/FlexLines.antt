@@ -5,9 +5,9 @@ use Rattle.std.specs.Fmt.{decimal}
 use Rattle.std.specs.List.{flat_map}
 use Rattle.profile.specs.Digits.{hex_word}
 use Rattle.address_map.specs.Bytes.{Bytes}
-use Rattle.swi_dispatch.specs.flex_store.specs.declared.blocks.FlexBlock.{FlexBlock}
-use Rattle.swi_dispatch.specs.flex_store.specs.declared.flex.Flex.{Flex}
-use Rattle.trace_flex.specs.Changes.{BlockChange, flex_blocks_in, gone_block, kept_block}
+use Rattle.flex_store.specs.declared.blocks.FlexBlock.{FlexBlock}
+use Rattle.flex_store.specs.declared.flex.Flex.{Flex}
+use Rattle.trace_store_text.specs.flex.Changes.{BlockChange, flex_blocks_in, gone_block, kept_block}
 
 -- `block anchor 00009004 gone`
 unfoldable pub gone_block_line : FlexBlock → List ℕ

@@ -4,14 +4,14 @@ use Rattle.std.specs.Prelude.{ℕ, Bool, true, false, ◌==◌, nat_lt, List, []
 use Rattle.std.specs.Fmt.{decimal}
 use Rattle.std.specs.List.{flat_map}
 use Rattle.profile.specs.Digits.{hex_number}
-use Rattle.swi_dispatch.specs.instances_table.specs.Modules.{Module}
-use Rattle.swi_dispatch.specs.swi_dispatch_guest.specs.swi_dispatch_frames.specs.instances_plans.specs.declared.code.CodeKind.TheVariants.{Initialise, Finalise}
-use Rattle.swi_dispatch.specs.swi_dispatch_guest.specs.swi_dispatch_frames.specs.Frames.{innermost_frame}
-use Rattle.swi_dispatch.specs.swi_dispatch_guest.specs.swi_dispatch_frames.specs.declared.frame.Frame.{Frame}
-use Rattle.swi_dispatch.specs.swi_dispatch_guest.specs.swi_dispatch_frames.specs.declared.frame.FrameKind.{FrameKind}
-use Rattle.swi_dispatch.specs.swi_dispatch_guest.specs.swi_dispatch_frames.specs.declared.frame.FrameKind.TheVariants.{Swi, Entry}
-use Rattle.trace_modules.specs.Marks.{instance_marks}
-use Rattle.trace_modules.specs.declared.marks.InstanceMark.{InstanceMark}
+use Rattle.instances_table.specs.Modules.{Module}
+use Rattle.instances_plans.specs.declared.code.CodeKind.TheVariants.{Initialise, Finalise}
+use Rattle.swi_dispatch_answers.specs.frames.Frames.{innermost_frame}
+use Rattle.swi_dispatch_answers.specs.declared.frames.frame.Frame.{Frame}
+use Rattle.swi_dispatch_answers.specs.declared.frames.frame.FrameKind.{FrameKind}
+use Rattle.swi_dispatch_answers.specs.declared.frames.frame.FrameKind.TheVariants.{Swi, Entry}
+use Rattle.trace_store_text.specs.modules.Marks.{instance_marks}
+use Rattle.trace_store_text.specs.declared.modules.marks.InstanceMark.{InstanceMark}
 
 -- `SWI &40000`
 abbrev pub kind_text : FrameKind → List ℕ

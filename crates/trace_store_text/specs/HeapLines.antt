@@ -8,11 +8,11 @@ use Rattle.profile.specs.Digits.{hex_word}
 use Rattle.address_map.specs.Records.{is_heap_kind}
 use Rattle.address_map.specs.declared.region.Region.{Region}
 use Rattle.os_heap.specs.Store.{Store}
-use Rattle.os_heap.specs.os_heap_lists.specs.Heap.{HeapList}
-use Rattle.trace_heaps.specs.Limits.{limits_in}
-use Rattle.trace_items.specs.Changes.{item_changes}
+use Rattle.os_heap_words.specs.lists.Heap.{HeapList}
+use Rattle.trace_store_text.specs.heaps.Limits.{limits_in}
+use Rattle.trace_store_text.specs.items.Changes.{item_changes}
 use Rattle.trace_store_text.specs.ItemLines.{item_lines}
-use Rattle.trace_heaps.specs.declared.limits.HeapLimits.{HeapLimits}
+use Rattle.trace_store_text.specs.declared.heaps.limits.HeapLimits.{HeapLimits}
 
 -- `heap 00009000 gone`
 unfoldable pub heap_gone_line : ℕ → List ℕ

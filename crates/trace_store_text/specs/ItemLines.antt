@@ -7,8 +7,8 @@ use Rattle.profile.specs.Digits.{hex_word}
 use Rattle.address_map.specs.Items.{total_of}
 use Rattle.address_map.specs.declared.item.Item.{Item}
 use Rattle.address_map.specs.declared.item.Item.TheVariants.{Free, Live}
-use Rattle.trace_items.specs.declared.changes.ItemChange.{ItemChange}
-use Rattle.trace_items.specs.declared.changes.ItemChanges.{ItemChanges}
+use Rattle.trace_store_text.specs.declared.items.changes.ItemChange.{ItemChange}
+use Rattle.trace_store_text.specs.declared.items.changes.ItemChanges.{ItemChanges}
 use Rattle.trace_store_text.specs.WordLines.{more_line}
 
 abbrev pub verb_and_use : Bool → Item → List ℕ

@@ -1,9 +1,8 @@
 -- The lines below a store call. Begin with StoreLines.
-pub use Rattle.trace_flex
-pub use Rattle.trace_heaps
-pub use Rattle.trace_items
-pub use Rattle.trace_modules
-pub use Rattle.trace_words
+pub use Rattle.debugger.specs.Memory
+pub use Rattle.debugger.specs.Registers
+pub use Rattle.debugger.specs.views
+pub use Rattle.trace_words.specs.Copies
 pub mod FlexLines
 pub mod FrameWords
 pub mod HeapLines
@@ -12,3 +11,7 @@ pub mod ItemLines
 pub mod ModuleLines
 pub mod StoreLines
 pub mod WordLines
+pub mod items
+pub mod modules
+pub mod flex
+pub mod heaps

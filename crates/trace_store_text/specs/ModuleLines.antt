@@ -4,10 +4,10 @@ use Rattle.std.specs.Prelude.{ℕ, List, [], ◌++◌, codes, Option, Some, None
 use Rattle.std.specs.Fmt.{decimal}
 use Rattle.std.specs.List.{flat_map}
 use Rattle.profile.specs.Digits.{hex_word}
-use Rattle.swi_dispatch.specs.instances_table.specs.Modules.{Module}
-use Rattle.trace_modules.specs.Changes.{InstanceChange, gone_instance, kept_instance}
-use Rattle.trace_modules.specs.Marks.{instance_marks}
-use Rattle.trace_modules.specs.declared.marks.InstanceMark.{InstanceMark}
+use Rattle.instances_table.specs.Modules.{Module}
+use Rattle.trace_store_text.specs.modules.Changes.{InstanceChange, gone_instance, kept_instance}
+use Rattle.trace_store_text.specs.modules.Marks.{instance_marks}
+use Rattle.trace_store_text.specs.declared.modules.marks.InstanceMark.{InstanceMark}
 
 -- `module Dbl%Base gone at 01800014`
 unfoldable pub gone_instance_line : InstanceMark → ℕ → List ℕ

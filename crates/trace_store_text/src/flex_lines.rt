@@ -4,16 +4,16 @@ ghost use Rattle.std.specs.Prelude.{◌≡◌, Some, None};
 ghost use Rattle.std.specs.List.{flat_map};
 ghost use Rattle.address_map.specs.Memory.{bytes_of};
 ghost use Rattle.profile.specs.Output.{Writes};
-ghost use Rattle.swi_dispatch.specs.flex_store.specs.Listed.{all_listed};
-ghost use Rattle.swi_dispatch.specs.flex_store.specs.State.{IsFlex, flex_in};
-ghost use Rattle.trace_flex.specs.Changes.{gone_block_by, kept_block_by};
+ghost use Rattle.flex_store.specs.Listed.{all_listed};
+ghost use Rattle.flex_store.specs.State.{IsFlex, flex_in};
+ghost use Rattle.trace_store_text.specs.flex.Changes.{gone_block_by, kept_block_by};
 ghost use Rattle.trace_store_text.specs.FlexLines.{block_change_line, flex_change_lines, flex_lines, gone_block_line, gone_block_lines, kept_block_lines, new_block_line, other_block_line};
 
+use crate::flex::{find_block, is_same_block};
 use address_map::AddressMap;
+use flex_store::{Flex, FlexBlock};
 use itoa::Buffer;
 use profile::{HexText, Sink, WriteFault, push_parts};
-use swi_dispatch::flex_store::{Flex, FlexBlock};
-use trace_flex::{find_block, is_same_block};
 
 /// Writes a line for each block of the flex store that is gone, new, or not what it was.
 pub fn push_flex<W: Sink>(

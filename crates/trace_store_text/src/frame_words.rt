@@ -3,14 +3,14 @@
 ghost use Rattle.std.specs.Prelude.{◌≡◌};
 ghost use Rattle.std.specs.List.{flat_map};
 ghost use Rattle.profile.specs.Output.{Writes};
-ghost use Rattle.swi_dispatch.specs.swi_dispatch_guest.specs.swi_dispatch_frames.specs.Frames.{innermost_frame};
+ghost use Rattle.swi_dispatch_answers.specs.frames.Frames.{innermost_frame};
 ghost use Rattle.trace_store_text.specs.FrameWords.{entered_word, frame_word, instance_name_text, kind_text, left_word, marked_name, marked_name_if};
 
+use crate::modules::{InstanceMark, marks_of};
+use debugger::{CodeKind, Frame, FrameKind};
 use itoa::Buffer;
 use profile::{HexText, Sink, WriteFault, push_all, push_parts};
-use swi_dispatch::instances::Instances;
-use swi_dispatch::{CodeKind, Frame, FrameKind};
-use trace_modules::{InstanceMark, marks_of};
+use trace_words::Instances;
 
 /// Writes ` leaves frame 1 SWI &40000 Low%Base`, where a step leaves the innermost of so many frames;
 /// the modules are those before it.

@@ -6,11 +6,11 @@ ghost use Rattle.os_heap.specs.Store.{IsSound, store_of};
 ghost use Rattle.profile.specs.Output.{Writes};
 ghost use Rattle.trace_store_text.specs.HeapLines.{changed_limit_line, gone_heap_line, heap_gone_line, gone_heap_lines, heap_lines, heap_lines_by, kept_heap_lines, limit_line, limit_lines, lines_of_region, made_line};
 
+use crate::heaps::{HeapLimits, limits_of};
 use crate::item_lines::push_items;
 use address_map::{AddressMap, Region};
 use itoa::Buffer;
 use profile::{HexText, Sink, WriteFault, push_parts};
-use trace_heaps::{HeapLimits, limits_of};
 
 /// Writes a line for each heap that is gone or made, for each limit of one that differs, and for each
 /// item that is gone or new.

@@ -4,14 +4,14 @@ ghost use Rattle.std.specs.Prelude.{◌≡◌};
 ghost use Rattle.std.specs.List.{flat_map};
 ghost use Rattle.os_heap.specs.Store.{IsSound, store_of};
 ghost use Rattle.profile.specs.Output.{Writes};
-ghost use Rattle.trace_items.specs.Changes.{item_changes};
+ghost use Rattle.trace_store_text.specs.items.Changes.{item_changes};
 ghost use Rattle.trace_store_text.specs.ItemLines.{item_line, item_lines, item_summary_lines, verb_and_use};
 
+use crate::items::{ItemChange, ItemChanges, changed_items};
 use crate::word_lines::push_more;
 use address_map::{AddressMap, Item};
 use itoa::Buffer;
 use profile::{HexText, Sink, WriteFault, push_parts};
-use trace_items::{ItemChange, ItemChanges, changed_items};
 
 /// How many items of a heap are told.
 const MOST_LINES: u32 = 64;

@@ -5,10 +5,10 @@ ghost use Rattle.std.specs.List.{flat_map};
 ghost use Rattle.profile.specs.Output.{Writes};
 ghost use Rattle.trace_store_text.specs.ModuleLines.{gone_instance_line, gone_instance_lines, kept_instance_lines, module_lines, moved_instance_line, new_instance_line};
 
+use crate::modules::{InstanceMark, has_same, marks_of, old_address};
 use itoa::Buffer;
 use profile::{HexText, Sink, WriteFault, push_parts};
-use swi_dispatch::instances::Instances;
-use trace_modules::{InstanceMark, has_same, marks_of, old_address};
+use trace_words::Instances;
 
 /// Writes a line for each instance of a module that is gone, new or moved.
 #[tactic(auto, unfolding(crate::specs::ModuleLines::module_lines))]

@@ -2,7 +2,7 @@
 
 ghost use Rattle.std.specs.Prelude.{◌≡◌};
 ghost use Rattle.profile.specs.Output.{Writes};
-ghost use Rattle.swi_dispatch.specs.swi_dispatch_guest.specs.Parts.{state_of};
+ghost use Rattle.debugger.specs.Parts.{state_of};
 ghost use Rattle.trace_words.specs.Copies.{kept_in, kept_of};
 ghost use Rattle.trace_store_text.specs.FlexLines.{flex_lines};
 ghost use Rattle.trace_store_text.specs.HeapLines.{heap_lines};
@@ -15,8 +15,8 @@ use crate::heap_lines::push_heaps;
 use crate::image_lines::push_images;
 use crate::module_lines::push_modules;
 use crate::word_lines::push_words;
+use debugger::Machine;
 use profile::{Sink, WriteFault};
-use swi_dispatch::Machine;
 use trace_words::{StoreCopy, changed_words};
 
 /// Writes a line for each thing that differs from the store as it was before a call.

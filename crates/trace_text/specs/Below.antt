@@ -2,12 +2,12 @@
 -- what was printed, and the frames that were left and entered.
 use Rattle.std.specs.Prelude.{ℕ, Bool, ◌-◌, ◌==◌, ◌&&◌, List, [], ◌++◌, codes, length, Option, Some, None, if◌then◌else◌}
 use Rattle.profile.specs.declared.stop.Stop.{Stop}
-use Rattle.debugger.specs.swi_dispatch_guest.specs.swi_dispatch_frames.specs.declared.frame.Frame.{Frame}
-use Rattle.debugger.specs.swi_dispatch_guest.specs.Errors.{error_number}
-use Rattle.debugger.specs.swi_dispatch_guest.specs.MachineState.{MachineState, StepOutcome, stop_of}
+use Rattle.swi_dispatch_answers.specs.declared.frames.frame.Frame.{Frame}
+use Rattle.swi_dispatch_guest.specs.Errors.{error_number}
+use Rattle.swi_dispatch_guest.specs.MachineState.{MachineState, StepOutcome, stop_of}
 use Rattle.trace_store_text.specs.FrameWords.{left_word}
-use Rattle.trace_words.specs.Copies.{KeptStore}
-use Rattle.debug_views.specs.Quoted.{quoted_text}
+use Rattle.trace_store_text.specs.Copies.{KeptStore}
+use Rattle.trace_store_text.specs.views.Quoted.{quoted_text}
 use Rattle.trace_text.specs.Columns.{below_text}
 use Rattle.trace_text.specs.Core.{core_words}
 use Rattle.trace_text.specs.Errors.{error_word, stop_word}

@@ -17,7 +17,7 @@ use Rattle.profile.specs.declared.swi.SwiName.{SwiName}
 use Rattle.profile.specs.declared.swi.SwiName.TheVariants as swi
 use Rattle.address_map.specs.Bytes.{Bytes}
 use Rattle.arm_core.specs.State.{State, register_of}
-use Rattle.debug_views.specs.Quoted.{quoted_text}
+use Rattle.trace_store_text.specs.views.Quoted.{quoted_text}
 use Rattle.trace_text.specs.Strings.{string_word}
 
 -- ` R1=00009000`

@@ -8,13 +8,13 @@ use Rattle.arm_core.specs.declared.psr.Mode.{Mode}
 use Rattle.arm_core.specs.declared.psr.Mode.TheVariants.{User, FastInterrupt, Interrupt, Supervisor}
 use Rattle.arm_core.specs.declared.psr.Psr.{Psr}
 use Rattle.arm_core.specs.State.{State}
-use Rattle.debugger.specs.Registers.{mode_text}
-use Rattle.debug_views.specs.Banks.{banked_name}
-use Rattle.trace_changes.specs.declared.registers.RegisterChange.{RegisterChange}
-use Rattle.trace_changes.specs.declared.status.Flag.{Flag}
-use Rattle.trace_changes.specs.declared.status.Flag.TheVariants.{Negative, Zero, Carry, Overflow, InterruptsOff, FastInterruptsOff}
-use Rattle.trace_changes.specs.Registers.{changes_of, home_of}
-use Rattle.trace_changes.specs.Status.{flag_change, jump, mode_change}
+use Rattle.trace_store_text.specs.Registers.{mode_text}
+use Rattle.trace_store_text.specs.views.Banks.{banked_name}
+use Rattle.trace_effects.specs.declared.changes.registers.RegisterChange.{RegisterChange}
+use Rattle.trace_effects.specs.declared.changes.status.Flag.{Flag}
+use Rattle.trace_effects.specs.declared.changes.status.Flag.TheVariants.{Negative, Zero, Carry, Overflow, InterruptsOff, FastInterruptsOff}
+use Rattle.trace_effects.specs.changes.Registers.{changes_of, home_of}
+use Rattle.trace_effects.specs.changes.Status.{flag_change, jump, mode_change}
 
 -- whether a mode has a register of its own in place of the shared one of this number
 abbrev pub hides : Mode → ℕ → Bool

@@ -1,5 +1,4 @@
 -- The lines of a traced step. Begin with Columns, then Step.
-pub use Rattle.trace_effects
 pub mod Areas
 pub mod Below
 pub mod Calls

@@ -1,6 +1,6 @@
 -- What a trace keeps of a machine before a step, as the code holds it.
 use Rattle.std.specs.Prelude.{Box, Option, Some, None}
-use Rattle.trace_words.specs.Copies.{CopiedParts, KeptStore, kept_in}
+use Rattle.trace_store_text.specs.Copies.{CopiedParts, KeptStore, kept_in}
 use Rattle.trace_text.specs.declared.start.StepStart.{StepStart}
 use Rattle.trace_text.specs.Step.{Known}
 

@@ -8,11 +8,11 @@ use Rattle.profile.specs.declared.stop.Stop.{Stop}
 use Rattle.address_map.specs.Bytes.{Bytes}
 use Rattle.arm_core.specs.State.{State}
 use Rattle.assembler_text.specs.Printing.{print}
-use Rattle.debugger.specs.swi_dispatch_guest.specs.swi_dispatch_frames.specs.Frames.{innermost_frame}
-use Rattle.debugger.specs.swi_dispatch_guest.specs.swi_dispatch_frames.specs.declared.frame.Frame.{Frame}
-use Rattle.debugger.specs.swi_dispatch_guest.specs.MachineState.{MachineState, StepOutcome, stop_of}
-use Rattle.debugger.specs.swi_dispatch_guest.specs.Step.{without_x}
-use Rattle.trace_changes.specs.Status.{following_word}
+use Rattle.swi_dispatch_answers.specs.frames.Frames.{innermost_frame}
+use Rattle.swi_dispatch_answers.specs.declared.frames.frame.Frame.{Frame}
+use Rattle.swi_dispatch_guest.specs.MachineState.{MachineState, StepOutcome, stop_of}
+use Rattle.swi_dispatch_guest.specs.Step.{without_x}
+use Rattle.trace_effects.specs.changes.Status.{following_word}
 use Rattle.trace_effects.specs.Cause.{cause_of, swi_of_cause}
 use Rattle.trace_effects.specs.Stored.{stored_words}
 use Rattle.trace_effects.specs.declared.cause.Cause.{Cause}
@@ -20,7 +20,7 @@ use Rattle.trace_effects.specs.declared.stored.StoredWords.{StoredWords}
 use Rattle.trace_effects.specs.declared.cause.Cause.TheVariants.{Gate, Unmapped, Skipped, Word}
 use Rattle.trace_store_text.specs.FrameWords.{entered_word}
 use Rattle.trace_store_text.specs.StoreLines.{store_lines}
-use Rattle.trace_words.specs.Copies.{KeptStore, kept_of}
+use Rattle.trace_store_text.specs.Copies.{KeptStore, kept_of}
 use Rattle.trace_text.specs.declared.areas.AreaMark.{AreaMark}
 use Rattle.trace_text.specs.Areas.{area_lines, area_marks}
 use Rattle.trace_text.specs.Below.{error_words, frames_kept, has_error, left_word_kept, prints_word}

@@ -3,8 +3,8 @@
 use Rattle.std.specs.Prelude.{ℕ, zero, suc, ◌==◌, nat_lt, List, [], ◌∷◌, ◌++◌, codes, length, Option, Some, None, Result, Ok, Err, if◌then◌else◌}
 use Rattle.profile.specs.declared.fault.Fault.{Fault}
 use Rattle.address_map.specs.Bytes.{Bytes, byte_loaded}
-use Rattle.debugger.specs.Memory.{address_further}
-use Rattle.debug_views.specs.Quoted.{quoted_text}
+use Rattle.trace_store_text.specs.Memory.{address_further}
+use Rattle.trace_store_text.specs.views.Quoted.{quoted_text}
 
 -- a character that isn't a control character, if one is there
 abbrev pub character_loaded : Result ℕ Fault → Option ℕ

@@ -6,7 +6,7 @@ ghost use Rattle.profile.specs.Output.{Writes};
 ghost use Rattle.trace_text.specs.Areas.{area_line, area_line_by, area_lines, area_marks, gone_area_line, has_area, new_area_line, pages_marked, sized_area_line};
 
 use arrayvec::ArrayVec;
-use debugger::swi_dispatch::dynamic_areas::Area;
+use dynamic_areas::Area;
 use itoa::Buffer;
 use profile::memory_map::PAGE_SIZE;
 use profile::{HexText, Sink, WriteFault, push_parts};

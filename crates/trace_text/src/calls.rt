@@ -10,11 +10,11 @@ ghost use Rattle.trace_text.specs.Calls.{area_words, argument_word, argument_wor
 use crate::strings::push_string;
 use address_map::AddressMap;
 use arm_core::Cpu;
-use debug_views::push_quoted;
 use itoa::Buffer;
 use profile::{
     AreaReason, HeapReason, HexText, ModuleReason, Sink, SwiName, WriteFault, push_all, push_parts,
 };
+use trace_store_text::push_quoted;
 
 /// Writes a call's words, the first of them its name: ` XOS_Heap 2 Get R1=00009000 R3=00000014`. The
 /// number is without its X bit.

@@ -6,13 +6,12 @@ ghost use Rattle.profile.specs.Output.{Writes};
 ghost use Rattle.trace_text.specs.Core.{banked_register_name, carry_flag_words, core_words, flag_word, flag_words, hides, jump_word, mask_flag_words, mode_word, register_word, sign_flag_words};
 
 use arm_core::{Cpu, Mode, Psr};
-use debug_views::push_banked_name;
-use debugger::mode_name;
 use itoa::Buffer;
 use profile::{HexText, Sink, WriteFault, push_all, push_parts};
-use trace_changes::{
+use trace_effects::changes::{
     Flag, RegisterChange, changed_flag, changed_mode, changed_registers, home_of, jump_of,
 };
+use trace_store_text::{mode_name, push_banked_name};
 
 /// Writes what differs between two cores, the second of which was expected to go on at an address:
 /// each register of all banks, ` R0=00000009`, the program counter where it isn't that address, each

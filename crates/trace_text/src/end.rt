@@ -3,13 +3,13 @@
 ghost use Rattle.std.specs.Prelude.{◌≡◌, OnOk};
 ghost use Rattle.std.specs.Io.KnownBytes.{Appends};
 ghost use Rattle.profile.specs.Output.{Writes};
-ghost use Rattle.debugger.specs.swi_dispatch_guest.specs.MachineState.{outcome_with};
-ghost use Rattle.debugger.specs.swi_dispatch_guest.specs.Parts.{state_of};
+ghost use Rattle.swi_dispatch_guest.specs.MachineState.{outcome_with};
+ghost use Rattle.swi_dispatch_guest.specs.Parts.{state_of};
 ghost use Rattle.trace_store_text.specs.FrameWords.{entered_word};
 ghost use Rattle.trace_text.specs.Below.{error_words, frames_kept, has_error, left_word_kept, prints_word};
 ghost use Rattle.trace_text.specs.Columns.{below_text};
 ghost use Rattle.trace_text.specs.Start.{store_kept};
-ghost use Rattle.trace_words.specs.Copies.{kept_of};
+ghost use Rattle.trace_store_text.specs.Copies.{kept_of};
 ghost use Rattle.trace_text.specs.Step.{skipped_word, store_lines_below};
 
 use crate::areas::push_areas;
@@ -18,13 +18,10 @@ use crate::core_text::push_core;
 use crate::errors::{push_error, push_stop};
 use crate::start::{StepStart, Taking};
 use crate::stored::{push_stored_below, push_stored_here};
-use debug_views::push_quoted;
-use debugger::swi_dispatch::{Frame, Machine};
 use profile::{Sink, Stop, WriteFault, push_all};
 use std::alloc::Global;
 use trace_store_text::frame_words::{push_entered, push_left};
-use trace_store_text::push_store_lines;
-use trace_store_text::trace_words::StoreCopy;
+use trace_store_text::{Frame, Machine, StoreCopy, push_quoted, push_store_lines};
 use view_items::TextSink;
 
 impl StepStart {

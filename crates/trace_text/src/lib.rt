@@ -13,4 +13,3 @@ pub mod strings;
 
 pub use end::push_prints_line;
 pub use start::StepStart;
-pub use trace_effects;

@@ -4,13 +4,13 @@ ghost use Rattle.std.specs.Prelude.{◌≡◌, length, true, Some, IfOk, OnOk};
 ghost use Rattle.std.specs.Io.KnownBytes.{Appends};
 ghost use Rattle.address_map.specs.Memory.{bytes_of};
 ghost use Rattle.profile.specs.Output.{Writes};
-ghost use Rattle.debugger.specs.swi_dispatch_guest.specs.swi_dispatch_frames.specs.Frames.{innermost_frame};
-ghost use Rattle.debugger.specs.swi_dispatch_guest.specs.Parts.{state_of};
+ghost use Rattle.swi_dispatch_answers.specs.frames.Frames.{innermost_frame};
+ghost use Rattle.swi_dispatch_guest.specs.Parts.{state_of};
 ghost use Rattle.trace_effects.specs.Cause.{cause_of};
 ghost use Rattle.trace_text.specs.Calls.{call_words};
 ghost use Rattle.trace_text.specs.Start.{store_kept};
 ghost use Rattle.trace_text.specs.Step.{calling_text, front_text, is_skipped, loading_text, outside_line, start_text, store_before, taking_of, taking_swi, taking_text, what_text, word_column};
-ghost use Rattle.trace_words.specs.Copies.{kept_in, kept_of};
+ghost use Rattle.trace_store_text.specs.Copies.{kept_in, kept_of};
 ghost use Rattle.view_items.specs.TextSink.{sink_text_of};
 
 use crate::areas::{AreaMark, MOST_AREAS, area_marks};
@@ -21,14 +21,13 @@ use address_map::AddressMap;
 use arm_core::Cpu;
 use arrayvec::ArrayVec;
 use assembler_text::disassemble;
-use debugger::swi_dispatch::{Frame, Machine, without_x_bit};
 use profile::word::is_bit_set;
 use profile::{HexText, Sink, WriteFault, push_all, push_parts};
 use std::alloc::{AllocError, Global};
-use trace_changes::following_word;
+use trace_effects::changes::following_word;
 use trace_effects::{Cause, called_swi, stored_words};
 use trace_store_text::frame_words::innermost;
-use trace_store_text::trace_words::StoreCopy;
+use trace_store_text::{Frame, Machine, StoreCopy, without_x_bit};
 use view_items::TextSink;
 
 /// How a step is told.

@@ -8,8 +8,8 @@ ghost use Rattle.trace_text.specs.Strings.{character_loaded, characters_at, cut_
 
 use address_map::AddressMap;
 use arrayvec::ArrayVec;
-use debug_views::push_quoted;
 use profile::{Sink, WriteFault, push_all};
+use trace_store_text::push_quoted;
 
 /// How many characters of a text are told.
 const MOST_CHARACTERS: usize = 40;

@@ -3,9 +3,9 @@
 use Rattle.std.specs.Prelude.{List}
 use Rattle.address_map.specs.declared.map.AddressMap.{AddressMap}
 use Rattle.os_heap.specs.Store.{Store, store_of}
-use Rattle.swi_dispatch.specs.flex_store.specs.declared.flex.Flex.{Flex}
-use Rattle.swi_dispatch.specs.instances_table.specs.Modules.{Module}
-use Rattle.swi_dispatch.specs.swi_dispatch_guest.specs.MachineState.{MachineState}
+use Rattle.flex_store.specs.declared.flex.Flex.{Flex}
+use Rattle.instances_table.specs.Modules.{Module}
+use Rattle.swi_dispatch.specs.MachineState.{MachineState}
 
 pub record CopiedParts : Type 0 where
   pub map : AddressMap

@@ -6,4 +6,5 @@ pub mod laws;
 pub mod store_copy;
 
 pub use changes::{MOST_CHANGES, WordChange, WordChanges, changed_words};
+pub use instances::{InstanceInfo, Instances, ModuleInfo};
 pub use store_copy::StoreCopy;

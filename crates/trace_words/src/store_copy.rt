@@ -3,16 +3,16 @@
 ghost use Rattle.std.specs.Prelude.{◌≡◌, ◌≤◌, IfOk};
 ghost use Rattle.address_map.specs.Memory.{page_total};
 ghost use Rattle.os_heap.specs.Store.{IsSound, store_of};
-ghost use Rattle.swi_dispatch.specs.swi_dispatch_guest.specs.Parts.{state_of};
+ghost use Rattle.swi_dispatch.specs.Parts.{state_of};
 
 use address_map::{AddressMap, pages_are_counted};
+use dynamic_areas::areas_count_pages;
+use flex_store::Flex;
+use instances::Instances;
 use profile::memory_map::{ADDRESS_LIMIT, PAGE_SIZE};
 use std::alloc::{AllocError, Global};
 use std::marker::Model;
 use swi_dispatch::Machine;
-use swi_dispatch::dynamic_areas::areas_count_pages;
-use swi_dispatch::flex_store::Flex;
-use swi_dispatch::instances::Instances;
 
 /// A copy of a machine's memory, with its heaps and what is recorded in it, of its modules, and of where
 /// its flex store is.
@@ -25,7 +25,7 @@ pub struct StoreCopy {
 
 impl Model for StoreCopy {
     ghost use Rattle.os_heap.specs.Store.{IsSound, store_of};
-    ghost use Rattle.swi_dispatch.specs.flex_store.specs.State.{IsFlex};
+    ghost use Rattle.flex_store.specs.State.{IsFlex};
     ghost use Rattle.trace_words.specs.Copies.{CopiedParts};
 
     ghost Value = { CopiedParts };
@@ -37,7 +37,7 @@ impl Model for StoreCopy {
 
 impl StoreCopy {
     ghost use Rattle.address_map.specs.Memory.{bytes_of};
-    ghost use Rattle.swi_dispatch.specs.flex_store.specs.State.{IsFlex};
+    ghost use Rattle.flex_store.specs.State.{IsFlex};
     ghost use Rattle.trace_words.specs.Copies.{kept_in, kept_of};
 
     /// A copy of a machine's store as it is.

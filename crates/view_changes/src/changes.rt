@@ -5,8 +5,7 @@ ghost use Rattle.std.specs.List.{list_any};
 ghost use Rattle.profile.specs.Digits.{hex_word};
 ghost use Rattle.profile.specs.Output.{Writes};
 ghost use Rattle.view_items.specs.Kinds.{is_free};
-ghost use Rattle.view_changes.specs.Changes.{block_change, change_by, box_change, change_since, change_words, free_change};
-ghost use Rattle.view_changes.specs.Changes.{is_size_of, is_some_change, is_within, live_change, module_change, moved_words, same_place_change, size_change};
+ghost use Rattle.view_changes.specs.Changes.{block_change, change_by, box_change, change_since, change_words, free_change, is_size_of, is_some_change, is_within, live_change, module_change, moved_words, same_place_change, size_change};
 
 use crate::older::OlderBox;
 use profile::{HexText, Sink, WriteFault, push_all};

@@ -2,8 +2,7 @@
 
 ghost use Rattle.std.specs.Prelude.{◌≡◌, IfOk, None, length, option_map, vec_len};
 ghost use Rattle.std.specs.List.{list_all, list_any};
-ghost use Rattle.view_changes.specs.Changes.{boxes_end, compared_with, first_history, histories_by, histories_since, histories_told, is_heap, is_made_anew};
-ghost use Rattle.view_changes.specs.Changes.{is_unchanged_live, stays_live};
+ghost use Rattle.view_changes.specs.Changes.{boxes_end, compared_with, first_history, histories_by, histories_since, histories_told, is_heap, is_made_anew, is_unchanged_live, stays_live};
 
 use crate::changes::{BoxChange, box_change};
 use crate::older::{OlderBox, is_at_same_place, is_tidied, keeps_order, next_place, older_of};

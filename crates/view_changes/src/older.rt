@@ -1,8 +1,7 @@
 //! Which box of an earlier picture a box of a later one was.
 
 ghost use Rattle.std.specs.Prelude.{◌≡◌, ◌<◌, ◌^◌, IfOk, IfSome, length};
-ghost use Rattle.view_changes.specs.Older.{flex_block_at, first_older, first_place, is_at_same_place, begins_module_area, is_older};
-ghost use Rattle.view_changes.specs.Older.{is_same_anchor, is_tidied, keeps_order, live_sizes, may_be_one_word, next_place, older_of};
+ghost use Rattle.view_changes.specs.Older.{flex_block_at, first_older, first_place, is_at_same_place, begins_module_area, is_older, is_same_anchor, is_tidied, keeps_order, live_sizes, may_be_one_word, next_place, older_of};
 
 use profile::memory_map::RMA_START;
 use std::alloc::{AllocError, Global};

@@ -3,8 +3,7 @@
 
 ghost use Rattle.std.specs.Prelude.{◌≡◌, ◌≤◌, ◌+◌, ◌^◌, ◌++◌, IfOk, OnOk, map};
 ghost use Rattle.std.specs.Option.{option_map, option_to_list};
-ghost use Rattle.view_items.specs.Boxes.{AreBoxesOf, between, box_rank, own_place, second_place, place_of_box, plain_place};
-ghost use Rattle.view_items.specs.Boxes.{places_told, room_place, room_places};
+ghost use Rattle.view_items.specs.Boxes.{AreBoxesOf, between, box_rank, own_place, second_place, place_of_box, plain_place, places_told, room_place, room_places};
 
 use crate::items::{Holder, PictureItem};
 use crate::kinds::BoxKind;

@@ -1,8 +1,7 @@
 //! What a box of a picture stands for.
 
 ghost use Rattle.std.specs.Prelude.{◌≡◌};
-ghost use Rattle.view_items.specs.Kinds.{has_second_line, is_block, is_carved, is_descriptor, is_free, is_lasting, is_live, is_module};
-ghost use Rattle.view_items.specs.Kinds.{is_pool, is_rest, kind_number, kind_sign, kind_word, same_kind};
+ghost use Rattle.view_items.specs.Kinds.{has_second_line, is_block, is_carved, is_descriptor, is_free, is_lasting, is_live, is_module, is_pool, is_rest, kind_number, kind_sign, kind_word, same_kind};
 
 /// What a box stands for.
 #[derive(Clone, Copy, Debug)]

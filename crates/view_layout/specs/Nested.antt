@@ -1,7 +1,6 @@
 -- The boxes of a heap, and of the heaps that lie in its blocks, as those of one picture. Of any other
 -- view they are its own.
-use Rattle.std.specs.Prelude.{ℕ, ◌+◌, ◌-◌, ◌*◌, ◌^◌, ◌==◌, ◌&&◌, min, nat_le, nat_lt, Bool, not, List, [], ◌∷◌, ◌++◌, fold, map, IsPermutation}
-use Rattle.std.specs.Prelude.{Option, Some, None, length, if◌then◌else◌}
+use Rattle.std.specs.Prelude.{ℕ, ◌+◌, ◌-◌, ◌*◌, ◌^◌, ◌==◌, ◌&&◌, min, nat_le, nat_lt, Bool, not, List, [], ◌∷◌, ◌++◌, fold, map, IsPermutation, Option, Some, None, length, if◌then◌else◌}
 use Rattle.std.specs.List.{flat_map, list_any}
 use Rattle.std.specs.List.Sorted.{IsNonDecreasingBy}
 use Rattle.view_changes.specs.Changes.{histories_told}

@@ -1,9 +1,7 @@
 //! Where the boxes of a picture stand: from low addresses to high, their sizes to scale.
 
 ghost use Rattle.std.specs.Prelude.{◌≡◌, ◌<◌, ◌^◌, ◌+◌, IfOk, map};
-ghost use Rattle.view_layout.specs.Layout.{depth_behind, height_of, is_raised, is_widened, least_height, least_width, scaled_by};
-ghost use Rattle.view_layout.specs.Layout.{share_of, shared_width, shown_before, spot_before, spot_of, spots_from, told_of, total_box_size, total_from, width_of};
-ghost use Rattle.view_layout.specs.Layout.{IsLayoutOf};
+ghost use Rattle.view_layout.specs.Layout.{depth_behind, height_of, is_raised, is_widened, least_height, least_width, scaled_by, share_of, shared_width, shown_before, spot_before, spot_of, spots_from, told_of, total_box_size, total_from, width_of, IsLayoutOf};
 
 use crate::nested::{NestedBoxes, ToldBox, nested_boxes};
 use std::alloc::{AllocError, Global};

@@ -5,10 +5,7 @@ ghost use Rattle.std.specs.Prelude.{◌≡◌, ◌++◌, ◌+◌, length, map, o
 ghost use Rattle.std.specs.List.{flat_map};
 ghost use Rattle.view_changes.specs.Gone.{gone_from};
 ghost use Rattle.view_items.specs.Boxes.{plain_place};
-ghost use Rattle.view_layout.specs.Nested.{all_places, box_places_told, change_in, depth_in, first_box, gone_heap, all_gone, has_older};
-ghost use Rattle.view_layout.specs.Nested.{heap_end, heap_start, is_new_heap, item_end, item_start, lies_in, limit_by_block, limit_by_blocks};
-ghost use Rattle.view_layout.specs.Nested.{limit_by_heap, older_view, place_of_told, block_rest, rest_limit, tie_rank, told_rank};
-ghost use Rattle.view_layout.specs.Nested.{told_place, view_end, view_places, view_start, AreSorted, AreToldOf};
+ghost use Rattle.view_layout.specs.Nested.{all_places, box_places_told, change_in, depth_in, first_box, gone_heap, all_gone, has_older, heap_end, heap_start, is_new_heap, item_end, item_start, lies_in, limit_by_block, limit_by_blocks, limit_by_heap, older_view, place_of_told, block_rest, rest_limit, tie_rank, told_rank, told_place, view_end, view_places, view_start, AreSorted, AreToldOf};
 
 use std::alloc::{AllocError, Global};
 use view_changes::{BoxChange, BoxHistory, gone_of, histories_of};

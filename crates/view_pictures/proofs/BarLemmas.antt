@@ -1,11 +1,9 @@
 -- How the boxes of a picture go on in the rows of a bar.
-use Rattle.std.proofs.Common.{◌≡◌, ◌≤◌, ◌<◌, ◌+◌, ◌-◌, ℕ, suc, zero, List, [], ◌∷◌, ◌++◌, length, length-drop, get_or, drop, take}
-use Rattle.std.proofs.Common.{Option, ap, arith, refl, if◌then◌else◌}
+use Rattle.std.proofs.Common.{◌≡◌, ◌≤◌, ◌<◌, ◌+◌, ◌-◌, ℕ, suc, zero, List, [], ◌∷◌, ◌++◌, length, length-drop, get_or, drop, take, Option, ap, arith, refl, if◌then◌else◌}
 use Rattle.std.specs.Prelude.{nat_le}
 use Rattle.std.proofs.lemmas.List.{at_drop_more, at_drop_all}
 use Rattle.profile.specs.Digits.{hex_number}
-use Rattle.view_pictures.specs.Bars.{addresses, bar_row, bar_rows, blanks_after_box, box_mark, box_marks, digits_at, end_digits, end_of_row}
-use Rattle.view_pictures.specs.Bars.{has_room, place_further, row_count, row_length, written_with}
+use Rattle.view_pictures.specs.Bars.{addresses, bar_row, bar_rows, blanks_after_box, box_mark, box_marks, digits_at, end_digits, end_of_row, has_room, place_further, row_count, row_length, written_with}
 use Rattle.view_items.specs.Kinds.{is_live}
 use Rattle.view_pictures.specs.Blocks.{block_address, block_addresses}
 use Rattle.view_pictures.specs.Chain.{chain_link, chain_links, is_link, links_after}

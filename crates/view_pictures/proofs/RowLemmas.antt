@@ -1,6 +1,5 @@
 -- The bytes of a row one after another, and bytes that are all alike.
-use Rattle.std.proofs.Common.{◌≡◌, ◌≤◌, ◌<◌, ◌+◌, ◌-◌, ℕ, suc, zero, Bool, false, [], ◌∷◌, ◌++◌, replicate}
-use Rattle.std.proofs.Common.{refl, ap, arith}
+use Rattle.std.proofs.Common.{◌≡◌, ◌≤◌, ◌<◌, ◌+◌, ◌-◌, ℕ, suc, zero, Bool, false, [], ◌∷◌, ◌++◌, replicate, refl, ap, arith}
 use Rattle.std.specs.Prelude.{◌||◌}
 use Rattle.view_pictures.specs.RowMarks.{any_from, blanks_after_byte, byte_mark, byte_marks}
 use Rattle.view_pictures.specs.Rows.{is_changed}

@@ -1,6 +1,5 @@
 -- Marks under the bytes of a view of memory that have changed, for a terminal.
-use Rattle.std.specs.Prelude.{ℕ, suc, zero, ◌+◌, ◌-◌, ◌%◌, ◌^◌, min, nat_lt, Bool, true, false, ◌||◌, List, [], ◌++◌}
-use Rattle.std.specs.Prelude.{replicate, length, take, drop, codes, Option, if◌then◌else◌}
+use Rattle.std.specs.Prelude.{ℕ, suc, zero, ◌+◌, ◌-◌, ◌%◌, ◌^◌, min, nat_lt, Bool, true, false, ◌||◌, List, [], ◌++◌, replicate, length, take, drop, codes, Option, if◌then◌else◌}
 use Rattle.profile.specs.Digits.{hex_word}
 use Rattle.view_items.specs.Items.{bytes_shown}
 use Rattle.view_pictures.specs.Rows.{is_changed}

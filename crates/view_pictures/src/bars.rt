@@ -4,10 +4,7 @@
 ghost use Rattle.std.specs.Prelude.{◌≡◌, ◌<◌, ◌≤◌, drop, length, take};
 ghost use Rattle.std.specs.List.{flat_map, list_any};
 ghost use Rattle.profile.specs.Output.{Writes};
-ghost use Rattle.view_pictures.specs.Bars.{address_line, addresses, bar, bar_box, bar_edge, bar_lines, bar_row, bar_rows};
-ghost use Rattle.view_pictures.specs.Bars.{edge_sign, list_lines, told_rows};
-ghost use Rattle.view_pictures.specs.Bars.{blanks_after_box, box_mark, box_marks, digits_at, end_digits, end_of_row};
-ghost use Rattle.view_pictures.specs.Bars.{has_room, mark_line, place_further, row_count, row_length, row_room, written_with};
+ghost use Rattle.view_pictures.specs.Bars.{address_line, addresses, bar, bar_box, bar_edge, bar_lines, bar_row, bar_rows, edge_sign, list_lines, told_rows, blanks_after_box, box_mark, box_marks, digits_at, end_digits, end_of_row, has_room, mark_line, place_further, row_count, row_length, row_room, written_with};
 ghost use Rattle.view_pictures.specs.Told.{has_changed};
 
 use crate::anchors::push_anchors;

@@ -1,8 +1,7 @@
 //! What the signs of bars mean, for a terminal.
 
 ghost use Rattle.profile.specs.Output.{Writes};
-ghost use Rattle.view_pictures.specs.Legend.{bar_legend, edge_line, legend_line, narrow_edges, narrow_legend, narrow_scales, narrow_signs};
-ghost use Rattle.view_pictures.specs.Legend.{scale_line, sign_line, wide_legend};
+ghost use Rattle.view_pictures.specs.Legend.{bar_legend, edge_line, legend_line, narrow_edges, narrow_legend, narrow_scales, narrow_signs, scale_line, sign_line, wide_legend};
 
 use profile::{Sink, WriteFault, push_all, push_parts};
 

@@ -4,8 +4,7 @@ ghost use Rattle.std.specs.Prelude.{◌≡◌, ◌≤◌, ◌-◌};
 ghost use Rattle.std.specs.List.{flat_map};
 ghost use Rattle.profile.specs.Output.{Writes};
 ghost use Rattle.view_items.specs.Items.{byte_shown, bytes_shown};
-ghost use Rattle.view_pictures.specs.RowMarks.{blanks_after_byte, byte_mark, byte_marks, bytes_line, changed_line, has_changed_byte};
-ghost use Rattle.view_pictures.specs.RowMarks.{row_bytes_between, is_any_changed, mark_lines, marks_between};
+ghost use Rattle.view_pictures.specs.RowMarks.{blanks_after_byte, byte_mark, byte_marks, bytes_line, changed_line, has_changed_byte, row_bytes_between, is_any_changed, mark_lines, marks_between};
 
 use crate::rows::{GridRow, is_changed};
 use crate::signs::push_many;

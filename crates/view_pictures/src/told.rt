@@ -4,8 +4,7 @@
 ghost use Rattle.std.specs.Prelude.{◌≡◌};
 ghost use Rattle.std.specs.List.{flat_map};
 ghost use Rattle.profile.specs.Output.{Writes};
-ghost use Rattle.view_pictures.specs.Told.{address_before, box_words, change_line, change_told, gone_line, gone_told};
-ghost use Rattle.view_pictures.specs.Told.{has_changed, told_lines};
+ghost use Rattle.view_pictures.specs.Told.{address_before, box_words, change_line, change_told, gone_line, gone_told, has_changed, told_lines};
 
 use profile::{HexText, Sink, WriteFault, push_all, push_parts};
 use view_changes::push_change_words;

@@ -9,9 +9,9 @@ use Rattle.address_map.specs.Records.{is_heap_kind}
 use Rattle.address_map.specs.declared.map.AddressMap.{AddressMap}
 use Rattle.address_map.specs.declared.region.Region.{Region}
 use Rattle.debugger.specs.Heap.{heap_blocks_text}
-use Rattle.debugger.specs.swi_dispatch.specs.os_heap.specs.Store.{Store, find_heap, heap_in, heaps_in, store_of}
-use Rattle.debugger.specs.swi_dispatch.specs.os_heap.specs.Calls.{items_of}
-use Rattle.debugger.specs.swi_dispatch.specs.os_heap_lists.specs.Heap.{HeapList}
+use Rattle.os_heap.specs.Store.{Store, find_heap, heap_in, heaps_in, store_of}
+use Rattle.os_heap.specs.Calls.{items_of}
+use Rattle.os_heap_words.specs.lists.Heap.{HeapList}
 use Rattle.view_reading.specs.Inner.{heap_texts, inner_starts, inner_texts, inner_texts_by, is_heap_between, region_starts}
 
 pub starts_more : (start end : ℕ) (rs : List Region) (place : ℕ) (d : Region) → place < length rs

@@ -4,8 +4,8 @@ use Rattle.std.specs.Option.{option_to_list}
 use Rattle.address_map.specs.Records.{is_heap_kind}
 use Rattle.address_map.specs.declared.region.Region.{Region}
 use Rattle.debugger.specs.Heap.{heap_blocks_text}
-use Rattle.debugger.specs.swi_dispatch.specs.os_heap.specs.Store.{Store, find_heap}
-use Rattle.debugger.specs.swi_dispatch.specs.os_heap_lists.specs.Heap.{HeapList}
+use Rattle.os_heap.specs.Store.{Store, find_heap}
+use Rattle.os_heap_words.specs.lists.Heap.{HeapList}
 
 -- whether a heap starts between two addresses
 abbrev pub starts_between : ℕ → ℕ → HeapList → Bool

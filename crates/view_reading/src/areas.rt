@@ -4,14 +4,14 @@ ghost use Rattle.std.specs.Prelude.{◌≡◌, IfOk, OnOk};
 ghost use Rattle.std.specs.List.{flat_map};
 ghost use Rattle.std.specs.Io.KnownBytes.{Appends};
 ghost use Rattle.debugger.specs.Areas.{area_text, areas_text};
-ghost use Rattle.debugger.specs.swi_dispatch.specs.swi_dispatch_guest.specs.Parts.{state_of};
+ghost use Rattle.swi_dispatch_guest.specs.Parts.{state_of};
 ghost use Rattle.view_items.specs.Items.{picture_item_text, picture_items_text};
 ghost use Rattle.view_reading.specs.Told.{told_by};
 
 use crate::items::push_item;
-use debugger::swi_dispatch::Machine;
-use debugger::swi_dispatch::dynamic_areas::Area;
+use debugger::Machine;
 use std::alloc::{AllocError, Global};
+use swi_dispatch_guest::Area;
 use view_items::PictureItem;
 
 /// An item for each area by number, and then the pool's: what `show_areas` writes is their text.

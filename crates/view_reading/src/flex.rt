@@ -3,17 +3,17 @@
 ghost use Rattle.std.specs.Prelude.{◌≡◌, ◌+◌, ◌&&◌, nat_le, ◌++◌, IfOk, OnOk, option_map};
 ghost use Rattle.std.specs.Io.KnownBytes.{Appends};
 ghost use Rattle.address_map.specs.Memory.{bytes_of};
-ghost use Rattle.debugger.specs.swi_dispatch.specs.flex_store.specs.Listed.{all_listed};
-ghost use Rattle.debugger.specs.swi_dispatch.specs.flex_store.specs.State.{flex_in, IsFlex};
+ghost use Rattle.flex_store.specs.Listed.{all_listed};
+ghost use Rattle.flex_store.specs.State.{flex_in, IsFlex};
 ghost use Rattle.debugger.specs.Flex.{flex_blocks_text, flex_holder_text, flex_text, holder_in, own_text};
-ghost use Rattle.debugger.specs.swi_dispatch.specs.swi_dispatch_guest.specs.Parts.{state_of};
+ghost use Rattle.swi_dispatch_guest.specs.Parts.{state_of};
 ghost use Rattle.view_items.specs.Items.{picture_holder_text, picture_item_text, picture_items_text};
 ghost use Rattle.view_reading.specs.Told.{told_by};
 
 use crate::items::push_item;
 use address_map::AddressMap;
-use debugger::swi_dispatch::Machine;
-use debugger::swi_dispatch::flex_store::{Flex, FlexBlock, FlexBlocks};
+use debugger::Machine;
+use flex_store::{Flex, FlexBlock, FlexBlocks};
 use std::alloc::{AllocError, Global};
 use view_items::PictureItem;
 use view_items::items::Holder;

@@ -3,16 +3,16 @@
 ghost use Rattle.std.specs.Prelude.{◌≡◌, ◌≤◌, ◌+◌, ◌^◌, IsSome, IfOk, IfSome, OnOk, option_map};
 ghost use Rattle.std.specs.Io.KnownBytes.{Appends};
 ghost use Rattle.address_map.specs.Items.{size_of};
-ghost use Rattle.debugger.specs.swi_dispatch.specs.os_heap.specs.Store.{store_of, find_heap, IsSound};
+ghost use Rattle.os_heap.specs.Store.{store_of, find_heap, IsSound};
 ghost use Rattle.debugger.specs.Heap.{heap_blocks_text, heap_item_text, heap_items_text, limits_text};
-ghost use Rattle.debugger.specs.swi_dispatch.specs.swi_dispatch_guest.specs.Parts.{state_of};
+ghost use Rattle.swi_dispatch_guest.specs.Parts.{state_of};
 ghost use Rattle.view_items.specs.Items.{picture_item_text, picture_items_text};
 ghost use Rattle.view_reading.specs.Told.{told_by};
 
 use crate::items::push_item;
 use address_map::{AddressMap, Item};
-use debugger::swi_dispatch::Machine;
-use debugger::swi_dispatch::os_heap::Blocks;
+use debugger::Machine;
+use os_heap::Blocks;
 use profile::memory_map::HEAP_DESCRIPTOR;
 use std::alloc::{AllocError, Global};
 use view_items::PictureItem;

@@ -2,13 +2,13 @@
 
 ghost use Rattle.std.specs.Prelude.{◌≡◌, ◌++◌, IfOk, OnOk, map, option_map};
 ghost use Rattle.std.specs.Option.{option_to_list};
-ghost use Rattle.debugger.specs.swi_dispatch.specs.swi_dispatch_guest.specs.Parts.{state_of};
+ghost use Rattle.swi_dispatch_guest.specs.Parts.{state_of};
 ghost use Rattle.view_items.specs.Items.{picture_items_text};
 ghost use Rattle.view_reading.specs.Inner.{heap_texts, inner_texts, is_heap_between, region_starts};
 
 use crate::heap::{end_of, heap_items};
 use address_map::Region;
-use debugger::swi_dispatch::Machine;
+use debugger::Machine;
 use std::alloc::{AllocError, Global};
 use view_items::PictureItem;
 

@@ -11,7 +11,7 @@ mod memory;
 mod modules;
 
 pub use areas::area_items;
-pub use debugger::swi_dispatch::Machine;
+pub use debugger::Machine;
 pub use flex::flex_items;
 pub use heap::heap_items;
 pub use inner::inner_heap_items;

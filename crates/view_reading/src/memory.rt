@@ -4,13 +4,13 @@ ghost use Rattle.std.specs.Prelude.{◌≡◌, IfOk, OnOk};
 ghost use Rattle.std.specs.Io.KnownBytes.{Appends};
 ghost use Rattle.address_map.specs.Memory.{bytes_of};
 ghost use Rattle.debugger.specs.Memory.{byte_text, bytes_text, line_text, memory_text};
-ghost use Rattle.debugger.specs.swi_dispatch.specs.swi_dispatch_guest.specs.Parts.{state_of};
+ghost use Rattle.swi_dispatch_guest.specs.Parts.{state_of};
 ghost use Rattle.view_items.specs.Items.{byte_shown, bytes_shown, picture_item_text, picture_items_text};
 ghost use Rattle.view_reading.specs.Told.{told_by_bytes};
 
 use crate::items::push_item;
 use address_map::AddressMap;
-use debugger::swi_dispatch::Machine;
+use debugger::Machine;
 use std::alloc::{AllocError, Global};
 use view_items::PictureItem;
 

@@ -3,18 +3,18 @@
 ghost use Rattle.std.specs.Prelude.{◌≡◌, ◌<◌, IfOk, OnOk, slice_get};
 ghost use Rattle.std.specs.Io.KnownBytes.{Appends};
 ghost use Rattle.address_map.specs.Memory.{bytes_of};
-ghost use Rattle.debugger.specs.swi_dispatch.specs.instances_table.specs.Lookup.{told_of_place};
+ghost use Rattle.instances_table.specs.Lookup.{told_of_place};
 ghost use Rattle.debugger.specs.Modules.{instance_line, instances_text, module_line, module_text, modules_text, one_text};
-ghost use Rattle.debugger.specs.swi_dispatch.specs.swi_dispatch_guest.specs.Parts.{state_of};
+ghost use Rattle.swi_dispatch_guest.specs.Parts.{state_of};
 ghost use Rattle.view_items.specs.Items.{picture_item_text, picture_items_text};
 ghost use Rattle.view_reading.specs.Told.{told_by};
 
 use crate::items::push_item;
 use address_map::AddressMap;
-use debugger::swi_dispatch::Machine;
-use debugger::swi_dispatch::instances::{InstanceInfo, Instances, ModuleInfo};
+use debugger::Machine;
 use profile::memory_map::PRIVATE_WORDS;
 use std::alloc::{AllocError, Global};
+use swi_dispatch_guest::{InstanceInfo, Instances, ModuleInfo};
 use view_items::PictureItem;
 
 /// An item for each module, oldest first, and after it one for each of its instances: what

@@ -4,7 +4,7 @@ use Rattle.std.proofs.lemmas.Iterator.{YieldsList-from_slice}
 use Rattle.std.proofs.lemmas.Iterator.Adapters.{option_map_id}
 use Rattle.std.proofs.lemmas.Iterator.Consumers.{YieldsList-from_copied}
 use Rattle.std.proofs.lemmas.Iterator.Search.{find_from_yields_List}
-use Rattle.assembler_text.specs.arm_decode.specs.Names.{operations}
+use Rattle.arm_decode.specs.Names.{operations}
 use Rattle.assembler_names.specs.Names.{operation_named, names_operation}
 use Rattle.assembler_names.proofs.names.operation_named.Goals as goal
 

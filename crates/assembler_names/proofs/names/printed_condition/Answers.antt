@@ -4,7 +4,7 @@ use Rattle.std.proofs.lemmas.Iterator.{YieldsList-from_slice}
 use Rattle.std.proofs.lemmas.Iterator.Adapters.{option_map_id}
 use Rattle.std.proofs.lemmas.Iterator.Consumers.{YieldsList-from_copied}
 use Rattle.std.proofs.lemmas.Iterator.Search.{find_from_yields_List}
-use Rattle.assembler_text.specs.arm_decode.specs.Names.{conditions}
+use Rattle.arm_decode.specs.Names.{conditions}
 use Rattle.assembler_names.specs.Names.{printed_condition, names_condition}
 use Rattle.assembler_names.proofs.names.printed_condition.Goals as goal
 

@@ -1,7 +1,6 @@
 use Rattle.std.proofs.Common.{sym, ◌∙◌, arith}
-use Rattle.assembler_names.proofs.Digits.{last_at}
+use Rattle.assembler_names.proofs.Digits.{last_at, numeral_steps}
 use Rattle.assembler_names.proofs.numerals.numeral.Goals as goal
-use Rattle.assembler_names.proofs.Digits.{numeral_steps}
 
 pub returns : goal.returns
 returns c =

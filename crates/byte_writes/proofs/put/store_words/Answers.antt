@@ -1,9 +1,9 @@
 use Rattle.std.proofs.Common.{◌<◌, ◌^◌, ℕ, ap, subst, ◌∙◌, arith}
 use Rattle.address_map.specs.Bytes.{Bytes, with_bytes_at}
 use Rattle.command_shell.specs.Session.{script_state}
-use Rattle.debugger.specs.swi_dispatch.specs.Value.{MachineValue}
+use Rattle.command_shell.specs.Value.{MachineValue}
 use Rattle.os_heap.specs.Store.{Store, owned_in}
-use Rattle.debugger.specs.swi_dispatch_guest.specs.Parts.{state_of}
+use Rattle.command_shell.specs.Parts.{state_of}
 use Rattle.byte_writes.specs.Put.{IsWordOf}
 use Rattle.byte_writes.proofs.PutLemmas.{free_inside, free_next, puts_end, puts_more}
 use Rattle.byte_writes.proofs.put.store_words.Goals as goal

@@ -5,7 +5,7 @@ use Rattle.byte_writes.specs.Put.{words_fault}
 use Rattle.command_shell.specs.Session.{script_state}
 use Rattle.image_loader.specs.Entries.{Entry}
 use Rattle.os_heap.specs.Store.{owned_in}
-use Rattle.debugger.specs.swi_dispatch_guest.specs.Parts.{state_of}
+use Rattle.command_shell.specs.Parts.{state_of}
 use Rattle.byte_writes.proofs.PutLemmas.{script_put_below}
 use Rattle.byte_writes.proofs.put.store_words.Given as goal
 

@@ -1,6 +1,6 @@
 use Rattle.std.proofs.Common.{◌≡◌, ℕ, List}
 use Rattle.debug_page.specs.DebugPage.{debug_told_in, WritesDebugPage}
-use Rattle.debug_page.specs.debug_session.specs.ExitStatus.{debug_status}
+use Rattle.debug_page.specs.ExitStatus.{debug_status}
 use Rattle.debug_face.proofs.ReadLemmas.{of_read}
 use Rattle.debug_face.proofs.pages.show_script.Goals as goal
 

@@ -1,15 +1,14 @@
 use Rattle.std.proofs.Common.{◌≡◌, ◌++◌, ap, inr, rules, sym, ◌∙◌, Bool, List, ℕ}
 use Rattle.std.specs.Str.Lines.{lines}
 use Rattle.text_lines.specs.Lines.{ReadingPlace}
-use Rattle.debug_entries.specs.script_page.specs.PictureIndex.{link_if_drawn, links_html}
+use Rattle.script_page.specs.PictureIndex.{link_if_drawn, links_html}
 use Rattle.debug_session.specs.ExitStatus.{debug_status}
-use Rattle.debug_session.specs.debug_reports.specs.Reports.{summary_text}
+use Rattle.debug_session.specs.reports.Reports.{summary_text}
 use Rattle.debug_session.specs.Session.{debug_state}
 use Rattle.debug_session.specs.declared.session.DebugSession.{DebugSession}
-use Rattle.debug_entries.specs.script_page.proofs.PageLemmas.{drawn_before, drawn_here}
-use Rattle.debug_entries.specs.script_page.specs.command_shell.specs.declared.error.RunError.TheVariants as error
-use Rattle.debug_page.proofs.PageLemmas.{fewer_lines, line_error, next_is, next_shown, none_next, page_begun_so, page_ends, page_goes_on}
-use Rattle.debug_page.proofs.PageLemmas.{page_starts, picture_is, shown_entry, some_of, starts_so, state_at_end, summary_is}
+use Rattle.script_page.proofs.PageLemmas.{drawn_before, drawn_here}
+use Rattle.command_shell.specs.declared.error.RunError.TheVariants as error
+use Rattle.debug_page.proofs.PageLemmas.{fewer_lines, line_error, next_is, next_shown, none_next, page_begun_so, page_ends, page_goes_on, page_starts, picture_is, shown_entry, some_of, starts_so, state_at_end, summary_is}
 use Rattle.debug_page.specs.Answering.{place_of_answering}
 use Rattle.debug_entries.specs.Shown.{has_drawn}
 use Rattle.debug_page.specs.declared.answering.DebugAnswering.{DebugAnswering}

@@ -1,5 +1,5 @@
 use Rattle.std.proofs.Common.{◌≡◌, ◌++◌, ap, ◌∙◌, [], List, ℕ}
-use Rattle.debug_session.specs.debug_reports.specs.Reports.{summary_text}
+use Rattle.debug_session.specs.reports.Reports.{summary_text}
 use Rattle.debug_page.proofs.page.summary_of.Goals as goal
 
 pub returns-in-Ok : goal.returns-in-Ok

@@ -4,7 +4,7 @@ use Rattle.address_map.specs.Memory.{bytes_of}
 use Rattle.debugger.specs.Modules.{one_text}
 use Rattle.debug_places.specs.Frames.{frame_line, open_frame_numbered, frame_text}
 use Rattle.debug_places.proofs.frames.show_frame.Goals as goal
-use Rattle.debugger.specs.swi_dispatch_guest.specs.Parts.{state_of}
+use Rattle.debugger.specs.Parts.{state_of}
 
 pub returns-in-Some : goal.returns-in-Some
 returns-in-Some g c =

@@ -2,7 +2,7 @@ use Rattle.std.proofs.Common.{◌≡◌, length}
 use Rattle.profile.specs.Output.{AddsAllBut}
 use Rattle.debug_places.specs.Frames.{frame_lines}
 use Rattle.debug_places.proofs.frames.show_open.Given as goal
-use Rattle.debugger.specs.swi_dispatch_guest.specs.Parts.{state_of}
+use Rattle.debugger.specs.Parts.{state_of}
 
 -- what stands written, and the lines of the frames that are left, is all
 abbrev pub invariant-loop-number : goal.invariant-loop-number

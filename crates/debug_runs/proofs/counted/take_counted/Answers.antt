@@ -1,11 +1,11 @@
 -- By the lemmas that are named.
 use Rattle.std.proofs.Common.{◌≡◌, ◌<◌, None, Some, sym, ap, ◌∙◌, arith}
-use Rattle.debugger.specs.swi_dispatch.specs.Value.{MachineValue}
-use Rattle.debugger.specs.swi_dispatch_guest.specs.Parts.{state_of}
+use Rattle.command_shell.specs.Value.{MachineValue}
+use Rattle.swi_dispatch_guest.specs.Parts.{state_of}
 use Rattle.command_shell.specs.Session.{script_state}
 use Rattle.debug_runs.specs.Runs.{end_after, next_step, steps_run}
 use Rattle.debug_tables.specs.WordWatches.{watched_words}
-use Rattle.debug_counts.specs.Counts.{step_counted}
+use Rattle.debug_tables.specs.counts.Counts.{step_counted}
 use Rattle.debug_runs.proofs.PlaceLemmas.{counts_on, counts_rest, counts_stop}
 use Rattle.debug_runs.proofs.RunLemmas.{enough_left, goes_on, runs_out, stops}
 use Rattle.debug_runs.proofs.counted.take_counted.Goals as goal

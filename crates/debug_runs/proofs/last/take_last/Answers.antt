@@ -1,13 +1,13 @@
 -- By the lemmas that are named.
 use Rattle.std.proofs.Common.{◌≡◌, ◌<◌, ◌-◌, ◌^◌, None, Some, sym, ap, ◌∙◌, arith}
-use Rattle.debugger.specs.swi_dispatch.specs.Value.{MachineValue}
-use Rattle.debugger.specs.swi_dispatch_guest.specs.Parts.{state_of}
+use Rattle.command_shell.specs.Value.{MachineValue}
+use Rattle.swi_dispatch_guest.specs.Parts.{state_of}
 use Rattle.command_shell.specs.Session.{script_state}
 use Rattle.debug_runs.specs.LastSteps.{text_of_step}
 use Rattle.debug_runs.specs.Runs.{end_after, next_step, steps_run}
 use Rattle.debug_runs.specs.declared.running.RunGoal.TheVariants.{Nowhere}
 use Rattle.debug_tables.specs.WordWatches.{watched_words}
-use Rattle.debug_counts.specs.Counts.{step_counted}
+use Rattle.debug_tables.specs.counts.Counts.{step_counted}
 use Rattle.view_items.specs.TextSink.{sink_text_of}
 use Rattle.debug_runs.proofs.LastLemmas.{fewer_before, last_on, last_rest, last_stop, untold_goes_on, untold_runs_out, untold_stops}
 use Rattle.debug_runs.proofs.PlaceLemmas.{counts_on, counts_rest, counts_stop}

@@ -1,7 +1,7 @@
 -- By the lemmas that are named.
 use Rattle.std.proofs.Common.{◌≡◌, Some, None, length, sym, ap, ◌∙◌}
-use Rattle.debugger.specs.swi_dispatch.specs.Value.{MachineValue}
-use Rattle.debugger.specs.swi_dispatch_guest.specs.Parts.{state_of}
+use Rattle.command_shell.specs.Value.{MachineValue}
+use Rattle.swi_dispatch_guest.specs.Parts.{state_of}
 use Rattle.command_shell.specs.Calls.{first_step, stop_before_step_by}
 use Rattle.command_shell.specs.Session.{script_state}
 use Rattle.command_shell.proofs.CallLemmas.{can_step}
@@ -12,7 +12,7 @@ use Rattle.debug_runs.specs.Runs.{call_run}
 use Rattle.debug_runs.specs.declared.endings.EndKind.TheVariants as kind
 use Rattle.debug_runs.specs.declared.running.RunEnd.TheVariants as end
 use Rattle.debug_runs.specs.declared.running.RunGoal.TheVariants as goal_of
-use Rattle.debug_counts.specs.Counts.{steps_counted}
+use Rattle.debug_tables.specs.counts.Counts.{steps_counted}
 use Rattle.debug_runs.specs.Places.{places_of_call}
 use Rattle.debug_runs.proofs.PlaceLemmas.{counts_awake, counts_refused}
 use Rattle.debug_runs.proofs.LineLemmas.{at_once, call_ran, goes, has_same, refused, run_tells}

@@ -1,8 +1,8 @@
 -- By the lemmas that are named.
 use Rattle.std.proofs.Common.{◌≡◌, Some, None, length, sym, ap, subst, ◌∙◌, arith}
 use Rattle.std.specs.Prelude.{OnOk}
-use Rattle.debugger.specs.swi_dispatch.specs.Value.{MachineValue}
-use Rattle.debugger.specs.swi_dispatch_guest.specs.Parts.{state_of}
+use Rattle.command_shell.specs.Value.{MachineValue}
+use Rattle.swi_dispatch_guest.specs.Parts.{state_of}
 use Rattle.command_shell.specs.Calls.{stop_before_step_by}
 use Rattle.command_shell.specs.Session.{script_state}
 use Rattle.command_shell.specs.State.{ScriptState}
@@ -15,7 +15,7 @@ use Rattle.debug_runs.specs.Told.{HasTold}
 use Rattle.debug_runs.specs.declared.endings.EndKind.TheVariants as kind
 use Rattle.debug_runs.specs.declared.running.RunEnd.TheVariants as end
 use Rattle.debug_runs.specs.declared.running.RunGoal.TheVariants as goal_of
-use Rattle.debug_counts.specs.Counts.{steps_counted}
+use Rattle.debug_tables.specs.counts.Counts.{steps_counted}
 use Rattle.debug_runs.specs.Places.{places_if_awake, places_of_line, places_of_run}
 use Rattle.debug_runs.proofs.PlaceLemmas.{counts_awake, counts_refused, counts_same, gosub_places}
 use Rattle.debug_runs.proofs.LineLemmas.{at_once, goes, gosub_is, gosub_ran, has_same, refused, run_tells}

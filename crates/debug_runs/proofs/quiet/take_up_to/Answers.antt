@@ -1,6 +1,6 @@
 -- By the lemmas that are named.
 use Rattle.std.proofs.Common.{◌≡◌, ◌++◌, ◌∷◌, ℕ, [], List, true, false, sym, ap, arith, ◌∙◌}
-use Rattle.debugger.specs.swi_dispatch_guest.specs.Run.{is_among}
+use Rattle.swi_dispatch_guest.specs.Run.{is_among}
 use Rattle.command_shell.specs.Session.{script_state}
 use Rattle.command_shell.specs.State.{ScriptState}
 use Rattle.command_shell.specs.Stepping.{script_with_break}

@@ -1,7 +1,7 @@
 use Rattle.std.proofs.Common.{◌≡◌, ap, ◌∙◌}
 use Rattle.arm_core.specs.State.{State, register_of}
-use Rattle.debugger.specs.swi_dispatch.specs.Value.{MachineValue}
-use Rattle.debugger.specs.swi_dispatch_guest.specs.Parts.{state_of}
+use Rattle.command_shell.specs.Value.{MachineValue}
+use Rattle.swi_dispatch_guest.specs.Parts.{state_of}
 use Rattle.command_shell.specs.Session.{script_state}
 use Rattle.debug_runs.proofs.routines.caller_of.Goals as goal
 

@@ -2,9 +2,9 @@
 use Rattle.std.proofs.Common.{Option, sym, ap, ◌∙◌}
 use Rattle.std.specs.Option.{option_map}
 use Rattle.debug_labels.specs.Standing.{first_of}
-use Rattle.debugger.specs.swi_dispatch.specs.Value.{MachineValue}
-use Rattle.debugger.specs.swi_dispatch_guest.specs.MachineState.{stop_of}
-use Rattle.debugger.specs.swi_dispatch_guest.specs.Parts.{state_of}
+use Rattle.command_shell.specs.Value.{MachineValue}
+use Rattle.swi_dispatch_guest.specs.MachineState.{stop_of}
+use Rattle.swi_dispatch_guest.specs.Parts.{state_of}
 use Rattle.command_shell.specs.Session.{script_state}
 use Rattle.debug_runs.specs.Runs.{end_after, is_reached, watched_end}
 use Rattle.debug_tables.specs.WordWatches.{change_of_word}

@@ -1,7 +1,7 @@
 use Rattle.std.proofs.Common.{sym, ◌∙◌}
-use Rattle.debugger.specs.swi_dispatch.specs.os_heap.specs.Store.{owned_in}
-use Rattle.debugger.specs.swi_dispatch_guest.specs.Parts.{state_of}
-use Rattle.debugger.specs.swi_dispatch_guest.specs.Step.{result_of_instruction}
+use Rattle.os_heap.specs.Store.{owned_in}
+use Rattle.command_shell.specs.Parts.{state_of}
+use Rattle.command_shell.specs.Step.{result_of_instruction}
 use Rattle.debug_tables.specs.Stubs.{swi_next, swi_in_turn}
 use Rattle.debug_tables.proofs.AheadLemmas.{awake, halted, swi_of_step}
 use Rattle.debug_tables.proofs.ahead.swi_ahead.Goals as goal

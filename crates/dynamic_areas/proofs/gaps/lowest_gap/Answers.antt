@@ -1,9 +1,8 @@
 use Rattle.profile.specs.MemoryMap.{area_window_start}
-use Rattle.std.proofs.Common.{◌≡◌, ◌+◌, ◌-◌, ◌*◌, true, sym, ◌∙◌, arith}
+use Rattle.std.proofs.Common.{◌≡◌, ◌+◌, ◌-◌, ◌*◌, true, sym, ◌∙◌, arith, rules}
 use Rattle.dynamic_areas.specs.Rooms.{meets_area}
 use Rattle.dynamic_areas.proofs.Tables.{gap_passed}
 use Rattle.dynamic_areas.proofs.gaps.lowest_gap.Goals as goal
-use Rattle.std.proofs.Common.{rules}
 use Rattle.dynamic_areas.specs.Creating.{lowest_gap}
 
 pub loop-page-preserved : goal.loop-page-preserved

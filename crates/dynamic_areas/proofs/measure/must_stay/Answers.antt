@@ -1,4 +1,4 @@
-use Rattle.std.proofs.Common.{Bool, true, false, ◌≡◌, ◌∙◌, ◌||◌, ap}
+use Rattle.std.proofs.Common.{Bool, true, false, ◌≡◌, ◌∙◌, ◌||◌, ap, rules}
 use Rattle.std.proofs.lemmas.Bool.{ne_eqb}
 use Rattle.address_map.specs.Memory.{anchor_of}
 use Rattle.address_map.specs.Records.{anchor_among}
@@ -7,7 +7,6 @@ use Rattle.os_heap.specs.Store.{store_of}
 use Rattle.os_heap.proofs.RangeTests.{meets_recorded}
 use Rattle.dynamic_areas.specs.Changing.{must_stay}
 use Rattle.dynamic_areas.proofs.measure.must_stay.Goals as goal
-use Rattle.std.proofs.Common.{rules}
 
 pub returns-then-meets_record : goal.returns-then-meets_record
 unfolding must_stay

@@ -1,9 +1,9 @@
 use Rattle.std.proofs.Common.{ℕ, List, ap, subst, ◌∙◌}
 use Rattle.std.specs.Io.KnownBytes.{Appends}
 use Rattle.image_loader.specs.Entries.{Entry}
-use Rattle.gdb_server.specs.gdb_session.specs.Session.{gdb_state}
-use Rattle.gdb_server.specs.gdb_session.specs.declared.session.GdbSession.{GdbSession}
-use Rattle.gdb_server.specs.gdb_session.specs.debug_session.specs.declared.session.DebugSetting.{DebugSetting}
+use Rattle.gdb_server.specs.session.Session.{gdb_state}
+use Rattle.gdb_server.specs.declared.session.session.GdbSession.{GdbSession}
+use Rattle.gdb_server.specs.DebugSetting.{DebugSetting}
 use Rattle.gdb_server.specs.Server.{server_state}
 use Rattle.gdb_face.specs.Serving.{server_before_bytes, setting_wanted}
 use Rattle.gdb_face.proofs.ServeLemmas.{buffer_begins, files_from_none, serves_gdb, session_begun, start_text}

@@ -1,8 +1,8 @@
 use Rattle.std.proofs.Common.{◌≡◌, true, inr, refl, sym, ap, ◌∙◌}
 use Rattle.std.proofs.lemmas.Bool.{both_ways}
 use Rattle.command_shell.proofs.ImageLemmas.{at_err}
-use Rattle.gdb_server.specs.gdb_session.specs.Session.{gdb_state}
-use Rattle.gdb_server.specs.gdb_session.specs.declared.session.GdbSession.{GdbSession}
+use Rattle.gdb_server.specs.session.Session.{gdb_state}
+use Rattle.gdb_server.specs.declared.session.session.GdbSession.{GdbSession}
 use Rattle.gdb_server.specs.Server.{server_state}
 use Rattle.gdb_face.proofs.StreamLemmas.{all_answered, answers_go_on, answers_none, flag_kept, front_goes_on, front_of_answers, front_where_reading_fails}
 use Rattle.gdb_face.proofs.serve.serve.Goals as goal

@@ -1,9 +1,9 @@
 use Rattle.std.proofs.Common.{◌≡◌, ◌≤◌, ◌<◌, ◌+◌, ◌∙◌, None, length, refl, sym, arith}
-use Rattle.swi_dispatch.specs.swi_dispatch_guest.proofs.RunLoop.{halt-none}
+use Rattle.swi_dispatch.proofs.RunLoop.{halt-none}
 use Rattle.law_heap_runs.proofs.Ends.{fresh_after, fresh_before, ends_full, ends_halted, ends_whole, goes_on, last_of, under_first, under_last}
 use Rattle.law_heap_runs.specs.Moves.{written_all}
 use Rattle.law_heap_runs.proofs.making.make_moves.Goals as goal
-use Rattle.swi_dispatch.specs.swi_dispatch_guest.specs.Parts.{state_of}
+use Rattle.swi_dispatch.specs.Parts.{state_of}
 
 pub loop-count-init : goal.loop-count-init
 loop-count-init g c =

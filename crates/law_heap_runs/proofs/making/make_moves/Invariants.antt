@@ -4,7 +4,7 @@ use Rattle.law_heap_runs.specs.Making.{StateGoesOn}
 use Rattle.law_heap_runs.specs.Moves.{written_all}
 use Rattle.law_heap_runs.proofs.Fronts.{IsUnder}
 use Rattle.law_heap_runs.proofs.making.make_moves.Given as goal
-use Rattle.swi_dispatch.specs.swi_dispatch_guest.specs.Parts.{state_of}
+use Rattle.swi_dispatch.specs.Parts.{state_of}
 
 -- so many moves are done, and the machine goes on
 abbrev pub invariant-loop-count : goal.invariant-loop-count

@@ -1,9 +1,9 @@
 use Rattle.std.proofs.Common.{◌≡◌, true, false, Err, Ok, Some, refl, sym, subst, arith, ◌∙◌}
-use Rattle.profile.specs.declared.error.ErrorNumber.TheVariants.{HeapBadRegion}
+use Rattle.os_heap_words.specs.ErrorNumber.TheVariants.{HeapBadRegion}
 use Rattle.address_map.specs.Memory.{bytes_of}
 use Rattle.os_heap.specs.Calls.{store_after_change, end_changed, ending, has_own_size}
-use Rattle.os_heap_lists.specs.Heap.{HeapList}
-use Rattle.os_heap_lists.specs.Lists.{changed_by}
+use Rattle.os_heap_words.specs.lists.Heap.{HeapList}
+use Rattle.os_heap_words.specs.lists.Lists.{changed_by}
 use Rattle.os_heap.specs.Probes.{change_probes_of}
 use Rattle.os_heap.specs.Store.{store_of, heap_in, find_heap}
 use Rattle.os_heap.proofs.Refusals.{area_probes, changed_area, changed_none, changed_own, end_done, end_odd, end_wide, found_probes, none_probes, odd_probes, whole_probes, wide_probes}

@@ -1,7 +1,7 @@
 use Rattle.std.proofs.Common.{◌∙◌, ap, ◌≡◌, ◌+◌, is_some, refl, arith}
 use Rattle.address_map.specs.Memory.{bytes_of}
 use Rattle.address_map.proofs.Stores.{layout-mapping}
-use Rattle.os_heap_lists.specs.Heap.{HeapList}
+use Rattle.os_heap_words.specs.lists.Heap.{HeapList}
 use Rattle.os_heap_words.specs.Outcomes.{IsHeapAt}
 use Rattle.os_heap.specs.Store.{store_of, heap_in}
 use Rattle.os_heap.proofs.RangeTests.{CanHold, can_hold, range_end}

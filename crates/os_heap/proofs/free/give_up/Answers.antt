@@ -1,6 +1,6 @@
 use Rattle.std.proofs.Common.{◌≡◌, ◌+◌, ◌∙◌, Some, ap, sym}
 use Rattle.os_heap_words.specs.Outcomes.{items_at}
-use Rattle.os_heap_lists.specs.Lists.{live_total}
+use Rattle.os_heap_words.specs.lists.Lists.{live_total}
 use Rattle.os_heap.proofs.Calls.{free_given}
 use Rattle.os_heap.proofs.ForgetLemmas.{at_block_still}
 use Rattle.os_heap.proofs.Resizing.{block_here, has_block, is_there, there_heap}

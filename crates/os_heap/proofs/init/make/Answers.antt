@@ -8,7 +8,7 @@ use Rattle.address_map.specs.declared.class.Class.TheVariants as class
 use Rattle.address_map.proofs.Equations.{same_bytes}
 use Rattle.address_map.proofs.Marking.{heap_is_no_word}
 use Rattle.address_map.proofs.Stores.{layout-mapping}
-use Rattle.os_heap_lists.specs.Heap.{with_heap}
+use Rattle.os_heap_words.specs.lists.Heap.{with_heap}
 use Rattle.os_heap.specs.Store.{store_of, IsSound}
 use Rattle.os_heap.specs.Calls.{store_with_new_heap}
 use Rattle.os_heap.proofs.FlexWords.{flex_begun}

@@ -2,7 +2,7 @@ use Rattle.std.proofs.Common.{Bool, List, Option, ℕ, ◌≡◌, ◌∷◌, ◌
 use Rattle.std.specs.List.{list_any}
 use Rattle.address_map.specs.declared.region.Kind.TheVariants as kind
 use Rattle.address_map.specs.declared.region.Region.{Region}
-use Rattle.os_heap_lists.specs.Heap.{HeapList}
+use Rattle.os_heap_words.specs.lists.Heap.{HeapList}
 use Rattle.os_heap.specs.Bars.{bars_record}
 use Rattle.os_heap.specs.Nesting.{innermost_heap, later_heap}
 use Rattle.os_heap.specs.Store.{heap_in, heaps_in}

@@ -1,6 +1,6 @@
 use Rattle.std.proofs.Common.{true, false, ◌≡◌, ◌+◌, Some, refl, sym, ◌∙◌, ap, arith}
 use Rattle.os_heap_words.specs.Outcomes.{items_at, end_at}
-use Rattle.os_heap_lists.specs.Lists.{round_up_8, changed_by, live_total}
+use Rattle.os_heap_words.specs.lists.Lists.{round_up_8, changed_by, live_total}
 use Rattle.os_heap.proofs.Resizing.{there_heap, block_here, resize_refused, resize_freed, resize_refitted, larger_where_none, resize_moved, move_few, anchor_told, cut_told, below_all, held_freed, held_cut, held_moved}
 use Rattle.address_map.specs.Memory.{regions}
 use Rattle.os_heap.proofs.Sized.{unheld}

@@ -1,7 +1,7 @@
 use Rattle.std.proofs.Common.{◌≡◌, ◌+◌, ◌∙◌, Some, ap, sym}
 use Rattle.os_heap_words.specs.Outcomes.{items_at}
-use Rattle.os_heap_lists.proofs.Reading.{total_facts}
-use Rattle.os_heap_lists.specs.Lists.{live_total}
+use Rattle.os_heap_words.proofs.ListsLemmas.Reading.{total_facts}
+use Rattle.os_heap_words.specs.lists.Lists.{live_total}
 use Rattle.os_heap.proofs.ForgetLemmas.{at_block_still}
 use Rattle.os_heap.proofs.Resizing.{block_here, has_block, in_place_told, there_heap}
 use Rattle.os_heap.proofs.resize.resize_in_place.Goals as goal

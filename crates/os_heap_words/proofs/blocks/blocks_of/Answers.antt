@@ -4,7 +4,7 @@ use Rattle.address_map.specs.Memory.{bytes_of}
 use Rattle.os_heap_words.specs.Outcomes.{items_at}
 use Rattle.os_heap_words.proofs.Tally.{heap_below, first_link_below}
 use Rattle.os_heap_words.proofs.Rest.{rest_of}
-use Rattle.os_heap_lists.proofs.Rest.{rest_items}
+use Rattle.os_heap_words.proofs.ListsLemmas.Rest.{rest_items}
 use Rattle.os_heap_words.proofs.blocks.blocks_of.Goals as goal
 
 pub overflow_add-result : goal.overflow_add-result

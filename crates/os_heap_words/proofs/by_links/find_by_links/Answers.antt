@@ -2,7 +2,7 @@ use Rattle.std.proofs.Common.{◌∙◌, arith, inl, inr}
 use Rattle.os_heap_words.specs.Outcomes.{end_at}
 use Rattle.os_heap_words.proofs.Replace.{heap_below}
 use Rattle.os_heap_words.proofs.Searching.{first_link, first_below}
-use Rattle.os_heap_lists.proofs.LinkWalk.{IsNotBelow, linked_begun, linked_ends}
+use Rattle.os_heap_words.proofs.ListsLemmas.LinkWalk.{IsNotBelow, linked_begun, linked_ends}
 use Rattle.os_heap_words.proofs.by_links.find_by_links.Goals as goal
 use Rattle.os_heap_words.proofs.by_links.find_by_links.Goals.{then-loop-cursor-test+else-cursor-block, else-loop-cursor-test}
 

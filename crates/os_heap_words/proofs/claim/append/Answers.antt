@@ -5,7 +5,7 @@ use Rattle.address_map.specs.Memory.{class_of}
 use Rattle.address_map.specs.declared.item.Item.TheVariants.{Live}
 use Rattle.os_heap_words.proofs.Marking.{can_stand, still_written, remarks_after}
 use Rattle.os_heap_words.proofs.Replace.{heap_below}
-use Rattle.os_heap_lists.proofs.Spelling.{size_of-multiple}
+use Rattle.os_heap_words.proofs.ListsLemmas.Spelling.{size_of-multiple}
 use Rattle.os_heap_words.proofs.Claiming.{claims_base}
 use Rattle.os_heap_words.proofs.claim.append.Goals as goal
 

@@ -1,7 +1,7 @@
 use Rattle.std.proofs.Common.{◌≡◌, ◌+◌, ◌∙◌, arith}
 use Rattle.os_heap_words.specs.Outcomes.{end_at}
 use Rattle.os_heap_words.proofs.Replace.{heap_below, heap_mapped}
-use Rattle.os_heap_lists.proofs.Search.{search_begun, search_passed, search_fits}
+use Rattle.os_heap_words.proofs.ListsLemmas.Search.{search_begun, search_passed, search_fits}
 use Rattle.os_heap_words.proofs.Searching.{first_link, first_below, met_facts}
 use Rattle.os_heap_words.proofs.claim.find_fit.Goals as goal
 

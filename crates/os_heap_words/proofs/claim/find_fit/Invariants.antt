@@ -1,6 +1,6 @@
 use Rattle.std.proofs.Common.{◌-◌, ◌^◌, ◌==◌, cond}
 use Rattle.os_heap_words.specs.Outcomes.{items_at}
-use Rattle.os_heap_lists.specs.Walks.{IsSearched}
+use Rattle.os_heap_words.specs.lists.Walks.{IsSearched}
 use Rattle.os_heap_words.proofs.claim.find_fit.Given as goal
 
 abbrev pub invariant-loop-at : goal.invariant-loop-at

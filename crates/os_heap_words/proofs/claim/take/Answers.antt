@@ -5,8 +5,8 @@ use Rattle.address_map.specs.Memory.{class_of}
 use Rattle.os_heap_words.specs.Outcomes.{end_at}
 use Rattle.os_heap_words.proofs.Replace.{heap_mapped}
 use Rattle.os_heap_words.proofs.Searching.{fit_facts}
-use Rattle.os_heap_lists.proofs.Reading.{total_facts}
-use Rattle.os_heap_lists.proofs.Spelling.{total_of-numbers}
+use Rattle.os_heap_words.proofs.ListsLemmas.Reading.{total_facts}
+use Rattle.os_heap_words.proofs.ListsLemmas.Spelling.{total_of-numbers}
 use Rattle.os_heap_words.proofs.Marking.{can_stand, still_written, remarks_after}
 use Rattle.os_heap_words.proofs.Writing.{still_mapped}
 use Rattle.os_heap_words.proofs.Claiming.{claims_whole, claims_part}

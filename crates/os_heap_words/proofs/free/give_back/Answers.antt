@@ -3,8 +3,8 @@ use Rattle.address_map.specs.Bytes.{word_at}
 use Rattle.address_map.specs.Memory.{byte_at, class_of}
 use Rattle.os_heap_words.specs.Outcomes.{end_at}
 use Rattle.address_map.specs.declared.item.Item.TheVariants.{Free, Live}
-use Rattle.os_heap_lists.specs.Lists.{left_free}
-use Rattle.os_heap_lists.proofs.Spelling.{total_of-numbers}
+use Rattle.os_heap_words.specs.lists.Lists.{left_free}
+use Rattle.os_heap_words.proofs.ListsLemmas.Spelling.{total_of-numbers}
 use Rattle.os_heap_words.proofs.Marking.{can_stand, still_written, still_freed, remarks_after}
 use Rattle.os_heap_words.proofs.Replace.{heap_below, heap_mapped}
 use Rattle.os_heap_words.proofs.Freeing.{block_facts, next_free_facts, gap_stands, releases_sunk, releases_joined, releases_alone}

@@ -4,7 +4,7 @@ use Rattle.address_map.specs.Items.{link_target}
 use Rattle.address_map.specs.Memory.{byte_at}
 use Rattle.os_heap_words.specs.Outcomes.{items_at}
 use Rattle.os_heap_words.proofs.Tally.{heap_below, first_link_below, tally_start}
-use Rattle.os_heap_lists.proofs.Tally.{tally_end}
+use Rattle.os_heap_words.proofs.ListsLemmas.Tally.{tally_end}
 use Rattle.os_heap_words.proofs.free_items.free_room.Goals as goal
 
 pub overflow_add-heap : goal.overflow_add-heap

@@ -1,9 +1,9 @@
 use Rattle.std.proofs.Common.{◌+◌, ◌-◌}
 use Rattle.address_map.specs.Bytes.{word_at}
 use Rattle.address_map.specs.Memory.{byte_at}
-use Rattle.os_heap_lists.specs.Counts.{free_count}
+use Rattle.os_heap_words.specs.lists.Counts.{free_count}
 use Rattle.os_heap_words.specs.Outcomes.{items_at}
-use Rattle.os_heap_lists.specs.Walks.{IsTallied}
+use Rattle.os_heap_words.specs.lists.Walks.{IsTallied}
 use Rattle.os_heap_words.proofs.free_items.free_room.Given as goal
 
 abbrev pub invariant-loop-tally : goal.invariant-loop-tally

@@ -3,7 +3,7 @@ use Rattle.address_map.specs.Bytes.{word_at}
 use Rattle.address_map.specs.Memory.{byte_at}
 use Rattle.os_heap_words.specs.Outcomes.{items_at}
 use Rattle.os_heap_words.proofs.Tally.{heap_below}
-use Rattle.os_heap_lists.proofs.Tally.{IsAtItem, tally_next, free_count-bound, free_total-bound, larger_max}
+use Rattle.os_heap_words.proofs.ListsLemmas.Tally.{IsAtItem, tally_next, free_count-bound, free_total-bound, larger_max}
 use Rattle.os_heap_words.proofs.free_items.pass.Goals as goal
 
 pub overflow_add-tally : goal.overflow_add-tally

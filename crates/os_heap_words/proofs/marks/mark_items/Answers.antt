@@ -4,9 +4,9 @@ use Rattle.address_map.specs.Items.{size_of, total_of}
 use Rattle.address_map.specs.Memory.{class_of}
 use Rattle.address_map.specs.declared.item.Item.{Item}
 use Rattle.address_map.specs.declared.item.Item.TheVariants.{Live}
-use Rattle.os_heap_lists.proofs.Marks.{one_more}
-use Rattle.os_heap_lists.proofs.Spelling.{size_of-append}
-use Rattle.os_heap_lists.specs.Marks.{head_class}
+use Rattle.os_heap_words.proofs.ListsLemmas.Marks.{one_more}
+use Rattle.os_heap_words.proofs.ListsLemmas.Spelling.{size_of-append}
+use Rattle.os_heap_words.specs.lists.Marks.{head_class}
 use Rattle.os_heap_words.proofs.Marking.{next_item}
 use Rattle.os_heap_words.proofs.marks.mark_items.Goals as goal
 

@@ -1,7 +1,7 @@
 use Rattle.std.proofs.Common.{ℕ, ◌≡◌, ◌+◌, take}
 use Rattle.address_map.specs.Items.{size_of}
 use Rattle.address_map.specs.Memory.{byte_at, layout, class_of}
-use Rattle.os_heap_lists.specs.Marks.{head_class, with_items_marked}
+use Rattle.os_heap_words.specs.lists.Marks.{head_class, with_items_marked}
 use Rattle.os_heap_words.proofs.marks.mark_items.Given as goal
 
 abbrev pub invariant-loop-item : goal.invariant-loop-item

@@ -2,9 +2,9 @@ use Rattle.std.proofs.Common.{[], ◌∷◌, ◌-◌, ◌≡◌, ◌≢◌, ◌+
 use Rattle.address_map.specs.Bytes.{word_at}
 use Rattle.address_map.specs.Memory.{byte_at, class_of}
 use Rattle.os_heap_words.specs.Outcomes.{end_at}
-use Rattle.os_heap_lists.proofs.Reading.{total_facts}
+use Rattle.os_heap_words.proofs.ListsLemmas.Reading.{total_facts}
 use Rattle.address_map.specs.declared.item.Item.TheVariants.{Free, Live}
-use Rattle.os_heap_lists.proofs.Spelling.{total_of-numbers}
+use Rattle.os_heap_words.proofs.ListsLemmas.Spelling.{total_of-numbers}
 use Rattle.os_heap_words.proofs.Marking.{can_stand, still_divided, remarks_after}
 use Rattle.os_heap_words.proofs.Freeing.{next_free_facts}
 use Rattle.os_heap_words.proofs.Refitting.{place_facts}

@@ -1,10 +1,10 @@
 use Rattle.std.proofs.Common.{◌+◌, arith, inl}
 use Rattle.os_heap_words.specs.Outcomes.{end_at}
-use Rattle.os_heap_lists.specs.Walks.{last_link}
-use Rattle.os_heap_lists.proofs.Reading.{total_facts}
+use Rattle.os_heap_words.specs.lists.Walks.{last_link}
+use Rattle.os_heap_words.proofs.ListsLemmas.Reading.{total_facts}
 use Rattle.os_heap_words.proofs.Replace.{heap_mapped}
 use Rattle.os_heap_words.proofs.Refitting.{place_facts}
-use Rattle.os_heap_lists.proofs.Resizes.{divided_words}
+use Rattle.os_heap_words.proofs.ListsLemmas.Resizes.{divided_words}
 use Rattle.os_heap_words.proofs.refit.divide.Goals as goal
 
 pub last_link-from-requires : goal.last_link-from-requires

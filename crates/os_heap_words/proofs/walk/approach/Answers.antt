@@ -2,7 +2,7 @@ use Rattle.std.proofs.Common.{◌∙◌, arith}
 use Rattle.os_heap_words.specs.Outcomes.{end_at}
 use Rattle.os_heap_words.proofs.Replace.{heap_below}
 use Rattle.os_heap_words.proofs.Searching.{first_link, first_below}
-use Rattle.os_heap_lists.proofs.ItemWalk.{walk_begun}
+use Rattle.os_heap_words.proofs.ListsLemmas.ItemWalk.{walk_begun}
 use Rattle.os_heap_words.proofs.walk.approach.Goals as goal
 
 pub overflow_add-heap : goal.overflow_add-heap

@@ -1,6 +1,6 @@
 use Rattle.std.proofs.Common.{◌-◌, ◌^◌}
 use Rattle.os_heap_words.specs.Outcomes.{items_at}
-use Rattle.os_heap_lists.specs.Walks.{IsWalked}
+use Rattle.os_heap_words.specs.lists.Walks.{IsWalked}
 use Rattle.os_heap_words.proofs.walk.approach.Given as goal
 
 abbrev pub invariant-loop-cursor : goal.invariant-loop-cursor

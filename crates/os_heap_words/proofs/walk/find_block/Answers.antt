@@ -2,7 +2,7 @@ use Rattle.std.proofs.Common.{arith}
 use Rattle.os_heap_words.specs.Outcomes.{end_at}
 use Rattle.os_heap_words.proofs.Replace.{heap_below}
 use Rattle.os_heap_words.proofs.Walking.{walk_free, walk_live, begun_few}
-use Rattle.os_heap_lists.proofs.ItemWalk.{near, walk_past}
+use Rattle.os_heap_words.proofs.ListsLemmas.ItemWalk.{near, walk_past}
 use Rattle.os_heap_words.proofs.Freeing.{walk_over, free_ends, block_found}
 use Rattle.os_heap_words.proofs.walk.find_block.Goals as goal
 

@@ -1,6 +1,6 @@
 use Rattle.std.proofs.Common.{◌-◌, ◌≤◌}
 use Rattle.os_heap_words.specs.Outcomes.{items_at}
-use Rattle.os_heap_lists.specs.Walks.{IsWalked}
+use Rattle.os_heap_words.specs.lists.Walks.{IsWalked}
 use Rattle.os_heap_words.proofs.walk.pass_lives.Given as goal
 
 abbrev pub invariant-loop-at : goal.invariant-loop-at

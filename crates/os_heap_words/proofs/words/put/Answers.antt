@@ -1,4 +1,4 @@
-use Rattle.os_heap_lists.proofs.Words.{written}
+use Rattle.os_heap_words.proofs.ListsLemmas.Words.{written}
 use Rattle.os_heap_words.proofs.words.put.Goals as goal
 
 pub returns-clause-word : goal.returns-clause-word

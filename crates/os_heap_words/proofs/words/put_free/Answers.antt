@@ -1,5 +1,5 @@
 use Rattle.std.proofs.Common.{◌∙◌}
-use Rattle.os_heap_lists.proofs.Words.{freed_words}
+use Rattle.os_heap_words.proofs.ListsLemmas.Words.{freed_words}
 use Rattle.os_heap_words.proofs.Writing.{still_mapped}
 use Rattle.os_heap_words.proofs.words.put_free.Goals as goal
 

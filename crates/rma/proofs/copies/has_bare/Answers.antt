@@ -1,5 +1,5 @@
 use Rattle.std.proofs.Common.{sym, ◌∙◌, arith}
-use Rattle.flex_frame.specs.dynamic_areas.specs.Ground.{Estate, estate_of}
+use Rattle.dynamic_areas.specs.Ground.{Estate, estate_of}
 use Rattle.rma.proofs.CopyLemmas.{IsPart, none_met, told_inside, told_other}
 use Rattle.rma.proofs.copies.has_bare.Goals as goal
 

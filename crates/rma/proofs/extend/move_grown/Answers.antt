@@ -2,14 +2,14 @@ use Rattle.profile.specs.MemoryMap.{module_area_start}
 use Rattle.std.proofs.Common.{if◌then◌else◌, ◌≡◌, Ok, refl, sym, ap, ◌∙◌}
 use Rattle.std.specs.Prelude.{is_ok}
 use Rattle.profile.specs.declared.error.ErrorNumber.TheVariants.{RmaBlockHoldsHeap, RmaNoRoom}
-use Rattle.os_heap.specs.Calls.{block_sized, store_after_resize}
-use Rattle.os_heap.specs.Store.{store_of}
-use Rattle.os_heap.proofs.LostRecords.{loses_none}
-use Rattle.os_heap.proofs.Order.{order_lost}
-use Rattle.flex_frame.specs.dynamic_areas.specs.Ground.{Estate, estate_of}
-use Rattle.flex_frame.specs.dynamic_areas.proofs.HeapCalls.{areas_resized}
-use Rattle.flex_frame.proofs.Heaps.{resized_keeps}
-use Rattle.flex_frame.proofs.Keeping.{keeps_same, keeps_then}
+use Rattle.dynamic_areas.specs.Calls.{block_sized, store_after_resize}
+use Rattle.dynamic_areas.specs.Store.{store_of}
+use Rattle.dynamic_areas.proofs.LostRecords.{loses_none}
+use Rattle.dynamic_areas.proofs.Order.{order_lost}
+use Rattle.dynamic_areas.specs.Ground.{Estate, estate_of}
+use Rattle.dynamic_areas.proofs.HeapCalls.{areas_resized}
+use Rattle.rma.proofs.FlexFrameLemmas.Heaps.{resized_keeps}
+use Rattle.rma.proofs.FlexFrameLemmas.Keeping.{keeps_same, keeps_then}
 use Rattle.rma.specs.Calls.{end_if_moved, grown_to, rma_base}
 use Rattle.rma.proofs.Estates.{is_done}
 use Rattle.rma.proofs.ExtendLemmas.{move_done, why_refused}

@@ -1,5 +1,5 @@
 use Rattle.std.proofs.Common.{arith}
-use Rattle.flex_frame.specs.dynamic_areas.proofs.RoomLemmas.{held_small}
+use Rattle.dynamic_areas.proofs.RoomLemmas.{held_small}
 use Rattle.rma.proofs.growth.area_size.Goals as goal
 
 pub overflow_mul-result : goal.overflow_mul-result

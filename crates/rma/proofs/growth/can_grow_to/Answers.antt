@@ -1,10 +1,10 @@
 use Rattle.std.proofs.Common.{◌≡◌, ◌<◌, ◌-◌, ◌*◌, not, true, sym, ap, ◌∙◌, arith, inl, inr}
 use Rattle.std.specs.Prelude.{is_ok, is_some}
 use Rattle.std.proofs.lemmas.Bool.{cases_Bool, lt-ltb}
-use Rattle.flex_frame.specs.dynamic_areas.specs.declared.area.Changed.{Changed}
-use Rattle.flex_frame.specs.dynamic_areas.specs.Changing.{is_growth, growth_room}
-use Rattle.flex_frame.specs.dynamic_areas.specs.Creating.{pages_for}
-use Rattle.flex_frame.specs.dynamic_areas.specs.Ground.{Estate, estate_of}
+use Rattle.dynamic_areas.specs.declared.area.Changed.{Changed}
+use Rattle.dynamic_areas.specs.Changing.{is_growth, growth_room}
+use Rattle.dynamic_areas.specs.Creating.{pages_for}
+use Rattle.dynamic_areas.specs.Ground.{Estate, estate_of}
 use Rattle.rma.specs.Calls.{area_pages}
 use Rattle.rma.proofs.GrowthLemmas.{HasArea, area_there, error_none, error_there, far_refused, growth_done, growth_refused, grown_not, measured}
 use Rattle.rma.proofs.growth.can_grow_to.Goals as goal

@@ -1,9 +1,9 @@
 use Rattle.std.proofs.Common.{◌≡◌, ◌<◌, ◌-◌, ◌*◌, true, refl, sym, ap, ◌∙◌, arith}
 use Rattle.address_map.specs.Memory.{free_pages, is_mapped}
-use Rattle.os_heap.specs.Store.{store_of}
-use Rattle.flex_frame.specs.dynamic_areas.specs.Creating.{pages_for}
-use Rattle.flex_frame.specs.dynamic_areas.specs.Ground.{Estate, estate_of}
-use Rattle.flex_frame.proofs.Keeping.{keeps_same}
+use Rattle.dynamic_areas.specs.Store.{store_of}
+use Rattle.dynamic_areas.specs.Creating.{pages_for}
+use Rattle.dynamic_areas.specs.Ground.{Estate, estate_of}
+use Rattle.rma.proofs.FlexFrameLemmas.Keeping.{keeps_same}
 use Rattle.rma.specs.Calls.{area_pages}
 use Rattle.rma.proofs.FlexLemmas.{growth_keeps}
 use Rattle.rma.proofs.GrowthLemmas.{HasArea, area_there, can_grow, growth_done, grown_not, has_more, mapped_more, others_more, refused_where}

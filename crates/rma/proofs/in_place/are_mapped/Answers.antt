@@ -1,6 +1,6 @@
-use Rattle.os_heap.specs.Ranges.{are_bytes_mapped}
-use Rattle.os_heap.specs.Store.{store_of}
-use Rattle.os_heap.proofs.RangeTests.{are_mapped_all, are_mapped_from, same_tests}
+use Rattle.dynamic_areas.specs.Ranges.{are_bytes_mapped}
+use Rattle.dynamic_areas.specs.Store.{store_of}
+use Rattle.dynamic_areas.proofs.RangeTests.{are_mapped_all, are_mapped_from, same_tests}
 use Rattle.address_map.specs.Memory.{is_mapped}
 use Rattle.rma.proofs.in_place.are_mapped.Goals as goal
 

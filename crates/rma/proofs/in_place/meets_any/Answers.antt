@@ -1,7 +1,7 @@
 use Rattle.std.proofs.Common.{◌||◌, sym, ◌∙◌, ap, Bool}
 use Rattle.address_map.specs.Memory.{anchor_of}
 use Rattle.address_map.specs.Records.{anchor_among}
-use Rattle.os_heap.proofs.RangeTests.{meets_recorded}
+use Rattle.dynamic_areas.proofs.RangeTests.{meets_recorded}
 use Rattle.rma.proofs.in_place.meets_any.Goals as goal
 
 pub returns-then-meets_record : goal.returns-then-meets_record

@@ -1,11 +1,11 @@
 use Rattle.std.proofs.Common.{◌-◌, length, sym, ap, subst, arith}
-use Rattle.os_heap.specs.os_heap_lists.specs.Lists.{total_for}
-use Rattle.os_heap.proofs.Frame.{classes_same}
-use Rattle.os_heap.specs.Store.{Store, store_of}
-use Rattle.flex_frame.specs.dynamic_areas.proofs.HeapCalls.{areas_written}
+use Rattle.os_heap_words.specs.lists.Lists.{total_for}
+use Rattle.dynamic_areas.proofs.Frame.{classes_same}
+use Rattle.dynamic_areas.specs.Store.{Store, store_of}
+use Rattle.dynamic_areas.proofs.HeapCalls.{areas_written}
 use Rattle.rma.specs.NewImages.{store_with_image_bytes}
-use Rattle.flex_frame.specs.Keeping.{RangeHasNoAnchor, KeepsFlex}
-use Rattle.flex_frame.proofs.Writes.{unanchored_written}
+use Rattle.rma.specs.flex_frame.Keeping.{RangeHasNoAnchor, KeepsFlex}
+use Rattle.rma.proofs.FlexFrameLemmas.Writes.{unanchored_written}
 use Rattle.address_map.specs.Bytes.{with_bytes}
 use Rattle.rma.proofs.FlexLemmas.{filled_keeps}
 use Rattle.rma.proofs.NewImageLemmas.{IsFilled, is_filled, payload_mapped}

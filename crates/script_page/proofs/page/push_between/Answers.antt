@@ -1,8 +1,7 @@
 use Rattle.std.proofs.Common.{ap, rules, sym, ◌∙◌}
 use Rattle.std.specs.Str.Lines.{lines}
 use Rattle.text_lines.specs.Lines.{ReadingPlace}
-use Rattle.script_page.proofs.PageLemmas.{drawn_before, drawn_here, fewer_lines, link_kept, next_is, none_next}
-use Rattle.script_page.proofs.PageLemmas.{page_ends, page_goes_on, page_starts, page_stops, IsShownOf}
+use Rattle.script_page.proofs.PageLemmas.{drawn_before, drawn_here, fewer_lines, link_kept, next_is, none_next, page_ends, page_goes_on, page_starts, page_stops, IsShownOf}
 use Rattle.script_page.specs.Answering.{state_of_answering, IsNextEntry}
 use Rattle.script_page.specs.TextPage.{has_picture}
 use Rattle.script_page.specs.declared.answering.Answering.{Answering}

@@ -1,7 +1,7 @@
 use Rattle.std.proofs.Common.{Bool}
 use Rattle.flex_machine.proofs.Calls.{has_allocated}
-use Rattle.flex_machine.specs.flex_store.specs.Calls.{flex_after_alloc}
-use Rattle.flex_machine.specs.module_world.specs.os_heap.specs.Store.{store_of}
+use Rattle.flex_store.specs.Calls.{flex_after_alloc}
+use Rattle.dynamic_areas.specs.Store.{store_of}
 use Rattle.swi_dispatch_flex.proofs.Called.{call_left, flex_call, leaves_called}
 use Rattle.swi_dispatch_flex.proofs.calls.alloc_block.Goals as goal
 

@@ -1,6 +1,6 @@
 use Rattle.std.proofs.Common.{ap, ◌∙◌}
 use Rattle.flex_machine.proofs.Calls.{state_is}
-use Rattle.flex_machine.specs.flex_store.specs.Calls.{FlexState, flex_block_size}
+use Rattle.flex_store.specs.Calls.{FlexState, flex_block_size}
 use Rattle.swi_dispatch_flex.proofs.calls.block_size.Goals as goal
 
 pub returns : goal.returns

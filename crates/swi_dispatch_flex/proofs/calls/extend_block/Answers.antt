@@ -1,6 +1,6 @@
 use Rattle.std.proofs.Common.{Bool}
 use Rattle.flex_machine.proofs.Calls.{has_extended}
-use Rattle.flex_machine.specs.flex_store.specs.Calls.{flex_after_extend}
+use Rattle.flex_store.specs.Calls.{flex_after_extend}
 use Rattle.swi_dispatch_flex.proofs.Called.{call_left, flex_call, leaves_called}
 use Rattle.swi_dispatch_flex.proofs.calls.extend_block.Goals as goal
 

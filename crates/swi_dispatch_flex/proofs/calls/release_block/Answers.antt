@@ -1,5 +1,5 @@
 use Rattle.flex_machine.proofs.Calls.{has_released}
-use Rattle.flex_machine.specs.flex_store.specs.Calls.{flex_after_release}
+use Rattle.flex_store.specs.Calls.{flex_after_release}
 use Rattle.swi_dispatch_flex.proofs.Called.{call_left, flex_call, leaves_called}
 use Rattle.swi_dispatch_flex.proofs.calls.release_block.Goals as goal
 

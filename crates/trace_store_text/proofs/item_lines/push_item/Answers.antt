@@ -5,8 +5,7 @@ use Rattle.std.specs.Fmt.{decimal}
 use Rattle.std.specs.Io.KnownBytes.{Appends}
 use Rattle.profile.specs.Digits.{hex_word}
 use Rattle.address_map.specs.Items.{total_of}
-use Rattle.trace_store_text.specs.ItemLines.{verb_and_use}
-use Rattle.trace_store_text.specs.ItemLines.{item_line}
+use Rattle.trace_store_text.specs.ItemLines.{verb_and_use, item_line}
 use Rattle.trace_store_text.proofs.LineLemmas.{seven_parts}
 use Rattle.trace_store_text.proofs.item_lines.push_item.Goals as goal
 

@@ -1,5 +1,5 @@
 use Rattle.address_map.specs.Memory.{bytes_of}
-use Rattle.swi_dispatch.specs.swi_dispatch_guest.specs.Parts.{state_of}
+use Rattle.debugger.specs.Parts.{state_of}
 use Rattle.trace_words.specs.Copies.{kept_in}
 use Rattle.trace_store_text.proofs.LineLemmas.{store_lines_kept}
 use Rattle.trace_store_text.proofs.store_lines.push_changed_words.Goals as goal

@@ -2,7 +2,7 @@ use Rattle.std.proofs.Common.{◌≡◌, ◌++◌, ◌∙◌}
 use Rattle.std.specs.List.{flat_map}
 use Rattle.profile.proofs.OutputLemmas.{Appends-join}
 use Rattle.debugger.specs.Areas.{area_text, areas_text, pool_text}
-use Rattle.debugger.specs.swi_dispatch.specs.swi_dispatch_guest.specs.Parts.{state_of}
+use Rattle.swi_dispatch_guest.specs.Parts.{state_of}
 use Rattle.view_reading.specs.Told.{told_by}
 use Rattle.view_reading.proofs.ToldLemmas.{all_told}
 use Rattle.view_reading.proofs.areas.area_items.Goals as goal

@@ -1,12 +1,12 @@
 use Rattle.std.proofs.Common.{◌≡◌, List, ℕ, Option, IfOk, subst, sym}
 use Rattle.std.specs.Prelude.{option_map}
 use Rattle.address_map.specs.Memory.{bytes_of}
-use Rattle.debugger.specs.swi_dispatch.specs.flex_store.specs.State.{IsFlex}
-use Rattle.debugger.specs.swi_dispatch.specs.flex_store.specs.declared.flex.Flex.{Flex}
+use Rattle.flex_store.specs.State.{IsFlex}
+use Rattle.flex_store.specs.declared.flex.Flex.{Flex}
 use Rattle.debugger.specs.Flex.{flex_text}
 use Rattle.view_items.specs.Items.{picture_items_text}
 use Rattle.view_reading.proofs.flex.flex_items.Goals as goal
-use Rattle.debugger.specs.swi_dispatch.specs.swi_dispatch_guest.specs.Parts.{state_of}
+use Rattle.swi_dispatch_guest.specs.Parts.{state_of}
 
 pub store_items-requires : goal.store_items-requires
 store_items-requires c =

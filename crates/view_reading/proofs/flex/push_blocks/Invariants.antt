@@ -1,8 +1,8 @@
 use Rattle.std.proofs.Common.{length}
 use Rattle.std.specs.List.{flat_map}
 use Rattle.profile.specs.Output.{AddsAllBut}
-use Rattle.debugger.specs.swi_dispatch.specs.flex_store.specs.Listed.{all_listed}
-use Rattle.debugger.specs.swi_dispatch.specs.flex_store.specs.State.{flex_in}
+use Rattle.flex_store.specs.Listed.{all_listed}
+use Rattle.flex_store.specs.State.{flex_in}
 use Rattle.debugger.specs.Flex.{flex_block_text, flex_blocks_text}
 use Rattle.view_reading.specs.Told.{told_by}
 use Rattle.view_reading.proofs.flex.push_blocks.Given as goal

@@ -1,8 +1,8 @@
 use Rattle.std.proofs.Common.{◌≡◌, ℕ, List, ◌++◌, Some, ap, refl, sym, ◌∙◌}
 use Rattle.profile.proofs.OutputLemmas.{Appends-join}
 use Rattle.address_map.specs.Memory.{bytes_of}
-use Rattle.debugger.specs.swi_dispatch.specs.flex_store.specs.Listed.{all_listed}
-use Rattle.debugger.specs.swi_dispatch.specs.flex_store.specs.State.{flex_in}
+use Rattle.flex_store.specs.Listed.{all_listed}
+use Rattle.flex_store.specs.State.{flex_in}
 use Rattle.debugger.specs.Flex.{flex_blocks_text, flex_text, range_text}
 use Rattle.debugger.proofs.FlexLemmas.{shown}
 use Rattle.view_reading.specs.Told.{told_by}

@@ -3,14 +3,14 @@ use Rattle.std.specs.Prelude.{is_some}
 use Rattle.std.specs.Io.KnownBytes.{Appends}
 use Rattle.profile.proofs.OutputLemmas.{Appends-join}
 use Rattle.address_map.specs.Items.{size_of}
-use Rattle.debugger.specs.swi_dispatch.specs.os_heap.specs.Store.{Store, store_of}
-use Rattle.debugger.specs.swi_dispatch.specs.os_heap.specs.Calls.{items_of}
+use Rattle.os_heap.specs.Store.{Store, store_of}
+use Rattle.os_heap.specs.Calls.{items_of}
 use Rattle.debugger.specs.Heap.{limits_text, heap_items_text, heap_blocks_text}
 use Rattle.debugger.proofs.HeapLemmas.{IsShown, shown, not_shown}
 use Rattle.view_reading.proofs.ToldLemmas.{all_told}
 use Rattle.view_reading.specs.Told.{told_by}
 use Rattle.view_reading.proofs.heap.heap_items.Goals as goal
-use Rattle.debugger.specs.swi_dispatch.specs.swi_dispatch_guest.specs.Parts.{state_of}
+use Rattle.swi_dispatch_guest.specs.Parts.{state_of}
 
 pub returns-in_default : goal.returns-in_default
 returns-in_default c =

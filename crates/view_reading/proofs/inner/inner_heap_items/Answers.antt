@@ -1,7 +1,7 @@
 use Rattle.std.proofs.Common.{◌≡◌, ◌+◌, ℕ, true, false, List, IfOk, map, ap, sym, subst, refl, ◌∙◌, arith}
 use Rattle.std.specs.Prelude.{is_some, not}
-use Rattle.debugger.specs.swi_dispatch.specs.os_heap.specs.Store.{store_of}
-use Rattle.debugger.specs.swi_dispatch.specs.os_heap.specs.Calls.{items_of}
+use Rattle.os_heap.specs.Store.{store_of}
+use Rattle.os_heap.specs.Calls.{items_of}
 use Rattle.view_items.specs.Items.{picture_items_text}
 use Rattle.view_reading.specs.Inner.{heap_texts, region_starts}
 use Rattle.view_reading.proofs.InnerLemmas.{found_heap, inner_of, nothing_told}

@@ -1,5 +1,5 @@
 use Rattle.std.proofs.Common.{◌≡◌, ◌++◌, drop, map}
-use Rattle.debugger.specs.swi_dispatch.specs.swi_dispatch_guest.specs.Parts.{state_of}
+use Rattle.swi_dispatch_guest.specs.Parts.{state_of}
 use Rattle.view_items.specs.Items.{picture_items_text}
 use Rattle.view_reading.specs.Inner.{heap_texts}
 use Rattle.view_reading.proofs.inner.items_of_heaps.Given as goal

@@ -1,9 +1,8 @@
 use Rattle.std.proofs.Common.{◌≡◌, ◌<◌, ◌∙◌, ap, is_some, length, not, replicate, arith, rules}
 use Rattle.std.proofs.lemmas.List.Elements.{All-nil}
-use Rattle.address_map.specs.Memory.{place, free_pages, page_total, regions, class_of}
+use Rattle.address_map.specs.Memory.{place, free_pages, page_total, regions, class_of, is_owned, is_plain}
 use Rattle.address_map.specs.Marks.{mark_in}
 use Rattle.address_map.proofs.PageTable.{no_count, no_place, table_none, written_none}
-use Rattle.address_map.specs.Memory.{is_owned, is_plain}
 use Rattle.address_map.proofs.map.AddressMap.new.Goals as goal
 
 pub invariant_of-result : goal.invariant_of-result

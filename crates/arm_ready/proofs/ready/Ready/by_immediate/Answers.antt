@@ -1,5 +1,4 @@
-use Rattle.std.proofs.Common.{◌≡◌, ap, refl, ◌∙◌, sym}
-use Rattle.std.proofs.Common.{ℕ, ◌*◌, nat_eq, not}
+use Rattle.std.proofs.Common.{◌≡◌, ap, refl, ◌∙◌, sym, ℕ, ◌*◌, nat_eq, not}
 use Rattle.profile.specs.Shift.{rotated_right}
 use Rattle.profile.specs.Word.{field}
 use Rattle.arm_ready.proofs.Known.{by_immediate}

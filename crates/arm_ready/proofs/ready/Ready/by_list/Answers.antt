@@ -1,5 +1,4 @@
-use Rattle.std.proofs.Common.{◌≡◌, ap, refl, ◌∙◌, sym}
-use Rattle.std.proofs.Common.{ℕ, ◌*◌}
+use Rattle.std.proofs.Common.{◌≡◌, ap, refl, ◌∙◌, sym, ℕ, ◌*◌}
 use Rattle.arm_ready.proofs.Others.{by_list}
 use Rattle.arm_ready.proofs.ready.Ready.by_list.Goals as goal
 

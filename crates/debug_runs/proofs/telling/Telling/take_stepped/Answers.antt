@@ -1,9 +1,9 @@
 -- By the lemmas that are named.
 use Rattle.std.proofs.Common.{ℕ, List, ◌++◌, ◌∙◌, ap}
-use Rattle.debugger.specs.swi_dispatch_guest.specs.Step.{machine_step}
-use Rattle.debugger.specs.swi_dispatch_guest.specs.MachineState.{outcome_with}
-use Rattle.debugger.specs.swi_dispatch_guest.specs.Parts.{state_of}
-use Rattle.debugger.specs.swi_dispatch.specs.Value.{MachineValue}
+use Rattle.swi_dispatch_guest.specs.Step.{machine_step}
+use Rattle.swi_dispatch_guest.specs.MachineState.{outcome_with}
+use Rattle.swi_dispatch_guest.specs.Parts.{state_of}
+use Rattle.command_shell.specs.Value.{MachineValue}
 use Rattle.command_shell.specs.Session.{script_state}
 use Rattle.view_items.specs.TextSink.{sink_text_of}
 use Rattle.trace_text.specs.Start.{known_in}

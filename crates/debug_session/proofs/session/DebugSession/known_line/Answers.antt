@@ -1,7 +1,7 @@
 -- Each request is told as its own call tells it.
 use Rattle.std.proofs.Common.{◌≡◌, ◌+◌, ap, subst, sym}
 use Rattle.std.specs.Prelude.{OnOk}
-use Rattle.command_shell.specs.Memory.{script_at, script_with_status}
+use Rattle.run_meter.specs.Memory.{script_at, script_with_status}
 use Rattle.command_shell_lines.specs.Blocks.{block_lines, lines_after, lines_taken}
 use Rattle.debug_checks.specs.Checks.{status_after_pattern}
 use Rattle.debug_lines.specs.DebugRequests.{DebugRequest, debug_opens_block, debug_request_of_command}
@@ -107,22 +107,3 @@ returns-in-Mode-clause-told g c =
     (debug_state c.mode_line.new.self c.args.images.now) (debug_state c.args.self.now c.args.images.now)
     c.args.self.now.setting c.args.script.now.number c.args.words.now (block_lines c.args.script.now.left) _
     (debug_request_of_command c.args.command) (sym (ap debug_request_of_command c.in-Mode.is)) (c.mode_line.ensures.told c.args.images.now)
-
-pub returns-in-Source-clause-told : goal.returns-in-Source-clause-told
-returns-in-Source-clause-told g c =
-    asked_if c.source_line.result (g.W.Sink.contents c.args.sink.now) (g.W.Sink.contents c.source_line.new.sink)
-    (debug_state c.source_line.new.self c.source_line.new.images) (debug_state c.args.self.now c.args.images.now)
-    c.args.self.now.setting c.args.script.now.number c.args.words.now (block_lines c.args.script.now.left) _
-    (debug_request_of_command c.args.command) (sym (ap debug_request_of_command c.in-Source.is)) c.source_line.ensures.told
-
-pub returns-in-Source-clause-left : goal.returns-in-Source-clause-left
-returns-in-Source-clause-left g c =
-    subst (λ (q : DebugRequest). OnOk c.source_line.result
-    (c.source_line.new.script.left ≡ lines_after (debug_opens_block q) c.args.script.now.left))
-    (sym (ap debug_request_of_command c.in-Source.is)) c.source_line.ensures.left
-
-pub returns-in-Source-clause-number : goal.returns-in-Source-clause-number
-returns-in-Source-clause-number g c =
-    subst (λ (q : DebugRequest). OnOk c.source_line.result
-    (c.source_line.new.script.number ≡ c.args.script.now.number + lines_taken (debug_opens_block q) c.args.script.now.left))
-    (sym (ap debug_request_of_command c.in-Source.is)) c.source_line.ensures.number

@@ -1,10 +1,10 @@
 use Rattle.std.proofs.Common.{◌∙◌, ap}
-use Rattle.command_shell.specs.Memory.{script_with_status}
-use Rattle.command_shell.specs.Session.{script_state}
+use Rattle.run_meter.specs.Memory.{script_with_status}
+use Rattle.run_meter.specs.Session.{script_state}
 use Rattle.debug_checks.specs.Checks.{status_after_pattern}
-use Rattle.debugger.specs.swi_dispatch.specs.Value.{MachineValue}
-use Rattle.debugger.specs.swi_dispatch.specs.arm_core.specs.State.{State}
-use Rattle.debugger.specs.swi_dispatch_guest.specs.Parts.{state_of}
+use Rattle.run_meter.specs.Value.{MachineValue}
+use Rattle.arm_core.specs.State.{State}
+use Rattle.run_meter.specs.Parts.{state_of}
 use Rattle.debug_session.specs.Session.{debug_state}
 use Rattle.debug_session.proofs.OwnLemmas.{changed_script}
 use Rattle.debug_session.proofs.session.DebugSession.set_psr.Goals as goal

@@ -1,8 +1,8 @@
 use Rattle.std.proofs.Common.{◌≡◌, Some, sym, ap, subst, ◌∙◌}
 use Rattle.std.specs.Option.{option_copied}
-use Rattle.debugger.specs.swi_dispatch.specs.Value.{MachineValue}
-use Rattle.debugger.specs.swi_dispatch_guest.specs.MachineState.{StepOutcome}
-use Rattle.debugger.specs.swi_dispatch_guest.specs.Parts.{state_of}
+use Rattle.command_shell.specs.Value.{MachineValue}
+use Rattle.command_shell.specs.MachineState.{StepOutcome}
+use Rattle.command_shell.specs.Parts.{state_of}
 use Rattle.command_shell.specs.Calls.{step_made}
 use Rattle.command_shell.specs.Session.{script_state}
 use Rattle.debug_tables.specs.Stubs.{stub_ahead}

@@ -1,4 +1,4 @@
-use Rattle.std.proofs.Common.{◌≡◌, ℕ, ◌+◌, ◌*◌, ◌≤◌, Some, refl, sym, ap, subst, ◌∙◌, List, zero-add, arith}
+use Rattle.std.proofs.Common.{◌≡◌, ℕ, ◌+◌, ◌*◌, ◌≤◌, Some, refl, sym, ap, subst, ◌∙◌, List, zero-add, arith, rules}
 use Rattle.address_map.specs.Memory.{free_pages}
 use Rattle.os_heap.specs.Store.{Store, store_of}
 use Rattle.dynamic_areas.specs.declared.area.Area.{Area}
@@ -8,7 +8,6 @@ use Rattle.dynamic_areas.proofs.PutLemmas.{find_with, ground_put, paged_with}
 use Rattle.dynamic_areas.proofs.RoomLemmas.{find_with_other}
 use Rattle.dynamic_areas.proofs.WantedLemmas.{IsWanted, wanted_area}
 use Rattle.dynamic_areas.proofs.areas.Areas.create.Goals as goal
-use Rattle.std.proofs.Common.{rules}
 
 pub put_area-requires : goal.put_area-requires
 put_area-requires c =

@@ -1,7 +1,6 @@
-use Rattle.std.proofs.Common.{sym}
+use Rattle.std.proofs.Common.{sym, rules}
 use Rattle.dynamic_areas.proofs.RoomLemmas.{found_room}
 use Rattle.dynamic_areas.proofs.areas.Areas.measure.Goals as goal
-use Rattle.std.proofs.Common.{rules}
 use Rattle.dynamic_areas.specs.Changing.{change_answer}
 
 pub growth_room-requires : goal.growth_room-requires

@@ -1,7 +1,6 @@
-use Rattle.std.proofs.Common.{arith}
+use Rattle.std.proofs.Common.{arith, rules}
 use Rattle.dynamic_areas.proofs.RoomLemmas.{held_small}
 use Rattle.dynamic_areas.proofs.areas.Areas.read.Goals as goal
-use Rattle.std.proofs.Common.{rules}
 use Rattle.dynamic_areas.specs.Areas.{extent_asked}
 
 pub overflow_mul-result : goal.overflow_mul-result

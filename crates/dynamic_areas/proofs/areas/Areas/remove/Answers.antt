@@ -1,4 +1,4 @@
-use Rattle.std.proofs.Common.{◌≡◌, ◌-◌, ◌≤◌, Some, sym, ap, subst, ◌∙◌, List, arith}
+use Rattle.std.proofs.Common.{◌≡◌, ◌-◌, ◌≤◌, Some, sym, ap, subst, ◌∙◌, List, arith, rules}
 use Rattle.std.proofs.lemmas.Bool.{ne_eqb, le-ltb}
 use Rattle.address_map.specs.Memory.{free_pages}
 use Rattle.os_heap.specs.Store.{Store, store_of}
@@ -10,8 +10,6 @@ use Rattle.dynamic_areas.proofs.LooseLemmas.{loose_created}
 use Rattle.dynamic_areas.proofs.PutLemmas.{areas_removed, without_paged}
 use Rattle.dynamic_areas.proofs.RoomLemmas.{found_number, found_room}
 use Rattle.dynamic_areas.proofs.areas.Areas.remove.Goals as goal
-use Rattle.std.proofs.Common.{rules}
-use Rattle.dynamic_areas.specs.Changing.{land_after_remove}
 
 pub loose_pages-requires-clause-room : goal.loose_pages-requires-clause-room
 loose_pages-requires-clause-room c =

@@ -5,7 +5,7 @@ use Rattle.profile.specs.Output.{AddsFront}
 use Rattle.profile.proofs.OutputLemmas.{AddsAllBut-more}
 use Rattle.gdb_server.specs.Server.{IsServed, server_state}
 use Rattle.gdb_server.specs.Serving.{ServerState, Served, byte_served, bytes_served}
-use Rattle.gdb_session.specs.debug_session.specs.declared.session.DebugSetting.{DebugSetting}
+use Rattle.debug_session.specs.declared.session.DebugSetting.{DebugSetting}
 use Rattle.gdb_server.proofs.ServingLemmas.{ends_served, front_more, served_ended, served_more, served_none}
 use Rattle.gdb_server.proofs.server.GdbServer.take.Goals as goal
 

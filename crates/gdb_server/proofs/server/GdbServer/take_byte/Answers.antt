@@ -2,7 +2,7 @@ use Rattle.std.proofs.Common.{◌≡◌}
 use Rattle.std.specs.Prelude.{Some}
 use Rattle.gdb_packets.specs.Reading.{byte_taken}
 use Rattle.gdb_packets.specs.declared.reader.Piece.TheVariants as piece
-use Rattle.gdb_session.specs.Session.{gdb_state}
+use Rattle.gdb_server.specs.session.Session.{gdb_state}
 use Rattle.gdb_server.specs.Server.{server_state}
 use Rattle.gdb_server.specs.Serving.{ServerState, asked_to_stop}
 use Rattle.gdb_server.proofs.ServingLemmas.{stop_served}

@@ -4,15 +4,15 @@ use Rattle.instances_plans.specs.declared.action.PlanAction.{PlanAction}
 use Rattle.instances_plans.specs.declared.given.Given.{Given}
 use Rattle.instances_plans.specs.Plans.{plan_after_action}
 use Rattle.instances_table.specs.Modules.{AreModules, Module}
-use Rattle.module_tidy.specs.module_world.specs.Records.{TurnsRecords}
-use Rattle.module_tidy.specs.module_world.specs.Sound.{IsWorld}
-use Rattle.module_tidy.specs.module_world.specs.World.{world_of}
-use Rattle.module_tidy.specs.module_world.proofs.Records.{turns_losing}
-use Rattle.module_tidy.specs.module_world.proofs.Writes.{has_system}
-use Rattle.instances_actions.specs.Actions.{world_after_action}
-use Rattle.instances_actions.specs.Pending.{pending_of}
-use Rattle.instances_actions.proofs.Readying.{ready_acts}
-use Rattle.module_tidy.specs.Slid.{world_slid}
+use Rattle.instances.specs.world.Records.{TurnsRecords}
+use Rattle.instances.specs.world.Sound.{IsWorld}
+use Rattle.instances.specs.world.World.{world_of}
+use Rattle.instances.proofs.WorldLemmas.Records.{turns_losing}
+use Rattle.instances.proofs.WorldLemmas.Writes.{has_system}
+use Rattle.instances.specs.actions.Actions.{world_after_action}
+use Rattle.instances.specs.actions.Pending.{pending_of}
+use Rattle.instances.proofs.ActionsLemmas.Readying.{ready_acts}
+use Rattle.instances.specs.tidying.Slid.{world_slid}
 use Rattle.instances.proofs.Turning.{world_acted, world_after_slide, world_before_slide}
 use Rattle.instances.proofs.instances.Instances.act.Goals as goal
 

@@ -4,9 +4,9 @@ use Rattle.address_map.specs.Memory.{regions}
 use Rattle.instances_plans.specs.declared.action.PlanAction.{PlanAction}
 use Rattle.instances_plans.specs.Plans.{Plan, first_action}
 use Rattle.instances_table.specs.Modules.{AreModules, Module}
-use Rattle.module_tidy.specs.module_world.specs.Records.{MayTurnRecords}
-use Rattle.module_tidy.specs.module_world.specs.World.{world_of}
-use Rattle.instances_actions.specs.Codes.{code_among}
+use Rattle.instances.specs.world.Records.{MayTurnRecords}
+use Rattle.instances.specs.world.World.{world_of}
+use Rattle.instances.specs.actions.Codes.{code_among}
 use Rattle.instances.proofs.Turning.{goes_into_code, goes_on, going_back, turn_ends, turn_enters, turn_goes_on}
 use Rattle.instances.proofs.instances.Instances.advance.Goals as goal
 

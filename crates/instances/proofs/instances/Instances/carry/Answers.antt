@@ -2,10 +2,10 @@ use Rattle.std.proofs.Common.{List, None, Some, refl, subst, ◌∙◌}
 use Rattle.address_map.specs.Memory.{regions}
 use Rattle.instances_plans.specs.declared.action.PlanAction.{PlanAction}
 use Rattle.instances_plans.specs.Plans.{plan_after_code}
-use Rattle.module_tidy.specs.flex_frame.proofs.Keeping.{keeps_then}
-use Rattle.module_tidy.specs.module_world.specs.Records.{CarriesRecords}
-use Rattle.module_tidy.specs.module_world.specs.World.{world_of}
-use Rattle.module_tidy.specs.module_world.proofs.Records.{carries_last, carries_on}
+use Rattle.rma.proofs.FlexFrameLemmas.Keeping.{keeps_then}
+use Rattle.instances.specs.world.Records.{CarriesRecords}
+use Rattle.instances.specs.world.World.{world_of}
+use Rattle.instances.proofs.WorldLemmas.Records.{carries_last, carries_on}
 use Rattle.instances.proofs.Carrying.{code_carried, end_carried, next_carried, next_fewer, next_left, world_at_end}
 use Rattle.instances.proofs.Naming.{keeps_others}
 use Rattle.instances.proofs.NextCode.{code_is_first}

@@ -1,12 +1,12 @@
 use Rattle.std.proofs.Common.{◌≡◌, List, length}
 use Rattle.address_map.specs.Memory.{mapping, regions}
 use Rattle.address_map.specs.declared.region.Region.{Region}
-use Rattle.module_tidy.specs.os_heap.specs.Store.{AreClasses, store_of}
-use Rattle.module_tidy.specs.flex_frame.specs.Keeping.{KeepsFlex}
+use Rattle.dynamic_areas.specs.Store.{AreClasses, store_of}
+use Rattle.rma.specs.flex_frame.Keeping.{KeepsFlex}
 use Rattle.instances_plans.specs.Carrying.{carry_of_plan}
 use Rattle.instances_plans.specs.Plans.{plan_after_code}
-use Rattle.module_tidy.specs.module_world.specs.Records.{CarriesRecords}
-use Rattle.module_tidy.specs.module_world.specs.World.{world_of}
+use Rattle.instances.specs.world.Records.{CarriesRecords}
+use Rattle.instances.specs.world.World.{world_of}
 use Rattle.instances.specs.Turns.{IsUnderWay, module_doing}
 use Rattle.instances.proofs.instances.Instances.carry.Given as goal
 

@@ -1,6 +1,6 @@
 use Rattle.std.proofs.Common.{sym, ◌∙◌}
-use Rattle.module_tidy.specs.os_heap.specs.Store.{store_of}
-use Rattle.module_tidy.specs.dynamic_areas.specs.Ground.{estate_of}
+use Rattle.dynamic_areas.specs.Store.{store_of}
+use Rattle.dynamic_areas.specs.Ground.{estate_of}
 use Rattle.instances.proofs.AddingLemmas.{copied_mapped}
 use Rattle.instances.proofs.instances.Instances.insert_copy.Goals as goal
 

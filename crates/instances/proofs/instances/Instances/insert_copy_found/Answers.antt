@@ -1,8 +1,8 @@
 use Rattle.std.proofs.Common.{[], refl, arith}
-use Rattle.module_tidy.specs.os_heap.specs.Store.{store_of}
-use Rattle.module_tidy.specs.dynamic_areas.specs.Ground.{estate_of}
-use Rattle.module_tidy.specs.module_world.specs.World.{world_of}
-use Rattle.module_tidy.specs.module_world.proofs.Worlds.{few_records}
+use Rattle.dynamic_areas.specs.Store.{store_of}
+use Rattle.dynamic_areas.specs.Ground.{estate_of}
+use Rattle.instances.specs.world.World.{world_of}
+use Rattle.instances.proofs.WorldLemmas.Worlds.{few_records}
 use Rattle.instances.proofs.AddingLemmas.{copied_mapped, no_image, world_with_block}
 use Rattle.instances.proofs.instances.Instances.insert_copy_found.Goals as goal
 

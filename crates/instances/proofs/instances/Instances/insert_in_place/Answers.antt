@@ -1,7 +1,7 @@
 use Rattle.std.proofs.Common.{◌≡◌, true, sym, ◌∙◌}
-use Rattle.module_tidy.specs.os_heap.specs.Store.{store_of}
-use Rattle.module_tidy.specs.rma.specs.NewImages.{may_be_in_place}
-use Rattle.module_tidy.specs.rma.proofs.InPlaceLemmas.{may_be}
+use Rattle.dynamic_areas.specs.Store.{store_of}
+use Rattle.rma.specs.NewImages.{may_be_in_place}
+use Rattle.rma.proofs.InPlaceLemmas.{may_be}
 use Rattle.instances.proofs.instances.Instances.insert_in_place.Goals as goal
 
 pub header_at-requires : goal.header_at-requires

@@ -1,7 +1,7 @@
 use Rattle.std.proofs.Common.{[], length, refl, arith}
-use Rattle.module_tidy.specs.os_heap.specs.Store.{store_of}
-use Rattle.module_tidy.specs.module_world.specs.World.{world_of}
-use Rattle.module_tidy.specs.module_world.proofs.Worlds.{few_records}
+use Rattle.dynamic_areas.specs.Store.{store_of}
+use Rattle.instances.specs.world.World.{world_of}
+use Rattle.instances.proofs.WorldLemmas.Worlds.{few_records}
 use Rattle.instances.proofs.AddingLemmas.{no_image, world_with_block}
 use Rattle.instances.proofs.instances.Instances.load.Goals as goal
 

@@ -1,11 +1,11 @@
 use Rattle.std.proofs.Common.{◌≡◌, ◌≤◌, ◌+◌, ◌-◌, ◌^◌, ap, sym, ◌∙◌, arith}
 use Rattle.address_map.specs.Items.{size_of}
-use Rattle.os_heap_lists.specs.Counts.{larger, round_down_8, largest_free}
+use Rattle.os_heap_words.specs.lists.Counts.{larger, round_down_8, largest_free}
 use Rattle.os_heap_words.specs.Outcomes.{IsHeapAt, items_at}
 use Rattle.os_heap.specs.Store.{store_of}
 use Rattle.os_heap.proofs.Found.{found_at, described_none, described_found, probes_none, probes_found}
 use Rattle.os_heap_words.proofs.Tally.{heap_below}
-use Rattle.os_heap_lists.proofs.Tally.{free_total-bound, larger_max}
+use Rattle.os_heap_words.proofs.ListsLemmas.Tally.{free_total-bound, larger_max}
 use Rattle.os_heap.proofs.heaps.Heaps.describe.Goals as goal
 
 pub returns-in_default-clause-answer : goal.returns-in_default-clause-answer

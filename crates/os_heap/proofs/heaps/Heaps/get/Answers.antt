@@ -1,5 +1,5 @@
 use Rattle.std.proofs.Common.{ℕ, ◌∙◌, refl, sym, ap}
-use Rattle.os_heap_lists.specs.Counts.{looked_at}
+use Rattle.os_heap_words.specs.lists.Counts.{looked_at}
 use Rattle.os_heap_words.specs.Outcomes.{items_at}
 use Rattle.os_heap.proofs.Calls.{found_part, heap_there, get_given, get_refused, get_counted, get_counted_none}
 use Rattle.os_heap.proofs.heaps.Heaps.get.Goals as goal

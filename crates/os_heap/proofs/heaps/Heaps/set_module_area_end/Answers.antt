@@ -1,4 +1,4 @@
-use Rattle.profile.specs.MemoryMap.{module_area_start}
+use Rattle.os_heap_words.specs.MemoryMap.{module_area_start}
 use Rattle.std.proofs.Common.{◌≡◌, Some, sym, subst}
 use Rattle.address_map.specs.Memory.{bytes_of}
 use Rattle.os_heap.specs.Store.{store_of, heap_in, find_heap}

@@ -1,6 +1,6 @@
 use Rattle.std.proofs.Common.{◌≤◌, ◌+◌, ◌^◌, length, ap, sym, ◌∙◌, arith}
 use Rattle.address_map.specs.Memory.{bytes_of}
-use Rattle.os_heap_lists.proofs.Rest.{IsFreeFirst, free_first, IsLiveFirst, live_first}
+use Rattle.os_heap_words.proofs.ListsLemmas.Rest.{IsFreeFirst, free_first, IsLiveFirst, live_first}
 use Rattle.os_heap_words.proofs.Rest.{rest_below}
 use Rattle.os_heap_words.proofs.blocks.BlocksIterator.next.Goals as goal
 

@@ -37,8 +37,7 @@ use denote.Triple.Entry.{alive}
 use denote.Triple.Walked.{Stays, stay_dropped, walk_of, Goes-dropped, Goes-spent_ref}
 use Rattle.raw_store.specs.Lends.{bytes_with_items}
 use Rattle.raw_store.specs.Ownership.{bytes_type, owns_bytes_at, block_owns}
-use Rattle.raw_store.specs.Region.{AreApartOrEmpty, Region, bytes_after_write}
-use Rattle.raw_store.specs.Region.{region_with_items as with_written}
+use Rattle.raw_store.specs.Region.{AreApartOrEmpty, Region, bytes_after_write, region_with_items as with_written}
 use Rattle.raw_store.proofs.Memory.{to_cells, of_cells}
 use Rattle.raw_store.proofs.Two.{Others, two_out, two_in}
 use Rattle.raw_store.proofs.Values.{base_val, base_told, none_own, two_val, two_of}

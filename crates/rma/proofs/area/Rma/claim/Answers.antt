@@ -1,15 +1,15 @@
 use Rattle.profile.specs.MemoryMap.{module_area_start}
 use Rattle.std.proofs.Common.{◌≡◌, ◌+◌, Ok, sym, ap, subst, ◌∙◌}
 use Rattle.profile.specs.Outcome.{Gives}
-use Rattle.os_heap.specs.os_heap_lists.specs.Lists.{total_for}
-use Rattle.os_heap.specs.Calls.{store_after_get}
-use Rattle.os_heap.specs.Store.{Store, store_of}
-use Rattle.os_heap.proofs.Frame.{layout-others}
-use Rattle.os_heap.proofs.Order.{order_laid}
-use Rattle.flex_frame.specs.dynamic_areas.specs.Ground.{Estate, estate_of}
-use Rattle.flex_frame.specs.dynamic_areas.proofs.HeapCalls.{areas_written}
-use Rattle.flex_frame.proofs.Heaps.{got_keeps, got_unanchored}
-use Rattle.flex_frame.proofs.Keeping.{keeps_then}
+use Rattle.os_heap_words.specs.lists.Lists.{total_for}
+use Rattle.dynamic_areas.specs.Calls.{store_after_get}
+use Rattle.dynamic_areas.specs.Store.{Store, store_of}
+use Rattle.dynamic_areas.proofs.Frame.{layout-others}
+use Rattle.dynamic_areas.proofs.Order.{order_laid}
+use Rattle.dynamic_areas.specs.Ground.{Estate, estate_of}
+use Rattle.dynamic_areas.proofs.HeapCalls.{areas_written}
+use Rattle.rma.proofs.FlexFrameLemmas.Heaps.{got_keeps, got_unanchored}
+use Rattle.rma.proofs.FlexFrameLemmas.Keeping.{keeps_then}
 use Rattle.rma.specs.Calls.{in_grown_area, is_no_room, rma_base, rma_claimed}
 use Rattle.rma.proofs.Estates.{estate_same, full_where, or_done, or_refused, store_kept}
 use Rattle.rma.proofs.NewImageLemmas.{block_made, live_inside}

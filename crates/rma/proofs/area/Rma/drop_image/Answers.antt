@@ -1,10 +1,10 @@
 use Rattle.std.proofs.Common.{sym, ap, subst}
 use Rattle.address_map.specs.Memory.{free_pages}
-use Rattle.os_heap.proofs.ForgetLemmas.{same_bytes_of}
-use Rattle.os_heap.specs.Store.{IsSound, Store, store_of}
-use Rattle.os_heap.proofs.Frame.{classes_same}
-use Rattle.flex_frame.specs.Keeping.{KeepsFlex}
-use Rattle.flex_frame.proofs.Writes.{dropped_keeps}
+use Rattle.dynamic_areas.proofs.ForgetLemmas.{same_bytes_of}
+use Rattle.dynamic_areas.specs.Store.{IsSound, Store, store_of}
+use Rattle.dynamic_areas.proofs.Frame.{classes_same}
+use Rattle.rma.specs.flex_frame.Keeping.{KeepsFlex}
+use Rattle.rma.proofs.FlexFrameLemmas.Writes.{dropped_keeps}
 use Rattle.rma.specs.Images.{image_dropped}
 use Rattle.rma.proofs.ImageLemmas.{areas_less, same_pool, sound_less, store_less}
 use Rattle.rma.proofs.area.Rma.drop_image.Goals as goal

@@ -4,15 +4,15 @@ use Rattle.std.specs.List.{filter}
 use Rattle.std.specs.Prelude.{is_ok}
 use Rattle.profile.specs.Outcome.{Gives}
 use Rattle.address_map.specs.declared.region.Kind.{Kind}
-use Rattle.os_heap.specs.Calls.{block_sized, store_after_resize}
-use Rattle.os_heap.specs.Store.{Store, store_of}
-use Rattle.os_heap.specs.Order.{stays_at}
-use Rattle.os_heap.proofs.LostRecords.{loses_same}
-use Rattle.os_heap.proofs.Order.{order_kept, order_lost}
-use Rattle.flex_frame.specs.dynamic_areas.specs.Ground.{Estate, estate_of}
-use Rattle.flex_frame.specs.dynamic_areas.proofs.HeapCalls.{areas_resized}
-use Rattle.flex_frame.proofs.Heaps.{resized_keeps}
-use Rattle.flex_frame.proofs.Keeping.{keeps_then}
+use Rattle.dynamic_areas.specs.Calls.{block_sized, store_after_resize}
+use Rattle.dynamic_areas.specs.Store.{Store, store_of}
+use Rattle.dynamic_areas.specs.Order.{stays_at}
+use Rattle.dynamic_areas.proofs.LostRecords.{loses_same}
+use Rattle.dynamic_areas.proofs.Order.{order_kept, order_lost}
+use Rattle.dynamic_areas.specs.Ground.{Estate, estate_of}
+use Rattle.dynamic_areas.proofs.HeapCalls.{areas_resized}
+use Rattle.rma.proofs.FlexFrameLemmas.Heaps.{resized_keeps}
+use Rattle.rma.proofs.FlexFrameLemmas.Keeping.{keeps_then}
 use Rattle.rma.specs.Calls.{end_if_moved, grown_in_place, in_grown_area, is_full, is_no_room, resized_or_grown, rma_base, rma_extended}
 use Rattle.rma.proofs.Estates.{done_from, estate_same, full_where, given_from, is_done, or_done, or_refused, store_kept}
 use Rattle.rma.proofs.ExtendLemmas.{IsTried, in_place_done, is_tried}

@@ -1,8 +1,8 @@
 use Rattle.profile.specs.MemoryMap.{module_area_start}
-use Rattle.os_heap.specs.Calls.{gave_back}
-use Rattle.os_heap.specs.Store.{store_of}
-use Rattle.flex_frame.specs.dynamic_areas.proofs.HeapCalls.{areas_freed}
-use Rattle.flex_frame.proofs.Heaps.{freed_keeps}
+use Rattle.dynamic_areas.specs.Calls.{gave_back}
+use Rattle.dynamic_areas.specs.Store.{store_of}
+use Rattle.dynamic_areas.proofs.HeapCalls.{areas_freed}
+use Rattle.rma.proofs.FlexFrameLemmas.Heaps.{freed_keeps}
 use Rattle.rma.specs.Calls.{rma_freed}
 use Rattle.rma.proofs.Estates.{area_done, area_refused}
 use Rattle.rma.proofs.area.Rma.free.Goals as goal

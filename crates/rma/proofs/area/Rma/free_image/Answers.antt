@@ -2,12 +2,12 @@ use Rattle.profile.specs.MemoryMap.{module_area_start}
 use Rattle.std.proofs.Common.{List, ◌≡◌, ◌∙◌, ap, subst}
 use Rattle.std.specs.List.{filter}
 use Rattle.address_map.specs.declared.region.Region.{Region}
-use Rattle.os_heap.specs.Calls.{gave_back}
-use Rattle.os_heap.specs.Store.{Store, store_of}
-use Rattle.os_heap.specs.Order.{stays}
-use Rattle.flex_frame.specs.dynamic_areas.proofs.HeapCalls.{areas_freed}
-use Rattle.flex_frame.proofs.Heaps.{freed_keeps}
-use Rattle.flex_frame.proofs.Keeping.{keeps_then}
+use Rattle.dynamic_areas.specs.Calls.{gave_back}
+use Rattle.dynamic_areas.specs.Store.{Store, store_of}
+use Rattle.dynamic_areas.specs.Order.{stays}
+use Rattle.dynamic_areas.proofs.HeapCalls.{areas_freed}
+use Rattle.rma.proofs.FlexFrameLemmas.Heaps.{freed_keeps}
+use Rattle.rma.proofs.FlexFrameLemmas.Keeping.{keeps_then}
 use Rattle.rma.specs.Images.{image_freed, or_kept}
 use Rattle.rma.proofs.Estates.{kept_by}
 use Rattle.rma.proofs.area.Rma.free_image.Goals as goal

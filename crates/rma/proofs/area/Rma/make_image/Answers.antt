@@ -1,9 +1,9 @@
 use Rattle.std.proofs.Common.{length, refl, ap, arith, ◌∙◌}
-use Rattle.os_heap.specs.os_heap_lists.specs.Lists.{total_for}
-use Rattle.os_heap.specs.Store.{Store, store_of}
-use Rattle.flex_frame.specs.dynamic_areas.specs.Ground.{estate_of}
+use Rattle.os_heap_words.specs.lists.Lists.{total_for}
+use Rattle.dynamic_areas.specs.Store.{Store, store_of}
+use Rattle.dynamic_areas.specs.Ground.{estate_of}
 use Rattle.rma.specs.NewImages.{image_made}
-use Rattle.flex_frame.proofs.Keeping.{keeps_same}
+use Rattle.rma.proofs.FlexFrameLemmas.Keeping.{keeps_same}
 use Rattle.rma.proofs.FlexLemmas.{made_keeps, sized_unheaped}
 use Rattle.rma.proofs.ImageLemmas.{area_kind}
 use Rattle.rma.proofs.NewImageLemmas.{claim_refused, live_whole, made_order, made_others}

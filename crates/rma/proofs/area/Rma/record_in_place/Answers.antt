@@ -2,14 +2,14 @@ use Rattle.std.proofs.Common.{refl, sym, ap, subst}
 use Rattle.address_map.specs.Memory.{free_pages}
 use Rattle.address_map.specs.declared.region.Kind.TheVariants as kind
 use Rattle.address_map.specs.declared.region.Region.{Region}
-use Rattle.os_heap.proofs.ForgetLemmas.{same_bytes_of}
-use Rattle.os_heap.specs.Store.{IsSound, Store, store_of}
-use Rattle.os_heap.proofs.Limits.{range_room}
-use Rattle.os_heap.proofs.Frame.{classes_same}
-use Rattle.os_heap.proofs.Order.{order_added}
-use Rattle.os_heap.proofs.Recorded.{store_recorded}
-use Rattle.flex_frame.specs.Keeping.{KeepsFlex}
-use Rattle.flex_frame.proofs.Writes.{recorded_keeps, unanchored_by}
+use Rattle.dynamic_areas.proofs.ForgetLemmas.{same_bytes_of}
+use Rattle.dynamic_areas.specs.Store.{IsSound, Store, store_of}
+use Rattle.dynamic_areas.proofs.Limits.{range_room}
+use Rattle.dynamic_areas.proofs.Frame.{classes_same}
+use Rattle.dynamic_areas.proofs.Order.{order_added}
+use Rattle.dynamic_areas.proofs.Recorded.{store_recorded}
+use Rattle.rma.specs.flex_frame.Keeping.{KeepsFlex}
+use Rattle.rma.proofs.FlexFrameLemmas.Writes.{recorded_keeps, unanchored_by}
 use Rattle.rma.proofs.ImageLemmas.{areas_recorded, same_pool}
 use Rattle.rma.proofs.InPlaceLemmas.{may_be, placed, region_placed}
 use Rattle.rma.proofs.area.Rma.record_in_place.Goals as goal

@@ -1,5 +1,5 @@
 use Rattle.std.proofs.Common.{refl, subst, sym}
-use Rattle.swi_dispatch_flex.specs.flex_machine.specs.flex_frame.proofs.Keeping.{keeps_same}
+use Rattle.instances.proofs.RmaKeeping.{keeps_same}
 use Rattle.swi_dispatch_plans.specs.Beginning.{CanBegin}
 use Rattle.swi_dispatch_guest.specs.MachineState.{MachineState, setting_of}
 use Rattle.swi_dispatch_guest.specs.Parts.{Parts, state_of}

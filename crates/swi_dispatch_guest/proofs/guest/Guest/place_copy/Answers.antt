@@ -1,13 +1,12 @@
 use Rattle.std.proofs.Common.{◌≡◌, Ok, refl, subst, sym, true, ◌∙◌}
-use Rattle.swi_dispatch_flex.specs.flex_machine.specs.module_world.specs.rma.specs.Copies.{may_be_copied}
-use Rattle.swi_dispatch_plans.specs.instances.proofs.NamedByCalls.{copying_names, named_given}
+use Rattle.instances.specs.Copies.{may_be_copied}
+use Rattle.instances.proofs.NamedByCalls.{copying_names, named_given}
 use Rattle.swi_dispatch_plans.specs.ImagePlans.{SparesRange, image_header_in}
 use Rattle.swi_dispatch_plans.specs.Beginning.{IsFree}
 use Rattle.swi_dispatch_guest.specs.MachineState.{MachineState, machine_world, setting_of}
 use Rattle.swi_dispatch_guest.specs.Parts.{Parts, state_of}
 use Rattle.swi_dispatch_guest.proofs.Kept.{over}
-use Rattle.swi_dispatch_guest.proofs.GateLemmas.{carried_well, ended_carried, first_carried, refused_well, refused_world}
-use Rattle.swi_dispatch_guest.proofs.GateLemmas.{starts_by, state_opened}
+use Rattle.swi_dispatch_guest.proofs.GateLemmas.{carried_well, ended_carried, first_carried, refused_well, refused_world, starts_by, state_opened}
 use Rattle.swi_dispatch_guest.proofs.CarriedFrames.{titled_beneath}
 use Rattle.swi_dispatch_guest.proofs.guest.Guest.place_copy.Goals as goal
 

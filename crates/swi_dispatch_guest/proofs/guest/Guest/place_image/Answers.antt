@@ -1,12 +1,11 @@
 use Rattle.std.proofs.Common.{refl, subst, sym, ◌∙◌}
-use Rattle.swi_dispatch_plans.specs.instances.proofs.NamedByCalls.{loading_names, named_given}
+use Rattle.instances.proofs.NamedByCalls.{loading_names, named_given}
 use Rattle.module_header.specs.Header.{header_of}
 use Rattle.swi_dispatch_plans.specs.Beginning.{IsFree, SparesTitle}
 use Rattle.swi_dispatch_guest.specs.MachineState.{MachineState, machine_world, setting_of}
 use Rattle.swi_dispatch_guest.specs.Parts.{Parts, state_of}
 use Rattle.swi_dispatch_guest.proofs.Kept.{over}
-use Rattle.swi_dispatch_guest.proofs.GateLemmas.{carried_well, ended_carried, first_carried, refused_well, refused_world}
-use Rattle.swi_dispatch_guest.proofs.GateLemmas.{starts_by, state_opened}
+use Rattle.swi_dispatch_guest.proofs.GateLemmas.{carried_well, ended_carried, first_carried, refused_well, refused_world, starts_by, state_opened}
 use Rattle.swi_dispatch_guest.proofs.CarriedFrames.{titled_beneath}
 use Rattle.swi_dispatch_guest.proofs.guest.Guest.place_image.Goals as goal
 

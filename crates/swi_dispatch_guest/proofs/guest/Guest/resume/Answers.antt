@@ -1,8 +1,8 @@
 use Rattle.std.proofs.Common.{refl, ap, subst, sym, ◌∙◌}
-use Rattle.swi_dispatch_flex.specs.flex_machine.specs.flex_frame.proofs.Keeping.{keeps_same}
-use Rattle.swi_dispatch_frames.specs.Frames.{innermost_frame}
+use Rattle.instances.proofs.RmaKeeping.{keeps_same}
+use Rattle.swi_dispatch_answers.specs.frames.Frames.{innermost_frame}
 use Rattle.arm_core.specs.State.{State}
-use Rattle.swi_dispatch_flex.specs.flex_machine.specs.module_world.specs.World.{world_of}
+use Rattle.instances.specs.world.World.{world_of}
 use Rattle.swi_dispatch_guest.specs.Carried.{CodeUnderWay, IsCarriedNext}
 use Rattle.swi_dispatch_guest.specs.Gates.{Resumes, come_back, with_code}
 use Rattle.swi_dispatch_guest.specs.MachineState.{MachineState, with_world}

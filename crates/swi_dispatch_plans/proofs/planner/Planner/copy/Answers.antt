@@ -1,7 +1,7 @@
 use Rattle.std.proofs.Common.{◌≡◌, true, sym, ap, ◌∙◌}
-use Rattle.swi_dispatch_modules.specs.instances.specs.module_world.specs.dynamic_areas.specs.Ground.{estate_of}
-use Rattle.swi_dispatch_modules.specs.instances.specs.module_world.specs.rma.specs.Copies.{may_be_copied}
-use Rattle.swi_dispatch_modules.specs.instances.proofs.AddingLemmas.{copied_mapped}
+use Rattle.dynamic_areas.specs.Ground.{estate_of}
+use Rattle.instances.specs.Copies.{may_be_copied}
+use Rattle.instances.proofs.AddingLemmas.{copied_mapped}
 use Rattle.swi_dispatch_plans.specs.Setting.{PlanParts}
 use Rattle.swi_dispatch_plans.proofs.planner.Planner.copy.Goals as goal
 

@@ -1,7 +1,7 @@
 use Rattle.std.proofs.Common.{◌≡◌, true, sym, ap, ◌∙◌}
 use Rattle.os_heap.specs.Store.{store_of}
-use Rattle.swi_dispatch_modules.specs.instances.specs.module_world.specs.rma.specs.NewImages.{may_be_in_place}
-use Rattle.swi_dispatch_modules.specs.instances.specs.module_world.specs.rma.proofs.InPlaceLemmas.{may_be}
+use Rattle.instances.specs.NewImages.{may_be_in_place}
+use Rattle.instances.proofs.InPlaceLemmas.{may_be}
 use Rattle.swi_dispatch_plans.specs.Setting.{PlanParts}
 use Rattle.swi_dispatch_plans.proofs.planner.Planner.insertion.Goals as goal
 

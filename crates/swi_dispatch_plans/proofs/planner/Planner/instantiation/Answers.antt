@@ -1,8 +1,8 @@
 use Rattle.std.proofs.Common.{◌≡◌, IfOk, List, ap, subst, ◌∙◌, rules}
-use Rattle.instances_table.specs.Modules.{Module}
-use Rattle.swi_dispatch_modules.specs.instances.specs.Adding.{instantiation}
-use Rattle.swi_dispatch_modules.specs.instances.specs.instances_actions.specs.Ready.{IsReady}
-use Rattle.swi_dispatch_modules.specs.instances.proofs.NamedByCalls.{instantiation_names}
+use Rattle.instances.specs.Modules.{Module}
+use Rattle.instances.specs.Adding.{instantiation}
+use Rattle.instances.specs.actions.Ready.{IsReady}
+use Rattle.instances.proofs.NamedByCalls.{instantiation_names}
 use Rattle.swi_dispatch_plans.specs.Setting.{PlanParts, setting_in}
 use Rattle.swi_dispatch_plans.proofs.Beginning.{new_begins}
 use Rattle.swi_dispatch_plans.specs.ImagePlans.{instantiation_planned}

@@ -1,9 +1,9 @@
 use Rattle.std.proofs.Common.{◌≡◌, IfOk, List, Ok, ap, subst, ◌∙◌, rules}
-use Rattle.instances_table.specs.Modules.{Module}
-use Rattle.swi_dispatch_modules.specs.instances.specs.Plans.{reinitialisation}
-use Rattle.swi_dispatch_modules.specs.instances.specs.Reading.{slot_meant}
-use Rattle.swi_dispatch_modules.specs.instances.specs.instances_actions.specs.Ready.{IsReady}
-use Rattle.swi_dispatch_modules.specs.instances.proofs.NamedByCalls.{reinitialisation_names}
+use Rattle.instances.specs.Modules.{Module}
+use Rattle.instances.specs.Plans.{reinitialisation}
+use Rattle.instances.specs.Reading.{slot_meant}
+use Rattle.instances.specs.actions.Ready.{IsReady}
+use Rattle.instances.proofs.NamedByCalls.{reinitialisation_names}
 use Rattle.swi_dispatch_plans.specs.Setting.{PlanParts, setting_in}
 use Rattle.swi_dispatch_plans.proofs.Beginning.{meant_begins}
 use Rattle.swi_dispatch_plans.specs.ModulePlans.{reinit_planned}

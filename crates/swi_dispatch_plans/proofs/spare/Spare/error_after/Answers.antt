@@ -1,7 +1,7 @@
 use Rattle.std.proofs.Common.{sym, subst, ◌∙◌}
 use Rattle.os_heap.specs.Store.{store_of}
-use Rattle.swi_dispatch_modules.specs.instances.specs.module_world.specs.World.{World}
-use Rattle.swi_dispatch_modules.specs.instances.specs.Turns.{IsUnderWay}
+use Rattle.instances.specs.world.World.{World}
+use Rattle.instances.specs.Turns.{IsUnderWay}
 use Rattle.swi_dispatch_plans.proofs.Trials.{copied_classes, copied_world, error_at_end, error_in_code, no_error_at_end, tried}
 use Rattle.swi_dispatch_plans.proofs.spare.Spare.error_after.Goals as goal
 use Rattle.swi_dispatch_plans.proofs.spare.Spare.error_after.Goals.{in-Own, in-Well}

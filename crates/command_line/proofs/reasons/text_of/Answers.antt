@@ -1,9 +1,0 @@
-use Rattle.std.proofs.Common.{refl}
-use Rattle.clap.specs.Words.{found_of}
-use Rattle.command_line.proofs.SettingsLemmas.{text_of-lent}
-use Rattle.command_line.proofs.reasons.text_of.Goals as goal
-
-pub returns : goal.returns
-returns c =
-    text_of-lent (λ s. s.now) c.get_str.result _ c.unwrap_or.result (found_of c.args.matches.now) c.args.name.now
-    c.unwrap_or.ensures c.get_str.ensures refl

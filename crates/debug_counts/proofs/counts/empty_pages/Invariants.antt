@@ -1,6 +1,0 @@
-use Rattle.std.proofs.Common.{◌≡◌, [], replicate}
-use Rattle.debug_counts.proofs.counts.empty_pages.Given as goal
-
--- so many pages so far
-abbrev pub invariant-loop-page : goal.invariant-loop-page
-invariant-loop-page l = l.pages.items ≡ replicate l._page []

@@ -1,9 +1,0 @@
-//! How often the steps of a debugger are taken at each word of memory.
-#![tactic(auto)]
-
-mod counts;
-pub mod laws;
-#[cfg(test)]
-mod tests;
-
-pub use counts::StepCounts;

@@ -1,9 +1,0 @@
--- As the definition says.
-use Rattle.std.proofs.Common.{arith}
-use Rattle.std.proofs.lemmas.Grind.{common_steps}
-use Rattle.debug_views.specs.Banks.{bank_line_from_8}
-use Rattle.debug_views.proofs.banks.show_from_8.Goals as goal
-
-pub returns : goal.returns
-unfolding bank_line_from_8
-returns g c = grind (arith, common_steps)

@@ -1,9 +1,0 @@
--- As the definition says.
-use Rattle.std.proofs.Common.{arith}
-use Rattle.std.proofs.lemmas.Grind.{common_steps}
-use Rattle.debug_views.specs.Banks.{banked_register_text}
-use Rattle.debug_views.proofs.banks.show_register.Goals as goal
-
-pub returns : goal.returns
-unfolding banked_register_text
-returns g c = grind (arith, common_steps)

@@ -1,0 +1,16 @@
+use Rattle.std.proofs.Common.{◌≡◌}
+use Rattle.profile.specs.Output.{AddsAllBut}
+use Rattle.address_map.specs.Memory.{bytes_of}
+use Rattle.debugger.specs.views.Words.{spaced_words_text}
+use Rattle.debugger.proofs.views.words.show_spaced.Given as goal
+
+-- what stands written, and the words that are left, is all
+abbrev pub invariant-loop-left : goal.invariant-loop-left
+invariant-loop-left g l = record {
+  text : AddsAllBut (g.W.Sink.contents l.fn.sink) (g.W.Sink.contents l.sink)
+      (spaced_words_text (bytes_of l.memory) l.at l.left) (spaced_words_text (bytes_of l.memory) l.address l.count);
+  same_flag : g.W.Sink.has_failed l.sink ≡ g.W.Sink.has_failed l.fn.sink;
+}
+
+abbrev pub decreases-loop-left : goal.decreases-loop-left
+decreases-loop-left g l = l.left

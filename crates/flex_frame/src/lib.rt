@@ -1,7 +1,0 @@
-//! Frame: calls on heaps, areas and images keep the flex store's bytes, its anchors and its range.
-#![tactic(auto)]
-
-pub mod laws;
-
-pub use dynamic_areas;
-pub use os_heap_slide;

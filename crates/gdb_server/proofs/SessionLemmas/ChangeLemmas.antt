@@ -1,0 +1,70 @@
+-- What requests come to that change what stands.
+use Rattle.std.proofs.Common.{◌≡◌, ℕ, Bool, Bor, List, [], refl, ap, ◌∙◌}
+use Rattle.std.specs.Prelude.{Option, Result, Ok, Err, IfOk, MatchResult, option_map}
+use Rattle.std.specs.Int.{from_le_bytes, w32}
+use Rattle.command_shell.specs.declared.error.RunError.{RunError}
+use Rattle.hex.specs.declared.error.FromHexError.{FromHexError}
+use Rattle.gdb_machine.specs.Changes.{register_write}
+use Rattle.gdb_packets.specs.Requests.{gdb_request}
+use Rattle.gdb_packets.specs.declared.requests.Request.{Request}
+use Rattle.gdb_packets.specs.declared.requests.Request.TheVariants as asked
+use Rattle.gdb_server.specs.session.Changes.{write_wanted}
+use Rattle.gdb_server.specs.session.Requests.{act_told, gdb_change_told}
+use Rattle.gdb_server.specs.session.Session.{IsGdbAnswered}
+use Rattle.gdb_server.specs.session.State.{GdbState, GdbAnswered}
+use Rattle.gdb_server.specs.declared.session.session.GdbAnswer.{GdbAnswer}
+use Rattle.debug_session.specs.declared.session.DebugSetting.{DebugSetting}
+
+pub write_read : {U : Type 0} (n : ℕ) (out : List ℕ) (r : Result U FromHexError) (done : U) (read : Result (List ℕ) FromHexError)
+    → MatchResult read (λ bytes. (r ≡ Ok done) × (out ≡ bytes)) (λ e. r ≡ Err e) → r ≡ Ok done
+    → register_write n (from_le_bytes w32 out) ≡ write_wanted n read
+write_read n out r done (Ok bytes) told is = ap (λ (b : List ℕ). register_write n (from_le_bytes w32 b)) told.1
+write_read n out r done (Err e) told is = absurd (cc)
+
+-- an answer of which the parts are known
+pub answer_known : (now : GdbState) (r : Result GdbAnswer RunError) (reply : Option (List ℕ)) (told : GdbAnswered)
+    → IfOk r (λ answer. answer.told.items ≡ []) → IfOk r (λ answer. option_map (λ packet. packet.items) answer.reply ≡ reply)
+    → record { state = now; told = []; reply = reply } ≡ told → IfOk r (λ answer. IsGdbAnswered now answer told)
+answer_known now (Ok answer) reply told none packet is = record {
+  state = ap (λ (a : GdbAnswered). a.state) is;
+  text = none ∙ ap (λ (a : GdbAnswered). a.told) is;
+  reply = packet ∙ ap (λ (a : GdbAnswered). a.reply) is;
+}
+answer_known now (Err e) reply told none packet is = tt
+
+-- a request that none of the calls of its own answers is a change
+pub other_act : (setting : DebugSetting) (start : List ℕ) (g : GdbState) (request : Request)
+    → (request ≡ asked.Continue → ⊥) → (request ≡ asked.Step → ⊥) → ((asks : Bool) → request ≡ asked.HostAnswer asks → ⊥)
+    → ((pairs : Bor (List ℕ)) → request ≡ asked.Line pairs → ⊥) → (request ≡ asked.RunProgram → ⊥) → (request ≡ asked.Restart → ⊥)
+    → gdb_change_told g (gdb_request request) ≡ act_told setting start g (gdb_request request)
+other_act setting start g asked.Reason c s h l p r = refl
+other_act setting start g asked.Registers c s h l p r = refl
+other_act setting start g (asked.SetRegisters pairs) c s h l p r = refl
+other_act setting start g (asked.Register n) c s h l p r = refl
+other_act setting start g (asked.SetRegister n pairs) c s h l p r = refl
+other_act setting start g (asked.Memory range) c s h l p r = refl
+other_act setting start g (asked.StorePairs range pairs) c s h l p r = refl
+other_act setting start g (asked.StoreBytes range bytes) c s h l p r = refl
+other_act setting start g asked.Continue c s h l p r = absurd (c refl)
+other_act setting start g asked.Step c s h l p r = absurd (s refl)
+other_act setting start g asked.Ways c s h l p r = refl
+other_act setting start g (asked.AddPoint kind range) c s h l p r = refl
+other_act setting start g (asked.RemovePoint kind range) c s h l p r = refl
+other_act setting start g asked.Supported c s h l p r = refl
+other_act setting start g asked.NoAcks c s h l p r = refl
+other_act setting start g (asked.Description range) c s h l p r = refl
+other_act setting start g (asked.Libraries range) c s h l p r = refl
+other_act setting start g asked.Thread c s h l p r = refl
+other_act setting start g asked.IsAttached c s h l p r = refl
+other_act setting start g asked.CurrentThread c s h l p r = refl
+other_act setting start g asked.FirstThreads c s h l p r = refl
+other_act setting start g asked.MoreThreads c s h l p r = refl
+other_act setting start g (asked.Line pairs) c s h l p r = absurd (l pairs refl)
+other_act setting start g (asked.HostAnswer asks) c s h l p r = absurd (h asks refl)
+other_act setting start g asked.Detach c s h l p r = refl
+other_act setting start g asked.Kill c s h l p r = refl
+other_act setting start g asked.KillProgram c s h l p r = refl
+other_act setting start g asked.Extended c s h l p r = refl
+other_act setting start g asked.Restart c s h l p r = absurd (r refl)
+other_act setting start g asked.RunProgram c s h l p r = absurd (p refl)
+other_act setting start g asked.Unknown c s h l p r = refl

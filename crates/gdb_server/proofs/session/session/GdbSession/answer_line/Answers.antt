@@ -1,0 +1,29 @@
+use Rattle.std.proofs.Common.{◌≡◌, ap, subst, ◌∙◌}
+use Rattle.std.specs.Prelude.{codes, IfOk, option_map, Some, None}
+use Rattle.hex.specs.Hex.{decode_of}
+use Rattle.gdb_server.specs.session.Changes.{bytes_of_pairs}
+use Rattle.gdb_server.specs.session.Runs.{line_decoded}
+use Rattle.gdb_server.specs.session.Session.{gdb_state, IsGdbAnswered}
+use Rattle.gdb_server.specs.session.State.{GdbState, GdbAnswered}
+use Rattle.gdb_server.specs.declared.session.session.GdbAnswer.{GdbAnswer}
+use Rattle.gdb_server.proofs.SessionLemmas.RunLemmas.{replied}
+use Rattle.gdb_server.proofs.session.session.GdbSession.answer_line.Goals as goal
+
+pub returns-in-Some-clause-told : goal.returns-in-Some-clause-told
+returns-in-Some-clause-told c =
+    let g : GdbState = gdb_state c.args.self.now c.args.images.now in
+    let there = rw c.in-Some.is at c.in_ok-line.ensures in
+    let line : Some c.as_slice.result.now ≡ bytes_of_pairs (decode_of c.args.pairs.now) = ap Some c.as_slice.ensures.value ∙ there in
+    subst (λ (a : GdbAnswered). IfOk c.answer_decoded.result
+    (λ (answer : GdbAnswer). IsGdbAnswered (gdb_state c.answer_decoded.new.self c.answer_decoded.new.images) answer a))
+    (ap (line_decoded c.args.self.now.debug.setting g) line)
+    c.answer_decoded.ensures.told
+
+pub returns-in_ok-from_slice-in-None-clause-told : goal.returns-in_ok-from_slice-in-None-clause-told
+returns-in_ok-from_slice-in-None-clause-told c =
+    let g : GdbState = gdb_state c.args.self.now c.args.images.now in
+    let there : None ≡ bytes_of_pairs (decode_of c.args.pairs.now) = rw c.in-None.is at c.in_ok-line.ensures in
+    let packet : option_map (λ reply. reply.items) c.with_reply.result.reply ≡ Some (codes "E16") = rw c.with_reply.ensures.reply (ap Some c.in_ok-from_slice-in-None.ensures.items) in
+    subst (λ (a : GdbAnswered). IsGdbAnswered g c.with_reply.result a)
+    (ap (line_decoded c.args.self.now.debug.setting g) there)
+    (replied g c.with_reply.result (codes "E16") c.with_reply.ensures.told packet)

@@ -1,0 +1,9 @@
+-- What GDB's requests do, and what they are answered. Begin with Requests.
+pub mod Changes
+pub mod Laws
+pub mod Looks
+pub mod Requests
+pub mod Runs
+pub mod Session
+pub mod State
+pub mod Stores

@@ -1,0 +1,93 @@
+-- Requests that change what stands, without a step: a register, bytes, breaks and watches, and the end.
+use Rattle.std.specs.Prelude.{ℕ, true, ◌==◌, List, codes, Option, Some, None, Result, Ok, Err, if◌then◌else◌}
+use Rattle.std.specs.Int.{from_le_bytes, w32}
+use Rattle.hex.specs.Hex.{decode_of, decode_sized}
+use Rattle.hex.specs.declared.error.FromHexError.{FromHexError}
+use Rattle.command_shell.specs.Memory.{script_at, script_with_bank_register, script_with_register, script_with_status}
+use Rattle.command_shell.specs.State.{ScriptState}
+use Rattle.command_shell.specs.Stepping.{script_with_break, script_without_break}
+use Rattle.swi_dispatch_breaks.specs.declared.breaks.BreakError.{BreakError}
+use Rattle.swi_dispatch_breaks.specs.declared.breaks.BreakError.TheVariants as break
+use Rattle.gdb_machine.specs.Changes.{register_write}
+use Rattle.gdb_machine.specs.Watches.{with_watch, without_watch}
+use Rattle.gdb_machine.specs.declared.changes.RegisterWrite.{RegisterWrite}
+use Rattle.gdb_machine.specs.declared.changes.RegisterWrite.TheVariants as change
+use Rattle.gdb_machine.specs.declared.watches.WatchError.{WatchError}
+use Rattle.gdb_machine.specs.declared.watches.WatchError.TheVariants as watch
+use Rattle.gdb_packets.specs.declared.requests.ByteRange.{ByteRange}
+use Rattle.gdb_server.specs.session.State.{GdbState, GdbAnswered, packet_reply, with_script}
+use Rattle.gdb_server.specs.session.Stores.{store_told}
+
+-- a register
+abbrev pub script_with_change : ScriptState → RegisterWrite → ScriptState
+script_with_change s (change.Present n value) = script_with_register s n value
+script_with_change s (change.Place address) = script_at s address
+script_with_change s (change.Status status) = script_with_status s status
+script_with_change s (change.Banked mode n value) = script_with_bank_register s mode n value
+
+abbrev pub register_changed : GdbState → Option RegisterWrite → GdbAnswered
+register_changed g (Some c) = packet_reply (with_script g (script_with_change g.debug.script c)) (codes "OK")
+register_changed g None = packet_reply g (codes "E16")
+
+abbrev pub write_wanted : ℕ → Result (List ℕ) FromHexError → Option RegisterWrite
+write_wanted n (Ok bytes) = register_write n (from_le_bytes w32 bytes)
+write_wanted n (Err error) = None
+
+-- `P n=v`
+abbrev pub set_register_told : GdbState → ℕ → List ℕ → GdbAnswered
+set_register_told g n pairs = register_changed g (write_wanted n (decode_sized pairs 4))
+
+-- the bytes of pairs of digits, if they are pairs of digits
+abbrev pub bytes_of_pairs : Result (List ℕ) FromHexError → Option (List ℕ)
+bytes_of_pairs (Ok bytes) = Some bytes
+bytes_of_pairs (Err error) = None
+
+abbrev pub decoded_stored : GdbState → ByteRange → Option (List ℕ) → GdbAnswered
+decoded_stored g range (Some bytes) = store_told g range bytes
+decoded_stored g range None = packet_reply g (codes "E16")
+
+-- `M a,n:`
+abbrev pub store_pairs_told : GdbState → ByteRange → List ℕ → GdbAnswered
+store_pairs_told g range pairs = decoded_stored g range (bytes_of_pairs (decode_of pairs))
+
+abbrev pub break_refusal : BreakError → List ℕ
+break_refusal break.BreakTableFull = codes "E1c"
+break_refusal break.Unaligned = codes "E16"
+break_refusal break.NoBreak = codes "E16"
+
+abbrev pub break_set : GdbState → Result ScriptState BreakError → GdbAnswered
+break_set g (Ok s) = packet_reply (with_script g s) (codes "OK")
+break_set g (Err error) = packet_reply g (break_refusal error)
+
+-- `Z0 a,4`: an instruction has four bytes
+abbrev pub add_break_told : GdbState → ByteRange → GdbAnswered
+add_break_told g range =
+    if range.count == 4 then break_set g (script_with_break g.debug.script range.start)
+    else packet_reply g (codes "E16")
+
+abbrev pub break_cleared : GdbState → Result ScriptState BreakError → GdbAnswered
+break_cleared g (Ok s) = packet_reply (with_script g s) (codes "OK")
+break_cleared g (Err error) = packet_reply g (codes "OK")
+
+-- `z0`; one that isn't there is gone
+abbrev pub remove_break_told : GdbState → ByteRange → GdbAnswered
+remove_break_told g range = break_cleared g (script_without_break g.debug.script range.start)
+
+abbrev pub watch_refusal : WatchError → List ℕ
+watch_refusal watch.WatchTableFull = codes "E1c"
+watch_refusal watch.BadLength = codes "E16"
+
+abbrev pub watch_set : GdbState → Result (List ByteRange) WatchError → GdbAnswered
+watch_set g (Ok watches) = packet_reply (record g { watches = watches }) (codes "OK")
+watch_set g (Err error) = packet_reply g (watch_refusal error)
+
+-- `Z2`, `z2`
+abbrev pub add_watch_told : GdbState → ByteRange → GdbAnswered
+add_watch_told g range = watch_set g (with_watch g.watches range)
+
+abbrev pub remove_watch_told : GdbState → ByteRange → GdbAnswered
+remove_watch_told g range = packet_reply (record g { watches = without_watch g.watches range }) (codes "OK")
+
+-- the debugger goes
+abbrev pub at_session_end : GdbState → GdbState
+at_session_end g = record g { has_ended = true }

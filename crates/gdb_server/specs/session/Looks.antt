@@ -1,0 +1,52 @@
+-- The requests that only look, and the packet that each is answered with. Those of other requests are
+-- none.
+use Rattle.std.specs.Prelude.{ℕ, List, [], ◌++◌, Option, Some, None, codes}
+use Rattle.gdb_packets.specs.Requests as request
+use Rattle.gdb_packets.specs.Requests.{GdbRequest}
+use Rattle.gdb_packets.specs.declared.requests.PointKind.{PointKind}
+use Rattle.gdb_packets.specs.declared.requests.PointKind.TheVariants as point
+use Rattle.gdb_machine.specs.Description.{description_text}
+use Rattle.gdb_machine.specs.Libraries.{libraries_part}
+use Rattle.gdb_machine.specs.Memory.{memory_reply}
+use Rattle.gdb_machine.specs.Registers.{all_registers_text, register_reply}
+use Rattle.gdb_machine.specs.Stops.{stop_packet}
+use Rattle.gdb_server.specs.session.State.{GdbState}
+
+abbrev pub supported_text : List ℕ
+supported_text =
+    codes "PacketSize=4000;QStartNoAckMode+;vContSupported+;swbreak+;hwbreak+;qXfer:features:read+"
+    ++ codes ";qXfer:libraries:read+"
+
+-- watches of loads can't be set
+abbrev pub unknown_point : PointKind → Option (List ℕ)
+unknown_point point.LoadWatch = Some []
+unknown_point point.AccessWatch = Some []
+unknown_point point.Break = None
+unknown_point point.StoreWatch = None
+
+-- a packet that is always the same; an empty one says that a request isn't known
+abbrev pub fixed_reply : GdbRequest → Option (List ℕ)
+fixed_reply request.NoAcks = Some (codes "OK")
+fixed_reply request.Thread = Some (codes "OK")
+fixed_reply request.Extended = Some (codes "OK")
+fixed_reply request.Supported = Some supported_text
+fixed_reply request.Ways = Some (codes "vCont;c;C;s;S")
+fixed_reply request.IsAttached = Some (codes "0")
+fixed_reply request.CurrentThread = Some (codes "QC1")
+fixed_reply request.FirstThreads = Some (codes "m1")
+fixed_reply request.MoreThreads = Some (codes "l")
+fixed_reply (request.SetRegisters pairs) = Some []
+fixed_reply (request.AddPoint kind range) = unknown_point kind
+fixed_reply (request.RemovePoint kind range) = unknown_point kind
+fixed_reply request.Unknown = Some []
+fixed_reply _ = None
+
+-- `?`, `g`, `p`, `m`, the description and the list of libraries
+abbrev pub look_reply : GdbState → GdbRequest → Option (List ℕ)
+look_reply g request.Reason = Some (stop_packet g.debug.script.machine.cpu g.stop)
+look_reply g request.Registers = Some (all_registers_text g.debug.script.machine.cpu)
+look_reply g (request.Register n) = Some (register_reply g.debug.script.machine.cpu n)
+look_reply g (request.Memory range) = Some (memory_reply g.debug.script.machine.store.bytes range)
+look_reply g (request.Description range) = Some (description_text range)
+look_reply g (request.Libraries range) = Some (libraries_part g.debug.script.machine.tables.modules range)
+look_reply g other = fixed_reply other

@@ -1,0 +1,33 @@
+-- The state of a session with GDB, as the code holds it: the session and the images.
+use Rattle.std.specs.Prelude.{◌≡◌, ℕ, List, ◌++◌, option_map}
+use Rattle.image_loader.specs.Entries.{Entry}
+use Rattle.debug_session.specs.Session.{debug_state}
+use Rattle.gdb_machine.specs.declared.stops.GdbStop.{GdbStop}
+use Rattle.gdb_server.specs.session.Runs.{StepsTaken}
+use Rattle.gdb_server.specs.session.State.{GdbState, GdbAnswered, with_script}
+use Rattle.gdb_server.specs.declared.session.session.GdbAnswer.{GdbAnswer}
+use Rattle.gdb_server.specs.declared.session.session.GdbSession.{GdbSession}
+
+abbrev pub gdb_state : GdbSession → List Entry → GdbState
+gdb_state s images = record {
+  debug = debug_state s.debug images;
+  watches = s.watches;
+  libraries = s.libraries.items;
+  is_running = s.is_running;
+  is_asked = s.is_asked;
+  stop = s.stop;
+  has_ended = s.has_ended;
+}
+
+-- A session and an answer after a request: the session stands in its state, and the answer is its.
+pub record IsGdbAnswered (now : GdbState) (answer : GdbAnswer) (told : GdbAnswered) : Type 0 where
+  pub state : now ≡ told.state
+  pub text : answer.told.items ≡ told.told
+  pub reply : option_map (λ reply. reply.items) answer.reply ≡ told.reply
+
+-- A session, a text and an answer after steps: the session stands in their state, what they printed is
+-- appended, and the answer tells why they ended.
+pub record IsAfterSteps (old now : GdbState) (before after : List ℕ) (stop : GdbStop) (taken : StepsTaken) : Type 0 where
+  pub state : now ≡ with_script old taken.script
+  pub text : after ≡ before ++ taken.printed
+  pub reason : stop ≡ taken.stop

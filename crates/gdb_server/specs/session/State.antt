@@ -1,0 +1,71 @@
+-- What a session with GDB works on, and what a request is answered with.
+use Rattle.std.specs.Prelude.{ℕ, Bool, false, List, [], Option, Some, None}
+use Rattle.image_loader.specs.Entries.{Entry}
+use Rattle.command_shell.specs.State.{ScriptState}
+use Rattle.debug_session.specs.DebugState.{DebugState, debug_start_state}
+use Rattle.debug_session.specs.DebugChecksReportForm.TheVariants.{Answers}
+use Rattle.debug_session.specs.Meters.{silent_meter}
+use Rattle.debug_session.specs.declared.session.DebugSetting.{DebugSetting}
+use Rattle.gdb_machine.specs.Libraries.{library_lines}
+use Rattle.gdb_machine.specs.declared.stops.GdbStop.{GdbStop}
+use Rattle.gdb_machine.specs.declared.stops.GdbStop.TheVariants as reason
+use Rattle.gdb_packets.specs.declared.requests.ByteRange.{ByteRange}
+use Rattle.gdb_server.specs.declared.session.session.GdbSetting.{GdbSetting}
+
+-- What a debugging script works on, the bytes that GDB watches, the lines of the modules that GDB was told
+-- are there, whether a run is under way, whether the user wants it to stop, why the program stands, and
+-- whether GDB is gone.
+pub record GdbState : Type 0 where
+  pub debug : DebugState
+  pub watches : List ByteRange
+  pub libraries : List ℕ
+  pub is_running : Bool
+  pub is_asked : Bool
+  pub stop : GdbStop
+  pub has_ended : Bool
+
+-- the state after a request, text for the user, and one packet at most
+pub record GdbAnswered : Type 0 where
+  pub state : GdbState
+  pub told : List ℕ
+  pub reply : Option (List ℕ)
+
+-- a packet without text for the user
+abbrev pub packet_reply : GdbState → List ℕ → GdbAnswered
+packet_reply g reply = record { state = g; told = []; reply = Some reply }
+
+-- nothing
+abbrev pub no_reply : GdbState → GdbAnswered
+no_reply g = record { state = g; told = []; reply = None }
+
+-- the state of the script alone is another
+abbrev pub with_script : GdbState → ScriptState → GdbState
+with_script g s = record g { debug = record g.debug { script = s } }
+
+-- the lines of the modules that are there
+abbrev pub libraries_now : GdbState → List ℕ
+libraries_now g = library_lines g.debug.script.machine.tables.modules
+
+abbrev pub with_libraries_told : GdbState → GdbState
+with_libraries_told g = record g { libraries = libraries_now g }
+
+-- what lines are answered with: as answers
+abbrev pub debug_setting : GdbSetting → DebugSetting
+debug_setting setting = record {
+  config = setting.config;
+  budget = setting.budget;
+  form = Answers;
+  meter = silent_meter;
+}
+
+-- before the first line
+abbrev pub gdb_start : DebugSetting → List Entry → GdbState
+gdb_start setting images = record {
+  debug = debug_start_state setting images;
+  watches = [];
+  libraries = [];
+  is_running = false;
+  is_asked = false;
+  stop = reason.Stepped;
+  has_ended = false;
+}

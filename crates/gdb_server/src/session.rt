@@ -1,0 +1,17 @@
+//! GDB on a machine: what a request of its remote protocol does to a session, and what it is answered.
+#![tactic(auto)]
+
+mod acting;
+mod changing;
+mod laws;
+mod looking;
+mod running;
+mod session;
+mod storing;
+
+pub use gdb_machine::{GdbStop, Signal};
+pub use laws::{
+    looking_changes_nothing, looking_lines_leave_the_machine, registers_are_read,
+    slices_are_one_run, writes_are_whole,
+};
+pub use session::{GdbAnswer, GdbSession, GdbSetting};

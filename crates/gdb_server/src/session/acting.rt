@@ -1,0 +1,93 @@
+//! Requests that do more than look.
+
+ghost use Rattle.std.specs.Prelude.{◌≡◌, [], None, List, IfErr, IfOk, option_map};
+ghost use Rattle.command_shell.specs.Error.{IsLineError};
+ghost use Rattle.gdb_packets.specs.Requests.{gdb_request};
+
+use crate::session::session::{GdbAnswer, GdbSession};
+use command_shell::RunError;
+use gdb_packets::Request;
+use image_loader::Images;
+
+impl GdbSession {
+    ghost use Rattle.image_loader.specs.Entries.{Entry};
+    ghost use Rattle.gdb_server.specs.session.Requests.{act_told, gdb_change_told};
+    ghost use Rattle.gdb_server.specs.session.Session.{gdb_state, IsGdbAnswered};
+    ghost use Rattle.gdb_server.specs.session.State.{GdbAnswered};
+
+    /// Answers a request that doesn't only look.
+    pub(crate) fn act(
+        &mut self,
+        images: &mut Images,
+        request: &Request<'_>,
+    ) -> Result<GdbAnswer, RunError>
+        ensures told { IfOk result (λ answer. IsGdbAnswered (gdb_state self.new images.new) answer
+            (act_told self.old.debug.setting self.old.start.items (gdb_state self.old images.old)
+            (gdb_request request.now))) }
+        ensures setting { self.new.debug.setting ≡ self.old.debug.setting }
+        ensures start { self.new.start.items ≡ self.old.start.items }
+        ensures errors { IfErr result IsLineError }
+    {
+        match request {
+            Request::Continue => self.run_on(images),
+            Request::Step => self.step(images),
+            Request::HostAnswer(asks) => self.host_answered(images, *asks),
+            Request::Line(pairs) => self.answer_line(images, pairs),
+            Request::RunProgram => self.run_program(images),
+            Request::Restart => self.restart(images),
+            _ => {
+                let reply = self.change(request)?;
+                self.told_change(reply)
+            }
+        }
+    }
+
+    // The packet that tells of a change, if one does.
+    fn told_change(&self, reply: Option<&'static [u8]>) -> Result<GdbAnswer, RunError>
+        ensures told { IfOk result (λ answer. answer.told.items ≡ []) }
+        ensures reply { IfOk result (λ answer. option_map (λ packet. packet.items) answer.reply
+            ≡ option_map (λ text. text.now) reply.entry) }
+        ensures errors { IfErr result IsLineError }
+    {
+        let told = Vec::new(self.alloc);
+        match reply {
+            Some(reply) => {
+                let reply = Some(Vec::from_slice(self.alloc, reply)?);
+                Ok(GdbAnswer { told, reply })
+            }
+            None => Ok(GdbAnswer { told, reply: None }),
+        }
+    }
+
+    // Changes what stands, without a step, and gives the packet that tells of it.
+    fn change(&mut self, request: &Request<'_>) -> Result<Option<&'static [u8]>, RunError>
+        ensures told { (images : List Entry) → IfOk result (λ reply. record {
+          state = gdb_state self.new images;
+          told = [];
+          reply = option_map (λ text. text.now) reply;
+        } ≡ gdb_change_told (gdb_state self.old images) (gdb_request request.now)) }
+        ensures setting { self.new.debug.setting ≡ self.old.debug.setting }
+        ensures start { self.new.start.items ≡ self.old.start.items }
+        ensures errors { IfErr result IsLineError }
+    {
+        match request {
+            Request::SetRegister(number, pairs) => Ok(Some(self.set_register(*number, pairs))),
+            Request::StorePairs(range, pairs) => Ok(Some(self.store_pairs(*range, pairs)?)),
+            Request::StoreBytes(range, bytes) => Ok(Some(self.store(*range, bytes))),
+            Request::AddPoint(kind, range) => Ok(Some(self.add_point(*kind, *range))),
+            Request::RemovePoint(kind, range) => {
+                self.remove_point(*kind, *range);
+                Ok(Some(b"OK"))
+            }
+            Request::KillProgram => Ok(Some(b"OK")),
+            Request::Detach => {
+                self.has_ended = true;
+                Ok(Some(b"OK"))
+            }
+            _ => {
+                self.has_ended = true;
+                Ok(None)
+            }
+        }
+    }
+}

@@ -1,0 +1,74 @@
+//! Requests that look: they leave the session as it is.
+
+ghost use Rattle.std.specs.Prelude.{◌≡◌, List, IfOk, option_map};
+ghost use Rattle.gdb_packets.specs.Requests.{gdb_request};
+ghost use Rattle.gdb_server.specs.session.Looks.{fixed_reply as fixed_told};
+
+use crate::session::session::GdbSession;
+use gdb_machine::{
+    all_registers, description_part, libraries_part, memory_told, one_register, stop_packet,
+};
+use gdb_packets::{PointKind, Request};
+use std::alloc::AllocError;
+
+/// What the other side may ask for.
+const SUPPORTED: &[u8] = b"PacketSize=4000;QStartNoAckMode+;vContSupported+;swbreak+;hwbreak+;\
+    qXfer:features:read+;qXfer:libraries:read+";
+
+impl GdbSession {
+    ghost use Rattle.image_loader.specs.Entries.{Entry};
+    ghost use Rattle.gdb_server.specs.session.Looks.{look_reply};
+    ghost use Rattle.gdb_server.specs.session.Session.{gdb_state};
+
+    /// The packet that a request is answered with which only looks; `None` for other requests.
+    pub(crate) fn look(&self, request: &Request<'_>) -> Result<Option<Vec<u8>>, AllocError>
+        ensures { (images : List Entry) → IfOk result (λ reply. option_map (λ packet. packet.items) reply
+            ≡ look_reply (gdb_state self.now images) (gdb_request request.now)) }
+    {
+        let machine = self.debug.session.machine();
+        match request {
+            Request::Reason => Ok(Some(stop_packet(self.alloc, machine.cpu(), self.stop)?)),
+            Request::Registers => Ok(Some(all_registers(self.alloc, machine.cpu())?)),
+            Request::Register(number) => {
+                Ok(Some(one_register(self.alloc, machine.cpu(), *number)?))
+            }
+            Request::Memory(range) => Ok(Some(memory_told(self.alloc, machine.memory(), *range)?)),
+            Request::Description(range) => Ok(Some(description_part(self.alloc, *range)?)),
+            Request::Libraries(range) => {
+                let part = libraries_part(self.alloc, machine.instances(), *range)?;
+                Ok(Some(part))
+            }
+            _ => self.fixed(fixed_reply(request)),
+        }
+    }
+
+    fn fixed(&self, reply: Option<&'static [u8]>) -> Result<Option<Vec<u8>>, AllocError>
+        ensures { IfOk result (λ told. option_map (λ packet. packet.items) told
+            ≡ option_map (λ text. text.now) reply.entry) }
+    {
+        match reply {
+            Some(reply) => Ok(Some(Vec::from_slice(self.alloc, reply)?)),
+            None => Ok(None),
+        }
+    }
+}
+
+// What requests are answered with whose answer is always the same.
+fn fixed_reply(request: &Request<'_>) -> Option<&'static [u8]>
+    ensures { option_map (λ text. text.now) result ≡ fixed_told (gdb_request request.now) }
+{
+    match request {
+        Request::NoAcks | Request::Thread | Request::Extended => Some(b"OK"),
+        Request::Supported => Some(SUPPORTED),
+        Request::Ways => Some(b"vCont;c;C;s;S"),
+        Request::IsAttached => Some(b"0"),
+        Request::CurrentThread => Some(b"QC1"),
+        Request::FirstThreads => Some(b"m1"),
+        Request::MoreThreads => Some(b"l"),
+        Request::Unknown
+        | Request::SetRegisters(_)
+        | Request::AddPoint(PointKind::LoadWatch | PointKind::AccessWatch, _)
+        | Request::RemovePoint(PointKind::LoadWatch | PointKind::AccessWatch, _) => Some(b""),
+        _ => None,
+    }
+}

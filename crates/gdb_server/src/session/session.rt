@@ -1,0 +1,152 @@
+//! A session with GDB, and how one of its requests is answered.
+
+ghost use Rattle.std.specs.Prelude.{◌≡◌, ◌&&◌, false, true, [], Some, List, IfOk, IfErr};
+ghost use Rattle.command_shell.specs.Error.{IsLineError};
+ghost use Rattle.gdb_server.specs.session.State.{debug_setting as debug_setting_told};
+
+use command_shell::RunError;
+use debug_session::{DebugSession, DebugSetting, ReportForm, RunMeter};
+use gdb_machine::{GdbStop, Watches};
+use gdb_packets::Request;
+use image_loader::Images;
+use profile::{Config, Stop};
+use std::alloc::{AllocError, Global};
+
+/// What a session is made with.
+#[derive(Clone, Copy, Debug)]
+pub struct GdbSetting {
+    /// The sizes of its machines.
+    pub config: Config,
+    /// How many steps a run may take.
+    pub budget: u64,
+}
+
+/// A session with GDB: a session of debugging scripts, and what GDB has asked for.
+#[derive(Drop)]
+pub struct GdbSession {
+    pub(crate) alloc: Global,
+    // The lines that a machine begins with.
+    pub(crate) start: Vec<u8>,
+    pub(crate) debug: DebugSession,
+    pub(crate) watches: Watches,
+    // The lines of the modules that GDB was told are there.
+    pub(crate) libraries: Vec<u8>,
+    pub(crate) is_running: bool,
+    pub(crate) is_asked: bool,
+    pub(crate) stop: GdbStop,
+    pub(crate) has_ended: bool,
+}
+
+/// What a request is answered with: text for the user, and then one packet at most.
+#[derive(Drop)]
+pub struct GdbAnswer {
+    /// The text.
+    pub told: Vec<u8>,
+    /// The packet.
+    pub reply: Option<Vec<u8>>,
+}
+
+impl GdbSession {
+    ghost use Rattle.image_loader.specs.Entries.{Entry};
+    ghost use Rattle.gdb_packets.specs.Requests.{gdb_request};
+    ghost use Rattle.gdb_server.specs.session.Requests.{gdb_answered};
+    ghost use Rattle.gdb_server.specs.session.Session.{gdb_state, IsGdbAnswered};
+    ghost use Rattle.gdb_server.specs.session.State.{debug_setting, gdb_start};
+
+    /// A session on a fresh machine, whose first lines have not been answered yet.
+    ///
+    /// # Errors
+    ///
+    /// Memory ran out.
+    pub fn new(alloc: Global, setting: GdbSetting, start: &[u8]) -> Result<GdbSession, AllocError>
+        ensures state { IfOk result (λ session. (images : List Entry)
+            → gdb_state session images ≡ gdb_start (debug_setting setting) images) }
+        ensures setting { IfOk result (λ session. session.debug.setting ≡ debug_setting setting) }
+        ensures start { IfOk result (λ session. session.start.items ≡ start.now) }
+    {
+        let start = Vec::from_slice(alloc, start)?;
+        let debug = DebugSession::new(alloc, debug_setting(setting))?;
+        Ok(GdbSession {
+            alloc,
+            start,
+            debug,
+            watches: Watches::new(),
+            libraries: Vec::new(alloc),
+            is_running: false,
+            is_asked: false,
+            stop: GdbStop::Stepped,
+            has_ended: false,
+        })
+    }
+
+    /// Whether the debugger is gone: no request after it is answered.
+    pub fn has_ended(&self) -> bool
+        ensures { (images : List Entry) → result ≡ (gdb_state self.now images).has_ended }
+    {
+        self.has_ended
+    }
+
+    /// The last stop of the machine, if there was one.
+    pub fn last(&self) -> Option<Stop>
+        ensures { (images : List Entry) → result ≡ (gdb_state self.now images).debug.script.last }
+    {
+        self.debug.session.last()
+    }
+
+    /// The user wants the program to stop, where it is running.
+    pub fn ask_to_stop(&mut self)
+        ensures asked { (images : List Entry) → gdb_state self.new images
+            ≡ record (gdb_state self.old images) { is_asked = (gdb_state self.old images).is_running } }
+        ensures setting { self.new.debug.setting ≡ self.old.debug.setting }
+        ensures start { self.new.start.items ≡ self.old.start.items }
+    {
+        self.is_asked = self.is_running;
+    }
+
+    /// Answers a request.
+    ///
+    /// # Errors
+    ///
+    /// `Memory`, and the session ends there.
+    #[tactic(auto, unfolding(crate::specs::session::Requests::gdb_answered))]
+    pub fn answer(
+        &mut self,
+        images: &mut Images,
+        request: &Request<'_>,
+    ) -> Result<GdbAnswer, RunError>
+        ensures told { IfOk result (λ answer. IsGdbAnswered (gdb_state self.new images.new) answer
+            (gdb_answered self.old.debug.setting self.old.start.items (gdb_state self.old images.old)
+            (gdb_request request.now))) }
+        ensures setting { self.new.debug.setting ≡ self.old.debug.setting }
+        ensures start { self.new.start.items ≡ self.old.start.items }
+        ensures errors { IfErr result IsLineError }
+    {
+        match self.look(request)? {
+            Some(reply) => Ok(self.with_reply(reply)),
+            None => self.act(images, request),
+        }
+    }
+
+    // A packet without text for the user.
+    pub(crate) fn with_reply(&self, reply: Vec<u8>) -> GdbAnswer
+        ensures told { result.told.items ≡ [] }
+        ensures reply { result.reply ≡ Some reply }
+    {
+        GdbAnswer {
+            told: Vec::new(self.alloc),
+            reply: Some(reply),
+        }
+    }
+}
+
+// What lines are answered with: as answers.
+fn debug_setting(setting: GdbSetting) -> DebugSetting
+    ensures { result ≡ debug_setting_told setting }
+{
+    DebugSetting {
+        config: setting.config,
+        budget: setting.budget,
+        form: ReportForm::Answers,
+        meter: RunMeter::silent(),
+    }
+}

@@ -1,0 +1,41 @@
+//! Bytes stored by GDB.
+
+ghost use Rattle.std.specs.Prelude.{◌≡◌, List};
+ghost use Rattle.gdb_server.specs.session.Stores.{store_refusal as refusal_told};
+
+use crate::session::session::GdbSession;
+use debug_session::put_bytes;
+use gdb_packets::ByteRange;
+use profile::Fault;
+
+impl GdbSession {
+    ghost use Rattle.image_loader.specs.Entries.{Entry};
+    ghost use Rattle.gdb_server.specs.session.Session.{gdb_state};
+    ghost use Rattle.gdb_server.specs.session.State.{packet_reply};
+    ghost use Rattle.gdb_server.specs.session.Stores.{store_told};
+
+    /// Stores bytes, and gives the packet that tells of it: all of them are stored, or none.
+    pub(crate) fn store(&mut self, range: ByteRange, bytes: &[u8]) -> &'static [u8]
+        ensures told { (images : List Entry) → packet_reply (gdb_state self.new images) result.now
+            ≡ store_told (gdb_state self.old images) range bytes.now }
+        ensures setting { self.new.debug.setting ≡ self.old.debug.setting }
+        ensures start { self.new.start.items ≡ self.old.start.items }
+    {
+        if bytes.len() != range.count as usize {
+            return b"E16";
+        }
+        match put_bytes(&mut self.debug.session, range.start, bytes) {
+            Ok(()) => b"OK",
+            Err(fault) => store_refusal(fault),
+        }
+    }
+}
+
+fn store_refusal(fault: Fault) -> &'static [u8]
+    ensures { result.now ≡ refusal_told fault }
+{
+    match fault {
+        Fault::OwnedWord => b"E0d",
+        _ => b"E0e",
+    }
+}

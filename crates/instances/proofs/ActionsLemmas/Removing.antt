@@ -1,0 +1,44 @@
+-- An instance goes, and with the last one of a module its image.
+use Rattle.std.proofs.Common.{◌≡◌, ℕ, List, [], ◌∷◌, refl, sym, ap, ◌∙◌, Some, None, Ok, Err, inl, inr}
+use Rattle.std.specs.Prelude.{Option, Result}
+use Rattle.std.proofs.lemmas.Bool.{cases_Bool}
+use Rattle.profile.specs.Outcome.{Gives}
+use Rattle.profile.specs.declared.error.ErrorNumber.{ErrorNumber}
+use Rattle.dynamic_areas.specs.Ground.{Estate}
+use Rattle.instances_table.specs.declared.parts.Image.{Image}
+use Rattle.instances_table.specs.Modules.{Module, has_instance}
+use Rattle.instances_table.specs.Changes.{module_without, without_instance}
+use Rattle.instances_table.specs.Images.{image_unless, last_image}
+use Rattle.instances.specs.world.World.{World, image_gone, image_gone_of, image_gone_with, or_same, private_freed, world_after_remove}
+
+-- what a call gave, or refused
+pub freed_by : {A : Type 0} (e h : Estate) (r : Result (Estate × A) ErrorNumber) (answer : Result A ErrorNumber) → Gives e r answer h → h ≡ or_same e r
+freed_by e h (Ok r) (Ok u) given = given.0
+freed_by e h (Ok r) (Err f) given = absurd given
+freed_by e h (Err f) (Ok u) given = absurd given
+freed_by e h (Err f) (Err g) given = given.1
+
+-- an image goes, if one does
+abbrev pub gone_by : Estate → Option Image → Estate
+gone_by e None = e
+gone_by e (Some image) = image_gone e image
+
+gone_of : (e : Estate) (m : Module) (left : List Module) → image_gone_of e m left ≡ gone_by e (image_unless m left)
+gone_of e m [] = refl
+gone_of e m (l ∷ ls) = refl
+
+gone_with : (e : Estate) (slot : ℕ) (ms : List Module) → image_gone_with e slot ms ≡ gone_by e (last_image slot ms)
+gone_with e slot [] = refl
+gone_with e slot (m ∷ ms) = elim (cases_Bool (has_instance slot m)) [
+  | inl own ↦ rw own (gone_of e m (module_without slot m))
+  | inr its ↦ rw its (gone_with e slot ms)
+]
+
+pub removed_by : (e f g : Estate) (ms ns : List Module) (slot : ℕ) (image : Option Image) → f ≡ private_freed e slot → ns ≡ without_instance slot ms
+    → image ≡ last_image slot ms → g ≡ gone_by f image
+    → (let w : World = record { estate = g; modules = ns } in w) ≡ world_after_remove (record { estate = e; modules = ms }) slot
+unfolding world_after_remove
+removed_by e f g ms ns slot image freed rest last gone =
+    let all : g ≡ image_gone_with (private_freed e slot) slot ms =
+    gone ∙ ap (gone_by f) last ∙ ap (λ (h : Estate). gone_by h (last_image slot ms)) freed ∙ sym (gone_with (private_freed e slot) slot ms) in
+    λ i. record { estate = all i; modules = rest i }

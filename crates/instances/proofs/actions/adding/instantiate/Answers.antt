@@ -1,0 +1,19 @@
+use Rattle.std.proofs.Common.{ap, ◌∙◌, refl, ◌++◌}
+use Rattle.instances.specs.world.Sound.{images_of}
+use Rattle.instances.specs.world.World.{world_of}
+use Rattle.instances.proofs.WorldLemmas.Worlds.{world_renewed}
+use Rattle.instances.proofs.ActionsLemmas.NewImages.{images_another}
+use Rattle.instances.proofs.actions.adding.instantiate.Goals as goal
+
+pub add_to-requires-clause-unnamed : goal.add_to-requires-clause-unnamed
+add_to-requires-clause-unnamed c = rw (c.as_slice.ensures.value, c.as_slice-2.ensures.value) c.requires.can.named
+
+pub returns-clause-modules : goal.returns-clause-modules
+returns-clause-modules c = rw (c.as_slice.ensures.value, c.as_slice-2.ensures.value) at c.add_to.ensures
+
+pub returns-clause-sound : goal.returns-clause-sound
+returns-clause-sound c = λ l pending world.
+    let put = c.put_private.ensures.sound l c.args.table.now pending world in
+    let added = rw (c.as_slice.ensures.value, c.as_slice-2.ensures.value) at c.add_to.ensures in
+    world_renewed (world_of c.put_private.new.map l c.args.table.now) (world_of c.put_private.new.map l c.add_to.new.self) pending pending put
+    (ap (λ xs. xs ++ pending) (ap images_of added ∙ images_another c.args.given.now c.args.slot c.args.table.now)) refl put.estate

@@ -1,0 +1,47 @@
+use Rattle.std.proofs.Common.{sym, subst, ◌∙◌}
+use Rattle.address_map.specs.Memory.{regions}
+use Rattle.address_map.specs.Records.{without_region}
+use Rattle.address_map.specs.declared.region.Kind.TheVariants as kind
+use Rattle.dynamic_areas.specs.Order.{stays}
+use Rattle.dynamic_areas.specs.Store.{store_of}
+use Rattle.rma.specs.Images.{image_dropped, image_freed}
+use Rattle.instances.specs.world.Records.{LosesRecords}
+use Rattle.instances.specs.world.World.{image_gone}
+use Rattle.instances.proofs.WorldLemmas.Records.{loses_both, loses_filtered, loses_one}
+use Rattle.instances.proofs.ActionsLemmas.Estates.{estate_with, others_dropped, others_freed, pages_less}
+use Rattle.instances.proofs.actions.removal.drop_image.Goals as goal
+
+pub returns-then-is_in_module_area-clause-estate : goal.returns-then-is_in_module_area-clause-estate
+unfolding image_gone
+returns-then-is_in_module_area-clause-estate c = λ l.
+    rw (sym c.is_in_module_area.ensures ∙ c.if-is_in_module_area.true) (estate_with c.args.map.now c.free_image.new.map l (image_freed (store_of c.args.map.now) c.args.image.at)
+    c.free_image.ensures.store c.free_image.ensures.mapping)
+
+pub returns-else-is_in_module_area-clause-estate : goal.returns-else-is_in_module_area-clause-estate
+unfolding image_gone
+returns-else-is_in_module_area-clause-estate c = λ l.
+    rw (sym c.is_in_module_area.ensures ∙ c.if-is_in_module_area.false) (estate_with c.args.map.now c.drop_image.new.map l (image_dropped (store_of c.args.map.now) c.args.image.at)
+    c.drop_image.ensures.store c.drop_image.ensures.mapping)
+
+pub returns-then-is_in_module_area-clause-pages : goal.returns-then-is_in_module_area-clause-pages
+returns-then-is_in_module_area-clause-pages c =
+    pages_less c.args.map.now c.free_image.new.map c.args.image.at
+    (others_freed (store_of c.args.map.now) (store_of c.free_image.new.map) c.args.image.at c.free_image.ensures.store)
+    c.free_image.ensures.mapping c.free_image.ensures.sound c.requires.system
+
+pub returns-else-is_in_module_area-clause-pages : goal.returns-else-is_in_module_area-clause-pages
+returns-else-is_in_module_area-clause-pages c =
+    pages_less c.args.map.now c.drop_image.new.map c.args.image.at
+    (others_dropped (store_of c.args.map.now) (store_of c.drop_image.new.map) c.args.image.at c.drop_image.ensures.store)
+    c.drop_image.ensures.mapping c.drop_image.ensures.sound c.requires.system
+
+pub returns-then-is_in_module_area-clause-records : goal.returns-then-is_in_module_area-clause-records
+returns-then-is_in_module_area-clause-records c =
+    let rs = regions c.args.map.now in
+    subst (LosesRecords rs) (sym c.free_image.ensures.records)
+    (loses_both rs (without_region rs kind.Image c.args.image.at) _ (loses_one kind.Image c.args.image.at rs)
+    (loses_filtered (stays (store_of c.free_image.new.map).heaps) (without_region rs kind.Image c.args.image.at)))
+
+pub returns-else-is_in_module_area-clause-records : goal.returns-else-is_in_module_area-clause-records
+returns-else-is_in_module_area-clause-records c =
+    subst (LosesRecords (regions c.args.map.now)) (sym c.drop_image.ensures.regions) (loses_one kind.Image c.args.image.at (regions c.args.map.now))

@@ -1,0 +1,106 @@
+//! What adds a module or an instance, or gives a new module's image up.
+
+ghost use Rattle.std.specs.Prelude.{ℕ, List, ◌≡◌, [], ◌∷◌, true};
+ghost use Rattle.address_map.specs.Memory.{layout, mapping, regions};
+ghost use Rattle.dynamic_areas.specs.Store.{AreClasses, store_of};
+ghost use Rattle.dynamic_areas.specs.Areas.{Land};
+ghost use Rattle.dynamic_areas.specs.Ground.{estate_of};
+ghost use Rattle.rma.specs.flex_frame.Keeping.{KeepsFlex};
+ghost use Rattle.instances_table.specs.Changes.{is_new};
+ghost use Rattle.instances_table.specs.Modules.{Module};
+ghost use Rattle.instances.specs.world.Records.{LosesRecords};
+ghost use Rattle.instances.specs.world.Sound.{HasSystemPages, IsWorld};
+ghost use Rattle.instances.specs.world.World.{image_gone, with_private, world_of};
+ghost use Rattle.instances.specs.actions.Actions.{image_given, with_another, with_new};
+ghost use Rattle.instances.specs.actions.Asked.{CanInstantiate};
+
+use crate::actions::removal::drop_image;
+use crate::world::put_private;
+use address_map::AddressMap;
+use arrayvec::ArrayVec;
+use instances_plans::{Given, Header};
+use instances_table::{Image, InstanceTable};
+
+/// Adds the new module, the youngest, with its first instance in a slot, whose private word is 0.
+///
+/// RISC OS 3 Programmer's Reference Manual, "OS_Module", reasons 1, 10 and 11.
+pub fn insert(map: &mut AddressMap, table: &mut InstanceTable, given: &Given, slot: u32)
+    requires new { is_new given.now.header.title.items slot table.old ≡ true }
+    requires system { HasSystemPages map.old }
+    ensures estate { (l : Land) → estate_of map.new l ≡ with_private (estate_of map.old l) slot 0 }
+    ensures modules { table.new ≡ with_new given.now slot table.old }
+    ensures sound { (l : Land) → IsWorld (world_of map.old l table.old) (image_given given.now ∷ [])
+        → IsWorld (world_of map.new l table.new) [] }
+    ensures pages { HasSystemPages map.new }
+    ensures classes { AreClasses map.old → AreClasses map.new }
+    ensures layout { layout map.new ≡ layout map.old }
+    ensures flex { KeepsFlex (store_of map.old) (store_of map.new) }
+{
+    put_private(map, slot, 0);
+    table.insert(copied(&given.header), image_given(given), slot);
+}
+
+/// Adds an instance of a module that is there, the youngest, in a slot; its private word is 0.
+///
+/// RISC OS 3 Programmer's Reference Manual, "OS_Module", reason 14.
+pub fn instantiate(map: &mut AddressMap, table: &mut InstanceTable, given: &Given, slot: u32)
+    requires can { CanInstantiate given.now table.old slot }
+    requires system { HasSystemPages map.old }
+    ensures estate { (l : Land) → estate_of map.new l ≡ with_private (estate_of map.old l) slot 0 }
+    ensures modules { table.new ≡ with_another given.now slot table.old }
+    ensures sound { (l : Land) (pending : List Image) → IsWorld (world_of map.old l table.old) pending
+        → IsWorld (world_of map.new l table.new) pending }
+    ensures pages { HasSystemPages map.new }
+    ensures classes { AreClasses map.old → AreClasses map.new }
+    ensures layout { layout map.new ≡ layout map.old }
+    ensures flex { KeepsFlex (store_of map.old) (store_of map.new) }
+{
+    put_private(map, slot, 0);
+    table.add_to(given.header.title.as_slice(), given.name.as_slice(), slot);
+}
+
+/// Gives the new module's image up: its record goes, and its block where it has one.
+///
+/// RISC OS 3 Programmer's Reference Manual, "OS_Module", reasons 1, 10 and 11.
+pub fn give_up(map: &mut AddressMap, given: &Given)
+    requires system { HasSystemPages map.old }
+    requires classes { AreClasses map.old }
+    ensures estate { (l : Land) → estate_of map.new l ≡ image_gone (estate_of map.old l)
+        (image_given given.now) }
+    ensures sound { (l : Land) (modules : List Module)
+        → IsWorld (world_of map.old l modules) (image_given given.now ∷ [])
+        → IsWorld (world_of map.new l modules) [] }
+    ensures pages { HasSystemPages map.new }
+    ensures classes { AreClasses map.new }
+    ensures mapping { mapping map.new ≡ mapping map.old }
+    ensures records { LosesRecords (regions map.old) (regions map.new) }
+    ensures flex { KeepsFlex (store_of map.old) (store_of map.new) }
+{
+    drop_image(map, image_given(given));
+}
+
+fn image_given(given: &Given) -> Image
+    ensures { result ≡ image_given given.now }
+{
+    Image {
+        at: given.image,
+        len: given.len,
+    }
+}
+
+fn copied(header: &Header) -> Header
+    ensures { result ≡ header.now }
+{
+    let mut title = ArrayVec::new();
+    title
+        .try_extend_from_slice(header.title.as_slice())
+        .unwrap();
+    Header {
+        title,
+        start: header.start,
+        initialise: header.initialise,
+        finalise: header.finalise,
+        chunk: header.chunk,
+        handler: header.handler,
+    }
+}

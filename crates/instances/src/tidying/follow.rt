@@ -1,0 +1,68 @@
+//! Private words and images follow the blocks that moved.
+ghost use Rattle.std.specs.Prelude.{◌≡◌, ◌≤◌, ◌<◌, ℕ, List, length, map, slice_index, EachIndex};
+ghost use Rattle.address_map.specs.Bytes.{AreMapped};
+ghost use Rattle.address_map.specs.Memory.{byte_at, is_mapped, layout};
+ghost use Rattle.dynamic_areas.specs.Store.{AreClasses, store_of};
+ghost use Rattle.dynamic_areas.specs.Areas.{Land};
+ghost use Rattle.dynamic_areas.specs.Ground.{estate_of};
+ghost use Rattle.rma.specs.flex_frame.Keeping.{KeepsFlex};
+ghost use Rattle.instances_table.specs.declared.parts.Image.{Image};
+ghost use Rattle.instances_table.specs.Modules.{Module};
+ghost use Rattle.instances.specs.world.Sound.{HasSystemPages, IsWorld};
+ghost use Rattle.instances.specs.world.World.{world_of};
+ghost use Rattle.instances.specs.tidying.Slid.{image_moved, private_words_at, words_moved};
+
+use crate::world::{private_value, put_private};
+use address_map::{AddressMap, Move};
+use arrayvec::ArrayVec;
+use instances_table::InstanceTable;
+use rma::heap_slide::moved_to;
+
+/// The most private words that instances have.
+pub(crate) const MOST_WORDS: usize = 64;
+
+/// The values of the private words of some slots.
+#[tactic(auto, using(crate::proofs::TidyingLemmas::Looping::words_more, crate::proofs::TidyingLemmas::Looping::words_few))]
+pub(crate) fn private_words(map: &AddressMap, slots: &[u32]) -> ArrayVec<u32, MOST_WORDS>
+    requires below { EachIndex slots.now (λ k. slice_index slots.now k < 64) }
+    requires few { length slots.now ≤ 64 }
+    requires mapped { AreMapped (is_mapped map.now) 0x01C02000 256 }
+    ensures { result.items ≡ private_words_at (byte_at map.now) slots.now }
+{
+    let mut words = ArrayVec::new();
+    for slot in slots {
+        words.push(private_value(map, *slot));
+    }
+    words
+}
+
+/// Gives each private word of some slots that names a block that moved the address where it went.
+#[tactic(auto, using(crate::proofs::WorldLemmas::Keeping::keeps_same))]
+pub(crate) fn move_words(map: &mut AddressMap, slots: &[u32], moves: &[Move])
+    requires below { EachIndex slots.now (λ k. slice_index slots.now k < 64) }
+    requires system { HasSystemPages map.old }
+    ensures estate { (l : Land) → estate_of map.new l ≡ words_moved moves.now slots.now
+        (estate_of map.old l) }
+    ensures sound { (l : Land) (modules : List Module) (pending : List Image)
+        → IsWorld (world_of map.old l modules) pending
+        → IsWorld (world_of map.new l modules) pending }
+    ensures classes { AreClasses map.old → AreClasses map.new }
+    ensures layout { layout map.new ≡ layout map.old }
+    ensures flex { KeepsFlex (store_of map.old) (store_of map.new) }
+{
+    for slot in slots {
+        let word = private_value(map, *slot);
+        put_private(map, *slot, moved_to(moves, word));
+    }
+}
+
+/// Gives each module whose image moved the address where it went.
+pub(crate) fn move_images(table: &mut InstanceTable, moves: &[Move])
+    ensures { table.new ≡ map (image_moved moves.now) table.old }
+{
+    for number in 0..table.count() {
+        if let Some(info) = table.module(number) {
+            table.moved(number, moved_to(moves, info.image));
+        }
+    }
+}

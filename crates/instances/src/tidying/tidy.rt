@@ -1,0 +1,44 @@
+//! The slide of the module area.
+ghost use Rattle.std.specs.Prelude.{◌≡◌, [], ◌≤◌, length};
+ghost use Rattle.address_map.specs.Memory.{mapping, regions};
+ghost use Rattle.dynamic_areas.specs.Store.{AreClasses, store_of};
+ghost use Rattle.rma.specs.flex_frame.Keeping.{KeepsFlex};
+ghost use Rattle.instances_plans.specs.declared.action.PlanAction.TheVariants.{Slide};
+ghost use Rattle.instances.specs.world.Records.{TurnsRecords};
+ghost use Rattle.instances.specs.world.Sound.{IsWorld};
+ghost use Rattle.instances.specs.world.World.{world_of};
+ghost use Rattle.instances.specs.tidying.Slid.{world_slid};
+
+use crate::tidying::follow::{move_images, move_words, private_words};
+use crate::tidying::movable::movable_blocks;
+use address_map::AddressMap;
+use dynamic_areas::Areas;
+use instances_table::InstanceTable;
+use rma::Rma;
+
+/// Tidies the module area: slides its movable blocks together, so that the free room between them
+/// becomes one. Movable are the images of modules, and each block that exactly one private word of
+/// an instance names, if they hold neither an anchor of the flex store, nor a heap, nor the return
+/// address of the call; all others stay. Private words that name blocks that moved follow them, and
+/// so do the images of modules, wherever these are told of.
+///
+/// RISC OS 3 Programmer's Reference Manual, "OS_Module", reason 8; which blocks can be moved is
+/// this project's own.
+pub fn slide(map: &mut AddressMap, areas: &Areas, table: &mut InstanceTable, return_address: u32)
+    requires sound { IsWorld (world_of map.old areas.now table.old) [] }
+    requires classes { AreClasses map.old }
+    ensures world { world_of map.new areas.now table.new
+        ≡ world_slid return_address (world_of map.old areas.now table.old) }
+    ensures sound { IsWorld (world_of map.new areas.now table.new) [] }
+    ensures classes { AreClasses map.new }
+    ensures mapping { mapping map.new ≡ mapping map.old }
+    ensures records { TurnsRecords Slide (regions map.old) (regions map.new) }
+    ensures flex { KeepsFlex (store_of map.old) (store_of map.new) }
+{
+    let slots = table.slots();
+    let words = private_words(map, slots.as_slice());
+    let movable = movable_blocks(map, table, words.as_slice(), return_address);
+    let moves = Rma::new().slide(map, movable.as_slice());
+    move_images(table, moves.as_slice());
+    move_words(map, slots.as_slice(), moves.as_slice());
+}

@@ -1,8 +1,0 @@
--- What each action of a plan does. Begin with Actions.
-pub use Rattle.module_world
-pub mod Actions
-pub mod Asked
-pub mod Codes
-pub mod Laws
-pub mod Pending
-pub mod Ready

@@ -1,7 +1,0 @@
-use Rattle.std.proofs.Common.{◌≡◌, take}
-use Rattle.address_map.specs.Memory.{byte_at}
-use Rattle.module_tidy.proofs.follow.private_words.Given as goal
-use Rattle.module_tidy.specs.Slid.{private_words_at}
-
-abbrev pub invariant-loop-slot : goal.invariant-loop-slot
-invariant-loop-slot l = l.words.items ≡ private_words_at (byte_at l.map) (take l.slot-index l.slots)

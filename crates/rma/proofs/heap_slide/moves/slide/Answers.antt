@@ -1,0 +1,62 @@
+use Rattle.std.proofs.Common.{List, ◌∙◌, ap, sym, subst}
+use Rattle.address_map.specs.Memory.{regions}
+use Rattle.address_map.specs.Moves.{AreDown, moved_regions}
+use Rattle.address_map.specs.declared.follow.Move.{Move}
+use Rattle.dynamic_areas.proofs.Frame.{layout-regions}
+use Rattle.rma.proofs.HeapSlideLemmas.Ending.{blocks_here, done_here, down_here, heap_here, here, slid_here}
+use Rattle.rma.proofs.heap_slide.moves.slide.Goals as goal
+
+pub slide_items-moves-requires-clause-heap : goal.slide_items-moves-requires-clause-heap
+slide_items-moves-requires-clause-heap c =
+    heap_here _ _ _ (here c.args.map.now c.args.heap c.args.movable.now c.requires.sound c.requires.movable)
+
+pub slide_items-moves-requires-clause-blocks : goal.slide_items-moves-requires-clause-blocks
+slide_items-moves-requires-clause-blocks c =
+    blocks_here _ _ _ (here c.args.map.now c.args.heap c.args.movable.now c.requires.sound c.requires.movable)
+
+pub slide_items-moves-requires-clause-few : goal.slide_items-moves-requires-clause-few
+slide_items-moves-requires-clause-few c =
+    (here c.args.map.now c.args.heap c.args.movable.now c.requires.sound c.requires.movable).few
+
+pub follow-requires : goal.follow-requires
+follow-requires c =
+    subst AreDown (sym c.as_slice.ensures.value)
+    (down_here c.args.map.now _ c.args.heap c.args.movable.now _ (here c.args.map.now c.args.heap c.args.movable.now c.requires.sound c.requires.movable) c.slide_items-moves.ensures)
+
+pub returns-clause-slid : goal.returns-clause-slid
+returns-clause-slid c =
+    slid_here c.args.map.now c.slide_items-moves.new.map c.follow.new.self c.args.heap c.args.movable.now c.slide_items-moves.result.items c.requires.sound c.requires.classes
+    (here c.args.map.now c.args.heap c.args.movable.now c.requires.sound c.requires.movable) c.slide_items-moves.ensures
+    (record {
+      records = c.follow.ensures.regions ∙ ap (λ (ms : List Move). moved_regions ms (regions c.slide_items-moves.new.map)) c.as_slice.ensures.value;
+      places = c.follow.ensures.mapping;
+      bytes = c.follow.ensures.bytes;
+      marks = c.follow.ensures.marks;
+    })
+
+pub returns-clause-sound : goal.returns-clause-sound
+returns-clause-sound c =
+    (done_here c.args.map.now c.slide_items-moves.new.map c.follow.new.self c.args.heap c.args.movable.now c.slide_items-moves.result.items c.requires.sound c.requires.classes
+    (here c.args.map.now c.args.heap c.args.movable.now c.requires.sound c.requires.movable) c.slide_items-moves.ensures
+    (record {
+      records = c.follow.ensures.regions ∙ ap (λ (ms : List Move). moved_regions ms (regions c.slide_items-moves.new.map)) c.as_slice.ensures.value;
+      places = c.follow.ensures.mapping;
+      bytes = c.follow.ensures.bytes;
+      marks = c.follow.ensures.marks;
+    })).sound
+
+pub returns-clause-classes : goal.returns-clause-classes
+returns-clause-classes c =
+    (done_here c.args.map.now c.slide_items-moves.new.map c.follow.new.self c.args.heap c.args.movable.now c.slide_items-moves.result.items c.requires.sound c.requires.classes
+    (here c.args.map.now c.args.heap c.args.movable.now c.requires.sound c.requires.movable) c.slide_items-moves.ensures
+    (record {
+      records = c.follow.ensures.regions ∙ ap (λ (ms : List Move). moved_regions ms (regions c.slide_items-moves.new.map)) c.as_slice.ensures.value;
+      places = c.follow.ensures.mapping;
+      bytes = c.follow.ensures.bytes;
+      marks = c.follow.ensures.marks;
+    })).classes
+
+pub returns-clause-regions : goal.returns-clause-regions
+returns-clause-regions c =
+    c.follow.ensures.regions ∙ ap (λ (ms : List Move). moved_regions ms (regions c.slide_items-moves.new.map)) c.as_slice.ensures.value
+    ∙ ap (moved_regions c.slide_items-moves.result.items) (layout-regions _ _ c.slide_items-moves.ensures.same)

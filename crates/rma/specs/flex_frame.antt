@@ -1,0 +1,3 @@
+-- What of the flex store other calls keep. Begin with Keeping.
+pub mod Keeping
+pub mod Laws

@@ -1,8 +1,0 @@
--- As the definition says.
-use Rattle.std.proofs.Common.{rules}
-use Rattle.swi_dispatch_frames.specs.Entering.{code_entered}
-use Rattle.swi_dispatch_frames.proofs.enter.enter_code.Goals as goal
-
-pub returns : goal.returns
-unfolding code_entered
-returns c = search rules

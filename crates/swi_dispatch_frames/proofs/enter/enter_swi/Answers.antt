@@ -1,8 +1,0 @@
--- As the definition says.
-use Rattle.std.proofs.Common.{rules}
-use Rattle.swi_dispatch_frames.specs.Entering.{swi_entered}
-use Rattle.swi_dispatch_frames.proofs.enter.enter_swi.Goals as goal
-
-pub returns : goal.returns
-unfolding swi_entered
-returns c = search rules

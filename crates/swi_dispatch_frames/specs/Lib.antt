@@ -1,6 +1,0 @@
--- Module code that is under way. Begin with Frames, then Entering and Leaving.
-pub use Rattle.instances_plans
-pub mod Busy
-pub mod Entering
-pub mod Frames
-pub mod Leaving

@@ -1,0 +1,41 @@
+-- What the calls on modules leave, by what is said of memory and areas, or of the modules.
+use Rattle.profile.specs.MemoryMap.{system_start}
+use Rattle.std.proofs.Common.{◌≡◌, ℕ, List, Option, refl, arith}
+use Rattle.address_map.proofs.InRange.{range_inside}
+use Rattle.address_map.specs.declared.map.AddressMap.{AddressMap}
+use Rattle.address_map.specs.Bytes.{AreMapped}
+use Rattle.os_heap.specs.Store.{AreClasses, Store, store_of}
+use Rattle.dynamic_areas.specs.Areas.{Land}
+use Rattle.dynamic_areas.specs.Ground.{AreAreas, IsEstate, estate_of}
+use Rattle.dynamic_areas.proofs.HeapCalls.{system_mapped}
+use Rattle.instances_plans.specs.Plans.{Plan}
+use Rattle.instances.specs.Modules.{Module, slots_of}
+use Rattle.instances.proofs.GoingOn.{may_go_on_kept}
+use Rattle.instances.specs.Turns.{MayGoOn}
+use Rattle.instances.specs.world.World.{world_of}
+use Rattle.swi_dispatch_plans.proofs.StoreLemmas.Leaving.{leaves_memory}
+use Rattle.swi_dispatch_plans.specs.store.Leaving.{LeavesSound}
+use Rattle.swi_dispatch_plans.specs.modules.Leaving.{LeavesWorld}
+
+-- a call on memory and areas
+pub world_left : (m n : AddressMap) (k l : Land) (modules : List Module) → LeavesSound m n l → LeavesWorld m n k l modules modules
+world_left m n k l modules left = record {
+  memory = left;
+  slots = refl;
+  going = λ plan going. may_go_on_kept (world_of m k modules) (world_of n l modules) plan left.estate left.others refl going;
+}
+
+-- a call on the modules alone, and one that changes nothing
+pub named_left : (m : AddressMap) (l : Land) (old new : List Module) → IsEstate (estate_of m l) → AreClasses m → slots_of new ≡ slots_of old
+    → ((plan : Option Plan) → MayGoOn (world_of m l old) plan → MayGoOn (world_of m l new) plan) → LeavesWorld m m l l old new
+named_left m l old new estate classes slots going =
+    record { memory = leaves_memory m l estate classes; slots = slots; going = going }
+
+pub nothing_left : (m : AddressMap) (l : Land) (modules : List Module) → IsEstate (estate_of m l) → AreClasses m
+    → LeavesWorld m m l l modules modules
+nothing_left m l modules estate classes = world_left m m l l modules (leaves_memory m l estate classes)
+
+-- the private words of the modules are mapped
+pub private_room : (m : AddressMap) (l : Land) → IsEstate (estate_of m l) → AreMapped (store_of m).bytes.mapped 0x01C02000 256
+private_room m l estate a low high =
+    system_mapped _ _ l estate a (range_inside system_start 0x3000 a (omega arith) (omega arith))

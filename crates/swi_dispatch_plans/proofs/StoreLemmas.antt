@@ -1,0 +1,3 @@
+pub mod AreaAnswers
+pub mod AreasKept
+pub mod Leaving

@@ -1,0 +1,21 @@
+use Rattle.swi_dispatch_plans.proofs.modules.area.free_block.Goals as goal
+
+pub returns-in_err-free-clause-leaves : goal.returns-in_err-free-clause-leaves
+returns-in_err-free-clause-leaves c =
+    let freed = c.free.ensures in
+    record {
+      estate = freed.estate c.args.areas.now c.requires.estate;
+      classes = freed.classes;
+      others = freed.others;
+      flex = freed.flex;
+    }
+
+pub returns-clause-leaves : goal.returns-clause-leaves
+returns-clause-leaves c =
+    let freed = c.free.ensures in
+    record {
+      estate = freed.estate c.args.areas.now c.requires.estate;
+      classes = freed.classes;
+      others = freed.others;
+      flex = freed.flex;
+    }

@@ -1,0 +1,14 @@
+use Rattle.std.proofs.Common.{◌≡◌, ℕ, Err, subst}
+use Rattle.profile.specs.declared.error.ErrorNumber.{ErrorNumber}
+use Rattle.dynamic_areas.specs.declared.area.Area.{Area}
+use Rattle.dynamic_areas.specs.Areas.{area_in}
+use Rattle.swi_dispatch_plans.proofs.StoreLemmas.AreaAnswers.{unknown_error}
+use Rattle.swi_dispatch_plans.proofs.StoreLemmas.Leaving.{leaves_memory}
+use Rattle.swi_dispatch_plans.proofs.store.areas.change_area.Goals as goal
+
+pub returns-in-Err-clause-error : goal.returns-in-Err-clause-error
+returns-in-Err-clause-error c =
+    unknown_error _ _ _ _ _ _ (subst (λ (n : ℕ). area_in c.args.areas.now.areas n ≡ Err c.in-Err.error) c.register-number.ensures c.in-Err.ensures)
+
+pub returns-in-Err-clause-leaves : goal.returns-in-Err-clause-leaves
+returns-in-Err-clause-leaves c = leaves_memory _ _ c.requires.estate c.requires.classes

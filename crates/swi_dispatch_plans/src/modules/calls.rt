@@ -1,0 +1,52 @@
+//! OS_Module by its reason, where no module code is to run.
+
+ghost use Rattle.std.specs.Prelude.{◌≡◌};
+ghost use Rattle.profile.specs.Outcome.{Leaves};
+ghost use Rattle.os_heap.specs.Store.{AreClasses};
+ghost use Rattle.dynamic_areas.specs.Ground.{IsEstate, estate_of};
+ghost use Rattle.instances.specs.world.World.{world_of};
+ghost use Rattle.swi_dispatch_plans.specs.modules.Calls.{result_of_module_call};
+ghost use Rattle.swi_dispatch_plans.specs.modules.Leaving.{LeavesWorld};
+
+use crate::modules::area::{claim_block, describe_area, extend_block, free_block};
+use crate::modules::naming::{find_instance, prefer_instance, rename_instance, tell_instance};
+use address_map::AddressMap;
+use dynamic_areas::Areas;
+use instances::Instances;
+use profile::{ErrorNumber, ModuleReason};
+use swi_dispatch_answers::{Cpu, Refusal};
+
+/// OS_Module, by its reason in R0, where no module code is to run. A block is in R2, a size or a
+/// change of one in R3; names are strings (RISC OS 3 Programmer's Reference Manual, "OS_Module").
+///
+/// # Errors
+///
+/// `ModuleBadReason` where it is none of these reasons, `BadString` where a string can't be read,
+/// else as the call of `rma` or of `instances` refuses it; nothing is changed then.
+#[tactic(auto, unfolding(crate::specs::modules::Calls::result_of_module_call))]
+pub fn call_module(
+    cpu: &mut Cpu,
+    memory: &mut AddressMap,
+    areas: &mut Areas,
+    instances: &mut Instances,
+) -> Result<(), Refusal>
+    requires estate { IsEstate (estate_of memory.old areas.old) }
+    requires classes { AreClasses memory.old }
+    ensures state { Leaves (cpu.old, world_of memory.old areas.old instances.old)
+        (result_of_module_call cpu.old (world_of memory.old areas.old instances.old)) result
+        (cpu.new, world_of memory.new areas.new instances.new) }
+    ensures leaves { LeavesWorld memory.old memory.new areas.old areas.new instances.old instances.new }
+    ensures sizes { areas.new.sizes ≡ areas.old.sizes }
+{
+    match ModuleReason::of(cpu.register(0)) {
+        Some(ModuleReason::DescribeArea) => describe_area(cpu, memory),
+        Some(ModuleReason::Claim) => claim_block(cpu, memory, areas),
+        Some(ModuleReason::Free) => free_block(cpu, memory, areas),
+        Some(ModuleReason::Info) => tell_instance(cpu, memory, instances),
+        Some(ModuleReason::Extend) => extend_block(cpu, memory, areas),
+        Some(ModuleReason::Rename) => rename_instance(cpu, memory, instances),
+        Some(ModuleReason::Prefer) => prefer_instance(cpu, memory, instances),
+        Some(ModuleReason::Lookup) => find_instance(cpu, memory, instances),
+        _ => Err(Refusal::System(ErrorNumber::ModuleBadReason)),
+    }
+}

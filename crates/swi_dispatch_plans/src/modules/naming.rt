@@ -1,0 +1,99 @@
+//! OS_Module, the reasons that look up instances, name them and prefer them: 12, 15, 16 and 18
+//! (RISC OS 3 Programmer's Reference Manual, "OS_Module").
+#![tactic(auto, unfolding(os_heap::specs::Store::store_of))]
+
+ghost use Rattle.std.specs.Prelude.{◌≡◌, Option};
+ghost use Rattle.profile.specs.Outcome.{Leaves};
+ghost use Rattle.address_map.specs.Bytes.{AreMapped};
+ghost use Rattle.address_map.specs.Memory.{is_mapped};
+ghost use Rattle.dynamic_areas.specs.Areas.{Land};
+ghost use Rattle.instances_plans.specs.Plans.{Plan};
+ghost use Rattle.instances.specs.Modules.{slots_of};
+ghost use Rattle.instances.specs.Turns.{MayGoOn};
+ghost use Rattle.instances.specs.world.World.{world_of};
+ghost use Rattle.swi_dispatch_plans.specs.modules.Naming.{instance_found, instance_preferred, instance_renamed, instance_told};
+
+use address_map::AddressMap;
+use instances::{Instances, Place};
+use swi_dispatch_answers::strings::string_in;
+use swi_dispatch_answers::{Cpu, Refusal};
+
+/// Reason 12: R1 and R2 have the numbers of a module and of an instance.
+pub(crate) fn tell_instance(
+    cpu: &mut Cpu,
+    memory: &AddressMap,
+    instances: &Instances,
+) -> Result<(), Refusal>
+    requires { AreMapped (is_mapped memory.now) 0x01C02000 256 }
+    ensures { (l : Land) → Leaves (cpu.old, world_of memory.now l instances.now)
+        (instance_told cpu.old (world_of memory.now l instances.now)) result
+        (cpu.new, world_of memory.now l instances.now) }
+{
+    let place = Place {
+        number: cpu.register(1),
+        instance: cpu.register(2),
+    };
+    let told = instances.info(memory, place)?;
+    cpu.set_register(1, told.next.number);
+    cpu.set_register(2, told.next.instance);
+    cpu.set_register(3, told.image);
+    cpu.set_register(4, told.word);
+    Ok(())
+}
+
+/// Reason 15: R1 points to the full name of an instance, R2 to its new name.
+pub(crate) fn rename_instance(
+    cpu: &Cpu,
+    memory: &AddressMap,
+    instances: &mut Instances,
+) -> Result<(), Refusal>
+    ensures state { (l : Land) → Leaves (cpu.now, world_of memory.now l instances.old)
+        (instance_renamed cpu.now (world_of memory.now l instances.old)) result
+        (cpu.now, world_of memory.now l instances.new) }
+    ensures slots { slots_of instances.new ≡ slots_of instances.old }
+    ensures going { (l : Land) (plan : Option Plan) → MayGoOn (world_of memory.now l instances.old) plan
+        → MayGoOn (world_of memory.now l instances.new) plan }
+{
+    let full = string_in(cpu, memory, 1)?;
+    let new = string_in(cpu, memory, 2)?;
+    instances.rename(full.as_slice(), new.as_slice())?;
+    Ok(())
+}
+
+/// Reason 16: R1 points to the full name of an instance.
+pub(crate) fn prefer_instance(
+    cpu: &Cpu,
+    memory: &AddressMap,
+    instances: &mut Instances,
+) -> Result<(), Refusal>
+    ensures state { (l : Land) → Leaves (cpu.now, world_of memory.now l instances.old)
+        (instance_preferred cpu.now (world_of memory.now l instances.old)) result
+        (cpu.now, world_of memory.now l instances.new) }
+    ensures slots { slots_of instances.new ≡ slots_of instances.old }
+    ensures going { (l : Land) (plan : Option Plan) → MayGoOn (world_of memory.now l instances.old) plan
+        → MayGoOn (world_of memory.now l instances.new) plan }
+{
+    let full = string_in(cpu, memory, 1)?;
+    instances.prefer(full.as_slice())?;
+    Ok(())
+}
+
+/// Reason 18: R1 points to a name.
+pub(crate) fn find_instance(
+    cpu: &mut Cpu,
+    memory: &AddressMap,
+    instances: &Instances,
+) -> Result<(), Refusal>
+    requires { AreMapped (is_mapped memory.now) 0x01C02000 256 }
+    ensures { (l : Land) → Leaves (cpu.old, world_of memory.now l instances.now)
+        (instance_found cpu.old (world_of memory.now l instances.now)) result
+        (cpu.new, world_of memory.now l instances.now) }
+{
+    let full = string_in(cpu, memory, 1)?;
+    let found = instances.lookup(memory, full.as_slice())?;
+    cpu.set_register(1, found.place.number);
+    cpu.set_register(2, found.place.instance);
+    cpu.set_register(3, found.image);
+    cpu.set_register(4, found.word);
+    Ok(())
+}

@@ -1,0 +1,236 @@
+//! The calls on dynamic areas (RISC OS 3 Programmer's Reference Manual, "OS_ChangeDynamicArea",
+//! "OS_ReadDynamicArea", and its supplement, "OS_DynamicArea").
+
+ghost use Rattle.std.specs.Prelude.{◌≡◌, Some, None, Err};
+ghost use Rattle.profile.specs.Outcome.{Leaves};
+ghost use Rattle.os_heap.specs.Store.{AreClasses};
+ghost use Rattle.dynamic_areas.specs.Changing.{change_answer, land_changed, store_changed};
+ghost use Rattle.dynamic_areas.specs.Ground.{IsEstate, estate_of};
+ghost use Rattle.dynamic_areas.specs.Rooms.{IsAreaTable};
+ghost use Rattle.swi_dispatch_plans.specs.store.Areas.{area_called, area_changed, area_created, area_enumerated, area_named, area_read, area_removed, area_renumbered, area_told, change_asked, wanted_of, with_land};
+ghost use Rattle.swi_dispatch_plans.specs.store.Leaving.{LeavesSound};
+
+use address_map::AddressMap;
+use dynamic_areas::{Areas, Changed, Wanted};
+use profile::memory_map::PAGE_SIZE;
+use profile::{AreaReason, ErrorNumber};
+use swi_dispatch_answers::strings::text_at;
+use swi_dispatch_answers::{Cpu, MAX_TEXT, Refusal, TextEnd};
+
+/// OS_ReadDynamicArea: where the area of the number in R0 lies.
+///
+/// # Errors
+///
+/// As `Areas::read` refuses it; nothing is changed then.
+#[tactic(auto, unfolding(crate::specs::store::Areas::area_read))]
+pub fn read_area(cpu: &mut Cpu, memory: &AddressMap, areas: &Areas) -> Result<(), Refusal>
+    requires { IsAreaTable areas.now.areas }
+    ensures { Leaves (cpu.old, estate_of memory.now areas.now)
+        (area_read cpu.old (estate_of memory.now areas.now)) result
+        (cpu.new, estate_of memory.now areas.now) }
+{
+    let word = cpu.register(0);
+    let extent = areas.read(word)?;
+    cpu.set_register(0, extent.base);
+    cpu.set_register(1, extent.size);
+    if let Some(maximum) = extent.maximum {
+        cpu.set_register(2, maximum);
+    }
+    Ok(())
+}
+
+/// OS_DynamicArea, by its reason in R0.
+///
+/// # Errors
+///
+/// `AreaBadReason` where there is no such reason, else as the call of `dynamic_areas` refuses it,
+/// or `BadString` where a new area would be allowed but that its name can't be read; nothing is
+/// changed then.
+#[tactic(auto, unfolding(crate::specs::store::Areas::area_called))]
+pub fn call_area(cpu: &mut Cpu, memory: &mut AddressMap, areas: &mut Areas) -> Result<(), Refusal>
+    requires estate { IsEstate (estate_of memory.old areas.old) }
+    requires classes { AreClasses memory.old }
+    ensures state { Leaves (cpu.old, estate_of memory.old areas.old)
+        (area_called cpu.old (estate_of memory.old areas.old)) result
+        (cpu.new, estate_of memory.new areas.new) }
+    ensures leaves { LeavesSound memory.old memory.new areas.new }
+    ensures sizes { areas.new.sizes ≡ areas.old.sizes }
+{
+    match AreaReason::of(cpu.register(0)) {
+        Some(AreaReason::Create) => create_area(cpu, memory, areas),
+        Some(AreaReason::Remove) => remove_area(cpu, memory, areas),
+        Some(AreaReason::Info) => tell_area(cpu, memory, areas),
+        Some(AreaReason::Enumerate) => next_area(cpu, memory, areas),
+        Some(AreaReason::Renumber) => renumber_area(cpu, memory, areas),
+        None => Err(Refusal::System(ErrorNumber::AreaBadReason)),
+    }
+}
+
+// R1 to R7 are the words of a new area, and R8 points to its name.
+#[tactic(auto, unfolding(os_heap::specs::Store::store_of))]
+fn create_area(cpu: &mut Cpu, memory: &mut AddressMap, areas: &mut Areas) -> Result<(), Refusal>
+    requires estate { IsEstate (estate_of memory.old areas.old) }
+    requires classes { AreClasses memory.old }
+    ensures state { Leaves (cpu.old, estate_of memory.old areas.old)
+        (area_created cpu.old (estate_of memory.old areas.old)) result
+        (cpu.new, estate_of memory.new areas.new) }
+    ensures leaves { LeavesSound memory.old memory.new areas.new }
+    ensures sizes { areas.new.sizes ≡ areas.old.sizes }
+{
+    let wanted = wanted_area(cpu);
+    let name_at = cpu.register(8);
+    let name = text_at::<MAX_TEXT>(memory, name_at, TextEnd::Control);
+    match name {
+        Some(name) => make_area(cpu, memory, areas, &wanted, name.as_slice()),
+        None => Err(unnamed_error(cpu, memory, areas, &wanted)),
+    }
+}
+
+fn wanted_area(cpu: &Cpu) -> Wanted
+    ensures { result ≡ wanted_of cpu.now }
+{
+    Wanted {
+        number: cpu.register(1),
+        size: cpu.register(2),
+        base: cpu.register(3),
+        flags: cpu.register(4),
+        maximum: cpu.register(5),
+        handler: cpu.register(6),
+        workspace: cpu.register(7),
+    }
+}
+
+fn make_area(
+    cpu: &mut Cpu,
+    memory: &mut AddressMap,
+    areas: &mut Areas,
+    wanted: &Wanted,
+    name: &[u8],
+) -> Result<(), Refusal>
+    requires estate { IsEstate (estate_of memory.old areas.old) }
+    requires classes { AreClasses memory.old }
+    ensures state { Leaves (cpu.old, estate_of memory.old areas.old)
+        (area_named cpu.old (estate_of memory.old areas.old) wanted.now (Some name.now)) result
+        (cpu.new, estate_of memory.new areas.new) }
+    ensures leaves { LeavesSound memory.old memory.new areas.new }
+    ensures sizes { areas.new.sizes ≡ areas.old.sizes }
+{
+    let made = areas.create(memory, wanted, name)?;
+    cpu.set_register(1, made.number);
+    cpu.set_register(3, made.base);
+    cpu.set_register(5, made.maximum);
+    Ok(())
+}
+
+// A name that can't be read counts only where the area would be allowed otherwise.
+fn unnamed_error(cpu: &Cpu, memory: &AddressMap, areas: &Areas, wanted: &Wanted) -> Refusal
+    ensures { area_named cpu.now (estate_of memory.now areas.now) wanted.now None ≡ Err result }
+{
+    match areas.area_wanted(memory.free_pages(), wanted, b"?") {
+        Ok(_) => Refusal::System(ErrorNumber::BadString),
+        Err(error) => Refusal::System(error),
+    }
+}
+
+fn remove_area(cpu: &mut Cpu, memory: &mut AddressMap, areas: &mut Areas) -> Result<(), Refusal>
+    requires estate { IsEstate (estate_of memory.old areas.old) }
+    requires classes { AreClasses memory.old }
+    ensures state { Leaves (cpu.old, estate_of memory.old areas.old)
+        (area_removed cpu.old (estate_of memory.old areas.old)) result
+        (cpu.new, estate_of memory.new areas.new) }
+    ensures leaves { LeavesSound memory.old memory.new areas.new }
+    ensures sizes { areas.new.sizes ≡ areas.old.sizes }
+{
+    let number = cpu.register(1);
+    areas.remove(memory, number)?;
+    Ok(())
+}
+
+fn tell_area(cpu: &mut Cpu, memory: &AddressMap, areas: &Areas) -> Result<(), Refusal>
+    requires estate { IsEstate (estate_of memory.now areas.now) }
+    ensures { Leaves (cpu.old, estate_of memory.now areas.now)
+        (area_told cpu.old (estate_of memory.now areas.now)) result
+        (cpu.new, estate_of memory.now areas.now) }
+{
+    let number = cpu.register(1);
+    let area = areas.info(number)?;
+    cpu.set_register(2, PAGE_SIZE * area.pages);
+    cpu.set_register(3, area.base);
+    cpu.set_register(4, area.flags);
+    cpu.set_register(5, area.maximum);
+    cpu.set_register(6, 0);
+    cpu.set_register(7, area.workspace);
+    Ok(())
+}
+
+fn next_area(cpu: &mut Cpu, memory: &AddressMap, areas: &Areas) -> Result<(), Refusal>
+    ensures { Leaves (cpu.old, estate_of memory.now areas.now)
+        (area_enumerated cpu.old (estate_of memory.now areas.now)) result
+        (cpu.new, estate_of memory.now areas.now) }
+{
+    let number = cpu.register(1);
+    let next = areas.next(number)?;
+    cpu.set_register(1, next);
+    Ok(())
+}
+
+fn renumber_area(cpu: &mut Cpu, memory: &AddressMap, areas: &mut Areas) -> Result<(), Refusal>
+    requires estate { IsEstate (estate_of memory.now areas.old) }
+    ensures state { Leaves (cpu.old, estate_of memory.now areas.old)
+        (area_renumbered cpu.old (estate_of memory.now areas.old)) result
+        (cpu.new, estate_of memory.now areas.new) }
+    ensures estate { IsEstate (estate_of memory.now areas.new) }
+    ensures sizes { areas.new.sizes ≡ areas.old.sizes }
+{
+    let old = cpu.register(1);
+    let new = cpu.register(2);
+    areas.renumber(old, new)?;
+    Ok(())
+}
+
+/// OS_ChangeDynamicArea: the area of the number in R0 changes by R1 bytes. Pages move even where
+/// not all can, so the call may change something and err. Answers the error with which it ends, if
+/// it does.
+pub fn change_area(cpu: &mut Cpu, memory: &mut AddressMap, areas: &mut Areas) -> Option<ErrorNumber>
+    requires estate { IsEstate (estate_of memory.old areas.old) }
+    requires classes { AreClasses memory.old }
+    ensures error { result ≡ (change_asked cpu.old (estate_of memory.old areas.old)).error }
+    ensures state { (cpu.new, estate_of memory.new areas.new)
+        ≡ area_changed cpu.old (estate_of memory.old areas.old) }
+    ensures leaves { LeavesSound memory.old memory.new areas.new }
+    ensures sizes { areas.new.sizes ≡ areas.old.sizes }
+{
+    let number = cpu.register(0);
+    let amount = cpu.register(1);
+    if let Err(error) = areas.info(number) {
+        return Some(error);
+    }
+    let changed = resize_area(memory, areas, number, amount);
+    cpu.set_register(1, changed.bytes);
+    changed.error
+}
+
+fn resize_area(memory: &mut AddressMap, areas: &mut Areas, number: u32, amount: u32) -> Changed
+    requires estate { IsEstate (estate_of memory.old areas.old) }
+    requires classes { AreClasses memory.old }
+    ensures answer { let e = estate_of memory.old areas.old in
+        result ≡ change_answer e.land.areas e.store e.pool number amount }
+    ensures estate { let e = estate_of memory.old areas.old in
+        estate_of memory.new areas.new
+        ≡ with_land (store_changed e.store e.land.areas number amount result.bytes)
+        (land_changed e.land number amount result.bytes) }
+    ensures leaves { LeavesSound memory.old memory.new areas.new }
+    ensures sizes { areas.new.sizes ≡ areas.old.sizes }
+{
+    areas.change(memory, number, amount)
+}
+
+/// The error with which OS_ChangeDynamicArea would end; nothing is changed.
+pub fn change_error(cpu: &Cpu, memory: &AddressMap, areas: &Areas) -> Option<ErrorNumber>
+    requires { IsEstate (estate_of memory.now areas.now) }
+    ensures { result ≡ (change_asked cpu.now (estate_of memory.now areas.now)).error }
+{
+    let number = cpu.register(0);
+    let amount = cpu.register(1);
+    areas.measure(memory, number, amount).error
+}

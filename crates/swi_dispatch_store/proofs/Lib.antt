@@ -1,3 +1,0 @@
-mod AreaAnswers
-mod AreasKept
-pub mod Leaving

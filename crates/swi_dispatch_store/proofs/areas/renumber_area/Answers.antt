@@ -1,4 +1,0 @@
-use Rattle.swi_dispatch_store.proofs.areas.renumber_area.Goals as goal
-
-pub returns-clause-estate : goal.returns-clause-estate
-returns-clause-estate c = c.renumber.ensures.ground _ _ c.requires.estate

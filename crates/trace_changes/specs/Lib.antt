@@ -1,5 +1,0 @@
--- What two cores differ in. Begin with Registers; Laws says what the list of them is good for.
-pub use Rattle.arm_core
-pub mod Laws
-pub mod Registers
-pub mod Status

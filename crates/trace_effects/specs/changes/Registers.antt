@@ -1,0 +1,34 @@
+-- The registers that differ between two cores, by their places in the file of all banks.
+use Rattle.std.specs.Prelude.{ℕ, zero, suc, ◌==◌, List, [], ◌∷◌, ◌++◌, ◌-◌, nat_lt, slice_index, if◌then◌else◌}
+use Rattle.arm_core.specs.declared.psr.Mode.{Mode}
+use Rattle.arm_core.specs.declared.psr.Mode.TheVariants.{User, FastInterrupt, Interrupt, Supervisor}
+use Rattle.arm_core.specs.State.{State}
+use Rattle.trace_effects.specs.declared.changes.registers.RegisterChange.{RegisterChange}
+
+-- the bank of the register at a place, and its number there: R0 to R14 of USR, R8 to R14 of FIQ, R13
+-- and R14 of IRQ, R13 and R14 of SVC
+abbrev pub home_of : ℕ → Mode × ℕ
+home_of place =
+    if nat_lt place 15 then (User, place) else (
+    if nat_lt place 22 then (FastInterrupt, place - 7) else (
+    if nat_lt place 24 then (Interrupt, place - 9) else
+    (Supervisor, place - 11)))
+
+-- what a change of the register at a place is
+abbrev pub register_change : List ℕ → List ℕ → ℕ → RegisterChange
+register_change old new place =
+    record { place = place; old = slice_index old place; new = slice_index new place }
+
+-- that of a place, if the register there differs
+abbrev pub change_at : List ℕ → List ℕ → ℕ → List RegisterChange
+change_at old new place =
+    if slice_index old place == slice_index new place then [] else register_change old new place ∷ []
+
+-- those of so many first places
+unfoldable pub changes_below : List ℕ → List ℕ → ℕ → List RegisterChange
+changes_below old new zero = []
+changes_below old new (suc n) = changes_below old new n ++ change_at old new n
+
+-- those of all 26
+abbrev pub changes_of : State → State → List RegisterChange
+changes_of s s' = changes_below s.file s'.file 26

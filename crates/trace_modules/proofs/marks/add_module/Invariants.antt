@@ -1,9 +1,0 @@
-use Rattle.std.proofs.Common.{◌≡◌, ◌++◌}
-use Rattle.std.specs.Prelude.{slice_get}
-use Rattle.trace_modules.specs.Marks.{marks_at}
-use Rattle.trace_modules.proofs.MarkLemmas.{marks_from}
-use Rattle.trace_modules.proofs.marks.add_module.Given as goal
-
-abbrev pub invariant-loop-instance : goal.invariant-loop-instance
-invariant-loop-instance l = l.fn.marks.items ++ marks_at (slice_get l.modules l.number)
-    ≡ l.marks.items ++ marks_from l.instance (slice_get l.modules l.number)

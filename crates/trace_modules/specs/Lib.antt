@@ -1,5 +1,0 @@
--- Instances of modules as a trace tells them. Begin with Changes.
-pub use Rattle.instances
-pub mod Changes
-pub mod Laws
-pub mod Marks

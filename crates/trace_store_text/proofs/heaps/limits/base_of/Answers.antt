@@ -1,0 +1,19 @@
+use Rattle.std.proofs.Common.{◌≡◌, ◌+◌, ℕ, Result, Ok, ap, ◌∙◌, arith}
+use Rattle.std.specs.Result.{result_unwrap_or}
+use Rattle.profile.specs.declared.fault.Fault.{Fault}
+use Rattle.address_map.specs.Bytes.{word_loaded}
+use Rattle.address_map.specs.Items.{size_of}
+use Rattle.address_map.specs.Memory.{bytes_of}
+use Rattle.os_heap.specs.Store.{store_of, find_heap}
+use Rattle.debugger.proofs.HeapLemmas.{low_heap, base_is, if_then}
+use Rattle.trace_store_text.proofs.heaps.limits.base_of.Goals as goal
+
+pub overflow_add-heap : goal.overflow_add-heap
+overflow_add-heap c = omega (arith, low_heap c.args.memory.now c.args.heap c.requires.sound c.requires.there)
+
+pub returns : goal.returns
+returns c =
+    let m = c.args.memory.now in
+    if_then (find_heap c.args.heap (store_of m).heaps) (λ h. word_loaded (bytes_of m) (c.args.heap + 8) ≡ Ok (16 + size_of h.items)) (λ h. c.unwrap_or.result ≡ 16 + size_of h.items)
+    (base_is m c.args.heap c.requires.sound)
+    (λ h e. c.unwrap_or.ensures ∙ ap (λ (r : Result ℕ Fault). result_unwrap_or r 0) (c.load_word.ensures ∙ e))

@@ -1,0 +1,2 @@
+-- Heaps as a store call leaves them. Begin with Limits.
+pub mod Limits

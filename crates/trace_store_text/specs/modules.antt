@@ -1,0 +1,4 @@
+-- Instances of modules as a trace tells them. Begin with Changes.
+pub mod Changes
+pub mod Laws
+pub mod Marks

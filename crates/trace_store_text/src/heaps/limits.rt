@@ -1,0 +1,53 @@
+//! The limits of a heap.
+
+ghost use Rattle.std.specs.Prelude.{◌≡◌, ◌+◌, IsSome, IfSome};
+ghost use Rattle.address_map.specs.Items.{size_of};
+ghost use Rattle.os_heap.specs.Store.{IsSound, find_heap, store_of};
+ghost use Rattle.trace_store_text.specs.heaps.Limits.{limits_in};
+
+use address_map::AddressMap;
+use os_heap::Heaps;
+
+/// Where the words of a heap's descriptor stand that tell its base and its end.
+const BASE: u32 = 8;
+
+const END: u32 = 12;
+
+/// Where a heap's items end, and where it ends, in bytes from its start.
+#[derive(Clone, Copy, Debug, PartialEq, Eq)]
+pub struct HeapLimits {
+    pub base: u32,
+    pub end: u32,
+}
+
+/// The limits of the heap that starts at an address, if one does.
+pub fn limits_of(memory: &AddressMap, heap: u32) -> Option<HeapLimits>
+    requires { IsSound (store_of memory.now) }
+    ensures value { result ≡ limits_in (store_of memory.now) heap }
+{
+    let Some(_items) = Heaps::new().blocks(memory, heap) else {
+        return None;
+    };
+    Some(HeapLimits {
+        base: base_of(memory, heap),
+        end: end_of(memory, heap),
+    })
+}
+
+// The base of a heap.
+fn base_of(memory: &AddressMap, heap: u32) -> u32
+    requires sound { IsSound (store_of memory.now) }
+    requires there { IsSome (find_heap heap (store_of memory.now).heaps) }
+    ensures { IfSome (find_heap heap (store_of memory.now).heaps) (λ h. result ≡ 16 + size_of h.items) }
+{
+    memory.load_word(heap + BASE).unwrap_or(0)
+}
+
+// The end of a heap.
+fn end_of(memory: &AddressMap, heap: u32) -> u32
+    requires sound { IsSound (store_of memory.now) }
+    requires there { IsSome (find_heap heap (store_of memory.now).heaps) }
+    ensures { IfSome (find_heap heap (store_of memory.now).heaps) (λ h. result ≡ h.end) }
+{
+    memory.load_word(heap + END).unwrap_or(0)
+}

@@ -1,0 +1,71 @@
+//! The instances of all modules, one after another.
+
+ghost use Rattle.std.specs.Prelude.{◌≡◌, ◌≤◌, ◌<◌, ◌+◌, ◌∷◌, ◌++◌, [], length, slice_get};
+ghost use Rattle.arrayvec.specs.ArrayVec.{array_vec_len};
+ghost use Rattle.instances_table.specs.Lookup.{told_of_place};
+ghost use Rattle.trace_store_text.specs.modules.Marks.{instance_marks, mark_told, marks_at, marks_in, one_mark};
+
+use arrayvec::ArrayVec;
+use instances_table::{MOST_INSTANCES, Name};
+use trace_words::{InstanceInfo, Instances, ModuleInfo};
+
+/// An instance: its module's title, its own name, its slot, and where its image stands, and how many
+/// bytes that has.
+#[derive(Default, Drop)]
+pub struct InstanceMark {
+    pub title: Name,
+    pub name: Name,
+    pub slot: u32,
+    pub at: u32,
+    pub len: u32,
+}
+
+/// Instances of modules, at most all that there can be.
+pub type InstanceMarks = ArrayVec<InstanceMark, MOST_INSTANCES>;
+
+/// The instances of all modules, oldest module first, each with its instances, oldest first.
+pub fn marks_of(modules: &Instances) -> InstanceMarks
+    ensures { result.items ≡ instance_marks modules.now }
+{
+    modules.known();
+    let mut marks = ArrayVec::new();
+    for number in 0..modules.count() {
+        add_module(&mut marks, modules, number);
+    }
+    marks
+}
+
+// The instances of one module more.
+fn add_module(marks: &mut InstanceMarks, modules: &Instances, number: u32)
+    requires room { array_vec_len marks.old + length (marks_at (slice_get modules.now number)) ≤ 64 }
+    ensures { marks.new.items ≡ marks.old.items ++ marks_at (slice_get modules.now number) }
+{
+    for instance in 0..modules.instance_count(number) {
+        add_instance(marks, modules, number, instance);
+    }
+}
+
+// One instance more, if there is one of that number.
+fn add_instance(marks: &mut InstanceMarks, modules: &Instances, number: u32, instance: u32)
+    requires room { array_vec_len marks.old < 64 }
+    ensures { marks.new.items ≡ marks.old.items ++ one_mark instance (slice_get modules.now number) }
+{
+    let Some(info) = modules.module(number) else {
+        return;
+    };
+    if let Some(told) = modules.instance(number, instance) {
+        marks.push(mark_told(info, told));
+    }
+}
+
+fn mark_told(info: ModuleInfo, told: InstanceInfo) -> InstanceMark
+    ensures { result ≡ mark_told info told }
+{
+    InstanceMark {
+        title: info.title,
+        name: told.name,
+        slot: told.slot,
+        at: info.image,
+        len: info.len,
+    }
+}
