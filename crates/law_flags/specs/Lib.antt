@@ -1,0 +1,2 @@
+-- Results and flags by exact numbers.
+pub mod Flags

@@ -1,0 +1,7 @@
+mod Asking
+pub mod Calls
+mod Carrying
+mod Giving
+mod Near
+pub mod Quiet
+mod Planning

@@ -1,0 +1,2 @@
+-- Which heaps calls on modules forget.
+pub mod GivenUp

@@ -1,0 +1,2 @@
+-- SWIs of modules, from their call to their return.
+pub mod Swis

@@ -1,0 +1,4 @@
+//! Laws of SWIs of modules: the instance that their code is entered for, and what goes back.
+#![tactic(auto)]
+
+pub mod laws;

@@ -1,0 +1,4 @@
+mod Naming
+mod Packed
+pub mod Removals
+pub mod Tidied
