@@ -1,2 +1,6 @@
+pub mod AnsweringLemmas
+pub mod FrontLineLemmas
 pub mod ReadLemmas
+pub mod SpellingLemmas
 pub mod TalkLemmas
+pub mod TranscriptLemmas

@@ -7,18 +7,18 @@ use Rattle.std.proofs.KnownBytes.{Consumes-nil, Consumes-trans}
 use Rattle.image_loader.specs.Entries.{Entry}
 use Rattle.profile.specs.Output.{AddsAllBut}
 use Rattle.profile.proofs.OutputLemmas.{AddsAllBut-more, AddsAllBut-start, Appends-from_all_but, Appends-join}
-use Rattle.debug_page.specs.DebugScript.{debug_lines_told, debug_script_told, then_summary}
-use Rattle.debug_page.specs.DebugState.{DebugAnswered, DebugState, IsDebugged, debug_start_state}
-use Rattle.debug_page.specs.ExitStatus.{debug_status}
+use Rattle.debug_records.specs.DebugScript.{debug_lines_told, debug_script_told, then_summary}
+use Rattle.debug_records.specs.DebugState.{DebugAnswered, DebugState, IsDebugged, debug_start_state}
+use Rattle.debug_records.specs.ExitStatus.{debug_status}
 use Rattle.debug_checks.specs.reports.Reports.{summary_text}
-use Rattle.debug_page.specs.Session.{debug_state}
-use Rattle.debug_page.specs.Typing.{IsTaken}
+use Rattle.debug_records.specs.Session.{debug_state}
+use Rattle.debug_records.specs.Typing.{IsTaken}
 use Rattle.debug_checks.specs.declared.reports.reports.ReportForm.TheVariants.{Answers}
-use Rattle.debug_page.specs.DebugSession.{DebugSession}
-use Rattle.debug_page.specs.DebugSetting.{DebugSetting}
-use Rattle.debug_page.specs.DebugTyping.{DebugTyping}
-use Rattle.debug_page.proofs.LineLemmas.{none_told}
-use Rattle.debug_page.proofs.TakenLemmas.{piece_told}
+use Rattle.debug_records.specs.DebugSession.{DebugSession}
+use Rattle.debug_records.specs.DebugSessionDebugSetting.{DebugSetting}
+use Rattle.debug_records.specs.DebugTyping.{DebugTyping}
+use Rattle.debug_records.proofs.LineLemmas.{none_told}
+use Rattle.debug_records.proofs.TakenLemmas.{piece_told}
 use Rattle.debug_face.specs.Talking.{DebugsInput, HasTalked, IsPlainTalk, IsStatusOfInput, IsStatusOfScript, TakesPiece, debug_bytes_told}
 
 -- WRITERS

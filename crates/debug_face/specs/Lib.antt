@@ -1,5 +1,9 @@
 -- What is made of the words of a command line, what is answered, and the exit status. Begin with
--- Talking.
+-- Talking, then Transcript.
+pub mod Answering
 pub mod Endings
+pub mod FrontLines
 pub mod Options
+pub mod Spelling
 pub mod Talking
+pub mod Transcript

@@ -1,10 +1,8 @@
 -- The words of the program: its own, which are those that ask for a form, and `--script` with the path
 -- that follows it; and all others, which are the words of `rosm`.
-use Rattle.std.specs.Prelude.{ℕ, ◌||◌, ◌&&◌, Bool, true, false, List, [], ◌∷◌, Option, Some, None, codes, if◌then◌else◌}
+use Rattle.std.specs.Prelude.{ℕ, ◌||◌, Bool, true, false, List, [], ◌∷◌, Option, Some, None, codes, if◌then◌else◌}
 use Rattle.std.specs.Str.{bytes_eq}
-use Rattle.debug_checks.specs.declared.reports.reports.ReportForm.{ReportForm}
 use Rattle.debug_checks.specs.declared.reports.reports.ReportForm.TheVariants as form
-use Rattle.script_page.specs.declared.form.PageForm.TheVariants as page
 use Rattle.debug_face.specs.declared.options.WantedForm.{WantedForm}
 use Rattle.debug_face.specs.declared.options.WantedForm.TheVariants as wanted
 use Rattle.debug_face.specs.declared.options.WordKind.{WordKind}
@@ -14,13 +12,12 @@ use Rattle.debug_face.specs.declared.options.WordKind.TheVariants as kind
 abbrev pub is_dashes : List ℕ → Bool
 is_dashes word = bytes_eq word (codes "--")
 
--- the form that a word asks for; a text has lines of 100 characters
+-- the form that a word asks for
 abbrev pub form_named : List ℕ → Option WantedForm
 form_named word =
     if bytes_eq word (codes "--tap") then Some (wanted.Lines form.Tap) else (
-    if bytes_eq word (codes "--text") then Some (wanted.Page (page.Text 100)) else (
-    if bytes_eq word (codes "--html") then Some (wanted.Page page.Html) else (
-    if bytes_eq word (codes "--transcript") then Some (wanted.Page page.Transcript) else None)))
+    if bytes_eq word (codes "--transcript") then Some wanted.Transcript else (
+    if bytes_eq word (codes "--json") then Some wanted.Records else None))
 
 abbrev pub kind_of_other : List ℕ → WordKind
 kind_of_other word = if bytes_eq word (codes "--script") then kind.Script else kind.Other

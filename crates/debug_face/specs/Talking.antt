@@ -5,15 +5,15 @@ use Rattle.std.specs.Io.KnownBytes.{Appends, Consumes}
 use Rattle.std.specs.Str.Lines.{lines}
 use Rattle.image_loader.specs.Entries.{Entry}
 use Rattle.profile.specs.Output.{AddsAllBut}
-use Rattle.debug_page.specs.DebugScript.{debug_lines_told, debug_script_told, then_summary}
-use Rattle.debug_page.specs.DebugState.{DebugAnswered}
-use Rattle.debug_page.specs.ExitStatus.{debug_status}
-use Rattle.debug_page.specs.Session.{debug_state}
-use Rattle.debug_page.specs.Typing.{IsTaken}
+use Rattle.debug_records.specs.DebugScript.{debug_lines_told, debug_script_told, then_summary}
+use Rattle.debug_records.specs.DebugState.{DebugAnswered}
+use Rattle.debug_records.specs.ExitStatus.{debug_status}
+use Rattle.debug_records.specs.Session.{debug_state}
+use Rattle.debug_records.specs.Typing.{IsTaken}
 use Rattle.debug_checks.specs.declared.reports.reports.ReportForm.{ReportForm}
 use Rattle.debug_checks.specs.declared.reports.reports.ReportForm.TheVariants.{Answers}
-use Rattle.debug_page.specs.DebugSetting.{DebugSetting}
-use Rattle.debug_page.specs.DebugTyping.{DebugTyping}
+use Rattle.debug_records.specs.DebugSessionDebugSetting.{DebugSetting}
+use Rattle.debug_records.specs.DebugTyping.{DebugTyping}
 
 -- what bytes are answered that follow what waits, from where a session stands, up to their end
 abbrev pub debug_bytes_told : DebugTyping → List Entry → List ℕ → DebugAnswered

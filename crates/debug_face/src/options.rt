@@ -4,24 +4,24 @@
 ghost use Rattle.std.specs.Prelude.{◌≡◌, [], false, map, IfOk};
 ghost use Rattle.debug_face.specs.Options.{form_named, is_dashes, kind_at, kind_of_other, kind_of_word, words_told, DebugWords};
 
-use debug_page::ReportForm;
-use script_page::PageForm;
+use debug_records::ReportForm;
 use std::alloc::{AllocError, Global};
-use view_pictures::LINE_WIDTH;
 
 /// What is written.
 #[derive(Clone, Copy, Debug, PartialEq, Eq)]
 pub enum WantedForm {
     /// The answers, in that form, each as soon as its line is read.
     Lines(ReportForm),
-    /// The page of a script.
-    Page(PageForm),
+    /// The transcript of a script.
+    Transcript,
+    /// The records of a script.
+    Records,
 }
 
 /// What a word is.
 #[derive(Clone, Copy, Debug, PartialEq, Eq)]
 pub enum WordKind {
-    /// `--tap`, `--text`, `--html` or `--transcript`.
+    /// `--tap`, `--transcript` or `--json`.
     Form(WantedForm),
     /// `--script`, which a path follows.
     Script,
@@ -113,12 +113,10 @@ fn form_named(word: &str) -> Option<WantedForm>
     let word = word.as_bytes();
     if word == b"--tap".as_slice() {
         Some(WantedForm::Lines(ReportForm::Tap))
-    } else if word == b"--text".as_slice() {
-        Some(WantedForm::Page(PageForm::Text(LINE_WIDTH)))
-    } else if word == b"--html".as_slice() {
-        Some(WantedForm::Page(PageForm::Html))
     } else if word == b"--transcript".as_slice() {
-        Some(WantedForm::Page(PageForm::Transcript))
+        Some(WantedForm::Transcript)
+    } else if word == b"--json".as_slice() {
+        Some(WantedForm::Records)
     } else {
         None
     }

@@ -1,16 +1,19 @@
 //! The standard streams of the process, and its exit status.
 
-ghost use Rattle.std.specs.Prelude.{◌≡◌, IfOk};
+ghost use Rattle.std.specs.Prelude.{◌≡◌, IfOk, OnOk};
 ghost use Rattle.std.specs.Process.{exit_status};
+ghost use Rattle.record_text.specs.Safe.{AddsSafe};
 ghost use Rattle.debug_face.specs.Endings.{ending_status};
 ghost use Rattle.debug_face.specs.Talking.{IsStatusOfScript};
 
 use crate::options::WantedForm;
-use crate::pages::show_script;
 use crate::refusal::DebugRefusal;
 use crate::talk::{hand_on, talk};
+use crate::transcript::show_transcript;
 use crate::words::{WantedSession, read_words};
-use debug_page::{DebugSetting, DebugTyping, ReportForm, RunMeter};
+use command_shell::RunError;
+use command_shell_lines::read_script;
+use debug_records::{DebugSetting, DebugTyping, ReportForm, RunMeter, record_script};
 use image_loader::Images;
 use profile::{Device, Sink, Source};
 use rosm_settings::SettingsRefusal;
@@ -21,6 +24,7 @@ use std::fs::File;
 use std::io::{BufWriter, Write};
 use std::process::ExitCode;
 use std::{fs, io};
+use text_lines::cut;
 
 /// Answers a debugging script as the words of this process ask for it, of which the first names the
 /// face. `is_terminal` tells whether standard input is a terminal, `errors` is standard error, and the
@@ -40,7 +44,7 @@ where
 }
 
 // Answers the lines of the script that is asked for, or of standard input, which may be a terminal,
-// on standard output, or writes their page, and gives the exit status that they end with. The first file that gives no
+// on standard output, or writes their transcript, and gives the exit status that they end with. The first file that gives no
 // image, or the script's file that can't be read, is told before any line is answered.
 fn debug_on_standard_streams<'a, R, E>(
     rt: &R,
@@ -104,7 +108,7 @@ fn answer<'a, R, S, E>(
     meter: RunMeter,
 ) -> Result<u8, DebugRefusal<'a>>
 where
-    R: AllocGlobal + Print,
+    R: AllocGlobal + fs::Files + Print,
     S: Source,
     E: Sink,
 {
@@ -123,13 +127,69 @@ where
             errors,
             is_terminal,
         ),
-        WantedForm::Page(form) => {
+        WantedForm::Transcript => {
             let setting = setting_of(wanted, ReportForm::Answers, meter);
-            let status = show_script(alloc, images, setting, form, reader, &mut writer)?;
+            let status = show_transcript(alloc, images, setting, reader, &mut writer)?;
+            hand_on(&mut writer)?;
+            Ok(status)
+        }
+        WantedForm::Records => {
+            let mut twin_images = Images::new();
+            take_files(rt, wanted, &mut twin_images)?;
+            let setting = setting_of(wanted, ReportForm::Answers, meter);
+            let name = name_of(wanted);
+            let status = record(
+                alloc,
+                setting,
+                images,
+                twin_images,
+                name,
+                reader,
+                &mut writer,
+            )?;
             hand_on(&mut writer)?;
             Ok(status)
         }
     }
+}
+
+// Reads a script whole, writes its records, and gives the exit status of its lines.
+fn record<S: Source, W: Sink>(
+    alloc: Global,
+    setting: DebugSetting,
+    images: Images,
+    twin_images: Images,
+    name: &[u8],
+    reader: &mut S,
+    sink: &mut W,
+) -> Result<u8, RunError>
+    ensures { OnOk result (AddsSafe (W.contents sink.old) (W.contents sink.new)) }
+{
+    let script = read_script(alloc, reader)?;
+    record_script(
+        alloc,
+        setting,
+        images,
+        twin_images,
+        name,
+        script.as_slice(),
+        sink,
+    )
+}
+
+// The name of the script's file, without the folders that it is in; none of standard input.
+fn name_of(wanted: &WantedSession) -> &[u8] {
+    let Some(path) = &wanted.script else {
+        return b"";
+    };
+    let mut name = path.as_str().as_bytes();
+    for _folders in 0..usize::MAX {
+        match cut(name, b'/') {
+            (_folder, Some(rest)) => name = rest,
+            (_name, None) => return name,
+        }
+    }
+    name
 }
 
 // Answers the lines that a reader gives, on a fresh machine.

@@ -3,16 +3,16 @@
 
 ghost use Rattle.std.specs.Prelude.{◌≡◌};
 
+use command_shell::RunError;
 use rosm_settings::SettingsRefusal;
 use rosm_settings::command_line::SettingsError;
 use rosm_settings::image_files::FileError;
-use script_page::RunError;
 use std::alloc::AllocError;
 use thiserror::Error;
 
 /// The form of a command line, in one line.
 pub const USAGE: &str = "usage: rosm_debug [--script FILE] \
-[--tap | --text | --html | --transcript] [--pages N] [--app N] [--rma N] [--budget N] [FILE...] <SCRIPT";
+[--tap | --transcript | --json] [--pages N] [--app N] [--rma N] [--budget N] [FILE...] <SCRIPT";
 
 /// Why the program ends without having answered all lines. The text is one line.
 #[derive(Debug, PartialEq, Eq, Drop, Error)]

@@ -6,11 +6,11 @@ ghost use Rattle.profile.specs.Devices.{device_inner};
 ghost use Rattle.debug_checks.specs.declared.reports.reports.ReportForm.TheVariants.{Answers};
 ghost use Rattle.debug_face.specs.Talking.{DebugsInput, HasTalked, IsStatusOfInput, TakesPiece};
 
+use command_shell::RunError;
 use debug_checks::reports::push_missing_end;
-use debug_page::{DebugTyping, ReportForm};
+use debug_records::{DebugTyping, ReportForm};
 use image_loader::Images;
 use profile::{Device, Sink, Source, WriteFault, push_all};
-use script_page::RunError;
 use std::io::Write;
 
 // The most bytes that are read at once.

@@ -5,7 +5,7 @@ ghost use Rattle.debug_face.specs.Options.{form_of_all};
 
 use crate::options::{WantedForm, part_words};
 use crate::refusal::DebugRefusal;
-use debug_page::ReportForm;
+use debug_records::ReportForm;
 use rosm_settings::command_line::{Settings, SettingsError, line_reason, settings, sizes_reason};
 use std::alloc::{AllocError, Global};
 use std::env;
@@ -13,7 +13,7 @@ use std::env::Env;
 use std::io::ErrorKind;
 
 // What is wrong with more forms than one.
-const FORM_REASON: &str = "--tap, --text, --html or --transcript once at most";
+const FORM_REASON: &str = "--tap, --transcript or --json once at most";
 
 /// What the words ask for.
 #[derive(Drop)]

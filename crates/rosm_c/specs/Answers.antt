@@ -1,6 +1,8 @@
 -- What a caller in C finds after a script: the exit status of the program `rosm`, the front of the
--- answers for which there was room, and how long all of them are.
-use Rattle.std.specs.Prelude.{◌≡◌, ◌⊎◌, ℕ, ◌++◌, List, length, take, drop}
+-- answers or records for which there was room, and how long all of them are.
+use Rattle.std.specs.Prelude.{◌≡◌, ◌⊎◌, ℕ, ◌++◌, List, true, length, take, drop}
+use Rattle.std.specs.List.{list_all}
+use Rattle.record_text.specs.Safe.{is_safe}
 use Rattle.rosm_settings.specs.command_line.Status.{status_after}
 use Rattle.command_shell.specs.State.{Answered}
 
@@ -24,3 +26,16 @@ pub record TellsNothing (reason ending count : ℕ) (room room_after : List ℕ)
 abbrev pub TellsAnswersUnlessNone : Answered → ℕ → ℕ → List ℕ → List ℕ → Type 0
 TellsAnswersUnlessNone told ending count room room_after =
     TellsAnswers told ending count room room_after ⊎ TellsNothing 4 ending count room room_after
+
+-- A debugging script was recorded whole. No byte of its records is below 32 but line feeds, none is above
+-- 126, and none is `<`.
+pub record TellsRecords (count : ℕ) (room room_after : List ℕ) : Type 0 where
+  pub records : List ℕ
+  pub safe : list_all is_safe records ≡ true
+  pub written : count ≡ length records
+  pub front : room_after ≡ room_with room records
+
+-- The same, or it wasn't recorded: memory ran out, or the script is too long.
+abbrev pub TellsRecordsUnlessNone : ℕ → ℕ → List ℕ → List ℕ → Type 0
+TellsRecordsUnlessNone ending count room room_after =
+    TellsRecords count room room_after ⊎ TellsNothing 4 ending count room room_after

@@ -74,7 +74,7 @@ fn answers_to(
 }
 
 // As much of a text as fits goes to the front of the room.
-fn put(text: &[u8], room: &mut [u8])
+pub(crate) fn put(text: &[u8], room: &mut [u8])
     ensures { room.new ≡ room_with room.old text.now }
 {
     let count = text.len().min(room.len());

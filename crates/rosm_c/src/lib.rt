@@ -3,16 +3,18 @@
 #![tactic(auto)]
 
 mod answers;
+mod records;
 
 ghost use Rattle.std.specs.Prelude.{◌≡◌, ◌<◌, [], None, length, IfSome};
 ghost use Rattle.profile.specs.Sizes.{config_of};
 ghost use Rattle.image_loader.specs.Entries.{refusal_for, with_entry};
 ghost use Rattle.command_shell.specs.Script.{script_told};
-ghost use Rattle.rosm_c.specs.Answers.{TellsAnswersUnlessNone, TellsNothing};
+ghost use Rattle.rosm_c.specs.Answers.{TellsAnswersUnlessNone, TellsNothing, TellsRecordsUnlessNone};
 
 use answers::{NOT_RUN, SIZES_REFUSED, refuse, write_answers};
 use image_loader::Images;
 use profile::Config;
+use records::write_records;
 use std::alloc::Global;
 
 /// Runs a script on a fresh machine of these sizes, in pages of 4,096 bytes, within a budget of
@@ -85,5 +87,35 @@ pub extern "C" fn rosm_run_image(
     match images.add(alloc, name, image) {
         Err(_) => refuse(NOT_RUN, written),
         Ok(()) => write_answers(alloc, &mut images, config, budget, script, out, written),
+    }
+}
+
+/// Answers a debugging script on a fresh machine, as records: JSON objects, one a line, by which the
+/// machine is known after each step (docs/JSON.md). `name` is what the first record calls the script. As
+/// much of the records goes to the front of `out` as there is room for, and how long all of them are to
+/// `written`. No byte of a record is below 32 but line feeds, none is above 126, and none is `<`.
+///
+/// The status is that of the program `rosm_debug`: where the script expects something 0 if all of that is
+/// so and 5 if not, else as for [`rosm_run`]. With 2 and 4 nothing is written, and `written` is 0.
+#[unsafe(no_mangle)]
+pub extern "C" fn rosm_records(
+    alloc: Global,
+    pages: u32,
+    app: u32,
+    rma: u32,
+    budget: u64,
+    name: &[u8],
+    script: &[u8],
+    out: &mut [u8],
+    written: &mut usize,
+) -> u32
+    ensures sizes { config_of pages app rma ≡ None → TellsNothing 2 result written.new out.old out.new }
+    ensures recorded { IfSome (config_of pages app rma) (λ _.
+        TellsRecordsUnlessNone result written.new out.old out.new) }
+    ensures too_long { IfSome (config_of pages app rma) (λ _. 1048576 < length script.now → result ≡ 4) }
+{
+    match Config::new(pages, app, rma) {
+        None => refuse(SIZES_REFUSED, written),
+        Some(config) => write_records(alloc, config, budget, name, script, out, written),
     }
 }

@@ -1,8 +1,8 @@
 -- By what is told before the piece is taken.
 use Rattle.std.proofs.Common.{◌≡◌, ℕ, List, ap, subst, ◌∙◌}
 use Rattle.std.specs.Prelude.{OnOk}
-use Rattle.debug_page.specs.Typing.{IsTaken}
-use Rattle.debug_page.specs.DebugSession.{DebugSession}
+use Rattle.debug_records.specs.Typing.{IsTaken}
+use Rattle.debug_records.specs.DebugSession.{DebugSession}
 use Rattle.debug_face.proofs.TalkLemmas.{takes_so}
 use Rattle.debug_face.proofs.talk.answer_piece.Goals as goal
 

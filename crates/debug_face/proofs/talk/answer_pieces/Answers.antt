@@ -1,7 +1,7 @@
 -- By the lemmas of TalkLemmas.
 use Rattle.std.proofs.Common.{◌≡◌, ℕ, true, inl, inr, sym, ap, ◌∙◌}
-use Rattle.debug_page.specs.Session.{debug_state}
-use Rattle.debug_page.specs.DebugSession.{DebugSession}
+use Rattle.debug_records.specs.Session.{debug_state}
+use Rattle.debug_records.specs.DebugSession.{DebugSession}
 use Rattle.debug_face.proofs.TalkLemmas.{talked_more, talked_none, talked_still_by}
 use Rattle.debug_face.proofs.talk.answer_pieces.Goals as goal
 

@@ -1,7 +1,7 @@
 -- By the lemmas of TalkLemmas.
 use Rattle.std.proofs.Common.{◌≡◌, ap, ◌∙◌}
-use Rattle.debug_page.specs.Session.{debug_state}
-use Rattle.debug_page.specs.DebugSetting.{DebugSetting}
+use Rattle.debug_records.specs.Session.{debug_state}
+use Rattle.debug_records.specs.DebugSessionDebugSetting.{DebugSetting}
 use Rattle.debug_face.proofs.TalkLemmas.{talk_status, talk_text}
 use Rattle.debug_face.proofs.talk.talk.Goals as goal
 

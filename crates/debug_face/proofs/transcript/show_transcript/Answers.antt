@@ -1,0 +1,15 @@
+use Rattle.std.proofs.Common.{◌≡◌, ℕ, List}
+use Rattle.debug_records.specs.ExitStatus.{debug_status}
+use Rattle.debug_face.specs.Transcript.{debug_told_in, WritesTranscript}
+use Rattle.debug_face.proofs.ReadLemmas.{of_read}
+use Rattle.debug_face.proofs.transcript.show_transcript.Goals as goal
+
+pub returns-clause-text : goal.returns-clause-text
+returns-clause-text g c =
+    of_read (λ script. WritesTranscript c.args.setting c.args.images script _ _) _ c.in_ok-script.script.items
+    c.as_slice.result.now c.as_slice.ensures.value c.in_ok-script.ensures.bytes c.in_ok-status.ensures.text
+
+pub returns-clause-status : goal.returns-clause-status
+returns-clause-status g c =
+    of_read (λ script. c.in_ok-status.status ≡ debug_status (debug_told_in c.args.setting c.args.images script).state) _
+    c.in_ok-script.script.items c.as_slice.result.now c.as_slice.ensures.value c.in_ok-script.ensures.bytes c.in_ok-status.ensures.status

@@ -1,0 +1,8 @@
+-- The first record, those of the lines, and the last.
+use Rattle.record_text.proofs.WritingLemmas.{then_added}
+use Rattle.debug_records.proofs.script.record_script.Goals as goal
+
+pub returns : goal.returns
+returns g c = record {
+  safe = then_added _ _ _ (then_added _ _ _ c.in_ok-hand_on.ensures c.in_ok-record_lines.ensures) c.in_ok-record_end.ensures;
+}

@@ -1,0 +1,14 @@
+//! Debugging scripts as records, JSON objects one a line: the machine at the start, each line, each of its
+//! steps and its answer.
+#![tactic(auto)]
+
+mod answers;
+mod images;
+mod lines;
+mod recorder;
+mod script;
+mod steps;
+
+pub use debug_session::{DebugSession, DebugSetting, DebugTyping, ReportForm, RunMeter};
+pub use recorder::Recorder;
+pub use script::record_script;

@@ -1,0 +1,76 @@
+//! A whole script, recorded.
+
+ghost use Rattle.std.specs.Prelude.{OnOk};
+ghost use Rattle.record_text.specs.Safe.{AddsSafe};
+
+use crate::recorder::{Recorder, hand_on};
+use command_shell::RunError;
+use debug_session::DebugSetting;
+use image_loader::Images;
+use profile::Sink;
+use std::alloc::Global;
+use text_lines::Lines;
+
+/// Writes the records of a script on a fresh machine, and gives the exit status of its lines. The images
+/// are handed in twice, for the session that answers and for the one that takes its steps one by one.
+///
+/// # Errors
+///
+/// `WriteFault` and `Memory`, when a part of the records may stand written.
+pub fn record_script<W: Sink>(
+    alloc: Global,
+    setting: DebugSetting,
+    images: Images,
+    twin_images: Images,
+    name: &[u8],
+    script: &[u8],
+    sink: &mut W,
+) -> Result<u8, RunError>
+    ensures safe { OnOk result (AddsSafe (W.contents sink.old) (W.contents sink.new)) }
+{
+    let mut recorder = Recorder::new(alloc, setting, images, twin_images)?;
+    recorder.tell_start(&setting, name)?;
+    hand_on(&mut recorder, sink)?;
+    record_lines(&mut recorder, script, sink)?;
+    record_end(&mut recorder, sink)?;
+    Ok(recorder.session.status())
+}
+
+// Records the lines of a script, up to its end or a line QUIT.
+fn record_lines<W: Sink>(
+    recorder: &mut Recorder,
+    script: &[u8],
+    sink: &mut W,
+) -> Result<(), RunError>
+    ensures { OnOk result (AddsSafe (W.contents sink.old) (W.contents sink.new)) }
+{
+    let mut lines = Lines::new(script);
+    for _lines in 0..u64::MAX {
+        let goes_on = record_next(recorder, &mut lines, sink)?;
+        if !goes_on {
+            return Ok(());
+        }
+    }
+    Ok(())
+}
+
+// Records the next line, and answers whether there was one.
+fn record_next<W: Sink>(
+    recorder: &mut Recorder,
+    lines: &mut Lines,
+    sink: &mut W,
+) -> Result<bool, RunError>
+    ensures { OnOk result (AddsSafe (W.contents sink.old) (W.contents sink.new)) }
+{
+    let goes_on = !recorder.session.has_quit() && recorder.next_line(lines)?;
+    hand_on(recorder, sink)?;
+    Ok(goes_on)
+}
+
+fn record_end<W: Sink>(recorder: &mut Recorder, sink: &mut W) -> Result<(), RunError>
+    ensures { OnOk result (AddsSafe (W.contents sink.old) (W.contents sink.new)) }
+{
+    recorder.tell_end()?;
+    hand_on(recorder, sink)?;
+    Ok(())
+}

@@ -1,0 +1,275 @@
+//! The steps of a line, taken one by one by the twin.
+
+ghost use Rattle.std.specs.Prelude.{◌≡◌, ◌<◌, ◌%◌, ◌^◌};
+
+use crate::recorder::Recorder;
+use arm_core::{Cpu, Mode};
+use command_shell::{OutsideCall, Session};
+use debug_lines::SteppingCommand;
+use debug_session::{DebugSession, Stub};
+use image_loader::Images;
+use profile::WriteFault;
+use profile::memory_map::ADDRESS_LIMIT;
+use std::alloc::{AllocError, Global};
+use swi_dispatch::Machine;
+use told_registers::WrittenRegisters;
+use trace_effects::changes::{REGISTERS, home_of};
+use trace_json::{MachineCopy, StepBefore, push_skip};
+use view_items::TextSink;
+
+/// The number of the link register.
+const LINK: u32 = 14;
+
+/// The last word of the address space, to which a routine goes back.
+const ROUTINE_END: u32 = ADDRESS_LIMIT - 4;
+
+impl Recorder {
+    /// Records the steps that the session has taken in a line, so many.
+    pub(crate) fn record_steps(
+        &mut self,
+        command: &SteppingCommand<'_>,
+        taken: u64,
+    ) -> Result<(), AllocError> {
+        let mut told = *self.twin.machine().cpu();
+        if taken == 0 {
+            return Ok(());
+        }
+        if let SteppingCommand::Gosub(address) = command {
+            enter_routine(&mut self.twin.session, address.address());
+        }
+        let most = taken.min(self.limit);
+        for index in 0..most {
+            let is_last = taken - index == 1;
+            self.record_step(command, index, is_last, &told)?;
+            told = *self.twin.machine().cpu();
+        }
+        if most < taken {
+            self.record_rest(command, most, taken - most, &told)?;
+        }
+        Ok(())
+    }
+
+    // Records one step.
+    fn record_step(
+        &mut self,
+        command: &SteppingCommand<'_>,
+        index: u64,
+        is_last: bool,
+        told: &Cpu,
+    ) -> Result<(), AllocError> {
+        self.steps = self.steps.saturating_add(1);
+        let mut printed = TextSink::new(self.alloc);
+        let (before, stub) = match outside_call(command, index) {
+            Some(call) => self.begin_call(call, &mut printed)?,
+            None => self.begin_step(&mut printed)?,
+        };
+        if is_last {
+            settle(&mut self.twin.session, self.session.machine());
+        }
+        let machine = self.twin.machine();
+        before.tell_end(
+            self.alloc,
+            &mut self.text,
+            told,
+            machine,
+            &stub,
+            printed.bytes(),
+        )?;
+        if before.may_move_images() {
+            self.push_places(true)?;
+        }
+        self.end_record()
+    }
+
+    // Begins the record of a step, and takes it.
+    fn begin_step(
+        &mut self,
+        printed: &mut TextSink,
+    ) -> Result<(StepBefore, WrittenRegisters), AllocError> {
+        let machine = self.twin.machine();
+        let stub = stub_ahead(&self.twin, machine);
+        let before = StepBefore::step(
+            self.alloc,
+            &mut self.text,
+            machine,
+            self.steps,
+            stub.is_some(),
+        )?;
+        take_step(&mut self.twin, &self.twin_images, printed)?;
+        Ok((before, stub.unwrap_or(WrittenRegisters::new())))
+    }
+
+    // Begins that of a call from outside, and makes it.
+    fn begin_call(
+        &mut self,
+        call: OutsideCall<'_>,
+        printed: &mut TextSink,
+    ) -> Result<(StepBefore, WrittenRegisters), AllocError> {
+        let before = self.call_before(call)?;
+        make_call(&mut self.twin, &self.twin_images, printed, call)?;
+        Ok((before, WrittenRegisters::new()))
+    }
+
+    fn call_before(&mut self, call: OutsideCall<'_>) -> Result<StepBefore, AllocError> {
+        let machine = self.twin.machine();
+        let text = &mut self.text;
+        match call {
+            OutsideCall::Swi(number) => {
+                StepBefore::call(self.alloc, text, machine, self.steps, number)
+            }
+            OutsideCall::Load(words) => {
+                StepBefore::load(self.alloc, text, machine, self.steps, words)
+            }
+        }
+    }
+
+    // Records so many steps more as one.
+    fn record_rest(
+        &mut self,
+        command: &SteppingCommand<'_>,
+        index: u64,
+        count: u64,
+        told: &Cpu,
+    ) -> Result<(), AllocError> {
+        self.steps = self.steps.saturating_add(count);
+        let before = MachineCopy::of(self.alloc, self.twin.machine())?;
+        let mut printed = TextSink::new(self.alloc);
+        let mut left = count;
+        if let Some(call) = outside_call(command, index) {
+            make_call(&mut self.twin, &self.twin_images, &mut printed, call)?;
+            left = left.saturating_sub(1);
+        }
+        take_steps(&mut self.twin, &self.twin_images, &mut printed, left)?;
+        settle(&mut self.twin.session, self.session.machine());
+        push_skip(
+            self.alloc,
+            &mut self.text,
+            self.steps,
+            count,
+            &before,
+            told,
+            self.twin.machine(),
+            printed.bytes(),
+        )?;
+        self.push_places(true)?;
+        self.end_record()
+    }
+}
+
+// The call from outside that the step of a number in a line is, if it is one.
+fn outside_call<'a>(command: &SteppingCommand<'a>, index: u64) -> Option<OutsideCall<'a>> {
+    if index > 0 {
+        return None;
+    }
+    match command {
+        SteppingCommand::Call(number) => Some(OutsideCall::Swi(*number)),
+        SteppingCommand::Load(words) => Some(OutsideCall::Load(*words)),
+        _ => None,
+    }
+}
+
+// The registers that the stub sets which the next step meets, if it meets one.
+fn stub_ahead(twin: &DebugSession, machine: &Machine) -> Option<WrittenRegisters> {
+    let stub = twin.stubs().ahead(machine)?;
+    Some(written_by_stub(machine, stub))
+}
+
+fn written_by_stub(machine: &Machine, stub: &Stub) -> WrittenRegisters {
+    let mode = machine.cpu().psr().mode;
+    let mut written = WrittenRegisters::new();
+    for setting in &stub.registers {
+        written.add(mode, setting.register.number());
+    }
+    written.add(Mode::Supervisor, LINK);
+    written
+}
+
+fn take_step(
+    twin: &mut DebugSession,
+    images: &Images,
+    printed: &mut TextSink,
+) -> Result<(), AllocError> {
+    twin.session.set_budget(1);
+    ended(twin.take_step(images, printed))
+}
+
+fn make_call(
+    twin: &mut DebugSession,
+    images: &Images,
+    printed: &mut TextSink,
+    call: OutsideCall<'_>,
+) -> Result<(), AllocError> {
+    twin.session.set_budget(1);
+    match twin.session.begin_call(images, printed, call) {
+        Ok(_stop) => Ok(()),
+        Err(_) => Err(AllocError),
+    }
+}
+
+// Takes so many steps, at once where nothing looks at them.
+fn take_steps(
+    twin: &mut DebugSession,
+    images: &Images,
+    printed: &mut TextSink,
+    count: u64,
+) -> Result<(), AllocError> {
+    let mut left = count;
+    while left > 0 {
+        let taken = if twin.stubs().is_empty() {
+            run_steps(twin, images, printed, left)?
+        } else {
+            0
+        };
+        if taken > 0 {
+            left = left.saturating_sub(taken);
+        } else {
+            take_step(twin, images, printed)?;
+            left -= 1;
+        }
+    }
+    Ok(())
+}
+
+fn run_steps(
+    twin: &mut DebugSession,
+    images: &Images,
+    printed: &mut TextSink,
+    count: u64,
+) -> Result<u64, AllocError> {
+    twin.session.set_budget(count);
+    match twin.session.take_steps(images, printed, count) {
+        Ok(ran) => Ok(ran.taken),
+        Err(_) => Err(AllocError),
+    }
+}
+
+fn ended(outcome: Result<(), WriteFault>) -> Result<(), AllocError> {
+    match outcome {
+        Ok(()) => Ok(()),
+        Err(_) => Err(AllocError),
+    }
+}
+
+// Stands at a routine, with R14 as the address to which it goes back.
+fn enter_routine(twin: &mut Session, address: u32)
+    requires aligned { address % 4 ≡ 0 }
+    requires inside { address < 2 ^ 26 }
+{
+    let back = twin.machine().cpu().psr().bits() + ROUTINE_END;
+    twin.set_register(LINK, back);
+    twin.set_pc(address);
+}
+
+// The core of the twin becomes that of the session: a routine that has come back leaves R14 and the
+// program counter as they were before it.
+fn settle(twin: &mut Session, machine: &Machine) {
+    let cpu = machine.cpu();
+    cpu.known();
+    for place in 0..REGISTERS as u32 {
+        let (mode, number) = home_of(place);
+        let value = cpu.register_in(mode, number);
+        twin.set_register_in(mode, number, value);
+    }
+    twin.set_psr(cpu.psr());
+    twin.set_pc(cpu.pc());
+}

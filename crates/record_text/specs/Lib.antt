@@ -1,0 +1,2 @@
+-- Which bytes a record has.
+pub mod Safe

@@ -1,0 +1,2 @@
+-- The words of memory that are told, and how they are replayed. Begin with Replay.
+pub mod Replay

@@ -1,0 +1,1 @@
+-- The proofs of trace_json stand beside its functions.

@@ -1,0 +1,1 @@
+-- Records of steps have no definitions of their own: told_registers, told_words and trace_moments say what they show.

@@ -1,0 +1,136 @@
+//! What differs between a machine as it was and as it is, in records.
+
+use crate::core_fields::{push_registers, push_status};
+use crate::flex::push_changed_flex;
+use crate::heaps::{BlockFate, push_changed_heaps};
+use crate::lists::{push_areas, push_modules};
+use crate::words::push_words;
+use arm_core::Cpu;
+use record_text::RecordText;
+use std::alloc::{AllocError, Global};
+use swi_dispatch::Machine;
+use told_registers::{WrittenRegisters, told_registers};
+use told_words::changed_words;
+use trace_effects::changes::jump_of;
+use trace_words::StoreCopy;
+
+/// What is kept of a machine, to tell later what differs.
+#[derive(Drop)]
+pub struct MachineCopy {
+    pub(crate) cpu: Cpu,
+    pub(crate) frames: usize,
+    store: StoreCopy,
+    areas: RecordText,
+    modules: RecordText,
+}
+
+impl MachineCopy {
+    /// A copy of a machine as it is.
+    ///
+    /// # Errors
+    ///
+    /// Memory ran out.
+    pub fn of(alloc: Global, machine: &Machine) -> Result<MachineCopy, AllocError> {
+        Ok(MachineCopy {
+            cpu: *machine.cpu(),
+            frames: machine.frames(),
+            store: StoreCopy::of(alloc, machine)?,
+            areas: areas_of(alloc, machine)?,
+            modules: modules_of(alloc, machine)?,
+        })
+    }
+}
+
+fn areas_of(alloc: Global, machine: &Machine) -> Result<RecordText, AllocError> {
+    let mut text = RecordText::new(alloc);
+    push_areas(&mut text, machine.areas().list(), machine.memory())?;
+    Ok(text)
+}
+
+fn modules_of(alloc: Global, machine: &Machine) -> Result<RecordText, AllocError> {
+    let mut text = RecordText::new(alloc);
+    push_modules(&mut text, machine.instances())?;
+    Ok(text)
+}
+
+/// Writes what a core differs in from one before it, and registers that were written; and under a name
+/// where it goes on, if that isn't the address that was expected.
+pub(crate) fn push_core_changes(
+    text: &mut RecordText,
+    before: &Cpu,
+    after: &Cpu,
+    written: &WrittenRegisters,
+    name: &[u8],
+    expected: u32,
+) -> Result<(), AllocError> {
+    let told = told_registers(before, after, written);
+    push_registers(text, told.as_slice())?;
+    push_status(text, before.psr(), after.psr())?;
+    match jump_of(expected, after) {
+        Some(at) => text.number_field(name, u64::from(at)),
+        None => Ok(()),
+    }
+}
+
+/// Writes the words of memory that differ.
+pub(crate) fn push_changed_words(
+    alloc: Global,
+    text: &mut RecordText,
+    before: &MachineCopy,
+    machine: &Machine,
+) -> Result<(), AllocError> {
+    let words = changed_words(alloc, before.store.memory(), machine.memory())?;
+    push_words(text, words.as_slice())
+}
+
+/// Writes the heaps, flex blocks, areas and modules that differ.
+pub(crate) fn push_store_changes(
+    alloc: Global,
+    text: &mut RecordText,
+    before: &MachineCopy,
+    machine: &Machine,
+    fate: BlockFate,
+) -> Result<(), AllocError> {
+    let old = &before.store;
+    push_changed_heaps(alloc, text, old.memory(), machine.memory(), fate)?;
+    push_flex_changes(text, old, machine)?;
+    if areas_of(alloc, machine)?.bytes() != before.areas.bytes() {
+        push_areas(text, machine.areas().list(), machine.memory())?;
+    }
+    if modules_of(alloc, machine)?.bytes() != before.modules.bytes() {
+        push_modules(text, machine.instances())?;
+    }
+    Ok(())
+}
+
+fn push_flex_changes(
+    text: &mut RecordText,
+    before: &StoreCopy,
+    machine: &Machine,
+) -> Result<(), AllocError> {
+    push_changed_flex(
+        text,
+        before.memory(),
+        before.flex(),
+        machine.memory(),
+        machine.flex(),
+    )
+}
+
+/// Writes all that differs after a line that takes no steps.
+///
+/// # Errors
+///
+/// Memory ran out.
+pub fn push_changes(
+    alloc: Global,
+    text: &mut RecordText,
+    before: &MachineCopy,
+    machine: &Machine,
+) -> Result<(), AllocError> {
+    let none = WrittenRegisters::new();
+    let expected = before.cpu.pc();
+    push_core_changes(text, &before.cpu, machine.cpu(), &none, b"pc", expected)?;
+    push_changed_words(alloc, text, before, machine)?;
+    push_store_changes(alloc, text, before, machine, BlockFate::Slid)
+}

@@ -1,0 +1,24 @@
+//! Moments of a machine as records, JSON objects: what stands in it at the start, and what each step and
+//! each line leaves.
+#![tactic(auto)]
+
+mod calls;
+mod changes;
+mod core_fields;
+mod flex;
+mod frames;
+mod heaps;
+mod lists;
+mod names;
+mod skip;
+mod state;
+mod step;
+mod stops;
+mod words;
+
+pub use changes::{MachineCopy, push_changes};
+pub use names::register_name;
+pub use skip::push_skip;
+pub use state::push_state;
+pub use step::{StepBefore, StepKind};
+pub use stops::{error_name, push_error, push_stop, stop_reason};

@@ -1,0 +1,50 @@
+//! Steps that aren't told one by one, as a record: what they leave together.
+
+use crate::changes::{MachineCopy, push_changed_words, push_core_changes, push_store_changes};
+use crate::frames::push_frames;
+use crate::heaps::BlockFate;
+use crate::step::push_out;
+use crate::stops::{push_stop, stop_reason};
+use arm_core::Cpu;
+use record_text::{Bracket, RecordText};
+use std::alloc::{AllocError, Global};
+use swi_dispatch::Machine;
+use told_registers::WrittenRegisters;
+
+/// Begins the record of so many steps that aren't told one by one, and writes what they left; but for
+/// where images stand.
+///
+/// # Errors
+///
+/// Memory ran out.
+pub fn push_skip(
+    alloc: Global,
+    text: &mut RecordText,
+    last: u64,
+    count: u64,
+    before: &MachineCopy,
+    told: &Cpu,
+    machine: &Machine,
+    printed: &[u8],
+) -> Result<(), AllocError> {
+    text.open(Bracket::Object)?;
+    text.number_field(b"step", last)?;
+    text.number_field(b"skip", count)?;
+    let none = WrittenRegisters::new();
+    push_core_changes(text, told, machine.cpu(), &none, b"next", told.pc())?;
+    push_changed_words(alloc, text, before, machine)?;
+    let kept = before.frames.min(machine.frames());
+    push_frames(text, before.frames, kept, machine, None)?;
+    push_store_changes(alloc, text, before, machine, BlockFate::Unknown)?;
+    push_out(text, printed)?;
+    match machine.stop() {
+        Some(stop) => push_stop(
+            alloc,
+            text,
+            stop_reason(stop),
+            Some(stop),
+            machine.cpu().pc(),
+        ),
+        None => Ok(()),
+    }
+}

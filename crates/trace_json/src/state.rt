@@ -1,0 +1,25 @@
+//! A whole machine in a record.
+
+use crate::core_fields::push_core;
+use crate::flex::push_store;
+use crate::heaps::push_all_heaps;
+use crate::lists::{push_areas, push_modules};
+use crate::words::push_memory;
+use record_text::RecordText;
+use std::alloc::AllocError;
+use swi_dispatch::Machine;
+
+/// Writes all that stands in a machine: its core, its memory, its heaps, areas and modules, and where
+/// its flex store is.
+///
+/// # Errors
+///
+/// Memory ran out.
+pub fn push_state(text: &mut RecordText, machine: &Machine) -> Result<(), AllocError> {
+    push_core(text, machine.cpu())?;
+    push_memory(text, machine.memory())?;
+    push_all_heaps(text, machine.memory())?;
+    push_areas(text, machine.areas().list(), machine.memory())?;
+    push_store(text, b"flex", machine.flex().range())?;
+    push_modules(text, machine.instances())
+}

@@ -1,0 +1,97 @@
+//! Words of memory in records.
+
+ghost use Rattle.std.specs.Prelude.{◌<◌};
+
+use address_map::AddressMap;
+use profile::memory_map::{ADDRESS_LIMIT, PAGE_SIZE};
+use record_text::{Bracket, RecordText};
+use std::alloc::AllocError;
+use told_words::ToldWord;
+
+/// The most words that a record has.
+const MOST_WORDS: usize = 4096;
+
+/// Writes words with their old and new values, if there are some: 4,096 of them, and how many there are
+/// more.
+pub(crate) fn push_words(text: &mut RecordText, words: &[ToldWord]) -> Result<(), AllocError> {
+    if words.is_empty() {
+        return Ok(());
+    }
+    let told = words.len().min(MOST_WORDS);
+    text.open_field(b"mem", Bracket::List)?;
+    for word in &words[..told] {
+        text.numbers(&[word.at, word.old, word.new])?;
+    }
+    text.close(Bracket::List)?;
+    if told < words.len() {
+        text.number_field(b"more", (words.len() - told) as u64)?;
+    }
+    Ok(())
+}
+
+/// Writes words that were read.
+pub(crate) fn push_reads(text: &mut RecordText, words: &[ToldWord]) -> Result<(), AllocError> {
+    if words.is_empty() {
+        return Ok(());
+    }
+    text.open_field(b"reads", Bracket::List)?;
+    for word in words {
+        text.numbers(&[word.at, word.old])?;
+    }
+    text.close(Bracket::List)
+}
+
+/// Writes where memory is mapped, and all words that aren't 0.
+pub(crate) fn push_memory(text: &mut RecordText, memory: &AddressMap) -> Result<(), AllocError> {
+    push_mapped(text, memory)?;
+    text.open_field(b"mem", Bracket::List)?;
+    for page in 0..ADDRESS_LIMIT / PAGE_SIZE {
+        push_page(text, memory, PAGE_SIZE * page)?;
+    }
+    text.close(Bracket::List)
+}
+
+fn push_page(text: &mut RecordText, memory: &AddressMap, page: u32) -> Result<(), AllocError>
+    requires { page < 67108864 }
+{
+    if memory.translate(page).is_none() {
+        return Ok(());
+    }
+    for index in 0..PAGE_SIZE / 4 {
+        let at = page + 4 * index;
+        let word = memory.load_word(at).unwrap_or(0);
+        if word != 0 {
+            text.numbers(&[at, 0, word])?;
+        }
+    }
+    Ok(())
+}
+
+// The ranges of memory that are mapped, each by its address and its bytes.
+fn push_mapped(text: &mut RecordText, memory: &AddressMap) -> Result<(), AllocError> {
+    text.open_field(b"mapped", Bracket::List)?;
+    let mut first = 0;
+    let mut pages: u32 = 0;
+    for page in 0..ADDRESS_LIMIT / PAGE_SIZE {
+        if memory.translate(PAGE_SIZE * page).is_some() {
+            if pages == 0 {
+                first = page;
+            }
+            pages = pages.saturating_add(1);
+        } else if pages > 0 {
+            push_range(text, first, pages)?;
+            pages = 0;
+        }
+    }
+    if pages > 0 {
+        push_range(text, first, pages)?;
+    }
+    text.close(Bracket::List)
+}
+
+fn push_range(text: &mut RecordText, first: u32, pages: u32) -> Result<(), AllocError> {
+    text.open(Bracket::List)?;
+    text.number(u64::from(PAGE_SIZE) * u64::from(first))?;
+    text.number(u64::from(PAGE_SIZE) * u64::from(pages))?;
+    text.close(Bracket::List)
+}

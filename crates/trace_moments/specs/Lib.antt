@@ -1,0 +1,1 @@
+-- What a step or a line leaves of a machine, as values.

@@ -1,0 +1,11 @@
+//! What a step or a line leaves of a machine, as values: registers that are written, words that are loaded
+//! and stored, and items of heaps, without a bound.
+#![tactic(auto)]
+
+mod items;
+mod stored;
+mod written;
+
+pub use items::{SameBlock, all_changed_items, resized_block, slid_blocks};
+pub use stored::{loaded_words, stored_changes, words_at};
+pub use written::{written_by_call, written_by_instruction};

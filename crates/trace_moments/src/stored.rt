@@ -1,0 +1,64 @@
+//! The words that an instruction loads and stores.
+
+ghost use Rattle.std.specs.Prelude.{◌≡◌, ◌≤◌, IfSome, MatchOption};
+ghost use Rattle.trace_effects.specs.Loaded.{loaded_words};
+
+use address_map::AddressMap;
+use arm_core::Cpu;
+use std::alloc::{AllocError, Global};
+use told_words::ToldWord;
+use trace_effects::{Cause, StoredWords};
+
+/// The words that the instruction at a core's program counter loads, if it loads any, of which LDRB
+/// loads one byte.
+pub fn loaded_words(cause: Cause, cpu: &Cpu) -> Option<StoredWords>
+    ensures value { MatchOption result ((loaded_words cause cpu.now).count ≡ 0)
+        (λ words. words ≡ loaded_words cause cpu.now) }
+    ensures few { IfSome result (λ words. words.count ≤ 16) }
+{
+    let words = trace_effects::loaded_words(cause, cpu);
+    if words.count == 0 {
+        return None;
+    }
+    Some(words)
+}
+
+/// So many words of memory, by their addresses; one that isn't mapped counts as 0.
+///
+/// # Errors
+///
+/// Memory ran out.
+pub fn words_at(
+    alloc: Global,
+    memory: &AddressMap,
+    words: StoredWords,
+) -> Result<Vec<ToldWord>, AllocError>
+    requires { words.count ≤ 16 }
+{
+    let mut all = Vec::new(alloc);
+    let mut at = words.at;
+    for _words in 0..words.count {
+        let word = memory.load_word(at).unwrap_or(0);
+        all.push(ToldWord {
+            at,
+            old: word,
+            new: word,
+        })?;
+        at = at.wrapping_add(4);
+    }
+    Ok(all)
+}
+
+/// Words as they were, with what stands there now.
+pub fn stored_changes(
+    alloc: Global,
+    olds: &[ToldWord],
+    memory: &AddressMap,
+) -> Result<Vec<ToldWord>, AllocError> {
+    let mut changes = Vec::new(alloc);
+    for old in olds {
+        let new = memory.load_word(old.at).unwrap_or(0);
+        changes.push(ToldWord { new, ..*old })?;
+    }
+    Ok(changes)
+}
