@@ -1,1 +1,2 @@
+pub mod LeavingLemmas
 pub mod StoreLemmas

@@ -1,11 +1,15 @@
--- What a trace tells of an instruction's stores is all that it changes in memory.
-use Rattle.std.specs.Prelude.{◌≡◌, ◌≢◌, ◌*◌, ℕ, true, None, Ok, List}
+-- What a trace tells of an instruction's stores is all that it changes in memory; and a call of which it
+-- tells nothing of the store leaves that as it is.
+use Rattle.std.specs.Prelude.{◌≡◌, ◌≢◌, ◌*◌, ℕ, true, None, Ok, Err, List, length}
+use Rattle.profile.specs.MemoryMap.{error_block_start}
 use Rattle.image_loader.specs.Entries.{Entry}
 use Rattle.address_map.specs.Bytes.{Bytes, in_range}
-use Rattle.arm_core.specs.State.{State}
+use Rattle.arm_core.specs.State.{State, register_of}
+use Rattle.arm_core.specs.declared.turn.Turn.TheVariants as turn
 use Rattle.swi_dispatch_guest.specs.MachineState.{MachineState}
-use Rattle.swi_dispatch_guest.specs.Step.{machine_step, result_of_instruction}
+use Rattle.swi_dispatch_guest.specs.Step.{machine_step, result_of_instruction, without_x}
 use Rattle.trace_effects.specs.Cause.{cause_of}
+use Rattle.trace_effects.specs.Leaving.{call_leaves}
 use Rattle.trace_effects.specs.Stored.{stored_words}
 use Rattle.trace_effects.specs.declared.stored.StoredWords.{StoredWords}
 
@@ -19,3 +23,25 @@ StoresAreTold =
     (images : List Entry) (s : MachineState) (w : State × Bytes) (a : ℕ) → s.halt ≡ None → result_of_instruction s ≡ Ok w →
     (machine_step images s).now.store.bytes.at a ≢ s.store.bytes.at a →
     IsInWords (stored_words (cause_of s.cpu s.store.bytes) s.cpu) a
+
+-- A byte of the system's error block, where an error has gone back: V is set, and no frame was entered.
+pub record IsOfError (s s' : MachineState) (a : ℕ) : Type 0 where
+  pub block : in_range error_block_start 256 a ≡ true
+  pub error : s'.cpu.psr.overflow ≡ true
+  pub frames : length s'.tables.frames ≡ length s.tables.frames
+
+-- The store is what it was: which memory is mapped, its heaps and all other recorded ranges, the modules
+-- with their instances, where the flex store is, and each byte but those of an error.
+pub record IsStoreLeft (s s' : MachineState) : Type 0 where
+  pub mapped : s'.store.bytes.mapped ≡ s.store.bytes.mapped
+  pub heaps : s'.store.heaps ≡ s.store.heaps
+  pub others : s'.store.others ≡ s.store.others
+  pub modules : s'.tables.modules ≡ s.tables.modules
+  pub flex : s'.tables.flex ≡ s.tables.flex
+  pub bytes : (a : ℕ) → s'.store.bytes.at a ≢ s.store.bytes.at a → IsOfError s s' a
+
+-- A step that makes a call of which a trace keeps no copy of the store leaves the store as it is.
+abbrev pub CallsLeaveStore : Type 0
+CallsLeaveStore =
+    (images : List Entry) (s : MachineState) (n : ℕ) → s.halt ≡ None → result_of_instruction s ≡ Err (turn.Swi n) →
+    call_leaves (register_of s.cpu 0) (without_x n) ≡ true → IsStoreLeft s (machine_step images s).now

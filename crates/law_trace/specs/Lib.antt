@@ -1,2 +1,2 @@
--- A law of traces.
+-- Laws of traces.
 pub mod Laws

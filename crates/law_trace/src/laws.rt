@@ -1,6 +1,7 @@
-//! Each byte that an instruction changes lies in a word that its trace tells.
+//! Each byte that an instruction changes lies in a word that its trace tells, and a call of which no
+//! word is told changes none.
 
-ghost use Rattle.law_trace.specs.Laws.{StoresAreTold};
+ghost use Rattle.law_trace.specs.Laws.{CallsLeaveStore, StoresAreTold};
 
 use law_heap_alone::laws::steps_leave_bytes;
 
@@ -10,3 +11,9 @@ pub fn stores_are_told()
 {
     steps_leave_bytes();
 }
+
+/// A call of which a trace tells nothing of the store leaves it as it is, but for an error's block.
+#[tactic(auto, using(crate::proofs::LeavingLemmas::calls_leave))]
+pub fn calls_leave_store()
+    ensures { CallsLeaveStore }
+{}

@@ -20,13 +20,18 @@ use Rattle.trace_effects.specs.declared.stored.StoredWords.{StoredWords}
 abbrev pub no_words : StoredWords
 no_words = record { at = 0; count = 0 }
 
+-- the words that a transfer moves, whichever way
+abbrev pub transfer_words : State → Transfer → StoredWords
+transfer_words s t = record { at = word_start (transfer_address s t.address); count = 1 }
+
+abbrev pub block_words : State → BlockTransfer → StoredWords
+block_words s t = record { at = block_start s t; count = transferred_count t }
+
 abbrev pub words_of_transfer : State → Transfer → StoredWords
-words_of_transfer s t = if t.loads then no_words else
-    record { at = word_start (transfer_address s t.address); count = 1 }
+words_of_transfer s t = if t.loads then no_words else transfer_words s t
 
 abbrev pub words_of_block : State → BlockTransfer → StoredWords
-words_of_block s t = if t.loads then no_words else
-    record { at = block_start s t; count = transferred_count t }
+words_of_block s t = if t.loads then no_words else block_words s t
 
 abbrev pub words_of_action : State → Action → StoredWords
 words_of_action s (action.Transfer t) = words_of_transfer s t

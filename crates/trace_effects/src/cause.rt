@@ -53,7 +53,7 @@ pub fn called_swi(cause: Cause) -> Option<u32>
     }
 }
 
-fn swi_of_action(action: Action) -> Option<u32>
+pub(crate) fn swi_of_action(action: Action) -> Option<u32>
     ensures { result ≡ swi_of_action action }
 {
     match action {

@@ -1,10 +1,16 @@
-//! What a step finds, of what a trace tells: the word at the program counter, and the words of
-//! memory that its instruction stores to.
+//! What a step finds, of what a trace tells: the word at the program counter, the words of memory that
+//! its instruction loads and stores to, and whether a store call leaves the store as it is.
 #![tactic(auto)]
 
 pub mod cause;
 pub mod changes;
+pub mod effects;
+pub mod leaving;
+pub mod loaded;
 pub mod stored;
 
 pub use cause::{Cause, called_swi};
+pub use effects::{Effects, effects_of};
+pub use leaving::call_leaves;
+pub use loaded::loaded_words;
 pub use stored::{StoredWords, stored_words};

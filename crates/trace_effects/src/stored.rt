@@ -3,7 +3,7 @@
 ghost use Rattle.std.specs.Prelude.{◌≡◌, ◌≤◌};
 ghost use Rattle.arm_step.specs.Blocks.{block_start, lowest};
 ghost use Rattle.arm_step.specs.Transfers.{moved_base, offset_amount, transfer_address};
-ghost use Rattle.trace_effects.specs.Stored.{no_words, stored_words, words_of_action, words_of_block, words_of_transfer};
+ghost use Rattle.trace_effects.specs.Stored.{block_words, no_words, stored_words, transfer_words, words_of_action, words_of_block, words_of_transfer};
 
 use crate::cause::Cause;
 use arm_core::Cpu;
@@ -34,13 +34,13 @@ pub fn stored_words(cause: Cause, cpu: &Cpu) -> StoredWords
     }
 }
 
-fn no_words() -> StoredWords
+pub(crate) fn no_words() -> StoredWords
     ensures { result ≡ no_words }
 {
     StoredWords { at: 0, count: 0 }
 }
 
-fn words_of_action(cpu: &Cpu, action: Action) -> StoredWords
+pub(crate) fn words_of_action(cpu: &Cpu, action: Action) -> StoredWords
     ensures value { result ≡ words_of_action cpu.now action }
     ensures few { result.count ≤ 16 }
 {
@@ -58,6 +58,14 @@ fn words_of_transfer(cpu: &Cpu, transfer: &Transfer) -> StoredWords
     if transfer.loads {
         return no_words();
     }
+    transfer_words(cpu, transfer)
+}
+
+/// The word that a transfer moves, or of which it moves a byte.
+pub(crate) fn transfer_words(cpu: &Cpu, transfer: &Transfer) -> StoredWords
+    ensures value { result ≡ transfer_words cpu.now transfer.now }
+    ensures few { result.count ≤ 16 }
+{
     let at = transfer_address(cpu, &transfer.address);
     StoredWords {
         at: at - at % 4,
@@ -72,6 +80,14 @@ fn words_of_block(cpu: &Cpu, block: &BlockTransfer) -> StoredWords
     if block.loads {
         return no_words();
     }
+    block_words(cpu, block)
+}
+
+/// The words that a block transfer moves.
+pub(crate) fn block_words(cpu: &Cpu, block: &BlockTransfer) -> StoredWords
+    ensures value { result ≡ block_words cpu.now block.now }
+    ensures few { result.count ≤ 16 }
+{
     let count = size_of(block.list);
     let at = lowest(block.mode, cpu.plain_operand(block.rn, 2), count);
     StoredWords {

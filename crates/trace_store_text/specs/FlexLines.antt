@@ -1,13 +1,24 @@
--- What a store call changes in the flex store, a line below the call for each block that is gone, new, or
--- not what it was.
+-- What a store call changes in the flex store, a line below the call where the store is new, and for each
+-- block that is gone, new, or not what it was.
 use Rattle.std.specs.Prelude.{ℕ, List, [], ◌++◌, codes, Option, Some, None}
 use Rattle.std.specs.Fmt.{decimal}
 use Rattle.std.specs.List.{flat_map}
 use Rattle.profile.specs.Digits.{hex_word}
 use Rattle.address_map.specs.Bytes.{Bytes}
 use Rattle.flex_store.specs.declared.blocks.FlexBlock.{FlexBlock}
+use Rattle.flex_store.specs.declared.flex.Extent.{Extent}
 use Rattle.flex_store.specs.declared.flex.Flex.{Flex}
 use Rattle.trace_store_text.specs.flex.Changes.{BlockChange, flex_blocks_in, gone_block, kept_block}
+
+-- `flex 0000A000 0000A400 new`: from where to where it lies
+unfoldable pub new_store_line : ℕ → ℕ → List ℕ
+new_store_line start end = codes "                  flex " ++ (hex_word start ++ (codes " " ++ (hex_word end
+    ++ codes " new\n")))
+
+-- A machine gets a flex store once, and keeps it where it is.
+abbrev pub store_line : Option Extent → Option Extent → List ℕ
+store_line None (Some e) = new_store_line e.start e.end
+store_line old new = []
 
 -- `block anchor 00009004 gone`
 unfoldable pub gone_block_line : FlexBlock → List ℕ
@@ -43,4 +54,5 @@ abbrev pub flex_change_lines : List FlexBlock → List FlexBlock → List ℕ
 flex_change_lines before after = flat_map (gone_block_lines after) before ++ flat_map (kept_block_lines before) after
 
 unfoldable pub flex_lines : Bytes → Flex → Bytes → Flex → List ℕ
-flex_lines b f b' f' = flex_change_lines (flex_blocks_in b f) (flex_blocks_in b' f')
+flex_lines b f b' f' = store_line f.extent f'.extent
+    ++ flex_change_lines (flex_blocks_in b f) (flex_blocks_in b' f')

@@ -1,11 +1,11 @@
 -- What a store call changes in modules, a line below the call for each instance that is gone, new or
--- moved with its module's image.
-use Rattle.std.specs.Prelude.{ℕ, List, [], ◌++◌, codes, Option, Some, None}
+-- moved with its module's image, and for each that is preferred in place of another.
+use Rattle.std.specs.Prelude.{ℕ, List, [], ◌++◌, codes, Option, Some, None, if◌then◌else◌}
 use Rattle.std.specs.Fmt.{decimal}
 use Rattle.std.specs.List.{flat_map}
 use Rattle.profile.specs.Digits.{hex_word}
 use Rattle.instances_table.specs.Modules.{Module}
-use Rattle.trace_store_text.specs.modules.Changes.{InstanceChange, gone_instance, kept_instance}
+use Rattle.trace_store_text.specs.modules.Changes.{InstanceChange, gone_instance, is_preferred_anew, kept_instance}
 use Rattle.trace_store_text.specs.modules.Marks.{instance_marks}
 use Rattle.trace_store_text.specs.declared.modules.marks.InstanceMark.{InstanceMark}
 
@@ -39,6 +39,15 @@ gone_instance_lines after x = flat_map instance_change_line (gone_instance after
 abbrev pub kept_instance_lines : List InstanceMark → InstanceMark → List ℕ
 kept_instance_lines before x = flat_map instance_change_line (kept_instance before x)
 
+-- `module Dbl%B preferred`
+unfoldable pub preferred_line : InstanceMark → List ℕ
+preferred_line x = codes "                  module " ++ (x.title.items ++ (codes "%" ++ (x.name.items
+    ++ codes " preferred\n")))
+
+abbrev pub preferred_lines : List InstanceMark → InstanceMark → List ℕ
+preferred_lines before x = if is_preferred_anew before x then preferred_line x else []
+
 unfoldable pub module_lines : List Module → List Module → List ℕ
 module_lines before after = flat_map (gone_instance_lines (instance_marks after)) (instance_marks before)
-    ++ flat_map (kept_instance_lines (instance_marks before)) (instance_marks after)
+    ++ (flat_map (kept_instance_lines (instance_marks before)) (instance_marks after)
+    ++ flat_map (preferred_lines (instance_marks before)) (instance_marks after))

@@ -7,7 +7,7 @@ ghost use Rattle.profile.specs.Output.{Writes};
 ghost use Rattle.flex_store.specs.Listed.{all_listed};
 ghost use Rattle.flex_store.specs.State.{IsFlex, flex_in};
 ghost use Rattle.trace_store_text.specs.flex.Changes.{gone_block_by, kept_block_by};
-ghost use Rattle.trace_store_text.specs.FlexLines.{block_change_line, flex_change_lines, flex_lines, gone_block_line, gone_block_lines, kept_block_lines, new_block_line, other_block_line};
+ghost use Rattle.trace_store_text.specs.FlexLines.{block_change_line, flex_change_lines, flex_lines, gone_block_line, gone_block_lines, kept_block_lines, new_block_line, new_store_line, other_block_line, store_line};
 
 use crate::flex::{find_block, is_same_block};
 use address_map::AddressMap;
@@ -15,7 +15,8 @@ use flex_store::{Flex, FlexBlock};
 use itoa::Buffer;
 use profile::{HexText, Sink, WriteFault, push_parts};
 
-/// Writes a line for each block of the flex store that is gone, new, or not what it was.
+/// Writes a line for a flex store that is new, and for each block of it that is gone, new, or not what
+/// it was.
 pub fn push_flex<W: Sink>(
     sink: &mut W,
     before: &AddressMap,
@@ -28,7 +29,37 @@ pub fn push_flex<W: Sink>(
     ensures writes { Writes W.contents W.has_failed sink.old sink.new result
         (flex_lines (bytes_of before.now) old.now (bytes_of after.now) new.now) }
 {
+    push_store(sink, old, new)?;
     push_blocks(sink, before, old, after, new)
+}
+
+fn push_store<W: Sink>(sink: &mut W, old: &Flex, new: &Flex) -> Result<(), WriteFault>
+    ensures { Writes W.contents W.has_failed sink.old sink.new result
+        (store_line old.now.extent new.now.extent) }
+{
+    match old.range() {
+        Some(_) => Ok(()),
+        None => match new.range() {
+            Some((start, end, _)) => push_new_store(sink, start, end),
+            None => Ok(()),
+        },
+    }
+}
+
+#[tactic(auto, unfolding(crate::specs::FlexLines::new_store_line))]
+fn push_new_store<W: Sink>(sink: &mut W, start: u32, end: u32) -> Result<(), WriteFault>
+    ensures { Writes W.contents W.has_failed sink.old sink.new result (new_store_line start end) }
+{
+    push_parts(
+        sink,
+        &[
+            b"                  flex ".as_slice(),
+            HexText::word(start).as_slice(),
+            b" ".as_slice(),
+            HexText::word(end).as_slice(),
+            b" new\n".as_slice(),
+        ],
+    )
 }
 
 fn push_blocks<W: Sink>(

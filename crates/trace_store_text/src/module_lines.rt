@@ -3,14 +3,15 @@
 ghost use Rattle.std.specs.Prelude.{◌≡◌};
 ghost use Rattle.std.specs.List.{flat_map};
 ghost use Rattle.profile.specs.Output.{Writes};
-ghost use Rattle.trace_store_text.specs.ModuleLines.{gone_instance_line, gone_instance_lines, kept_instance_lines, module_lines, moved_instance_line, new_instance_line};
+ghost use Rattle.trace_store_text.specs.ModuleLines.{gone_instance_line, gone_instance_lines, kept_instance_lines, module_lines, moved_instance_line, new_instance_line, preferred_line, preferred_lines};
 
-use crate::modules::{InstanceMark, has_same, marks_of, old_address};
+use crate::modules::{InstanceMark, has_same, is_preferred_anew, marks_of, old_address};
 use itoa::Buffer;
 use profile::{HexText, Sink, WriteFault, push_parts};
 use trace_words::Instances;
 
-/// Writes a line for each instance of a module that is gone, new or moved.
+/// Writes a line for each instance of a module that is gone, new or moved, and for each that is
+/// preferred in place of another.
 #[tactic(auto, unfolding(crate::specs::ModuleLines::module_lines))]
 pub fn push_modules<W: Sink>(
     sink: &mut W,
@@ -23,7 +24,8 @@ pub fn push_modules<W: Sink>(
     let olds = marks_of(before);
     let news = marks_of(after);
     push_gone_instances(sink, olds.as_slice(), news.as_slice())?;
-    push_kept_instances(sink, news.as_slice(), olds.as_slice())
+    push_kept_instances(sink, news.as_slice(), olds.as_slice())?;
+    push_preferred_instances(sink, news.as_slice(), olds.as_slice())
 }
 
 fn push_gone_instances<W: Sink>(
@@ -82,6 +84,51 @@ fn push_kept_instance<W: Sink>(
         Some(was) if was == mark.at => Ok(()),
         Some(was) => push_moved(sink, mark, was),
     }
+}
+
+fn push_preferred_instances<W: Sink>(
+    sink: &mut W,
+    marks: &[InstanceMark],
+    before: &[InstanceMark],
+) -> Result<(), WriteFault>
+    ensures { Writes W.contents W.has_failed sink.old sink.new result
+        (flat_map (preferred_lines before.now) marks.now) }
+{
+    for mark in marks {
+        push_preferred_instance(sink, mark, before)?;
+    }
+    Ok(())
+}
+
+fn push_preferred_instance<W: Sink>(
+    sink: &mut W,
+    mark: &InstanceMark,
+    before: &[InstanceMark],
+) -> Result<(), WriteFault>
+    ensures { Writes W.contents W.has_failed sink.old sink.new result
+        (preferred_lines before.now mark.now) }
+{
+    if is_preferred_anew(before, mark) {
+        push_preferred(sink, mark)
+    } else {
+        Ok(())
+    }
+}
+
+#[tactic(auto, unfolding(crate::specs::ModuleLines::preferred_line))]
+fn push_preferred<W: Sink>(sink: &mut W, mark: &InstanceMark) -> Result<(), WriteFault>
+    ensures { Writes W.contents W.has_failed sink.old sink.new result (preferred_line mark.now) }
+{
+    push_parts(
+        sink,
+        &[
+            b"                  module ".as_slice(),
+            mark.title.as_slice(),
+            b"%".as_slice(),
+            mark.name.as_slice(),
+            b" preferred\n".as_slice(),
+        ],
+    )
 }
 
 #[tactic(auto, unfolding(crate::specs::ModuleLines::gone_instance_line))]

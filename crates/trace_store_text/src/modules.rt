@@ -1,5 +1,5 @@
-//! Instances of modules as a trace tells them, and which of them a store call made, moved and took
-//! away.
+//! Instances of modules as a trace tells them, and which of them a store call made, moved, took away
+//! and preferred.
 #![tactic(auto)]
 
 pub mod laws;
@@ -7,4 +7,4 @@ pub mod marks;
 pub mod sameness;
 
 pub use marks::{InstanceMark, InstanceMarks, marks_of};
-pub use sameness::{has_same, old_address};
+pub use sameness::{has_same, is_preferred_anew, old_address};

@@ -98,6 +98,6 @@ fn push_changed_words<W: Sink>(
     ensures { Writes W.contents W.has_failed sink.old sink.new result
         (changed_word_lines has_error (kept_in before.now).store (state_of machine.now.guest).store) }
 {
-    let changes = changed_words(before.memory(), machine.memory(), has_error);
+    let changes = changed_words(before.memory(), machine, has_error);
     push_words(sink, &changes)
 }

@@ -1,2 +1,1 @@
-pub mod StoredLemmas
 pub mod StringLemmas

@@ -7,5 +7,4 @@ pub mod Core
 pub mod Errors
 pub mod Start
 pub mod Step
-pub mod Stored
 pub mod Strings

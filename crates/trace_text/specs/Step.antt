@@ -6,7 +6,7 @@ use Rattle.profile.specs.Digits.{hex_number, hex_word}
 use Rattle.profile.specs.Word.{bit_of}
 use Rattle.profile.specs.declared.stop.Stop.{Stop}
 use Rattle.address_map.specs.Bytes.{Bytes}
-use Rattle.arm_core.specs.State.{State}
+use Rattle.arm_core.specs.State.{State, register_of}
 use Rattle.assembler_text.specs.Printing.{print}
 use Rattle.swi_dispatch_answers.specs.frames.Frames.{innermost_frame}
 use Rattle.swi_dispatch_answers.specs.declared.frames.frame.Frame.{Frame}
@@ -14,7 +14,9 @@ use Rattle.swi_dispatch_guest.specs.MachineState.{MachineState, StepOutcome, sto
 use Rattle.swi_dispatch_guest.specs.Step.{without_x}
 use Rattle.trace_effects.specs.changes.Status.{following_word}
 use Rattle.trace_effects.specs.Cause.{cause_of, swi_of_cause}
-use Rattle.trace_effects.specs.Stored.{stored_words}
+use Rattle.trace_effects.specs.Leaving.{call_leaves}
+use Rattle.trace_effects.specs.Loaded.{loaded_register, loaded_words}
+use Rattle.trace_effects.specs.Stored.{no_words, stored_words}
 use Rattle.trace_effects.specs.declared.cause.Cause.{Cause}
 use Rattle.trace_effects.specs.declared.stored.StoredWords.{StoredWords}
 use Rattle.trace_effects.specs.declared.cause.Cause.TheVariants.{Gate, Unmapped, Skipped, Word}
@@ -28,7 +30,8 @@ use Rattle.trace_text.specs.Calls.{call_words}
 use Rattle.trace_text.specs.Columns.{below_text, columns_text, words_behind}
 use Rattle.trace_text.specs.Core.{core_words}
 use Rattle.trace_text.specs.Errors.{stop_word}
-use Rattle.trace_text.specs.Stored.{stored_below, stored_here, word_values_from}
+use Rattle.trace_word_text.specs.Loaded.{loaded_words_text}
+use Rattle.trace_word_text.specs.Stored.{stored_below, stored_here, word_values_from}
 use Rattle.trace_text.specs.declared.start.Taking.{Taking}
 use Rattle.trace_text.specs.declared.start.Taking.TheVariants as taking
 
@@ -74,7 +77,8 @@ is_skipped _ = false
 
 -- What a trace knows of the machine before a step: its core, how the step is told, where it is
 -- expected to go on, whether its instruction is skipped, how long the instruction's text is, the words
--- that it stores to as they are, the frames, the areas, and the store, unless it is an instruction.
+-- that it stores to as they are, those that it loads and the register that LDR loads, the frames, the
+-- areas, and the store, unless it is an instruction or a call that leaves the store as it is.
 pub record Known : Type 0 where
   pub cpu : State
   pub taking : Taking
@@ -83,17 +87,21 @@ pub record Known : Type 0 where
   pub text_length : ℕ
   pub stored_at : ℕ
   pub old_words : List ℕ
+  pub loaded : StoredWords
+  pub target : Option ℕ
   pub frames : ℕ
   pub innermost : Option Frame
   pub areas : List AreaMark
   pub before : Option KeptStore
 
-abbrev pub store_before : Taking → KeptStore → Option KeptStore
-store_before taking.Instruction k = None
-store_before _ k = Some k
+-- by what is in R0, the reason of a call that has one
+abbrev pub store_before : Taking → ℕ → KeptStore → Option KeptStore
+store_before taking.Instruction r0 k = None
+store_before (taking.Call is_x number) r0 k = if call_leaves r0 number then None else Some k
+store_before taking.Gate r0 k = Some k
 
-abbrev pub known_by : MachineState → Cause → StoredWords → Known
-known_by s cause stored = record {
+abbrev pub known_by : MachineState → Cause → StoredWords → StoredWords → Known
+known_by s cause stored loaded = record {
   cpu = s.cpu;
   taking = taking_of cause;
   expected = following_word s.cpu;
@@ -101,14 +109,17 @@ known_by s cause stored = record {
   text_length = length (what_text s.cpu.pc cause);
   stored_at = stored.at;
   old_words = word_values_from s.store.bytes stored.at stored.count;
+  loaded = loaded;
+  target = loaded_register cause;
   frames = length s.tables.frames;
   innermost = innermost_frame s.tables.frames;
   areas = area_marks s.tables.land.areas;
-  before = store_before (taking_of cause) (kept_of s);
+  before = store_before (taking_of cause) (register_of s.cpu 0) (kept_of s);
 }
 
 abbrev pub known_of : MachineState → Known
-known_of s = (let cause = cause_of s.cpu s.store.bytes in known_by s cause (stored_words cause s.cpu))
+known_of s = (let cause = cause_of s.cpu s.store.bytes in
+    known_by s cause (stored_words cause s.cpu) (loaded_words cause s.cpu))
 
 -- behind an instruction: why it halted the machine, or what it leaves
 abbrev pub skipped_word : Bool → List ℕ
@@ -118,7 +129,8 @@ skipped_word false = []
 abbrev pub instruction_words : Known → MachineState → Option Stop → List ℕ
 instruction_words k now (Some stop) = stop_word stop
 instruction_words k now None = skipped_word k.is_skipped ++ (core_words k.expected k.cpu now.cpu
-    ++ stored_here now.store.bytes k.stored_at k.old_words)
+    ++ (loaded_words_text k.cpu now.cpu now.store.bytes k.loaded k.target
+    ++ stored_here now.store.bytes k.stored_at k.old_words))
 
 abbrev pub instruction_below : Known → MachineState → Option Stop → List ℕ
 instruction_below k now (Some stop) = []
@@ -196,6 +208,8 @@ known_outside s = record {
   text_length = 0;
   stored_at = 0;
   old_words = [];
+  loaded = no_words;
+  target = None;
   frames = length s.tables.frames;
   innermost = innermost_frame s.tables.frames;
   areas = area_marks s.tables.land.areas;

@@ -17,11 +17,11 @@ use crate::columns::{push_behind, push_below};
 use crate::core_text::push_core;
 use crate::errors::{push_error, push_stop};
 use crate::start::{StepStart, Taking};
-use crate::stored::{push_stored_below, push_stored_here};
 use profile::{Sink, Stop, WriteFault, push_all};
 use std::alloc::Global;
 use trace_store_text::frame_words::{push_entered, push_left};
 use trace_store_text::{Frame, Machine, StoreCopy, push_quoted, push_store_lines};
+use trace_word_text::{push_loaded, push_stored_below, push_stored_here};
 use view_items::TextSink;
 
 impl StepStart {
@@ -83,6 +83,14 @@ impl StepStart {
             None => {
                 push_skipped(sink, self.is_skipped)?;
                 push_core(sink, self.expected, &self.cpu, machine.cpu())?;
+                push_loaded(
+                    sink,
+                    &self.cpu,
+                    machine.cpu(),
+                    machine.memory(),
+                    self.loaded,
+                    self.target,
+                )?;
                 push_stored_here(
                     sink,
                     machine.memory(),

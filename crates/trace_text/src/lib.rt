@@ -7,8 +7,8 @@ pub mod columns;
 pub mod core_text;
 pub mod end;
 pub mod errors;
+mod outside;
 pub mod start;
-pub mod stored;
 pub mod strings;
 
 pub use end::push_prints_line;

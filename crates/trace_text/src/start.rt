@@ -1,22 +1,22 @@
 //! What a trace tells of a step before it is taken, and what it keeps of the machine.
 
-ghost use Rattle.std.specs.Prelude.{◌≡◌, length, true, Some, IfOk, OnOk};
+ghost use Rattle.std.specs.Prelude.{◌≡◌, ◌≤◌, length, true, Some, IfOk, OnOk};
 ghost use Rattle.std.specs.Io.KnownBytes.{Appends};
 ghost use Rattle.address_map.specs.Memory.{bytes_of};
+ghost use Rattle.arm_core.specs.State.{register_of};
 ghost use Rattle.profile.specs.Output.{Writes};
 ghost use Rattle.swi_dispatch_answers.specs.frames.Frames.{innermost_frame};
 ghost use Rattle.swi_dispatch_guest.specs.Parts.{state_of};
-ghost use Rattle.trace_effects.specs.Cause.{cause_of};
-ghost use Rattle.trace_text.specs.Calls.{call_words};
+ghost use Rattle.trace_effects.specs.Cause.{cause_of, swi_of_cause};
 ghost use Rattle.trace_text.specs.Start.{store_kept};
-ghost use Rattle.trace_text.specs.Step.{calling_text, front_text, is_skipped, loading_text, outside_line, start_text, store_before, taking_of, taking_swi, taking_text, what_text, word_column};
+ghost use Rattle.trace_text.specs.Step.{front_text, is_skipped, start_text, store_before, taking_of, taking_swi, taking_text, what_text, word_column};
 ghost use Rattle.trace_store_text.specs.Copies.{kept_in, kept_of};
 ghost use Rattle.view_items.specs.TextSink.{sink_text_of};
 
 use crate::areas::{AreaMark, MOST_AREAS, area_marks};
 use crate::calls::push_call;
-use crate::columns::{push_behind, push_line};
-use crate::stored::{MOST_STORED, old_words};
+use crate::columns::push_behind;
+use crate::outside::{calling_text, loading_text, push_outside, words_of_call};
 use address_map::AddressMap;
 use arm_core::Cpu;
 use arrayvec::ArrayVec;
@@ -25,9 +25,10 @@ use profile::word::is_bit_set;
 use profile::{HexText, Sink, WriteFault, push_all, push_parts};
 use std::alloc::{AllocError, Global};
 use trace_effects::changes::following_word;
-use trace_effects::{Cause, called_swi, stored_words};
+use trace_effects::{Cause, Effects, StoredWords, call_leaves, effects_of};
 use trace_store_text::frame_words::innermost;
 use trace_store_text::{Frame, Machine, StoreCopy, without_x_bit};
+use trace_word_text::{MOST_STORED, old_words};
 use view_items::TextSink;
 
 /// How a step is told.
@@ -41,15 +42,15 @@ pub enum Taking {
     Gate,
 }
 
-impl Taking {
-    fn of(cause: Cause) -> Taking
-        ensures { result ≡ taking_of cause }
-    {
-        match cause {
-            Cause::Gate => Taking::Gate,
-            Cause::Word(_) => taking_swi(called_swi(cause)),
-            Cause::Skipped(_) | Cause::Unmapped => Taking::Instruction,
-        }
+// How a step is told at whose program counter this stands, which calls this software interrupt.
+fn taking_of(cause: Cause, swi: Option<u32>) -> Taking
+    requires { swi ≡ swi_of_cause cause }
+    ensures { result ≡ taking_of cause }
+{
+    match cause {
+        Cause::Gate => Taking::Gate,
+        Cause::Word(_) => taking_swi(swi),
+        Cause::Skipped(_) | Cause::Unmapped => Taking::Instruction,
     }
 }
 
@@ -75,16 +76,20 @@ pub struct StepStart {
     pub(crate) text_length: usize,
     pub(crate) stored_at: u32,
     pub(crate) old_words: ArrayVec<u32, MOST_STORED>,
+    pub(crate) loaded: StoredWords,
+    pub(crate) target: Option<u32>,
     pub(crate) frames: usize,
     pub(crate) innermost: Option<Frame>,
     pub(crate) areas: ArrayVec<AreaMark, MOST_AREAS>,
-    /// The store as it was; an instruction's own words are told without it.
+    /// The store as it was; an instruction's own words are told without it, and a call that leaves
+    /// the store as it is needs none.
     pub(crate) before: Option<Box<StoreCopy>>,
 }
 
 impl StepStart {
     ghost use Rattle.trace_text.specs.Start.{known_in};
     ghost use Rattle.trace_text.specs.Step.{call_start_text, known_by, known_of, known_outside, load_start_text, start_text};
+    ghost use Rattle.trace_effects.specs.Loaded.{loaded_register, loaded_words};
     ghost use Rattle.trace_effects.specs.Stored.{stored_words};
 
     /// Writes what stands at the program counter, and of a store call what it reads; and keeps what
@@ -103,34 +108,46 @@ impl StepStart {
         ensures known { IfOk result (λ start. known_in start ≡ known_of (state_of machine.now.guest)) }
     {
         let cause = Cause::of(machine.cpu(), machine.memory());
-        let text_length = push_start(alloc, machine.cpu(), machine.memory(), cause, sink)?;
-        let before = store_before(alloc, machine, Taking::of(cause))?;
-        Ok(StepStart::keeping(machine, cause, text_length, before))
+        let effects = effects_of(cause, machine.cpu());
+        let taking = taking_of(cause, effects.swi);
+        let text_length = push_start(alloc, machine, cause, taking, sink)?;
+        let before = store_before(alloc, machine, taking)?;
+        Ok(StepStart::keeping(machine, cause, &effects, text_length, before))
     }
 
     // What is kept of a machine where this stands at the program counter.
     fn keeping(
         machine: &Machine,
         cause: Cause,
+        effects: &Effects,
         text_length: usize,
         before: Option<Box<StoreCopy>>,
     ) -> StepStart
+        requires swi { effects.now.swi ≡ swi_of_cause cause }
+        requires stored { effects.now.stored
+            ≡ stored_words cause (state_of machine.now.guest).cpu }
+        requires loaded { effects.now.loaded
+            ≡ loaded_words cause (state_of machine.now.guest).cpu }
+        requires target { effects.now.target ≡ loaded_register cause }
+        requires few { effects.now.stored.count ≤ 16 }
         requires length { text_length ≡ length (what_text (state_of machine.now.guest).cpu.pc cause) }
-        requires before { store_kept before
-            ≡ store_before (taking_of cause) (kept_of (state_of machine.now.guest)) }
+        requires before { let s = state_of machine.now.guest in store_kept before
+            ≡ store_before (taking_of cause) (register_of s.cpu 0) (kept_of s) }
         ensures { let s = state_of machine.now.guest in
-            known_in result ≡ known_by s cause (stored_words cause s.cpu) }
+            known_in result ≡ known_by s cause (stored_words cause s.cpu) (loaded_words cause s.cpu) }
     {
         let cpu = machine.cpu();
-        let stored = stored_words(cause, cpu);
+        let stored = effects.stored;
         StepStart {
             cpu: *cpu,
-            taking: Taking::of(cause),
+            taking: taking_of(cause, effects.swi),
             expected: following_word(cpu),
             is_skipped: is_skipped(cause),
             text_length,
             stored_at: stored.at,
             old_words: old_words(machine.memory(), stored),
+            loaded: effects.loaded,
+            target: effects.target,
             frames: machine.frames(),
             innermost: innermost(machine.open_frames()),
             areas: area_marks(machine.areas().list()),
@@ -201,25 +218,28 @@ impl StepStart {
             text_length: 0,
             stored_at: 0,
             old_words: ArrayVec::new(),
+            loaded: StoredWords { at: 0, count: 0 },
+            target: None,
             frames: machine.frames(),
             innermost: innermost(machine.open_frames()),
             areas: area_marks(machine.areas().list()),
-            before: store_before(alloc, machine, taking)?,
+            before: kept_store(alloc, machine)?,
         })
     }
 }
 
-// A copy of the store, where the step is no instruction.
+// A copy of the store, where the step is no instruction and no call that leaves it as it is.
 fn store_before(
     alloc: Global,
     machine: &Machine,
     taking: Taking,
 ) -> Result<Option<Box<StoreCopy>>, WriteFault>
-    ensures { IfOk result (λ before. store_kept before
-        ≡ store_before taking (kept_of (state_of machine.now.guest))) }
+    ensures { let s = state_of machine.now.guest in IfOk result (λ before. store_kept before
+        ≡ store_before taking (register_of s.cpu 0) (kept_of s)) }
 {
     match taking {
         Taking::Instruction => Ok(None),
+        Taking::Call { number, .. } if call_leaves(machine.cpu().register(0), number) => Ok(None),
         Taking::Call { .. } | Taking::Gate => kept_store(alloc, machine),
     }
 }
@@ -240,61 +260,6 @@ fn boxed_copy(alloc: Global, machine: &Machine) -> Result<Box<StoreCopy>, AllocE
     Ok(Box::new(alloc, copy)?)
 }
 
-fn push_outside<W: Sink>(sink: &mut W, text: &[u8], words: &[u8]) -> Result<(), WriteFault>
-    ensures { Writes W.contents W.has_failed sink.old sink.new result
-        (outside_line text.now words.now) }
-{
-    push_line(sink, b"-------- -------- ", text, words)
-}
-
-// `CALL &1D`
-fn calling_text(alloc: Global, number: u32) -> Result<TextSink, WriteFault>
-    ensures { IfOk result (λ text. sink_text_of text ≡ calling_text number) }
-{
-    let mut text = TextSink::new(alloc);
-    push_called(&mut text, number)?;
-    Ok(text)
-}
-
-fn push_called<W: Sink>(sink: &mut W, number: u32) -> Result<(), WriteFault>
-    ensures { Writes W.contents W.has_failed sink.old sink.new result (calling_text number) }
-{
-    push_parts(
-        sink,
-        &[b"CALL &".as_slice(), HexText::number(number).as_slice()],
-    )
-}
-
-// `LOAD name text`
-fn loading_text(alloc: Global, words: &[u8]) -> Result<TextSink, WriteFault>
-    ensures { IfOk result (λ text. sink_text_of text ≡ loading_text words.now) }
-{
-    let mut text = TextSink::new(alloc);
-    push_loaded(&mut text, words)?;
-    Ok(text)
-}
-
-fn push_loaded<W: Sink>(sink: &mut W, words: &[u8]) -> Result<(), WriteFault>
-    ensures { Writes W.contents W.has_failed sink.old sink.new result (loading_text words.now) }
-{
-    push_parts(sink, &[b"LOAD ".as_slice(), words])
-}
-
-// The words of a call from outside.
-fn words_of_call(
-    alloc: Global,
-    cpu: &Cpu,
-    memory: &AddressMap,
-    number: u32,
-) -> Result<TextSink, WriteFault>
-    ensures { IfOk result (λ words. sink_text_of words
-        ≡ call_words cpu.now (bytes_of memory.now) true number) }
-{
-    let mut words = TextSink::new(alloc);
-    push_call(&mut words, cpu, memory, true, number)?;
-    Ok(words)
-}
-
 fn is_skipped(cause: Cause) -> bool
     ensures { result ≡ is_skipped cause }
 {
@@ -305,21 +270,24 @@ fn is_skipped(cause: Cause) -> bool
 #[tactic(auto, unfolding(crate::specs::Step::start_text))]
 fn push_start<W: Sink>(
     alloc: Global,
-    cpu: &Cpu,
-    memory: &AddressMap,
+    machine: &Machine,
     cause: Cause,
+    taking: Taking,
     sink: &mut W,
 ) -> Result<usize, WriteFault>
-    requires { cause ≡ cause_of cpu.now (bytes_of memory.now) }
-    ensures text { OnOk result (Appends (W.contents sink.old) (W.contents sink.new)
-        (start_text cpu.now (bytes_of memory.now))) }
-    ensures length { IfOk result (λ len. len ≡ length (what_text cpu.now.pc cause)) }
+    requires cause { let s = state_of machine.now.guest in cause ≡ cause_of s.cpu s.store.bytes }
+    requires taking { taking ≡ taking_of cause }
+    ensures text { let s = state_of machine.now.guest in OnOk result
+        (Appends (W.contents sink.old) (W.contents sink.new) (start_text s.cpu s.store.bytes)) }
+    ensures length { IfOk result
+        (λ len. len ≡ length (what_text (state_of machine.now.guest).cpu.pc cause)) }
 {
+    let cpu = machine.cpu();
     let text = text_of(alloc, cpu.pc(), cause)?;
     let len = text.bytes().len();
     push_front(sink, cpu.pc(), cause)?;
     push_all(sink, text.bytes())?;
-    push_taking(alloc, cpu, memory, len, Taking::of(cause), sink)?;
+    push_taking(alloc, cpu, machine.memory(), len, taking, sink)?;
     Ok(len)
 }
 

@@ -46,12 +46,11 @@ unchanged_ahead told b b' n (suc k) same =
     ∙ (unchanged_here told b b' (n + k) (same k (omega arith)) ∙ unchanged_ahead told b b' n k (λ j below. same j (omega (arith, below))))
 
 -- a page of which no word differs
-pub page_passed : (told : ℕ → Bool) (b b' : Bytes) (page : ℕ) → ((j : ℕ) → j < 1024 → has_word_changed b b' (4096 * page + 4 * j) ≡ false)
+pub page_passed : (told : ℕ → Bool) (b b' : Bytes) (page : ℕ) → ((j : ℕ) → j < 1024 → has_word_changed b b' (4 * (1024 * page + j)) ≡ false)
     → word_changes_below told b b' (1024 * (page + 1)) ≡ word_changes_below told b b' (1024 * page)
 page_passed told b b' page same =
     let e : 1024 * (page + 1) ≡ 1024 * page + 1024 = omega arith in
-    ap (word_changes_below told b b') e ∙ unchanged_ahead told b b' (1024 * page) 1024 (λ j below.
-    let at : 4 * (1024 * page + j) ≡ 4096 * page + 4 * j = omega arith in ap (has_word_changed b b') at ∙ same j below)
+    ap (word_changes_below told b b') e ∙ unchanged_ahead told b b' (1024 * page) 1024 same
 
 pub few_changes : (told : ℕ → Bool) (b b' : Bytes) (n : ℕ) → length (word_changes_below told b b' n) ≤ n
 few_changes told b b' zero = let none = ap length (none_yet told b b') in omega (arith, none)
@@ -67,6 +66,13 @@ few_changes told b b' (suc n) =
 -- what is kept, by what is listed
 pub same_summary : (kept : WordChanges) (all more : List WordChange) → more ≡ all → IsSummary kept all → IsSummary kept more
 same_summary kept all more same is = subst (λ (changes : List WordChange). IsSummary kept changes) (sym same) is
+
+-- the same that is kept, of the same words
+pub kept_on : (told : ℕ → Bool) (b b' : Bytes) (kept kept' : WordChanges) (n m : ℕ) → kept' ≡ kept → m ≡ n
+    → IsSummary kept (word_changes_below told b b' n) → IsSummary kept' (word_changes_below told b b' m)
+kept_on told b b' kept kept' n m same at is =
+    subst (λ (k : WordChanges). IsSummary k (word_changes_below told b b' m)) (sym same)
+    (subst (λ (i : ℕ). IsSummary kept (word_changes_below told b b' i)) (sym at) is)
 
 pub kept_here : (told : ℕ → Bool) (m n : AddressMap) (number old new : ℕ) (there : Option ℕ) (kept kept' : WordChanges)
     → old ≡ word_at (byte_at m) (4 * number) → new ≡ word_at (byte_at n) (4 * number) → old ≢ new

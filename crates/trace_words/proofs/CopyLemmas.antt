@@ -32,6 +32,11 @@ one_mapped m n there is some =
     let mapped : is_mapped m (4096 * n) ≡ true = sym (ap is_some is) ∙ some in
     below_next m n ∙ rw mapped refl
 
+pub none_mapped_at : (m : AddressMap) (n : ℕ) → is_mapped m (4096 * n) ≡ false → mapped_below m (n + 1) ≡ mapped_below m n
+none_mapped_at m n unmapped =
+    let more : mapped_below m (n + 1) ≡ mapped_below m n + 0 = below_next m n ∙ rw unmapped refl in
+    omega arith
+
 pub none_mapped : (m : AddressMap) (n : ℕ) (there : Option ℕ) → there ≡ place m (4096 * n) → is_some there ≡ false
     → mapped_below m (n + 1) ≡ mapped_below m n
 none_mapped m n there is none =

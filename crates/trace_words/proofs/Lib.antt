@@ -2,4 +2,6 @@ pub mod ChangeLemmas
 pub mod CopyLemmas
 pub mod FlexLemmas
 pub mod LawLemmas
+pub mod PageLemmas
+pub mod SameLemmas
 pub mod WordLemmas

@@ -10,7 +10,7 @@ use Rattle.address_map.specs.Memory.{byte_at, bytes_of, is_mapped}
 use Rattle.address_map.specs.declared.map.AddressMap.{AddressMap}
 use Rattle.address_map.proofs.Bytes.{byte_at-unmapped, is_mapped-page, is_mapped-word}
 use Rattle.address_map.proofs.Loads.{place_past}
-use Rattle.trace_words.specs.Words.{IsAlike, has_word_changed}
+use Rattle.trace_words.specs.Words.{AreSameBytes, has_word_changed}
 
 value_loaded : (fault : Option Fault) (value word : ℕ) → ok_unless_fault fault value ≡ Ok word → word ≡ value
 value_loaded None value word loaded = cc
@@ -60,26 +60,30 @@ same_word b b' a same = rw (eq-eqb (word_at b.at a) (word_at b'.at a) same) (nev
 pub unmapped_word : (b b' : Bytes) (a : ℕ) → b'.mapped a ≡ false → has_word_changed b b' a ≡ false
 unmapped_word b b' a unmapped = rw unmapped refl
 
--- a page that isn't mapped
-pub unmapped_page : (b : Bytes) (m : AddressMap) (page : ℕ) → page % 4096 ≡ 0 → is_mapped m page ≡ false → IsAlike b (bytes_of m) page true
-unmapped_page b m page aligned unmapped _ j inside =
-    unmapped_word b (bytes_of m) (page + 4 * j) (is_mapped-page m (page + 4 * j) page (omega arith) ∙ unmapped)
+-- a word of a page that isn't mapped
+pub unmapped_in_page : (b : Bytes) (m : AddressMap) (page j : ℕ) → is_mapped m (4096 * page) ≡ false → j < 1024
+    → has_word_changed b (bytes_of m) (4 * (1024 * page + j)) ≡ false
+unmapped_in_page b m page j unmapped inside =
+    unmapped_word b (bytes_of m) (4 * (1024 * page + j)) (is_mapped-page m (4 * (1024 * page + j)) (4096 * page) (omega arith) ∙ unmapped)
 
-byte_lent : (b b' : Bytes) (page k : ℕ) (xs ys : List ℕ) → IsLent b page 4096 xs → IsLent b' page 4096 ys → xs ≡ ys → k < 4096
-    → b.at (page + k) ≡ b'.at (page + k)
-byte_lent b b' page k xs ys old new same inside =
-    sym (old.bytes k inside) ∙ (ap (λ (zs : List ℕ). slice_index zs k) same ∙ new.bytes k inside)
+byte_lent : (b b' : Bytes) (page k from to : ℕ) (xs ys : List ℕ) → IsLent b page 4096 xs → IsLent b' page 4096 ys → AreSameBytes xs ys from to
+    → from ≤ k → k < to → to ≤ 4096 → b.at (page + k) ≡ b'.at (page + k)
+byte_lent b b' page k from to xs ys old new same low high most =
+    sym (old.bytes k (omega (arith, high, most))) ∙ (same k low high ∙ new.bytes k (omega (arith, high, most)))
 
--- a page whose bytes are as they were
-pub same_page : (b b' : Bytes) (page : ℕ) (xs ys : List ℕ) → IsLent b page 4096 xs → IsLent b' page 4096 ys → xs ≡ ys → (j : ℕ) → j < 1024
-    → has_word_changed b b' (page + 4 * j) ≡ false
-same_page b b' page xs ys old new same j inside =
-    let p0 : page + 4 * j ≡ page + (4 * j) = refl in
-    let p1 : page + 4 * j + 1 ≡ page + (4 * j + 1) = omega arith in
-    let p2 : page + 4 * j + 2 ≡ page + (4 * j + 2) = omega arith in
-    let p3 : page + 4 * j + 3 ≡ page + (4 * j + 3) = omega arith in
-    let b0 = byte_lent b b' page (4 * j) xs ys old new same (omega arith) in
-    let b1 = ap b.at p1 ∙ (byte_lent b b' page (4 * j + 1) xs ys old new same (omega arith) ∙ ap b'.at (sym p1)) in
-    let b2 = ap b.at p2 ∙ (byte_lent b b' page (4 * j + 2) xs ys old new same (omega arith) ∙ ap b'.at (sym p2)) in
-    let b3 = ap b.at p3 ∙ (byte_lent b b' page (4 * j + 3) xs ys old new same (omega arith) ∙ ap b'.at (sym p3)) in
-    same_word b b' (page + 4 * j) (rw (b0, b1, b2, b3) refl)
+-- a word of a lane whose bytes are as they were
+pub same_in_lane : (b b' : Bytes) (page lane j : ℕ) (xs ys : List ℕ) → IsLent b (4096 * page) 4096 xs → IsLent b' (4096 * page) 4096 ys → lane < 64
+    → AreSameBytes xs ys (64 * lane) (64 * lane + 64) → j < 16 → has_word_changed b b' (4 * (1024 * page + 16 * lane + j)) ≡ false
+same_in_lane b b' page lane j xs ys old new few same inside =
+    let k : ℕ = 64 * lane + 4 * j in
+    let p0 : 4 * (1024 * page + 16 * lane + j) ≡ 4096 * page + k = omega arith in
+    let p1 : 4096 * page + k + 1 ≡ 4096 * page + (k + 1) = omega arith in
+    let p2 : 4096 * page + k + 2 ≡ 4096 * page + (k + 2) = omega arith in
+    let p3 : 4096 * page + k + 3 ≡ 4096 * page + (k + 3) = omega arith in
+    let byte = λ (i : ℕ) (low : 64 * lane ≤ i) (high : i < 64 * lane + 64).
+    byte_lent b b' (4096 * page) i (64 * lane) (64 * lane + 64) xs ys old new same low high (omega (arith, few)) in
+    let b0 = byte k (omega arith) (omega (arith, inside)) in
+    let b1 = ap b.at p1 ∙ (byte (k + 1) (omega arith) (omega (arith, inside)) ∙ ap b'.at (sym p1)) in
+    let b2 = ap b.at p2 ∙ (byte (k + 2) (omega arith) (omega (arith, inside)) ∙ ap b'.at (sym p2)) in
+    let b3 = ap b.at p3 ∙ (byte (k + 3) (omega arith) (omega (arith, inside)) ∙ ap b'.at (sym p3)) in
+    ap (has_word_changed b b') p0 ∙ same_word b b' (4096 * page + k) (rw (b0, b1, b2, b3) refl)

@@ -1,6 +1,6 @@
 -- The words of memory that differ after a store call, in the order of their addresses (words lie at
 -- multiples of 4: ARM2 data sheet, "Memory interface").
-use Rattle.std.specs.Prelude.{◌≡◌, ℕ, zero, suc, ◌+◌, ◌*◌, ◌<◌, ◌==◌, Bool, true, false, not, ◌&&◌, List, [], ◌∷◌, ◌++◌, length, take, if◌then◌else◌}
+use Rattle.std.specs.Prelude.{◌≡◌, ℕ, zero, suc, ◌+◌, ◌*◌, ◌<◌, ◌≤◌, ◌==◌, Bool, true, false, not, ◌&&◌, List, [], ◌∷◌, ◌++◌, length, slice_index, take, if◌then◌else◌}
 use Rattle.profile.specs.MemoryMap.{error_block_start}
 use Rattle.address_map.specs.Bytes.{Bytes, in_range, word_at}
 use Rattle.trace_words.specs.declared.changes.WordChange.{WordChange}
@@ -35,6 +35,6 @@ pub record IsSummary (kept : WordChanges) (all : List WordChange) : Type 0 where
   pub first : kept.first.items ≡ take 16 all
   pub count : kept.count ≡ length all
 
--- that no word of a page differs
-abbrev pub IsAlike : Bytes → Bytes → ℕ → Bool → Type 0
-IsAlike b b' page alike = alike ≡ true → (j : ℕ) → j < 1024 → has_word_changed b b' (page + 4 * j) ≡ false
+-- from one place up to another the bytes are the same
+abbrev pub AreSameBytes : List ℕ → List ℕ → ℕ → ℕ → Type 0
+AreSameBytes xs ys from to = (k : ℕ) → from ≤ k → k < to → slice_index xs k ≡ slice_index ys k

@@ -2,12 +2,17 @@
 
 ghost use Rattle.std.specs.Prelude.{◌≡◌, ◌≤◌, ◌<◌, ◌+◌, ◌*◌, ◌%◌, ◌^◌, ◌∷◌, ◌++◌, [], List, length, take};
 ghost use Rattle.address_map.specs.Bytes.{word_at};
+ghost use Rattle.address_map.specs.Lent.{IsLent};
 ghost use Rattle.address_map.specs.Memory.{byte_at, bytes_of};
-ghost use Rattle.trace_words.specs.Words.{IsAlike, IsSummary, all_changes, word_changes_below, is_told};
+ghost use Rattle.swi_dispatch.specs.Parts.{state_of};
+ghost use Rattle.trace_words.specs.Words.{IsSummary, all_changes, word_changes_below, is_told};
 
+use crate::lanes::{LANE_WORDS, PAGE_WORDS, has_same_lane};
+use crate::pages::{PAGES, past_unmapped};
 use address_map::AddressMap;
 use arrayvec::ArrayVec;
-use profile::memory_map::{ADDRESS_LIMIT, ERROR_BLOCK, PAGE_SIZE};
+use profile::memory_map::{ERROR_BLOCK, PAGE_SIZE};
+use swi_dispatch::Machine;
 
 /// How many of the words that differ are kept.
 pub const MOST_CHANGES: usize = 16;
@@ -30,15 +35,18 @@ pub struct WordChanges {
     pub count: u32,
 }
 
-/// The words of mapped memory that differ from those of another memory, in which a word that isn't
-/// mapped counts as 0; but not those of the error block where an error is told.
-pub fn changed_words(before: &AddressMap, after: &AddressMap, has_error: bool) -> WordChanges
-    ensures { IsSummary result
-        (all_changes (is_told has_error) (bytes_of before.now) (bytes_of after.now)) }
+/// The words of a machine's mapped memory that differ from those of another memory, in which a word that
+/// isn't mapped counts as 0; but not those of the error block where an error is told.
+pub fn changed_words(before: &AddressMap, machine: &Machine, has_error: bool) -> WordChanges
+    ensures { IsSummary result (all_changes (is_told has_error)
+        (bytes_of before.now) (state_of machine.now.guest).store.bytes) }
 {
+    let after = machine.memory();
     let mut changes = WordChanges::none();
-    for page in 0..ADDRESS_LIMIT / PAGE_SIZE {
+    let mut page = 0;
+    while page < PAGES {
         changes.add_page(before, after, has_error, page);
+        page = past_unmapped(machine, page + 1);
     }
     changes
 }
@@ -61,11 +69,59 @@ impl WordChanges {
         ensures { IsSummary self.new (word_changes_below (is_told has_error)
             (bytes_of before.now) (bytes_of after.now) (1024 * (page + 1))) }
     {
-        if has_alike_page(before, after, PAGE_SIZE * page) {
+        let at = PAGE_SIZE * page;
+        let Some(new) = after.lend(at, PAGE_SIZE) else {
             return;
+        };
+        match before.lend(at, PAGE_SIZE) {
+            Some(old) => self.add_lanes(before, after, has_error, page, old, new),
+            None => self.add_words(before, after, has_error, PAGE_WORDS * page, PAGE_WORDS),
         }
-        for index in 0..PAGE_SIZE / 4 {
-            self.add_word(before, after, has_error, PAGE_SIZE / 4 * page + index);
+    }
+
+    // The words of one page more, of which these bytes were and are: those of each lane that differs.
+    fn add_lanes(
+        &mut self,
+        before: &AddressMap,
+        after: &AddressMap,
+        has_error: bool,
+        page: u32,
+        old: &[u8],
+        new: &[u8],
+    )
+        requires page { page < 16384 }
+        requires old { IsLent (bytes_of before.now) (4096 * page) 4096 old.now }
+        requires new { IsLent (bytes_of after.now) (4096 * page) 4096 new.now }
+        requires summary { IsSummary self.old (word_changes_below (is_told has_error)
+            (bytes_of before.now) (bytes_of after.now) (1024 * page)) }
+        ensures { IsSummary self.new (word_changes_below (is_told has_error)
+            (bytes_of before.now) (bytes_of after.now) (1024 * (page + 1))) }
+    {
+        for lane in 0..PAGE_WORDS / LANE_WORDS {
+            if !has_same_lane(old, new, lane) {
+                let first = PAGE_WORDS * page + LANE_WORDS * lane;
+                self.add_words(before, after, has_error, first, LANE_WORDS);
+            }
+        }
+    }
+
+    // So many words more.
+    fn add_words(
+        &mut self,
+        before: &AddressMap,
+        after: &AddressMap,
+        has_error: bool,
+        first: u32,
+        count: u32,
+    )
+        requires words { first + count ≤ 2 ^ 24 }
+        requires summary { IsSummary self.old (word_changes_below (is_told has_error)
+            (bytes_of before.now) (bytes_of after.now) first) }
+        ensures { IsSummary self.new (word_changes_below (is_told has_error)
+            (bytes_of before.now) (bytes_of after.now) (first + count)) }
+    {
+        for index in 0..count {
+            self.add_word(before, after, has_error, first + index);
         }
     }
 
@@ -93,20 +149,6 @@ impl WordChanges {
             self.first.push(change);
         }
         self.count += 1;
-    }
-}
-
-// Whether no word of a page can be one that differs: it isn't mapped, or its bytes are as they were.
-fn has_alike_page(before: &AddressMap, after: &AddressMap, page: u32) -> bool
-    requires { page % 4096 ≡ 0 }
-    ensures { IsAlike (bytes_of before.now) (bytes_of after.now) page result }
-{
-    let Some(new) = after.lend(page, PAGE_SIZE) else {
-        return true;
-    };
-    match before.lend(page, PAGE_SIZE) {
-        Some(old) => old == new,
-        None => false,
     }
 }
 

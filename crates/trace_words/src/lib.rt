@@ -2,7 +2,9 @@
 #![tactic(auto)]
 
 pub mod changes;
+mod lanes;
 pub mod laws;
+mod pages;
 pub mod store_copy;
 
 pub use changes::{MOST_CHANGES, WordChange, WordChanges, changed_words};

@@ -5,11 +5,12 @@ ghost use Rattle.address_map.specs.Memory.{page_total};
 ghost use Rattle.os_heap.specs.Store.{IsSound, store_of};
 ghost use Rattle.swi_dispatch.specs.Parts.{state_of};
 
+use crate::pages::{PAGES, past_unmapped};
 use address_map::{AddressMap, pages_are_counted};
 use dynamic_areas::areas_count_pages;
 use flex_store::Flex;
 use instances::Instances;
-use profile::memory_map::{ADDRESS_LIMIT, PAGE_SIZE};
+use profile::memory_map::PAGE_SIZE;
 use std::alloc::{AllocError, Global};
 use std::marker::Model;
 use swi_dispatch::Machine;
@@ -50,11 +51,11 @@ impl StoreCopy {
     {
         machine.known();
         areas_count_pages();
-        let memory = copy_of(alloc, machine.memory())?;
+        let copy = copy_of(alloc, machine.memory(), page_total(machine))?;
         let mut instances = Instances::new();
         instances.copy_from(machine.instances());
         Ok(StoreCopy {
-            memory,
+            memory: copy,
             instances,
             flex: *machine.flex(),
         })
@@ -85,27 +86,31 @@ impl StoreCopy {
     }
 }
 
-// A copy of a memory.
-fn copy_of(alloc: Global, memory: &AddressMap) -> Result<AddressMap, AllocError>
-    requires { page_total memory.now ≤ 1024 }
+// A copy of a memory that has so many pages.
+fn copy_of(alloc: Global, memory: &AddressMap, pages: u32) -> Result<AddressMap, AllocError>
+    requires pages { pages ≡ page_total memory.now }
+    requires few { pages ≤ 1024 }
     ensures { IfOk result (λ copy. store_of copy ≡ store_of memory.now) }
 {
-    let mut copy = AddressMap::new(alloc, page_total(memory))?;
+    let mut copy = AddressMap::new(alloc, pages)?;
     copy.copy_from(memory);
     Ok(copy)
 }
 
-// How many pages a memory has, mapped or not.
-fn page_total(memory: &AddressMap) -> u32
-    requires { page_total memory.now ≤ 1024 }
-    ensures { result ≡ page_total memory.now }
+// How many pages a machine's memory has, mapped or not.
+fn page_total(machine: &Machine) -> u32
+    requires { page_total machine.now.guest.map ≤ 1024 }
+    ensures { result ≡ page_total machine.now.guest.map }
 {
     pages_are_counted();
+    let memory = machine.memory();
     let mut total = memory.free_pages();
-    for page in 0..ADDRESS_LIMIT / PAGE_SIZE {
+    let mut page = 0;
+    while page < PAGES {
         if memory.translate(PAGE_SIZE * page).is_some() {
             total += 1;
         }
+        page = past_unmapped(machine, page + 1);
     }
     total
 }

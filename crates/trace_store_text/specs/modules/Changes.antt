@@ -1,7 +1,7 @@
 -- Which instances of modules a store call made, moved and took away. An instance is the same where its
 -- module's title and its own name are, but for the case of their letters, and where its image has as
 -- many bytes.
-use Rattle.std.specs.Prelude.{ℕ, Bool, ◌==◌, ◌&&◌, List, [], ◌∷◌, ◌++◌, Option, Some, None, option_map, slice_get, if◌then◌else◌}
+use Rattle.std.specs.Prelude.{ℕ, Bool, ◌==◌, ◌&&◌, not, List, [], ◌∷◌, ◌++◌, Option, Some, None, option_map, slice_get, if◌then◌else◌}
 use Rattle.std.specs.List.{flat_map, list_any, position}
 use Rattle.std.specs.Str.{str_eq_ignore_ascii_case}
 use Rattle.instances_table.specs.Modules.{Module}
@@ -46,3 +46,12 @@ changes_of_marks before after = flat_map (gone_instance after) before ++ flat_ma
 
 abbrev pub instance_changes : List Module → List Module → List InstanceChange
 instance_changes before after = changes_of_marks (instance_marks before) (instance_marks after)
+
+-- An instance that is the preferred one of its module, where another was before: of a module with the same
+-- title, and of another name.
+abbrev pub was_preferred_beside : InstanceMark → InstanceMark → Bool
+was_preferred_beside x y = y.preferred && (str_eq_ignore_ascii_case x.title.items y.title.items
+    && not (str_eq_ignore_ascii_case x.name.items y.name.items))
+
+abbrev pub is_preferred_anew : List InstanceMark → InstanceMark → Bool
+is_preferred_anew before x = x.preferred && list_any (was_preferred_beside x) before

@@ -9,7 +9,14 @@ use Rattle.instances_table.specs.declared.parts.ModuleInfo.{ModuleInfo}
 use Rattle.trace_store_text.specs.declared.modules.marks.InstanceMark.{InstanceMark}
 
 abbrev pub mark_told : ModuleInfo → InstanceInfo → InstanceMark
-mark_told m i = record { title = m.title; name = i.name; slot = i.slot; at = m.image; len = m.len }
+mark_told m i = record {
+  title = m.title;
+  name = i.name;
+  slot = i.slot;
+  preferred = i.preferred;
+  at = m.image;
+  len = m.len;
+}
 
 abbrev pub mark_of : Module → Instance → InstanceMark
 mark_of m i = mark_told (told_of_module m) (told_of_instance m i)

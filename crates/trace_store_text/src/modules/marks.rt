@@ -9,13 +9,14 @@ use arrayvec::ArrayVec;
 use instances_table::{MOST_INSTANCES, Name};
 use trace_words::{InstanceInfo, Instances, ModuleInfo};
 
-/// An instance: its module's title, its own name, its slot, and where its image stands, and how many
-/// bytes that has.
+/// An instance: its module's title, its own name, its slot, whether it is the preferred one of its
+/// module, and where its image stands, and how many bytes that has.
 #[derive(Default, Drop)]
 pub struct InstanceMark {
     pub title: Name,
     pub name: Name,
     pub slot: u32,
+    pub preferred: bool,
     pub at: u32,
     pub len: u32,
 }
@@ -65,6 +66,7 @@ fn mark_told(info: ModuleInfo, told: InstanceInfo) -> InstanceMark
         title: info.title,
         name: told.name,
         slot: told.slot,
+        preferred: told.preferred,
         at: info.image,
         len: info.len,
     }

@@ -1,3 +1,4 @@
+use Rattle.std.proofs.Common.{refl}
 use Rattle.address_map.specs.Memory.{bytes_of}
 use Rattle.debugger.specs.Parts.{state_of}
 use Rattle.trace_words.specs.Copies.{kept_in}
@@ -7,5 +8,5 @@ use Rattle.trace_store_text.proofs.store_lines.push_changed_words.Goals as goal
 pub returns : goal.returns
 returns g c =
     rw (store_lines_kept c.args.has_error (kept_in c.args.before.now).store (state_of c.args.machine.now.guest).store
-    (bytes_of c.memory.result.now) (bytes_of c.memory-2.result.now) c.changed_words-changes.result
-    c.memory.ensures.bytes c.memory-2.ensures.bytes c.changed_words-changes.ensures) c.push_words.ensures.writes
+    (bytes_of c.memory.result.now) (state_of c.args.machine.now.guest).store.bytes c.changed_words-changes.result
+    c.memory.ensures.bytes refl c.changed_words-changes.ensures) c.push_words.ensures.writes

@@ -4,7 +4,7 @@ ghost use Rattle.std.specs.Prelude.{◌≡◌, ◌≤◌};
 ghost use Rattle.address_map.specs.Bytes.{word_loaded};
 ghost use Rattle.address_map.specs.Memory.{bytes_of};
 ghost use Rattle.profile.specs.Output.{Writes};
-ghost use Rattle.trace_text.specs.Stored.{stored_below, stored_here, stored_line, stored_lines, stored_word, word_or_zero, word_values_from};
+ghost use Rattle.trace_word_text.specs.Stored.{stored_below, stored_here, stored_line, stored_lines, stored_word, word_or_zero, word_values_from};
 
 use address_map::AddressMap;
 use arrayvec::ArrayVec;
@@ -28,7 +28,8 @@ pub fn old_words(memory: &AddressMap, words: StoredWords) -> ArrayVec<u32, MOST_
     old
 }
 
-fn word_or_zero(memory: &AddressMap, at: u32) -> u32
+/// The word at an address; one where no memory is mapped counts as 0.
+pub(crate) fn word_or_zero(memory: &AddressMap, at: u32) -> u32
     ensures { result ≡ word_or_zero (word_loaded (bytes_of memory.now) at) }
 {
     match memory.load_word(at) {

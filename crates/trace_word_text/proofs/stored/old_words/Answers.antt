@@ -2,10 +2,10 @@
 use Rattle.std.proofs.Common.{arith, refl}
 use Rattle.std.proofs.lemmas.Grind.{common_steps}
 use Rattle.address_map.specs.Memory.{bytes_of}
-use Rattle.trace_store_text.specs.Memory.{address_further}
-use Rattle.trace_text.specs.Stored.{word_values_from}
-use Rattle.trace_text.proofs.StoredLemmas.{word_more, words_done}
-use Rattle.trace_text.proofs.stored.old_words.Goals as goal
+use Rattle.debugger.specs.Memory.{address_further}
+use Rattle.trace_word_text.specs.Stored.{word_values_from}
+use Rattle.trace_word_text.proofs.StoredLemmas.{word_more, words_done}
+use Rattle.trace_word_text.proofs.stored.old_words.Goals as goal
 
 pub loop-words-preserved : goal.loop-words-preserved
 loop-words-preserved c =

@@ -1,7 +1,7 @@
 use Rattle.std.proofs.Common.{◌≡◌, ◌-◌, ◌++◌, length}
 use Rattle.address_map.specs.Memory.{bytes_of}
-use Rattle.trace_text.specs.Stored.{word_values_from}
-use Rattle.trace_text.proofs.stored.old_words.Given as goal
+use Rattle.trace_word_text.specs.Stored.{word_values_from}
+use Rattle.trace_word_text.proofs.stored.old_words.Given as goal
 
 -- the words that are there, and those that are left, are all
 abbrev pub invariant-loop-words : goal.invariant-loop-words

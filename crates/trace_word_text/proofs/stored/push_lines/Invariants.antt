@@ -1,8 +1,8 @@
 use Rattle.std.proofs.Common.{◌≡◌, drop}
 use Rattle.address_map.specs.Memory.{bytes_of}
 use Rattle.profile.specs.Output.{AddsAllBut}
-use Rattle.trace_text.specs.Stored.{stored_lines}
-use Rattle.trace_text.proofs.stored.push_lines.Given as goal
+use Rattle.trace_word_text.specs.Stored.{stored_lines}
+use Rattle.trace_word_text.proofs.stored.push_lines.Given as goal
 
 -- what stands written, and the lines that are left, is all
 abbrev pub invariant-loop-word : goal.invariant-loop-word

@@ -1,0 +1,56 @@
+//! What a step asks for outside of the core, of one look at its word.
+
+ghost use Rattle.std.specs.Prelude.{◌≡◌, ◌≤◌};
+ghost use Rattle.trace_effects.specs.Cause.{swi_of_cause};
+ghost use Rattle.trace_effects.specs.Effects.{no_effects};
+ghost use Rattle.trace_effects.specs.Loaded.{loaded_register, loaded_words};
+ghost use Rattle.trace_effects.specs.Stored.{stored_words};
+
+use crate::cause::{Cause, swi_of_action};
+use crate::loaded::{loads_of_action, register_of_action};
+use crate::stored::{StoredWords, no_words, words_of_action};
+use arm_core::Cpu;
+use arm_decode::decode;
+
+/// What a step asks for outside of the core: the software interrupt that is taken, if it is one, the words
+/// that it stores to and loads, and the register that an LDR loads.
+#[derive(Clone, Copy, Debug, PartialEq, Eq)]
+pub struct Effects {
+    pub swi: Option<u32>,
+    pub stored: StoredWords,
+    pub loaded: StoredWords,
+    pub target: Option<u32>,
+}
+
+/// What the step of a core asks for at whose program counter this stands, where it is refused too.
+pub fn effects_of(cause: Cause, cpu: &Cpu) -> Effects
+    ensures swi { result.swi ≡ swi_of_cause cause }
+    ensures stored { result.stored ≡ stored_words cause cpu.now }
+    ensures loaded { result.loaded ≡ loaded_words cause cpu.now }
+    ensures target { result.target ≡ loaded_register cause }
+    ensures few { result.stored.count ≤ 16 }
+{
+    match cause {
+        Cause::Word(word) => match decode(word) {
+            Ok(instr) => Effects {
+                swi: swi_of_action(instr.action()),
+                stored: words_of_action(cpu, instr.action()),
+                loaded: loads_of_action(cpu, instr.action()),
+                target: register_of_action(instr.action()),
+            },
+            Err(_) => no_effects(),
+        },
+        _ => no_effects(),
+    }
+}
+
+fn no_effects() -> Effects
+    ensures { result ≡ no_effects }
+{
+    Effects {
+        swi: None,
+        stored: no_words(),
+        loaded: no_words(),
+        target: None,
+    }
+}
