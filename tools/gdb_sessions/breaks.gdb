@@ -17,3 +17,9 @@ break *0x8040
 break *0x8044
 break *0x8048
 continue
+python
+for _ in range(17):
+    gdb.execute("continue")
+end
+print $r0
+continue

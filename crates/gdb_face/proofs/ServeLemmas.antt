@@ -35,20 +35,20 @@ files_from_none of_file none paths images is added =
     subst (λ (o : List Entry). AddsFiles of_file o paths images) is added
 
 -- the session after the lines that a machine begins with
-pub session_begun : (setting own : DebugSetting) (start first : List ℕ) (images : List Entry) (old now : GdbState)
-    → own ≡ setting → first ≡ start → old ≡ gdb_start setting images
+pub session_begun : (setting own : DebugSetting) (most : ℕ) (start first : List ℕ) (images : List Entry) (old now : GdbState)
+    → own ≡ setting → first ≡ start → old ≡ gdb_start setting most images
     → now ≡ begun_anew old (begin_told own first old)
-    → now ≡ begun_anew (gdb_start setting images) (start_told setting start images)
-session_begun setting own start first images old now of_setting of_start of_old is =
+    → now ≡ begun_anew (gdb_start setting most images) (start_told setting most start images)
+session_begun setting own most start first images old now of_setting of_start of_old is =
     is ∙ ap (λ (u : DebugSetting). begun_anew old (begin_told u first old)) of_setting
     ∙ ap (λ (lines : List ℕ). begun_anew old (begin_told setting lines old)) of_start
     ∙ ap (λ (g : GdbState). begun_anew g (begin_told setting start g)) of_old
 
 -- what the lines that a machine begins with are answered
-pub start_text : (setting own : DebugSetting) (start first : List ℕ) (images : List Entry) (old : GdbState) (text : List ℕ)
-    → own ≡ setting → first ≡ start → old ≡ gdb_start setting images
-    → text ≡ (begin_told own first old).text → text ≡ (start_told setting start images).text
-start_text setting own start first images old text of_setting of_start of_old is =
+pub start_text : (setting own : DebugSetting) (most : ℕ) (start first : List ℕ) (images : List Entry) (old : GdbState) (text : List ℕ)
+    → own ≡ setting → first ≡ start → old ≡ gdb_start setting most images
+    → text ≡ (begin_told own first old).text → text ≡ (start_told setting most start images).text
+start_text setting own most start first images old text of_setting of_start of_old is =
     is ∙ ap (λ (u : DebugSetting). (begin_told u first old).text) of_setting
     ∙ ap (λ (lines : List ℕ). (begin_told setting lines old).text) of_start
     ∙ ap (λ (g : GdbState). (begin_told setting start g).text) of_old
@@ -78,14 +78,14 @@ served_as setting wanted first start s begun all before mid now of_setting of_st
 pub serves_gdb : {F : Type 0} (of_file : F → Option (List ℕ)) (wanted : WantedGdb) (images : List Entry) (start first : List ℕ)
     (setting : DebugSetting) (s now : ServerState) (input begins before mid after told_before told_after : Option (List ℕ)) (untold : Bool)
     (last : Option Stop) → AddsFiles of_file [] wanted.settings.files images → AreFirstLines of_file wanted start
-    → (untold ≡ false → Appends told_before told_after (start_told (setting_wanted wanted) start images).text)
-    → setting ≡ setting_wanted wanted → first ≡ start → s ≡ server_begun (setting_wanted wanted) start images
+    → (untold ≡ false → Appends told_before told_after (start_told (setting_wanted wanted) wanted.most start images).text)
+    → setting ≡ setting_wanted wanted → first ≡ start → s ≡ server_begun (setting_wanted wanted) wanted.most start images
     → begins ≡ before → IfSome input (λ bytes. IsServed begins mid now (bytes_served setting first bytes s)) → Keeps mid after
     → last ≡ now.session.debug.script.last
     → ServesGdb of_file wanted input before after told_before told_after untold last
 serves_gdb of_file wanted images start first setting s now input begins before mid after told_before told_after untold last
     files lines told of_setting of_start of_state same served kept is =
-    let all = served_as setting (setting_wanted wanted) first start s (server_begun (setting_wanted wanted) start images)
+    let all = served_as setting (setting_wanted wanted) first start s (server_begun (setting_wanted wanted) wanted.most start images)
     input before mid now of_setting of_start of_state
     (subst (λ (x : Option (List ℕ)). IfSome input (λ bytes. IsServed x mid now (bytes_served setting first bytes s))) same served) in
     record {
@@ -94,8 +94,8 @@ serves_gdb of_file wanted images start first setting s now input begins before m
       files = files;
       lines = lines;
       first = told;
-      text = served_text input (gdb_told (setting_wanted wanted) start images) before mid after now all kept;
-      stop = served_stop input (gdb_told (setting_wanted wanted) start images) before mid now last all is;
+      text = served_text input (gdb_told (setting_wanted wanted) wanted.most start images) before mid after now all kept;
+      stop = served_stop input (gdb_told (setting_wanted wanted) wanted.most start images) before mid now last all is;
     }
 
 -- the last stop of what a reader tells
@@ -110,5 +110,5 @@ stops_with_gdb of_file of_reader wanted reader input before after told_before to
   files = serves.files;
   lines = serves.lines;
   stop = subst (λ (all : Option (List ℕ)). IfSome all (λ bytes.
-      last ≡ (gdb_told (setting_wanted wanted) serves.start serves.images bytes).state.session.debug.script.last)) of_input serves.stop;
+      last ≡ (gdb_told (setting_wanted wanted) wanted.most serves.start serves.images bytes).state.session.debug.script.last)) of_input serves.stop;
 }

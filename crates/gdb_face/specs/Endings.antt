@@ -48,6 +48,7 @@ gdb_refusal_status refusal.NotText = 2
 gdb_refusal_status (refusal.Line reason) = 2
 gdb_refusal_status (refusal.Sizes reason) = 2
 gdb_refusal_status (refusal.File path error) = 4
+gdb_refusal_status (refusal.Elf path) = 4
 gdb_refusal_status (refusal.Start error) = 4
 gdb_refusal_status (refusal.Served error) = 4
 

@@ -1,6 +1,6 @@
 -- The words of the face: `--script` with the path that follows it, and all others, which are the words of
 -- `rosm`.
-use Rattle.std.specs.Prelude.{ℕ, Bool, true, false, not, List, [], ◌∷◌, Option, Some, None, codes, if◌then◌else◌}
+use Rattle.std.specs.Prelude.{ℕ, ◌-◌, ◌^◌, take, Bool, true, false, not, List, [], ◌∷◌, Option, Some, None, codes, if◌then◌else◌}
 use Rattle.std.specs.Str.{bytes_eq}
 use Rattle.gdb_face.specs.declared.options.GdbWord.{GdbWord}
 use Rattle.gdb_face.specs.declared.options.GdbWord.TheVariants as taken
@@ -67,3 +67,16 @@ unless_path_lacks taken.File path = path
 -- the path of the script that is asked for; none where the words can't be
 abbrev pub start_path_wanted : List (List ℕ) → Option (Option (List ℕ))
 start_path_wanted words = unless_path_lacks (last_gdb_word taken.Option words) (one_start_path (start_paths words))
+
+-- whether one of the words before `--` sets the budget
+abbrev pub sets_budget : List ℕ → Bool
+sets_budget word = bytes_eq (take 8 word) (codes "--budget")
+
+abbrev pub any_sets_budget : List (List ℕ) → Bool
+any_sets_budget [] = false
+any_sets_budget (word ∷ rest) =
+    if bytes_eq word (codes "--") then false else (if sets_budget word then true else any_sets_budget rest)
+
+-- How many steps a run may take: as many as can be counted, unless the words set a budget.
+abbrev pub most_wanted : List (List ℕ) → ℕ → ℕ
+most_wanted words budget = if any_sets_budget words then budget else 2 ^ 64 - 1

@@ -13,27 +13,31 @@ use Rattle.rosm_settings.specs.ImageFiles.{AddsFiles}
 use Rattle.gdb_face.specs.Start.{AreFirstLines}
 use Rattle.gdb_face.specs.declared.words.WantedGdb.{WantedGdb}
 
--- a machine of the sizes, and a run's budget, that are asked for
+-- a machine of the sizes, and the budgets, that are asked for
 abbrev pub setting_wanted : WantedGdb → DebugSetting
-setting_wanted wanted =
-    debug_setting (record { config = wanted.settings.config; budget = wanted.settings.budget })
+setting_wanted wanted = debug_setting (record {
+  config = wanted.settings.config;
+  budget = wanted.settings.budget;
+  most = wanted.most;
+})
 
 -- what the lines that a machine begins with are answered, where the files' images are there
-abbrev pub start_told : DebugSetting → List ℕ → List Entry → DebugAnswered
-start_told setting start images = begin_told setting start (gdb_start setting images)
+abbrev pub start_told : DebugSetting → ℕ → List ℕ → List Entry → DebugAnswered
+start_told setting most start images = begin_told setting start (gdb_start setting most images)
 
 -- a server before the first byte
 abbrev pub server_before_bytes : GdbState → ServerState
 server_before_bytes session = record { session = session; reading = reading_start; has_acks = true; last = [] }
 
 -- and after the lines that a machine begins with
-abbrev pub server_begun : DebugSetting → List ℕ → List Entry → ServerState
-server_begun setting start images = server_before_bytes
-    (begun_anew (gdb_start setting images) (start_told setting start images))
+abbrev pub server_begun : DebugSetting → ℕ → List ℕ → List Entry → ServerState
+server_begun setting most start images = server_before_bytes
+    (begun_anew (gdb_start setting most images) (start_told setting most start images))
 
 -- what all that GDB sends is answered
-abbrev pub gdb_told : DebugSetting → List ℕ → List Entry → List ℕ → Served
-gdb_told setting start images input = bytes_served setting start input (server_begun setting start images)
+abbrev pub gdb_told : DebugSetting → ℕ → List ℕ → List Entry → List ℕ → Served
+gdb_told setting most start images input =
+    bytes_served setting start input (server_begun setting most start images)
 
 -- With the files' images there, and the first lines answered, all that GDB sends is answered: the answers
 -- are appended to what was written before, and the last stop is the machine's. The answers to the first
@@ -44,10 +48,10 @@ pub record ServesGdb {F : Type 0} (of_file : F → Option (List ℕ)) (wanted : 
   pub start : List ℕ
   pub files : AddsFiles of_file [] wanted.settings.files images
   pub lines : AreFirstLines of_file wanted start
-  pub first : untold ≡ false → Appends told_before told_after (start_told (setting_wanted wanted) start images).text
-  pub text : IfSome input (λ bytes. Appends before after (gdb_told (setting_wanted wanted) start images bytes).text)
+  pub first : untold ≡ false → Appends told_before told_after (start_told (setting_wanted wanted) wanted.most start images).text
+  pub text : IfSome input (λ bytes. Appends before after (gdb_told (setting_wanted wanted) wanted.most start images bytes).text)
   pub stop : IfSome input (λ bytes.
-      last ≡ (gdb_told (setting_wanted wanted) start images bytes).state.session.debug.script.last)
+      last ≡ (gdb_told (setting_wanted wanted) wanted.most start images bytes).state.session.debug.script.last)
 
 -- The last stop is that of a machine on which all that a reader tells was served.
 pub record StopsWithGdb {F R : Type 0} (of_file : F → Option (List ℕ)) (of_reader : R → Option (List ℕ))
@@ -58,4 +62,4 @@ pub record StopsWithGdb {F R : Type 0} (of_file : F → Option (List ℕ)) (of_r
   pub files : AddsFiles of_file [] wanted.settings.files images
   pub lines : AreFirstLines of_file wanted start
   pub stop : IfSome (of_reader reader) (λ bytes.
-      last ≡ (gdb_told (setting_wanted wanted) start images bytes).state.session.debug.script.last)
+      last ≡ (gdb_told (setting_wanted wanted) wanted.most start images bytes).state.session.debug.script.last)

@@ -1,7 +1,9 @@
 -- The lines that a machine begins with: those of the script that is named, or one that boots the first
 -- file.
-use Rattle.std.specs.Prelude.{◌≡◌, ℕ, List, [], ◌∷◌, ◌++◌, Option, Some, None, IfSome, codes}
+use Rattle.std.specs.Prelude.{◌≡◌, ℕ, Bool, false, take, if◌then◌else◌, List, [], ◌∷◌, ◌++◌, Option, Some, None, IfSome, codes}
 use Rattle.std.specs.Path.{path_file_name}
+use Rattle.std.specs.Str.{bytes_eq}
+use Rattle.image_loader.specs.Entries.{Entry, bytes_of_image}
 use Rattle.gdb_face.specs.declared.words.WantedGdb.{WantedGdb}
 
 abbrev pub boot_line_named : List ℕ → List ℕ
@@ -27,3 +29,20 @@ AreFirstLinesFor of_file (Some path) files start = IsOfScript of_file start
 
 abbrev pub AreFirstLines : {F : Type 0} → (F → Option (List ℕ)) → WantedGdb → List ℕ → Type 0
 AreFirstLines of_file wanted start = AreFirstLinesFor of_file wanted.script wanted.settings.files start
+
+-- An ELF file begins with these four bytes ("ELF Header" in the Tool Interface Standard's ELF specification).
+abbrev pub is_elf : List ℕ → Bool
+is_elf bytes = bytes_eq (take 4 bytes) (127 ∷ codes "ELF")
+
+abbrev pub is_elf_image : Option (List ℕ) → Bool
+is_elf_image None = false
+is_elf_image (Some bytes) = is_elf bytes
+
+abbrev pub is_elf_named : List Entry → Option (List ℕ) → Bool
+is_elf_named images None = false
+is_elf_named images (Some name) = is_elf_image (bytes_of_image images name)
+
+-- the first file whose image is an ELF file
+abbrev pub first_elf : List Entry → List (List ℕ) → Option (List ℕ)
+first_elf images [] = None
+first_elf images (path ∷ more) = if is_elf_named images (path_file_name path) then Some path else first_elf images more

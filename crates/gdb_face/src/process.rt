@@ -90,6 +90,7 @@ where
     let setting = GdbSetting {
         config: wanted.settings.config,
         budget: wanted.settings.budget,
+        most: wanted.most,
     };
     let mut session = GdbSession::new(alloc, setting, start.as_slice())?;
     let told = session.begin(&mut images)?;

@@ -31,6 +31,9 @@ pub enum GdbRefusal<'a> {
     /// The file of this path is no image, or no script that can be read, for this reason.
     #[error("{0:?}: {1}")]
     File(&'a str, FileError),
+    /// The file of this path is an ELF file, which is no image.
+    #[error("{0:?}: an ELF file is for GDB; objcopy -O binary makes an image of it")]
+    Elf(&'a str),
     /// The lines that a machine begins with can't be read, or not all be answered, for this reason.
     #[error("{0}")]
     Start(RunError),
@@ -50,6 +53,7 @@ impl GdbRefusal<'_> {
             GdbRefusal::NotText | GdbRefusal::Line(_) | GdbRefusal::Sizes(_) => 2,
             GdbRefusal::Memory
             | GdbRefusal::File(_, _)
+            | GdbRefusal::Elf(_)
             | GdbRefusal::Start(_)
             | GdbRefusal::Served(_) => 4,
         }

@@ -1,8 +1,9 @@
 //! What a machine begins with: the images of the files, and its first lines.
 
-ghost use Rattle.std.specs.Prelude.{◌≡◌, [], IfErr, IfOk, OnOk};
+ghost use Rattle.std.specs.Prelude.{◌≡◌, [], None, IfErr, IfOk, OnOk, option_map};
+ghost use Rattle.std.specs.Path.{path_file_name};
 ghost use Rattle.rosm_settings.specs.ImageFiles.{AddsFiles};
-ghost use Rattle.gdb_face.specs.Start.{AreFirstLines, boot_line, boot_line_named};
+ghost use Rattle.gdb_face.specs.Start.{AreFirstLines, boot_line, boot_line_named, first_elf, is_elf_image, is_elf_named};
 ghost use Rattle.gdb_face.specs.Endings.{gdb_refusal_status};
 
 use crate::refusal::GdbRefusal;
@@ -22,7 +23,7 @@ use std::path::Path;
 ///
 /// # Errors
 ///
-/// The first file that gives no image.
+/// The first file that gives no image, or else the first that is an ELF file.
 pub fn take_files<'a, F>(
     files: &F,
     wanted: &'a WantedGdb,
@@ -32,12 +33,46 @@ where
     F: AllocGlobal + fs::Files,
     ensures added { OnOk result
         (AddsFiles F.File.Read.remaining images.old wanted.entry.now.settings.files images.new) }
+    ensures no_elf { OnOk result (first_elf images.new wanted.entry.now.settings.files ≡ None) }
     ensures refused { IfErr result (λ e. gdb_refusal_status e ≡ 4) }
 {
     match add_files(files, &wanted.settings.files, images) {
-        Ok(()) => Ok(()),
+        Ok(()) => no_elf_among(images, &wanted.settings.files),
         Err(SettingsRefusal::File(path, error)) => Err(GdbRefusal::File(path, error)),
         Err(_) => Err(GdbRefusal::Memory),
+    }
+}
+
+#[tactic(auto, using(crate::proofs::StartLemmas::elf_steps))]
+fn no_elf_among<'a>(images: &Images, files: &'a Files) -> Result<(), GdbRefusal<'a>>
+    ensures none { OnOk result (first_elf images.now files.entry.now ≡ None) }
+    ensures refused { IfErr result (λ e. gdb_refusal_status e ≡ 4) }
+{
+    for n in 0..files.len() {
+        let path = files.get(n);
+        if is_elf_named(images, path) {
+            return Err(GdbRefusal::Elf(path));
+        }
+    }
+    Ok(())
+}
+
+// Whether the image of a file is an ELF file.
+fn is_elf_named(images: &Images, path: &str) -> bool
+    ensures { result ≡ is_elf_named images.now (path_file_name path.now) }
+{
+    match Path::new(path).file_name() {
+        Some(name) => is_elf_image(images.get(name.as_bytes())),
+        None => false,
+    }
+}
+
+fn is_elf_image(bytes: Option<&[u8]>) -> bool
+    ensures { result ≡ is_elf_image (option_map (λ b. b.now) bytes.entry) }
+{
+    match bytes {
+        Some(bytes) => &bytes[..bytes.len().min(4)] == b"\x7fELF".as_slice(),
+        None => false,
     }
 }
 

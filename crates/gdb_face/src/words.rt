@@ -2,7 +2,7 @@
 
 ghost use Rattle.std.specs.Prelude.{◌≡◌, drop, map, string_bytes, option_map, IfErr, IfOk, Ok, Option, None, Result};
 ghost use Rattle.rosm_settings.specs.command_line.Settings.{settings_for};
-ghost use Rattle.gdb_face.specs.Options.{one_start_path, unless_path_lacks};
+ghost use Rattle.gdb_face.specs.Options.{any_sets_budget, machine_words, most_wanted, one_start_path, sets_budget, unless_path_lacks};
 ghost use Rattle.gdb_face.specs.Endings.{AsksForGdb, IsGdbRefusalOf, IsMachineRefusal, IsRefusalOfWords, gdb_words_refused};
 
 use crate::options::{GdbWord, PartedGdbWords, part_words};
@@ -21,8 +21,10 @@ const HELP: &str = "GDB starts it, by target remote | rosm_gdb FILE; each FILE i
 pub struct WantedGdb {
     /// The file of the lines that a machine begins with, if there is one.
     pub script: Option<String>,
-    /// The machine, what each run may take, and the files.
+    /// The machine, what each line may take, and the files.
     pub settings: Settings,
+    /// How many steps a run may take.
+    pub most: u64,
 }
 
 /// What the words of this process ask for, from that of the face on.
@@ -72,6 +74,8 @@ fn refused_line(alloc: Global, reason: &str) -> GdbRefusal<'static>
 
 fn wanted_of(alloc: Global, words: &[String]) -> Result<WantedGdb, GdbRefusal<'static>>
     ensures asks { IfOk result (AsksForGdb (map string_bytes words.now)) }
+    ensures most { IfOk result (λ wanted. wanted.most
+        ≡ most_wanted (machine_words (map string_bytes words.now)) wanted.settings.budget) }
     ensures refused { IfErr result (IsGdbRefusalOf (map string_bytes words.now)) }
 {
     let texts = texts_of(alloc, words)?;
@@ -84,7 +88,46 @@ fn wanted_of(alloc: Global, words: &[String]) -> Result<WantedGdb, GdbRefusal<'s
         None => None,
     };
     let settings = settings_of(alloc, parted.others.as_slice())?;
-    Ok(WantedGdb { script, settings })
+    let most = most_of(parted.others.as_slice(), settings.budget);
+    Ok(WantedGdb {
+        script,
+        settings,
+        most,
+    })
+}
+
+// How many steps a run may take: as many as can be counted, unless the words set a budget.
+fn most_of(words: &[&str], budget: u64) -> u64
+    ensures { result ≡ most_wanted (map (λ w. w.now) words.now) budget }
+{
+    if any_sets_budget(words) {
+        budget
+    } else {
+        u64::MAX
+    }
+}
+
+// Whether one of the words before `--` sets the budget.
+#[tactic(auto, using(crate::proofs::OptionLemmas::budget_steps))]
+fn any_sets_budget(words: &[&str]) -> bool
+    ensures { result ≡ any_sets_budget (map (λ w. w.now) words.now) }
+{
+    for word in words {
+        let word = word.as_bytes();
+        if word == b"--".as_slice() {
+            return false;
+        }
+        if sets_budget(word) {
+            return true;
+        }
+    }
+    false
+}
+
+fn sets_budget(word: &[u8]) -> bool
+    ensures { result ≡ sets_budget word.now }
+{
+    &word[..word.len().min(8)] == b"--budget".as_slice()
 }
 
 // The path of the script, if there is one; `None` where the words can't be.

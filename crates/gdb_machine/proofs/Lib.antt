@@ -1,3 +1,4 @@
+pub mod EscapeLemmas
 pub mod MemoryLemmas
 pub mod RegisterLemmas
 pub mod WatchLemmas

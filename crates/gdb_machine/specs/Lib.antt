@@ -1,6 +1,7 @@
 -- What GDB sees of a machine. Begin with Registers.
 pub mod Changes
 pub mod Description
+pub mod Escape
 pub mod Laws
 pub mod Libraries
 pub mod Memory

@@ -1,6 +1,6 @@
 -- Why the program stands, and how GDB is told: by a signal of GDB's own numbers, by what reached it, and
--- by the registers that GDB asks for first; or that the program has exited.
-use Rattle.std.specs.Prelude.{ℕ, ◌++◌, List, [], ◌∷◌, Option, Some, None, codes, unwrap_or}
+-- by the registers that GDB asks for first; or that the program has exited, or was ended by a signal.
+use Rattle.std.specs.Prelude.{ℕ, ◌++◌, Bool, true, false, List, [], ◌∷◌, Option, Some, None, codes, unwrap_or}
 use Rattle.std.specs.Int.{to_be_bytes, w32}
 use Rattle.hex.specs.Hex.{encode_lower}
 use Rattle.profile.specs.declared.fault.Fault.{Fault}
@@ -37,7 +37,11 @@ signal_of_fault fault.MultiplySame = signal.Illegal
 signal_of_fault fault.EmptyList = signal.Illegal
 signal_of_fault fault.UserBankWriteback = signal.Illegal
 
--- none where the program has exited
+-- the number of the signal of a fault
+abbrev pub signal_number_of : Fault → ℕ
+signal_number_of f = signal_number (signal_of_fault f)
+
+-- none where the program is no more
 abbrev pub signal_of : GdbStop → Option Signal
 signal_of reason.Stepped = Some signal.Trap
 signal_of (reason.Watched address) = Some signal.Trap
@@ -47,6 +51,7 @@ signal_of (reason.Ran (stop.Break address)) = Some signal.Trap
 signal_of (reason.Ran stop.Budget) = Some signal.Steps
 signal_of (reason.Ran (stop.Fault f)) = Some (signal_of_fault f)
 signal_of (reason.Ran stop.Exit) = None
+signal_of (reason.Killed f) = None
 
 -- what reached it: a break, or a byte that is watched, by its address; or that GDB has to ask for the list
 -- of libraries
@@ -59,6 +64,7 @@ reached_text (reason.Ran (stop.Fault f)) = []
 reached_text (reason.Ran stop.Exit) = []
 reached_text reason.Stepped = []
 reached_text reason.Asked = []
+reached_text (reason.Killed f) = []
 
 abbrev pub told_value : State → ℕ → List ℕ
 told_value s n = word_digits (unwrap_or (register_shown s n) 0)
@@ -69,11 +75,32 @@ first_registers_text s =
     codes "0b:" ++ told_value s 11 ++ codes ";0d:" ++ told_value s 13 ++ codes ";0e:" ++ told_value s 14
     ++ codes ";0f:" ++ told_value s 15 ++ codes ";10:" ++ told_value s 16 ++ codes ";"
 
+-- the program has exited, or was ended by the signal of its fault
+abbrev pub gone_text : GdbStop → List ℕ
+gone_text (reason.Killed f) = codes "X" ++ encode_lower (signal_number_of f ∷ [])
+gone_text (reason.Ran x) = codes "W00"
+gone_text reason.Stepped = codes "W00"
+gone_text reason.Asked = codes "W00"
+gone_text (reason.Watched address) = codes "W00"
+gone_text reason.Library = codes "W00"
+
 abbrev pub signalled_text : Option Signal → GdbStop → State → List ℕ
-signalled_text None why s = codes "W00"
+signalled_text None why s = gone_text why
 signalled_text (Some signal) why s =
     codes "T" ++ encode_lower (signal_number signal ∷ []) ++ reached_text why ++ first_registers_text s
 
--- `T05swbreak:;0b:..`, `T0b0b:..`, `W00`
+-- whether the program is no more
+abbrev pub is_gone : GdbStop → Bool
+is_gone (reason.Killed f) = true
+is_gone (reason.Ran stop.Exit) = true
+is_gone (reason.Ran stop.Budget) = false
+is_gone (reason.Ran (stop.Break address)) = false
+is_gone (reason.Ran (stop.Fault f)) = false
+is_gone reason.Stepped = false
+is_gone reason.Asked = false
+is_gone (reason.Watched address) = false
+is_gone reason.Library = false
+
+-- `T05swbreak:;0b:..`, `T0b0b:..`, `W00`, `X0b`
 unfoldable pub stop_packet : State → GdbStop → List ℕ
 stop_packet s why = signalled_text (signal_of why) why s

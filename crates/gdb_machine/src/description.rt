@@ -49,7 +49,6 @@ pub(crate) const DESCRIPTION: &[u8] = b"\
     <feature name=\"rosm.banks\">\n\
     <flags id=\"place\" size=\"4\">\n\
     <field name=\"MODE\" start=\"0\" end=\"1\"/>\n\
-    <field name=\"PC\" start=\"2\" end=\"25\"/>\n\
     <field name=\"F\" start=\"26\" end=\"26\"/>\n\
     <field name=\"I\" start=\"27\" end=\"27\"/>\n\
     <field name=\"V\" start=\"28\" end=\"28\"/>\n\

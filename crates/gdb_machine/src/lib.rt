@@ -4,6 +4,7 @@
 
 mod changes;
 mod description;
+mod escape;
 mod laws;
 mod libraries;
 mod memory;
@@ -17,5 +18,5 @@ pub use laws::register_writes_are_read;
 pub use libraries::{libraries_part, library_lines};
 pub use memory::{known_bytes, memory_told};
 pub use registers::{all_registers, one_register, register_shown};
-pub use stops::{GdbStop, Signal, stop_packet};
+pub use stops::{GdbStop, Signal, signal_number_of, stop_packet};
 pub use watches::{SeenByte, WatchError, Watches, first_changed};

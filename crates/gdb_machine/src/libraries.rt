@@ -7,15 +7,15 @@ ghost use Rattle.profile.specs.Output.{Writes};
 ghost use Rattle.gdb_machine.specs.Libraries.{libraries_part, libraries_text, library_ending, library_line, library_lines, library_opening, module_library};
 
 use crate::description::part;
+use crate::escape::push_escaped;
 use debugger::{Instances, ModuleInfo};
 use gdb_packets::ByteRange;
-use page_markup::push_escaped;
 use profile::{HexText, Sink, WriteFault, push_all};
 use std::alloc::{AllocError, Global};
 use view_items::TextSink;
 
-/// The lines of the list: of each module the name of the file that has its symbols, `Title.elf`, and the
-/// address of its image. There are none where no module is there.
+/// The lines of the list: of each module the name of the file that has its symbols, `Title.elf`, in a folder
+/// named by the address of its image, and that address. There are none where no module is there.
 ///
 /// # Errors
 ///
@@ -81,15 +81,15 @@ fn push_module<W: Sink>(sink: &mut W, modules: &Instances, number: u32) -> Resul
 fn push_library<W: Sink>(sink: &mut W, info: &ModuleInfo) -> Result<(), WriteFault>
     ensures { Writes W.contents W.has_failed sink.old sink.new result (library_line info.now) }
 {
-    push_name(sink, info.title.as_slice())?;
+    push_name(sink, info.image, info.title.as_slice())?;
     push_address(sink, info.image)
 }
 
 #[tactic(auto, unfolding(crate::specs::Libraries::library_opening))]
-fn push_name<W: Sink>(sink: &mut W, title: &[u8]) -> Result<(), WriteFault>
-    ensures { Writes W.contents W.has_failed sink.old sink.new result (library_opening title.now) }
+fn push_name<W: Sink>(sink: &mut W, image: u32, title: &[u8]) -> Result<(), WriteFault>
+    ensures { Writes W.contents W.has_failed sink.old sink.new result (library_opening image title.now) }
 {
-    push_all(sink, b"<library name=\"")?;
+    push_word_between(sink, b"<library name=\"", image, b"/")?;
     push_escaped(sink, title)
 }
 

@@ -2,7 +2,7 @@
 
 ghost use Rattle.std.specs.Prelude.{◌≡◌, ◌∷◌, [], IfOk};
 ghost use Rattle.hex.specs.Hex.{encode_lower};
-ghost use Rattle.gdb_machine.specs.Stops.{first_registers_text, reached_text, signal_number, signal_of, signal_of_fault as fault_told, stop_packet as packet_told, told_value};
+ghost use Rattle.gdb_machine.specs.Stops.{gone_text, first_registers_text, is_gone, reached_text, signal_number, signal_number_of as number_told, signal_of, signal_of_fault as fault_told, stop_packet as packet_told, told_value};
 
 use crate::registers::{register_shown, word_digits};
 use arm_core::Cpu;
@@ -61,10 +61,19 @@ pub enum GdbStop {
     Watched(u32),
     /// Other modules are there than GDB was told of.
     Library,
+    /// It was ended by the signal of its fault.
+    Killed(Fault),
 }
 
 impl GdbStop {
-    // The signal; `None` where the program has exited.
+    /// Whether the program is no more.
+    pub fn is_gone(self) -> bool
+        ensures { result ≡ is_gone self }
+    {
+        matches!(self, GdbStop::Killed(_) | GdbStop::Ran(Stop::Exit))
+    }
+
+    // The signal; `None` where the program is no more.
     fn signal(self) -> Option<Signal>
         ensures { result ≡ signal_of self }
     {
@@ -74,7 +83,7 @@ impl GdbStop {
             GdbStop::Ran(Stop::Break(_)) => Some(Signal::Trap),
             GdbStop::Ran(Stop::Budget) => Some(Signal::Steps),
             GdbStop::Ran(Stop::Fault(fault)) => Some(signal_of_fault(fault)),
-            GdbStop::Ran(Stop::Exit) => None,
+            GdbStop::Ran(Stop::Exit) | GdbStop::Killed(_) => None,
         }
     }
 }
@@ -96,19 +105,38 @@ fn signal_of_fault(fault: Fault) -> Signal
     }
 }
 
+/// The number of the signal of a fault.
+pub fn signal_number_of(fault: Fault) -> u8
+    ensures { result ≡ number_told fault }
+{
+    signal_of_fault(fault).number()
+}
+
 /// The packet that tells why the program stands.
 #[tactic(auto, unfolding(crate::specs::Stops::stop_packet))]
 pub fn stop_packet(alloc: Global, cpu: &Cpu, why: GdbStop) -> Result<Vec<u8>, AllocError>
     ensures { IfOk result (λ packet. packet.items ≡ packet_told cpu.now why) }
 {
     let Some(signal) = why.signal() else {
-        return Vec::from_slice(alloc, b"W00");
+        return gone_text(alloc, why);
     };
     let mut packet = Vec::from_slice(alloc, b"T")?;
     packet.extend_from_slice(encode(alloc, [signal.number()])?.as_bytes())?;
     packet.extend_from_slice(reached(alloc, why)?.as_slice())?;
     packet.extend_from_slice(first_registers(alloc, cpu)?.as_slice())?;
     Ok(packet)
+}
+
+// The program has exited, or was ended by the signal of its fault.
+fn gone_text(alloc: Global, why: GdbStop) -> Result<Vec<u8>, AllocError>
+    ensures { IfOk result (λ text. text.items ≡ gone_text why) }
+{
+    let GdbStop::Killed(fault) = why else {
+        return Vec::from_slice(alloc, b"W00");
+    };
+    let mut text = Vec::from_slice(alloc, b"X")?;
+    text.extend_from_slice(encode(alloc, [signal_number_of(fault)])?.as_bytes())?;
+    Ok(text)
 }
 
 // What reached the program: a break, or a byte that is watched; or that other modules are there.

@@ -8,6 +8,7 @@ use Rattle.gdb_packets.specs.declared.requests.PointKind.{PointKind}
 use Rattle.gdb_packets.specs.declared.requests.PointKind.TheVariants as point
 use Rattle.gdb_packets.specs.declared.parts.PartedText.{PartedText}
 use Rattle.gdb_packets.specs.declared.requests.ByteRange.{ByteRange}
+use Rattle.gdb_packets.specs.declared.requests.PlaceRange.{PlaceRange}
 use Rattle.gdb_packets.specs.declared.requests.Request.{Request}
 use Rattle.gdb_packets.specs.declared.requests.Request.TheVariants as request
 
@@ -23,8 +24,12 @@ pub data GdbRequest : Type 0 where
   Memory : ByteRange → GdbRequest
   StorePairs : ByteRange → List ℕ → GdbRequest
   StoreBytes : ByteRange → List ℕ → GdbRequest
+  -- `c`, `C nn` with a signal; `s`, `S nn`; `vCont;r a,b`, steps within a range of addresses
   Continue : GdbRequest
+  ContinueWith : ℕ → GdbRequest
   Step : GdbRequest
+  StepWith : ℕ → GdbRequest
+  StepRange : PlaceRange → GdbRequest
   -- `vCont?`
   Ways : GdbRequest
   -- `Z`, `z`: a kind, an address, and how many bytes
@@ -143,15 +148,31 @@ abbrev pub point_request : Option PacketParts → (PointKind → ByteRange → G
 point_request None request = Unknown
 point_request (Some parts) request = point_of_kind (point_kind parts.before) (byte_range_of parts.behind) request
 
--- `c`, `s`, and with a signal, which is left out, `C nn`, `S nn`
+-- `nn` behind `C` or `S`
+abbrev pub of_signal : Option ℕ → (ℕ → GdbRequest) → GdbRequest
+of_signal None request = Unknown
+of_signal (Some signal) request = request signal
+
+-- `a,b` behind `r`: from the one address up to the other, which is left out
+abbrev pub places_of_both : Option ℕ → Option ℕ → GdbRequest
+places_of_both (Some a) (Some b) = StepRange (record { start = a; end = b })
+places_of_both (Some a) None = Unknown
+places_of_both None b = Unknown
+
+abbrev pub places_request : Option PacketParts → GdbRequest
+places_request None = Unknown
+places_request (Some parts) = places_of_both (packet_number parts.before) (packet_number parts.behind)
+
+-- `c`, `s`, and with a signal `C nn`, `S nn`; `r a,b`
 abbrev pub action_request : List ℕ → GdbRequest
 action_request [] = Unknown
 action_request (letter ∷ []) =
     if letter == 99 then Continue else (
     if letter == 115 then Step else Unknown)
 action_request (letter ∷ digit ∷ digits) =
-    if letter == 67 then if_told (is_some (packet_number (digit ∷ digits))) Continue else (
-    if letter == 83 then if_told (is_some (packet_number (digit ∷ digits))) Step else Unknown)
+    if letter == 67 then of_signal (packet_number (digit ∷ digits)) ContinueWith else (
+    if letter == 83 then of_signal (packet_number (digit ∷ digits)) StepWith else (
+    if letter == 114 then places_request (parts_around 44 (digit ∷ digits)) else Unknown))
 
 -- an action, and `:` with a thread or not
 abbrev pub action_for_parts : Option PacketParts → List ℕ → GdbRequest
@@ -224,8 +245,8 @@ access_request letter rest =
 -- .. and of what the program does
 abbrev pub control_request : ℕ → List ℕ → GdbRequest
 control_request letter rest =
-    if letter == 67 then if_told (is_some (packet_number rest)) Continue else (
-    if letter == 83 then if_told (is_some (packet_number rest)) Step else (
+    if letter == 67 then of_signal (packet_number rest) ContinueWith else (
+    if letter == 83 then of_signal (packet_number rest) StepWith else (
     if letter == 72 then thread_request rest else (
     if letter == 84 then if_told (is_thread rest) Thread else (
     if letter == 70 then host_answer_request rest else (
@@ -324,7 +345,10 @@ gdb_request (request.Memory range) = Memory range
 gdb_request (request.StorePairs range pairs) = StorePairs range pairs.now
 gdb_request (request.StoreBytes range bytes) = StoreBytes range bytes.now
 gdb_request request.Continue = Continue
+gdb_request (request.ContinueWith signal) = ContinueWith signal
 gdb_request request.Step = Step
+gdb_request (request.StepWith signal) = StepWith signal
+gdb_request (request.StepRange places) = StepRange places
 gdb_request request.Ways = Ways
 gdb_request (request.AddPoint kind range) = AddPoint kind range
 gdb_request (request.RemovePoint kind range) = RemovePoint kind range

@@ -14,4 +14,4 @@ mod words;
 pub use frames::push_packet;
 pub use laws::packets_are_read;
 pub use reader::{FramePlace, MOST_PACKET, PacketReader, Piece};
-pub use requests::{ByteRange, PointKind, Request, request_of};
+pub use requests::{ByteRange, PlaceRange, PointKind, Request, request_of};

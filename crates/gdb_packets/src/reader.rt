@@ -76,6 +76,13 @@ impl PacketReader {
         self.packet.as_slice()
     }
 
+    /// Whether all the bytes of the last packet are there: it wasn't too long.
+    pub fn is_whole(&self) -> bool
+        ensures { result ≡ self.now.fits }
+    {
+        self.fits
+    }
+
     /// Takes the next byte.
     #[tactic(auto, unfolding(crate::specs::Reading::byte_taken))]
     pub fn take(&mut self, byte: u8) -> Option<Piece>

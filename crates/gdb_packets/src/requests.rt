@@ -1,7 +1,7 @@
 //! What a packet asks for.
 
 ghost use Rattle.std.specs.Prelude.{◌≡◌, option_map};
-ghost use Rattle.gdb_packets.specs.Requests.{gdb_request, packet_request, parts_around, Memory, AddPoint, RemovePoint, lone_request, access_request, control_request, lettered_request, register_request, set_register_request, store_pairs_request, store_bytes_request, point_kind, point_request, thread_request, is_process, begins_word, of_range};
+ghost use Rattle.gdb_packets.specs.Requests.{gdb_request, packet_request, parts_around, Memory, AddPoint, RemovePoint, lone_request, access_request, control_request, lettered_request, register_request, set_register_request, store_pairs_request, store_bytes_request, point_kind, point_request, thread_request, is_process, begins_word, of_range, of_signal, ContinueWith, StepWith};
 
 use crate::numbers::number_of;
 use crate::parts::{byte_range_of, is_thread, parts_around};
@@ -29,6 +29,15 @@ pub struct ByteRange {
     pub count: u32,
 }
 
+/// Addresses from one up to another, which is left out.
+#[derive(Clone, Copy)]
+pub struct PlaceRange {
+    /// The first.
+    pub start: u32,
+    /// Where it ends.
+    pub end: u32,
+}
+
 /// What a packet asks for.
 #[derive(Drop)]
 pub enum Request<'a> {
@@ -48,10 +57,16 @@ pub enum Request<'a> {
     StorePairs(ByteRange, &'a [u8]),
     /// `X a,n:`: bytes stored, as they are.
     StoreBytes(ByteRange, &'a [u8]),
-    /// `c`, `C nn`, `vCont;c`.
+    /// `c`, `vCont;c`.
     Continue,
-    /// `s`, `S nn`, `vCont;s`.
+    /// `C nn`, `vCont;C nn`: with a signal.
+    ContinueWith(u32),
+    /// `s`, `vCont;s`.
     Step,
+    /// `S nn`, `vCont;S nn`: with a signal.
+    StepWith(u32),
+    /// `vCont;r a,b`: steps, as long as the program stands in a range.
+    StepRange(PlaceRange),
     /// `vCont?`: which ways there are to go on.
     Ways,
     /// `Z`: a break or a watch set.
@@ -165,14 +180,34 @@ fn control_request(letter: u8, rest: &[u8]) -> Request<'static>
     ensures { gdb_request result ≡ control_request letter rest.now }
 {
     match letter {
-        b'C' if number_of(rest).is_some() => Request::Continue,
-        b'S' if number_of(rest).is_some() => Request::Step,
+        b'C' => continue_with(number_of(rest)),
+        b'S' => step_with(number_of(rest)),
         b'H' => thread_request(rest),
         b'T' if is_thread(rest) => Request::Thread,
         b'F' => host_answer_request(rest),
         b'D' if is_process(rest) => Request::Detach,
         b'R' if number_of(rest).is_some() => Request::Restart,
         _ => Request::Unknown,
+    }
+}
+
+/// With a signal.
+pub(crate) fn continue_with(signal: Option<u32>) -> Request<'static>
+    ensures { gdb_request result ≡ of_signal signal ContinueWith }
+{
+    match signal {
+        Some(signal) => Request::ContinueWith(signal),
+        None => Request::Unknown,
+    }
+}
+
+/// With a signal.
+pub(crate) fn step_with(signal: Option<u32>) -> Request<'static>
+    ensures { gdb_request result ≡ of_signal signal StepWith }
+{
+    match signal {
+        Some(signal) => Request::StepWith(signal),
+        None => Request::Unknown,
     }
 }
 

@@ -1,11 +1,11 @@
 //! Packets that are words, or begin with one.
 
 ghost use Rattle.std.specs.Prelude.{◌≡◌, option_map};
-ghost use Rattle.gdb_packets.specs.Requests.{gdb_request, action_request, action_for_thread, actions_request, is_known_packet, host_answer_request, host_answer_flagged, parts_around, whole_word_request, opened_request, word_request, about_attachment, about_libraries, about_process, about_session, about_target};
+ghost use Rattle.gdb_packets.specs.Requests.{gdb_request, action_request, action_for_thread, actions_request, places_request, is_known_packet, host_answer_request, host_answer_flagged, parts_around, whole_word_request, opened_request, word_request, about_attachment, about_libraries, about_process, about_session, about_target};
 
 use crate::numbers::number_of;
 use crate::parts::{behind_opening, byte_range_of, is_thread, parts_around};
-use crate::requests::Request;
+use crate::requests::{PlaceRange, Request, continue_with, step_with};
 
 /// Of a word.
 #[tactic(auto, unfolding(crate::specs::Requests::word_request))]
@@ -144,15 +144,29 @@ fn action_for_thread(text: &[u8]) -> Request<'static>
     }
 }
 
-// An action, with a signal, which is left out, or without.
+// An action, with a signal or without; or steps within a range.
 fn action_request(text: &[u8]) -> Request<'static>
     ensures { gdb_request result ≡ action_request text.now }
 {
     match text {
         [b'c'] => Request::Continue,
         [b's'] => Request::Step,
-        [b'C', signal @ ..] if number_of(signal).is_some() => Request::Continue,
-        [b'S', signal @ ..] if number_of(signal).is_some() => Request::Step,
+        [b'C', signal @ ..] => continue_with(number_of(signal)),
+        [b'S', signal @ ..] => step_with(number_of(signal)),
+        [b'r', places @ ..] if !places.is_empty() => places_request(places),
+        _ => Request::Unknown,
+    }
+}
+
+// `a,b`: from the one address up to the other, which is left out.
+fn places_request(text: &[u8]) -> Request<'static>
+    ensures { gdb_request result ≡ places_request (parts_around 44 text.now) }
+{
+    let Some(parts) = parts_around(b',', text) else {
+        return Request::Unknown;
+    };
+    match (number_of(parts.before), number_of(parts.behind)) {
+        (Some(start), Some(end)) => Request::StepRange(PlaceRange { start, end }),
         _ => Request::Unknown,
     }
 }

@@ -1,17 +1,17 @@
 -- Bytes that are served one after another, and text in packets.
-use Rattle.std.proofs.Common.{◌≡◌, ◌<◌, ◌≤◌, ◌+◌, ◌-◌, ◌/◌, ℕ, zero, suc, true, false, List, [], ◌∷◌, ◌++◌, length, get_or, take, drop, min, inl, inr, refl, ap, sym, subst, ◌∙◌, append_assoc, arith}
-use Rattle.std.specs.Prelude.{Option, None, Some}
+use Rattle.std.proofs.Common.{◌≡◌, ◌<◌, ◌≤◌, ◌+◌, ◌-◌, ◌/◌, ℕ, zero, suc, Bool, true, false, List, [], ◌∷◌, ◌++◌, length, get_or, take, drop, min, inl, inr, refl, ap, sym, subst, ◌∙◌, append_assoc, arith}
+use Rattle.std.specs.Prelude.{Option, None, Some, is_some}
 use Rattle.std.proofs.lemmas.Bool.{cases_Bool, cases_lt}
 use Rattle.std.proofs.lemmas.List.{append-nil, take_min}
 use Rattle.std.proofs.Math.Seq.{drop-cons}
-use Rattle.gdb_packets.specs.Reading.{byte_taken}
+use Rattle.gdb_packets.specs.Reading.{Reading, byte_taken}
 use Rattle.gdb_packets.specs.declared.reader.Piece.{Piece}
 use Rattle.gdb_packets.specs.declared.reader.Piece.TheVariants as piece
 use Rattle.std.specs.Io.KnownBytes.{Appends}
 use Rattle.profile.specs.Output.{AddsAllBut, AddsFront, AddsPart}
 use Rattle.profile.proofs.OutputLemmas.{AddsAllBut-more, AddsAllBut-start, Appends-from_all_but, Appends-nothing}
 use Rattle.gdb_server.specs.Server.{IsServed}
-use Rattle.gdb_server.specs.Serving.{ServerState, Served, asked_to_stop, byte_served, bytes_served, piece_served, then_served, text_packet, text_packets, told_packets}
+use Rattle.gdb_server.specs.Serving.{ServerState, Served, byte_served, bytes_served, piece_served, stop_served, then_served, text_packet, text_packets, told_packets}
 use Rattle.debug_session.specs.declared.session.DebugSetting.{DebugSetting}
 
 served_cons : (setting : DebugSetting) (start : List ℕ) (byte : ℕ) (bytes : List ℕ) (s : ServerState) → s.session.has_ended ≡ false
@@ -148,13 +148,18 @@ pub front_of_part : (a b : Option (List ℕ)) (text : List ℕ) → AddsPart a b
 front_of_part a b text part = record { rest = part.missing; front = part.front }
 
 -- the byte 3
-pub stop_served : (setting : DebugSetting) (start : List ℕ) (s now : ServerState) (byte : ℕ) (x : Option (List ℕ))
-    → Some piece.Stop ≡ (byte_taken s.reading byte).piece
-    → now ≡ record s { session = asked_to_stop s.session; reading = (byte_taken s.reading byte).now }
-    → IsServed x x now (byte_served setting start s byte)
-stop_served setting start s now byte x stops is =
-    subst (λ (p : Option Piece). IsServed x x now (piece_served setting start (record s { reading = (byte_taken s.reading byte).now }) p))
-    stops (record { text = Appends-nothing x; state = is })
+pub byte_stops : (setting : DebugSetting) (start : List ℕ) (s : ServerState) (reading : Reading) (byte : ℕ)
+    → Some piece.Stop ≡ (byte_taken s.reading byte).piece → reading ≡ (byte_taken s.reading byte).now
+    → stop_served (record s { reading = reading }) (is_some s.session.going) ≡ byte_served setting start s byte
+byte_stops setting start s reading byte stops read =
+    ap (λ (r : Reading). stop_served (record s { reading = r }) (is_some s.session.going)) read
+    ∙ ap (λ (p : Option Piece). piece_served setting start (record s { reading = (byte_taken s.reading byte).now }) p) stops
+
+-- where no run is under way, nothing is answered
+pub stands_served : (s : ServerState) (x : Option (List ℕ)) → is_some s.session.going ≡ false
+    → IsServed x x s (stop_served s (is_some s.session.going))
+stands_served s x still =
+    subst (λ (b : Bool). IsServed x x s (stop_served s b)) (sym still) (record { text = Appends-nothing x; state = refl })
 
 pub ends_served : (setting : DebugSetting) (start bytes : List ℕ) (s : ServerState) (before here : Option (List ℕ)) (all : Served)
     → AddsAllBut before here (bytes_served setting start bytes s).text all.text → (bytes_served setting start bytes s).state ≡ all.state

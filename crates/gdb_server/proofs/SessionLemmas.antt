@@ -2,5 +2,5 @@ pub mod ChangeLemmas
 pub mod LookLemmas
 pub mod RunLemmas
 pub mod SliceLemmas
-pub mod WatchLemmas
+pub mod StepLemmas
 pub mod WriteLemmas

@@ -1,9 +1,10 @@
 -- What the bytes of the other side do, and what they are answered with: a packet by its request, a spoilt
--- one by `-`, or where that is no longer sent by an error; `-` by the last answer once more; the byte 3
--- asks a run to stop.
-use Rattle.std.specs.Prelude.{ℕ, zero, suc, ◌+◌, ◌/◌, Bool, true, false, List, [], ◌∷◌, ◌++◌, take, drop, length, codes, Option, Some, None, if◌then◌else◌}
+-- one by `-`, or where that is no longer sent as if it were whole; `-` by the last answer once more; the byte
+-- 3 stops a run.
+use Rattle.std.specs.Prelude.{ℕ, zero, suc, ◌+◌, ◌/◌, not, ◌&&◌, is_some, Bool, true, false, List, [], ◌∷◌, ◌++◌, take, drop, length, codes, Option, Some, None, if◌then◌else◌}
 use Rattle.hex.specs.Hex.{encode_lower}
 use Rattle.gdb_server.specs.session.Requests.{gdb_answered}
+use Rattle.gdb_server.specs.session.Runs.{stop_asked}
 use Rattle.gdb_server.specs.session.State.{GdbState, GdbAnswered}
 use Rattle.debug_session.specs.declared.session.DebugSetting.{DebugSetting}
 use Rattle.gdb_packets.specs.Frames.{packet_frame}
@@ -75,16 +76,29 @@ abbrev pub spoilt_text : Bool → List ℕ
 spoilt_text true = codes "-"
 spoilt_text false = packet_frame (codes "E16")
 
-abbrev pub asked_to_stop : GdbState → GdbState
-asked_to_stop g = record g { is_asked = g.is_running }
+-- Where packets aren't asked for again, one whose sum is wrong is taken as it came, unless it is too long.
+abbrev pub is_taken_so : Bool → Bool → Bool
+is_taken_so has_acks fits = not has_acks && fits
+
+abbrev pub spoilt_served : DebugSetting → List ℕ → ServerState → Bool → Served
+spoilt_served setting start s true = packet_served setting start s
+spoilt_served setting start s false = record { state = s; text = spoilt_text s.has_acks }
+
+-- an answer that no packet asked for
+abbrev pub unasked_served : ServerState → GdbAnswered → Served
+unasked_served s a = record { state = record s { session = a.state; last = answer_text a }; text = answer_text a }
+
+-- the byte 3: where no run is under way there is nothing to stop
+abbrev pub stop_served : ServerState → Bool → Served
+stop_served s true = unasked_served s (stop_asked s.session)
+stop_served s false = record { state = s; text = [] }
 
 abbrev pub piece_served : DebugSetting → List ℕ → ServerState → Option Piece → Served
 piece_served setting start s None = record { state = s; text = [] }
 piece_served setting start s (Some piece.Packet) = packet_served setting start s
-piece_served setting start s (Some piece.Spoilt) = record { state = s; text = spoilt_text s.has_acks }
+piece_served setting start s (Some piece.Spoilt) = spoilt_served setting start s (is_taken_so s.has_acks s.reading.fits)
 piece_served setting start s (Some piece.Again) = record { state = s; text = s.last }
-piece_served setting start s (Some piece.Stop) =
-    record { state = record s { session = asked_to_stop s.session }; text = [] }
+piece_served setting start s (Some piece.Stop) = stop_served s (is_some s.session.going)
 
 abbrev pub byte_served : DebugSetting → List ℕ → ServerState → ℕ → Served
 byte_served setting start s byte =

@@ -2,8 +2,10 @@
 pub mod Changes
 pub mod Laws
 pub mod Looks
+pub mod MoreBreaks
 pub mod Requests
 pub mod Runs
 pub mod Session
 pub mod State
+pub mod Steps
 pub mod Stores

@@ -1,10 +1,10 @@
 //! What the bytes of the other side are answered with, one byte after another.
 
-ghost use Rattle.std.specs.Prelude.{◌≡◌, ◌++◌, true, [], List, IfErr, IfOk, OnOk, OnErr, codes};
+ghost use Rattle.std.specs.Prelude.{◌≡◌, ◌++◌, true, [], List, IfErr, IfOk, OnOk, OnErr, codes, is_some};
 ghost use Rattle.command_shell.specs.Error.{IsLineError};
 ghost use Rattle.profile.specs.Output.{AddsFront, Writes};
 ghost use Rattle.std.specs.Io.KnownBytes.{Appends};
-ghost use Rattle.gdb_server.specs.Serving.{ack_text, told_packets, text_packet, reply_packet, spoilt_text, keeps_acks as keeps_acks_told};
+ghost use Rattle.gdb_server.specs.Serving.{ack_text, told_packets, text_packet, reply_packet, spoilt_text, is_taken_so, keeps_acks as keeps_acks_told};
 ghost use Rattle.gdb_packets.specs.Requests.{gdb_request};
 ghost use Rattle.std.specs.Option.{option_map};
 
@@ -34,7 +34,8 @@ pub struct GdbServer {
 impl GdbServer {
     ghost use Rattle.image_loader.specs.Entries.{Entry};
     ghost use Rattle.gdb_server.specs.Server.{IsServed, server_state};
-    ghost use Rattle.gdb_server.specs.Serving.{byte_served, packet_served, bytes_served};
+    ghost use Rattle.gdb_server.specs.Serving.{byte_served, packet_served, bytes_served, spoilt_served, stop_served, unasked_served};
+    ghost use Rattle.gdb_server.specs.session.Runs.{stop_asked};
     ghost use Rattle.gdb_server.specs.session.Session.{gdb_state};
     ghost use Rattle.gdb_packets.specs.Reading.{reading_start};
 
@@ -118,13 +119,70 @@ impl GdbServer {
         match self.reader.take(byte) {
             None => Ok(()),
             Some(Piece::Packet) => self.take_packet(images, sink),
-            Some(Piece::Spoilt) => Ok(self.refuse(sink)?),
+            Some(Piece::Spoilt) => self.take_spoilt(images, sink),
             Some(Piece::Again) => Ok(push_all(sink, self.last.as_slice())?),
-            Some(Piece::Stop) => {
-                self.session.ask_to_stop();
-                Ok(())
-            }
+            Some(Piece::Stop) => self.take_stop(sink),
         }
+    }
+
+    // A packet that came spoilt is taken as it is where nobody asks for it again, unless it is too long.
+    fn take_spoilt<W: Sink>(&mut self, images: &mut Images, sink: &mut W) -> Result<(), RunError>
+        ensures told { OnOk result (IsServed (W.contents sink.old) (W.contents sink.new)
+            (server_state self.new images.new)
+            (spoilt_served self.old.session.debug.setting self.old.session.start.items
+            (server_state self.old images.old) (is_taken_so self.old.has_acks self.old.reader.fits))) }
+        ensures front { OnErr result (AddsFront (W.contents sink.old) (W.contents sink.new)
+            (spoilt_served self.old.session.debug.setting self.old.session.start.items
+            (server_state self.old images.old) (is_taken_so self.old.has_acks self.old.reader.fits)).text) }
+        ensures setting { self.new.session.debug.setting ≡ self.old.session.debug.setting }
+        ensures start { self.new.session.start.items ≡ self.old.session.start.items }
+        ensures errors { IfErr result IsLineError }
+        ensures same_flag { OnOk result (W.has_failed sink.new ≡ W.has_failed sink.old) }
+    {
+        if is_taken_so(self.has_acks, self.reader.is_whole()) {
+            self.take_packet(images, sink)
+        } else {
+            Ok(self.refuse(sink)?)
+        }
+    }
+
+    // The byte 3: a run that is under way stops at once.
+    fn take_stop<W: Sink>(&mut self, sink: &mut W) -> Result<(), RunError>
+        ensures told { (images : List Entry) → OnOk result
+            (IsServed (W.contents sink.old) (W.contents sink.new)
+            (server_state self.new images)
+            (stop_served (server_state self.old images)
+            (is_some (server_state self.old images).session.going))) }
+        ensures front { (images : List Entry) → OnErr result
+            (AddsFront (W.contents sink.old) (W.contents sink.new)
+            (stop_served (server_state self.old images)
+            (is_some (server_state self.old images).session.going)).text) }
+        ensures setting { self.new.session.debug.setting ≡ self.old.session.debug.setting }
+        ensures start { self.new.session.start.items ≡ self.old.session.start.items }
+        ensures errors { IfErr result IsLineError }
+        ensures same_flag { OnOk result (W.has_failed sink.new ≡ W.has_failed sink.old) }
+    {
+        if !self.session.is_running() {
+            return Ok(());
+        }
+        self.answer_stop()?;
+        Ok(push_all(sink, self.last.as_slice())?)
+    }
+
+    // Stops the run, and keeps the answer as it is written.
+    fn answer_stop(&mut self) -> Result<(), RunError>
+        ensures state { (images : List Entry) → OnOk result (server_state self.new images
+            ≡ (unasked_served (server_state self.old images)
+            (stop_asked (server_state self.old images).session)).state) }
+        ensures setting { self.new.session.debug.setting ≡ self.old.session.debug.setting }
+        ensures start { self.new.session.start.items ≡ self.old.session.start.items }
+        ensures errors { IfErr result IsLineError }
+    {
+        let answer = self.session.ask_to_stop()?;
+        let mut text = TextSink::new(self.alloc);
+        push_answer(self.alloc, &mut text, &answer)?;
+        self.last = text.into_bytes();
+        Ok(())
     }
 
     fn take_packet<W: Sink>(&mut self, images: &mut Images, sink: &mut W) -> Result<(), RunError>
@@ -191,6 +249,13 @@ impl GdbServer {
             push_all(sink, b"$E16#ac")
         }
     }
+}
+
+// Whether a packet that came spoilt is taken as it is.
+fn is_taken_so(has_acks: bool, is_whole: bool) -> bool
+    ensures { result ≡ is_taken_so has_acks is_whole }
+{
+    !has_acks && is_whole
 }
 
 // Whether `+` and `-` are sent after a request too.

@@ -3,10 +3,14 @@
 
 mod acting;
 mod changing;
+mod going;
 mod laws;
+mod lines;
 mod looking;
+mod more_breaks;
 mod running;
 mod session;
+mod stepping;
 mod storing;
 
 pub use gdb_machine::{GdbStop, Signal};
@@ -14,4 +18,4 @@ pub use laws::{
     looking_changes_nothing, looking_lines_leave_the_machine, registers_are_read,
     slices_are_one_run, writes_are_whole,
 };
-pub use session::{GdbAnswer, GdbSession, GdbSetting};
+pub use session::{GdbAnswer, GdbSession, GdbSetting, Going};

@@ -1,15 +1,17 @@
 -- Pieces of packets, read: ranges, points, stores, threads, actions and what calls came to.
-use Rattle.std.proofs.Common.{◌≡◌, inl, inr, ℕ, Bool, true, false, not, List, [], ◌∷◌, refl, ap, sym, subst, ◌∙◌}
+use Rattle.std.proofs.Common.{◌≡◌, inl, inr, ℕ, Bool, true, false, not, List, [], ◌∷◌, refl, ap, sym, subst, ◌∙◌, arith, length, ◌++◌}
 use Rattle.std.specs.Prelude.{Option, Some, None, is_some, ◌==◌, codes}
+use Rattle.std.proofs.lemmas.Option.{none-some}
 use Rattle.gdb_packets.specs.Digits.{digit_value}
 use Rattle.gdb_packets.specs.Numbers.{packet_number}
 use Rattle.gdb_packets.specs.Requests as request
-use Rattle.gdb_packets.specs.Requests.{GdbRequest, PacketParts, action_for_parts, action_for_thread, action_request, actions_in, actions_request, byte_range_of, host_answer_flagged, host_answer_in, host_answer_request, if_told, is_known_packet, is_thread, parts_around, point_kind, point_of_kind, point_request, range_of_both, range_of_parts, set_register_request, store_bytes_request, store_pairs_request}
+use Rattle.gdb_packets.specs.Requests.{GdbRequest, PacketParts, action_for_parts, action_for_thread, action_request, actions_in, actions_request, byte_range_of, host_answer_flagged, host_answer_in, host_answer_request, if_told, is_known_packet, is_thread, of_signal, parts_around, places_of_both, places_request, point_kind, point_of_kind, point_request, range_of_both, range_of_parts, set_register_request, store_bytes_request, store_pairs_request}
 use Rattle.gdb_packets.specs.declared.requests.ByteRange.{ByteRange}
+use Rattle.gdb_packets.specs.declared.requests.PlaceRange.{PlaceRange}
 use Rattle.gdb_packets.specs.declared.requests.PointKind.{PointKind}
 use Rattle.gdb_packets.specs.declared.requests.PointKind.TheVariants as point
-use Rattle.law_gdb_requests.specs.Grammar.{AreActions, HasNumber, Is, IsAction, IsAnyForThread, IsCallEnd, IsCallStopped, IsForThread, IsKind, IsNumber, IsPoint, IsRange, IsStoreText, IsThread, Parted}
-use Rattle.law_gdb_requests.proofs.PartLemmas.{Free, free_append, free_cons, number_free, or_true, parts_found, parts_none, some_free, thread_free}
+use Rattle.law_gdb_requests.specs.Grammar.{AreActions, Behind, HasNumber, Is, IsAction, IsAnyForThread, IsCallEnd, IsCallStopped, IsForThread, IsKind, IsNumber, IsPoint, IsRange, IsStoreText, IsThread, IsStepRange, Parted}
+use Rattle.law_gdb_requests.proofs.PartLemmas.{Free, free_append, free_cons, number_free, or_true, parted_long, parts_found, parts_none, some_free, thread_free}
 
 -- what parts a text in two kinds is read as
 parts_read : {First Second : List ℕ → Type 0} (separator : ℕ) (text : List ℕ) (p : Parted separator First Second text)
@@ -75,72 +77,101 @@ thread_read text (inr is) = rw is (or_true (is_some (packet_number (codes "-1"))
 
 -- ACTIONS
 
--- that a capital and a number are an action, and the small letter alone
-pub continue_read : (text : List ℕ) → IsAction 99 67 text → action_request text ≡ request.Continue
-continue_read text (inl is) = rw is refl
-continue_read text (inr b) = ap action_request b.whole ∙ by b.rest b.kind
+-- what a text of an action is read as
+pub action_read : (r : GdbRequest) (text : List ℕ) → IsAction r text → action_request text ≡ r
+action_read request.Continue text is = rw is refl
+action_read request.Step text is = rw is refl
+action_read (request.ContinueWith n) text b = ap action_request b.whole ∙ by b.rest b.kind
   where
-    by : (rest : List ℕ) → HasNumber rest → action_request (67 ∷ rest) ≡ request.Continue
-    by [] h = absurd (cc)
-    by (d ∷ ds) h = rw h refl
-
-pub step_read : (text : List ℕ) → IsAction 115 83 text → action_request text ≡ request.Step
-step_read text (inl is) = rw is refl
-step_read text (inr b) = ap action_request b.whole ∙ by b.rest b.kind
+    by : (rest : List ℕ) → IsNumber n rest → action_request (67 ∷ rest) ≡ request.ContinueWith n
+    by [] h = absurd (none-some n h)
+    by (d ∷ ds) h = ap (λ (o : Option ℕ). of_signal o request.ContinueWith) h
+action_read (request.StepWith n) text b = ap action_request b.whole ∙ by b.rest b.kind
   where
-    by : (rest : List ℕ) → HasNumber rest → action_request (83 ∷ rest) ≡ request.Step
-    by [] h = absurd (cc)
-    by (d ∷ ds) h = rw h refl
+    by : (rest : List ℕ) → IsNumber n rest → action_request (83 ∷ rest) ≡ request.StepWith n
+    by [] h = absurd (none-some n h)
+    by (d ∷ ds) h = ap (λ (o : Option ℕ). of_signal o request.StepWith) h
+action_read (request.StepRange places) text b = ap action_request b.whole ∙ by b.rest b.kind
+  where
+    by : (rest : List ℕ) → Parted 44 (IsNumber places.start) (IsNumber places.end) rest
+        → action_request (114 ∷ rest) ≡ request.StepRange places
+    by [] p =
+        let none : 0 ≡ length (p.before ++ (44 ∷ p.behind)) = ap length p.whole in
+        absurd (omega (arith, none, parted_long 44 p.before p.behind))
+    by (d ∷ ds) p =
+        ap places_request (parts_read 44 (d ∷ ds) p (number_free 44 places.start p.before refl p.first))
+        ∙ ap (λ (o : Option ℕ). places_of_both o (packet_number p.behind)) p.first
+        ∙ ap (λ (o : Option ℕ). places_of_both (Some places.start) o) p.second
+action_read other text none = absurd none
 
-action_free : (separator small capital : ℕ) (text : List ℕ) → digit_value separator ≡ None → not (small == separator) ≡ true
-    → not (capital == separator) ≡ true → IsAction small capital text → Free separator text
-action_free separator small capital text none one other (inl is) = rw is (free_cons separator small [] one refl)
-action_free separator small capital text none one other (inr b) =
-    subst (Free separator) (sym b.whole) (free_cons separator capital b.rest other (some_free separator b.rest none b.kind))
+-- NO TEXT OF AN ACTION HAS A SEPARATOR IN IT
 
-for_thread_read : (small capital : ℕ) (r : GdbRequest) → ((text : List ℕ) → IsAction small capital text → action_request text ≡ r)
-    → not (small == 58) ≡ true → not (capital == 58) ≡ true → (text : List ℕ) → IsForThread small capital text
-    → action_for_thread text ≡ r
-for_thread_read small capital r reads one other text (inl action) =
-    ap (λ (o : Option PacketParts). action_for_parts o text) (parts_none 58 text (action_free 58 small capital text refl one other action))
-    ∙ reads text action
-for_thread_read small capital r reads one other text (inr p) =
-    ap (λ (o : Option PacketParts). action_for_parts o text)
-    (parts_read 58 text p (action_free 58 small capital p.before refl one other p.first))
-    ∙ ap (λ (b : Bool). if_told b (action_request p.before)) (thread_read p.behind p.second) ∙ reads p.before p.first
+signalled_free : (separator letter n : ℕ) (text : List ℕ) → digit_value separator ≡ None → not (letter == separator) ≡ true
+    → Behind (letter ∷ []) (IsNumber n) text → Free separator text
+signalled_free separator letter n text none other b =
+    subst (Free separator) (sym b.whole) (free_cons separator letter b.rest other (number_free separator n b.rest none b.kind))
 
-for_thread_free : (small capital : ℕ) (text : List ℕ) → not (small == 59) ≡ true → not (capital == 59) ≡ true
-    → IsForThread small capital text → Free 59 text
-for_thread_free small capital text one other (inl action) = action_free 59 small capital text refl one other action
-for_thread_free small capital text one other (inr p) =
-    subst (Free 59) (sym p.whole) (free_append 59 p.before (58 ∷ p.behind) (action_free 59 small capital p.before refl one other p.first)
+within_free : (separator : ℕ) (places : PlaceRange) (text : List ℕ) → digit_value separator ≡ None → not (114 == separator) ≡ true
+    → not (44 == separator) ≡ true → IsStepRange places text → Free separator text
+within_free separator places text none letter comma b =
+    subst (Free separator) (sym b.whole) (free_cons separator 114 b.rest letter
+    (subst (Free separator) (sym b.kind.whole) (free_append separator b.kind.before (44 ∷ b.kind.behind)
+    (number_free separator places.start b.kind.before none b.kind.first)
+    (free_cons separator 44 b.kind.behind comma (number_free separator places.end b.kind.behind none b.kind.second)))))
+
+pub record Others (separator : ℕ) : Type 0 where
+  pub none : digit_value separator ≡ None
+  pub small_c : not (99 == separator) ≡ true
+  pub small_s : not (115 == separator) ≡ true
+  pub capital_c : not (67 == separator) ≡ true
+  pub capital_s : not (83 == separator) ≡ true
+  pub small_r : not (114 == separator) ≡ true
+  pub comma : not (44 == separator) ≡ true
+
+action_free : (separator : ℕ) (r : GdbRequest) (text : List ℕ) → Others separator → IsAction r text → Free separator text
+action_free separator request.Continue text o is = rw is (free_cons separator 99 [] o.small_c refl)
+action_free separator request.Step text o is = rw is (free_cons separator 115 [] o.small_s refl)
+action_free separator (request.ContinueWith n) text o b = signalled_free separator 67 n text o.none o.capital_c b
+action_free separator (request.StepWith n) text o b = signalled_free separator 83 n text o.none o.capital_s b
+action_free separator (request.StepRange places) text o b = within_free separator places text o.none o.small_r o.comma b
+action_free separator other text o none = absurd none
+
+colon : Others 58
+colon = record { none = refl; small_c = refl; small_s = refl; capital_c = refl; capital_s = refl; small_r = refl; comma = refl }
+
+semicolon : Others 59
+semicolon = record { none = refl; small_c = refl; small_s = refl; capital_c = refl; capital_s = refl; small_r = refl; comma = refl }
+
+for_thread_read : (r : GdbRequest) (text : List ℕ) → IsForThread (IsAction r) text → action_for_thread text ≡ r
+for_thread_read r text (inl action) =
+    ap (λ (o : Option PacketParts). action_for_parts o text) (parts_none 58 text (action_free 58 r text colon action))
+    ∙ action_read r text action
+for_thread_read r text (inr p) =
+    ap (λ (o : Option PacketParts). action_for_parts o text) (parts_read 58 text p (action_free 58 r p.before colon p.first))
+    ∙ ap (λ (b : Bool). if_told b (action_request p.before)) (thread_read p.behind p.second) ∙ action_read r p.before p.first
+
+for_thread_free : (r : GdbRequest) (text : List ℕ) → IsForThread (IsAction r) text → Free 59 text
+for_thread_free r text (inl action) = action_free 59 r text semicolon action
+for_thread_free r text (inr p) =
+    subst (Free 59) (sym p.whole) (free_append 59 p.before (58 ∷ p.behind) (action_free 59 r p.before semicolon p.first)
     (free_cons 59 58 p.behind refl (thread_free 59 p.behind refl refl p.second)))
 
-pub continue_for_thread : (text : List ℕ) → IsForThread 99 67 text → action_for_thread text ≡ request.Continue
-continue_for_thread = for_thread_read 99 67 request.Continue continue_read refl refl
-
-pub step_for_thread : (text : List ℕ) → IsForThread 115 83 text → action_for_thread text ≡ request.Step
-step_for_thread = for_thread_read 115 83 request.Step step_read refl refl
+-- a request that a text of an action asks for is a known one
+action_known : (r : GdbRequest) (text : List ℕ) → IsForThread (IsAction r) text → is_known_packet r ≡ true
+action_known request.Unknown text (inl none) = absurd none
+action_known request.Unknown text (inr p) = absurd p.first
+action_known other text is = refl
 
 any_known : (text : List ℕ) → IsAnyForThread text → is_known_packet (action_for_thread text) ≡ true
-any_known text (inl goes) = ap is_known_packet (continue_for_thread text goes)
-any_known text (inr steps) = ap is_known_packet (step_for_thread text steps)
+any_known text any = ap is_known_packet (for_thread_read any.action text any.for_thread) ∙ action_known any.action text any.for_thread
 
-actions_read : (small capital : ℕ) (r : GdbRequest) → ((text : List ℕ) → IsForThread small capital text → action_for_thread text ≡ r)
-    → not (small == 59) ≡ true → not (capital == 59) ≡ true → (text : List ℕ) → AreActions small capital text
-    → actions_request text ≡ r
-actions_read small capital r reads one other text (inl action) =
-    ap (λ (o : Option PacketParts). actions_in o text) (parts_none 59 text (for_thread_free small capital text one other action))
-    ∙ reads text action
-actions_read small capital r reads one other text (inr p) =
-    ap (λ (o : Option PacketParts). actions_in o text) (parts_read 59 text p (for_thread_free small capital p.before one other p.first))
-    ∙ ap (λ (b : Bool). if_told b (action_for_thread p.before)) (any_known p.behind p.second) ∙ reads p.before p.first
-
-pub continues_read : (text : List ℕ) → AreActions 99 67 text → actions_request text ≡ request.Continue
-continues_read = actions_read 99 67 request.Continue continue_for_thread refl refl
-
-pub steps_read : (text : List ℕ) → AreActions 115 83 text → actions_request text ≡ request.Step
-steps_read = actions_read 115 83 request.Step step_for_thread refl refl
+pub actions_read : (r : GdbRequest) (text : List ℕ) → AreActions (IsAction r) text → actions_request text ≡ r
+actions_read r text (inl action) =
+    ap (λ (o : Option PacketParts). actions_in o text) (parts_none 59 text (for_thread_free r text action))
+    ∙ for_thread_read r text action
+actions_read r text (inr p) =
+    ap (λ (o : Option PacketParts). actions_in o text) (parts_read 59 text p (for_thread_free r p.before p.first))
+    ∙ ap (λ (b : Bool). if_told b (action_for_thread p.before)) (any_known p.behind p.second) ∙ for_thread_read r p.before p.first
 
 -- WHAT CALLS CAME TO
 

@@ -2,12 +2,12 @@
 use Rattle.std.proofs.Common.{◌≡◌, ◌<◌, ◌⊎◌, inl, inr, ℕ, Bool, true, false, List, [], ◌∷◌, ◌++◌, length, refl, ap, sym, subst, ◌∙◌, arith}
 use Rattle.std.specs.Prelude.{Option, None, codes, take}
 use Rattle.gdb_packets.specs.Requests as request
-use Rattle.gdb_packets.specs.Requests.{GdbRequest, about_attachment, about_libraries, about_process, about_session, about_target, actions_or, attachment_or, begins_word, byte_range_of, if_told, kill_or_run, lettered_request, libraries_or, line_or_description, of_range, opened_request, packet_request, register_request, supported_or, whole_word_request, word_request}
+use Rattle.gdb_packets.specs.Requests.{GdbRequest, about_attachment, about_libraries, about_process, about_session, about_target, actions_or, attachment_or, begins_word, byte_range_of, if_told, kill_or_run, lettered_request, libraries_or, line_or_description, of_range, of_signal, opened_request, packet_request, register_request, supported_or, whole_word_request, word_request}
 use Rattle.gdb_packets.specs.declared.requests.ByteRange.{ByteRange}
 use Rattle.std.specs.Str.{bytes_eq}
-use Rattle.law_gdb_requests.specs.Grammar.{AsksFor, Behind, HasNumber, Is, IsCallEnd, IsGoing, IsNumber, IsRange, IsThread}
+use Rattle.law_gdb_requests.specs.Grammar.{AsksFor, Behind, HasNumber, Is, IsCallEnd, IsGoing, IsNumber, IsRange, IsSignalled, IsThread}
 use Rattle.law_gdb_requests.proofs.PartLemmas.{behind_found, behind_missing, number_long, parted_long, some_long, thread_long}
-use Rattle.law_gdb_requests.proofs.PieceLemmas.{call_end_read, call_stopped_read, continues_read, point_read, range_read, set_register_read, steps_read, store_bytes_read, store_pairs_read, thread_read}
+use Rattle.law_gdb_requests.proofs.PieceLemmas.{actions_read, call_end_read, call_stopped_read, point_read, range_read, set_register_read, store_bytes_read, store_pairs_read, thread_read}
 
 -- PACKETS OF A LETTER AND WHAT FOLLOWS
 
@@ -185,15 +185,28 @@ lone letter = refl
 
 -- ALL OF THEM
 
-goes : (text : List ℕ) → IsGoing 99 67 text → packet_request text ≡ request.Continue
-goes text (inl (inl is)) = alone text (99 ∷ []) request.Continue is (lone 99)
-goes text (inl (inr b)) = behind_letter 67 HasNumber text b (some_long b.rest b.kind) refl ∙ ap (λ (n : Bool). if_told n request.Continue) b.kind
-goes text (inr b) = ap packet_request b.whole ∙ actions_opened b.rest ∙ continues_read b.rest b.kind
+going : (r : GdbRequest) (text : List ℕ) → IsGoing r text → packet_request text ≡ r
+going r text b = ap packet_request b.whole ∙ actions_opened b.rest ∙ actions_read r b.rest b.kind
 
-steps : (text : List ℕ) → IsGoing 115 83 text → packet_request text ≡ request.Step
-steps text (inl (inl is)) = alone text (115 ∷ []) request.Step is (lone 115)
-steps text (inl (inr b)) = behind_letter 83 HasNumber text b (some_long b.rest b.kind) refl ∙ ap (λ (n : Bool). if_told n request.Step) b.kind
-steps text (inr b) = ap packet_request b.whole ∙ actions_opened b.rest ∙ steps_read b.rest b.kind
+goes_with : (n : ℕ) (text : List ℕ) → IsSignalled 67 n text ⊎ IsGoing (request.ContinueWith n) text
+    → packet_request text ≡ request.ContinueWith n
+goes_with n text (inl b) = behind_letter 67 (IsNumber n) text b (number_long n b.rest b.kind) refl
+    ∙ ap (λ (o : Option ℕ). of_signal o request.ContinueWith) b.kind
+goes_with n text (inr going_on) = going (request.ContinueWith n) text going_on
+
+steps_with : (n : ℕ) (text : List ℕ) → IsSignalled 83 n text ⊎ IsGoing (request.StepWith n) text
+    → packet_request text ≡ request.StepWith n
+steps_with n text (inl b) = behind_letter 83 (IsNumber n) text b (number_long n b.rest b.kind) refl
+    ∙ ap (λ (o : Option ℕ). of_signal o request.StepWith) b.kind
+steps_with n text (inr going_on) = going (request.StepWith n) text going_on
+
+goes : (text : List ℕ) → Is (codes "c") text ⊎ IsGoing request.Continue text → packet_request text ≡ request.Continue
+goes text (inl is) = alone text (99 ∷ []) request.Continue is (lone 99)
+goes text (inr going_on) = going request.Continue text going_on
+
+steps : (text : List ℕ) → Is (codes "s") text ⊎ IsGoing request.Step text → packet_request text ≡ request.Step
+steps text (inl is) = alone text (115 ∷ []) request.Step is (lone 115)
+steps text (inr going_on) = going request.Step text going_on
 
 about_thread : (text : List ℕ) → (Behind (codes "Hg") IsThread text ⊎ Behind (codes "Hc") IsThread text) ⊎ Behind (codes "T") IsThread text
     → packet_request text ≡ request.Thread
@@ -245,7 +258,10 @@ reads (request.StoreBytes range bytes) text b =
     ∙ lettered 88 (b.kind.before ++ (58 ∷ b.kind.behind)) (parted_long 58 b.kind.before b.kind.behind) refl
     ∙ ap (λ (x : List ℕ). request.store_bytes_request (request.parts_around 58 x)) (sym b.kind.whole) ∙ store_bytes_read range bytes b.rest b.kind
 reads request.Continue text asks = goes text asks
+reads (request.ContinueWith signal) text asks = goes_with signal text asks
 reads request.Step text asks = steps text asks
+reads (request.StepWith signal) text asks = steps_with signal text asks
+reads (request.StepRange places) text asks = going (request.StepRange places) text asks
 reads request.Ways text is = alone text (codes "vCont?") request.Ways is ways_read
 reads (request.AddPoint kind range) text b =
     ap packet_request (b.whole ∙ ap (λ (x : List ℕ). 90 ∷ x) b.kind.whole)

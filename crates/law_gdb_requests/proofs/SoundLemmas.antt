@@ -6,7 +6,7 @@ use Rattle.std.specs.Prelude.{Option, Some, None, is_some, ◌==◌, codes, if�
 use Rattle.std.specs.Str.{bytes_eq}
 use Rattle.gdb_packets.specs.Numbers.{packet_number}
 use Rattle.gdb_packets.specs.Requests as request
-use Rattle.gdb_packets.specs.Requests.{GdbRequest, PacketParts, byte_range_of, control_request, first_told, host_answer_flagged, host_answer_in, host_answer_request, if_told, is_process, is_thread, lettered_request, lone_request, of_range, parts_around, point_kind, point_of_kind, point_request, range_of_both, range_of_parts, register_request, set_register_numbered, set_register_request, store_bytes_request, store_pairs_request, thread_request}
+use Rattle.gdb_packets.specs.Requests.{GdbRequest, PacketParts, byte_range_of, control_request, first_told, host_answer_flagged, host_answer_in, host_answer_request, if_told, is_process, is_thread, lettered_request, lone_request, of_range, of_signal, parts_around, point_kind, point_of_kind, point_request, range_of_both, range_of_parts, register_request, set_register_numbered, set_register_request, store_bytes_request, store_pairs_request, thread_request}
 use Rattle.gdb_packets.specs.declared.requests.ByteRange.{ByteRange}
 use Rattle.gdb_packets.specs.declared.requests.PointKind.{PointKind}
 use Rattle.gdb_packets.specs.declared.requests.PointKind.TheVariants as point
@@ -48,8 +48,8 @@ pub lone_sound : (letter : ℕ) → Sound (lone_request letter) (letter ∷ [])
 lone_sound letter =
     if_sound (letter == 63) request.Reason _ _ (λ e. record { asks = single letter 63 e })
     (if_sound (letter == 103) request.Registers _ _ (λ e. record { asks = single letter 103 e })
-    (if_sound (letter == 99) request.Continue _ _ (λ e. record { asks = inl (inl (single letter 99 e)) })
-    (if_sound (letter == 115) request.Step _ _ (λ e. record { asks = inl (inl (single letter 115 e)) })
+    (if_sound (letter == 99) request.Continue _ _ (λ e. record { asks = inl (single letter 99 e) })
+    (if_sound (letter == 115) request.Step _ _ (λ e. record { asks = inl (single letter 115 e) })
     (if_sound (letter == 107) request.Kill _ _ (λ e. record { asks = single letter 107 e })
     (if_sound (letter == 68) request.Detach _ _ (λ e. record { asks = inl (single letter 68 e) })
     (if_sound (letter == 33) request.Extended _ _ (λ e. record { asks = single letter 33 e }) (unknown _)))))))
@@ -250,14 +250,22 @@ detach_sound letter next rest is = told_sound (is_process (next ∷ rest)) reque
       });
     })
 
+signal_sound : (rest : List ℕ) (asked : ℕ → GdbRequest) (text : List ℕ) → ((n : ℕ) → packet_number rest ≡ Some n → Sound (asked n) text)
+    → Sound (of_signal (packet_number rest) asked) text
+signal_sound rest asked text some = by (packet_number rest) refl
+  where
+    by : (o : Option ℕ) → packet_number rest ≡ o → Sound (of_signal o asked) text
+    by None e = unknown text
+    by (Some n) e = some n e
+
 control_sound : (letter next : ℕ) (rest : List ℕ) → Sound (control_request letter (next ∷ rest)) (letter ∷ next ∷ rest)
 control_sound letter next rest =
     let text = next ∷ rest in
-    if_sound (letter == 67) _ _ _ (λ e. told_sound (is_some (packet_number text)) request.Continue (letter ∷ text) (λ number. record {
-      asks = inl (inr (record { rest = text; whole = begins letter 67 text e; kind = number }));
+    if_sound (letter == 67) _ _ _ (λ e. signal_sound text request.ContinueWith (letter ∷ text) (λ n number. record {
+      asks = inl (record { rest = text; whole = begins letter 67 text e; kind = number });
     }))
-    (if_sound (letter == 83) _ _ _ (λ e. told_sound (is_some (packet_number text)) request.Step (letter ∷ text) (λ number. record {
-      asks = inl (inr (record { rest = text; whole = begins letter 83 text e; kind = number }));
+    (if_sound (letter == 83) _ _ _ (λ e. signal_sound text request.StepWith (letter ∷ text) (λ n number. record {
+      asks = inl (record { rest = text; whole = begins letter 83 text e; kind = number });
     }))
     (if_sound (letter == 72) _ _ _ (λ e. about_thread_sound letter next rest e)
     (if_sound (letter == 84) _ _ _ (λ e. told_sound (is_thread text) request.Thread (letter ∷ text) (λ thread. record {

@@ -6,6 +6,7 @@ use Rattle.gdb_packets.specs.Numbers.{packet_number}
 use Rattle.gdb_packets.specs.Requests as request
 use Rattle.gdb_packets.specs.Requests.{GdbRequest}
 use Rattle.gdb_packets.specs.declared.requests.ByteRange.{ByteRange}
+use Rattle.gdb_packets.specs.declared.requests.PlaceRange.{PlaceRange}
 use Rattle.gdb_packets.specs.declared.requests.PointKind.{PointKind}
 use Rattle.gdb_packets.specs.declared.requests.PointKind.TheVariants as point
 
@@ -61,27 +62,38 @@ IsPoint kind range = Parted 44 (IsKind kind) (IsRange range)
 abbrev pub IsStoreText : ByteRange → List ℕ → List ℕ → Type 0
 IsStoreText range stored = Parted 58 (IsRange range) (Is stored)
 
--- `c` or `s`, or the capital and a signal
-abbrev pub IsAction : ℕ → ℕ → List ℕ → Type 0
-IsAction small capital text = Is (small ∷ []) text ⊎ Behind (capital ∷ []) HasNumber text
+-- a letter and a signal behind it
+abbrev pub IsSignalled : ℕ → ℕ → List ℕ → Type 0
+IsSignalled letter signal = Behind (letter ∷ []) (IsNumber signal)
 
--- an action, and `:` with a thread or not
-abbrev pub IsForThread : ℕ → ℕ → List ℕ → Type 0
-IsForThread small capital text =
-    IsAction small capital text ⊎ Parted 58 (IsAction small capital) IsThread text
+-- `r`, and behind it `a,b`: from the one address up to the other
+abbrev pub IsStepRange : PlaceRange → List ℕ → Type 0
+IsStepRange places = Behind (codes "r") (Parted 44 (IsNumber places.start) (IsNumber places.end))
 
-abbrev pub IsAnyForThread : List ℕ → Type 0
-IsAnyForThread text = IsForThread 99 67 text ⊎ IsForThread 115 83 text
+-- the texts of an action, and `:` with a thread or not
+abbrev pub IsForThread : (List ℕ → Type 0) → List ℕ → Type 0
+IsForThread Action text = Action text ⊎ Parted 58 Action IsThread text
+
+-- what asks for an action
+abbrev pub IsAction : GdbRequest → List ℕ → Type 0
+IsAction request.Continue text = Is (codes "c") text
+IsAction request.Step text = Is (codes "s") text
+IsAction (request.ContinueWith signal) text = IsSignalled 67 signal text
+IsAction (request.StepWith signal) text = IsSignalled 83 signal text
+IsAction (request.StepRange places) text = IsStepRange places text
+IsAction other text = ⊥
+
+pub record IsAnyForThread (text : List ℕ) : Type 0 where
+  pub action : GdbRequest
+  pub for_thread : IsForThread (IsAction action) text
 
 -- one action, or two, of which the first tells what the one thread does
-abbrev pub AreActions : ℕ → ℕ → List ℕ → Type 0
-AreActions small capital text =
-    IsForThread small capital text ⊎ Parted 59 (IsForThread small capital) IsAnyForThread text
+abbrev pub AreActions : (List ℕ → Type 0) → List ℕ → Type 0
+AreActions Action text = IsForThread Action text ⊎ Parted 59 (IsForThread Action) IsAnyForThread text
 
--- an action as a packet of its own, or behind `vCont;`
-abbrev pub IsGoing : ℕ → ℕ → List ℕ → Type 0
-IsGoing small capital text =
-    IsAction small capital text ⊎ Behind (codes "vCont;") (AreActions small capital) text
+-- an action behind `vCont;`
+abbrev pub IsGoing : GdbRequest → List ℕ → Type 0
+IsGoing action = Behind (codes "vCont;") (AreActions (IsAction action))
 
 -- what a call came to, and behind a comma an error's number
 abbrev pub IsCallEnd : List ℕ → Type 0
@@ -106,8 +118,11 @@ AsksFor (request.SetRegister n pairs) text = Behind (codes "P") (Parted 61 (IsNu
 AsksFor (request.Memory range) text = Behind (codes "m") (IsRange range) text
 AsksFor (request.StorePairs range pairs) text = Behind (codes "M") (IsStoreText range pairs) text
 AsksFor (request.StoreBytes range bytes) text = Behind (codes "X") (IsStoreText range bytes) text
-AsksFor request.Continue text = IsGoing 99 67 text
-AsksFor request.Step text = IsGoing 115 83 text
+AsksFor request.Continue text = Is (codes "c") text ⊎ IsGoing request.Continue text
+AsksFor (request.ContinueWith signal) text = IsSignalled 67 signal text ⊎ IsGoing (request.ContinueWith signal) text
+AsksFor request.Step text = Is (codes "s") text ⊎ IsGoing request.Step text
+AsksFor (request.StepWith signal) text = IsSignalled 83 signal text ⊎ IsGoing (request.StepWith signal) text
+AsksFor (request.StepRange places) text = IsGoing (request.StepRange places) text
 AsksFor request.Ways text = Is (codes "vCont?") text
 AsksFor (request.AddPoint kind range) text = Behind (codes "Z") (IsPoint kind range) text
 AsksFor (request.RemovePoint kind range) text = Behind (codes "z") (IsPoint kind range) text

@@ -6,6 +6,7 @@ use Rattle.command_shell.specs.declared.error.RunError.{RunError}
 use Rattle.hex.specs.declared.error.FromHexError.{FromHexError}
 use Rattle.gdb_machine.specs.Changes.{register_write}
 use Rattle.gdb_packets.specs.Requests.{gdb_request}
+use Rattle.gdb_packets.specs.declared.requests.PlaceRange.{PlaceRange}
 use Rattle.gdb_packets.specs.declared.requests.Request.{Request}
 use Rattle.gdb_packets.specs.declared.requests.Request.TheVariants as asked
 use Rattle.gdb_server.specs.session.Changes.{write_wanted}
@@ -34,37 +35,41 @@ answer_known now (Err e) reply told none packet is = tt
 
 -- a request that none of the calls of its own answers is a change
 pub other_act : (setting : DebugSetting) (start : List ℕ) (g : GdbState) (request : Request)
-    → (request ≡ asked.Continue → ⊥) → (request ≡ asked.Step → ⊥) → ((asks : Bool) → request ≡ asked.HostAnswer asks → ⊥)
+    → (request ≡ asked.Continue → ⊥) → ((n : ℕ) → request ≡ asked.ContinueWith n → ⊥) → (request ≡ asked.Step → ⊥)
+    → ((n : ℕ) → request ≡ asked.StepWith n → ⊥) → ((places : PlaceRange) → request ≡ asked.StepRange places → ⊥) → ((asks : Bool) → request ≡ asked.HostAnswer asks → ⊥)
     → ((pairs : Bor (List ℕ)) → request ≡ asked.Line pairs → ⊥) → (request ≡ asked.RunProgram → ⊥) → (request ≡ asked.Restart → ⊥)
     → gdb_change_told g (gdb_request request) ≡ act_told setting start g (gdb_request request)
-other_act setting start g asked.Reason c s h l p r = refl
-other_act setting start g asked.Registers c s h l p r = refl
-other_act setting start g (asked.SetRegisters pairs) c s h l p r = refl
-other_act setting start g (asked.Register n) c s h l p r = refl
-other_act setting start g (asked.SetRegister n pairs) c s h l p r = refl
-other_act setting start g (asked.Memory range) c s h l p r = refl
-other_act setting start g (asked.StorePairs range pairs) c s h l p r = refl
-other_act setting start g (asked.StoreBytes range bytes) c s h l p r = refl
-other_act setting start g asked.Continue c s h l p r = absurd (c refl)
-other_act setting start g asked.Step c s h l p r = absurd (s refl)
-other_act setting start g asked.Ways c s h l p r = refl
-other_act setting start g (asked.AddPoint kind range) c s h l p r = refl
-other_act setting start g (asked.RemovePoint kind range) c s h l p r = refl
-other_act setting start g asked.Supported c s h l p r = refl
-other_act setting start g asked.NoAcks c s h l p r = refl
-other_act setting start g (asked.Description range) c s h l p r = refl
-other_act setting start g (asked.Libraries range) c s h l p r = refl
-other_act setting start g asked.Thread c s h l p r = refl
-other_act setting start g asked.IsAttached c s h l p r = refl
-other_act setting start g asked.CurrentThread c s h l p r = refl
-other_act setting start g asked.FirstThreads c s h l p r = refl
-other_act setting start g asked.MoreThreads c s h l p r = refl
-other_act setting start g (asked.Line pairs) c s h l p r = absurd (l pairs refl)
-other_act setting start g (asked.HostAnswer asks) c s h l p r = absurd (h asks refl)
-other_act setting start g asked.Detach c s h l p r = refl
-other_act setting start g asked.Kill c s h l p r = refl
-other_act setting start g asked.KillProgram c s h l p r = refl
-other_act setting start g asked.Extended c s h l p r = refl
-other_act setting start g asked.Restart c s h l p r = absurd (r refl)
-other_act setting start g asked.RunProgram c s h l p r = absurd (p refl)
-other_act setting start g asked.Unknown c s h l p r = refl
+other_act setting start g asked.Reason c cw s sw w h l p r = refl
+other_act setting start g asked.Registers c cw s sw w h l p r = refl
+other_act setting start g (asked.SetRegisters pairs) c cw s sw w h l p r = refl
+other_act setting start g (asked.Register n) c cw s sw w h l p r = refl
+other_act setting start g (asked.SetRegister n pairs) c cw s sw w h l p r = refl
+other_act setting start g (asked.Memory range) c cw s sw w h l p r = refl
+other_act setting start g (asked.StorePairs range pairs) c cw s sw w h l p r = refl
+other_act setting start g (asked.StoreBytes range bytes) c cw s sw w h l p r = refl
+other_act setting start g asked.Continue c cw s sw w h l p r = absurd (c refl)
+other_act setting start g (asked.ContinueWith n) c cw s sw w h l p r = absurd (cw n refl)
+other_act setting start g asked.Step c cw s sw w h l p r = absurd (s refl)
+other_act setting start g (asked.StepWith n) c cw s sw w h l p r = absurd (sw n refl)
+other_act setting start g (asked.StepRange places) c cw s sw w h l p r = absurd (w places refl)
+other_act setting start g asked.Ways c cw s sw w h l p r = refl
+other_act setting start g (asked.AddPoint kind range) c cw s sw w h l p r = refl
+other_act setting start g (asked.RemovePoint kind range) c cw s sw w h l p r = refl
+other_act setting start g asked.Supported c cw s sw w h l p r = refl
+other_act setting start g asked.NoAcks c cw s sw w h l p r = refl
+other_act setting start g (asked.Description range) c cw s sw w h l p r = refl
+other_act setting start g (asked.Libraries range) c cw s sw w h l p r = refl
+other_act setting start g asked.Thread c cw s sw w h l p r = refl
+other_act setting start g asked.IsAttached c cw s sw w h l p r = refl
+other_act setting start g asked.CurrentThread c cw s sw w h l p r = refl
+other_act setting start g asked.FirstThreads c cw s sw w h l p r = refl
+other_act setting start g asked.MoreThreads c cw s sw w h l p r = refl
+other_act setting start g (asked.Line pairs) c cw s sw w h l p r = absurd (l pairs refl)
+other_act setting start g (asked.HostAnswer asks) c cw s sw w h l p r = absurd (h asks refl)
+other_act setting start g asked.Detach c cw s sw w h l p r = refl
+other_act setting start g asked.Kill c cw s sw w h l p r = refl
+other_act setting start g asked.KillProgram c cw s sw w h l p r = refl
+other_act setting start g asked.Extended c cw s sw w h l p r = refl
+other_act setting start g asked.Restart c cw s sw w h l p r = absurd (r refl)
+other_act setting start g asked.RunProgram c cw s sw w h l p r = absurd (p refl)
+other_act setting start g asked.Unknown c cw s sw w h l p r = refl

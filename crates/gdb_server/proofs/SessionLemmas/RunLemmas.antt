@@ -1,120 +1,47 @@
--- How steps that are taken one by one go on and end, and what slices, single steps and stops come to.
-use Rattle.std.proofs.Common.{◌≡◌, ◌<◌, ◌-◌, ℕ, suc, Bool, true, false, ◌&&◌, ◌||◌, List, [], ◌∷◌, refl, ap, subst, sym, ◌∙◌, arith}
-use Rattle.std.specs.Prelude.{Option, Some, None, codes, nat_lt, min, option_map, if◌then◌else◌}
+-- What slices, single steps, stops and lines come to.
+use Rattle.std.proofs.Common.{◌≡◌, ℕ, Bool, true, false, ◌&&◌, List, [], refl, ap, subst, sym, ◌∙◌}
+use Rattle.std.specs.Prelude.{Option, Some, None, Result, IfOk, codes, nat_lt, option_map, if◌then◌else◌}
 use Rattle.std.specs.Str.Lines.{lines}
+use Rattle.command_shell.specs.declared.error.RunError.{RunError}
+use Rattle.profile.specs.declared.fault.Fault.{Fault}
+use Rattle.profile.specs.declared.stop.Stop.{Stop}
+use Rattle.profile.specs.declared.stop.Stop.TheVariants as stop
+use Rattle.command_shell.specs.MachineState.{stop_of}
 use Rattle.debug_session.specs.DebugScript.{debug_line_told, debug_lines_told}
 use Rattle.debug_session.specs.DebugState.{DebugAnswered, DebugState, IsDebugged}
 use Rattle.debug_session.specs.declared.session.DebugSetting.{DebugSetting}
-use Rattle.command_shell.specs.Stepping.{IsAfterRun}
-use Rattle.gdb_machine.specs.Watches.{watched_bytes, first_changed}
 use Rattle.gdb_machine.specs.declared.stops.GdbStop.{GdbStop}
-use Rattle.gdb_packets.specs.declared.requests.ByteRange.{ByteRange}
-use Rattle.profile.specs.declared.stop.Stop.{Stop}
-use Rattle.gdb_server.specs.session.Runs.{after_begin, begin_told, debug_anew, further_told, gdb_step_done, gdb_stop_told, has_other_libraries, host_answered, library_stop_or, line_decoded, slice_steps, slice_told, steps_watching, stop_after_step, with_debug, without_quit, StepsTaken, steps_further, none_taken, printed_before, script_steps, watched_further, watched_steps}
-use Rattle.gdb_server.specs.session.Session.{IsAfterSteps, IsGdbAnswered}
-use Rattle.gdb_server.specs.session.State.{GdbAnswered, GdbState, no_reply, packet_reply, with_libraries_told, with_script}
-use Rattle.gdb_server.specs.declared.session.session.GdbAnswer.{GdbAnswer}
-use Rattle.command_shell.specs.State.{ScriptState}
 use Rattle.gdb_machine.specs.declared.stops.GdbStop.TheVariants as reason
-use Rattle.gdb_machine.specs.declared.watches.SeenByte.{SeenByte}
-
-one_more : (seen : List SeenByte) (left : ℕ) (s : ScriptState) → watched_steps seen (suc left) s
-    ≡ watched_further (script_steps s 1) (first_changed (script_steps s 1).script.machine.store.bytes seen) (watched_steps seen left)
-unfolding watched_steps
-one_more seen left s = refl
-
-pub next_step : (seen : List SeenByte) (left : ℕ) (s : ScriptState) → 0 < left → watched_steps seen left s
-    ≡ watched_further (script_steps s 1) (first_changed (script_steps s 1).script.machine.store.bytes seen) (watched_steps seen (left - 1))
-next_step seen left s some =
-    let split : left ≡ suc (left - 1) = omega arith in
-    ap (λ (n : ℕ). watched_steps seen n s) split ∙ one_more seen (left - 1) s
-
-pub no_step : (seen : List SeenByte) (left : ℕ) (s : ScriptState) → left ≡ 0 → watched_steps seen left s ≡ none_taken s
-unfolding watched_steps
-no_step seen left s e = rw e refl
-
--- a byte that is watched has changed
-pub step_changed : (seen : List SeenByte) (left address : ℕ) (s : ScriptState) → 0 < left
-    → first_changed (script_steps s 1).script.machine.store.bytes seen ≡ Some address
-    → watched_steps seen left s ≡ record (script_steps s 1) { stop = reason.Watched address }
-step_changed seen left address s some changed =
-    next_step seen left s some
-    ∙ ap (λ (o : Option ℕ). watched_further (script_steps s 1) o (watched_steps seen (left - 1))) changed
-
--- something else ends the steps
-pub step_ended : (seen : List SeenByte) (left : ℕ) (s : ScriptState) → 0 < left
-    → first_changed (script_steps s 1).script.machine.store.bytes seen ≡ None → steps_further (script_steps s 1).stop ≡ false
-    → watched_steps seen left s ≡ script_steps s 1
-step_ended seen left s some same ends =
-    next_step seen left s some
-    ∙ ap (λ (o : Option ℕ). watched_further (script_steps s 1) o (watched_steps seen (left - 1))) same
-    ∙ rw ends refl
-
--- they go on
-pub step_more : (seen : List SeenByte) (left : ℕ) (s : ScriptState) → 0 < left
-    → first_changed (script_steps s 1).script.machine.store.bytes seen ≡ None → steps_further (script_steps s 1).stop ≡ true
-    → watched_steps seen left s ≡ printed_before (script_steps s 1).printed (watched_steps seen (left - 1) (script_steps s 1).script)
-step_more seen left s some same goes =
-    next_step seen left s some
-    ∙ ap (λ (o : Option ℕ). watched_further (script_steps s 1) o (watched_steps seen (left - 1))) same
-    ∙ rw goes refl
-
-pub ruleset watched_rules = (no_step, step_changed, step_ended, step_more)
-
--- no byte is watched
-pub unwatched : (watches : List ByteRange) (s : ScriptState) (count : ℕ) → watches ≡ [] → steps_watching watches s count ≡ script_steps s count
-unwatched watches s count none = ap (λ (w : List ByteRange). steps_watching w s count) none
-
-pub watched : (watches : List ByteRange) (s : ScriptState) (count : ℕ) → (watches ≡ [] → ⊥)
-    → steps_watching watches s count ≡ watched_steps (watched_bytes s.machine.store.bytes watches) count s
-watched [] s count some = absurd (some refl)
-watched (w ∷ ws) s count some = refl
-
--- steps without a look at memory between them
-pub steps_at_once : (g now : GdbState) (before after : List ℕ) (count taken : ℕ) (end : Stop)
-    → now ≡ with_script g now.debug.script → g.watches ≡ []
-    → IsAfterRun g.debug.script (min count g.debug.script.left) now.debug.script (Some before) (Some after) taken end
-    → IsAfterSteps g now before after (reason.Ran end) (steps_watching g.watches g.debug.script count)
-steps_at_once g now before after count taken end others none ran =
-    subst (λ (t : StepsTaken). IsAfterSteps g now before after (reason.Ran end) t)
-    (sym (unwatched g.watches g.debug.script count none)) (record {
-      state = others ∙ ap (with_script g) ran.state;
-      text = ran.text;
-      reason = ap (λ (e : Stop). reason.Ran e) ran.stop;
-    })
-
-pub steps_with_looks : (g now : GdbState) (before after : List ℕ) (count : ℕ) (end : GdbStop) → (g.watches ≡ [] → ⊥)
-    → IsAfterSteps g now before after end (watched_steps (watched_bytes g.debug.script.machine.store.bytes g.watches) count g.debug.script)
-    → IsAfterSteps g now before after end (steps_watching g.watches g.debug.script count)
-steps_with_looks g now before after count end some done =
-    subst (λ (t : StepsTaken). IsAfterSteps g now before after end t) (sym (watched g.watches g.debug.script count some)) done
-
-taken_here : (g now : GdbState) (text : List ℕ) (end : GdbStop) (t : StepsTaken) → IsAfterSteps g now [] text end t
-    → (text ≡ t.printed) × (now.debug.script ≡ t.script)
-taken_here g now text end t done = (done.text, ap (λ (s : GdbState). s.debug.script) done.state)
+use Rattle.gdb_server.specs.declared.session.session.Going.{Going}
+use Rattle.gdb_server.specs.declared.session.session.Going.TheVariants as going
+use Rattle.gdb_server.specs.session.Runs.{after_begin, asking, awake_told, begin_told, break_here, debug_anew, fault_told, first_slice_told, gdb_step_told, gdb_stop_told, going_told, goes_on_if, halt_told, halted_text, has_break_due, host_answered, line_decoded, slice_steps, slice_told, step_taken, stop_after_step, stop_asked, stop_told_with, stops_if, unless_halted_before, unless_taken, with_debug, with_whole_budget, without_quit}
+use Rattle.gdb_server.specs.session.Session.{IsAfterSteps, IsGdbAnswered}
+use Rattle.gdb_server.specs.session.State.{GdbAnswered, GdbState, no_reply, packet_reply, with_script}
+use Rattle.gdb_server.specs.session.Steps.{StepsTaken, gdb_steps, is_other_list, steps_further}
+use Rattle.gdb_server.specs.declared.session.session.GdbAnswer.{GdbAnswer}
 
 -- a slice after which the other side is asked, and one that ends the run
-pub slice_asks : (g now : GdbState) (text : List ℕ) (end : GdbStop)
-    → IsAfterSteps g now [] text end (steps_watching g.watches g.debug.script slice_steps)
-    → steps_further end && nat_lt 0 now.debug.script.left ≡ true → further_told now text ≡ slice_told g
-slice_asks g now text end done goes =
-    let t : StepsTaken = steps_watching g.watches g.debug.script slice_steps in
+pub slice_asks : (g now : GdbState) (goes : Going) (text : List ℕ) (end : GdbStop)
+    → IsAfterSteps g now [] text end (gdb_steps g goes slice_steps)
+    → steps_further end && nat_lt 0 now.debug.script.left ≡ true → asking now goes text ≡ slice_told g goes
+slice_asks g now goes text end done further =
+    let t : StepsTaken = gdb_steps g goes slice_steps in
     let goes_there : steps_further t.stop && nat_lt 0 t.script.left ≡ true =
     subst (λ (e : GdbStop). steps_further e && nat_lt 0 t.script.left ≡ true) done.reason
-    (subst (λ (s : GdbState). steps_further end && nat_lt 0 s.debug.script.left ≡ true) done.state goes) in
-    ap (λ (s : GdbState). further_told s text) done.state ∙ ap (λ (x : List ℕ). further_told (with_script g t.script) x) done.text
+    (subst (λ (s : GdbState). steps_further end && nat_lt 0 s.debug.script.left ≡ true) done.state further) in
+    ap (λ (s : GdbState). asking s goes text) done.state ∙ ap (λ (x : List ℕ). asking (with_script g t.script) goes x) done.text
     ∙ sym (told_if (steps_further t.stop && nat_lt 0 t.script.left) goes_there) where
       told_if : (b : Bool) → b ≡ true
-          → (let t : StepsTaken = steps_watching g.watches g.debug.script slice_steps in
-          (if b then further_told (with_script g t.script) t.printed else gdb_stop_told (with_script g t.script) t.printed t.stop)
-          ≡ further_told (with_script g t.script) t.printed)
+          → (let t : StepsTaken = gdb_steps g goes slice_steps in
+          (if b then asking (with_script g t.script) goes t.printed else gdb_stop_told (with_script g t.script) t.printed t.stop)
+          ≡ asking (with_script g t.script) goes t.printed)
       told_if b is = rw is refl
 
-pub slice_ends : (g now : GdbState) (text : List ℕ) (end : GdbStop)
-    → IsAfterSteps g now [] text end (steps_watching g.watches g.debug.script slice_steps)
-    → steps_further end && nat_lt 0 now.debug.script.left ≡ false → gdb_stop_told now text end ≡ slice_told g
-slice_ends g now text end done ends =
-    let t : StepsTaken = steps_watching g.watches g.debug.script slice_steps in
+pub slice_ends : (g now : GdbState) (goes : Going) (text : List ℕ) (end : GdbStop)
+    → IsAfterSteps g now [] text end (gdb_steps g goes slice_steps)
+    → steps_further end && nat_lt 0 now.debug.script.left ≡ false → gdb_stop_told now text end ≡ slice_told g goes
+slice_ends g now goes text end done ends =
+    let t : StepsTaken = gdb_steps g goes slice_steps in
     let ends_there : steps_further t.stop && nat_lt 0 t.script.left ≡ false =
     subst (λ (e : GdbStop). steps_further e && nat_lt 0 t.script.left ≡ false) done.reason
     (subst (λ (s : GdbState). steps_further end && nat_lt 0 s.debug.script.left ≡ false) done.state ends) in
@@ -123,38 +50,100 @@ slice_ends g now text end done ends =
     ∙ ap (λ (e : GdbStop). gdb_stop_told (with_script g t.script) t.printed e) done.reason
     ∙ sym (told_if (steps_further t.stop && nat_lt 0 t.script.left) ends_there) where
       told_if : (b : Bool) → b ≡ false
-          → (let t : StepsTaken = steps_watching g.watches g.debug.script slice_steps in
-          (if b then further_told (with_script g t.script) t.printed else gdb_stop_told (with_script g t.script) t.printed t.stop)
+          → (let t : StepsTaken = gdb_steps g goes slice_steps in
+          (if b then asking (with_script g t.script) goes t.printed else gdb_stop_told (with_script g t.script) t.printed t.stop)
           ≡ gdb_stop_told (with_script g t.script) t.printed t.stop)
       told_if b is = rw is refl
 
 pub step_stops : (g now : GdbState) (text : List ℕ) (end why : GdbStop)
-    → IsAfterSteps g now [] text end (steps_watching g.watches g.debug.script 1) → why ≡ stop_after_step end
-    → gdb_stop_told now text why ≡ gdb_step_done g (steps_watching g.watches g.debug.script 1)
+    → IsAfterSteps g now [] text end (gdb_steps g going.Once 1) → why ≡ stop_after_step end
+    → gdb_stop_told now text why ≡ gdb_step_told g
 step_stops g now text end why done is =
-    let t : StepsTaken = steps_watching g.watches g.debug.script 1 in
+    let t : StepsTaken = gdb_steps g going.Once 1 in
     ap (λ (s : GdbState). gdb_stop_told s text why) done.state
     ∙ ap (λ (x : List ℕ). gdb_stop_told (with_script g t.script) x why) done.text
     ∙ ap (λ (e : GdbStop). gdb_stop_told (with_script g t.script) t.printed e) (is ∙ ap stop_after_step done.reason)
 
-pub stands_still : (g : GdbState) (asks : Bool) → g.is_running ≡ false → no_reply g ≡ host_answered g asks
-stands_still g asks still = rw still refl
+-- of other modules GDB is told first, and then of a break that is due
+pub tells_library : (g : GdbState) → is_other_list g.libraries g.debug.script ≡ true → gdb_stop_told g [] reason.Library ≡ first_slice_told g
+tells_library g is = rw is refl
 
-pub stops_asked : (g : GdbState) (asks : Bool) → g.is_running ≡ true → asks || g.is_asked ≡ true
+pub tells_break : (g : GdbState) → is_other_list g.libraries g.debug.script ≡ false → has_break_due g ≡ true
+    → gdb_stop_told g [] (break_here g) ≡ first_slice_told g
+tells_break g same due = by (is_other_list g.libraries g.debug.script) (has_break_due g) same due
+  where
+    by : (other due : Bool) → other ≡ false → due ≡ true → gdb_stop_told g [] (break_here g)
+        ≡ (if other then gdb_stop_told g [] reason.Library else (if due then gdb_stop_told g [] (break_here g) else slice_told g going.On))
+    by other due same is = rw (same, is) refl
+
+pub tells_neither : (g : GdbState) → is_other_list g.libraries g.debug.script ≡ false → has_break_due g ≡ false
+    → slice_told g going.On ≡ first_slice_told g
+tells_neither g same none = by (is_other_list g.libraries g.debug.script) (has_break_due g) same none
+  where
+    by : (other due : Bool) → other ≡ false → due ≡ false → slice_told g going.On
+        ≡ (if other then gdb_stop_told g [] reason.Library else (if due then gdb_stop_told g [] (break_here g) else slice_told g going.On))
+    by other due same is = rw (same, is) refl
+
+-- the run goes on, stops, or there is none
+pub stands_still : (g : GdbState) (asks : Bool) → g.going ≡ None → no_reply g ≡ host_answered g asks
+stands_still g asks none = sym (ap (λ (o : Option Going). goes_on_if g asks o) none)
+
+pub stops_asked : (g : GdbState) (asks : Bool) (goes : Going) → g.going ≡ Some goes → asks ≡ true
     → gdb_stop_told g [] reason.Asked ≡ host_answered g asks
-stops_asked g asks runs asked = rw (runs, asked) refl
+stops_asked g asks goes some is = sym (ap (λ (o : Option Going). goes_on_if g asks o) some ∙ rw is refl)
 
-pub runs_on : (g : GdbState) (asks : Bool) → g.is_running ≡ true → asks || g.is_asked ≡ false → slice_told g ≡ host_answered g asks
-runs_on g asks runs unasked = rw (runs, unasked) refl
+pub runs_on : (g : GdbState) (asks : Bool) (goes : Going) → g.going ≡ Some goes → asks ≡ false → slice_told g goes ≡ host_answered g asks
+runs_on g asks goes some is = sym (ap (λ (o : Option Going). goes_on_if g asks o) some ∙ rw is refl)
 
--- of other modules GDB is told first
-pub tells_library : (g : GdbState) (text : List ℕ) (other : GdbAnswered) → has_other_libraries g ≡ true
-    → gdb_stop_told (with_libraries_told g) text reason.Library ≡ library_stop_or g text other
-tells_library g text other is = rw is refl
+-- a machine that is halted
+pub fault_ends : (g : GdbState) (own : Bool) (f : Fault) → own ≡ true → gdb_stop_told g [] (reason.Killed f) ≡ fault_told g own f
+fault_ends g own f is = rw is refl
 
-pub tells_no_library : (g : GdbState) (text : List ℕ) (other : GdbAnswered) → has_other_libraries g ≡ false
-    → other ≡ library_stop_or g text other
-tells_no_library g text other is = rw is refl
+pub fault_stays : (g : GdbState) (own : Bool) (f : Fault) → own ≡ false
+    → stop_told_with g (halted_text f) (reason.Ran (stop.Fault f)) ≡ fault_told g own f
+fault_stays g own f is = rw is refl
+
+-- why a machine is halted, if no fault has halted it
+pub halts_so : (g : GdbState) (signal : Option ℕ) (halt : Stop) → ((f : Fault) → halt ≡ stop.Fault f → ⊥)
+    → gdb_stop_told g [] (reason.Ran halt) ≡ halt_told g signal halt
+halts_so g signal (stop.Fault f) none = absurd (none f refl)
+halts_so g signal stop.Exit none = refl
+halts_so g signal stop.Budget none = refl
+halts_so g signal (stop.Break address) none = refl
+
+-- a step that is taken already, or not
+pub step_was_taken : (g : GdbState) (why : GdbStop) (other : GdbAnswered) → step_taken g ≡ Some why
+    → gdb_stop_told g [] why ≡ unless_taken (step_taken g) g other
+step_was_taken g why other is = sym (ap (λ (o : Option GdbStop). unless_taken o g other) is)
+
+pub step_to_take : (g : GdbState) (other : GdbAnswered) → step_taken g ≡ None → other ≡ unless_taken (step_taken g) g other
+step_to_take g other is = sym (ap (λ (o : Option GdbStop). unless_taken o g other) is)
+
+-- the byte 3 while a run is under way
+pub asked_stops : (g : GdbState) (goes : Going) → g.going ≡ Some goes → gdb_stop_told g [] reason.Asked ≡ stop_asked g
+asked_stops g goes some = sym (ap (λ (o : Option Going). stops_if g o) some)
+
+-- a run or a step begins
+pub goes_halted : (g there : GdbState) (goes : Going) (signal : Option ℕ) (halt : Stop) → there ≡ with_whole_budget g
+    → option_map stop_of there.debug.script.machine.halt ≡ Some halt → halt_told there signal halt ≡ going_told g goes signal
+goes_halted g there goes signal halt is halted =
+    let whole : GdbState = with_whole_budget g in
+    let there_too = sym (ap (λ (s : GdbState). option_map stop_of s.debug.script.machine.halt) is) ∙ halted in
+    ap (λ (s : GdbState). halt_told s signal halt) is
+    ∙ sym (ap (λ (o : Option Stop). unless_halted_before whole signal o (awake_told whole goes)) there_too)
+
+pub goes_awake : (g there : GdbState) (goes : Going) (signal : Option ℕ) → there ≡ with_whole_budget g
+    → option_map stop_of there.debug.script.machine.halt ≡ None → awake_told there goes ≡ going_told g goes signal
+goes_awake g there goes signal is awake =
+    let whole : GdbState = with_whole_budget g in
+    let there_too = sym (ap (λ (s : GdbState). option_map stop_of s.debug.script.machine.halt) is) ∙ awake in
+    ap (λ (s : GdbState). awake_told s goes) is
+    ∙ sym (ap (λ (o : Option Stop). unless_halted_before whole signal o (awake_told whole goes)) there_too)
+
+-- the answer by an equal one
+pub answered_as : (now : GdbState) (r : Result GdbAnswer RunError) (a b : GdbAnswered) → a ≡ b
+    → IfOk r (λ answer. IsGdbAnswered now answer a) → IfOk r (λ answer. IsGdbAnswered now answer b)
+answered_as now r a b same told = subst (λ (x : GdbAnswered). IfOk r (λ (answer : GdbAnswer). IsGdbAnswered now answer x)) same told
 
 -- a line of a debugging script, answered on its own
 pub line_answered : (setting own : DebugSetting) (g : GdbState) (answer : GdbAnswer) (before after : List ℕ) (here now : DebugState)

@@ -1,50 +1,75 @@
 -- A run in slices is one run.
-use Rattle.std.proofs.Common.{◌≡◌, ◌≤◌, ◌+◌, ◌-◌, ℕ, zero, suc, Bool, true, false, ◌&&◌, ◌==◌, List, ◌++◌, refl, ap, sym, ◌∙◌, arith}
-use Rattle.std.specs.Prelude.{Option, Some, None, min, if◌then◌else◌}
-use Rattle.std.proofs.lemmas.Bool.Decides.{nat_tests}
+use Rattle.std.proofs.Common.{◌≡◌, ◌+◌, ℕ, zero, suc, Bool, true, false, ◌&&◌, List, append_assoc, refl, ap, sym, ◌∙◌, arith}
+use Rattle.std.specs.Prelude.{Option, Some, None, if◌then◌else◌}
+use Rattle.std.proofs.lemmas.Bool.{both_ways}
 use Rattle.command_shell.specs.State.{ScriptState}
-use Rattle.command_shell.specs.Stepping.{script_after_run, script_run}
-use Rattle.image_loader.specs.Entries.{Entry}
-use Rattle.profile.specs.declared.stop.Stop.TheVariants as stop
+use Rattle.gdb_machine.specs.Watches.{first_changed}
+use Rattle.gdb_machine.specs.declared.stops.GdbStop.{GdbStop}
 use Rattle.gdb_machine.specs.declared.stops.GdbStop.TheVariants as reason
-use Rattle.command_shell.specs.MachineState.{MachineState}
-use Rattle.command_shell.specs.Run.{Run, ran, then_run}
-use Rattle.command_shell.proofs.Runs.{runs_on}
-use Rattle.debug_session.proofs.SliceLemmas.{all_count}
+use Rattle.profile.specs.declared.stop.Stop.TheVariants as stop
+use Rattle.gdb_server.specs.declared.session.session.Going.{Going}
 use Rattle.gdb_server.specs.session.Laws.{GdbSlicesAreOneRun}
-use Rattle.gdb_server.specs.session.Runs.{printed_before, steps_taken}
+use Rattle.gdb_server.specs.session.MoreBreaks.{is_among}
+use Rattle.gdb_server.specs.session.Steps.{StepLooks, StepsTaken, end_beside, end_of_step, has_left, is_other_list, looked_further, looked_steps, machine_end, may_change_list, printed_before, script_steps, steps_further, watched_or}
+use Rattle.gdb_server.proofs.SessionLemmas.StepLemmas.{no_step, one_more}
 
-fresh_in_both : (b : Bool) (n first : ℕ) → first ≤ n → b && (n == 0) ≡ (b && (first == 0)) && ((n - first) == 0)
-fresh_in_both b n first few = grind (arith, nat_tests)
+-- what ends steps is no end of a budget
+abbrev Ends : Option GdbStop → Type 0
+Ends (Some why) = steps_further why ≡ false
+Ends None = Unit {0}
 
-in_two : (s : ScriptState) (first : ℕ) (r q whole : Run) → first ≤ s.left → r.taken ≡ first → whole ≡ then_run r q
-    → steps_taken s s.left whole
-    ≡ printed_before r.printed (steps_taken (script_after_run s first r) (s.left - first) q)
-in_two s first r q whole few counts is =
-    let fresh = fresh_in_both s.is_fresh s.left first few in
-    let left : s.left - (r.taken + q.taken) ≡ s.left - r.taken - q.taken = omega arith in
-    ap (λ (x : Run). steps_taken s s.left x) is
-    ∙ (λ i. record {
-      script = record s { machine = q.now; is_fresh = fresh i; left = left i; last = Some q.stop };
-      printed = r.printed ++ q.printed;
-      stop = reason.Ran q.stop;
-    })
+if_ends : (b : Bool) (x y : Option GdbStop) → Ends x → Ends y → Ends (if b then x else y)
+if_ends true x y first second = first
+if_ends false x y first second = second
+
+beside_ends : (goes : Going) (breaks told : List ℕ) (may : Bool) (s : ScriptState) → Ends (end_beside goes breaks told may s)
+beside_ends goes breaks told may s =
+    if_ends (is_among breaks s.machine.cpu.pc) (Some (reason.Ran (stop.Break s.machine.cpu.pc))) _ refl
+    (if_ends (has_left goes s.machine.cpu.pc) (Some reason.Stepped) _ refl
+    (if_ends (may && is_other_list told s) (Some reason.Library) None refl tt))
+
+machine_ends : (l : StepLooks) (why : GdbStop) (may : Bool) (s : ScriptState) → Ends (machine_end l why may s)
+machine_ends l why may s = by (steps_further why) refl
+  where
+    by : (b : Bool) → steps_further why ≡ b → Ends (if b then end_beside l.going l.breaks l.libraries may s else Some why)
+    by true e = beside_ends l.going l.breaks l.libraries may s
+    by false e = e
+
+step_ends_so : (l : StepLooks) (may : Bool) (why : GdbStop) (s : ScriptState) → Ends (end_of_step l may why s)
+step_ends_so l may why s = by (first_changed s.machine.store.bytes l.seen)
+  where
+    by : (o : Option ℕ) → Ends (watched_or o (machine_end l why may s))
+    by (Some address) = refl
+    by None = machine_ends l why may s
 
 pub slices_are_one_run : GdbSlicesAreOneRun
-slices_are_one_run s first few goes =
-    let now : MachineState = (ran s.images s.breaks first s.machine).now in
-    let r : Run = ran s.images s.breaks first s.machine in
-    let whole : min s.left s.left ≡ s.left = omega arith in
-    let one : min first s.left ≡ first = omega arith in
-    let ended : reason.Ran r.stop ≡ reason.Ran stop.Budget = rw one at goes in
-    let budget : r.stop ≡ stop.Budget = cc in
-    let counts : r.taken ≡ first = all_count s.images s.breaks first s.machine budget in
-    let both : first + (s.left - first) ≡ s.left = omega arith in
-    let joined = ap (λ (n : ℕ). ran s.images s.breaks n s.machine) (sym both) ∙ runs_on s.images s.breaks first (s.left - first) s.machine budget in
-    let two = in_two s first r (ran s.images s.breaks (s.left - first) now) (ran s.images s.breaks s.left s.machine) few counts joined in
-    let rest : min (s.left - r.taken) (s.left - r.taken) ≡ s.left - first = omega (arith, counts) in
-    ap (λ (n : ℕ). steps_taken s n (script_run s n)) whole ∙ two
-    ∙ sym (ap (λ (k : ℕ). printed_before (ran s.images s.breaks k s.machine).printed
-    (steps_taken (script_after_run s k (ran s.images s.breaks k s.machine)) (min (script_after_run s k (ran s.images s.breaks k s.machine)).left (script_after_run s k (ran s.images s.breaks k s.machine)).left)
-    (ran s.images s.breaks (min (script_after_run s k (ran s.images s.breaks k s.machine)).left (script_after_run s k (ran s.images s.breaks k s.machine)).left) (ran s.images s.breaks k s.machine).now))) one
-    ∙ ap (λ (m : ℕ). printed_before r.printed (steps_taken (script_after_run s first r) m (ran s.images s.breaks m now))) rest)
+slices_are_one_run l s zero more goes =
+    let all : 0 + more ≡ more = omega arith in
+    ap (λ (n : ℕ). looked_steps l n s) all
+    ∙ sym (ap (λ (t : StepsTaken). printed_before t.printed (looked_steps l more t.script)) (no_step l 0 s refl))
+slices_are_one_run l s (suc n) more goes =
+    by (end_of_step l (may_change_list l.going s.machine) r.stop r.script) refl
+    (step_ends_so l (may_change_list l.going s.machine) r.stop r.script) (slices_are_one_run l r.script n more)
+  where
+    r : StepsTaken
+    r = script_steps s 1
+
+    by : (o : Option GdbStop) → end_of_step l (may_change_list l.going s.machine) r.stop r.script ≡ o → Ends o
+        → ((looked_steps l n r.script).stop ≡ reason.Ran stop.Budget → looked_steps l (n + more) r.script
+        ≡ printed_before (looked_steps l n r.script).printed (looked_steps l more (looked_steps l n r.script).script))
+        → looked_steps l (suc n + more) s ≡ printed_before (looked_steps l (suc n) s).printed (looked_steps l more (looked_steps l (suc n) s).script)
+    by (Some why) e ends rest_too =
+        let is = one_more l n s ∙ ap (λ (o : Option GdbStop). looked_further r o (looked_steps l n)) e in
+        let budget : why ≡ reason.Ran stop.Budget = sym (ap (λ (t : StepsTaken). t.stop) is) ∙ goes in
+        absurd (both_ways (steps_further why) ends (ap steps_further budget))
+    by None e ends rest_too =
+        let is = one_more l n s ∙ ap (λ (o : Option GdbStop). looked_further r o (looked_steps l n)) e in
+        let rest : StepsTaken = looked_steps l n r.script in
+        let further = rest_too (sym (ap (λ (t : StepsTaken). t.stop) is) ∙ goes) in
+        let count : suc n + more ≡ suc (n + more) = omega arith in
+        let last : StepsTaken = looked_steps l more rest.script in
+        ap (λ (k : ℕ). looked_steps l k s) count ∙ one_more l (n + more) s
+        ∙ ap (λ (o : Option GdbStop). looked_further r o (looked_steps l (n + more))) e
+        ∙ ap (λ (t : StepsTaken). printed_before r.printed t) further
+        ∙ ap (λ (x : List ℕ). record last { printed = x }) (sym (append_assoc r.printed rest.printed last.printed))
+        ∙ sym (ap (λ (t : StepsTaken). printed_before t.printed (looked_steps l more t.script)) is)

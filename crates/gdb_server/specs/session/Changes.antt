@@ -15,6 +15,7 @@ use Rattle.gdb_machine.specs.declared.changes.RegisterWrite.TheVariants as chang
 use Rattle.gdb_machine.specs.declared.watches.WatchError.{WatchError}
 use Rattle.gdb_machine.specs.declared.watches.WatchError.TheVariants as watch
 use Rattle.gdb_packets.specs.declared.requests.ByteRange.{ByteRange}
+use Rattle.gdb_server.specs.session.MoreBreaks.{with_more, without_more}
 use Rattle.gdb_server.specs.session.State.{GdbState, GdbAnswered, packet_reply, with_script}
 use Rattle.gdb_server.specs.session.Stores.{store_told}
 
@@ -50,28 +51,33 @@ decoded_stored g range None = packet_reply g (codes "E16")
 abbrev pub store_pairs_told : GdbState → ByteRange → List ℕ → GdbAnswered
 store_pairs_told g range pairs = decoded_stored g range (bytes_of_pairs (decode_of pairs))
 
-abbrev pub break_refusal : BreakError → List ℕ
-break_refusal break.BreakTableFull = codes "E1c"
-break_refusal break.Unaligned = codes "E16"
-break_refusal break.NoBreak = codes "E16"
+-- one more beyond those of the machine's table
+abbrev pub more_set : GdbState → Result (List ℕ) BreakError → GdbAnswered
+more_set g (Ok breaks) = packet_reply (record g { breaks = breaks }) (codes "OK")
+more_set g (Err error) = packet_reply g (codes "E1c")
 
-abbrev pub break_set : GdbState → Result ScriptState BreakError → GdbAnswered
-break_set g (Ok s) = packet_reply (with_script g s) (codes "OK")
-break_set g (Err error) = packet_reply g (break_refusal error)
+abbrev pub break_refused : GdbState → ℕ → BreakError → GdbAnswered
+break_refused g address break.BreakTableFull = more_set g (with_more g.breaks address)
+break_refused g address break.Unaligned = packet_reply g (codes "E16")
+break_refused g address break.NoBreak = packet_reply g (codes "E16")
+
+abbrev pub break_set : GdbState → ℕ → Result ScriptState BreakError → GdbAnswered
+break_set g address (Ok s) = packet_reply (with_script g s) (codes "OK")
+break_set g address (Err error) = break_refused g address error
 
 -- `Z0 a,4`: an instruction has four bytes
 abbrev pub add_break_told : GdbState → ByteRange → GdbAnswered
 add_break_told g range =
-    if range.count == 4 then break_set g (script_with_break g.debug.script range.start)
+    if range.count == 4 then break_set g range.start (script_with_break g.debug.script range.start)
     else packet_reply g (codes "E16")
 
-abbrev pub break_cleared : GdbState → Result ScriptState BreakError → GdbAnswered
-break_cleared g (Ok s) = packet_reply (with_script g s) (codes "OK")
-break_cleared g (Err error) = packet_reply g (codes "OK")
+abbrev pub break_cleared : GdbState → ℕ → Result ScriptState BreakError → GdbAnswered
+break_cleared g address (Ok s) = packet_reply (with_script g s) (codes "OK")
+break_cleared g address (Err error) = packet_reply (record g { breaks = without_more g.breaks address }) (codes "OK")
 
 -- `z0`; one that isn't there is gone
 abbrev pub remove_break_told : GdbState → ByteRange → GdbAnswered
-remove_break_told g range = break_cleared g (script_without_break g.debug.script range.start)
+remove_break_told g range = break_cleared g range.start (script_without_break g.debug.script range.start)
 
 abbrev pub watch_refusal : WatchError → List ℕ
 watch_refusal watch.WatchTableFull = codes "E1c"

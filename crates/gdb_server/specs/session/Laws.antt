@@ -1,6 +1,6 @@
 -- Laws of sessions with GDB, over their definitions alone.
 use Rattle.std.specs.Int.{from_le_bytes, w32}
-use Rattle.std.specs.Prelude.{◌≡◌, ◌≤◌, ◌<◌, ℕ, false, List, length, codes, Some, None, Ok}
+use Rattle.std.specs.Prelude.{◌≡◌, ◌+◌, ◌<◌, ℕ, false, List, length, codes, Some, None, Ok}
 use Rattle.profile.specs.declared.stop.Stop.TheVariants as stop
 use Rattle.command_shell.specs.State.{ScriptState}
 use Rattle.gdb_machine.specs.declared.stops.GdbStop.TheVariants as reason
@@ -14,7 +14,8 @@ use Rattle.debug_session.specs.Put.{put_fault}
 use Rattle.profile.specs.declared.fault.Fault.TheVariants.{OwnedWord}
 use Rattle.gdb_server.specs.session.Looks.{look_reply}
 use Rattle.gdb_server.specs.session.Requests.{gdb_answered}
-use Rattle.gdb_server.specs.session.Runs.{line_decoded, printed_before, script_steps}
+use Rattle.gdb_server.specs.session.Runs.{line_decoded}
+use Rattle.gdb_server.specs.session.Steps.{StepLooks, looked_steps, printed_before}
 use Rattle.gdb_server.specs.session.State.{GdbAnswered, GdbState, packet_reply}
 use Rattle.command_shell_lines.specs.Requests.{request_of}
 use Rattle.debug_session.specs.Naming.{meant_request, naming_of, repeated_now}
@@ -83,9 +84,9 @@ abbrev pub GdbWritesAreWhole : Type 0
 GdbWritesAreWhole = (setting : DebugSetting) (start : List ℕ) (g : GdbState) (range : ByteRange)
     (bytes : List ℕ) → GdbWriteIsWhole setting start g range bytes
 
--- A continue in slices is one run: where some steps were taken and there may be another, as many as are
--- left come after them as they would have without a halt.
+-- A run in slices is one run: where some steps were taken and there may be another, those that come after them
+-- are those that would have come without a halt.
 abbrev pub GdbSlicesAreOneRun : Type 0
-GdbSlicesAreOneRun = (s : ScriptState) (first : ℕ) → first ≤ s.left → (script_steps s first).stop ≡ reason.Ran stop.Budget
-    → script_steps s s.left ≡ printed_before (script_steps s first).printed
-    (script_steps (script_steps s first).script (script_steps s first).script.left)
+GdbSlicesAreOneRun = (l : StepLooks) (s : ScriptState) (first more : ℕ) → (looked_steps l first s).stop ≡ reason.Ran stop.Budget
+    → looked_steps l (first + more) s ≡ printed_before (looked_steps l first s).printed
+    (looked_steps l more (looked_steps l first s).script)

@@ -1,6 +1,6 @@
 -- The requests that only look, and the packet that each is answered with. Those of other requests are
 -- none.
-use Rattle.std.specs.Prelude.{ℕ, List, [], ◌++◌, Option, Some, None, codes}
+use Rattle.std.specs.Prelude.{ℕ, Bool, true, false, List, [], ◌++◌, Option, Some, None, codes}
 use Rattle.gdb_packets.specs.Requests as request
 use Rattle.gdb_packets.specs.Requests.{GdbRequest}
 use Rattle.gdb_packets.specs.declared.requests.PointKind.{PointKind}
@@ -9,7 +9,7 @@ use Rattle.gdb_machine.specs.Description.{description_text}
 use Rattle.gdb_machine.specs.Libraries.{libraries_part}
 use Rattle.gdb_machine.specs.Memory.{memory_reply}
 use Rattle.gdb_machine.specs.Registers.{all_registers_text, register_reply}
-use Rattle.gdb_machine.specs.Stops.{stop_packet}
+use Rattle.gdb_machine.specs.Stops.{is_gone, stop_packet}
 use Rattle.gdb_server.specs.session.State.{GdbState}
 
 abbrev pub supported_text : List ℕ
@@ -30,10 +30,9 @@ fixed_reply request.NoAcks = Some (codes "OK")
 fixed_reply request.Thread = Some (codes "OK")
 fixed_reply request.Extended = Some (codes "OK")
 fixed_reply request.Supported = Some supported_text
-fixed_reply request.Ways = Some (codes "vCont;c;C;s;S")
+fixed_reply request.Ways = Some (codes "vCont;c;C;s;S;r")
 fixed_reply request.IsAttached = Some (codes "0")
 fixed_reply request.CurrentThread = Some (codes "QC1")
-fixed_reply request.FirstThreads = Some (codes "m1")
 fixed_reply request.MoreThreads = Some (codes "l")
 fixed_reply (request.SetRegisters pairs) = Some []
 fixed_reply (request.AddPoint kind range) = unknown_point kind
@@ -41,7 +40,12 @@ fixed_reply (request.RemovePoint kind range) = unknown_point kind
 fixed_reply request.Unknown = Some []
 fixed_reply _ = None
 
--- `?`, `g`, `p`, `m`, the description and the list of libraries
+-- the one thread, while the program is there
+abbrev pub threads_text : Bool → List ℕ
+threads_text true = codes "l"
+threads_text false = codes "m1"
+
+-- `?`, `g`, `p`, `m`, the description, the list of libraries and that of threads
 abbrev pub look_reply : GdbState → GdbRequest → Option (List ℕ)
 look_reply g request.Reason = Some (stop_packet g.debug.script.machine.cpu g.stop)
 look_reply g request.Registers = Some (all_registers_text g.debug.script.machine.cpu)
@@ -49,4 +53,5 @@ look_reply g (request.Register n) = Some (register_reply g.debug.script.machine.
 look_reply g (request.Memory range) = Some (memory_reply g.debug.script.machine.store.bytes range)
 look_reply g (request.Description range) = Some (description_text range)
 look_reply g (request.Libraries range) = Some (libraries_part g.debug.script.machine.tables.modules range)
+look_reply g request.FirstThreads = Some (threads_text (is_gone g.stop))
 look_reply g other = fixed_reply other

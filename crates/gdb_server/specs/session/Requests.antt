@@ -5,6 +5,7 @@ use Rattle.gdb_packets.specs.Requests.{GdbRequest}
 use Rattle.gdb_packets.specs.declared.requests.ByteRange.{ByteRange}
 use Rattle.gdb_packets.specs.declared.requests.PointKind.{PointKind}
 use Rattle.gdb_packets.specs.declared.requests.PointKind.TheVariants as point
+use Rattle.gdb_server.specs.declared.session.session.Going.TheVariants as going
 use Rattle.gdb_server.specs.session.Changes as changes
 use Rattle.gdb_server.specs.session.Looks.{look_reply}
 use Rattle.gdb_server.specs.session.Runs as runs
@@ -37,8 +38,11 @@ gdb_change_told g other = no_reply (changes.at_session_end g)
 
 -- a request that doesn't only look; `start` are the lines that a machine begins with
 abbrev pub act_told : DebugSetting → List ℕ → GdbState → GdbRequest → GdbAnswered
-act_told setting start g request.Continue = runs.continue_told setting g
-act_told setting start g request.Step = runs.gdb_step_told setting g
+act_told setting start g request.Continue = runs.going_told g going.On None
+act_told setting start g (request.ContinueWith signal) = runs.going_told g going.On (Some signal)
+act_told setting start g request.Step = runs.going_told g going.Once None
+act_told setting start g (request.StepWith signal) = runs.going_told g going.Once (Some signal)
+act_told setting start g (request.StepRange places) = runs.going_told g (going.Within places) None
 act_told setting start g (request.HostAnswer asks) = runs.host_answered g asks
 act_told setting start g (request.Line pairs) = runs.monitor_told setting g pairs
 act_told setting start g request.RunProgram = runs.run_program_told setting start g

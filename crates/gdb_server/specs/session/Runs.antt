@@ -1,73 +1,27 @@
 -- Requests that take steps. A run goes in slices: after each the other side is asked whether the user
--- wants the program to stop. Where bytes are watched, steps are taken one by one, and it stops where one
--- of those bytes changes.
-use Rattle.std.specs.Prelude.{ℕ, zero, suc, not, ◌||◌, ◌&&◌, nat_lt, min, Bool, true, false, List, [], ◌++◌, codes, Option, Some, None, if◌then◌else◌}
+-- wants the program to stop.
+use Rattle.std.specs.Prelude.{ℕ, ◌==◌, ◌&&◌, ◌||◌, nat_lt, option_map, Bool, true, false, List, [], ◌++◌, codes, Option, Some, None, if◌then◌else◌}
+use Rattle.profile.specs.FaultNames.{fault_name}
+use Rattle.profile.specs.declared.fault.Fault.{Fault}
+use Rattle.profile.specs.declared.stop.Stop.{Stop}
 use Rattle.profile.specs.declared.stop.Stop.TheVariants as stop
 use Rattle.command_shell.specs.Answers.{stop_text}
 use Rattle.command_shell.specs.Memory.{script_started_anew, script_with_budget}
-use Rattle.command_shell.specs.State.{ScriptState}
-use Rattle.command_shell.specs.Stepping.{script_run, script_after_run}
+use Rattle.command_shell.specs.MachineState.{stop_of}
 use Rattle.debug_session.specs.DebugScript.{debug_line_told, debug_lines_told}
 use Rattle.debug_session.specs.DebugState.{DebugAnswered, DebugState}
 use Rattle.debug_session.specs.declared.session.DebugSetting.{DebugSetting}
-use Rattle.command_shell.specs.Run.{Run}
-use Rattle.std.specs.Str.{bytes_eq}
 use Rattle.std.specs.Str.Lines.{lines}
 use Rattle.hex.specs.Hex.{decode_of}
-use Rattle.gdb_machine.specs.Stops.{stop_packet}
-use Rattle.gdb_machine.specs.Watches.{first_changed, watched_bytes}
+use Rattle.gdb_machine.specs.Stops.{signal_number_of, stop_packet}
 use Rattle.gdb_machine.specs.declared.stops.GdbStop.{GdbStop}
 use Rattle.gdb_machine.specs.declared.stops.GdbStop.TheVariants as reason
-use Rattle.gdb_machine.specs.declared.watches.SeenByte.{SeenByte}
-use Rattle.gdb_packets.specs.declared.requests.ByteRange.{ByteRange}
+use Rattle.gdb_server.specs.declared.session.session.Going.{Going}
+use Rattle.gdb_server.specs.declared.session.session.Going.TheVariants as going
 use Rattle.gdb_server.specs.session.Changes.{bytes_of_pairs}
-use Rattle.gdb_server.specs.session.State.{GdbState, GdbAnswered, libraries_now, packet_reply, no_reply, with_libraries_told, with_script}
-
--- what steps leave: the state, what the guest printed, and why they ended
-pub record StepsTaken : Type 0 where
-  pub script : ScriptState
-  pub printed : List ℕ
-  pub stop : GdbStop
-
-abbrev pub steps_taken : ScriptState → ℕ → Run → StepsTaken
-steps_taken s most r =
-    record { script = script_after_run s most r; printed = r.printed; stop = reason.Ran r.stop }
-
--- so many steps, or as many as are left of the budget
-abbrev pub script_steps : ScriptState → ℕ → StepsTaken
-script_steps s count = steps_taken s (min count s.left) (script_run s (min count s.left))
-
-abbrev pub printed_before : List ℕ → StepsTaken → StepsTaken
-printed_before printed taken = record taken { printed = printed ++ taken.printed }
-
--- whether a step was taken after which there may be another
-abbrev pub steps_further : GdbStop → Bool
-steps_further (reason.Ran stop.Budget) = true
-steps_further (reason.Ran stop.Exit) = false
-steps_further (reason.Ran (stop.Break address)) = false
-steps_further (reason.Ran (stop.Fault f)) = false
-steps_further reason.Stepped = false
-steps_further reason.Asked = false
-steps_further (reason.Watched address) = false
-steps_further reason.Library = false
-
--- after a step: a byte that is watched has changed, or something else ends the steps, or they go on
-abbrev pub watched_further : StepsTaken → Option ℕ → (ScriptState → StepsTaken) → StepsTaken
-watched_further first (Some address) next = record first { stop = reason.Watched address }
-watched_further first None next =
-    if steps_further first.stop then printed_before first.printed (next first.script) else first
-
-abbrev pub none_taken : ScriptState → StepsTaken
-none_taken s = record { script = s; printed = []; stop = reason.Ran stop.Budget }
-
-unfoldable pub watched_steps : List SeenByte → ℕ → ScriptState → StepsTaken
-watched_steps seen zero s = none_taken s
-watched_steps seen (suc count) s = watched_further (script_steps s 1)
-    (first_changed (script_steps s 1).script.machine.store.bytes seen) (watched_steps seen count)
-
-abbrev pub steps_watching : List ByteRange → ScriptState → ℕ → StepsTaken
-steps_watching [] s count = script_steps s count
-steps_watching watches s count = watched_steps (watched_bytes s.machine.store.bytes watches) count s
+use Rattle.gdb_server.specs.session.MoreBreaks.{is_among}
+use Rattle.gdb_server.specs.session.State.{GdbState, GdbAnswered, packet_reply, no_reply, script_libraries, with_script}
+use Rattle.gdb_server.specs.session.Steps.{StepsTaken, gdb_steps, is_other_list, steps_further}
 
 -- `rosm: ` and the stop line of a fault, or where the budget is used up
 abbrev pub user_text : GdbStop → ℕ → List ℕ
@@ -79,67 +33,101 @@ user_text reason.Stepped pc = []
 user_text reason.Asked pc = []
 user_text (reason.Watched address) pc = []
 user_text reason.Library pc = []
+user_text (reason.Killed f) pc = []
+
+-- the modules that GDB knows of after a stop: where it is told that there are others, those that are there
+abbrev pub libraries_after : GdbStop → GdbState → List ℕ
+libraries_after reason.Library g = script_libraries g.debug.script
+libraries_after reason.Stepped g = g.libraries
+libraries_after reason.Asked g = g.libraries
+libraries_after (reason.Watched address) g = g.libraries
+libraries_after (reason.Ran x) g = g.libraries
+libraries_after (reason.Killed f) g = g.libraries
 
 abbrev pub with_stop : GdbState → GdbStop → GdbState
-with_stop g why = record g { is_running = false; is_asked = false; stop = why }
+with_stop g why = record g { libraries = libraries_after why g; going = None; stop = why }
+
+-- the program stands, and the user is told so much
+abbrev pub stop_told_with : GdbState → List ℕ → GdbStop → GdbAnswered
+stop_told_with g text why = record {
+  state = with_stop g why;
+  told = text;
+  reply = Some (stop_packet g.debug.script.machine.cpu why);
+}
 
 -- the program stands, after it printed so much
 abbrev pub gdb_stop_told : GdbState → List ℕ → GdbStop → GdbAnswered
-gdb_stop_told g printed why = record {
-  state = with_stop g why;
-  told = printed ++ user_text why g.debug.script.machine.cpu.pc;
-  reply = Some (stop_packet g.debug.script.machine.cpu why);
-}
+gdb_stop_told g printed why = stop_told_with g (printed ++ user_text why g.debug.script.machine.cpu.pc) why
 
 -- so many steps are taken before the other side is asked
 abbrev pub slice_steps : ℕ
 slice_steps = 100000
 
 -- a run is under way: `isatty` is a call of the other side's that it answers at once
-abbrev pub asking : GdbState → List ℕ → GdbAnswered
-asking g printed = record {
-  state = record g { is_running = true };
+abbrev pub asking : GdbState → Going → List ℕ → GdbAnswered
+asking g goes printed = record {
+  state = record g { going = Some goes };
   told = printed;
   reply = Some (codes "Fisatty,0");
 }
 
--- whether other modules are there than GDB was told of last
-abbrev pub has_other_libraries : GdbState → Bool
-has_other_libraries g = not (bytes_eq (libraries_now g) g.libraries)
-
--- a run that may go on: of other modules GDB is told first, and it goes on by itself
-abbrev pub library_stop_or : GdbState → List ℕ → GdbAnswered → GdbAnswered
-library_stop_or g printed other =
-    if has_other_libraries g then gdb_stop_told (with_libraries_told g) printed reason.Library else other
-
-abbrev pub further_told : GdbState → List ℕ → GdbAnswered
-further_told g printed = library_stop_or g printed (asking (with_libraries_told g) printed)
-
-abbrev pub slice_done : GdbState → StepsTaken → GdbAnswered
-slice_done g taken =
+abbrev pub slice_done : GdbState → Going → StepsTaken → GdbAnswered
+slice_done g goes taken =
     if steps_further taken.stop && nat_lt 0 taken.script.left
-    then further_told (with_script g taken.script) taken.printed
+    then asking (with_script g taken.script) goes taken.printed
     else gdb_stop_told (with_script g taken.script) taken.printed taken.stop
 
-abbrev pub slice_told : GdbState → GdbAnswered
-slice_told g = slice_done g (steps_watching g.watches g.debug.script slice_steps)
+abbrev pub slice_told : GdbState → Going → GdbAnswered
+slice_told g goes = slice_done g goes (gdb_steps g goes slice_steps)
 
--- with the whole budget
-abbrev pub with_whole_budget : DebugSetting → GdbState → GdbState
-with_whole_budget setting g = with_script g (script_with_budget g.debug.script setting.budget)
+-- with as many steps as a run may take
+abbrev pub with_whole_budget : GdbState → GdbState
+with_whole_budget g = with_script g (script_with_budget g.debug.script g.most)
 
+-- Whether a break is still to be told: the program stands at one, and GDB was told there that it may have to
+-- set others.
+abbrev pub was_library : GdbStop → Bool
+was_library reason.Library = true
+was_library reason.Stepped = false
+was_library reason.Asked = false
+was_library (reason.Watched address) = false
+was_library (reason.Ran x) = false
+was_library (reason.Killed f) = false
+
+abbrev pub stands_at_break : GdbState → Bool
+stands_at_break g = (is_among g.debug.script.breaks g.debug.script.machine.cpu.pc
+    || is_among g.breaks g.debug.script.machine.cpu.pc)
+
+abbrev pub has_break_due : GdbState → Bool
+has_break_due g = was_library g.stop && stands_at_break g
+
+abbrev pub break_here : GdbState → GdbStop
+break_here g = reason.Ran (stop.Break g.debug.script.machine.cpu.pc)
+
+-- a run begins: of other modules GDB is told first, and it goes on by itself
 abbrev pub first_slice_told : GdbState → GdbAnswered
-first_slice_told g = library_stop_or g [] (slice_told (with_libraries_told g))
-
--- a run begins
-abbrev pub continue_told : DebugSetting → GdbState → GdbAnswered
-continue_told setting g = first_slice_told (record (with_whole_budget setting g) { is_asked = false })
+first_slice_told g =
+    if is_other_list g.libraries g.debug.script then gdb_stop_told g [] reason.Library else (
+    if has_break_due g then gdb_stop_told g [] (break_here g) else slice_told g going.On)
 
 -- the other side has answered: the run goes on, unless the user wants it to stop
+abbrev pub unless_asked : GdbState → Bool → Going → GdbAnswered
+unless_asked g asks goes = if asks then gdb_stop_told g [] reason.Asked else slice_told g goes
+
+abbrev pub goes_on_if : GdbState → Bool → Option Going → GdbAnswered
+goes_on_if g asks None = no_reply g
+goes_on_if g asks (Some goes) = unless_asked g asks goes
+
 abbrev pub host_answered : GdbState → Bool → GdbAnswered
-host_answered g asks =
-    if g.is_running then (if asks || g.is_asked then gdb_stop_told g [] reason.Asked else slice_told g)
-    else no_reply g
+host_answered g asks = goes_on_if g asks g.going
+
+-- the byte 3 stops a run at once
+abbrev pub stops_if : GdbState → Option Going → GdbAnswered
+stops_if g None = no_reply g
+stops_if g (Some goes) = gdb_stop_told g [] reason.Asked
+
+abbrev pub stop_asked : GdbState → GdbAnswered
+stop_asked g = stops_if g g.going
 
 -- a step that was taken is no end of a run
 abbrev pub stop_after_step : GdbStop → GdbStop
@@ -150,9 +138,63 @@ gdb_step_done g taken =
     gdb_stop_told (with_script g taken.script) taken.printed (stop_after_step taken.stop)
 
 -- one step
-abbrev pub gdb_step_told : DebugSetting → GdbState → GdbAnswered
-gdb_step_told setting g = (let whole = with_whole_budget setting g in
-    gdb_step_done whole (steps_watching whole.watches whole.debug.script 1))
+abbrev pub gdb_step_told : GdbState → GdbAnswered
+gdb_step_told g = gdb_step_done g (gdb_steps g going.Once 1)
+
+-- why the machine itself stood after its last step
+abbrev pub last_stop : Option Stop → GdbStop
+last_stop None = reason.Stepped
+last_stop (Some x) = stop_after_step (reason.Ran x)
+
+-- GDB takes a watch on ARM for one that strikes before its instruction, and takes that step itself before it
+-- looks at the bytes ("have_nonsteppable_watchpoint" in GDB's own terms). Here a watch strikes once they have
+-- changed: the step is taken already, and that request moves nothing.
+abbrev pub taken_after : GdbStop → Option Stop → Option GdbStop
+taken_after (reason.Watched address) last = Some (last_stop last)
+taken_after reason.Library last = None
+taken_after reason.Stepped last = None
+taken_after reason.Asked last = None
+taken_after (reason.Ran x) last = None
+taken_after (reason.Killed f) last = None
+
+abbrev pub step_taken : GdbState → Option GdbStop
+step_taken g = taken_after g.stop g.debug.script.last
+
+abbrev pub unless_taken : Option GdbStop → GdbState → GdbAnswered → GdbAnswered
+unless_taken (Some why) g other = gdb_stop_told g [] why
+unless_taken None g other = other
+
+abbrev pub awake_told : GdbState → Going → GdbAnswered
+awake_told g going.On = first_slice_told g
+awake_told g going.Once = unless_taken (step_taken g) g (gdb_step_told g)
+awake_told g (going.Within places) = unless_taken (step_taken g) g (slice_told g (going.Within places))
+
+-- A machine that a fault has halted takes no step. The signal of its fault, given back to it, ends the program.
+abbrev pub halted_text : Fault → List ℕ
+halted_text f = codes "rosm: halted by " ++ (fault_name f ++ codes "; RESET wakes the machine\n")
+
+abbrev pub is_own_signal : Option ℕ → Fault → Bool
+is_own_signal None f = false
+is_own_signal (Some signal) f = signal == signal_number_of f
+
+abbrev pub fault_told : GdbState → Bool → Fault → GdbAnswered
+fault_told g true f = gdb_stop_told g [] (reason.Killed f)
+fault_told g false f = stop_told_with g (halted_text f) (reason.Ran (stop.Fault f))
+
+abbrev pub halt_told : GdbState → Option ℕ → Stop → GdbAnswered
+halt_told g signal (stop.Fault f) = fault_told g (is_own_signal signal f) f
+halt_told g signal stop.Exit = gdb_stop_told g [] (reason.Ran stop.Exit)
+halt_told g signal stop.Budget = gdb_stop_told g [] (reason.Ran stop.Budget)
+halt_told g signal (stop.Break address) = gdb_stop_told g [] (reason.Ran (stop.Break address))
+
+abbrev pub unless_halted_before : GdbState → Option ℕ → Option Stop → GdbAnswered → GdbAnswered
+unless_halted_before g signal (Some x) other = halt_told g signal x
+unless_halted_before g signal None other = other
+
+-- a run or a step, with a signal or without
+abbrev pub going_told : GdbState → Going → Option ℕ → GdbAnswered
+going_told g goes signal = (let whole = with_whole_budget g in
+    unless_halted_before whole signal (option_map stop_of whole.debug.script.machine.halt) (awake_told whole goes))
 
 -- a line of a debugging script, as line 0 of it: the user is told what the debugger answers. A line
 -- QUIT before it ended nothing.

@@ -3,7 +3,7 @@ use Rattle.std.specs.Prelude.{◌≡◌, ℕ, List, ◌++◌, option_map}
 use Rattle.image_loader.specs.Entries.{Entry}
 use Rattle.debug_session.specs.Session.{debug_state}
 use Rattle.gdb_machine.specs.declared.stops.GdbStop.{GdbStop}
-use Rattle.gdb_server.specs.session.Runs.{StepsTaken}
+use Rattle.gdb_server.specs.session.Steps.{StepsTaken}
 use Rattle.gdb_server.specs.session.State.{GdbState, GdbAnswered, with_script}
 use Rattle.gdb_server.specs.declared.session.session.GdbAnswer.{GdbAnswer}
 use Rattle.gdb_server.specs.declared.session.session.GdbSession.{GdbSession}
@@ -12,9 +12,10 @@ abbrev pub gdb_state : GdbSession → List Entry → GdbState
 gdb_state s images = record {
   debug = debug_state s.debug images;
   watches = s.watches;
+  breaks = s.breaks;
   libraries = s.libraries.items;
-  is_running = s.is_running;
-  is_asked = s.is_asked;
+  most = s.most;
+  going = s.going;
   stop = s.stop;
   has_ended = s.has_ended;
 }

@@ -11,16 +11,18 @@ use Rattle.gdb_machine.specs.declared.stops.GdbStop.{GdbStop}
 use Rattle.gdb_machine.specs.declared.stops.GdbStop.TheVariants as reason
 use Rattle.gdb_packets.specs.declared.requests.ByteRange.{ByteRange}
 use Rattle.gdb_server.specs.declared.session.session.GdbSetting.{GdbSetting}
+use Rattle.gdb_server.specs.declared.session.session.Going.{Going}
 
--- What a debugging script works on, the bytes that GDB watches, the lines of the modules that GDB was told
--- are there, whether a run is under way, whether the user wants it to stop, why the program stands, and
--- whether GDB is gone.
+-- What a debugging script works on, the bytes that GDB watches, its breaks beyond those of the machine's own
+-- table, the lines of the modules that GDB was told are there, how many steps a run may take, what the run that
+-- is under way is for, if one is, why the program stands, and whether GDB is gone.
 pub record GdbState : Type 0 where
   pub debug : DebugState
   pub watches : List ByteRange
+  pub breaks : List ℕ
   pub libraries : List ℕ
-  pub is_running : Bool
-  pub is_asked : Bool
+  pub most : ℕ
+  pub going : Option Going
   pub stop : GdbStop
   pub has_ended : Bool
 
@@ -43,11 +45,8 @@ abbrev pub with_script : GdbState → ScriptState → GdbState
 with_script g s = record g { debug = record g.debug { script = s } }
 
 -- the lines of the modules that are there
-abbrev pub libraries_now : GdbState → List ℕ
-libraries_now g = library_lines g.debug.script.machine.tables.modules
-
-abbrev pub with_libraries_told : GdbState → GdbState
-with_libraries_told g = record g { libraries = libraries_now g }
+abbrev pub script_libraries : ScriptState → List ℕ
+script_libraries s = library_lines s.machine.tables.modules
 
 -- what lines are answered with: as answers
 abbrev pub debug_setting : GdbSetting → DebugSetting
@@ -59,13 +58,14 @@ debug_setting setting = record {
 }
 
 -- before the first line
-abbrev pub gdb_start : DebugSetting → List Entry → GdbState
-gdb_start setting images = record {
+abbrev pub gdb_start : DebugSetting → ℕ → List Entry → GdbState
+gdb_start setting most images = record {
   debug = debug_start_state setting images;
   watches = [];
+  breaks = [];
   libraries = [];
-  is_running = false;
-  is_asked = false;
+  most = most;
+  going = None;
   stop = reason.Stepped;
   has_ended = false;
 }

@@ -4,7 +4,7 @@ ghost use Rattle.std.specs.Prelude.{◌≡◌, [], None, List, IfErr, IfOk, opti
 ghost use Rattle.command_shell.specs.Error.{IsLineError};
 ghost use Rattle.gdb_packets.specs.Requests.{gdb_request};
 
-use crate::session::session::{GdbAnswer, GdbSession};
+use crate::session::session::{GdbAnswer, GdbSession, Going};
 use command_shell::RunError;
 use gdb_packets::Request;
 use image_loader::Images;
@@ -29,8 +29,11 @@ impl GdbSession {
         ensures errors { IfErr result IsLineError }
     {
         match request {
-            Request::Continue => self.run_on(images),
-            Request::Step => self.step(images),
+            Request::Continue => self.go(images, Going::On, None),
+            Request::ContinueWith(signal) => self.go(images, Going::On, Some(*signal)),
+            Request::Step => self.go(images, Going::Once, None),
+            Request::StepWith(signal) => self.go(images, Going::Once, Some(*signal)),
+            Request::StepRange(places) => self.go(images, Going::Within(*places), None),
             Request::HostAnswer(asks) => self.host_answered(images, *asks),
             Request::Line(pairs) => self.answer_line(images, pairs),
             Request::RunProgram => self.run_program(images),

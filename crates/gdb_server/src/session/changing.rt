@@ -3,7 +3,7 @@
 ghost use Rattle.std.specs.Prelude.{◌≡◌, List, IfErr, IfOk, IfSome, codes, option_map};
 ghost use Rattle.hex.specs.Hex.{decode_of, decode_sized};
 ghost use Rattle.gdb_machine.specs.Changes.{CanBeMade};
-ghost use Rattle.gdb_server.specs.session.Changes.{bytes_of_pairs, write_wanted, break_refusal as break_refusal_told, watch_refusal as watch_refusal_told};
+ghost use Rattle.gdb_server.specs.session.Changes.{bytes_of_pairs, write_wanted, watch_refusal as watch_refusal_told};
 ghost use Rattle.command_shell.specs.Error.{IsLineError};
 
 use crate::session::session::GdbSession;
@@ -15,8 +15,10 @@ use std::alloc::{AllocError, Global};
 
 impl GdbSession {
     ghost use Rattle.image_loader.specs.Entries.{Entry};
-    ghost use Rattle.gdb_server.specs.session.Changes.{add_break_told, add_watch_told, script_with_change};
+    ghost use Rattle.command_shell.specs.Stepping.{script_without_break};
+    ghost use Rattle.gdb_server.specs.session.Changes.{add_break_told, add_watch_told, break_cleared, more_set, script_with_change};
     ghost use Rattle.gdb_server.specs.session.Changes.{set_register_told, store_pairs_told};
+    ghost use Rattle.gdb_server.specs.session.MoreBreaks.{with_more};
     ghost use Rattle.gdb_server.specs.session.Requests.{add_point_told, remove_point_told};
     ghost use Rattle.gdb_server.specs.session.Session.{gdb_state};
     ghost use Rattle.gdb_server.specs.session.State.{packet_reply, with_script};
@@ -100,7 +102,21 @@ impl GdbSession {
         }
         match self.debug.session.insert_break(range.start) {
             Ok(()) => b"OK",
-            Err(error) => break_refusal(error),
+            Err(BreakError::BreakTableFull) => self.add_more(range.start),
+            Err(BreakError::Unaligned | BreakError::NoBreak) => b"E16",
+        }
+    }
+
+    // The machine's own table is full.
+    fn add_more(&mut self, address: u32) -> &'static [u8]
+        ensures told { (images : List Entry) → packet_reply (gdb_state self.new images) result.now
+            ≡ more_set (gdb_state self.old images) (with_more (gdb_state self.old images).breaks address) }
+        ensures setting { self.new.debug.setting ≡ self.old.debug.setting }
+        ensures start { self.new.start.items ≡ self.old.start.items }
+    {
+        match self.breaks.add(address) {
+            Ok(()) => b"OK",
+            Err(_) => b"E1c",
         }
     }
 
@@ -124,12 +140,23 @@ impl GdbSession {
         ensures start { self.new.start.items ≡ self.old.start.items }
     {
         match kind {
-            PointKind::Break => {
-                let _removed = self.debug.session.remove_break(range.start);
-            }
+            PointKind::Break => self.remove_break(range.start),
             PointKind::StoreWatch | PointKind::LoadWatch | PointKind::AccessWatch => {
                 self.watches.remove(range);
             }
+        }
+    }
+
+    fn remove_break(&mut self, address: u32)
+        ensures told { (images : List Entry) → packet_reply (gdb_state self.new images) (codes "OK")
+            ≡ break_cleared (gdb_state self.old images) address
+            (script_without_break (gdb_state self.old images).debug.script address) }
+        ensures setting { self.new.debug.setting ≡ self.old.debug.setting }
+        ensures start { self.new.start.items ≡ self.old.start.items }
+    {
+        match self.debug.session.remove_break(address) {
+            Ok(()) => {}
+            Err(_) => self.breaks.remove(address),
         }
     }
 }
@@ -155,15 +182,6 @@ pub(crate) fn decoded(alloc: Global, pairs: &[u8]) -> Result<Option<Vec<u8>>, Al
         Ok(bytes) => Ok(Some(bytes)),
         Err(FromHexError::OutOfMemory) => Err(AllocError),
         Err(_) => Ok(None),
-    }
-}
-
-fn break_refusal(error: BreakError) -> &'static [u8]
-    ensures { result.now ≡ break_refusal_told error }
-{
-    match error {
-        BreakError::BreakTableFull => b"E1c",
-        BreakError::Unaligned | BreakError::NoBreak => b"E16",
     }
 }
 

@@ -26,7 +26,7 @@ pub fn writes_are_whole()
     ensures { GdbWritesAreWhole }
 {}
 
-/// A continue that is taken in slices comes to what one run of all its steps comes to.
+/// A run that is taken in slices comes to what one run of all its steps comes to.
 pub fn slices_are_one_run()
     ensures { GdbSlicesAreOneRun }
 {}

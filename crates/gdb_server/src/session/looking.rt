@@ -2,7 +2,7 @@
 
 ghost use Rattle.std.specs.Prelude.{◌≡◌, List, IfOk, option_map};
 ghost use Rattle.gdb_packets.specs.Requests.{gdb_request};
-ghost use Rattle.gdb_server.specs.session.Looks.{fixed_reply as fixed_told};
+ghost use Rattle.gdb_server.specs.session.Looks.{fixed_reply as fixed_told, threads_text};
 
 use crate::session::session::GdbSession;
 use gdb_machine::{
@@ -38,6 +38,7 @@ impl GdbSession {
                 let part = libraries_part(self.alloc, machine.instances(), *range)?;
                 Ok(Some(part))
             }
+            Request::FirstThreads => self.fixed(Some(threads(self.stop.is_gone()))),
             _ => self.fixed(fixed_reply(request)),
         }
     }
@@ -53,6 +54,13 @@ impl GdbSession {
     }
 }
 
+// The one thread, while the program is there.
+fn threads(is_gone: bool) -> &'static [u8]
+    ensures { result.now ≡ threads_text is_gone }
+{
+    if is_gone { b"l" } else { b"m1" }
+}
+
 // What requests are answered with whose answer is always the same.
 fn fixed_reply(request: &Request<'_>) -> Option<&'static [u8]>
     ensures { option_map (λ text. text.now) result ≡ fixed_told (gdb_request request.now) }
@@ -60,10 +68,9 @@ fn fixed_reply(request: &Request<'_>) -> Option<&'static [u8]>
     match request {
         Request::NoAcks | Request::Thread | Request::Extended => Some(b"OK"),
         Request::Supported => Some(SUPPORTED),
-        Request::Ways => Some(b"vCont;c;C;s;S"),
+        Request::Ways => Some(b"vCont;c;C;s;S;r"),
         Request::IsAttached => Some(b"0"),
         Request::CurrentThread => Some(b"QC1"),
-        Request::FirstThreads => Some(b"m1"),
         Request::MoreThreads => Some(b"l"),
         Request::Unknown
         | Request::SetRegisters(_)

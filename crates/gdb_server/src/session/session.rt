@@ -1,13 +1,14 @@
 //! A session with GDB, and how one of its requests is answered.
 
-ghost use Rattle.std.specs.Prelude.{◌≡◌, ◌&&◌, false, true, [], Some, List, IfOk, IfErr};
+ghost use Rattle.std.specs.Prelude.{◌≡◌, [], Some, List, IfOk, IfErr, is_some};
 ghost use Rattle.command_shell.specs.Error.{IsLineError};
 ghost use Rattle.gdb_server.specs.session.State.{debug_setting as debug_setting_told};
 
+use crate::session::more_breaks::MoreBreaks;
 use command_shell::RunError;
 use debug_session::{DebugSession, DebugSetting, ReportForm, RunMeter};
 use gdb_machine::{GdbStop, Watches};
-use gdb_packets::Request;
+use gdb_packets::{PlaceRange, Request};
 use image_loader::Images;
 use profile::{Config, Stop};
 use std::alloc::{AllocError, Global};
@@ -17,8 +18,21 @@ use std::alloc::{AllocError, Global};
 pub struct GdbSetting {
     /// The sizes of its machines.
     pub config: Config,
-    /// How many steps a run may take.
+    /// How many steps each of the monitor's lines may take.
     pub budget: u64,
+    /// How many steps a run may take.
+    pub most: u64,
+}
+
+/// What a run is for.
+#[derive(Clone, Copy)]
+pub enum Going {
+    /// One step.
+    Once,
+    /// Steps, as long as the program stands in a range of addresses.
+    Within(PlaceRange),
+    /// To go on until something stops it.
+    On,
 }
 
 /// A session with GDB: a session of debugging scripts, and what GDB has asked for.
@@ -29,10 +43,13 @@ pub struct GdbSession {
     pub(crate) start: Vec<u8>,
     pub(crate) debug: DebugSession,
     pub(crate) watches: Watches,
+    // The breaks for which the machine's own table has no room.
+    pub(crate) breaks: MoreBreaks,
     // The lines of the modules that GDB was told are there.
     pub(crate) libraries: Vec<u8>,
-    pub(crate) is_running: bool,
-    pub(crate) is_asked: bool,
+    pub(crate) most: u64,
+    // What the run that is under way is for.
+    pub(crate) going: Option<Going>,
     pub(crate) stop: GdbStop,
     pub(crate) has_ended: bool,
 }
@@ -60,10 +77,11 @@ impl GdbSession {
     /// Memory ran out.
     pub fn new(alloc: Global, setting: GdbSetting, start: &[u8]) -> Result<GdbSession, AllocError>
         ensures state { IfOk result (λ session. (images : List Entry)
-            → gdb_state session images ≡ gdb_start (debug_setting setting) images) }
+            → gdb_state session images ≡ gdb_start (debug_setting setting) setting.most images) }
         ensures setting { IfOk result (λ session. session.debug.setting ≡ debug_setting setting) }
         ensures start { IfOk result (λ session. session.start.items ≡ start.now) }
     {
+        let most = setting.most;
         let start = Vec::from_slice(alloc, start)?;
         let debug = DebugSession::new(alloc, debug_setting(setting))?;
         Ok(GdbSession {
@@ -71,9 +89,10 @@ impl GdbSession {
             start,
             debug,
             watches: Watches::new(),
+            breaks: MoreBreaks::new(),
             libraries: Vec::new(alloc),
-            is_running: false,
-            is_asked: false,
+            most,
+            going: None,
             stop: GdbStop::Stepped,
             has_ended: false,
         })
@@ -93,14 +112,11 @@ impl GdbSession {
         self.debug.session.last()
     }
 
-    /// The user wants the program to stop, where it is running.
-    pub fn ask_to_stop(&mut self)
-        ensures asked { (images : List Entry) → gdb_state self.new images
-            ≡ record (gdb_state self.old images) { is_asked = (gdb_state self.old images).is_running } }
-        ensures setting { self.new.debug.setting ≡ self.old.debug.setting }
-        ensures start { self.new.start.items ≡ self.old.start.items }
+    /// Whether a run is under way.
+    pub fn is_running(&self) -> bool
+        ensures { (images : List Entry) → result ≡ is_some (gdb_state self.now images).going }
     {
-        self.is_asked = self.is_running;
+        self.going.is_some()
     }
 
     /// Answers a request.

@@ -24,13 +24,13 @@ returns-in-Ok-unbuffered-clause-serves g c =
     c.in_ok-start.ensures.start
     (λ heard. subst (λ (text : List ℕ). Appends (g.E.Sink.contents c.args.errors.now) (g.E.Sink.contents c.tell.new.errors) text)
     (c.as_slice-2.ensures.value
-    ∙ start_text setting session.debug.setting start session.start.items images (gdb_state session images) c.in_ok-told.told.items
+    ∙ start_text setting session.debug.setting wanted.most start session.start.items images (gdb_state session images) c.in_ok-told.told.items
     c.in_ok-session.ensures.setting first (c.in_ok-session.ensures.state images) c.in_ok-told.ensures.told)
     (c.tell.ensures heard))
     (c.new-server.ensures.setting ∙ c.begin.ensures.setting ∙ c.in_ok-session.ensures.setting)
     (c.new-server.ensures.start ∙ c.begin.ensures.start ∙ first)
     (c.new-server.ensures.state c.begin.new.images
-    ∙ ap server_before_bytes (session_begun setting session.debug.setting start session.start.items images (gdb_state session images)
+    ∙ ap server_before_bytes (session_begun setting session.debug.setting wanted.most start session.start.items images (gdb_state session images)
     (gdb_state c.begin.new.self c.begin.new.images) c.in_ok-session.ensures.setting first (c.in_ok-session.ensures.state images)
     c.in_ok-told.ensures.state))
     (buffer_begins g.W.Write.contents _ _ c.args.stream c.new-writer.ensures.inner c.in-Ok.ensures.inner c.in-Ok.ensures.empty)

@@ -1,0 +1,175 @@
+-- Steps that are taken one by one, with a look after each: what is left of them.
+use Rattle.std.proofs.Common.{◌≡◌, ◌<◌, ◌-◌, ℕ, suc, Bool, true, false, ◌&&◌, List, ◌++◌, append_assoc, refl, ap, subst, sym, ◌∙◌, arith}
+use Rattle.std.specs.Prelude.{Option, Some, None, min, if◌then◌else◌}
+use Rattle.std.proofs.lemmas.List.{append-nil}
+use Rattle.command_shell.specs.State.{ScriptState}
+use Rattle.command_shell.specs.Stepping.{IsAfterRun}
+use Rattle.gdb_machine.specs.Watches.{first_changed}
+use Rattle.gdb_machine.specs.declared.stops.GdbStop.{GdbStop}
+use Rattle.gdb_machine.specs.declared.stops.GdbStop.TheVariants as reason
+use Rattle.gdb_machine.specs.declared.watches.SeenByte.{SeenByte}
+use Rattle.gdb_server.specs.declared.session.session.Going.{Going}
+use Rattle.profile.specs.declared.stop.Stop.{Stop}
+use Rattle.profile.specs.declared.stop.Stop.TheVariants as stop
+use Rattle.gdb_server.specs.session.MoreBreaks.{is_among}
+use Rattle.gdb_server.specs.session.Session.{IsAfterSteps}
+use Rattle.gdb_server.specs.session.State.{GdbState, with_script}
+use Rattle.gdb_server.specs.session.Steps.{StepLooks, StepsTaken, end_beside, end_of_step, has_left, is_other_list, looked_further, looked_steps, looks_at, machine_end, may_change_list, none_taken, printed_before, script_steps, steps_further, watched_or}
+
+pub one_more : (l : StepLooks) (left : ℕ) (s : ScriptState) → looked_steps l (suc left) s
+    ≡ looked_further (script_steps s 1)
+    (end_of_step l (may_change_list l.going s.machine) (script_steps s 1).stop (script_steps s 1).script) (looked_steps l left)
+unfolding looked_steps
+one_more l left s = refl
+
+next_step : (l : StepLooks) (left : ℕ) (s : ScriptState) → 0 < left → looked_steps l left s
+    ≡ looked_further (script_steps s 1)
+    (end_of_step l (may_change_list l.going s.machine) (script_steps s 1).stop (script_steps s 1).script) (looked_steps l (left - 1))
+next_step l left s some =
+    let split : left ≡ suc (left - 1) = omega arith in
+    ap (λ (n : ℕ). looked_steps l n s) split ∙ one_more l (left - 1) s
+
+pub no_step : (l : StepLooks) (left : ℕ) (s : ScriptState) → left ≡ 0 → looked_steps l left s ≡ none_taken s
+unfolding looked_steps
+no_step l left s e = rw e refl
+
+-- the steps end with the next one, or go on after it
+step_ends : (l : StepLooks) (left : ℕ) (s : ScriptState) (why : GdbStop) → 0 < left
+    → end_of_step l (may_change_list l.going s.machine) (script_steps s 1).stop (script_steps s 1).script ≡ Some why
+    → looked_steps l left s ≡ record (script_steps s 1) { stop = why }
+step_ends l left s why some is =
+    next_step l left s some ∙ ap (λ (o : Option GdbStop). looked_further (script_steps s 1) o (looked_steps l (left - 1))) is
+
+step_more : (l : StepLooks) (left : ℕ) (s : ScriptState) → 0 < left
+    → end_of_step l (may_change_list l.going s.machine) (script_steps s 1).stop (script_steps s 1).script ≡ None
+    → looked_steps l left s ≡ printed_before (script_steps s 1).printed (looked_steps l (left - 1) (script_steps s 1).script)
+step_more l left s some is =
+    next_step l left s some ∙ ap (λ (o : Option GdbStop). looked_further (script_steps s 1) o (looked_steps l (left - 1))) is
+
+-- what was printed, and what the steps that are left print, is all; and they end as all steps do
+pub record AreStepsLeft (l : StepLooks) (first here : GdbState) (before held : List ℕ) (count left : ℕ) : Type 0 where
+  pub others : here ≡ with_script first here.debug.script
+  pub text : held ++ (looked_steps l left here.debug.script).printed ≡ before ++ (looked_steps l count first.debug.script).printed
+  pub script : (looked_steps l left here.debug.script).script ≡ (looked_steps l count first.debug.script).script
+  pub stop : (looked_steps l left here.debug.script).stop ≡ (looked_steps l count first.debug.script).stop
+
+pub begins_with_all : (l : StepLooks) (first : GdbState) (before : List ℕ) (count : ℕ)
+    → AreStepsLeft l first first before before count count
+begins_with_all l first before count = record { others = refl; text = refl; script = refl; stop = refl }
+
+-- what is looked at stays, whatever the steps do
+pub same_looks : (first here now : GdbState) (goes : Going) (seen : List SeenByte) → here ≡ with_script first here.debug.script
+    → now ≡ with_script here now.debug.script → looks_at now goes seen ≡ looks_at first goes seen
+same_looks first here now goes seen others next =
+    ap (λ (g : GdbState). looks_at g goes seen) next ∙ ap (λ (g : GdbState). looks_at g goes seen) others
+
+-- the steps that were left are known
+ends_with : (l : StepLooks) (first here now : GdbState) (before held after : List ℕ) (count left : ℕ) (end : GdbStop)
+    (t : StepsTaken) → AreStepsLeft l first here before held count left → looked_steps l left here.debug.script ≡ t
+    → now ≡ with_script here t.script → after ≡ held ++ t.printed → end ≡ t.stop
+    → IsAfterSteps first now before after end (looked_steps l count first.debug.script)
+ends_with l first here now before held after count left end t i is state text reason = record {
+  state = state ∙ ap (λ (g : GdbState). with_script g t.script) i.others
+      ∙ ap (with_script first) (sym (ap (λ (u : StepsTaken). u.script) is) ∙ i.script);
+  text = text ∙ ap (λ (x : List ℕ). held ++ x) (sym (ap (λ (u : StepsTaken). u.printed) is)) ∙ i.text;
+  reason = reason ∙ sym (ap (λ (u : StepsTaken). u.stop) is) ∙ i.stop;
+}
+
+-- a step, as the session takes it
+one_step : (s now : ScriptState) (held after : List ℕ) (taken : ℕ) (end : Stop)
+    → IsAfterRun s (min 1 s.left) now (Some held) (Some after) taken end
+    → (now ≡ (script_steps s 1).script) × (after ≡ held ++ (script_steps s 1).printed) × (reason.Ran end ≡ (script_steps s 1).stop)
+one_step s now held after taken end ran = (ran.state, ran.text, ap (λ (e : Stop). reason.Ran e) ran.stop)
+
+-- what was looked at after it
+looked_there : (l : StepLooks) (s now : ScriptState) (end : Stop) (o : Option GdbStop) → now ≡ (script_steps s 1).script
+    → reason.Ran end ≡ (script_steps s 1).stop → end_of_step l (may_change_list l.going s.machine) (reason.Ran end) now ≡ o
+    → end_of_step l (may_change_list l.going s.machine) (script_steps s 1).stop (script_steps s 1).script ≡ o
+looked_there l s now end o script why is =
+    ap (λ (x : ScriptState). end_of_step l (may_change_list l.going s.machine) (script_steps s 1).stop x) (sym script)
+    ∙ ap (λ (e : GdbStop). end_of_step l (may_change_list l.going s.machine) e now) (sym why) ∙ is
+
+-- the steps end with it
+pub ends_there : (l : StepLooks) (first here now : GdbState) (before held after : List ℕ) (count left taken : ℕ) (end : Stop)
+    (why : GdbStop) → AreStepsLeft l first here before held count left → 0 < left → now ≡ with_script here now.debug.script
+    → IsAfterRun here.debug.script (min 1 here.debug.script.left) now.debug.script (Some held) (Some after) taken end
+    → end_of_step l (may_change_list l.going here.debug.script.machine) (reason.Ran end) now.debug.script ≡ Some why
+    → IsAfterSteps first now before after why (looked_steps l count first.debug.script)
+ends_there l first here now before held after count left taken end why i some others ran is =
+    let step = one_step here.debug.script now.debug.script held after taken end ran in
+    let there = looked_there l here.debug.script now.debug.script end (Some why) step.0 step.2 is in
+    ends_with l first here now before held after count left why (record (script_steps here.debug.script 1) { stop = why }) i
+    (step_ends l left here.debug.script why some there) (others ∙ ap (with_script here) step.0) step.1 refl
+
+-- they go on
+pub goes_further : (l : StepLooks) (first here now : GdbState) (before held after : List ℕ) (count left taken : ℕ) (end : Stop)
+    → AreStepsLeft l first here before held count left → 0 < left → now ≡ with_script here now.debug.script
+    → IsAfterRun here.debug.script (min 1 here.debug.script.left) now.debug.script (Some held) (Some after) taken end
+    → end_of_step l (may_change_list l.going here.debug.script.machine) (reason.Ran end) now.debug.script ≡ None
+    → AreStepsLeft l first now before after count (left - 1)
+goes_further l first here now before held after count left taken end i some others ran is =
+    let step = one_step here.debug.script now.debug.script held after taken end ran in
+    let there = looked_there l here.debug.script now.debug.script end None step.0 step.2 is in
+    let more = step_more l left here.debug.script some there
+    ∙ ap (λ (s : ScriptState). printed_before (script_steps here.debug.script 1).printed (looked_steps l (left - 1) s)) (sym step.0) in
+    record {
+      others = others ∙ ap (λ (g : GdbState). with_script g now.debug.script) i.others;
+      text = ap (λ (x : List ℕ). x ++ (looked_steps l (left - 1) now.debug.script).printed) step.1
+          ∙ append_assoc held (script_steps here.debug.script 1).printed (looked_steps l (left - 1) now.debug.script).printed
+          ∙ ap (λ (x : List ℕ). held ++ x) (sym (ap (λ (u : StepsTaken). u.printed) more)) ∙ i.text;
+      script = sym (ap (λ (u : StepsTaken). u.script) more) ∙ i.script;
+      stop = sym (ap (λ (u : StepsTaken). u.stop) more) ∙ i.stop;
+    }
+
+-- none is left
+pub ends_here : (l : StepLooks) (first here : GdbState) (before held : List ℕ) (count left : ℕ)
+    → AreStepsLeft l first here before held count left → left ≡ 0
+    → IsAfterSteps first here before held (none_taken here.debug.script).stop (looked_steps l count first.debug.script)
+ends_here l first here before held count left i none =
+    ends_with l first here here before held held count left (none_taken here.debug.script).stop (none_taken here.debug.script) i
+    (no_step l left here.debug.script none) refl (sym (append-nil held)) refl
+
+-- WHAT IS LOOKED AT
+
+pub strikes : (l : StepLooks) (may : Bool) (why : GdbStop) (s : ScriptState) (address : ℕ)
+    → first_changed s.machine.store.bytes l.seen ≡ Some address → Some (reason.Watched address) ≡ end_of_step l may why s
+strikes l may why s address is = sym (ap (λ (o : Option ℕ). watched_or o (machine_end l why may s)) is)
+
+pub machine_stands : (l : StepLooks) (may : Bool) (why : GdbStop) (s : ScriptState)
+    → first_changed s.machine.store.bytes l.seen ≡ None → steps_further why ≡ false → Some why ≡ end_of_step l may why s
+machine_stands l may why s same ends =
+    sym (ap (λ (o : Option ℕ). watched_or o (machine_end l why may s)) same ∙ by (steps_further why) ends)
+  where
+    by : (b : Bool) → b ≡ false → (if b then end_beside l.going l.breaks l.libraries may s else Some why) ≡ Some why
+    by b is = rw is refl
+
+pub looks_beside : (l : StepLooks) (may : Bool) (why : GdbStop) (s : ScriptState)
+    → first_changed s.machine.store.bytes l.seen ≡ None → steps_further why ≡ true
+    → end_beside l.going l.breaks l.libraries may s ≡ end_of_step l may why s
+looks_beside l may why s same goes =
+    sym (ap (λ (o : Option ℕ). watched_or o (machine_end l why may s)) same ∙ by (steps_further why) goes)
+  where
+    by : (b : Bool) → b ≡ true
+        → (if b then end_beside l.going l.breaks l.libraries may s else Some why) ≡ end_beside l.going l.breaks l.libraries may s
+    by b is = rw is refl
+
+pub beside_list : (goes : Going) (breaks told : List ℕ) (may : Bool) (s : ScriptState) → is_among breaks s.machine.cpu.pc ≡ false
+    → has_left goes s.machine.cpu.pc ≡ false → may ≡ true → is_other_list told s ≡ true
+    → Some reason.Library ≡ end_beside goes breaks told may s
+beside_list goes breaks told may s no_break within may_change other =
+    by (is_among breaks s.machine.cpu.pc) (has_left goes s.machine.cpu.pc) (is_other_list told s) no_break within other
+  where
+    by : (a b o : Bool) → a ≡ false → b ≡ false → o ≡ true → Some reason.Library
+        ≡ (if a then Some (reason.Ran (stop.Break s.machine.cpu.pc)) else (
+        if b then Some reason.Stepped else (if may && o then Some reason.Library else None)))
+    by a b o na nb is = rw (na, nb, is, may_change) refl
+
+pub beside_nothing : (goes : Going) (breaks told : List ℕ) (may : Bool) (s : ScriptState) → is_among breaks s.machine.cpu.pc ≡ false
+    → has_left goes s.machine.cpu.pc ≡ false → may ≡ true → is_other_list told s ≡ false → None ≡ end_beside goes breaks told may s
+beside_nothing goes breaks told may s no_break within may_change same =
+    by (is_among breaks s.machine.cpu.pc) (has_left goes s.machine.cpu.pc) (is_other_list told s) no_break within same
+  where
+    by : (a b o : Bool) → a ≡ false → b ≡ false → o ≡ false → None
+        ≡ (if a then Some (reason.Ran (stop.Break s.machine.cpu.pc)) else (
+        if b then Some reason.Stepped else (if may && o then Some reason.Library else None)))
+    by a b o na nb is = rw (na, nb, is, may_change) refl

@@ -1,0 +1,25 @@
+use Rattle.std.proofs.Common.{◌≡◌, true, ap, subst, sym, ◌∙◌, arith}
+use Rattle.std.specs.Prelude.{IfOk, None, Option}
+use Rattle.address_map.specs.Bytes.{Bytes}
+use Rattle.command_shell.proofs.GateLemmas.{none_else}
+use Rattle.command_shell.specs.Parts.{state_of}
+use Rattle.command_shell.specs.State.{ScriptState}
+use Rattle.command_shell.specs.Value.{MachineValue}
+use Rattle.gdb_machine.specs.Watches.{first_changed}
+use Rattle.gdb_machine.specs.declared.stops.GdbStop.{GdbStop}
+use Rattle.gdb_server.specs.session.Session.{gdb_state}
+use Rattle.gdb_server.specs.session.State.{GdbState}
+use Rattle.gdb_server.specs.session.Steps.{looks_at}
+use Rattle.gdb_server.proofs.SessionLemmas.StepLemmas.{looks_beside}
+use Rattle.gdb_server.proofs.session.session.GdbSession.end_of_step.Goals as goal
+
+pub returns : goal.returns
+returns c images =
+    let g : GdbState = gdb_state c.args.self.now images in
+    let bytes = c.memory.ensures.bytes ∙ ap (λ (m : MachineValue). (state_of m.guest).store.bytes) c.machine.ensures in
+    let same = subst (λ (b : Bytes). first_changed b c.args.seen.now ≡ None) bytes
+    (sym c.first_changed.ensures ∙ none_else c.first_changed.result c.in_default.not-Some) in
+    let goes : c.goes_on.result ≡ true = grind arith in
+    subst (λ (o : Option GdbStop). IfOk c.end_beside.result (λ (end : Option GdbStop). end ≡ o))
+    (looks_beside (looks_at g c.args.going c.args.seen.now) c.args.may_change c.args.stop g.debug.script same (sym c.goes_on.ensures ∙ goes))
+    (c.end_beside.ensures images)

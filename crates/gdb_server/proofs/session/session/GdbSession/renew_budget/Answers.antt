@@ -1,0 +1,9 @@
+use Rattle.std.proofs.Common.{ap}
+use Rattle.command_shell.specs.State.{ScriptState}
+use Rattle.gdb_server.specs.session.Session.{gdb_state}
+use Rattle.gdb_server.specs.session.State.{with_script}
+use Rattle.gdb_server.proofs.session.session.GdbSession.renew_budget.Goals as goal
+
+pub returns-clause-told : goal.returns-clause-told
+returns-clause-told c images =
+    ap (λ (s : ScriptState). with_script (gdb_state c.args.self.now images) s) (c.set_budget.ensures images)

@@ -1,0 +1,63 @@
+use Rattle.std.proofs.Common.{◌≡◌, Bool, refl, ap, subst, sym, ◌∙◌, arith}
+use Rattle.std.specs.Prelude.{Some, None}
+use Rattle.command_shell.proofs.GateLemmas.{none_else}
+use Rattle.command_shell.specs.Parts.{state_of}
+use Rattle.command_shell.specs.Value.{MachineValue}
+use Rattle.gdb_machine.specs.declared.stops.GdbStop.TheVariants as reason
+use Rattle.view_items.specs.TextSink.{sink_text_of}
+use Rattle.gdb_server.specs.session.Session.{gdb_state}
+use Rattle.gdb_server.specs.session.State.{GdbState}
+use Rattle.gdb_server.specs.session.Steps.{StepLooks, end_of_step, looks_at, may_change_list}
+use Rattle.gdb_server.proofs.SessionLemmas.StepLemmas.{ends_here, ends_there, goes_further, same_looks}
+use Rattle.gdb_server.proofs.session.session.GdbSession.take_looked.Goals as goal
+
+pub returns-in-Some-clause-taken : goal.returns-in-Some-clause-taken
+returns-in-Some-clause-taken c =
+    let images = c.args.images.now in
+    let first : GdbState = gdb_state c.args.self.now images in
+    let here : GdbState = gdb_state c.loop-left.self images in
+    let now : GdbState = gdb_state (record c.loop-left.self { debug = record c.loop-left.self.debug { session = c.take_steps.new.self } }) images in
+    let l : StepLooks = looks_at first c.args.going c.args.seen.now in
+    let same : looks_at now c.args.going c.args.seen.now ≡ l =
+    same_looks first here now c.args.going c.args.seen.now c.loop-left.invariant.steps.others refl in
+    let may : c.may_change_list-may_change.result ≡ may_change_list c.args.going here.debug.script.machine =
+    c.may_change_list-may_change.ensures ∙ ap (λ (m : MachineValue). may_change_list c.args.going (state_of m.guest)) c.machine.ensures in
+    let is : end_of_step l (may_change_list c.args.going here.debug.script.machine) (reason.Ran c.in_ok-ran.ran.stop) now.debug.script
+    ≡ Some c.in-Some.stop =
+    ap (λ (b : Bool). end_of_step l b (reason.Ran c.in_ok-ran.ran.stop) now.debug.script) (sym may)
+    ∙ ap (λ (k : StepLooks). end_of_step k c.may_change_list-may_change.result (reason.Ran c.in_ok-ran.ran.stop) now.debug.script) (sym same)
+    ∙ sym (c.in_ok-end.ensures images) ∙ c.in-Some.is in
+    ends_there l first here now (sink_text_of c.args.printed.now) (sink_text_of c.loop-left.printed) (sink_text_of c.take_steps.new.sink)
+    c.args.count c.loop-left.left c.in_ok-ran.ran.taken c.in_ok-ran.ran.stop c.in-Some.stop c.loop-left.invariant.steps
+    (omega (arith, c.loop-left-test.true)) refl c.in_ok-ran.ensures.ran is
+
+pub loop-left-preserved : goal.loop-left-preserved
+loop-left-preserved c =
+    let images = c.args.images.now in
+    let first : GdbState = gdb_state c.args.self.now images in
+    let here : GdbState = gdb_state c.loop-left.self images in
+    let now : GdbState = gdb_state (record c.loop-left.self { debug = record c.loop-left.self.debug { session = c.take_steps.new.self } }) images in
+    let l : StepLooks = looks_at first c.args.going c.args.seen.now in
+    let same : looks_at now c.args.going c.args.seen.now ≡ l =
+    same_looks first here now c.args.going c.args.seen.now c.loop-left.invariant.steps.others refl in
+    let may : c.may_change_list-may_change.result ≡ may_change_list c.args.going here.debug.script.machine =
+    c.may_change_list-may_change.ensures ∙ ap (λ (m : MachineValue). may_change_list c.args.going (state_of m.guest)) c.machine.ensures in
+    let is : end_of_step l (may_change_list c.args.going here.debug.script.machine) (reason.Ran c.in_ok-ran.ran.stop) now.debug.script
+    ≡ None =
+    ap (λ (b : Bool). end_of_step l b (reason.Ran c.in_ok-ran.ran.stop) now.debug.script) (sym may)
+    ∙ ap (λ (k : StepLooks). end_of_step k c.may_change_list-may_change.result (reason.Ran c.in_ok-ran.ran.stop) now.debug.script) (sym same)
+    ∙ sym (c.in_ok-end.ensures images) ∙ none_else c.in_ok-end.end c.in_default.not-Some in
+    record {
+      steps = goes_further l first here now (sink_text_of c.args.printed.now) (sink_text_of c.loop-left.printed)
+          (sink_text_of c.take_steps.new.sink) c.args.count c.loop-left.left c.in_ok-ran.ran.taken c.in_ok-ran.ran.stop
+          c.loop-left.invariant.steps (omega (arith, c.loop-left-test.true)) refl c.in_ok-ran.ensures.ran is;
+      setting = c.loop-left.invariant.setting;
+      start = c.loop-left.invariant.start;
+    }
+
+pub returns-clause-taken : goal.returns-clause-taken
+returns-clause-taken c =
+    ends_here (looks_at (gdb_state c.args.self.now c.args.images.now) c.args.going c.args.seen.now)
+    (gdb_state c.args.self.now c.args.images.now) (gdb_state c.loop-left.self c.args.images.now)
+    (sink_text_of c.args.printed.now) (sink_text_of c.loop-left.printed) c.args.count c.loop-left.left c.loop-left.invariant.steps
+    (omega (arith, c.loop-left-test.false))

@@ -1,0 +1,127 @@
+-- Steps that are taken one by one, with a look after each, and where they end: where a byte that is watched
+-- has changed, the machine itself stops, a break is reached, or what they are taken for.
+use Rattle.std.specs.Prelude.{ℕ, zero, suc, ◌/◌, ◌%◌, ◌==◌, not, ◌||◌, ◌&&◌, nat_le, nat_lt, min, Bool, true, false, List, [], ◌++◌, Option, Some, None, Result, Ok, Err, if◌then◌else◌}
+use Rattle.std.specs.Str.{bytes_eq}
+use Rattle.profile.specs.MemoryMap.{return_gate}
+use Rattle.profile.specs.declared.fault.Fault.{Fault}
+use Rattle.profile.specs.declared.stop.Stop.TheVariants as stop
+use Rattle.address_map.specs.Bytes.{word_loaded}
+use Rattle.command_shell.specs.MachineState.{MachineState}
+use Rattle.command_shell.specs.Run.{Run}
+use Rattle.command_shell.specs.State.{ScriptState}
+use Rattle.command_shell.specs.Stepping.{script_run, script_after_run}
+use Rattle.gdb_machine.specs.Watches.{first_changed, watched_bytes}
+use Rattle.gdb_machine.specs.declared.stops.GdbStop.{GdbStop}
+use Rattle.gdb_machine.specs.declared.stops.GdbStop.TheVariants as reason
+use Rattle.gdb_machine.specs.declared.watches.SeenByte.{SeenByte}
+use Rattle.gdb_packets.specs.declared.requests.PlaceRange.{PlaceRange}
+use Rattle.gdb_server.specs.declared.session.session.Going.{Going}
+use Rattle.gdb_server.specs.declared.session.session.Going.TheVariants as going
+use Rattle.gdb_server.specs.session.MoreBreaks.{is_among}
+use Rattle.gdb_server.specs.session.State.{GdbState, script_libraries}
+
+-- what steps leave: the state, what the guest printed, and why they ended
+pub record StepsTaken : Type 0 where
+  pub script : ScriptState
+  pub printed : List ℕ
+  pub stop : GdbStop
+
+abbrev pub steps_taken : ScriptState → ℕ → Run → StepsTaken
+steps_taken s most r =
+    record { script = script_after_run s most r; printed = r.printed; stop = reason.Ran r.stop }
+
+-- so many steps, or as many as are left of the budget
+abbrev pub script_steps : ScriptState → ℕ → StepsTaken
+script_steps s count = steps_taken s (min count s.left) (script_run s (min count s.left))
+
+abbrev pub printed_before : List ℕ → StepsTaken → StepsTaken
+printed_before printed taken = record taken { printed = printed ++ taken.printed }
+
+-- whether a step was taken after which there may be another
+abbrev pub steps_further : GdbStop → Bool
+steps_further (reason.Ran stop.Budget) = true
+steps_further (reason.Ran stop.Exit) = false
+steps_further (reason.Ran (stop.Break address)) = false
+steps_further (reason.Ran (stop.Fault f)) = false
+steps_further reason.Stepped = false
+steps_further reason.Asked = false
+steps_further (reason.Watched address) = false
+steps_further reason.Library = false
+steps_further (reason.Killed f) = false
+
+-- what is looked at after each step: what the steps are for, the watched bytes as they were before, breaks
+-- beyond those of the machine's table, and the lines of the modules that GDB was told are there
+pub record StepLooks : Type 0 where
+  pub going : Going
+  pub seen : List SeenByte
+  pub breaks : List ℕ
+  pub libraries : List ℕ
+
+abbrev pub looks_at : GdbState → Going → List SeenByte → StepLooks
+looks_at g goes seen = record { going = goes; seen = seen; breaks = g.breaks; libraries = g.libraries }
+
+-- A software interrupt is an instruction with bits 27 to 24 set.
+abbrev pub is_interrupt : Result ℕ Fault → Bool
+is_interrupt (Ok word) = word / 0x1000000 % 16 == 15
+is_interrupt (Err fault) = false
+
+-- whether the next step begins at a software interrupt, or where module code goes back
+abbrev pub begins_call : MachineState → Bool
+begins_call m = m.cpu.pc == return_gate || is_interrupt (word_loaded m.store.bytes m.cpu.pc)
+
+-- Whether the next step may change which modules are there. Only where a run is to go on GDB wants to know of
+-- it at once.
+abbrev pub may_change_list : Going → MachineState → Bool
+may_change_list going.Once m = false
+may_change_list (going.Within places) m = false
+may_change_list going.On m = begins_call m
+
+-- whether other modules are there than GDB was told of last
+abbrev pub is_other_list : List ℕ → ScriptState → Bool
+is_other_list told s = not (bytes_eq (script_libraries s) told)
+
+abbrev pub is_within : PlaceRange → ℕ → Bool
+is_within places address = nat_le places.start address && nat_lt address places.end
+
+abbrev pub has_left : Going → ℕ → Bool
+has_left (going.Within places) address = not (is_within places address)
+has_left going.Once address = false
+has_left going.On address = false
+
+-- a break beyond those of the machine's table; the end of what the steps are for; another list of modules
+abbrev pub end_beside : Going → List ℕ → List ℕ → Bool → ScriptState → Option GdbStop
+end_beside goes breaks told may_change s =
+    if is_among breaks s.machine.cpu.pc then Some (reason.Ran (stop.Break s.machine.cpu.pc)) else (
+    if has_left goes s.machine.cpu.pc then Some reason.Stepped else (
+    if may_change && is_other_list told s then Some reason.Library else None))
+
+abbrev pub machine_end : StepLooks → GdbStop → Bool → ScriptState → Option GdbStop
+machine_end l why may_change s =
+    if steps_further why then end_beside l.going l.breaks l.libraries may_change s else Some why
+
+abbrev pub watched_or : Option ℕ → Option GdbStop → Option GdbStop
+watched_or (Some address) other = Some (reason.Watched address)
+watched_or None other = other
+
+-- why the steps end with one that left this, and after which the machine itself stood for that reason
+abbrev pub end_of_step : StepLooks → Bool → GdbStop → ScriptState → Option GdbStop
+end_of_step l may_change why s =
+    watched_or (first_changed s.machine.store.bytes l.seen) (machine_end l why may_change s)
+
+abbrev pub looked_further : StepsTaken → Option GdbStop → (ScriptState → StepsTaken) → StepsTaken
+looked_further first (Some why) next = record first { stop = why }
+looked_further first None next = printed_before first.printed (next first.script)
+
+abbrev pub none_taken : ScriptState → StepsTaken
+none_taken s = record { script = s; printed = []; stop = reason.Ran stop.Budget }
+
+unfoldable pub looked_steps : StepLooks → ℕ → ScriptState → StepsTaken
+looked_steps l zero s = none_taken s
+looked_steps l (suc count) s = looked_further (script_steps s 1)
+    (end_of_step l (may_change_list l.going s.machine) (script_steps s 1).stop (script_steps s 1).script)
+    (looked_steps l count)
+
+-- so many steps of a session, fewer where they end before
+abbrev pub gdb_steps : GdbState → Going → ℕ → StepsTaken
+gdb_steps g goes count =
+    looked_steps (looks_at g goes (watched_bytes g.debug.script.machine.store.bytes g.watches)) count g.debug.script

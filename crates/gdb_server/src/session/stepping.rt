@@ -1,0 +1,173 @@
+//! Steps that are taken one by one, with a look after each.
+
+ghost use Rattle.std.specs.Prelude.{◌≡◌, List, IfErr, IfOk};
+ghost use Rattle.command_shell.specs.Error.{IsLineError};
+ghost use Rattle.command_shell.specs.Parts.{state_of};
+ghost use Rattle.view_items.specs.TextSink.{sink_text_of};
+ghost use Rattle.gdb_server.specs.session.Steps.{begins_call, has_left, is_interrupt as is_interrupt_told, may_change_list};
+ghost use Rattle.gdb_server.specs.session.Steps.{steps_further as goes_on_told};
+
+use crate::session::session::{GdbSession, Going};
+use command_shell::{Machine, RunError};
+use gdb_machine::{GdbStop, SeenByte, first_changed, library_lines};
+use image_loader::Images;
+use profile::memory_map::RETURN_GATE;
+use profile::{Fault, Stop};
+use std::alloc::AllocError;
+use view_items::TextSink;
+
+impl GdbSession {
+    ghost use Rattle.image_loader.specs.Entries.{Entry};
+    ghost use Rattle.gdb_server.specs.session.Session.{gdb_state, IsAfterSteps};
+    ghost use Rattle.gdb_server.specs.session.Steps.{end_beside, end_of_step, gdb_steps, is_other_list};
+    ghost use Rattle.gdb_server.specs.session.Steps.{looked_steps, looks_at};
+
+    /// Takes so many steps, fewer where they end before.
+    pub(crate) fn take_steps(
+        &mut self,
+        images: &Images,
+        printed: &mut TextSink,
+        going: Going,
+        count: u64,
+    ) -> Result<GdbStop, RunError>
+        ensures taken { IfOk result (λ stop.
+            IsAfterSteps (gdb_state self.old images.now) (gdb_state self.new images.now)
+            (sink_text_of printed.old) (sink_text_of printed.new) stop
+            (gdb_steps (gdb_state self.old images.now) going count)) }
+        ensures setting { self.new.debug.setting ≡ self.old.debug.setting }
+        ensures start { self.new.start.items ≡ self.old.start.items }
+        ensures errors { IfErr result IsLineError }
+    {
+        let map = self.debug.session.machine().memory();
+        let seen = self.watches.seen_bytes(self.alloc, map)?;
+        self.take_looked(images, printed, going, seen.as_slice(), count)
+    }
+
+    fn take_looked(
+        &mut self,
+        images: &Images,
+        printed: &mut TextSink,
+        going: Going,
+        seen: &[SeenByte],
+        count: u64,
+    ) -> Result<GdbStop, RunError>
+        ensures taken { IfOk result (λ stop.
+            IsAfterSteps (gdb_state self.old images.now) (gdb_state self.new images.now)
+            (sink_text_of printed.old) (sink_text_of printed.new) stop
+            (looked_steps (looks_at (gdb_state self.old images.now) going seen.now) count
+            (gdb_state self.old images.now).debug.script)) }
+        ensures setting { self.new.debug.setting ≡ self.old.debug.setting }
+        ensures start { self.new.start.items ≡ self.old.start.items }
+        ensures errors { IfErr result IsLineError }
+    {
+        let mut left = count;
+        while left > 0 {
+            let may_change = may_change_list(going, self.debug.session.machine());
+            let ran = self.debug.session.take_steps(images, printed, 1)?;
+            let end = self.end_of_step(going, seen, may_change, GdbStop::Ran(ran.stop))?;
+            if let Some(stop) = end {
+                return Ok(stop);
+            }
+            left -= 1;
+        }
+        Ok(GdbStop::Ran(Stop::Budget))
+    }
+
+    // Why the steps end with one that left this, and after which the machine itself stood so.
+    fn end_of_step(
+        &self,
+        going: Going,
+        seen: &[SeenByte],
+        may_change: bool,
+        stop: GdbStop,
+    ) -> Result<Option<GdbStop>, AllocError>
+        ensures { (images : List Entry) → IfOk result (λ end. end
+            ≡ end_of_step (looks_at (gdb_state self.now images) going seen.now) may_change stop
+            (gdb_state self.now images).debug.script) }
+    {
+        if let Some(address) = first_changed(self.debug.session.machine().memory(), seen) {
+            return Ok(Some(GdbStop::Watched(address)));
+        }
+        if !goes_on(stop) {
+            return Ok(Some(stop));
+        }
+        self.end_beside(going, may_change)
+    }
+
+    // Why they end where no byte has changed and the machine could go on.
+    fn end_beside(&self, going: Going, may_change: bool) -> Result<Option<GdbStop>, AllocError>
+        ensures { (images : List Entry) → IfOk result (λ end. end
+            ≡ end_beside going (gdb_state self.now images).breaks (gdb_state self.now images).libraries
+            may_change (gdb_state self.now images).debug.script) }
+    {
+        let at = self.debug.session.machine().cpu().pc();
+        if self.breaks.has(at) {
+            return Ok(Some(GdbStop::Ran(Stop::Break(at))));
+        }
+        if has_left(going, at) {
+            return Ok(Some(GdbStop::Stepped));
+        }
+        if !may_change {
+            return Ok(None);
+        }
+        let is_other = self.has_other_list()?;
+        Ok(if is_other {
+            Some(GdbStop::Library)
+        } else {
+            None
+        })
+    }
+
+    /// Whether other modules are there than GDB was told of last.
+    pub(crate) fn has_other_list(&self) -> Result<bool, AllocError>
+        ensures { (images : List Entry) → IfOk result (λ other. other
+            ≡ is_other_list (gdb_state self.now images).libraries (gdb_state self.now images).debug.script) }
+    {
+        let now = library_lines(self.alloc, self.debug.session.machine().instances())?;
+        Ok(now.as_slice() != self.libraries.as_slice())
+    }
+}
+
+// Whether there may be another step.
+pub(crate) fn goes_on(stop: GdbStop) -> bool
+    ensures { result ≡ goes_on_told stop }
+{
+    matches!(stop, GdbStop::Ran(Stop::Budget))
+}
+
+// Whether the program has left the range in which it is to take steps.
+fn has_left(going: Going, address: u32) -> bool
+    ensures { result ≡ has_left going address }
+{
+    match going {
+        Going::Within(places) => address < places.start || address >= places.end,
+        Going::Once | Going::On => false,
+    }
+}
+
+// Whether the next step may change which modules are there, where GDB wants to know of it at once.
+fn may_change_list(going: Going, machine: &Machine) -> bool
+    ensures { result ≡ may_change_list going (state_of machine.now.guest) }
+{
+    match going {
+        Going::On => begins_call(machine),
+        Going::Once | Going::Within(_) => false,
+    }
+}
+
+// Whether the next step begins at a software interrupt, or where module code goes back.
+fn begins_call(machine: &Machine) -> bool
+    ensures { result ≡ begins_call (state_of machine.now.guest) }
+{
+    let at = machine.cpu().pc();
+    at == RETURN_GATE || is_interrupt(machine.memory().load_word(at))
+}
+
+fn is_interrupt(word: Result<u32, Fault>) -> bool
+    ensures { result ≡ is_interrupt_told word }
+{
+    match word {
+        Ok(word) => word / 0x0100_0000 % 16 == 15,
+        Err(_) => false,
+    }
+}

@@ -1,0 +1,13 @@
+break main
+continue
+next
+next
+print sum
+next
+next
+print calls
+break work
+continue
+finish
+next
+print sum
