@@ -1,0 +1,195 @@
+/* The page rosm.html: an editor, the machine in a worker, and the player of what it did. */
+
+import { plural, visible } from "../src/format.js";
+import { readFragment, writeFragment } from "../src/fragment.js";
+import { Player } from "../src/player.js";
+import { Trace } from "../src/replay.js";
+import { startTheme } from "../src/theme.js";
+import { Runner } from "./runner.js";
+import { packScript, unpackScript } from "./share.js";
+import { Writing } from "./writing.js";
+
+/* The button Stop comes when a run takes longer, in milliseconds. */
+const LONG_RUN = 300;
+
+const find = (id) => document.getElementById(id);
+/* Records are ASCII. */
+const bytesToText = (bytes) => new TextDecoder().decode(bytes);
+
+async function moduleBytes() {
+  const packed = Uint8Array.from(atob(find("wasm").textContent.trim()), (c) => c.charCodeAt(0));
+  const stream = new Blob([packed]).stream().pipeThrough(new DecompressionStream("gzip"));
+  return new Uint8Array(await new Response(stream).arrayBuffer());
+}
+
+class Editor {
+  constructor(examples, runner) {
+    this.examples = examples;
+    this.runner = runner;
+    this.player = null;
+    this.writing = new Writing({ area: find("text"), numbers: find("numbers"), mark: find("mark") });
+    this.listExamples();
+    this.listen();
+  }
+
+  listExamples() {
+    const groups = new Map();
+    for (const example of this.examples) {
+      if (!groups.has(example.group)) {
+        const group = document.createElement("optgroup");
+        group.label = example.group;
+        groups.set(example.group, group);
+        find("examples").append(group);
+      }
+      groups.get(example.group).append(new Option(example.title, example.name));
+    }
+  }
+
+  listen() {
+    find("run").addEventListener("click", () => this.run());
+    find("stop").addEventListener("click", () => this.runner.stop());
+    find("share").addEventListener("click", () => this.share());
+    find("examples").addEventListener("change", () => {
+      const example = this.examples.find((each) => each.name === find("examples").value);
+      if (example) { this.open(example); this.run(); }
+    });
+    find("fold").addEventListener("click", () => {
+      const isFolded = document.body.classList.toggle("folded");
+      find("fold").setAttribute("aria-expanded", !isFolded);
+    });
+    find("text").addEventListener("input", () => this.edited());
+    find("text").addEventListener("keydown", (event) => {
+      if (event.key !== "Enter" || !event.ctrlKey && !event.metaKey) return;
+      event.preventDefault();
+      this.run();
+    });
+  }
+
+  open(example) {
+    this.example = example;
+    this.writing.text = example.script;
+    find("examples").value = example.name;
+    find("about").textContent = example.about;
+    this.name({ example: example.name });
+  }
+
+  /* What is edited is no example any more, nor what the page's address holds. */
+  edited() {
+    if (this.example === null) return;
+    this.example = null;
+    find("examples").value = "";
+    find("about").textContent = "";
+    this.name({});
+  }
+
+  /* Names the script in the page's address. */
+  name(parts) {
+    const hash = writeFragment(new Map(Object.entries(parts)));
+    try { history.replaceState(null, "", hash); } catch { /* a page that may not */ }
+  }
+
+  say(text, isBad = false) {
+    find("state").textContent = text;
+    find("state").classList.toggle("bad", isBad);
+  }
+
+  async run() {
+    const text = this.writing.text, begin = performance.now();
+    this.say("running …");
+    const timer = setTimeout(() => { find("stop").hidden = false; }, LONG_RUN);
+    const result = await this.runner.run(new TextEncoder().encode(text), this.example ? this.example.file : "");
+    clearTimeout(timer);
+    if (this.runner.isRunning) return;
+    find("stop").hidden = true;
+    if (result.stopped) this.say("stopped: what it did is not known", true);
+    else if (result.failure) this.say(result.failure, true);
+    else this.show(result, Math.round(performance.now() - begin));
+  }
+
+  show(result, milliseconds) {
+    this.close();
+    if (result.answers) {
+      find("answers").textContent = visible(new TextDecoder().decode(result.answers));
+      find("answers").hidden = false;
+      this.say("This build of the machine has answers and no records, so there is nothing to step through.");
+      return;
+    }
+    try {
+      this.play(new Trace(bytesToText(result.records)));
+      this.say(`${plural(this.player.trace.steps, "step")} in ${milliseconds} ms`);
+    } catch (error) {
+      this.close();
+      this.say("The records can't be shown. " + error.message, true);
+    }
+  }
+
+  play(trace) {
+    this.player = new Player(find("player"), trace);
+    this.player.onDraw = (moment) => this.follow(moment);
+    if (!this.player.goToAddress()) this.player.go(trace.last, { isFast: true });
+    window.rosm = { player: this.player, trace, editor: this };
+  }
+
+  close() {
+    if (this.player) this.player.remove();
+    this.player = null;
+    find("answers").hidden = true;
+    find("hint").hidden = true;
+  }
+
+  /* Marks a line in the editor: the one that wrote last what is chosen, else that of the present moment. */
+  follow(moment) {
+    const { trace } = this.player, at = this.player.lastWriteOfChosen() || moment, line = trace.lineAt(at);
+    this.writing.showLine(trace.sourceOf[at] || (line ? line.line : 0));
+  }
+
+  async share() {
+    this.name({ script: await packScript(this.writing.text) });
+    if (this.player) this.player.writeAddress();
+    try {
+      await navigator.clipboard.writeText(location.href);
+      this.say("The page's address holds the script now, and was copied.");
+    } catch {
+      this.say("The page's address holds the script now: copy it.");
+    }
+  }
+
+  /* Opens what the address names: a script, an example, or else the first example. */
+  async openAddress() {
+    const parts = readFragment(location.hash);
+    const shared = parts.has("script") ? await unpackScript(parts.get("script")) : null;
+    if (parts.has("script") && shared === null) {
+      this.say("The address holds no script that can be read.", true);
+      return false;
+    }
+    const moment = ["step", "line"].filter((name) => parts.has(name)).map((name) => [name, parts.get(name)]);
+    if (shared !== null) {
+      this.example = null;
+      this.writing.text = shared;
+      find("examples").value = "";
+      this.name({ script: parts.get("script"), ...Object.fromEntries(moment) });
+      return true;
+    }
+    this.open(this.examples.find((each) => each.name === parts.get("example")) || this.examples[0]);
+    this.name({ example: this.example.name, ...Object.fromEntries(moment) });
+    return true;
+  }
+}
+
+async function start() {
+  let editor = null;
+  startTheme(() => { if (editor && editor.player) editor.player.recolour(); });
+  if (new URLSearchParams(location.search).has("embed")) document.body.classList.add("embed", "folded");
+  const runner = new Runner(find("worker").textContent, await moduleBytes());
+  editor = new Editor(JSON.parse(find("scripts").textContent), runner);
+  window.rosm = { editor };
+  if (await editor.openAddress()) await editor.run();
+  addEventListener("hashchange", async () => {
+    const parts = readFragment(location.hash);
+    if ((parts.has("script") || parts.has("example")) && await editor.openAddress()) await editor.run();
+  });
+}
+
+start().catch((error) => {
+  find("state").textContent = "This page can't be shown: " + error.message;
+});
