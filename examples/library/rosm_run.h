@@ -24,7 +24,8 @@ enum rosm_status {
     ROSM_FAULT = 1, /* the last stop was a fault */
     ROSM_SIZES = 2, /* no machine has these sizes; nothing is written */
     ROSM_STOP = 3,  /* another stop, as by a break or the budget, or none */
-    ROSM_NOT_RUN = 4 /* memory ran out, the script is too long, or the image is refused; nothing is written */
+    ROSM_NOT_RUN = 4, /* memory ran out, the script is too long, or the image is refused; nothing is written */
+    ROSM_FAILED = 5 /* of records: a line EXPECT failed, or a line or block was refused */
 };
 
 /* The sizes and the budget that `rosm` has where its command line tells none: pages of 4,096 bytes, and
@@ -49,6 +50,15 @@ uint32_t rosm_run_image(uint32_t pages, uint32_t app, uint32_t rma, uint64_t bud
                         const uint8_t *image, size_t image_length,
                         const uint8_t *script, size_t script_length,
                         uint8_t *out, size_t room, size_t *written);
+
+/* Answers a debugging script (docs/DEBUG.md) as records: JSON objects, one a line, that tell the machine at
+ * the start, each line, each of its steps and its answer (docs/JSON.md). `name` is what the first record
+ * calls the script. The status is that of `rosm_debug`: where the script expects something it is 0 if all of
+ * that is so, and ROSM_FAILED if not. All else is as for rosm_run. */
+uint32_t rosm_records(uint32_t pages, uint32_t app, uint32_t rma, uint64_t budget,
+                      const uint8_t *name, size_t name_length,
+                      const uint8_t *script, size_t script_length,
+                      uint8_t *out, size_t room, size_t *written);
 
 #ifdef __cplusplus
 }

@@ -73,7 +73,7 @@ def debug_rows(program: Program) -> list[Row]:
 def line_section(program: Program) -> bytes:
     """`.debug_line`: for each row its address, its file and its line."""
     rows = debug_rows(program)
-    files: dict[str, int] = {}
+    files: dict[str, int] = {program.path: 1} if program.path else {}
     for row in rows:
         files.setdefault(row.position.file, len(files) + 1)
     table = b"".join(os.fsencode(file) + b"\0\0\0\0" for file in files)
@@ -95,12 +95,12 @@ def line_section(program: Program) -> bytes:
 _ABBREVIATIONS = bytes([1, 0x11, 0, 0x10, 6, 0x11, 1, 0x12, 1, 3, 8, 0x25, 8, 0x13, 5, 0, 0, 0])
 
 
-def unit_section(program: Program) -> bytes:
+def unit_section(program: Program, producer: str) -> bytes:
     """`.debug_info`: one unit of assembler from the first address to the last."""
     rows = debug_rows(program)
-    name = rows[0].position.file if rows else program.name
+    name = program.path or (rows[0].position.file if rows else program.name)
     body = struct.pack("<HIB", 2, 0, 4) + bytes([1]) + struct.pack("<III", 0, program.origin, program.end())
-    body += os.fsencode(name) + b"\0" + b"rosm\0" + struct.pack("<H", 0x8001)
+    body += os.fsencode(name) + b"\0" + producer.encode() + b"\0" + struct.pack("<H", 0x8001)
     return struct.pack("<I", len(body)) + body
 
 
@@ -124,7 +124,7 @@ def label_symbols(labels: list[Label], names: Names) -> bytes:
     return bytes(out)
 
 
-def sections_of(program: Program) -> list[Section]:
+def sections_of(program: Program, producer: str) -> list[Section]:
     """All sections but the first, which is empty, and the last, which has their names."""
     names = Names()
     local = bytes(_ENTRY_SIZE) + mapping_symbols(program, names)
@@ -134,21 +134,24 @@ def sections_of(program: Program) -> list[Section]:
         Section(".text", 1, program.data, flags=7, address=program.origin, align=4),
         Section(".strtab", 3, bytes(names.data)),
         Section(".debug_line", 1, line_section(program)),
-        Section(".debug_info", 1, unit_section(program)),
+        Section(".debug_info", 1, unit_section(program, producer)),
         Section(".debug_abbrev", 1, _ABBREVIATIONS)]
 
 
-def elf_of(program: Program) -> bytes:
-    """The whole file: its header, a segment, the sections' headers, and their contents."""
+def elf_of(program: Program, producer: str = "rosm") -> bytes:
+    """The whole file: its header, a segment, the sections' headers, and their contents.
+
+    `producer` is the program that a debugger is to name as the one that assembled it.
+    """
     names = Names()
-    sections = sections_of(program)
+    sections = sections_of(program, producer)
     places = [names.add(section.name) for section in sections] + [names.add(".shstrtab")]
     sections.append(Section(".shstrtab", 3, bytes(names.data)))
     headers, contents = bytearray(40), bytearray()
     start = 52 + 32 + 40 * (len(sections) + 1)
     offsets = []
     for section, name in zip(sections, places):
-        contents += bytes(-(start + len(contents)) % 4)
+        contents += bytes(-(start + len(contents)) % section.align)
         offsets.append(start + len(contents))
         headers += struct.pack("<10I", name, section.kind, section.flags, section.address, offsets[-1],
                                len(section.data), section.link, section.info, section.align, section.entry)

@@ -38,14 +38,16 @@ class Program:
     """An assembled program.
 
     `data` is what stands from `origin` on. `entry` is the address of the first instruction where
-    the source says one. `relocated` are addresses of words that hold an address of the program
-    itself, so that they are right at the origin alone.
+    the source says one. `path` is the source's file, where all of it stands in one. `relocated` are
+    addresses of words that hold an address of the program itself, so that they are right at the origin
+    alone.
     """
 
     origin: int
     data: bytes
     entry: int | None = None
     name: str = "program"
+    path: str = ""
     labels: list[Label] = field(default_factory=list)
     rows: list[Row] = field(default_factory=list)
     relocated: list[int] = field(default_factory=list)

@@ -189,7 +189,7 @@ def test_paths_of_any_bytes(tmp_path: Path) -> None:
     path = os.fsencode(tmp_path) + b"/\xff.s"
     with open(path, "w") as file:
         file.write(SMALL)
-    assert apart("symbols", os.fsdecode(path)).stdout.count(b"\xff.s\0") == 2
+    assert apart("source", "--output", "elf", os.fsdecode(path)).stdout.count(b"\xff.s\0") == 2
     assert apart("source", "--compare", os.fsdecode(path), os.fsdecode(path)).returncode == 1
 
 
