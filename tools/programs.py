@@ -26,12 +26,11 @@ class Programs:
     """The programs that are run."""
 
     rosm: str
-    rosm_show: str
     rosm_tools: str
 
     @classmethod
     def in_folder(cls, folder: pathlib.Path) -> Programs:
-        names = [folder / name for name in ("rosm", "rosm_show", "rosm_tools")]
+        names = [folder / name for name in ("rosm", "rosm_tools")]
         for path in names:
             if not os.access(path, os.X_OK):
                 sys.exit(f"{path} isn't built; ./build --unproved makes it without proof")

@@ -3,3 +3,4 @@ set arm apcs32 off
 set arm force-mode arm
 set confirm off
 set debuginfod enabled off
+set remotetimeout 60

@@ -1,10 +1,6 @@
 -- What the lines of a debugging script are answered. Begin with DebugScript.
 pub use Rattle.byte_writes.specs.Put
-pub use Rattle.debug_checks.specs.declared.reports.reports.CheckTally as DebugChecksCheckTally
 pub use Rattle.debug_checks.specs.declared.reports.reports.ReportForm as DebugChecksReportForm
-pub use Rattle.debug_checks.specs.reports
-pub use Rattle.debug_modes.specs.Modes
-pub use Rattle.debug_modes.specs.declared.modes.DebugModes
 pub use Rattle.run_meter.specs.Meters
 pub mod AsBefore
 pub mod DebugScript

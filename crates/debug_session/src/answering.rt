@@ -85,7 +85,10 @@ impl DebugSession {
     }
 
     // What is repeated, and how often, of a tidy line.
-    fn repeated_now<'a>(&self, words: &'a [u8]) -> Result<Option<RepeatedLine<'a>>, AllocError>
+    pub(crate) fn repeated_now<'a>(
+        &self,
+        words: &'a [u8],
+    ) -> Result<Option<RepeatedLine<'a>>, AllocError>
         ensures told { (images : List Entry) → IfOk result (λ repeated. option_map count_and_line repeated
             ≡ repeated_now (naming_of (debug_state self.now images)) words.now) }
         ensures alone { IfOk result (λ repeated. IfSome repeated

@@ -7,6 +7,7 @@ mod help;
 pub mod laws;
 mod looking;
 mod own_lines;
+mod recording;
 mod script_lines;
 mod session;
 mod stepping_lines;
@@ -14,6 +15,7 @@ mod typing;
 
 pub use byte_writes::put_bytes;
 pub use debug_checks::reports::{CheckTally, ReportForm};
+pub use debug_tables::Stub;
 pub use run_meter::RunMeter;
 pub use session::{DebugSession, DebugSetting};
 pub use typing::{DebugTyping, TypedPiece};

@@ -1,4 +1,4 @@
-//! What `rosm` does, for its `main` and `rosm_show`: files as images, a script, its answers, an
+//! What `rosm` does, for its `main` and the faces of `rosm_tools`: files as images, a script, its answers, an
 //! exit status.
 #![tactic(auto)]
 

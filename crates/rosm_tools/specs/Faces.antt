@@ -8,5 +8,4 @@ abbrev pub face_named : List ℕ → Option Face
 face_named word =
     if bytes_eq word (codes "debug") then Some face.Debug
     else if bytes_eq word (codes "gdb") then Some face.Gdb
-    else if bytes_eq word (codes "symbols") then Some face.Symbols
     else None

@@ -14,8 +14,6 @@ pub enum Face {
     Debug,
     /// `gdb`.
     Gdb,
-    /// `symbols`.
-    Symbols,
 }
 
 // A word with more bytes than this names no face.
@@ -37,8 +35,6 @@ fn face_of(word: &[u8]) -> Option<Face>
         Some(Face::Debug)
     } else if word == b"gdb".as_slice() {
         Some(Face::Gdb)
-    } else if word == b"symbols".as_slice() {
-        Some(Face::Symbols)
     } else {
         None
     }
@@ -49,7 +45,7 @@ pub fn refuse<R: Eprint>(rt: &R) -> ExitCode
     ensures { exit_status result ≡ 2 }
 {
     let _ = eprintln!(rt;
-        "rosm_tools: the first word is debug, gdb or symbols; usage: rosm_tools (debug | gdb | symbols) [WORD...]"
+        "rosm_tools: the first word is debug or gdb; usage: rosm_tools (debug | gdb) [WORD...]"
     );
     ExitCode::from(2)
 }

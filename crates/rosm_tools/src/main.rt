@@ -1,7 +1,6 @@
 //! The program `rosm_tools`: tools that stand on a whole machine, of which the first word names one.
 //!
-//! `rosm_tools debug WORD..` is what people type as `rosm_debug WORD..`; so it is with `rosm_gdb`
-//! and `rosm_symbols`.
+//! `rosm_tools debug WORD..` is what people type as `rosm_debug WORD..`; so it is with `rosm_gdb`.
 #![tactic(auto)]
 
 mod faces;
@@ -30,7 +29,6 @@ fn main(rt: HostRuntime) -> ExitCode {
             debug_face::run(&rt, &mut errors, is_terminal, meter(&rt, is_terminal))
         }
         Some(Face::Gdb) => gdb_face::run(&rt, &mut errors),
-        Some(Face::Symbols) => symbols_face::run(&rt),
         None => refuse(&rt),
     }
 }

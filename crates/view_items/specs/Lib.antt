@@ -1,5 +1,2 @@
--- What views tell, as data. Begin with Items and Boxes.
-pub mod Boxes
-pub mod Items
-pub mod Kinds
+-- What a sink over memory keeps.
 pub mod TextSink

@@ -1,15 +1,6 @@
-//! What views tell, as data, for pictures: items, and the boxes that stand for them. It knows no
-//! machine.
+//! A sink over a `Vec`, which keeps the text that is written to it.
 #![tactic(auto)]
 
-pub mod boxes;
-pub mod items;
-pub mod kinds;
-pub mod text_sink;
-pub mod views;
+mod text_sink;
 
-pub use boxes::{PictureBox, boxes_of};
-pub use items::{PictureItem, byte_digits};
-pub use kinds::BoxKind;
 pub use text_sink::TextSink;
-pub use views::{PictureView, are_of_memory};

@@ -1,2 +1,0 @@
-pub mod HtmlLemmas
-pub mod TextLemmas

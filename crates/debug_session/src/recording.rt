@@ -1,0 +1,51 @@
+//! What those need of a debugging session who record its steps one by one.
+
+ghost use Rattle.std.specs.Prelude.{◌≡◌, ◌<◌};
+
+use crate::session::DebugSession;
+use debug_labels::ImagePlace;
+use debug_lines::RepeatedLine;
+use debug_places::names_on;
+use debug_tables::Stubs;
+use image_loader::Images;
+use profile::{Sink, WriteFault};
+use std::alloc::AllocError;
+
+impl DebugSession {
+    ghost use Rattle.run_meter.specs.Session.{script_state};
+
+    /// Where the image of a name stands now, of those that were assembled.
+    pub fn image_place(&self, name: &[u8]) -> Option<ImagePlace> {
+        names_on(&self.labels, self.session.machine()).image_place(name)
+    }
+
+    /// The stubs that answer SWIs which the machine doesn't have.
+    pub fn stubs(&self) -> &Stubs
+        ensures { result.now ≡ self.now.modes.steps.stubs }
+    {
+        &self.modes.steps.stubs
+    }
+
+    /// Takes a step, or lets a stub answer it.
+    ///
+    /// # Errors
+    ///
+    /// `WriteFault` where the sink failed.
+    pub fn take_step<W: Sink>(&mut self, images: &Images, sink: &mut W) -> Result<(), WriteFault>
+        requires { 0 < (script_state self.old.session images.now).left }
+    {
+        self.modes
+            .steps
+            .stubs
+            .take_step(&mut self.session, images, sink)
+    }
+
+    /// What is repeated, and how often, of a tidy line.
+    ///
+    /// # Errors
+    ///
+    /// Memory ran out.
+    pub fn repeated<'a>(&self, words: &'a [u8]) -> Result<Option<RepeatedLine<'a>>, AllocError> {
+        self.repeated_now(words)
+    }
+}

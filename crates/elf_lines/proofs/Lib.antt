@@ -1,3 +1,0 @@
-pub mod WalkLemmas
-pub mod LebLemmas
-pub mod LabelLemmas

@@ -1,4 +1,0 @@
-pub mod LebLemmas
-pub mod StepLemmas
-pub mod RowLemmas
-pub mod SymbolLemmas

@@ -1,4 +1,0 @@
--- What is read in an ELF file, by the rules of those who read it. Begin with Laws.
-pub mod LineMachine
-pub mod SymbolTable
-pub mod Laws

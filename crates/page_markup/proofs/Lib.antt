@@ -1,4 +1,0 @@
-pub mod EscapeLemmas
-pub mod GridLemmas
-pub mod SvgLemmas
-pub mod ToldLemmas

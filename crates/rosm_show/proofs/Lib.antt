@@ -1,3 +1,0 @@
-pub mod ShowLemmas
-pub mod WidthLemmas
-pub mod WordLemmas

@@ -1,4 +1,0 @@
-pub mod OptionsLemmas
-pub mod BlockLemmas
-pub mod RowLemmas
-pub mod MakingLemmas

@@ -1,4 +1,0 @@
--- What has become of the boxes of views. Begin with Older, then Changes.
-pub mod Changes
-pub mod Gone
-pub mod Older

@@ -1,2 +1,0 @@
-pub mod LayoutLemmas
-pub mod NestedLemmas

@@ -1,3 +1,0 @@
--- Where the boxes of views stand. Begin with Nested, then Layout.
-pub mod Layout
-pub mod Nested

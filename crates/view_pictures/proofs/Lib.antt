@@ -1,3 +1,0 @@
-pub mod BarLemmas
-pub mod LegendLemmas
-pub mod RowLemmas

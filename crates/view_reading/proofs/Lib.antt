@@ -1,2 +1,0 @@
-pub mod InnerLemmas
-pub mod ToldLemmas
