@@ -11,6 +11,7 @@ import struct
 from dataclasses import dataclass
 
 from .program import Label, Program, Row
+from .routines import sizes
 
 _TEXT = 2  # the number of the section with the bytes
 _ENTRY_SIZE = 16
@@ -116,11 +117,12 @@ def mapping_symbols(program: Program, names: Names) -> bytes:
     return bytes(out)
 
 
-def label_symbols(labels: list[Label], names: Names) -> bytes:
-    """The labels as global symbols of no type."""
+def label_symbols(labels: list[Label], lengths: dict[int, int], names: Names) -> bytes:
+    """The labels as global symbols of no type, some with the length of the routine that begins there."""
     out = bytearray()
     for label in labels:
-        out += struct.pack("<IIIBBH", names.add(label.name), label.address, 0, 16, 0, _TEXT)
+        length = lengths.get(label.address, 0)
+        out += struct.pack("<IIIBBH", names.add(label.name), label.address, length, 16, 0, _TEXT)
     return bytes(out)
 
 
@@ -128,7 +130,7 @@ def sections_of(program: Program, producer: str) -> list[Section]:
     """All sections but the first, which is empty, and the last, which has their names."""
     names = Names()
     local = bytes(_ENTRY_SIZE) + mapping_symbols(program, names)
-    symbols = local + label_symbols(program.sorted_labels(), names)
+    symbols = local + label_symbols(program.sorted_labels(), sizes(program), names)
     return [
         Section(".symtab", 2, symbols, link=3, info=len(local) // _ENTRY_SIZE, align=4, entry=_ENTRY_SIZE),
         Section(".text", 1, program.data, flags=7, address=program.origin, align=4),

@@ -6,6 +6,7 @@ import hashlib
 import json
 import os
 import shlex
+import struct
 import subprocess
 import sys
 from pathlib import Path
@@ -42,7 +43,8 @@ ASM ;odd 0
 
 # start MOV R0,#3; more SUBS R0,R0,#1; BNE more; text DCB "Hi",0. The file was written down from the standards.
 # readelf -a and readelf --debug-dump of GNU binutils 2.40 read in it the symbols $a and start at &8000, more at
-# &8004, $d and text at &800C, the lines 2 to 5 at &8000, &8004, &8008 and &800C, and the end at &800F.
+# &8004, $d and text at &800C, the lines 2 to 5 at &8000, &8004, &8008 and &800C, and the end at &800F. The
+# routine start has 12 bytes, since more is a place within it.
 PROGRAM = "0300a0e3010050e2fdffff1a486900"
 FILE = [
     # the file's header
@@ -61,7 +63,7 @@ FILE = [
     "3d000000030000000000000000000000bc0200004700000000000000000000000100000000000000",
     # symbols
     "0000000000000000000000000000000001000000008000000000000000000200040000000c800000",
-    "0000000000000200070000000080000000000000100002000d000000048000000000000010000200",
+    "000000000000020007000000008000000c000000100002000d000000048000000000000010000200",
     "120000000c8000000000000010000200",
     # program
     "0300a0e3010050e2fdffff1a486900",
@@ -175,20 +177,34 @@ def kept() -> list[tuple[str, str, str]]:
     return [(path, name, digest) for digest, path, name in (line.split() for line in lines if line[0] != "#")]
 
 
+def without_sizes(data: bytes) -> bytes:
+    """An ELF file whose symbols have no size ("Symbol Table" in the System V ABI), as that program wrote it."""
+    out, headers = bytearray(data), int.from_bytes(data[32:36], "little")
+    for number in range(int.from_bytes(data[48:50], "little")):
+        kind, _, _, place, length = struct.unpack_from("<5I", data, headers + 40 * number + 4)
+        for entry in range(place, place + length, 16) if kind == 2 else ():
+            out[entry + 8:entry + 12] = bytes(4)
+    return bytes(out)
+
+
 def test_files_are_as_they_were(folder: Path) -> None:
     wrong = []
     for path, name, digest in kept():
         done = symbols([path, name], folder, ROOT)
-        if hashlib.sha256(done.stdout).hexdigest() != digest:
+        if hashlib.sha256(without_sizes(done.stdout)).hexdigest() != digest:
             wrong.append((path, name, done.stderr))
     assert wrong == []
+
+
+# blocks that came when that program was no more; GNU binutils read files of random programs in tools/symbols_beside_gnu
+LATER = {("examples/debug/best-fit.script", "holes")}
 
 
 def test_every_block_of_the_examples_is_compared() -> None:
     found = [(str(path.relative_to(ROOT)), block.opener.name.decode())
              for path in sorted((ROOT / "examples").rglob("*.script"))
              for block in blocks(path.read_bytes()) if block.opener.is_asm]
-    assert sorted(set(found)) == sorted((path, name) for path, name, _ in kept())
+    assert set(found) == {(path, name) for path, name, _ in kept()} | LATER
 
 
 @pytest.mark.parametrize("group", ["assembler", "debug", "malformed"])

@@ -4,6 +4,8 @@ import subprocess
 from collections.abc import Callable
 
 SECONDS = 60
+# why a line isn't known whose first word isn't
+UNKNOWN = "no such line; HELP lists them"
 
 # what a row finds of the answers: why it fails, or nothing
 Verdict = Callable[[list[str]], str | None]
@@ -39,7 +41,7 @@ class Script:
         rest = ran.stdout.decode("latin-1")
         answers = []
         for number in self.marks:
-            answer, mark, rest = rest.partition(f"? line {number}\n")
+            answer, mark, rest = rest.partition(f"? line {number}: {UNKNOWN}\n")
             if not mark:
                 errors = ran.stderr.decode("latin-1")
                 raise RowError(f"no answer up to line {number} of the script: {errors}")

@@ -5,3 +5,4 @@ pub mod Lowest
 pub mod OperandWords
 pub mod RegisterWords
 pub mod Turning
+pub mod BreaksLemmas

@@ -9,3 +9,4 @@ pub mod Operand
 pub mod Operate
 pub mod Psr
 pub mod State
+pub mod breaks

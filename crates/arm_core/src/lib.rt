@@ -2,6 +2,7 @@
 //! leaves of them.
 #![tactic(auto)]
 
+pub mod breaks;
 pub mod condition;
 pub mod cpu;
 pub mod effect;

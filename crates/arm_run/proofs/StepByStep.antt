@@ -6,7 +6,7 @@ use Rattle.arm_core.specs.declared.turn.Turn.{Turn}
 use Rattle.arm_core.specs.declared.turn.Turn.TheVariants as turn
 use Rattle.arm_step.specs.Step.{result_of_step}
 use Rattle.arm_step.specs.Turns.{Turns}
-use Rattle.swi_dispatch_breaks.specs.Breaks.{is_among}
+use Rattle.arm_core.specs.breaks.Breaks.{is_among}
 use Rattle.arm_run.specs.Runs.{AreDone}
 use Rattle.arm_run.specs.Standing.{Refuses}
 

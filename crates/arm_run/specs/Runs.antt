@@ -8,7 +8,7 @@ use Rattle.arm_core.specs.State.{State}
 use Rattle.arm_core.specs.declared.turn.Turn.TheVariants.{Done}
 use Rattle.arm_step.specs.Step.{result_of_step}
 use Rattle.arm_step.specs.Turns.{Turns}
-use Rattle.swi_dispatch_breaks.specs.Breaks.{is_among}
+use Rattle.arm_core.specs.breaks.Breaks.{is_among}
 
 -- `n` steps and one more, from where they led
 pub record IsOneMore (owned : ℕ → Bool) (breaks : List ℕ) (n : ℕ) (middle new : State × Bytes) : Type 0 where

@@ -10,6 +10,6 @@ mod running;
 mod standing;
 mod transferring;
 
+pub use arm_core::breaks::{BreakError, Breaks};
 pub use arm_ready::ReadyWords;
 pub use running::run;
-pub use swi_dispatch_breaks::{BreakError, Breaks};

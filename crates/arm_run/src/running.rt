@@ -5,18 +5,18 @@ ghost use Rattle.address_map.specs.Memory.{bytes_of, is_owned, layout, place, cl
 ghost use Rattle.arm_core.specs.declared.turn.Turn.TheVariants.{Done};
 ghost use Rattle.arm_run.specs.Standing.{Acts};
 ghost use Rattle.arm_run.specs.Runs.{AreDone, StopsBy};
-ghost use Rattle.arm_window.specs.Windows.{IsOpen};
+ghost use Rattle.arm_step.specs.window.Windows.{IsOpen};
 ghost use Rattle.arm_step.specs.Step.{result_of_step};
 ghost use Rattle.arm_step.specs.Turns.{Turns};
 
 use crate::act::act;
 use crate::standing::{fetch, position, slowly, stand, turn_at};
 use address_map::AddressMap;
+use arm_core::breaks::Breaks;
 use arm_core::{Cpu, Turn};
 use arm_ready::ReadyWords;
-use arm_window::Window;
+use arm_step::window::Window;
 use profile::Stop;
-use swi_dispatch_breaks::Breaks;
 
 /// Takes up to so many steps, as long as each is an instruction that is done, and no further than
 /// to a break. Answers how many, and the turn that comes next where that is another, or why a run
@@ -74,7 +74,7 @@ pub fn run(
 
 /// A step at a position. Answers where the program goes on, or `None` where another turn comes than
 /// that of an instruction that is done; nothing is changed then.
-#[tactic(auto, using(arm_window::proofs::Opened::stays_open))]
+#[tactic(auto, using(arm_step::proofs::WindowLemmas::Opened::stays_open))]
 #[inline(always)]
 fn step_at(
     cpu: &mut Cpu,

@@ -7,7 +7,7 @@ ghost use Rattle.arm_core.specs.State.{State, register_in, with_register};
 ghost use Rattle.arm_core.specs.declared.turn.Turn.{Turn};
 ghost use Rattle.arm_core.specs.declared.turn.Turn.TheVariants.{Done};
 ghost use Rattle.arm_run.specs.Standing.{core_at, Acts, IsFetched, Refuses};
-ghost use Rattle.arm_window.specs.Windows.{IsIn, IsOpen};
+ghost use Rattle.arm_step.specs.window.Windows.{IsIn, IsOpen};
 ghost use Rattle.arm_step.specs.Step.{result_of_step};
 ghost use Rattle.arm_step.specs.Turns.{Turns};
 
@@ -15,7 +15,7 @@ use address_map::AddressMap;
 use arm_core::{Cpu, Turn};
 use arm_ready::{ReadyKind, ReadyWords};
 use arm_step::step;
-use arm_window::Window;
+use arm_step::window::Window;
 
 /// How many words the address space has.
 pub(crate) const POSITIONS: usize = 1 << 24;
@@ -89,7 +89,7 @@ pub(crate) fn fetch(memory: &AddressMap, window: &Window, at: usize) -> u32
 }
 
 /// The number of the SWI at a position, if its word is made ready as one.
-#[tactic(auto, using(arm_window::proofs::Opened::in_limit, crate::proofs::Carried::interrupt_comes))]
+#[tactic(auto, using(arm_step::proofs::WindowLemmas::Opened::in_limit, crate::proofs::Carried::interrupt_comes))]
 #[inline(always)]
 fn interrupt_at(memory: &AddressMap, ready: &ReadyWords, window: &Window, at: usize) -> Option<u32>
     requires window { IsOpen (place memory.now) window.now }

@@ -12,3 +12,4 @@ pub mod StoredBase
 pub mod Transfers
 pub mod Turns
 pub mod Words
+pub mod window

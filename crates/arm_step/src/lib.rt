@@ -9,6 +9,7 @@ pub mod laws;
 pub mod page_block;
 pub mod page_words;
 pub mod transfer;
+pub mod window;
 pub mod words;
 
 pub use arm_core::{Cpu, Mode, Psr, Turn};

@@ -2,7 +2,7 @@
 
 ghost use Rattle.std.specs.Prelude.{◌≡◌, Some};
 
-use assembler_names::Reason;
+use assembler_text::naming::Reason;
 use std::error::Error;
 use std::fmt;
 

@@ -13,7 +13,7 @@ mod output;
 pub mod program;
 mod statements;
 
-pub use assembler_names::{Labels, Reason, disassemble};
+pub use assembler_text::naming::{Labels, Reason, disassemble};
 pub use assembling::{assemble, assemble_lines, labels_of_lines};
 pub use error::AsmError;
 pub use program::Program;

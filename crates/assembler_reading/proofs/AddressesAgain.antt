@@ -23,10 +23,10 @@ use Rattle.assembler_text.specs.Names.{choose_text, condition_text, register_tex
 use Rattle.assembler_text.specs.Numbers.{number_text}
 use Rattle.assembler_text.specs.Operands.{shifted_text, shifting_text}
 use Rattle.assembler_text.specs.Transfers.{operand_address_text, after_text, base_text, before_text, close_text, is_nothing, is_user, offset_text, sign_text, transfer_head, transfer_text}
-use Rattle.assembler_names.specs.Expressions.{Lookup}
-use Rattle.assembler_names.specs.Names.{register}
-use Rattle.assembler_names.specs.Words.{after_mark, after_spaces, byte, comma, is_marked}
-use Rattle.assembler_names.specs.declared.mnemonics.Command.TheVariants as command
+use Rattle.assembler_text.specs.naming.Expressions.{Lookup}
+use Rattle.assembler_text.specs.naming.Names.{register}
+use Rattle.assembler_text.specs.naming.Words.{after_mark, after_spaces, byte, comma, is_marked}
+use Rattle.assembler_text.specs.declared.naming.mnemonics.Command.TheVariants as command
 use Rattle.assembler_reading.specs.Addresses.{address_at, address_in_brackets, before_bracket, address_after_bracket, address_after_base, number_offset, offset_in, offset_of_value, address_with_offset, shifted_offset, transfer_text_at, transfer_action}
 use Rattle.assembler_reading.specs.Instructions.{instruction}
 use Rattle.assembler_reading.specs.Operands.{ReadOutcome, shifted_operand}

@@ -15,10 +15,10 @@ use Rattle.arm_decode.specs.declared.address.BlockMode.{BlockMode}
 use Rattle.arm_decode.specs.declared.condition.Condition.{Condition}
 use Rattle.assembler_text.specs.Names.{block_mode_text, choose_text, condition_text, register_text, text_if}
 use Rattle.assembler_text.specs.Transfers.{block_head, block_transfer_text, braces_text, listed_from, listed_text, register_names_text}
-use Rattle.assembler_names.specs.Expressions.{Lookup}
-use Rattle.assembler_names.specs.Names.{register}
-use Rattle.assembler_names.specs.Words.{after_mark, after_spaces, byte, comma, is_marked, is_word_byte}
-use Rattle.assembler_names.specs.declared.mnemonics.Command.TheVariants as command
+use Rattle.assembler_text.specs.naming.Expressions.{Lookup}
+use Rattle.assembler_text.specs.naming.Names.{register}
+use Rattle.assembler_text.specs.naming.Words.{after_mark, after_spaces, byte, comma, is_marked, is_word_byte}
+use Rattle.assembler_text.specs.declared.naming.mnemonics.Command.TheVariants as command
 use Rattle.assembler_reading.specs.Instructions.{instruction}
 use Rattle.assembler_reading.specs.RegisterLists.{block_transfer_text_at, block_transfer_action, last_register, more_registers, register_list, register_range, with_range, list_with_register}
 use Rattle.assembler_reading.proofs.InstructionsAgain.{read_again, word_for_again}

@@ -20,12 +20,12 @@ use Rattle.assembler_text.specs.Names.{choose_text, condition_text, operation_te
 use Rattle.assembler_text.specs.Numbers.{number_text}
 use Rattle.assembler_text.specs.Operands.{operand_text}
 use Rattle.assembler_text.specs.Printing.{branch_target, branch_text, flags_text, swi_text, multiply_head, multiply_operands, multiply_text, operate_head, operate_text, operate_registers_text}
-use Rattle.assembler_names.specs.Expressions.{Lookup, expression, sign}
-use Rattle.assembler_names.specs.SwiNames.{call_named, swi_named}
-use Rattle.assembler_names.specs.Mnemonics.{flag_text, mnemonic}
-use Rattle.assembler_names.specs.Words.{after_spaces, after_word, byte, spaces, word}
-use Rattle.assembler_names.specs.declared.mnemonics.Command.{Command}
-use Rattle.assembler_names.specs.declared.mnemonics.Command.TheVariants as command
+use Rattle.assembler_text.specs.naming.Expressions.{Lookup, expression, sign}
+use Rattle.assembler_text.specs.naming.SwiNames.{call_named, swi_named}
+use Rattle.assembler_text.specs.naming.Mnemonics.{flag_text, mnemonic}
+use Rattle.assembler_text.specs.naming.Words.{after_spaces, after_word, byte, spaces, word}
+use Rattle.assembler_text.specs.declared.naming.mnemonics.Command.{Command}
+use Rattle.assembler_text.specs.declared.naming.mnemonics.Command.TheVariants as command
 use Rattle.assembler_reading.specs.Instructions.{action_at, branch_at, branch_to, instruction, swi_at, swi_action, plain_call, word_for}
 use Rattle.assembler_reading.proofs.MnemonicsAgain.{IsMnemonic, branch_word, swi_word, multiply_word, operate_word}
 use Rattle.assembler_reading.proofs.Numbers.{number_again}

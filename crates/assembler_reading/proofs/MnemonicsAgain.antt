@@ -10,11 +10,11 @@ use Rattle.arm_decode.specs.declared.condition.Condition.TheVariants as conditio
 use Rattle.arm_decode.specs.declared.operation.Operation.{Operation}
 use Rattle.arm_decode.specs.declared.operation.Operation.TheVariants as operation
 use Rattle.assembler_text.specs.Names.{block_mode_text, choose_text, condition_text, operation_text, text_if}
-use Rattle.assembler_names.specs.Mnemonics.{block_mnemonic, condition_and_rest, first_name, flag_text, swi_mnemonic, linked_branch, mnemonic, mnemonic_named, multiply_mnemonic, operate_mnemonic, plain_branch, suffix, transfer_mnemonic, transfer_suffix}
-use Rattle.assembler_names.specs.Names.{block_mode_named, condition_named, operation_named, printed_condition}
-use Rattle.assembler_names.specs.Words.{is_word_byte}
-use Rattle.assembler_names.specs.declared.mnemonics.Command.TheVariants as command
-use Rattle.assembler_names.specs.declared.mnemonics.Mnemonic.{Mnemonic}
+use Rattle.assembler_text.specs.naming.Mnemonics.{block_mnemonic, condition_and_rest, first_name, flag_text, swi_mnemonic, linked_branch, mnemonic, mnemonic_named, multiply_mnemonic, operate_mnemonic, plain_branch, suffix, transfer_mnemonic, transfer_suffix}
+use Rattle.assembler_text.specs.naming.Names.{block_mode_named, condition_named, operation_named, printed_condition}
+use Rattle.assembler_text.specs.naming.Words.{is_word_byte}
+use Rattle.assembler_text.specs.declared.naming.mnemonics.Command.TheVariants as command
+use Rattle.assembler_text.specs.declared.naming.mnemonics.Mnemonic.{Mnemonic}
 
 pub letters_join : (p : ℕ → Bool) (front behind : List ℕ) → list_all p front ≡ true → list_all p behind ≡ true → list_all p (front ++ behind) ≡ true
 letters_join p [] behind all others = others

@@ -9,8 +9,8 @@ use Rattle.std.specs.Str.Parse.{digits_value_after}
 use Rattle.profile.specs.Digits.{hex_digit, hex_digit_at, hex_number, hex_word, without_zeros}
 use Rattle.profile.specs.Word.{field}
 use Rattle.assembler_text.specs.Numbers.{number_text}
-use Rattle.assembler_names.specs.Expressions.{Lookup, Value, expression, hexadecimal, more_terms, named_term, numeral, sign, term, word_value}
-use Rattle.assembler_names.specs.Words.{after_spaces, is_word_byte}
+use Rattle.assembler_text.specs.naming.Expressions.{Lookup, Value, expression, hexadecimal, more_terms, named_term, numeral, sign, term, word_value}
+use Rattle.assembler_text.specs.naming.Words.{after_spaces, is_word_byte}
 use Rattle.assembler_reading.proofs.Pieces.{after_before, word_before}
 
 -- a digit's value

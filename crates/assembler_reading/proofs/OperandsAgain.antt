@@ -13,10 +13,10 @@ use Rattle.arm_decode.specs.declared.shift.ShiftedRegister.{ShiftedRegister}
 use Rattle.assembler_text.specs.Names.{register_text, shift_text}
 use Rattle.assembler_text.specs.Numbers.{immediate_text, immediate_value, is_field, least_rotation, number_text, rotated_back}
 use Rattle.assembler_text.specs.Operands.{amount_text, by_register_text, operand_text, shifted_text, shifting_text}
-use Rattle.assembler_names.specs.Expressions.{Lookup, Value, expression, sign}
-use Rattle.assembler_names.specs.Names.{register, shift_named}
-use Rattle.assembler_names.specs.Words.{after_spaces, after_word, byte, comma, is_word_byte, spaces, word}
-use Rattle.assembler_names.specs.declared.reason.Reason.{Reason}
+use Rattle.assembler_text.specs.naming.Expressions.{Lookup, Value, expression, sign}
+use Rattle.assembler_text.specs.naming.Names.{register, shift_named}
+use Rattle.assembler_text.specs.naming.Words.{after_spaces, after_word, byte, comma, is_word_byte, spaces, word}
+use Rattle.assembler_text.specs.declared.naming.reason.Reason.{Reason}
 use Rattle.assembler_reading.specs.Operands.{amount_at, immediate_operand, immediate_of, most_places, named_shift, places_of, rotated_of, rotation_at, second_operand, shift_at, shifted_operand, register_shifted_by}
 use Rattle.assembler_reading.proofs.Numbers.{amount_again, is_amount, number_again}
 use Rattle.assembler_reading.proofs.Pieces.{Ends, after_before, comma_then, is_register, register_again, word_before}

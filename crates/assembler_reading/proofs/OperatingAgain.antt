@@ -17,10 +17,10 @@ use Rattle.assembler_text.specs.Names.{register_text, text_if}
 use Rattle.assembler_text.specs.Numbers.{immediate_text, immediate_value, is_field, least_rotation}
 use Rattle.assembler_text.specs.Operands.{by_register_text, operand_text, shifted_text, shifting_text}
 use Rattle.assembler_text.specs.Printing.{multiply_operands, operate_registers_text}
-use Rattle.assembler_names.specs.Expressions.{Lookup}
+use Rattle.assembler_text.specs.naming.Expressions.{Lookup}
 use Rattle.std.specs.List.{prefix_len}
-use Rattle.assembler_names.specs.Names.{register}
-use Rattle.assembler_names.specs.Words.{after_spaces, is_word_byte}
+use Rattle.assembler_text.specs.naming.Names.{register}
+use Rattle.assembler_text.specs.naming.Words.{after_spaces, is_word_byte}
 use Rattle.assembler_reading.specs.Operands.{ReadOutcome, second_operand}
 use Rattle.assembler_reading.specs.Operating.{added_register, multiply_action, multiply_at, operate_at, operate_behind, operate_on, operate_with, operating}
 use Rattle.assembler_reading.proofs.OperandsAgain.{operand_again}

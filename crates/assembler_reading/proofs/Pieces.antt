@@ -3,9 +3,9 @@ use Rattle.std.proofs.Common.{◌≡◌, ◌<◌, ℕ, zero, suc, Bool, true, fa
 use Rattle.std.proofs.Math.Seq.{take-append_seam, drop-append_seam}
 use Rattle.std.specs.List.{prefix_len, list_all}
 use Rattle.assembler_text.specs.Names.{register_text}
-use Rattle.assembler_names.specs.Expressions.{sign}
-use Rattle.assembler_names.specs.Names.{register, register_named}
-use Rattle.assembler_names.specs.Words.{after_spaces, after_word, byte, comma, is_word_byte, word}
+use Rattle.assembler_text.specs.naming.Expressions.{sign}
+use Rattle.assembler_text.specs.naming.Names.{register, register_named}
+use Rattle.assembler_text.specs.naming.Words.{after_spaces, after_word, byte, comma, is_word_byte, word}
 
 -- the front of a text that passes
 pub front_len : (p : ℕ → Bool) (w rest : List ℕ) → list_all p w ≡ true → prefix_len p rest ≡ 0 → prefix_len p (w ++ rest) ≡ length w

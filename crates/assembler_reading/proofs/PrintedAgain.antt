@@ -14,7 +14,7 @@ use Rattle.arm_decode.specs.declared.condition.Condition.{Condition}
 use Rattle.arm_decode.proofs.Placed.{fields_have_places}
 use Rattle.arm_decode.proofs.Taken.{word_comes_back}
 use Rattle.assembler_text.specs.Printing.{action_text, data_text, print}
-use Rattle.assembler_names.specs.Expressions.{Lookup, expression}
+use Rattle.assembler_text.specs.naming.Expressions.{Lookup, expression}
 use Rattle.assembler_reading.specs.Instructions.{instruction}
 use Rattle.assembler_reading.specs.Laws.{InstructionsAreReadAgain, DataIsReadAgain}
 use Rattle.assembler_reading.proofs.AddressesAgain.{transfer_is_read}

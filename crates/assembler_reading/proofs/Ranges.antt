@@ -4,7 +4,7 @@ use Rattle.std.proofs.lemmas.Bool.Decides.{nat_tests}
 use Rattle.std.specs.Prelude.{fold, ◌==◌}
 use Rattle.std.specs.List.{range_with_len}
 use Rattle.profile.specs.Word.{bit_of}
-use Rattle.assembler_names.specs.Words.{comma, byte}
+use Rattle.assembler_text.specs.naming.Words.{comma, byte}
 use Rattle.assembler_reading.specs.RegisterLists.{more_registers, register_range, with_range, list_with_register}
 
 -- the registers from the n-th to the one before `stop`, put into a list

@@ -11,10 +11,10 @@ use Rattle.arm_decode.specs.declared.address.Offset.{Offset}
 use Rattle.arm_decode.specs.declared.address.Offset.TheVariants as offset
 use Rattle.arm_decode.specs.declared.operand.Operand.{Operand}
 use Rattle.arm_decode.specs.declared.operand.Operand.TheVariants as operand
-use Rattle.assembler_names.specs.Expressions.{Lookup, Value, expression}
-use Rattle.assembler_names.specs.Names.{register}
-use Rattle.assembler_names.specs.Words.{byte, comma, is_marked, after_mark, ◌>>=◌}
-use Rattle.assembler_names.specs.declared.reason.Reason.TheVariants.{UnknownLabel, BadImmediate, OutOfReach}
+use Rattle.assembler_text.specs.naming.Expressions.{Lookup, Value, expression}
+use Rattle.assembler_text.specs.naming.Names.{register}
+use Rattle.assembler_text.specs.naming.Words.{byte, comma, is_marked, after_mark, ◌>>=◌}
+use Rattle.assembler_text.specs.declared.naming.reason.Reason.TheVariants.{UnknownLabel, BadImmediate, OutOfReach}
 use Rattle.assembler_reading.specs.Operands.{ReadOutcome, shifted_operand}
 
 abbrev pub address_with_offset : Indexing → Direction → ℕ → Offset → Address

@@ -9,13 +9,13 @@ use Rattle.arm_decode.specs.Diagrams.{word_of_instruction}
 use Rattle.arm_decode.specs.declared.action.Action.{Action}
 use Rattle.arm_decode.specs.declared.action.Action.TheVariants as action
 use Rattle.arm_decode.specs.declared.condition.Condition.{Condition}
-use Rattle.assembler_names.specs.Expressions.{Lookup, Value, expression, sign}
-use Rattle.assembler_names.specs.SwiNames.{swi_named}
-use Rattle.assembler_names.specs.Mnemonics.{mnemonic_named}
-use Rattle.assembler_names.specs.Words.{after_word, byte, spaces, word, ◌>>=◌}
-use Rattle.assembler_names.specs.declared.mnemonics.Command.{Command}
-use Rattle.assembler_names.specs.declared.mnemonics.Command.TheVariants as command
-use Rattle.assembler_names.specs.declared.reason.Reason.TheVariants.{UnknownLabel, BadImmediate, OutOfReach, Forbidden}
+use Rattle.assembler_text.specs.naming.Expressions.{Lookup, Value, expression, sign}
+use Rattle.assembler_text.specs.naming.SwiNames.{swi_named}
+use Rattle.assembler_text.specs.naming.Mnemonics.{mnemonic_named}
+use Rattle.assembler_text.specs.naming.Words.{after_word, byte, spaces, word, ◌>>=◌}
+use Rattle.assembler_text.specs.declared.naming.mnemonics.Command.{Command}
+use Rattle.assembler_text.specs.declared.naming.mnemonics.Command.TheVariants as command
+use Rattle.assembler_text.specs.declared.naming.reason.Reason.TheVariants.{UnknownLabel, BadImmediate, OutOfReach, Forbidden}
 use Rattle.assembler_reading.specs.Addresses.{transfer_text_at}
 use Rattle.assembler_reading.specs.Operands.{ReadOutcome}
 use Rattle.assembler_reading.specs.Operating.{operate_at, multiply_at}

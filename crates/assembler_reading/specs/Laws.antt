@@ -7,7 +7,7 @@ use Rattle.arm_decode.specs.Decoded.{instruction_of_word}
 use Rattle.arm_decode.specs.declared.action.Action.{Action}
 use Rattle.arm_decode.specs.declared.condition.Condition.{Condition}
 use Rattle.assembler_text.specs.Printing.{print}
-use Rattle.assembler_names.specs.Expressions.{Lookup, expression}
+use Rattle.assembler_text.specs.naming.Expressions.{Lookup, expression}
 use Rattle.assembler_reading.specs.Instructions.{instruction}
 
 -- the text of an instruction at its address is read as its word, to the end

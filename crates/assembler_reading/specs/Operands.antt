@@ -8,11 +8,11 @@ use Rattle.arm_decode.specs.declared.shift.Shift.{Shift}
 use Rattle.arm_decode.specs.declared.shift.Shift.TheVariants.{LogicalLeft, LogicalRight, ArithmeticRight, RotateRight}
 use Rattle.arm_decode.specs.declared.shift.ShiftedRegister.{ShiftedRegister}
 use Rattle.assembler_text.specs.Numbers.{least_rotation, rotated_back}
-use Rattle.assembler_names.specs.Expressions.{Lookup, Value, expression}
-use Rattle.assembler_names.specs.Names.{register, shift_named}
-use Rattle.assembler_names.specs.Words.{after_word, byte, comma, is_same_name, spaces, word, ◌>>=◌}
-use Rattle.assembler_names.specs.declared.reason.Reason.{Reason}
-use Rattle.assembler_names.specs.declared.reason.Reason.TheVariants.{UnknownLabel, BadImmediate}
+use Rattle.assembler_text.specs.naming.Expressions.{Lookup, Value, expression}
+use Rattle.assembler_text.specs.naming.Names.{register, shift_named}
+use Rattle.assembler_text.specs.naming.Words.{after_word, byte, comma, is_same_name, spaces, word, ◌>>=◌}
+use Rattle.assembler_text.specs.declared.naming.reason.Reason.{Reason}
+use Rattle.assembler_text.specs.declared.naming.reason.Reason.TheVariants.{UnknownLabel, BadImmediate}
 
 -- what a piece of the operands stands for, or why there is none
 abbrev pub ReadOutcome : Type 0 → Type 0

@@ -7,9 +7,9 @@ use Rattle.arm_decode.specs.declared.action.Action.TheVariants as action
 use Rattle.arm_decode.specs.declared.action.Operate.{Operate}
 use Rattle.arm_decode.specs.declared.operand.Operand.{Operand}
 use Rattle.arm_decode.specs.declared.operation.Operation.{Operation}
-use Rattle.assembler_names.specs.Expressions.{Lookup}
-use Rattle.assembler_names.specs.Names.{register}
-use Rattle.assembler_names.specs.Words.{comma, ◌>>=◌}
+use Rattle.assembler_text.specs.naming.Expressions.{Lookup}
+use Rattle.assembler_text.specs.naming.Names.{register}
+use Rattle.assembler_text.specs.naming.Words.{comma, ◌>>=◌}
 use Rattle.assembler_reading.specs.Operands.{ReadOutcome, second_operand}
 
 -- the operation, whether it sets the flags, Rn and Rd

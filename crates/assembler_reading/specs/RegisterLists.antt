@@ -6,8 +6,8 @@ use Rattle.profile.specs.Word.{bit_of}
 use Rattle.arm_decode.specs.declared.action.Action.{Action}
 use Rattle.arm_decode.specs.declared.action.Action.TheVariants as action
 use Rattle.arm_decode.specs.declared.address.BlockMode.{BlockMode}
-use Rattle.assembler_names.specs.Names.{register}
-use Rattle.assembler_names.specs.Words.{after_mark, byte, comma, is_marked, ◌>>=◌}
+use Rattle.assembler_text.specs.naming.Names.{register}
+use Rattle.assembler_text.specs.naming.Words.{after_mark, byte, comma, is_marked, ◌>>=◌}
 use Rattle.assembler_reading.specs.Operands.{ReadOutcome}
 
 -- one more register, which may be there already

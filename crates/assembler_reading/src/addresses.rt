@@ -1,15 +1,15 @@
 //! The addresses of LDR and STR.
 
 ghost use Rattle.std.specs.Prelude.{◌≡◌, ◌<◌, ◌^◌, false};
-ghost use Rattle.assembler_names.specs.Labels.{address_of};
-ghost use Rattle.assembler_names.specs.Words.{byte, comma, read_of};
+ghost use Rattle.assembler_text.specs.naming.Labels.{address_of};
+ghost use Rattle.assembler_text.specs.naming.Words.{byte, comma, read_of};
 ghost use Rattle.assembler_reading.specs.Addresses.{address_at, as_offset, address_in_brackets, before_bracket, address_after_bracket, address_after_base, address_of_offset, address_at_label, number_offset, offset_in, offset_of_value, operand_offset, address_with_offset, address_from_pc, reached_from, shifted_offset, signed_direction, transfer_text_at, transfer_action};
 
 use crate::operands::{ReadOutcome, shifted};
 use arm_decode::{Action, Address, Bits, Direction, Indexing, Offset, Operand, Register, Transfer};
-use assembler_names::names::register;
-use assembler_names::words::{byte, comma, mark};
-use assembler_names::{Labels, Read, Reason, Value, expression};
+use assembler_text::naming::names::register;
+use assembler_text::naming::words::{byte, comma, mark};
+use assembler_text::naming::{Labels, Read, Reason, Value, expression};
 
 /// An offset and which way it counts.
 pub type SignedOffset = (Direction, Offset);

@@ -1,8 +1,8 @@
 //! An instruction as it is written: a mnemonic, spaces and operands.
 
 ghost use Rattle.std.specs.Prelude.{◌≡◌};
-ghost use Rattle.assembler_names.specs.Labels.{address_of};
-ghost use Rattle.assembler_names.specs.Words.{byte, read_of};
+ghost use Rattle.assembler_text.specs.naming.Labels.{address_of};
+ghost use Rattle.assembler_text.specs.naming.Words.{byte, read_of};
 ghost use Rattle.assembler_reading.specs.Instructions.{action_at, branch_at, branch_to, call_or_number, instruction, swi_at, swi_number, swi_action, plain_call, quoted_call, word_for};
 
 use crate::addresses::transfer_at;
@@ -10,9 +10,9 @@ use crate::operands::ReadOutcome;
 use crate::operating::{multiply_at, operate_at};
 use crate::register_lists::block_at;
 use arm_decode::{Action, Bits, Condition, Instr, encode};
-use assembler_names::expressions::sign;
-use assembler_names::words::{after_word, byte, spaces, word};
-use assembler_names::{
+use assembler_text::naming::expressions::sign;
+use assembler_text::naming::words::{after_word, byte, spaces, word};
+use assembler_text::naming::{
     Command, Labels, Read, Reason, Value, expression, mnemonic_named, swi_named,
 };
 

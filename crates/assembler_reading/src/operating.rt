@@ -1,15 +1,15 @@
 //! The operands of data processing and of multiplication.
 
 ghost use Rattle.std.specs.Prelude.{◌≡◌};
-ghost use Rattle.assembler_names.specs.Labels.{address_of};
+ghost use Rattle.assembler_text.specs.naming.Labels.{address_of};
 ghost use Rattle.assembler_reading.specs.Operating.{added_register, multiply_at, operate_at, operate_behind, operate_on, operate_with, operate_action};
-ghost use Rattle.assembler_names.specs.Words.{read_of};
+ghost use Rattle.assembler_text.specs.naming.Words.{read_of};
 
 use crate::operands::{ReadOutcome, second_operand};
 use arm_decode::{Action, Multiply, Operand, Operate, Operation, Register};
-use assembler_names::names::register;
-use assembler_names::words::comma;
-use assembler_names::{Labels, Read};
+use assembler_text::naming::names::register;
+use assembler_text::naming::words::comma;
+use assembler_text::naming::{Labels, Read};
 
 /// The operands of AND to MVN. The flag is S, or of a test P.
 pub fn operate_at<'t>(

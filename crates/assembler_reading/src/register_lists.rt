@@ -1,14 +1,14 @@
 //! The register lists of LDM and STM.
 
 ghost use Rattle.std.specs.Prelude.{◌≡◌, ◌<◌};
-ghost use Rattle.assembler_names.specs.Words.{byte, read_of};
+ghost use Rattle.assembler_text.specs.naming.Words.{byte, read_of};
 ghost use Rattle.assembler_reading.specs.RegisterLists.{block_transfer_text_at, last_register, more_registers, register_list, register_range, with_range, list_with_register};
 
 use crate::operands::ReadOutcome;
 use arm_decode::{Action, BlockMode, BlockTransfer, Register, RegisterList};
-use assembler_names::Read;
-use assembler_names::names::register;
-use assembler_names::words::{byte, comma, mark};
+use assembler_text::naming::Read;
+use assembler_text::naming::names::register;
+use assembler_text::naming::words::{byte, comma, mark};
 
 /// The operands of LDM or STM: `Rn!,{R0,R4-R6}^`.
 pub fn block_at(loads: bool, mode: BlockMode, text: &[u8]) -> Read<'_, ReadOutcome<Action>>

@@ -1,3 +1,4 @@
 pub mod Pieces
 pub mod Rotations
 pub mod Listed
+pub mod NamingLemmas

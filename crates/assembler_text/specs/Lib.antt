@@ -4,3 +4,4 @@ pub mod Numbers
 pub mod Operands
 pub mod Printing
 pub mod Transfers
+pub mod naming

@@ -2,6 +2,7 @@
 #![tactic(auto)]
 
 pub mod names;
+pub mod naming;
 pub mod numbers;
 pub mod operands;
 pub mod printing;

@@ -18,8 +18,8 @@ use Rattle.swi_dispatch_guest.specs.Writes.{machine_after_poke}
 use Rattle.swi_dispatch_guest.specs.MachineState.{MachineState, StepOutcome}
 use Rattle.swi_dispatch_guest.specs.Step.{machine_step, module_loaded, store_called}
 use Rattle.swi_dispatch.specs.declared.boot_error.BootError.{BootError}
-use Rattle.swi_dispatch_breaks.specs.Breaks.{with_break, without_break}
-use Rattle.swi_dispatch_breaks.specs.declared.breaks.BreakError.{BreakError}
+use Rattle.arm_core.specs.breaks.Breaks.{with_break, without_break}
+use Rattle.arm_core.specs.declared.breaks.breaks.BreakError.{BreakError}
 use Rattle.command_shell_lines.specs.Blocks.{block_bytes, block_lines, lines_after, lines_taken}
 use Rattle.command_shell_lines.specs.Requests.{Request, Nothing, Hex, Asm, Boot, Run, Regs, Set, Poke, Call, Load, Step, Break, Unbreak, Mem, Code, Heap, Areas, Modules, Flex, Unknown, opens_block, request_of, is_end_of_block}
 use Rattle.command_shell.specs.Answers.{break_text, unbreak_text}

@@ -4,7 +4,7 @@ use Rattle.std.proofs.lemmas.List.{append-nil}
 use Rattle.std.specs.Prelude.{if◌then◌else◌, IfSome}
 use Rattle.std.specs.Str.Lines.{lines}
 use Rattle.profile.specs.Sizes.{Sizes}
-use Rattle.text_lines.specs.Lines.{ReadingPlace}
+use Rattle.profile.specs.text_lines.Lines.{ReadingPlace}
 use Rattle.command_shell_lines.specs.Blocks.{block_lines, after_block, lines_in_block, lines_after, lines_taken}
 use Rattle.command_shell_lines.specs.Requests.{Request, Nothing, Hex, Asm, Boot, Run, Regs, Set, Poke, Call, Load, Step, Break, Unbreak, Mem, Code, Heap, Areas, Modules, Flex, Unknown, opens_block, request_of, is_end_of_block}
 use Rattle.image_loader.specs.Entries.{Entry}

@@ -11,9 +11,9 @@ use crate::session::Session;
 use assembler::{AsmError, Program, Reason, assemble_lines};
 use command_shell_lines::{Block, Origin, read_block, skip_block};
 use image_loader::{ImageError, Images};
+use profile::text_lines::Lines;
 use profile::{Sink, WriteFault};
 use swi_dispatch::BootError;
-use text_lines::Lines;
 
 impl Session {
     ghost use Rattle.image_loader.specs.Entries.{refusal_for};

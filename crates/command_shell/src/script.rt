@@ -11,10 +11,10 @@ use crate::error::RunError;
 use crate::session::Session;
 use command_shell_lines::{command_of, read_script};
 use image_loader::Images;
+use profile::text_lines::Lines;
 use profile::{Config, Sink, Source, Stop};
 use std::alloc::Global;
 use swi_dispatch::Machine;
-use text_lines::Lines;
 
 /// What a script came to.
 #[derive(Clone, Copy, Debug, PartialEq, Eq)]

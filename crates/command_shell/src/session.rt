@@ -10,10 +10,10 @@ use crate::calls::OutsideCall;
 use crate::error::RunError;
 use command_shell_lines::{ScriptCommand, command_of};
 use image_loader::Images;
+use profile::text_lines::Lines;
 use profile::{Sink, Stop};
 use std::alloc::Global;
 use swi_dispatch::{Breaks, Machine};
-use text_lines::Lines;
 
 /// What the lines of a script work on beside the images: a machine, its breaks, what is left of the
 /// budget, and the last stop that a line was answered with.

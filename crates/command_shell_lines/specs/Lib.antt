@@ -4,3 +4,4 @@ pub mod HexPairs
 pub mod Numbers
 pub mod Operands
 pub mod Requests
+pub mod debug_words

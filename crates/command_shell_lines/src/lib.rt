@@ -2,6 +2,7 @@
 #![tactic(auto)]
 
 mod blocks;
+pub mod debug_words;
 mod error;
 mod hex_pairs;
 mod numbers;

@@ -9,7 +9,7 @@ ghost use Rattle.image_loader.specs.Entries.{can_name_image};
 use crate::numbers::number_of;
 use crate::operands::{Origin, RegisterNumber, WordAddress, count_up_to};
 use image_loader::is_image_name;
-use text_lines::cut;
+use profile::text_lines::cut;
 
 /// The most bytes of memory that a line shows.
 const MAX_BYTES_SHOWN: u32 = 4096;

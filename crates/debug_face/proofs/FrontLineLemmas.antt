@@ -8,7 +8,7 @@ use Rattle.std.proofs.Math.Seq.{drop-append_seam, take-append_seam}
 use Rattle.std.specs.Prelude.{◌==◌}
 use Rattle.std.specs.List.{slice_split, position}
 use Rattle.std.specs.Str.Lines.{lines, strip_carriage_return}
-use Rattle.text_lines.proofs.LineLemmas.{lines_first, lines_last, split_nowhere}
+use Rattle.profile.proofs.TextLinesLemmas.LineLemmas.{lines_first, lines_last, split_nowhere}
 use Rattle.debug_face.specs.FrontLines.{EndsItsLines, IsBehindLine}
 
 -- no byte before the first line feed is one

@@ -10,10 +10,10 @@ use Rattle.profile.proofs.OutputLemmas.{AddsAllBut-more, AddsAllBut-start, Appen
 use Rattle.debug_records.specs.DebugScript.{debug_lines_told, debug_script_told, then_summary}
 use Rattle.debug_records.specs.DebugState.{DebugAnswered, DebugState, IsDebugged, debug_start_state}
 use Rattle.debug_records.specs.ExitStatus.{debug_status}
-use Rattle.debug_checks.specs.reports.Reports.{summary_text}
+use Rattle.debug_modes.specs.expectations.reports.Reports.{summary_text}
 use Rattle.debug_records.specs.Session.{debug_state}
 use Rattle.debug_records.specs.Typing.{IsTaken}
-use Rattle.debug_checks.specs.declared.reports.reports.ReportForm.TheVariants.{Answers}
+use Rattle.debug_modes.specs.declared.expectations.reports.reports.ReportForm.TheVariants.{Answers}
 use Rattle.debug_records.specs.DebugSession.{DebugSession}
 use Rattle.debug_records.specs.DebugSessionDebugSetting.{DebugSetting}
 use Rattle.debug_records.specs.DebugTyping.{DebugTyping}

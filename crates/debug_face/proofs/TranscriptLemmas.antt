@@ -10,14 +10,14 @@ use Rattle.std.specs.List.{flat_map}
 use Rattle.std.specs.Str.Lines.{lines}
 use Rattle.profile.proofs.OutputLemmas.{Appends-join, Appends-nothing}
 use Rattle.image_loader.specs.Entries.{Entry}
-use Rattle.text_lines.specs.Lines.{ReadingPlace}
+use Rattle.profile.specs.text_lines.Lines.{ReadingPlace}
 use Rattle.command_shell.specs.Error.{IsLineError}
 use Rattle.command_shell.specs.declared.error.RunError.{RunError}
 use Rattle.debug_records.proofs.LineLemmas.{fewer, none_left, none_told, step_state, step_text}
 use Rattle.debug_records.specs.DebugScript.{debug_lines_told}
 use Rattle.debug_records.specs.DebugState.{DebugAnswered, DebugState, debug_answer, debug_start_state}
 use Rattle.debug_records.specs.Session.{debug_state}
-use Rattle.debug_checks.specs.reports.Reports.{summary_text}
+use Rattle.debug_modes.specs.expectations.reports.Reports.{summary_text}
 use Rattle.debug_records.specs.DebugSession.{DebugSession}
 use Rattle.debug_records.specs.DebugSessionDebugSetting.{DebugSetting}
 use Rattle.debug_face.proofs.AnsweringLemmas.{place_is, with_block}

@@ -2,7 +2,7 @@
 -- that follows it; and all others, which are the words of `rosm`.
 use Rattle.std.specs.Prelude.{ℕ, ◌||◌, Bool, true, false, List, [], ◌∷◌, Option, Some, None, codes, if◌then◌else◌}
 use Rattle.std.specs.Str.{bytes_eq}
-use Rattle.debug_checks.specs.declared.reports.reports.ReportForm.TheVariants as form
+use Rattle.debug_modes.specs.declared.expectations.reports.reports.ReportForm.TheVariants as form
 use Rattle.debug_face.specs.declared.options.WantedForm.{WantedForm}
 use Rattle.debug_face.specs.declared.options.WantedForm.TheVariants as wanted
 use Rattle.debug_face.specs.declared.options.WordKind.{WordKind}

@@ -10,8 +10,8 @@ use Rattle.debug_records.specs.DebugState.{DebugAnswered}
 use Rattle.debug_records.specs.ExitStatus.{debug_status}
 use Rattle.debug_records.specs.Session.{debug_state}
 use Rattle.debug_records.specs.Typing.{IsTaken}
-use Rattle.debug_checks.specs.declared.reports.reports.ReportForm.{ReportForm}
-use Rattle.debug_checks.specs.declared.reports.reports.ReportForm.TheVariants.{Answers}
+use Rattle.debug_modes.specs.declared.expectations.reports.reports.ReportForm.{ReportForm}
+use Rattle.debug_modes.specs.declared.expectations.reports.reports.ReportForm.TheVariants.{Answers}
 use Rattle.debug_records.specs.DebugSessionDebugSetting.{DebugSetting}
 use Rattle.debug_records.specs.DebugTyping.{DebugTyping}
 

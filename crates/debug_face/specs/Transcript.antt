@@ -6,7 +6,7 @@ use Rattle.std.specs.Str.Lines.{lines}
 use Rattle.image_loader.specs.Entries.{Entry}
 use Rattle.debug_records.specs.DebugScript.{debug_lines_told}
 use Rattle.debug_records.specs.DebugState.{DebugAnswered, debug_start_state}
-use Rattle.debug_checks.specs.reports.Reports.{summary_text}
+use Rattle.debug_modes.specs.expectations.reports.Reports.{summary_text}
 use Rattle.debug_records.specs.DebugSessionDebugSetting.{DebugSetting}
 use Rattle.debug_face.specs.Answering.{AreAnsweredLines, ScriptPlace, start_place, told_by_lines}
 use Rattle.debug_face.specs.Spelling.{spelt_from}

@@ -11,9 +11,9 @@ ghost use Rattle.debug_face.specs.Answering.{place_of_answering, told_with_block
 use crate::front_lines::cut_lines;
 use debug_records::DebugSession;
 use image_loader::Images;
+use profile::text_lines::Lines;
+use profile::text_sink::TextSink;
 use std::alloc::{AllocError, Global};
-use text_lines::Lines;
-use view_items::TextSink;
 
 /// A line of a debugging script, with its block where it opens one, and the answer.
 #[derive(Drop)]

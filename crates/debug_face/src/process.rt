@@ -2,7 +2,7 @@
 
 ghost use Rattle.std.specs.Prelude.{◌≡◌, IfOk, OnOk};
 ghost use Rattle.std.specs.Process.{exit_status};
-ghost use Rattle.record_text.specs.Safe.{AddsSafe};
+ghost use Rattle.trace_effects.specs.record_text.Safe.{AddsSafe};
 ghost use Rattle.debug_face.specs.Endings.{ending_status};
 ghost use Rattle.debug_face.specs.Talking.{IsStatusOfScript};
 
@@ -15,6 +15,7 @@ use command_shell::RunError;
 use command_shell_lines::read_script;
 use debug_records::{DebugSetting, DebugTyping, ReportForm, RunMeter, record_script};
 use image_loader::Images;
+use profile::text_lines::cut;
 use profile::{Device, Sink, Source};
 use rosm_settings::SettingsRefusal;
 use rosm_settings::image_files::{FileError, add_files};
@@ -24,7 +25,6 @@ use std::fs::File;
 use std::io::{BufWriter, Write};
 use std::process::ExitCode;
 use std::{fs, io};
-use text_lines::cut;
 
 /// Answers a debugging script as the words of this process ask for it, of which the first names the
 /// face. `is_terminal` tells whether standard input is a terminal, `errors` is standard error, and the

@@ -3,11 +3,11 @@
 ghost use Rattle.std.specs.Prelude.{◌≡◌, ◌⊎◌, true, false, IfOk, OnOk};
 ghost use Rattle.std.specs.Io.KnownBytes.{IsAtEnd, Keeps};
 ghost use Rattle.profile.specs.Devices.{device_inner};
-ghost use Rattle.debug_checks.specs.declared.reports.reports.ReportForm.TheVariants.{Answers};
+ghost use Rattle.debug_modes.specs.declared.expectations.reports.reports.ReportForm.TheVariants.{Answers};
 ghost use Rattle.debug_face.specs.Talking.{DebugsInput, HasTalked, IsStatusOfInput, TakesPiece};
 
 use command_shell::RunError;
-use debug_checks::reports::push_missing_end;
+use debug_modes::expectations::reports::push_missing_end;
 use debug_records::{DebugTyping, ReportForm};
 use image_loader::Images;
 use profile::{Device, Sink, Source, WriteFault, push_all};

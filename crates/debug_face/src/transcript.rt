@@ -5,7 +5,7 @@ ghost use Rattle.std.specs.Prelude.{◌≡◌, ◌⊎◌, true, Err, IfOk, IfSom
 ghost use Rattle.profile.specs.Output.{Writes};
 ghost use Rattle.command_shell.specs.Error.{IsLineError};
 ghost use Rattle.debug_records.specs.ExitStatus.{debug_status};
-ghost use Rattle.debug_checks.specs.reports.Reports.{summary_text};
+ghost use Rattle.debug_modes.specs.expectations.reports.Reports.{summary_text};
 ghost use Rattle.debug_face.specs.Transcript.{answered_text, debug_told_in, BeginsTranscript, WritesTranscript};
 
 use crate::answering::{AnsweredLine, ScriptAnswering};
@@ -14,9 +14,9 @@ use command_shell::RunError;
 use command_shell_lines::read_script;
 use debug_records::{DebugSession, DebugSetting};
 use image_loader::Images;
+use profile::text_sink::TextSink;
 use profile::{Sink, Source, WriteFault};
 use std::alloc::{AllocError, Global};
-use view_items::TextSink;
 
 /// Reads a script whole, writes its transcript, and gives the exit status of its lines.
 ///

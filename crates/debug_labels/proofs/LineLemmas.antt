@@ -2,7 +2,7 @@
 use Rattle.std.proofs.Common.{◌≡◌, ℕ, ◌-◌, ◌<◌, List, [], ◌∷◌, ◌++◌, length, None, refl, ap, ◌∙◌, append_assoc, arith}
 use Rattle.std.specs.Prelude.{◌==◌}
 use Rattle.std.specs.List.{join_with_byte, slice_split}
-use Rattle.text_lines.proofs.LineLemmas.{some_part}
+use Rattle.profile.proofs.TextLinesLemmas.LineLemmas.{some_part}
 use Rattle.debug_labels.specs.Lines.{numbered_words, word_behind}
 use Rattle.debug_labels.specs.Words.{Naming, value_of_parts}
 

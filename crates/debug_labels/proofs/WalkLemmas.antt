@@ -1,11 +1,14 @@
 -- How lists that are walked item by item go on.
 use Rattle.std.proofs.Common.{◌≡◌, ℕ, ◌+◌, ◌-◌, ◌<◌, ◌≤◌, List, [], ◌∷◌, ◌++◌, length, drop, take, get_or, Option, Some, None, refl, sym, ap, ◌∙◌, arith}
-use Rattle.std.specs.Prelude.{slice_get, option_and_then}
+use Rattle.std.specs.Prelude.{Bool, true, Result, Ok, Err, OnErr, OnOk, slice_get, option_and_then}
 use Rattle.std.specs.List.{flat_map}
 use Rattle.std.specs.Option.{option_or}
 use Rattle.std.proofs.lemmas.List.{drop_more, drop_all, map-append, take_more}
 use Rattle.std.proofs.lemmas.Option.{get_or_from_slice_get, slice_get-get_or, slice_get_within}
-use Rattle.assembler_names.specs.Labels.{Entries}
+use Rattle.std.specs.Io.KnownBytes.{Appends}
+use Rattle.profile.specs.Output.{Writes}
+use Rattle.profile.proofs.OutputLemmas.{Appends-join}
+use Rattle.assembler_text.specs.naming.Labels.{Entries}
 use Rattle.debug_labels.specs.Labels.{labels_behind}
 use Rattle.debug_labels.specs.Standing.{first_of}
 
@@ -49,6 +52,20 @@ behind_pushed origin place labels copies pushed name copy address offset before 
     ∙ ap (λ (text : List ℕ). labels_behind origin (take place labels) ++ (text, offset) ∷ []) same
     ∙ ap (λ (n : ℕ). labels_behind origin (take place labels) ++ (name, n) ∷ []) further
     ∙ sym (behind_more origin labels place (name, address) (sym there))
+
+-- a text behind what stands written
+pub writes_behind : {S A E : Type 0} (contents : S → Option (List ℕ)) (has_failed : S → Bool) (old between new : S)
+    (result : Result A E) (front more : List ℕ) → Appends (contents old) (contents between) front
+    → has_failed between ≡ has_failed old → OnOk result (Appends (contents between) (contents new) more)
+    → OnErr result (has_failed new ≡ true) → OnOk result (has_failed new ≡ has_failed between)
+    → Writes contents has_failed old new result (front ++ more)
+writes_behind contents has_failed old between new (Ok a) front more done kept text flag same = record {
+  text = Appends-join (contents old) (contents between) (contents new) front more done text;
+  flag = tt;
+  same_flag = same ∙ kept;
+}
+writes_behind contents has_failed old between new (Err e) front more done kept text flag same =
+    record { text = tt; flag = flag; same_flag = tt }
 
 pub ruleset first_steps = (first_next, first_past)
 

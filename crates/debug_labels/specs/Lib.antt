@@ -3,6 +3,8 @@ pub mod Images
 pub mod Labels
 pub mod Lines
 pub mod Places
+pub mod Reasons
 pub mod Standing
 pub mod Views
 pub mod Words
+pub mod place_views

@@ -1,8 +1,9 @@
 -- A tidy line with numbers in place of words that name places. Words are parted by single spaces.
-use Rattle.std.specs.Prelude.{ℕ, Bool, not, ◌+◌, ◌-◌, ◌||◌, nat_lt, List, [], ◌∷◌, ◌++◌, codes, Option, Some, None, option_map, if◌then◌else◌}
+use Rattle.std.specs.Prelude.{ℕ, Bool, not, ◌+◌, ◌-◌, ◌||◌, nat_lt, List, [], ◌∷◌, ◌++◌, ◌&&◌, ◌==◌, codes, Option, Some, None, is_some, option_map, if◌then◌else◌}
 use Rattle.std.specs.List.{join_with_byte}
 use Rattle.profile.specs.Digits.{hex_number}
-use Rattle.assembler_names.specs.Words.{is_same_name}
+use Rattle.assembler_text.specs.naming.Words.{is_same_name}
+use Rattle.command_shell_lines.specs.Numbers.{script_number}
 use Rattle.command_shell_lines.specs.Requests.{words}
 use Rattle.debug_labels.specs.Words.{Naming, place_of_word}
 
@@ -14,7 +15,7 @@ is_place_word word =
     || is_same_name word (codes "HEAP") || is_same_name word (codes "POKE")
     || is_same_name word (codes "STEP") || is_same_name word (codes "WORDS")
     || is_same_name word (codes "GOSUB") || is_same_name word (codes "WATCH")
-    || is_same_name word (codes "UNWATCH")
+    || is_same_name word (codes "UNWATCH") || is_same_name word (codes "DUMP")
 
 -- behind EXPECT, these have no places behind them
 abbrev pub is_text_check : List ℕ → Bool
@@ -67,3 +68,17 @@ numbered_behind n line (Some kept) = join_with_byte 32 (numbered_words n kept (w
 -- what a line means: the line with the numbers
 abbrev pub line_with_numbers : Naming → List ℕ → List ℕ
 line_with_numbers n line = numbered_behind n line (kept_words (words line))
+
+-- the first word behind so many that is no number
+abbrev pub unnumbered_behind : ℕ → List (List ℕ) → Option (List ℕ)
+unnumbered_behind kept [] = None
+unnumbered_behind kept (word ∷ others) =
+    if kept == 0 && not (is_some (script_number word)) then Some word else unnumbered_behind (kept - 1) others
+
+abbrev pub unnumbered_if : Option ℕ → List (List ℕ) → Option (List ℕ)
+unnumbered_if None line = None
+unnumbered_if (Some kept) line = unnumbered_behind kept line
+
+-- the first word of a line that is no number where a number or a place may stand
+abbrev pub unnumbered_word : List (List ℕ) → Option (List ℕ)
+unnumbered_word line = unnumbered_if (kept_words line) line

@@ -1,9 +1,9 @@
 -- Labels and places as text.
-use Rattle.std.specs.Prelude.{ℕ, ◌+◌, ◌%◌, ◌^◌, ◌==◌, List, [], ◌++◌, codes, Option, Some, None, if◌then◌else◌}
+use Rattle.std.specs.Prelude.{ℕ, ◌+◌, ◌-◌, ◌%◌, ◌^◌, ◌==◌, min, List, [], ◌∷◌, ◌++◌, length, take, drop, codes, Option, Some, None, if◌then◌else◌}
 use Rattle.std.specs.Fmt.{decimal}
 use Rattle.std.specs.List.{flat_map}
 use Rattle.profile.specs.Digits.{hex_number, hex_word}
-use Rattle.assembler_names.specs.Labels.{Entries}
+use Rattle.assembler_text.specs.naming.Labels.{Entries}
 use Rattle.instances_table.specs.Modules.{Module}
 use Rattle.debug_labels.specs.Labels.{ImageLabels}
 use Rattle.debug_labels.specs.Places.{LabelledPlace, place_of}
@@ -43,3 +43,31 @@ spaced_place_text (Some p) = codes " " ++ labelled_place_text p
 abbrev pub place_line : Naming → ℕ → List ℕ
 place_line n address =
     codes "at &" ++ (hex_number address ++ (spaced_place_text (place_of n address) ++ codes "\n"))
+
+-- a space and a label's name
+abbrev pub spaced_name : List ℕ × ℕ → List ℕ
+spaced_name label = codes " " ++ label.0
+
+-- the names of an image's first eight labels
+abbrev pub first_names_of : ImageLabels → List ℕ
+first_names_of i = flat_map spaced_name (take (min (length i.labels) 8) i.labels)
+
+abbrev pub last_two : List ImageLabels → List ImageLabels
+last_two images = drop (length images - min (length images) 2) images
+
+-- the names of some images' labels, and which line lists all
+abbrev pub hinted_text : List ImageLabels → List ℕ
+hinted_text images =
+    codes " (labels:" ++ (flat_map first_names_of images ++ codes "; LABELS lists all)")
+
+abbrev pub last_names_text : List ImageLabels → List ℕ
+last_names_text images = hinted_text (last_two images)
+
+-- labels that there are, of the two images at most that were assembled last
+abbrev pub label_hint : List ImageLabels → List ℕ
+label_hint [] = codes " (none are there: ASM blocks have them)"
+label_hint (image ∷ others) = last_names_text (image ∷ others)
+
+-- `no label x (labels: loop swi; LABELS lists all)`
+abbrev pub no_label_text : List ImageLabels → List ℕ → List ℕ
+no_label_text labels name = codes "no label " ++ (name ++ label_hint labels)

@@ -5,7 +5,9 @@
 mod images;
 mod labels;
 mod lines;
+pub mod place_views;
 mod places;
+mod reasons;
 mod standing;
 mod views;
 mod words;

@@ -1,22 +1,23 @@
 //! A tidy line with numbers in place of words that name places.
 
-ghost use Rattle.std.specs.Prelude.{◌≡◌, ◌≤◌, ◌++◌, IfOk, IfSome, OnOk};
+ghost use Rattle.std.specs.Prelude.{◌≡◌, ◌≤◌, ◌++◌, IfOk, IfSome, OnOk, option_map};
 ghost use Rattle.std.specs.List.{join_with_byte};
 ghost use Rattle.command_shell_lines.specs.Requests.{words};
-ghost use Rattle.debug_labels.specs.Lines.{has_places_behind, is_place_word, is_text_check, kept_untraced, kept_words};
+ghost use Rattle.debug_labels.specs.Lines.{has_places_behind, is_place_word, is_text_check, kept_untraced, kept_words, unnumbered_word};
 
 use crate::words::PlaceNames;
-use assembler_names::words::is_name;
+use assembler_text::naming::words::is_name;
+use command_shell_lines::number_of;
 use profile::HexText;
+use profile::text_lines::cut;
 use std::alloc::{AllocError, Global};
-use text_lines::cut;
 
 impl PlaceNames<'_> {
     ghost use Rattle.debug_labels.specs.Lines.{line_with_numbers, numbered_words, word_behind};
 
     /// What a tidy line means: the line with a number, as `&8004`, in place of each word that names
     /// a place, in the lines that have places: behind BREAK, UNBREAK, MEM, CODE, HEAP, POKE, STEP,
-    /// WORDS, GOSUB, WATCH and UNWATCH, and behind one word more after PUT, SET and EXPECT, but
+    /// WORDS, GOSUB, WATCH, UNWATCH and DUMP, and behind one word more after PUT, SET and EXPECT, but
     /// behind SET PSR and where EXPECT compares text. TRACE may stand before these.
     ///
     /// # Errors
@@ -67,6 +68,24 @@ impl PlaceNames<'_> {
             }
         }
     }
+}
+
+/// Of a line with numbers in place of words that name places, the first word that is no number where
+/// a number or a place may stand.
+pub(crate) fn unnumbered_word(line: &[u8]) -> Option<&[u8]>
+    ensures { option_map (λ word. word.now) result ≡ unnumbered_word (words line.now) }
+{
+    let mut left = kept_words(line)?;
+    let mut rest = Some(line);
+    while let Some(text) = rest {
+        let (word, others) = cut(text, b' ');
+        if left == 0 && number_of(word).is_none() {
+            return Some(word);
+        }
+        left = left.saturating_sub(1);
+        rest = others;
+    }
+    None
 }
 
 // How many words of a line stand as they are before those that may name places, if any may.
@@ -124,6 +143,7 @@ fn is_place_word(word: &[u8]) -> bool
         || is_name(word, b"GOSUB")
         || is_name(word, b"WATCH")
         || is_name(word, b"UNWATCH")
+        || is_name(word, b"DUMP")
 }
 
 fn is_text_check(word: &[u8]) -> bool

@@ -1,10 +1,10 @@
 //! Labels and places as text.
 
-ghost use Rattle.std.specs.Prelude.{Some};
+ghost use Rattle.std.specs.Prelude.{◌≡◌, Some};
 ghost use Rattle.std.specs.List.{flat_map};
 ghost use Rattle.profile.specs.Output.{Writes};
 ghost use Rattle.debug_labels.specs.Places.{place_of, told_of_place_label};
-ghost use Rattle.debug_labels.specs.Views.{label_line, labels_text, labels_text_from, labels_text_of, place_line, spaced_place_text};
+ghost use Rattle.debug_labels.specs.Views.{label_line, labels_text, first_names_of, hinted_text, label_hint, last_names_text, last_two, labels_text_from, labels_text_of, no_label_text, place_line, spaced_name, spaced_place_text};
 
 use crate::labels::{Label, LabelledImage};
 use crate::places::PlaceLabel;
@@ -12,6 +12,11 @@ use crate::words::PlaceNames;
 use instances::Instances;
 use itoa::Buffer;
 use profile::{HexText, Sink, WriteFault, push_all, push_parts};
+
+// Of so many images labels are told where a name is none, and so many of each.
+const HINTED_IMAGES: usize = 2;
+
+const HINTED_LABELS: usize = 8;
 
 impl PlaceNames<'_> {
     /// Writes a line for each label with the address at which it stands now, `01800050 double:swi`,
@@ -46,6 +51,71 @@ impl PlaceNames<'_> {
     }
 }
 
+impl PlaceNames<'_> {
+    /// Writes that a name is no label, and labels of the images that were assembled last, of two of
+    /// them at most the first eight: `no label x (labels: loop swi; LABELS lists all)`.
+    pub fn push_no_label<W: Sink>(&self, name: &[u8], sink: &mut W) -> Result<(), WriteFault>
+        ensures { Writes W.contents W.has_failed sink.old sink.new result
+            (no_label_text self.now.labels name.now) }
+    {
+        push_parts(sink, &[b"no label ".as_slice(), name])?;
+        push_hint(self.labels.images(), sink)
+    }
+}
+
+// Labels that there are.
+fn push_hint<W: Sink>(images: &[LabelledImage], sink: &mut W) -> Result<(), WriteFault>
+    ensures { Writes W.contents W.has_failed sink.old sink.new result (label_hint images.now) }
+{
+    match images {
+        [] => push_all(sink, b" (none are there: ASM blocks have them)"),
+        [_image, ..] => push_last_names(images, sink),
+    }
+}
+
+// Labels of the images that were assembled last.
+fn push_last_names<W: Sink>(images: &[LabelledImage], sink: &mut W) -> Result<(), WriteFault>
+    ensures { Writes W.contents W.has_failed sink.old sink.new result (last_names_text images.now) }
+{
+    push_hinted(last_images(images), sink)
+}
+
+fn last_images(images: &[LabelledImage]) -> &[LabelledImage]
+    ensures { result.now ≡ last_two images.now }
+{
+    &images[images.len() - images.len().min(HINTED_IMAGES)..]
+}
+
+// Labels of some images, and which line lists all.
+fn push_hinted<W: Sink>(images: &[LabelledImage], sink: &mut W) -> Result<(), WriteFault>
+    ensures { Writes W.contents W.has_failed sink.old sink.new result (hinted_text images.now) }
+{
+    push_all(sink, b" (labels:")?;
+    push_images_names(images, sink)?;
+    push_all(sink, b"; LABELS lists all)")
+}
+
+fn push_images_names<W: Sink>(images: &[LabelledImage], sink: &mut W) -> Result<(), WriteFault>
+    ensures { Writes W.contents W.has_failed sink.old sink.new result
+        (flat_map first_names_of images.now) }
+{
+    for image in images {
+        image.push_first_names(sink)?;
+    }
+    Ok(())
+}
+
+// Names, a space before each.
+fn push_names<W: Sink>(labels: &[Label], sink: &mut W) -> Result<(), WriteFault>
+    ensures { Writes W.contents W.has_failed sink.old sink.new result
+        (flat_map spaced_name labels.now) }
+{
+    for label in labels {
+        push_parts(sink, &[b" ".as_slice(), label.name.as_slice()])?;
+    }
+    Ok(())
+}
+
 fn show_images<W: Sink>(
     images: &[LabelledImage],
     modules: &Instances,
@@ -61,6 +131,13 @@ fn show_images<W: Sink>(
 }
 
 impl LabelledImage {
+    fn push_first_names<W: Sink>(&self, sink: &mut W) -> Result<(), WriteFault>
+        ensures { Writes W.contents W.has_failed sink.old sink.new result (first_names_of self.now) }
+    {
+        let labels = self.labels.as_slice();
+        push_names(&labels[..labels.len().min(HINTED_LABELS)], sink)
+    }
+
     // A line for each label of the image.
     fn show<W: Sink>(&self, modules: &Instances, sink: &mut W) -> Result<(), WriteFault>
         ensures { Writes W.contents W.has_failed sink.old sink.new result

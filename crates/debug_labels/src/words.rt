@@ -2,17 +2,17 @@
 
 ghost use Rattle.std.specs.Prelude.{◌≡◌, ◌==◌, ◌≤◌, ◌∷◌, None, option_map};
 ghost use Rattle.std.specs.List.{slice_split};
-ghost use Rattle.assembler_names.specs.Labels.{address_of};
+ghost use Rattle.assembler_text.specs.naming.Labels.{address_of};
 ghost use Rattle.debug_labels.specs.Words.{further, label_if_meant, last_with, register_value};
 
 use crate::labels::{Label, LabelTable, LabelledImage};
 use arm_core::Cpu;
-use assembler_names::names::register_named;
-use assembler_names::words::{after_word, word};
+use assembler_text::naming::names::register_named;
+use assembler_text::naming::words::{after_word, word};
 use command_shell_lines::number_of;
 use instances::Instances;
+use profile::text_lines::cut;
 use std::marker::Model;
-use text_lines::cut;
 
 /// What words are read by.
 #[derive(Drop)]
@@ -155,7 +155,7 @@ fn labelled_place(
 }
 
 // How many bytes of an image stand before a label of it.
-#[tactic(auto, unfolding(assembler_names::specs::Labels::address_of))]
+#[tactic(auto, unfolding(assembler_text::specs::naming::Labels::address_of))]
 fn offset_of(labels: &[Label], name: &[u8]) -> Option<u32>
     ensures { result ≡ address_of labels.now name.now }
 {

@@ -1,7 +1,7 @@
 -- Blocks that lack their line END, read line by line.
 use Rattle.std.proofs.Common.{◌≡◌, ℕ, Bool, true, false, List, [], ◌∷◌, ap, sym, refl, ◌∙◌}
 use Rattle.std.specs.Prelude.{not}
-use Rattle.text_lines.specs.WholeLines.{unended_line, whole_lines}
+use Rattle.profile.specs.text_lines.WholeLines.{unended_line, whole_lines}
 use Rattle.command_shell_lines.specs.Requests.{is_end_of_block, request_of}
 use Rattle.debug_lines.specs.BlockEnds.{BlocksRead, begins_if, blocks_after_line, blocks_after_lines, blocks_read, blocks_read_from, missing_ends_if, is_in_block, is_outside_blocks, one_line_more, place_after, place_at_opening, place_in_block, place_when_told}
 use Rattle.debug_lines.specs.DebugRequests.{debug_opens_block, debug_request}

@@ -13,7 +13,7 @@ use Rattle.debug_lines.specs.Openers.{is_opener_letter, may_open_block}
 use Rattle.debug_lines.specs.SteppingRequests.{SteppingRequest, stepping_in}
 use Rattle.debug_lines.specs.Tidy.{is_blank, is_comment_start, state_in_word, tidied_from, tidied_line}
 use Rattle.debug_lines.specs.declared.tidy.TidyState.TheVariants.{AtStart}
-use Rattle.debug_lines.proofs.OwnRequestLemmas.{asks_script, own_behind, own_trace, some_asks_script}
+use Rattle.debug_lines.proofs.OwnRequestLemmas.{asks_block, own_behind, own_trace, some_asks_block}
 
 -- whether the first byte of a line begins a word that opens a block
 abbrev begins_opener : List ℕ → Bool
@@ -139,9 +139,9 @@ line_alone (b ∷ rest) other =
 
 -- LINES OF ITS OWN
 
-asks_alone : (d : DebugRequest) → asks_script d ≡ false → debug_opens_block d ≡ false
-unfolding asks_script
-asks_alone (Script request) asks = absurd (cc)
+asks_alone : (d : DebugRequest) → asks_block d ≡ false → debug_opens_block d ≡ false
+unfolding asks_block
+asks_alone (Script request) asks = asks
 asks_alone _ asks = refl
 
 either_alone : (t : Bool) (x y : DebugRequest) → debug_opens_block x ≡ false → debug_opens_block y ≡ false
@@ -173,9 +173,9 @@ traced_alone : (d : DebugRequest) → debug_opens_block (traced_request d) ≡ f
 traced_alone (Script request) = traced_script_alone (stepping_in request) request
 traced_alone _ = refl
 
-trace_alone : (o : Option DebugRequest) (d : DebugRequest) → some_asks_script o ≡ false
+trace_alone : (o : Option DebugRequest) (d : DebugRequest) → some_asks_block o ≡ false
     → debug_opens_block (trace_of_own o d) ≡ false
-unfolding some_asks_script
+unfolding some_asks_block
 trace_alone (Some own) d asks = asks_alone own asks
 trace_alone None d asks = traced_alone d
 

@@ -2,8 +2,8 @@
 use Rattle.std.proofs.Common.{◌≡◌, ◌≤◌, ◌<◌, ◌+◌, ◌-◌, ℕ, Bool, true, false, List, [], ◌∷◌, ◌++◌, length, take, drop, sym, ap, ◌∙◌, arith, refl}
 use Rattle.std.proofs.Math.Seq.{take-add}
 use Rattle.std.proofs.lemmas.List.{drop-drop}
-use Rattle.text_lines.specs.WholeLines.{whole_lines, unended_line}
-use Rattle.text_lines.proofs.WholeLineLemmas.{whole_lines_go_on, unended_line_goes_on}
+use Rattle.profile.specs.text_lines.WholeLines.{whole_lines, unended_line}
+use Rattle.profile.proofs.TextLinesLemmas.WholeLineLemmas.{whole_lines_go_on, unended_line_goes_on}
 use Rattle.debug_lines.specs.WholeDebugRequests.{is_debug_block_open_after, is_debug_block_open_after_lines, is_debug_block_open_throughout, AreWholeDebugRequests}
 
 -- What is left of a text after so many bytes, which are lines that have their end, and whether a

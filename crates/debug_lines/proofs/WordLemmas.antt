@@ -2,7 +2,7 @@
 use Rattle.std.proofs.Common.{◌≡◌, ◌<◌, ℕ, List, [], ◌∷◌, length, ap, ◌∙◌, arith, refl, None}
 use Rattle.std.specs.Prelude.{◌==◌}
 use Rattle.std.specs.List.{slice_split}
-use Rattle.text_lines.proofs.LineLemmas.{some_part}
+use Rattle.profile.proofs.TextLinesLemmas.LineLemmas.{some_part}
 use Rattle.debug_lines.specs.Registers.{register_in_bank_of_parts}
 
 -- a line with four words and more behind them

@@ -2,7 +2,7 @@
 -- loads, calls or runs, as a line of a script; and where the script ends in one. What such a block is
 -- answered stays as it is; this is what a user is told beside the answers.
 use Rattle.std.specs.Prelude.{ℕ, ◌+◌, ◌-◌, ◌^◌, min, Bool, true, false, List, [], ◌∷◌, ◌++◌, length, drop}
-use Rattle.text_lines.specs.WholeLines.{whole_lines, unended_line, line_of_some}
+use Rattle.profile.specs.text_lines.WholeLines.{whole_lines, unended_line, line_of_some}
 use Rattle.command_shell_lines.specs.Requests.{Request, Asm, Boot, Call, Load, Run, is_end_of_block, request_of}
 use Rattle.debug_lines.specs.DebugRequests.{debug_opens_block, debug_request}
 use Rattle.debug_lines.specs.declared.block_ends.BlockPlace.{BlockPlace}

@@ -5,17 +5,21 @@ use Rattle.std.specs.List.{position}
 use Rattle.image_loader.specs.Entries.{can_name_image}
 use Rattle.command_shell_lines.specs.Numbers.{script_number}
 use Rattle.command_shell_lines.specs.Operands.{word_address, origin_of, count_up_to}
-use Rattle.command_shell_lines.specs.Requests.{Request, Unknown, opens_block, request_of, request_of_command, is_same_word, words}
+use Rattle.command_shell_lines.specs.Requests.{Request, Call, Poke, Set, Unknown, opens_block, request_of, request_of_command, is_same_word, words}
 use Rattle.debug_lines.specs.declared.status.StatusPattern.{StatusPattern}
 use Rattle.debug_lines.specs.declared.requests.DebugCommand.{DebugCommand}
 use Rattle.debug_lines.specs.declared.requests.DebugCommand.TheVariants as command
 use Rattle.debug_lines.specs.declared.requests.DebugView.{DebugView}
 use Rattle.debug_lines.specs.declared.requests.DebugView.TheVariants as view
 use Rattle.debug_lines.specs.Expectations.{ExpectRequest, expect_request, expect_request_of, text_behind}
+use Rattle.command_shell_lines.specs.debug_words.Forms.{form_of_word}
 use Rattle.debug_lines.specs.ModeRequests.{ModeRequest, Trace, TraceLimit, mode_of_two, mode_request_of, stub_request}
 use Rattle.debug_lines.specs.Status.{status_of_word, status_of_two}
 use Rattle.debug_lines.specs.SteppingRequests.{SteppingRequest, Step, Finish, Gosub, RunLast, stepping_in, stepping_request_of}
+use Rattle.debug_lines.specs.Registers.{register_of_name}
 use Rattle.debug_lines.specs.Tidy.{tidied_line}
+use Rattle.command_shell_lines.specs.debug_words.Values.{value_told}
+use Rattle.command_shell_lines.specs.debug_words.SwiNames.{swi_named}
 
 -- what only looks
 pub data ViewRequest : Type 0 where
@@ -25,7 +29,11 @@ pub data ViewRequest : Type 0 where
   Stack : ℕ → ViewRequest
   Frames : ViewRequest
   Labels : ViewRequest
+  Dump : ℕ → ℕ → ViewRequest
+  Why : ViewRequest
   Help : ViewRequest
+  -- the form of the lines that begin with a word
+  Form : List ℕ → ViewRequest
 
 pub data DebugRequest : Type 0 where
   -- what a line of a script asks for
@@ -74,9 +82,10 @@ own_request_of_word word =
     if is_same_word word (codes "LABELS") then View Labels else (
     if is_same_word word (codes "FINISH") then Stepping false Finish else (
     if is_same_word word (codes "RESET") then Reset else (
+    if is_same_word word (codes "WHY") then View Why else (
     if is_same_word word (codes "HELP") then View Help else (
     if is_same_word word (codes "QUIT") then Quit else
-    NotKnown))))))))
+    NotKnown)))))))))
 
 abbrev pub stack_of : Option ℕ → DebugRequest
 stack_of (Some count) = View (Stack count)
@@ -90,6 +99,15 @@ abbrev pub gosub_to : Option ℕ → DebugRequest
 gosub_to (Some address) = Stepping false (Gosub address)
 gosub_to None = NotKnown
 
+-- a store call by its name
+abbrev pub named_call : Option ℕ → DebugRequest
+named_call (Some number) = Script (Call number)
+named_call None = NotKnown
+
+abbrev pub help_of : Option (List ℕ) → DebugRequest
+help_of (Some form) = View (Form form)
+help_of None = NotKnown
+
 abbrev pub mode_line : Option ModeRequest → DebugRequest
 mode_line (Some request) = Mode request
 mode_line None = NotKnown
@@ -100,13 +118,20 @@ own_request_of_two word other =
     if is_same_word word (codes "STACK") then stack_of (count_up_to 1024 other) else (
     if is_same_word word (codes "FORGET") then of_image other (Forget other) else (
     if is_same_word word (codes "COUNTS") then of_image other (Counts other) else (
-    if is_same_word word (codes "GOSUB") then gosub_to (origin_of other) else
-    mode_line (mode_of_two word other))))
+    if is_same_word word (codes "GOSUB") then gosub_to (origin_of other) else (
+    if is_same_word word (codes "CALL") then named_call (swi_named other) else (
+    if is_same_word word (codes "HELP") then help_of (form_of_word other) else
+    mode_line (mode_of_two word other))))))
 
 abbrev pub words_at : Option ℕ → Option ℕ → DebugRequest
 words_at (Some address) (Some count) = View (Words address count)
 words_at (Some address) None = NotKnown
 words_at None count = NotKnown
+
+abbrev pub dump_at : Option ℕ → Option ℕ → DebugRequest
+dump_at (Some address) (Some count) = View (Dump address count)
+dump_at (Some address) None = NotKnown
+dump_at None count = NotKnown
 
 abbrev pub set_pc_to : Option ℕ → DebugRequest
 set_pc_to (Some address) = SetPc address
@@ -116,11 +141,17 @@ abbrev pub set_psr_to : Option StatusPattern → DebugRequest
 set_psr_to (Some pattern) = SetPsr pattern
 set_psr_to None = NotKnown
 
+-- two numbers for what a line of a script sets
+abbrev pub script_of_two : Option ℕ → Option ℕ → (ℕ → ℕ → Request) → DebugRequest
+script_of_two (Some place) (Some value) request = Script (request place value)
+script_of_two (Some place) None request = NotKnown
+script_of_two None value request = NotKnown
+
 abbrev pub set_request : List ℕ → List ℕ → DebugRequest
 set_request what value =
     if is_same_word what (codes "PC") then set_pc_to (origin_of value) else (
     if is_same_word what (codes "PSR") then set_psr_to (status_of_word value) else
-    NotKnown)
+    script_of_two (register_of_name what) (value_told value) Set)
 
 abbrev pub put_at : Bool → List ℕ → Option ℕ → DebugRequest
 put_at true name (Some address) = Put name address
@@ -132,8 +163,10 @@ abbrev pub own_request_of_three : List ℕ → List ℕ → List ℕ → DebugRe
 own_request_of_three word first second =
     if is_same_word word (codes "WORDS") then words_at (word_address first) (count_up_to 1024 second) else (
     if is_same_word word (codes "SET") then set_request first second else (
-    if is_same_word word (codes "PUT") then put_at (can_name_image first) first (script_number second) else
-    NotKnown))
+    if is_same_word word (codes "PUT") then put_at (can_name_image first) first (script_number second) else (
+    if is_same_word word (codes "POKE") then script_of_two (word_address first) (value_told second) Poke else (
+    if is_same_word word (codes "DUMP") then dump_at (script_number first) (count_up_to 4096 second) else
+    NotKnown))))
 
 abbrev pub set_psr_of_two : List ℕ → List ℕ → List ℕ → DebugRequest
 set_psr_of_two what letters mode =
@@ -282,6 +315,8 @@ view_request_of view.Banks = Banks
 view_request_of (view.Stack count) = Stack count
 view_request_of view.Frames = Frames
 view_request_of view.Labels = Labels
+view_request_of (view.Dump address count) = Dump address count
+view_request_of view.Why = Why
 view_request_of view.Help = Help
 
 abbrev pub debug_request_of_command : DebugCommand → DebugRequest
@@ -290,6 +325,7 @@ debug_request_of_command (command.Stepping is_traced request) = Stepping is_trac
 debug_request_of_command (command.Mode request) = Mode (mode_request_of request)
 debug_request_of_command command.Remark = Remark
 debug_request_of_command (command.View shown) = View (view_request_of shown)
+debug_request_of_command (command.Form text) = View (Form text.now)
 debug_request_of_command (command.SetPc address) = SetPc address
 debug_request_of_command (command.SetPsr pattern) = SetPsr pattern
 debug_request_of_command (command.Put name address) = Put name.now address

@@ -1,7 +1,6 @@
 -- What each line of a debugging script asks for. Begin with DebugRequests.
 pub mod BlockEnds
 pub mod DebugRequests
-pub mod ErrorNumbers
 pub mod Expectations
 pub mod FewWords
 pub mod ModeRequests

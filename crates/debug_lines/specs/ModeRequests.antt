@@ -5,6 +5,7 @@ use Rattle.std.specs.Prelude.{ℕ, Bool, true, false, nat_le, List, [], ◌∷�
 use Rattle.command_shell_lines.specs.Numbers.{script_number}
 use Rattle.command_shell_lines.specs.Operands.{cpu_register_named, origin_of}
 use Rattle.command_shell_lines.specs.Requests.{is_same_word, words}
+use Rattle.command_shell_lines.specs.debug_words.Values.{swi_told}
 use Rattle.debug_lines.specs.declared.modes.ModeCommand.{ModeCommand}
 use Rattle.debug_lines.specs.declared.modes.ModeCommand.TheVariants as mode
 use Rattle.debug_lines.specs.declared.modes.StubSetting.{StubSetting}
@@ -33,7 +34,7 @@ is_on_word word =
 -- a line of two words
 abbrev pub mode_of_two : List ℕ → List ℕ → Option ModeRequest
 mode_of_two word other =
-    if is_same_word word (codes "UNSTUB") then option_map Unstub (script_number other) else (
+    if is_same_word word (codes "UNSTUB") then option_map Unstub (swi_told other) else (
     if is_same_word word (codes "WATCH") then option_map Watch (origin_of other) else (
     if is_same_word word (codes "UNWATCH") then option_map Unwatch (origin_of other) else (
     if is_same_word word (codes "COUNT") then option_map Count (is_on_word other) else
@@ -69,7 +70,7 @@ stub_of None settings = None
 
 abbrev pub stub_of_words : List (List ℕ) → Option ModeRequest
 stub_of_words [] = None
-stub_of_words (number ∷ rest) = stub_of (script_number number) (settings_in_limit (stub_settings rest))
+stub_of_words (number ∷ rest) = stub_of (swi_told number) (settings_in_limit (stub_settings rest))
 
 -- what stands behind the word STUB: a number, and the registers
 abbrev pub stub_request : List ℕ → Option ModeRequest

@@ -1,7 +1,7 @@
 -- Which lines of a debugging script are requests that are whole: a line, or one that opens a block
 -- with all up to the line that ends it.
 use Rattle.std.specs.Prelude.{◌≡◌, ◌≤◌, ℕ, Bool, true, false, not, ◌&&◌, List, [], ◌∷◌, length, take, drop}
-use Rattle.text_lines.specs.WholeLines.{whole_lines, unended_line}
+use Rattle.profile.specs.text_lines.WholeLines.{whole_lines, unended_line}
 use Rattle.command_shell_lines.specs.Requests.{is_end_of_block}
 use Rattle.debug_lines.specs.DebugRequests.{debug_request, debug_opens_block}
 

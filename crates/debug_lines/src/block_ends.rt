@@ -7,8 +7,8 @@ ghost use Rattle.debug_lines.specs.BlockEnds.{begins_at_end, begins_told, is_out
 
 use crate::openers::opens_block;
 use command_shell_lines::{ScriptCommand, command_of, is_block_end};
+use profile::text_lines::cut_line;
 use std::alloc::{AllocError, Global};
-use text_lines::cut_line;
 
 /// Where a reading stands that looks for lines END.
 #[derive(Clone, Copy, Debug, PartialEq, Eq)]
@@ -53,7 +53,7 @@ pub fn missing_ends(
 }
 
 impl BlockReading {
-    ghost use Rattle.text_lines.specs.WholeLines.{line_of_some};
+    ghost use Rattle.profile.specs.text_lines.WholeLines.{line_of_some};
     ghost use Rattle.debug_lines.specs.BlockEnds.{begins_if, blocks_after_line, blocks_after_lines, blocks_read, blocks_read_from, is_in_block, missing_ends_read};
 
     pub(crate) fn from_line(alloc: Global, number: usize) -> BlockReading

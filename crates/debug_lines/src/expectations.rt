@@ -5,13 +5,14 @@ ghost use Rattle.command_shell_lines.specs.Numbers.{script_number};
 ghost use Rattle.command_shell_lines.specs.Operands.{word_address};
 ghost use Rattle.command_shell_lines.specs.Requests.{words};
 ghost use Rattle.debug_lines.specs.Expectations.{Word as IsWord, Byte as IsByte, expect_both, expect_steps, text_behind, between_quotes, byte_value, expect_value, expect_of_two, expect_of_three, expect_of_words, expect_output, expect_request, expect_request_of};
+ghost use Rattle.command_shell_lines.specs.debug_words.Values.{value_told};
 
-use crate::error_names::error_told;
 use crate::few_words::{FewWords, few_words, has_letters};
 use crate::registers::{banked_register_named, register_of_name};
 use crate::spelling::is_well_spelt;
 use crate::status::StatusPattern;
 use arm_core::Mode;
+use command_shell_lines::debug_words::{error_told, value_told};
 use command_shell_lines::{RegisterNumber, WordAddress, number_of};
 
 /// What a line EXPECT says should be so.
@@ -109,7 +110,7 @@ fn of_two(what: &[u8], value: &[u8]) -> Option<Expectation<'static>>
     } else if has_letters(what, b"STEPS") {
         Some(Expectation::Steps(number_of(value)?))
     } else {
-        of_value(what, number_of(value)?)
+        of_value(what, value_told(value)?)
     }
 }
 
@@ -156,9 +157,9 @@ fn steps_of(is_at_most: bool, count: &[u8]) -> Option<Expectation<'static>>
 
 fn word_of(address: &[u8], value: &[u8]) -> Option<Expectation<'static>>
     ensures { option_map expect_request_of result
-        ≡ expect_both (word_address address.now) (script_number value.now) IsWord }
+        ≡ expect_both (word_address address.now) (value_told value.now) IsWord }
 {
-    match (WordAddress::spelled(address), number_of(value)) {
+    match (WordAddress::spelled(address), value_told(value)) {
         (Some(address), Some(value)) => Some(Expectation::Word(address, value)),
         _ => None,
     }

@@ -4,7 +4,7 @@ ghost use Rattle.std.specs.Prelude.{◌≡◌, ◌∷◌};
 ghost use Rattle.command_shell_lines.specs.Requests.{is_same_word, words};
 ghost use Rattle.debug_lines.specs.FewWords.{AreWordsOf};
 
-use text_lines::cut;
+use profile::text_lines::cut;
 
 /// The words of a line, where they are four at most.
 #[derive(Clone, Copy, Debug)]

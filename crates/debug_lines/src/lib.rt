@@ -3,7 +3,6 @@
 #![tactic(auto)]
 
 mod block_ends;
-mod error_names;
 mod expectations;
 mod few_words;
 mod modes;
@@ -11,6 +10,7 @@ mod openers;
 mod registers;
 mod repeats;
 mod requests;
+mod settings;
 mod spelling;
 mod status;
 mod stepping;

@@ -8,9 +8,10 @@ ghost use Rattle.debug_lines.specs.ModeRequests.{mode_of_two, mode_request_of, s
 
 use crate::few_words::has_letters;
 use arrayvec::ArrayVec;
+use command_shell_lines::debug_words::swi_told;
 use command_shell_lines::{RegisterNumber, WordAddress, number_of};
 use profile::memory_map::ADDRESS_LIMIT;
-use text_lines::cut;
+use profile::text_lines::cut;
 
 /// How many registers a stub sets at most.
 pub const MOST_STUB_SETTINGS: usize = 8;
@@ -55,7 +56,7 @@ pub(crate) fn mode_of_two(word: &[u8], other: &[u8]) -> Option<ModeCommand>
     ensures { option_map mode_request_of result ≡ mode_of_two word.now other.now }
 {
     if has_letters(word, b"UNSTUB") {
-        Some(ModeCommand::Unstub(number_of(other)?))
+        Some(ModeCommand::Unstub(swi_told(other)?))
     } else if has_letters(word, b"WATCH") {
         Some(ModeCommand::Watch(watch_address(other)?))
     } else if has_letters(word, b"UNWATCH") {
@@ -97,7 +98,7 @@ pub(crate) fn stub_command(text: &[u8]) -> Option<ModeCommand>
     ensures { option_map mode_request_of result ≡ stub_request text.now }
 {
     let (number, rest) = cut(text, b' ');
-    let number = number_of(number)?;
+    let number = swi_told(number)?;
     let settings = match rest {
         Some(rest) => stub_settings(rest)?,
         None => ArrayVec::new(),

@@ -8,7 +8,7 @@ use crate::few_words::has_letters;
 use crate::status::mode_named;
 use arm_core::Mode;
 use command_shell_lines::RegisterNumber;
-use text_lines::cut;
+use profile::text_lines::cut;
 
 /// The register of that name, in either case: R0 to R14, SP or LR.
 pub(crate) fn register_of_name(word: &[u8]) -> Option<RegisterNumber>

@@ -3,22 +3,30 @@
 ghost use Rattle.std.specs.Prelude.{◌≡◌, option_map};
 ghost use Rattle.command_shell_lines.specs.Numbers.{script_number};
 ghost use Rattle.command_shell_lines.specs.Operands.{word_address, count_up_to, origin_of};
-ghost use Rattle.command_shell_lines.specs.Requests.{request_of, request_of_command, words};
+ghost use Rattle.command_shell_lines.specs.Requests.{Poke, request_of, request_of_command, words};
 ghost use Rattle.image_loader.specs.Entries.{can_name_image};
-ghost use Rattle.debug_lines.specs.DebugRequests.{is_script_request, is_remark, untraced_request, expect_line, own_request_of_words, of_image, is_frames_word, own_request_of_word, own_request_of_two, own_request_of_three, own_request_of_four, gosub_to, mode_line, put_at, stack_of, words_at, set_request, set_psr_to, debug_request_of_command};
+ghost use Rattle.debug_lines.specs.DebugRequests.{is_script_request, is_remark, untraced_request, expect_line, own_request_of_words, of_image, is_frames_word, own_request_of_word, own_request_of_two, own_request_of_three, own_request_of_four, named_call, dump_at, gosub_to, help_of, mode_line, put_at, script_of_two, stack_of, words_at, debug_request_of_command};
 ghost use Rattle.debug_lines.specs.Expectations.{expect_request};
+ghost use Rattle.command_shell_lines.specs.debug_words.Forms.{form_of_word};
 ghost use Rattle.debug_lines.specs.ModeRequests.{mode_request_of};
+ghost use Rattle.command_shell_lines.specs.debug_words.Values.{value_told};
+ghost use Rattle.command_shell_lines.specs.debug_words.SwiNames.{swi_named};
 
 use crate::expectations::{Expectation, expectation_of, text_behind};
 use crate::few_words::{FewWords, few_words, has_letters};
 use crate::modes::{ModeCommand, mode_of_two, stub_command};
+use crate::settings::{set_command, set_psr_command};
 use crate::status::StatusPattern;
 use crate::stepping::SteppingCommand;
+use command_shell_lines::debug_words::{form_of_word, swi_named, value_told};
 use command_shell_lines::{Origin, ScriptCommand, WordAddress, command_of, count_up_to, number_of};
 use image_loader::is_image_name;
 
 /// The most words that a line shows.
 const MAX_WORDS_SHOWN: u32 = 1024;
+
+/// The most bytes that a line shows.
+const MAX_BYTES_SHOWN: u32 = 4096;
 
 /// So many words of the stack are shown where a line tells no number.
 const STACK_WORDS: u32 = 8;
@@ -38,6 +46,10 @@ pub enum DebugView {
     Frames,
     /// `LABELS`.
     Labels,
+    /// `DUMP a n`, of 1 to 4096 bytes.
+    Dump(u32, u32),
+    /// `WHY`.
+    Why,
     /// `HELP`.
     Help,
 }
@@ -56,6 +68,8 @@ pub enum DebugCommand<'a> {
     Remark,
     /// A line that only looks.
     View(DebugView),
+    /// `HELP word`: what the lines need that begin with the word.
+    Form(&'a [u8]),
     /// `SET PC a`, with a multiple of 4 below 2^26.
     SetPc(Origin),
     /// `SET PSR letters mode`, `SET PSR letters` or `SET PSR mode`.
@@ -203,6 +217,8 @@ fn command_of_word(word: &[u8]) -> DebugCommand<'static>
         DebugCommand::Stepping(false, SteppingCommand::Finish)
     } else if has_letters(word, b"RESET") {
         DebugCommand::Reset
+    } else if has_letters(word, b"WHY") {
+        DebugCommand::View(DebugView::Why)
     } else if has_letters(word, b"HELP") {
         DebugCommand::View(DebugView::Help)
     } else if has_letters(word, b"QUIT") {
@@ -229,6 +245,10 @@ fn command_of_two<'a>(word: &[u8], other: &'a [u8]) -> DebugCommand<'a>
         of_image(other, DebugCommand::Counts(other))
     } else if has_letters(word, b"GOSUB") {
         gosub_command(other)
+    } else if has_letters(word, b"CALL") {
+        call_command(other)
+    } else if has_letters(word, b"HELP") {
+        help_command(other)
     } else {
         mode_command(mode_of_two(word, other))
     }
@@ -263,6 +283,25 @@ fn gosub_command(address: &[u8]) -> DebugCommand<'static>
     }
 }
 
+// A store call by its name.
+fn call_command(name: &[u8]) -> DebugCommand<'static>
+    ensures { debug_request_of_command result ≡ named_call (swi_named name.now) }
+{
+    match swi_named(name) {
+        Some(number) => DebugCommand::Script(ScriptCommand::Call(number)),
+        None => DebugCommand::Unknown,
+    }
+}
+
+fn help_command(word: &[u8]) -> DebugCommand<'static>
+    ensures { debug_request_of_command result ≡ help_of (form_of_word word.now) }
+{
+    match form_of_word(word) {
+        Some(form) => DebugCommand::Form(form),
+        None => DebugCommand::Unknown,
+    }
+}
+
 fn command_of_three<'a>(word: &[u8], first: &'a [u8], second: &[u8]) -> DebugCommand<'a>
     ensures { debug_request_of_command result ≡ own_request_of_three word.now first.now second.now }
 {
@@ -272,6 +311,10 @@ fn command_of_three<'a>(word: &[u8], first: &'a [u8], second: &[u8]) -> DebugCom
         set_command(first, second)
     } else if has_letters(word, b"PUT") {
         put_command(first, second)
+    } else if has_letters(word, b"POKE") {
+        poke_command(first, second)
+    } else if has_letters(word, b"DUMP") {
+        dump_command(first, second)
     } else {
         DebugCommand::Unknown
     }
@@ -287,6 +330,26 @@ fn put_command<'a>(name: &'a [u8], address: &[u8]) -> DebugCommand<'a>
     }
 }
 
+fn poke_command(address: &[u8], value: &[u8]) -> DebugCommand<'static>
+    ensures { debug_request_of_command result
+        ≡ script_of_two (word_address address.now) (value_told value.now) Poke }
+{
+    match (WordAddress::spelled(address), value_told(value)) {
+        (Some(address), Some(value)) => DebugCommand::Script(ScriptCommand::Poke(address, value)),
+        _ => DebugCommand::Unknown,
+    }
+}
+
+fn dump_command(address: &[u8], count: &[u8]) -> DebugCommand<'static>
+    ensures { debug_request_of_command result
+        ≡ dump_at (script_number address.now) (count_up_to 4096 count.now) }
+{
+    match (number_of(address), count_up_to(MAX_BYTES_SHOWN, count)) {
+        (Some(address), Some(count)) => DebugCommand::View(DebugView::Dump(address, count)),
+        _ => DebugCommand::Unknown,
+    }
+}
+
 fn words_command(address: &[u8], count: &[u8]) -> DebugCommand<'static>
     ensures { debug_request_of_command result
         ≡ words_at (word_address address.now) (count_up_to 1024 count.now) }
@@ -298,21 +361,6 @@ fn words_command(address: &[u8], count: &[u8]) -> DebugCommand<'static>
     }
 }
 
-fn set_command(what: &[u8], value: &[u8]) -> DebugCommand<'static>
-    ensures { debug_request_of_command result ≡ set_request what.now value.now }
-{
-    if has_letters(what, b"PC") {
-        match Origin::spelled(value) {
-            Some(address) => DebugCommand::SetPc(address),
-            None => DebugCommand::Unknown,
-        }
-    } else if has_letters(what, b"PSR") {
-        set_psr_command(StatusPattern::of_word(value))
-    } else {
-        DebugCommand::Unknown
-    }
-}
-
 fn command_of_four(word: &[u8], what: &[u8], letters: &[u8], mode: &[u8]) -> DebugCommand<'static>
     ensures { debug_request_of_command result
         ≡ own_request_of_four word.now what.now letters.now mode.now }
@@ -321,14 +369,5 @@ fn command_of_four(word: &[u8], what: &[u8], letters: &[u8], mode: &[u8]) -> Deb
         set_psr_command(StatusPattern::of_two(letters, mode))
     } else {
         DebugCommand::Unknown
-    }
-}
-
-fn set_psr_command(pattern: Option<StatusPattern>) -> DebugCommand<'static>
-    ensures { debug_request_of_command result ≡ set_psr_to pattern }
-{
-    match pattern {
-        Some(pattern) => DebugCommand::SetPsr(pattern),
-        None => DebugCommand::Unknown,
     }
 }

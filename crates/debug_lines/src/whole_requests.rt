@@ -6,8 +6,8 @@ ghost use Rattle.debug_lines.specs.BlockEnds.{missing_ends_if};
 ghost use Rattle.debug_lines.specs.WholeDebugRequests.{AreWholeDebugRequests};
 
 use crate::block_ends::BlockReading;
+use profile::text_lines::cut_line;
 use std::alloc::{AllocError, Global};
-use text_lines::cut_line;
 
 /// What the lines of a text that have their end show of its requests.
 #[derive(Drop)]

@@ -4,3 +4,4 @@ pub mod Changes
 pub mod Counting
 pub mod Modes
 pub mod Stepping
+pub mod expectations

@@ -10,9 +10,9 @@ use crate::modes::DebugModes;
 use command_shell::{Machine, show_code};
 use debug_runs::{ImagePlace, LabelTable, PlaceNames, StepCounts};
 use itoa::Buffer;
+use profile::text_sink::TextSink;
 use profile::{Sink, WriteFault, push_all, push_parts};
 use std::alloc::{AllocError, Global};
-use view_items::TextSink;
 
 /// As many blanks as a count has digits at most.
 const BLANKS: &[u8] = b"          ";

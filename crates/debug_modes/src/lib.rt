@@ -5,6 +5,7 @@
 mod answers;
 mod changing;
 mod counting;
+pub mod expectations;
 mod modes;
 mod stepping;
 mod stub_lines;

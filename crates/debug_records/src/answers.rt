@@ -4,10 +4,10 @@ use crate::images::push_image;
 use crate::lines::LineUse;
 use crate::recorder::Recorder;
 use command_shell_lines::skip_block;
-use debug_checks::reports::CheckTally;
-use record_text::{Bracket, RecordText};
+use debug_modes::expectations::reports::CheckTally;
+use profile::text_lines::{Lines, cut};
 use std::alloc::{AllocError, Global};
-use text_lines::{Lines, cut};
+use trace_effects::record_text::{Bracket, RecordText};
 use trace_json::{MachineCopy, push_changes, push_state, push_stop};
 
 /// A line that was answered.

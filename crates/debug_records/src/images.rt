@@ -3,12 +3,12 @@
 
 use crate::recorder::Recorder;
 use assembler::{Labels, labels_of_lines};
-use assembler_names::words::{after_word, is_end};
+use assembler_text::naming::words::{after_word, is_end};
 use debug_session::DebugSession;
 use itoa::Buffer;
-use record_text::{Bracket, RecordText};
+use profile::text_lines::Lines;
 use std::alloc::{AllocError, Global};
-use text_lines::Lines;
+use trace_effects::record_text::{Bracket, RecordText};
 
 /// An image that was assembled, and where it stands as far as it was told.
 #[derive(Drop)]

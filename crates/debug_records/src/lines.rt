@@ -7,10 +7,10 @@ use command_shell_lines::{ScriptCommand, command_of, skip_block};
 use debug_lines::{
     DebugCommand, ModeCommand, SteppingCommand, is_script_line, simple_command, stepping_in, tidied,
 };
-use record_text::Bracket;
+use profile::text_lines::Lines;
+use profile::text_sink::TextSink;
 use std::alloc::AllocError;
-use text_lines::Lines;
-use view_items::TextSink;
+use trace_effects::record_text::Bracket;
 
 /// What a line asks for, as far as records tell lines apart.
 #[derive(Clone, Copy, Debug)]

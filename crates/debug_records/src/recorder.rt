@@ -1,14 +1,14 @@
 //! What a debugging script is recorded on.
 
 ghost use Rattle.std.specs.Prelude.{OnOk};
-ghost use Rattle.record_text.specs.Safe.{AddsSafe};
+ghost use Rattle.trace_effects.specs.record_text.Safe.{AddsSafe};
 
 use crate::images::KnownImage;
 use debug_session::{DebugSession, DebugSetting};
 use image_loader::Images;
 use profile::{Sink, WriteFault};
-use record_text::{Bracket, RecordText, push_records};
 use std::alloc::{AllocError, Global};
+use trace_effects::record_text::{Bracket, RecordText, push_records};
 use trace_json::push_state;
 
 /// So many steps of a line are told one by one where no line says otherwise.

@@ -1,15 +1,15 @@
 //! A whole script, recorded.
 
 ghost use Rattle.std.specs.Prelude.{OnOk};
-ghost use Rattle.record_text.specs.Safe.{AddsSafe};
+ghost use Rattle.trace_effects.specs.record_text.Safe.{AddsSafe};
 
 use crate::recorder::{Recorder, hand_on};
 use command_shell::RunError;
 use debug_session::DebugSetting;
 use image_loader::Images;
 use profile::Sink;
+use profile::text_lines::Lines;
 use std::alloc::Global;
-use text_lines::Lines;
 
 /// Writes the records of a script on a fresh machine, and gives the exit status of its lines. The images
 /// are handed in twice, for the session that answers and for the one that takes its steps one by one.

@@ -10,12 +10,12 @@ use debug_session::{DebugSession, Stub};
 use image_loader::Images;
 use profile::WriteFault;
 use profile::memory_map::ADDRESS_LIMIT;
+use profile::text_sink::TextSink;
 use std::alloc::{AllocError, Global};
 use swi_dispatch::Machine;
-use told_registers::WrittenRegisters;
 use trace_effects::changes::{REGISTERS, home_of};
+use trace_effects::told_registers::WrittenRegisters;
 use trace_json::{MachineCopy, StepBefore, push_skip};
-use view_items::TextSink;
 
 /// The number of the link register.
 const LINK: u32 = 14;

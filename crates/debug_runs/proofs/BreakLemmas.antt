@@ -11,9 +11,9 @@ use Rattle.profile.specs.declared.stop.Stop.TheVariants as stop
 use Rattle.swi_dispatch_guest.proofs.RunLoop.{ran-none}
 use Rattle.swi_dispatch_guest.specs.MachineState.{MachineState}
 use Rattle.swi_dispatch_guest.specs.Run.{is_among, quiet_run, ran}
-use Rattle.swi_dispatch_breaks.specs.Breaks.{without_break, without_place}
-use Rattle.swi_dispatch_breaks.specs.declared.breaks.BreakError.{BreakError}
-use Rattle.swi_dispatch_breaks.specs.declared.breaks.BreakError.TheVariants as error
+use Rattle.arm_core.specs.breaks.Breaks.{without_break, without_place}
+use Rattle.arm_core.specs.declared.breaks.breaks.BreakError.{BreakError}
+use Rattle.arm_core.specs.declared.breaks.breaks.BreakError.TheVariants as error
 use Rattle.command_shell.specs.State.{ScriptState}
 use Rattle.command_shell.specs.Stepping.{IsAfterQuietSteps, script_after_quiet, script_with_break, script_without_break}
 use Rattle.debug_runs.proofs.PlainLemmas.{and_true}

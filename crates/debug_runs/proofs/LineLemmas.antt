@@ -9,8 +9,8 @@ use Rattle.swi_dispatch_guest.specs.Step.{module_loaded, store_called}
 use Rattle.trace_text.specs.Step.{call_start_text, load_start_text}
 use Rattle.command_shell.specs.Calls.{stop_before_step_by}
 use Rattle.command_shell.specs.State.{Answered, IsAnswered, ScriptState}
-use Rattle.view_items.specs.TextSink.{sink_text_of}
-use Rattle.view_items.specs.declared.text_sink.TextSink.{TextSink}
+use Rattle.profile.specs.text_sink.TextSink.{sink_text_of}
+use Rattle.profile.specs.declared.text_sink.TextSink.{TextSink}
 use Rattle.debug_runs.specs.Endings.{line_end_told}
 use Rattle.debug_lines.specs.SteppingRequests.{Run, Step, Call, Load, Finish, Gosub, RunLast}
 use Rattle.debug_runs.specs.LastSteps.{last_run}

@@ -14,7 +14,7 @@ use Rattle.swi_dispatch_guest.specs.MachineState.{StepOutcome, stop_of}
 use Rattle.swi_dispatch_guest.specs.Run.{count_after}
 use Rattle.command_shell.specs.Calls.{step_made}
 use Rattle.command_shell.specs.State.{ScriptState}
-use Rattle.view_items.specs.TextSink.{sink_text_of}
+use Rattle.profile.specs.text_sink.TextSink.{sink_text_of}
 use Rattle.debug_runs.specs.Runs.{SteppingRun, call_run, end_after, run_end_by, is_reached, next_step, run_behind, run_ended, run_step, run_unless, steps_run, text_of_next, watched_end}
 use Rattle.debug_runs.specs.Telling.{one_told, told_of_step}
 use Rattle.debug_runs.specs.Told.{IsAfterStepping, IsToldOn}

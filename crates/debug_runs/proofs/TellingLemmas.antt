@@ -10,7 +10,7 @@ use Rattle.command_shell.specs.State.{ScriptState, IsAnswered, answer}
 use Rattle.command_shell.specs.declared.calls.OutsideCall.{OutsideCall}
 use Rattle.trace_text.specs.Step.{Known, known_of, known_outside, start_text, step_end_text, step_text}
 use Rattle.trace_text.specs.Columns.{below_text}
-use Rattle.view_items.specs.TextSink.{sink_text_of}
+use Rattle.profile.specs.text_sink.TextSink.{sink_text_of}
 use Rattle.debug_runs.specs.Calls.{outside_start_text, outside_text}
 use Rattle.debug_runs.specs.Telling.{is_step_told, told_of_step, untold_text}
 use Rattle.debug_runs.specs.Told.{IsToldOn}

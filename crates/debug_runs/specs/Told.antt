@@ -1,7 +1,7 @@
 -- What a telling has taken up.
 use Rattle.std.specs.Prelude.{◌≡◌, ◌++◌, ℕ, List}
-use Rattle.view_items.specs.TextSink.{sink_text_of}
-use Rattle.view_items.specs.declared.text_sink.TextSink.{TextSink}
+use Rattle.profile.specs.text_sink.TextSink.{sink_text_of}
+use Rattle.profile.specs.declared.text_sink.TextSink.{TextSink}
 use Rattle.command_shell.specs.State.{ScriptState}
 use Rattle.debug_runs.specs.Lines.{SteppingTold}
 use Rattle.debug_runs.specs.Runs.{SteppingRun}

@@ -10,7 +10,7 @@ ghost use Rattle.debug_runs.specs.Places.{places_of_run};
 ghost use Rattle.debug_runs.specs.Runs.{next_step, steps_run};
 ghost use Rattle.debug_runs.specs.Told.{IsAfterStepping, IsAfterUntold};
 ghost use Rattle.debug_runs.specs.declared.running.RunGoal.TheVariants.{Nowhere};
-ghost use Rattle.view_items.specs.TextSink.{sink_text_of};
+ghost use Rattle.profile.specs.text_sink.TextSink.{sink_text_of};
 
 use crate::context::StepContext;
 use crate::counted::{count_at, place_of};
@@ -19,9 +19,9 @@ use crate::running::{RunEnd, RunGoal, end_after};
 use crate::telling::Telling;
 use command_shell::Session;
 use debug_tables::counts::StepCounts;
+use profile::text_sink::TextSink;
 use profile::{Stop, WriteFault, push_all};
 use std::alloc::Global;
-use view_items::TextSink;
 
 /// Takes so many steps at most, until the run is stopped, and tells so many of them, the last ones.
 /// Counts the steps where they are counted.

@@ -5,18 +5,18 @@ ghost use Rattle.std.specs.List.{flat_map};
 ghost use Rattle.profile.specs.Output.{Writes};
 ghost use Rattle.command_shell.specs.Session.{script_state};
 ghost use Rattle.debug_runs.specs.LastSteps.{steps_before_text, whole_text};
-ghost use Rattle.view_items.specs.TextSink.{sink_text_of};
+ghost use Rattle.profile.specs.text_sink.TextSink.{sink_text_of};
 
 use crate::context::StepContext;
 use crate::telling::Telling;
 use command_shell::Session;
 use itoa::Buffer;
+use profile::text_sink::TextSink;
 use profile::{Sink, WriteFault, push_all, push_parts};
 use std::alloc::Global;
 use std::collections::VecDeque;
 use std::marker::Model;
 use trace_text::push_prints_line;
-use view_items::TextSink;
 
 /// All that can be told of a step, and what it printed.
 #[derive(Drop)]
@@ -87,7 +87,7 @@ pub(crate) struct LastSteps {
 
 impl Model for LastSteps {
     ghost use Rattle.debug_runs.specs.LastSteps.{LastState};
-    ghost use Rattle.view_items.specs.TextSink.{sink_text_of};
+    ghost use Rattle.profile.specs.text_sink.TextSink.{sink_text_of};
 
     ghost Value = { LastState };
 

@@ -27,9 +27,9 @@ use debug_lines::SteppingCommand;
 use debug_tables::StepModes;
 use debug_tables::counts::StepCounts;
 use image_loader::Images;
+use profile::text_sink::TextSink;
 use profile::{Stop, WriteFault};
 use std::alloc::{AllocError, Global};
-use view_items::TextSink;
 
 /// What a line left to write: what is told of its steps, and its usual ending behind that.
 #[derive(Drop)]

@@ -5,9 +5,10 @@ ghost use Rattle.std.specs.Io.KnownBytes.{Appends};
 ghost use Rattle.profile.specs.Output.{Writes};
 ghost use Rattle.trace_text.specs.Step.{front_text};
 ghost use Rattle.debug_runs.specs.Telling.{stub_line, stub_words};
-ghost use Rattle.view_items.specs.TextSink.{sink_text_of};
+ghost use Rattle.profile.specs.text_sink.TextSink.{sink_text_of};
 
 use arm_core::Cpu;
+use profile::text_sink::TextSink;
 use profile::{Sink, WriteFault, push_all};
 use std::alloc::Global;
 use trace_effects::Cause;
@@ -15,7 +16,6 @@ use trace_effects::changes::following_word;
 use trace_text::columns::push_line;
 use trace_text::core_text::push_core;
 use trace_text::start::{push_front, text_of};
-use view_items::TextSink;
 
 /// Writes the line of a step that a stub answered, by the core before it and after it, and what
 /// stood at the program counter.

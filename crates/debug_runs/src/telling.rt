@@ -10,7 +10,7 @@ ghost use Rattle.image_loader.specs.Entries.{Entry};
 ghost use Rattle.profile.specs.Output.{Writes};
 ghost use Rattle.debug_runs.specs.Calls.{outside_start_text};
 ghost use Rattle.debug_runs.specs.Telling.{is_step_told, more_text, one_told, untold_text};
-ghost use Rattle.view_items.specs.TextSink.{sink_text_of};
+ghost use Rattle.profile.specs.text_sink.TextSink.{sink_text_of};
 
 use crate::context::StepContext;
 use crate::labelling::push_label_line;
@@ -19,11 +19,11 @@ use command_shell::{Machine, OutsideCall, Session};
 use debug_tables::Stub;
 use image_loader::Images;
 use itoa::Buffer;
+use profile::text_sink::TextSink;
 use profile::{Sink, WriteFault, push_all, push_parts};
 use std::alloc::Global;
 use trace_effects::Cause;
 use trace_text::{StepStart, push_prints_line};
-use view_items::TextSink;
 
 /// What is told of the steps of a line, and what the guest prints in them.
 #[derive(Drop)]

@@ -2,19 +2,19 @@
 use Rattle.std.proofs.Common.{◌≡◌, ◌≤◌, ℕ, zero, suc, ◌+◌, Bool, true, false, List, [], ◌∷◌, ◌++◌, length, Option, None, Some, ◌⊎◌, inl, inr, ap, sym, ◌∙◌, refl, arith}
 use Rattle.std.specs.Prelude.{◌&&◌, if◌then◌else◌}
 use Rattle.std.proofs.lemmas.Bool.{cases_Bool}
-use Rattle.run_meter.specs.Memory.{script_with_budget}
-use Rattle.run_meter.specs.Script.{lines_told, request_told}
-use Rattle.run_meter.specs.State.{Answered, ScriptState}
-use Rattle.run_meter.proofs.ScriptLemmas.{lines_after-shorter, text_end, text_step}
+use Rattle.debug_tables.specs.run_meter.Memory.{script_with_budget}
+use Rattle.debug_tables.specs.run_meter.Script.{lines_told, request_told}
+use Rattle.debug_tables.specs.run_meter.State.{Answered, ScriptState}
+use Rattle.debug_tables.proofs.RunMeterLemmas.ScriptLemmas.{lines_after-shorter, text_end, text_step}
 use Rattle.command_shell_lines.specs.Blocks.{block_lines, lines_after, lines_taken}
 use Rattle.command_shell_lines.specs.Requests.{Request, opens_block, request_of}
 use Rattle.debug_lines.specs.DebugRequests.{is_script_request}
 use Rattle.debug_session.specs.AsBefore.{LookingLeavesTheMachine, ScriptAsBefore, are_script_lines, stepping_lines}
-use Rattle.debug_checks.specs.Checks.{check_told}
+use Rattle.debug_modes.specs.expectations.Checks.{check_told}
 use Rattle.debug_modes.specs.Modes.{takes_over}
 use Rattle.debug_session.specs.DebugScript.{checked_told, asks_nothing, is_refused_block, state_after_line, state_with_answer, plain_line_told, seen_of, some_lines_told, takes_steps, told_or_refused}
 use Rattle.debug_session.specs.DebugState.{DebugAnswered, DebugState, then_debugged}
-use Rattle.debug_checks.specs.declared.reports.reports.ReportForm.TheVariants.{Answers}
+use Rattle.debug_modes.specs.declared.expectations.reports.reports.ReportForm.TheVariants.{Answers}
 use Rattle.debug_session.specs.declared.session.DebugSetting.{DebugSetting}
 use Rattle.debug_session.proofs.UnreadLemmas.{IsUnread, budget_unread}
 

@@ -1,10 +1,11 @@
-pub use Rattle.run_meter.proofs.SliceLemmas
+pub use Rattle.debug_tables.proofs.RunMeterLemmas.SliceLemmas
 pub mod AloneLemmas
 pub mod AsBeforeLemmas
 pub mod JoinLemmas
 pub mod LineLemmas
 pub mod NamingLemmas
 pub mod OwnLemmas
+pub mod RefusalLemmas
 pub mod RepeatLemmas
 pub mod SteppingLemmas
 pub mod TakenLemmas

@@ -6,25 +6,25 @@ use Rattle.profile.proofs.OutputLemmas.{Appends-nothing}
 use Rattle.debug_lines.specs.DebugRequests.{DebugRequest}
 use Rattle.profile.specs.declared.stop.Stop.{Stop}
 use Rattle.rosm_settings.specs.command_line.Status.{status_after}
-use Rattle.run_meter.specs.Script.{request_told}
-use Rattle.run_meter.specs.State.{Answered, IsAnswered, ScriptState}
-use Rattle.run_meter.specs.Memory.{script_with_budget}
+use Rattle.debug_tables.specs.run_meter.Script.{request_told}
+use Rattle.debug_tables.specs.run_meter.State.{Answered, IsAnswered, ScriptState}
+use Rattle.debug_tables.specs.run_meter.Memory.{script_with_budget}
 use Rattle.command_shell_lines.specs.Requests.{Request, Nothing, Hex, Asm, Boot, Run, Regs, Set, Poke, Call, Load, Step, Break, Unbreak, Mem, Code, Heap, Areas, Modules, Flex, Unknown, opens_block}
-use Rattle.debug_checks.specs.Endings.{ending_of, output_of}
+use Rattle.debug_modes.specs.expectations.Endings.{ending_of, output_of}
 use Rattle.debug_labels.specs.Labels.{ImageLabels}
 use Rattle.debug_modes.specs.declared.modes.DebugModes.{DebugModes}
 use Rattle.debug_session.specs.Naming.{labels_with_block}
 use Rattle.debug_session.specs.DebugScript.{machine_change_told, checked_told, labels_after, simple_request_told, is_named_image, asks_nothing, is_refused_block, state_after_line, state_with_answer, script_line_told_by, takes_steps, told_or_refused, view_told}
 use Rattle.image_loader.specs.Entries.{Entry}
-use Rattle.run_meter.specs.Session.{script_state}
+use Rattle.debug_tables.specs.run_meter.Session.{script_state}
 use Rattle.debug_session.specs.DebugState.{DebugAnswered, DebugState, IsDebugged}
 use Rattle.debug_session.specs.Session.{debug_state}
-use Rattle.debug_checks.specs.declared.reports.reports.CheckTally.{CheckTally}
+use Rattle.debug_modes.specs.declared.expectations.reports.reports.CheckTally.{CheckTally}
 use Rattle.debug_session.specs.declared.session.DebugSession.{DebugSession}
-use Rattle.debug_checks.specs.reports.Reports.{answer_in, is_untested}
+use Rattle.debug_modes.specs.expectations.reports.Reports.{answer_in, is_untested}
 use Rattle.debug_session.specs.ExitStatus.{debug_status}
-use Rattle.debug_checks.specs.declared.reports.reports.ReportForm.{ReportForm}
-use Rattle.debug_checks.specs.declared.reports.reports.ReportForm.TheVariants.{Answers, Tap}
+use Rattle.debug_modes.specs.declared.expectations.reports.reports.ReportForm.{ReportForm}
+use Rattle.debug_modes.specs.declared.expectations.reports.reports.ReportForm.TheVariants.{Answers, Tap}
 use Rattle.debug_session.specs.declared.session.DebugSetting.{DebugSetting}
 
 pub untested_status : (d : DebugState) (untested : Bool) (last : Option Stop) (status : ℕ)

@@ -6,16 +6,16 @@ use Rattle.profile.proofs.OutputLemmas.{Appends-join}
 use Rattle.profile.specs.FaultNames.{fault_name}
 use Rattle.profile.specs.Outcome.{Leaves}
 use Rattle.profile.specs.declared.fault.Fault.{Fault}
-use Rattle.run_meter.specs.Answers.{refused_text}
-use Rattle.run_meter.specs.State.{ScriptState}
+use Rattle.debug_tables.specs.run_meter.Answers.{refused_text}
+use Rattle.debug_tables.specs.run_meter.State.{ScriptState}
 use Rattle.command_shell_lines.specs.Requests.{Request, Nothing, Hex, Asm, Boot, Run, Regs, Set, Poke, Call, Load, Step, Break, Unbreak, Mem, Code, Heap, Areas, Modules, Flex, Unknown, opens_block}
 use Rattle.debug_lines.specs.SteppingRequests.{SteppingRequest, stepping_in}
 use Rattle.debug_modes.specs.declared.modes.DebugModes.{DebugModes}
 use Rattle.debug_session.specs.DebugScript.{put_done, put_text, stepping_told_by, view_told}
 use Rattle.debug_session.specs.DebugState.{DebugAnswered, DebugState, IsDebugged}
-use Rattle.debug_checks.specs.reports.Reports.{answer_in}
-use Rattle.debug_checks.specs.declared.reports.reports.ReportForm.{ReportForm}
-use Rattle.debug_checks.specs.declared.reports.reports.ReportForm.TheVariants.{Answers, Tap}
+use Rattle.debug_modes.specs.expectations.reports.Reports.{answer_in}
+use Rattle.debug_modes.specs.declared.expectations.reports.reports.ReportForm.{ReportForm}
+use Rattle.debug_modes.specs.declared.expectations.reports.reports.ReportForm.TheVariants.{Answers, Tap}
 use Rattle.debug_session.specs.declared.session.DebugSetting.{DebugSetting}
 
 -- a line that takes steps opens no block

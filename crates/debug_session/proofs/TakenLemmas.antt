@@ -8,9 +8,9 @@ use Rattle.std.specs.Io.KnownBytes.{Appends}
 use Rattle.std.specs.Str.Lines.{lines}
 use Rattle.image_loader.specs.Entries.{Entry}
 use Rattle.profile.proofs.OutputLemmas.{Appends-join}
-use Rattle.text_lines.specs.WholeLines.{line_of_some, unended_line, whole_lines}
-use Rattle.text_lines.specs.Lines.{ReadingPlace}
-use Rattle.text_lines.proofs.WholeLineLemmas.{all_unended, lines_at_most, lines_cut, lines_whole_or_last, unended_line_goes_on, whole_at_place, whole_lines_go_on}
+use Rattle.profile.specs.text_lines.WholeLines.{line_of_some, unended_line, whole_lines}
+use Rattle.profile.specs.text_lines.Lines.{ReadingPlace}
+use Rattle.profile.proofs.TextLinesLemmas.WholeLineLemmas.{all_unended, lines_at_most, lines_cut, lines_whole_or_last, unended_line_goes_on, whole_at_place, whole_lines_go_on}
 use Rattle.debug_lines.specs.WholeDebugRequests.{AreWholeDebugRequests, is_debug_block_open_after, is_debug_block_open_after_lines, is_debug_block_open_throughout}
 use Rattle.debug_session.specs.DebugScript.{debug_lines_told}
 use Rattle.debug_session.specs.DebugState.{DebugAnswered, DebugState, IsDebugged}

@@ -3,24 +3,24 @@ use Rattle.std.proofs.Common.{◌≡◌, ℕ, false, List, Option, Some, None, R
 use Rattle.std.specs.Prelude.{codes}
 use Rattle.assembler.specs.Passes.{means_lines}
 use Rattle.assembler.specs.declared.error.AsmError.{AsmError}
-use Rattle.debug_checks.specs.Flex.{flex_text}
-use Rattle.debug_checks.specs.Heap.{heap_blocks_text}
-use Rattle.run_meter.specs.Boot.{machine_after_boot}
-use Rattle.run_meter.specs.BootError.{BootError}
-use Rattle.swi_dispatch_breaks.specs.Breaks.{with_break, without_break}
-use Rattle.swi_dispatch_breaks.specs.declared.breaks.BreakError.{BreakError}
+use Rattle.debug_modes.specs.expectations.Flex.{flex_text}
+use Rattle.debug_modes.specs.expectations.Heap.{heap_blocks_text}
+use Rattle.debug_tables.specs.run_meter.Boot.{machine_after_boot}
+use Rattle.debug_tables.specs.run_meter.BootError.{BootError}
+use Rattle.arm_core.specs.breaks.Breaks.{with_break, without_break}
+use Rattle.arm_core.specs.declared.breaks.breaks.BreakError.{BreakError}
 use Rattle.image_loader.specs.Entries.{bytes_of_image, refusal_for}
 use Rattle.image_loader.specs.declared.error.ImageError.{ImageError}
 use Rattle.profile.specs.declared.fault.Fault.{Fault}
-use Rattle.run_meter.specs.MachineState.{MachineState}
-use Rattle.run_meter.specs.Writes.{machine_after_poke}
-use Rattle.run_meter.specs.Answers.{break_text, unbreak_text}
-use Rattle.run_meter.specs.Images.{asm_block, boot_done, boot_found, hex_block, image_added, image_opened}
-use Rattle.run_meter.specs.Memory.{poke_done, script_with_budget}
-use Rattle.run_meter.specs.Script.{request_told}
-use Rattle.run_meter.specs.State.{Answered, ScriptState}
-use Rattle.run_meter.specs.Stepping.{breaks_changed}
-use Rattle.run_meter.specs.Views.{flex_told, heap_told, shown_or}
+use Rattle.debug_tables.specs.run_meter.MachineState.{MachineState}
+use Rattle.debug_tables.specs.run_meter.Writes.{machine_after_poke}
+use Rattle.debug_tables.specs.run_meter.Answers.{break_text, unbreak_text}
+use Rattle.debug_tables.specs.run_meter.Images.{asm_block, boot_done, boot_found, hex_block, image_added, image_opened}
+use Rattle.debug_tables.specs.run_meter.Memory.{poke_done, script_with_budget}
+use Rattle.debug_tables.specs.run_meter.Script.{request_told}
+use Rattle.debug_tables.specs.run_meter.State.{Answered, ScriptState}
+use Rattle.debug_tables.specs.run_meter.Stepping.{breaks_changed}
+use Rattle.debug_tables.specs.run_meter.Views.{flex_told, heap_told, shown_or}
 use Rattle.command_shell_lines.specs.Blocks.{block_bytes}
 use Rattle.command_shell_lines.specs.Requests.{Request, Nothing, Hex, Asm, Boot, Run, Regs, Set, Poke, Call, Load, Step, Break, Unbreak, Mem, Code, Heap, Areas, Modules, Flex, Unknown}
 use Rattle.debug_session.specs.DebugScript.{takes_steps}

@@ -1,15 +1,16 @@
 -- A script is answered by a debugging session as a script is, byte for byte; and looking and
 -- expecting change nothing.
 use Rattle.std.specs.Prelude.{◌≡◌, ◌≤◌, ℕ, zero, suc, ◌+◌, ◌&&◌, Bool, true, false, List, [], ◌∷◌, length, None, if◌then◌else◌}
-use Rattle.run_meter.specs.Script.{lines_told}
+use Rattle.debug_tables.specs.run_meter.Script.{lines_told}
 use Rattle.command_shell_lines.specs.Blocks.{lines_after}
 use Rattle.command_shell_lines.specs.Requests.{opens_block, request_of}
 use Rattle.debug_lines.specs.DebugRequests.{DebugRequest, Expect, View, ViewRequest, is_script_request}
 use Rattle.debug_lines.specs.Expectations.{ExpectRequest}
 use Rattle.debug_modes.specs.Modes.{takes_over}
-use Rattle.debug_session.specs.DebugScript.{debug_lines_told, simple_request_told, takes_steps}
+use Rattle.debug_session.specs.DebugScript.{debug_lines_told, simple_request_told, takes_steps, unknown_told}
 use Rattle.debug_session.specs.DebugState.{DebugState}
-use Rattle.debug_checks.specs.declared.reports.reports.ReportForm.TheVariants.{Answers}
+use Rattle.debug_session.specs.Refusals.{BeginsAsInScript}
+use Rattle.debug_modes.specs.declared.expectations.reports.reports.ReportForm.TheVariants.{Answers}
 use Rattle.debug_session.specs.declared.session.DebugSetting.{DebugSetting}
 
 -- Whether at most so many lines, and blocks between them, are those of a script; and of these, how
@@ -48,3 +49,8 @@ pub record LookingChangesNothing (c : DebugSetting) (d : DebugState) (number : �
 abbrev pub LookingLeavesTheMachine : Type 0
 LookingLeavesTheMachine = (c : DebugSetting) (d : DebugState) (number : ℕ) (words : List ℕ)
     (block : List (List ℕ)) → LookingChangesNothing c d number words block
+
+-- A line that means nothing to either is answered as a script answers it, and then comes the reason.
+abbrev pub RefusedAsBefore : Type 0
+RefusedAsBefore = (c : DebugSetting) (d : DebugState) (number : ℕ) (words : List ℕ) → c.form ≡ Answers
+    → BeginsAsInScript number (unknown_told c d number words).text

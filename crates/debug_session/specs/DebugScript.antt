@@ -1,22 +1,23 @@
 -- What a debugging script does and what it is answered, line by line, over the written machine. A
 -- line of a script is answered as in a script, but that each line may take the whole budget.
-use Rattle.std.specs.Prelude.{ℕ, zero, suc, ◌+◌, ◌-◌, ◌&&◌, ◌||◌, Bool, true, false, not, List, [], ◌∷◌, ◌++◌, length, codes, Option, Some, None, Result, Ok, Err, is_some, if◌then◌else◌}
+use Rattle.std.specs.Prelude.{ℕ, zero, suc, ◌+◌, ◌-◌, ◌&&◌, ◌||◌, Bool, true, false, not, List, [], ◌∷◌, ◌++◌, length, codes, Option, Some, None, Result, Ok, Err, is_some, option_map, if◌then◌else◌}
 use Rattle.std.specs.Str.Lines.{lines}
 use Rattle.image_loader.specs.Entries.{Entry, bytes_of_image, without_entry}
-use Rattle.byte_writes.specs.Put.{script_after_put}
+use Rattle.debug_tables.specs.byte_writes.Put.{script_after_put}
 use Rattle.profile.specs.Digits.{hex_number}
 use Rattle.profile.specs.FaultNames.{fault_name}
 use Rattle.profile.specs.declared.fault.Fault.{Fault}
-use Rattle.run_meter.specs.Answers.{refused_text, unknown_text}
-use Rattle.run_meter.specs.Memory.{script_at, script_started_anew, script_with_budget, script_with_status}
-use Rattle.run_meter.specs.Script.{request_told}
-use Rattle.run_meter.specs.State.{Answered, ScriptState}
+use Rattle.debug_tables.specs.run_meter.Answers.{refused_text, unknown_text}
+use Rattle.debug_tables.specs.run_meter.Memory.{script_at, script_started_anew, script_with_budget, script_with_status}
+use Rattle.debug_tables.specs.run_meter.Script.{request_told}
+use Rattle.debug_tables.specs.run_meter.State.{Answered, ScriptState}
 use Rattle.command_shell_lines.specs.Blocks.{block_lines, lines_after, lines_taken}
 use Rattle.command_shell_lines.specs.Requests.{Request, Nothing, Hex, Asm, Run, Call, Load, Step, opens_block, request_of}
-use Rattle.debug_checks.specs.Checks.{Seen, check_told, status_after_pattern}
-use Rattle.debug_checks.specs.Endings.{ending_of, output_of}
-use Rattle.debug_lines.specs.DebugRequests.{DebugRequest, Script, Stepping, Mode, Remark, SetPc, SetPsr, Put, Forget, Counts, Reset, Quit, Expect, Repeat, NotKnown, debug_opens_block, debug_request, is_script_request, ViewRequest, View, Words, Where, Banks, Stack, Frames, Labels, Help}
-use Rattle.run_meter.specs.MachineState.{MachineState}
+use Rattle.debug_modes.specs.expectations.Checks.{Seen, check_told, status_after_pattern}
+use Rattle.debug_modes.specs.expectations.Halted.{halted_at_text, halting_fault}
+use Rattle.debug_modes.specs.expectations.Endings.{ending_of, output_of}
+use Rattle.debug_lines.specs.DebugRequests.{DebugRequest, Script, Stepping, Mode, Remark, SetPc, SetPsr, Put, Forget, Counts, Reset, Quit, Expect, Repeat, NotKnown, debug_opens_block, debug_request, is_script_request, ViewRequest, View, Words, Where, Banks, Stack, Frames, Labels, Dump, Why, Help, Form}
+use Rattle.debug_tables.specs.run_meter.MachineState.{MachineState, stop_of}
 use Rattle.debug_lines.specs.ModeRequests.{ModeRequest}
 use Rattle.debug_lines.specs.SteppingRequests.{SteppingRequest, stepping_in}
 use Rattle.debug_modes.specs.Changes.{ModeTold, mode_told}
@@ -26,16 +27,20 @@ use Rattle.debug_modes.specs.Stepping.{modes_after, stepping_in_modes}
 use Rattle.debug_lines.specs.Tidy.{tidied_line}
 use Rattle.debug_labels.specs.Labels.{ImageLabels, without_labels}
 use Rattle.debug_labels.specs.Views.{labels_text}
-use Rattle.debug_places.specs.Frames.{frames_text}
-use Rattle.debug_places.specs.Places.{naming_on, where_text}
-use Rattle.debug_places.specs.Stack.{stack_words_text}
-use Rattle.debug_checks.specs.views.Banks.{banks_text}
-use Rattle.debug_checks.specs.views.Words.{memory_words_text}
+use Rattle.debug_labels.specs.place_views.Frames.{frames_text}
+use Rattle.debug_labels.specs.place_views.Places.{naming_on, where_text}
+use Rattle.debug_labels.specs.place_views.Stack.{stack_words_text}
+use Rattle.debug_modes.specs.expectations.Dump.{dump_text}
+use Rattle.debug_modes.specs.expectations.Why.{why_text}
+use Rattle.debug_modes.specs.expectations.views.Banks.{banks_text}
+use Rattle.debug_modes.specs.expectations.views.Words.{memory_words_text}
 use Rattle.debug_session.specs.DebugState.{DebugAnswered, DebugState, debug_answer, debug_start_state, then_debugged}
 use Rattle.debug_session.specs.Naming.{labels_with_block, meant_request, naming_of, repeated_now}
+use Rattle.debug_session.specs.Refusals.{reasoned_text}
+use Rattle.debug_labels.specs.Reasons.{refusal_reason}
 use Rattle.debug_session.specs.declared.help.TheConstants.{HELP}
 use Rattle.debug_session.specs.declared.session.DebugSetting.{DebugSetting}
-use Rattle.debug_checks.specs.reports.Reports.{answer_in, fail_text, pass_text, report_of_refusal, summary_text, with_fail, with_pass, with_refusal}
+use Rattle.debug_modes.specs.expectations.reports.Reports.{answer_in, fail_text, pass_text, report_of_refusal, summary_text, with_fail, with_pass, with_refusal}
 
 -- LINES OF A SCRIPT
 
@@ -146,7 +151,10 @@ view_text labels s Banks = banks_text s.cpu
 view_text labels s (Stack count) = stack_words_text (naming_on labels s) s.cpu s.store.bytes count
 view_text labels s Frames = frames_text labels s
 view_text labels s Labels = labels_text (naming_on labels s)
+view_text labels s (Dump address count) = dump_text s.store.bytes address count
+view_text labels s Why = why_text s.cpu s.store.bytes
 view_text labels s Help = HELP.now
+view_text labels s (Form form) = form ++ codes "\n"
 
 -- a view: its text is the answer
 abbrev pub view_told : DebugSetting → DebugState → List ℕ → DebugAnswered
@@ -155,6 +163,15 @@ view_told c d text = debug_answer (record d { answer = text }) (answer_in c.form
 -- a change of the machine, which is answered nothing
 abbrev pub machine_change_told : DebugState → ScriptState → DebugAnswered
 machine_change_told d script = debug_answer (record d { script = script; answer = [] }) []
+
+-- SET PC: a machine that a fault has halted stays where the fault was, which is told.
+abbrev pub set_pc_by : Option Fault → DebugSetting → DebugState → ℕ → DebugAnswered
+set_pc_by (Some fault) c d address = view_told c d (halted_at_text fault d.script.machine.cpu.pc)
+set_pc_by None c d address = machine_change_told d (script_at d.script address)
+
+abbrev pub set_pc_told : DebugSetting → DebugState → ℕ → DebugAnswered
+set_pc_told c d address =
+    set_pc_by (halting_fault (option_map stop_of d.script.machine.halt)) c d address
 
 abbrev pub reset_told : DebugSetting → DebugState → DebugAnswered
 reset_told c d = view_told c (record d { script = script_started_anew d.script c.config c.budget })
@@ -217,9 +234,11 @@ checked_told c d number words None = debug_answer (record d { tally = with_pass 
 checked_told c d number words (Some reason) = debug_answer (record d { tally = with_fail d.tally })
     (fail_text c.form d.tally number words reason)
 
-abbrev pub unknown_told : DebugSetting → DebugState → ℕ → DebugAnswered
-unknown_told c d number = debug_answer (record d { answer = unknown_text number; tally = with_refusal d.tally })
-    (report_of_refusal c.form d.tally number (unknown_text number))
+-- A line that means nothing: the reason is told, and lines EXPECT find a script's answer.
+abbrev pub unknown_told : DebugSetting → DebugState → ℕ → List ℕ → DebugAnswered
+unknown_told c d number line = debug_answer
+    (record d { answer = unknown_text number; tally = with_refusal d.tally })
+    (report_of_refusal c.form d.tally number (reasoned_text number (refusal_reason (naming_of d) line)))
 
 -- A line at that number that is no REPEAT: its words, made tidy, what it asks for, and the lines of
 -- its block.
@@ -231,7 +250,7 @@ simple_request_told c d number words (Stepping is_traced request) block =
 simple_request_told c d number words (Mode request) block = mode_line_told c d request
 simple_request_told c d number words Remark block = debug_answer d []
 simple_request_told c d number words (View shown) block = view_told c d (view_text d.labels d.script.machine shown)
-simple_request_told c d number words (SetPc address) block = machine_change_told d (script_at d.script address)
+simple_request_told c d number words (SetPc address) block = set_pc_told c d address
 simple_request_told c d number words (SetPsr pattern) block = machine_change_told d
     (script_with_status d.script (status_after_pattern pattern d.script.machine.cpu.psr))
 simple_request_told c d number words (Put name address) block = put_told c d name address
@@ -241,8 +260,8 @@ simple_request_told c d number words Reset block = reset_told c d
 simple_request_told c d number words Quit block = debug_answer (record d { has_quit = true }) []
 simple_request_told c d number words (Expect expected) block =
     checked_told c d number words (check_told (seen_of d) expected)
-simple_request_told c d number words (Repeat count line) block = unknown_told c d number
-simple_request_told c d number words NotKnown block = unknown_told c d number
+simple_request_told c d number words (Repeat count line) block = unknown_told c d number words
+simple_request_told c d number words NotKnown block = unknown_told c d number words
 
 -- nothing is answered after QUIT
 abbrev pub unless_quit : DebugState → DebugAnswered → DebugAnswered

@@ -2,14 +2,14 @@
 use Rattle.std.specs.Prelude.{◌≡◌, ℕ, Bool, false, List, [], ◌++◌, Option}
 use Rattle.std.specs.Io.KnownBytes.{Appends}
 use Rattle.image_loader.specs.Entries.{Entry}
-use Rattle.run_meter.specs.State.{ScriptState, script_start_state}
-use Rattle.run_meter.specs.RunError.{RunError}
-use Rattle.run_meter.specs.RunError.TheVariants.{Memory, ReadFault, WriteFault, ScriptTooLong}
+use Rattle.debug_tables.specs.run_meter.State.{ScriptState, script_start_state}
+use Rattle.debug_tables.specs.run_meter.RunError.{RunError}
+use Rattle.debug_tables.specs.run_meter.RunError.TheVariants.{Memory, ReadFault, WriteFault, ScriptTooLong}
 use Rattle.debug_labels.specs.Labels.{ImageLabels}
 use Rattle.debug_modes.specs.Modes.{no_modes}
 use Rattle.debug_modes.specs.declared.modes.DebugModes.{DebugModes}
-use Rattle.debug_checks.specs.reports.Reports.{no_tally}
-use Rattle.debug_checks.specs.declared.reports.reports.CheckTally.{CheckTally}
+use Rattle.debug_modes.specs.expectations.reports.Reports.{no_tally}
+use Rattle.debug_modes.specs.declared.expectations.reports.reports.CheckTally.{CheckTally}
 use Rattle.debug_session.specs.declared.session.DebugSetting.{DebugSetting}
 
 -- What a debugging script works on: what a script does, the labels of the images that were assembled,

@@ -1,12 +1,13 @@
 -- What the lines of a debugging script are answered. Begin with DebugScript.
-pub use Rattle.byte_writes.specs.Put
-pub use Rattle.debug_checks.specs.declared.reports.reports.ReportForm as DebugChecksReportForm
-pub use Rattle.run_meter.specs.Meters
+pub use Rattle.debug_tables.specs.byte_writes.Put
+pub use Rattle.debug_modes.specs.declared.expectations.reports.reports.ReportForm as DebugChecksReportForm
+pub use Rattle.debug_tables.specs.run_meter.Meters
 pub mod AsBefore
 pub mod DebugScript
 pub mod DebugState
 pub mod ExitStatus
 pub mod Looking
 pub mod Naming
+pub mod Refusals
 pub mod Session
 pub mod Typing

@@ -5,14 +5,14 @@ use Rattle.std.specs.Option.{option_or}
 use Rattle.image_loader.specs.Entries.{Entry, bytes_of_image}
 use Rattle.assembler.specs.Passes.{labels_of_lines}
 use Rattle.assembler.specs.declared.error.AsmError.{AsmError}
-use Rattle.assembler_names.specs.Labels.{Entries}
+use Rattle.assembler_text.specs.naming.Labels.{Entries}
 use Rattle.command_shell_lines.specs.Requests.{Request, Asm}
 use Rattle.debug_labels.specs.Labels.{ImageLabels, labels_of_image}
 use Rattle.debug_labels.specs.Lines.{line_with_numbers}
 use Rattle.debug_labels.specs.Words.{Naming}
 use Rattle.debug_lines.specs.DebugRequests.{DebugRequest, NotKnown, is_known, is_repeatable, repeated_line, simple_request}
 use Rattle.debug_lines.specs.Repeats.{repeated_text}
-use Rattle.debug_places.specs.Places.{naming_on}
+use Rattle.debug_labels.specs.place_views.Places.{naming_on}
 use Rattle.debug_session.specs.DebugState.{DebugState}
 
 -- LABELS

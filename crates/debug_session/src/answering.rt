@@ -1,21 +1,21 @@
 //! One line of a debugging script, answered.
 
 ghost use Rattle.std.specs.Prelude.{◌≡◌, ◌+◌, true, false, List, Some, option_map, IfErr, IfOk, IfNone, IfSome, OnOk};
-ghost use Rattle.run_meter.specs.Error.{IsLineError};
+ghost use Rattle.debug_tables.specs.run_meter.Error.{IsLineError};
 ghost use Rattle.command_shell_lines.specs.Blocks.{block_lines, lines_after, lines_taken};
 
 use crate::session::DebugSession;
 use command_shell_lines::command_of;
+use debug_labels::place_views::names_on;
 use debug_lines::{
     DebugCommand, RepeatedLine, is_known_line, is_repeatable_line, is_script_command,
     repeated_line, repeated_text, simple_command, tidied,
 };
-use debug_places::names_on;
+use debug_tables::run_meter::RunError;
 use image_loader::Images;
 use profile::Sink;
-use run_meter::RunError;
+use profile::text_lines::Lines;
 use std::alloc::AllocError;
-use text_lines::Lines;
 
 impl DebugSession {
     ghost use Rattle.image_loader.specs.Entries.{Entry};
@@ -157,7 +157,7 @@ impl DebugSession {
     }
 
     // A tidy line with numbers in place of the words that name places now.
-    fn with_numbers(&self, line: &[u8]) -> Result<Vec<u8>, AllocError>
+    pub(crate) fn with_numbers(&self, line: &[u8]) -> Result<Vec<u8>, AllocError>
         ensures { (images : List Entry) → IfOk result (λ text. text.items
             ≡ line_with_numbers (naming_of (debug_state self.now images)) line.now) }
     {
@@ -224,7 +224,7 @@ impl DebugSession {
         if meant.is_repeatable() {
             return self.known_line(images, sink, words, meant, script);
         }
-        self.refuse(sink, script.number())
+        self.refuse(sink, words, script.number())
     }
 
     // Answers a line by what it asks for; `words` are the line as it was typed, made tidy.
@@ -256,10 +256,8 @@ impl DebugSession {
             DebugCommand::Mode(command) => self.mode_line(sink, &command),
             DebugCommand::Remark => Ok(()),
             DebugCommand::View(view) => self.look(sink, view),
-            DebugCommand::SetPc(address) => {
-                self.set_pc(address);
-                Ok(())
-            }
+            DebugCommand::Form(form) => self.show_form(sink, form),
+            DebugCommand::SetPc(address) => self.move_pc(sink, address),
             DebugCommand::SetPsr(pattern) => {
                 self.set_psr(pattern);
                 Ok(())
@@ -276,7 +274,7 @@ impl DebugSession {
                 let reason = self.reason_against(&expected)?;
                 self.tell_check(sink, reason, words, script.number())
             }
-            DebugCommand::Unknown => self.refuse(sink, script.number()),
+            DebugCommand::Unknown => self.refuse(sink, words, script.number()),
         }
     }
 }

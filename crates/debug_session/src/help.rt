@@ -11,7 +11,9 @@ lines of a debugging script:
   ; text, # text                             a comment, a heading
   WORDS a n, STACK n, BANKS, WHERE           words, the stack, the banks, the PC
   FRAMES, LABELS                             open calls of module code; labels of images
+  DUMP a n, WHY                              bytes and characters; the error that R0 leads to
   SET PC a, SET PSR Nz SVC                   letters left out stay
+  SET SP v, SET LR v, SET R0 -1, CALL OS_Heap  names of registers and store calls
   RESET                                      a fresh machine; images, labels, breaks, modes stay
   FORGET name, REPEAT n line                 an image goes; a line, n times
   TRACE line, TRACE n, TRACE ON, TRACE OFF   steps told one by one; TRACE LIMIT n of a line
@@ -25,5 +27,5 @@ lines of a debugging script:
   EXPECT R0 v, R13_svc v, PC v, FLAGS Zc     what should be so, or the script fails
   EXPECT WORD a v, BYTE a v, STEPS n, STEPS <= n
   EXPECT ANSWER text, LINE text, ERROR n, OUTPUT \"text\"
-  HELP, QUIT
+  HELP, HELP STEP, QUIT                      these lines; what a line needs
 ";

@@ -1,6 +1,6 @@
 //! A script is answered as it was before; and looking changes nothing.
 
-ghost use Rattle.debug_session.specs.AsBefore.{LookingLeavesTheMachine, ScriptAsBefore};
+ghost use Rattle.debug_session.specs.AsBefore.{LookingLeavesTheMachine, RefusedAsBefore, ScriptAsBefore};
 
 /// Lines of a script alone, of which one at most takes steps, are answered as a script is, byte for
 /// byte.
@@ -11,4 +11,10 @@ pub fn script_as_before()
 /// Views and lines that expect something leave the machine, the images, the breaks and the budget.
 pub fn looking_leaves_the_machine()
     ensures { LookingLeavesTheMachine }
+{}
+
+/// A line that means nothing to a script nor to a debugging session is answered as by a script, and
+/// behind that stands the reason.
+pub fn refused_as_before()
+    ensures { RefusedAsBefore }
 {}

@@ -8,14 +8,15 @@ pub mod laws;
 mod looking;
 mod own_lines;
 mod recording;
+mod refusing;
 mod script_lines;
 mod session;
 mod stepping_lines;
 mod typing;
 
-pub use byte_writes::put_bytes;
-pub use debug_checks::reports::{CheckTally, ReportForm};
+pub use debug_modes::expectations::reports::{CheckTally, ReportForm};
 pub use debug_tables::Stub;
-pub use run_meter::RunMeter;
+pub use debug_tables::byte_writes::put_bytes;
+pub use debug_tables::run_meter::RunMeter;
 pub use session::{DebugSession, DebugSetting};
 pub use typing::{DebugTyping, TypedPiece};

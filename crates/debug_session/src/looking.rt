@@ -2,13 +2,13 @@
 //! tally; and how it reads and answers a line.
 
 ghost use Rattle.std.specs.Prelude.{◌≡◌, List, IfOk};
-ghost use Rattle.run_meter.specs.Parts.{state_of};
+ghost use Rattle.debug_tables.specs.run_meter.Parts.{state_of};
 
 use crate::session::DebugSession;
-use debug_checks::reports::CheckTally;
+use debug_labels::place_views::names_on;
 use debug_lines::is_known_line;
-use debug_places::names_on;
-use run_meter::Machine;
+use debug_modes::expectations::reports::CheckTally;
+use debug_tables::run_meter::Machine;
 use std::alloc::{AllocError, Global};
 
 impl DebugSession {

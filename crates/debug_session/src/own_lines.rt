@@ -1,40 +1,43 @@
 //! The lines of its own that a debugging script has.
 
-ghost use Rattle.std.specs.Prelude.{◌≡◌, ◌%◌, ◌<◌, ◌^◌, is_some, true, List, IfOk, IfErr, OnOk, OnErr};
+ghost use Rattle.std.specs.Prelude.{◌≡◌, ◌++◌, codes, ◌%◌, ◌<◌, ◌^◌, is_some, true, List, IfOk, IfErr, OnOk, OnErr};
 ghost use Rattle.std.specs.Option.{option_map};
 ghost use Rattle.image_loader.specs.Entries.{bytes_of_image};
-ghost use Rattle.run_meter.specs.Error.{IsLineError};
-ghost use Rattle.debug_checks.specs.Reasons.{reason_text};
+ghost use Rattle.debug_tables.specs.run_meter.Error.{IsLineError};
+ghost use Rattle.debug_modes.specs.expectations.Reasons.{reason_text};
+ghost use Rattle.debug_modes.specs.expectations.Halted.{halted_at_text, halting_fault};
 ghost use Rattle.debug_session.specs.DebugScript.{forget_text, put_text};
 ghost use Rattle.profile.specs.Output.{Writes};
 
 use crate::help::HELP;
 use crate::session::DebugSession;
-use byte_writes::put_bytes;
 use command_shell_lines::Origin;
-use debug_checks::reports::{push_answer, push_fail, push_pass, push_refusal};
-use debug_checks::{
-    Mismatch, SeenMachine, check, push_reason, show_banks, show_words, status_with,
-};
+use debug_labels::place_views::{names_on, show_frames, show_stack, show_where};
 use debug_lines::{DebugView, Expectation, StatusPattern};
+use debug_modes::expectations::reports::{push_answer, push_fail, push_pass};
+use debug_modes::expectations::{
+    Mismatch, SeenMachine, check, halting_fault, push_halted, push_reason, show_banks, show_dump,
+    show_why, show_words, status_with,
+};
 use debug_modes::refused_line;
-use debug_places::{names_on, show_frames, show_stack, show_where};
+use debug_tables::byte_writes::put_bytes;
+use debug_tables::run_meter::RunError;
 use image_loader::Images;
-use profile::{HexText, Sink, WriteFault, push_all};
-use run_meter::{RunError, tell_unknown};
+use profile::text_sink::TextSink;
+use profile::{Fault, HexText, Sink, WriteFault, push_all};
 use std::alloc::{AllocError, Global};
-use view_items::TextSink;
 
 impl DebugSession {
     ghost use Rattle.image_loader.specs.Entries.{Entry};
-    ghost use Rattle.run_meter.specs.Memory.{script_at, script_started_anew, script_with_status};
-    ghost use Rattle.debug_checks.specs.Checks.{check_told, status_after_pattern};
+    ghost use Rattle.debug_tables.specs.run_meter.Memory.{script_at, script_started_anew, script_with_status};
+    ghost use Rattle.debug_modes.specs.expectations.Checks.{check_told, status_after_pattern};
     ghost use Rattle.debug_lines.specs.Expectations.{expect_request_of};
-    ghost use Rattle.debug_lines.specs.DebugRequests.{view_request_of};
-    ghost use Rattle.debug_session.specs.DebugScript.{checked_told, forget_told, machine_change_told, put_told, reset_told, seen_of, unknown_told, view_text, view_told};
+    ghost use Rattle.debug_lines.specs.DebugRequests.{Form, view_request_of};
+    ghost use Rattle.debug_session.specs.DebugScript.{checked_told, forget_told, machine_change_told, put_told, reset_told, seen_of, set_pc_told, view_text, view_told};
     ghost use Rattle.debug_session.specs.DebugState.{IsDebugged};
     ghost use Rattle.debug_session.specs.Session.{debug_state};
-    ghost use Rattle.run_meter.specs.Parts.{state_of};
+    ghost use Rattle.debug_tables.specs.run_meter.MachineState.{stop_of};
+    ghost use Rattle.debug_tables.specs.run_meter.Parts.{state_of};
 
     /// Writes what a line shows that only looks.
     fn show_view<W: Sink>(&self, sink: &mut W, view: DebugView) -> Result<(), WriteFault>
@@ -52,6 +55,8 @@ impl DebugSession {
             DebugView::Stack(count) => show_stack(labels, machine, count, sink),
             DebugView::Frames => show_frames(labels, machine, sink),
             DebugView::Labels => names_on(labels, machine).show_labels(sink),
+            DebugView::Dump(address, count) => show_dump(machine, address, count, sink),
+            DebugView::Why => show_why(machine, sink),
             DebugView::Help => push_all(sink, HELP),
         }
     }
@@ -80,6 +85,21 @@ impl DebugSession {
         ensures same_flag { OnOk result (W.has_failed sink.new ≡ W.has_failed sink.old) }
     {
         let text = self.view_text(view)?;
+        Ok(self.view(sink, text)?)
+    }
+
+    /// Shows what the lines of a word need.
+    pub(crate) fn show_form<W: Sink>(&mut self, sink: &mut W, form: &[u8]) -> Result<(), RunError>
+        ensures told { (images : List Entry) → OnOk result
+            (IsDebugged (W.contents sink.old) (W.contents sink.new) (debug_state self.new images)
+            (view_told self.old.setting (debug_state self.old images)
+            (view_text (debug_state self.old images).labels (debug_state self.old images).script.machine
+            (Form form.now)))) }
+        ensures setting { self.new.setting ≡ self.old.setting }
+        ensures errors { IfErr result IsLineError }
+        ensures same_flag { OnOk result (W.has_failed sink.new ≡ W.has_failed sink.old) }
+    {
+        let text = form_line(self.alloc, form)?;
         Ok(self.view(sink, text)?)
     }
 
@@ -188,6 +208,47 @@ impl DebugSession {
         self.answer = Vec::new(self.alloc);
     }
 
+    /// Sets the program counter; where a fault has halted the machine, it stays, and is told.
+    pub(crate) fn move_pc<W: Sink>(&mut self, sink: &mut W, address: Origin) -> Result<(), RunError>
+        ensures told { (images : List Entry) → OnOk result
+            (IsDebugged (W.contents sink.old) (W.contents sink.new) (debug_state self.new images)
+            (set_pc_told self.old.setting (debug_state self.old images) address)) }
+        ensures setting { self.new.setting ≡ self.old.setting }
+        ensures errors { IfErr result IsLineError }
+        ensures same_flag { OnOk result (W.has_failed sink.new ≡ W.has_failed sink.old) }
+    {
+        match self.halting_fault() {
+            None => {
+                self.set_pc(address);
+                Ok(())
+            }
+            Some(fault) => {
+                let text = self.halted_text(fault)?;
+                Ok(self.view(sink, text)?)
+            }
+        }
+    }
+
+    // The fault that has halted the machine, if one has.
+    fn halting_fault(&self) -> Option<Fault>
+        ensures { (images : List Entry) → result
+            ≡ halting_fault (option_map stop_of (debug_state self.now images).script.machine.halt) }
+    {
+        halting_fault(self.session.machine().stop())
+    }
+
+    // That a fault has halted the machine, and where.
+    fn halted_text(&self, fault: Fault) -> Result<Vec<u8>, AllocError>
+        ensures { (images : List Entry) → IfOk result (λ text. text.items
+            ≡ halted_at_text fault (debug_state self.now images).script.machine.cpu.pc) }
+    {
+        let mut text = TextSink::new(self.alloc);
+        match push_halted(&mut text, fault, self.session.machine().cpu().pc()) {
+            Ok(()) => Ok(text.into_bytes()),
+            Err(_) => Err(AllocError),
+        }
+    }
+
     /// Sets what a pattern tells of the status.
     pub(crate) fn set_psr(&mut self, pattern: StatusPattern)
         ensures told { (images : List Entry) → debug_state self.new images
@@ -255,26 +316,6 @@ impl DebugSession {
             Some(reason) => Ok(Some(text_of(self.alloc, &reason)?)),
         }
     }
-
-    /// Tells that a line is none of the language.
-    pub(crate) fn refuse<W: Sink>(&mut self, sink: &mut W, number: usize) -> Result<(), RunError>
-        ensures told { (images : List Entry) → OnOk result
-            (IsDebugged (W.contents sink.old) (W.contents sink.new) (debug_state self.new images)
-            (unknown_told self.old.setting (debug_state self.old images) number)) }
-        ensures setting { self.new.setting ≡ self.old.setting }
-        ensures errors { IfErr result IsLineError }
-        ensures same_flag { OnOk result (W.has_failed sink.new ≡ W.has_failed sink.old) }
-    {
-        let mut text = TextSink::new(self.alloc);
-        if tell_unknown(&mut text, number).is_err() {
-            return Err(RunError::Memory);
-        }
-        let text = text.into_bytes();
-        push_refusal(sink, self.setting.form, self.tally, number, text.as_slice())?;
-        self.answer = text;
-        self.tally = self.tally.with_refusal();
-        Ok(())
-    }
 }
 
 fn has_image(images: &Images, name: &[u8]) -> bool
@@ -292,6 +333,14 @@ fn forget_text(alloc: Global, is_there: bool, name: &[u8]) -> Result<Vec<u8>, Al
     let mut text = Vec::from_slice(alloc, b"forget ")?;
     text.extend_from_slice(name)?;
     text.push(b'\n')?;
+    Ok(text)
+}
+
+fn form_line(alloc: Global, form: &[u8]) -> Result<Vec<u8>, AllocError>
+    ensures { IfOk result (λ text. text.items ≡ form.now ++ codes "\n") }
+{
+    let mut text = Vec::from_slice(alloc, form)?;
+    text.extend_from_slice(b"\n")?;
     Ok(text)
 }
 

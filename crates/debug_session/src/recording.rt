@@ -4,15 +4,15 @@ ghost use Rattle.std.specs.Prelude.{◌≡◌, ◌<◌};
 
 use crate::session::DebugSession;
 use debug_labels::ImagePlace;
+use debug_labels::place_views::names_on;
 use debug_lines::RepeatedLine;
-use debug_places::names_on;
 use debug_tables::Stubs;
 use image_loader::Images;
 use profile::{Sink, WriteFault};
 use std::alloc::AllocError;
 
 impl DebugSession {
-    ghost use Rattle.run_meter.specs.Session.{script_state};
+    ghost use Rattle.debug_tables.specs.run_meter.Session.{script_state};
 
     /// Where the image of a name stands now, of those that were assembled.
     pub fn image_place(&self, name: &[u8]) -> Option<ImagePlace> {

@@ -2,10 +2,10 @@
 //! answered is kept for the lines that expect something of it.
 
 ghost use Rattle.std.specs.Prelude.{◌≡◌, ◌+◌, ◌-◌, ◌&&◌, ◌||◌, not, false, true, List, Some, [], IfOk, IfErr, OnOk, OnErr, if◌then◌else◌};
-ghost use Rattle.run_meter.specs.Error.{IsLineError};
-ghost use Rattle.run_meter.specs.Script.{request_told};
+ghost use Rattle.debug_tables.specs.run_meter.Error.{IsLineError};
+ghost use Rattle.debug_tables.specs.run_meter.Script.{request_told};
 ghost use Rattle.command_shell_lines.specs.Blocks.{block_lines, lines_after, lines_taken};
-ghost use Rattle.debug_checks.specs.Endings.{ending_of, output_of};
+ghost use Rattle.debug_modes.specs.expectations.Endings.{ending_of, output_of};
 ghost use Rattle.command_shell_lines.specs.Requests.{opens_block, request_of_command};
 ghost use Rattle.assembler.specs.Passes.{labels_of_lines};
 ghost use Rattle.debug_session.specs.DebugScript.{is_named_image, asks_nothing, takes_steps};
@@ -14,20 +14,20 @@ ghost use Rattle.debug_session.specs.Naming.{labels_with_block, labels_with_imag
 use crate::session::DebugSession;
 use assembler::labels_of_lines;
 use command_shell_lines::{Origin, ScriptCommand, skip_block};
-use debug_checks::answer_parts;
-use debug_checks::reports::{push_answer, push_refusal};
+use debug_modes::expectations::answer_parts;
+use debug_modes::expectations::reports::{push_answer, push_refusal};
+use debug_tables::run_meter::{RunError, answer_metered};
 use image_loader::Images;
+use profile::text_lines::Lines;
+use profile::text_sink::TextSink;
 use profile::{Sink, WriteFault};
-use run_meter::{RunError, answer_metered};
 use std::alloc::AllocError;
 use std::mem::replace;
-use text_lines::Lines;
-use view_items::TextSink;
 
 impl DebugSession {
-    ghost use Rattle.run_meter.specs.Memory.{script_with_budget};
-    ghost use Rattle.run_meter.specs.Session.{script_state};
-    ghost use Rattle.run_meter.specs.State.{IsAnswered};
+    ghost use Rattle.debug_tables.specs.run_meter.Memory.{script_with_budget};
+    ghost use Rattle.debug_tables.specs.run_meter.Session.{script_state};
+    ghost use Rattle.debug_tables.specs.run_meter.State.{IsAnswered};
     ghost use Rattle.image_loader.specs.Entries.{Entry};
     ghost use Rattle.debug_session.specs.DebugScript.{plain_line_told, script_line_told_by, told_or_refused};
     ghost use Rattle.debug_session.specs.DebugState.{IsDebugged};

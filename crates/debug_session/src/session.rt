@@ -1,18 +1,18 @@
 //! What a debugging script works on, and how its lines are answered, one after another.
 
 ghost use Rattle.std.specs.Prelude.{◌≡◌, ◌+◌, false, List, [], IfOk, IfErr, OnOk, length};
-ghost use Rattle.run_meter.specs.Error.{IsLineError};
+ghost use Rattle.debug_tables.specs.run_meter.Error.{IsLineError};
 ghost use Rattle.profile.specs.Output.{Writes};
 
-use debug_checks::reports::{CheckTally, ReportForm, push_summary};
 use debug_labels::LabelTable;
 use debug_modes::DebugModes;
+use debug_modes::expectations::reports::{CheckTally, ReportForm, push_summary};
+use debug_tables::run_meter::{RunError, RunMeter, Session};
 use image_loader::Images;
+use profile::text_lines::Lines;
 use profile::{Config, Sink, WriteFault};
 use rosm_settings::command_line::stop_status;
-use run_meter::{RunError, RunMeter, Session};
 use std::alloc::{AllocError, Global};
-use text_lines::Lines;
 
 /// What a debugging script is answered on.
 #[derive(Clone, Copy, Debug)]
@@ -46,11 +46,11 @@ pub struct DebugSession {
 }
 
 impl DebugSession {
-    ghost use Rattle.run_meter.specs.Memory.{script_with_budget};
+    ghost use Rattle.debug_tables.specs.run_meter.Memory.{script_with_budget};
     ghost use Rattle.image_loader.specs.Entries.{Entry};
     ghost use Rattle.debug_session.specs.DebugScript.{debug_lines_told};
     ghost use Rattle.debug_session.specs.DebugState.{IsDebugged, debug_start_state};
-    ghost use Rattle.debug_checks.specs.reports.Reports.{summary_text};
+    ghost use Rattle.debug_modes.specs.expectations.reports.Reports.{summary_text};
     ghost use Rattle.debug_session.specs.ExitStatus.{debug_status};
     ghost use Rattle.debug_session.specs.Session.{debug_state};
 

@@ -1,7 +1,7 @@
 //! Lines that take steps in the modes that are set, and lines that change these.
 
 ghost use Rattle.std.specs.Prelude.{◌≡◌, ◌+◌, true, List, option_map, IfErr, OnOk, OnErr};
-ghost use Rattle.run_meter.specs.Error.{IsLineError};
+ghost use Rattle.debug_tables.specs.run_meter.Error.{IsLineError};
 ghost use Rattle.command_shell_lines.specs.Blocks.{block_lines, lines_after, lines_taken};
 ghost use Rattle.command_shell_lines.specs.Requests.{opens_block, request_of_command};
 ghost use Rattle.debug_lines.specs.ModeRequests.{mode_request_of};
@@ -9,12 +9,12 @@ ghost use Rattle.debug_lines.specs.SteppingRequests.{stepping_request_of};
 
 use crate::session::DebugSession;
 use command_shell_lines::ScriptCommand;
-use debug_checks::reports::push_answer;
 use debug_lines::{ModeCommand, SteppingCommand, stepping_in};
+use debug_modes::expectations::reports::push_answer;
+use debug_tables::run_meter::RunError;
 use image_loader::Images;
+use profile::text_lines::Lines;
 use profile::{Sink, WriteFault};
-use run_meter::RunError;
-use text_lines::Lines;
 
 impl DebugSession {
     ghost use Rattle.image_loader.specs.Entries.{Entry};

@@ -9,11 +9,11 @@ ghost use Rattle.debug_session.specs.DebugState.{IsDebugTypingError};
 
 use crate::session::{DebugSession, DebugSetting};
 use debug_lines::{missing_ends, read_requests};
+use debug_tables::run_meter::RunError;
 use image_loader::Images;
 use profile::Sink;
-use run_meter::RunError;
+use profile::text_lines::{Lines, cut_line};
 use std::alloc::{AllocError, Global};
-use text_lines::{Lines, cut_line};
 
 // The most bytes that may wait for the end of a request, as many as a script may have.
 const MOST_BYTES: usize = 1_048_576;

@@ -3,3 +3,5 @@ pub mod StubLemmas
 pub mod TextLemmas
 pub mod WatchLemmas
 pub mod CountsLemmas
+pub mod ByteWritesLemmas
+pub mod RunMeterLemmas

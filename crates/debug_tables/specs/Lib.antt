@@ -4,3 +4,5 @@ pub mod StubNames
 pub mod Stubs
 pub mod WordWatches
 pub mod counts
+pub mod byte_writes
+pub mod run_meter

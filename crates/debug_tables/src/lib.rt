@@ -3,8 +3,10 @@
 #![tactic(auto)]
 
 mod ahead;
+pub mod byte_writes;
 pub mod counts;
 mod modes;
+pub mod run_meter;
 mod stubbing;
 mod stubs;
 mod watches;

@@ -11,6 +11,8 @@ mod outcome;
 mod rows;
 mod scripts;
 mod taken;
+#[cfg(test)]
+mod tests;
 
 use crate::calls::outcome_of;
 use std::io::Read;

@@ -10,9 +10,9 @@ use crate::description::part;
 use crate::escape::push_escaped;
 use debugger::{Instances, ModuleInfo};
 use gdb_packets::ByteRange;
+use profile::text_sink::TextSink;
 use profile::{HexText, Sink, WriteFault, push_all};
 use std::alloc::{AllocError, Global};
-use view_items::TextSink;
 
 /// The lines of the list: of each module the name of the file that has its symbols, `Title.elf`, in a folder
 /// named by the address of its image, and that address. There are none where no module is there.

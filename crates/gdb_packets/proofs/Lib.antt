@@ -1,3 +1,4 @@
 pub mod FrameLemmas
 pub mod NumberLemmas
 pub mod ReadingLemmas
+pub mod RequestLawsLemmas

@@ -5,3 +5,4 @@ pub mod Laws
 pub mod Numbers
 pub mod Reading
 pub mod Requests
+pub mod request_laws

@@ -8,6 +8,7 @@ mod laws;
 mod numbers;
 mod parts;
 mod reader;
+pub mod request_laws;
 mod requests;
 mod words;
 

@@ -12,9 +12,9 @@ use crate::session::{GdbAnswer, GdbSession};
 use command_shell::RunError;
 use gdb_packets::{PacketReader, Piece, Request, push_packet, request_of};
 use image_loader::Images;
+use profile::text_sink::TextSink;
 use profile::{Sink, WriteFault, push_all};
 use std::alloc::Global;
-use view_items::TextSink;
 
 /// The most bytes of text that a packet has.
 const MOST_TEXT: usize = 1024;

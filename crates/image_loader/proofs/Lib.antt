@@ -1,1 +1,2 @@
 pub mod EntriesLemmas
+pub mod ModuleHeaderLemmas

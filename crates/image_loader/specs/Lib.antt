@@ -2,3 +2,4 @@
 pub mod Entries
 pub mod ErrorNames
 pub mod Table
+pub mod module_header

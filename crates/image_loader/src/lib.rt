@@ -5,6 +5,7 @@
 pub mod error;
 mod image;
 pub mod images;
+pub mod module_header;
 
 pub use error::ImageError;
 pub use images::{Images, is_image_name};

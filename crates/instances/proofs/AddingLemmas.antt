@@ -7,10 +7,10 @@ use Rattle.address_map.specs.Bytes.{AreMapped, bytes_between, in_range}
 use Rattle.address_map.proofs.Viewing.{bytes_counted}
 use Rattle.address_map.specs.declared.region.Kind.TheVariants as kind
 use Rattle.address_map.specs.declared.region.Region.{Region}
-use Rattle.instances_plans.specs.ModuleHeaderHeader.{header_of}
-use Rattle.instances_plans.specs.HeaderFault.{HeaderFault}
-use Rattle.instances_plans.specs.HeaderFault.TheVariants.{Short}
-use Rattle.instances_plans.specs.Header.{Header}
+use Rattle.instances_table.specs.plans.ModuleHeaderHeader.{header_of}
+use Rattle.instances_table.specs.plans.HeaderFault.{HeaderFault}
+use Rattle.instances_table.specs.plans.HeaderFault.TheVariants.{Short}
+use Rattle.instances_table.specs.plans.Header.{Header}
 use Rattle.rma.specs.lists.Lists.{total_for}
 use Rattle.dynamic_areas.proofs.RangeTests.{are_mapped_all, clear_of_heaps}
 use Rattle.dynamic_areas.specs.Ranges.{are_bytes_mapped}

@@ -1,16 +1,16 @@
 -- Turns that follow one another carry a call on, and each leaves fewer actions.
 use Rattle.std.proofs.Common.{◌≡◌, ◌<◌, Some, None, List, [], ◌∷◌, length, refl, sym, ap, subst, ◌∙◌, arith}
 use Rattle.std.specs.Prelude.{Option}
-use Rattle.instances_plans.specs.declared.action.PlanAction.{PlanAction}
-use Rattle.instances_plans.specs.declared.code.Advance.{Advance}
-use Rattle.instances_plans.specs.declared.code.Advance.TheVariants as advance
-use Rattle.instances_plans.specs.declared.code.Code.{Code}
-use Rattle.instances_plans.specs.declared.code.Ended.{Ended}
-use Rattle.instances_plans.specs.declared.code.Outcome.{Outcome}
-use Rattle.instances_plans.specs.declared.code.Outcome.TheVariants.{Well}
-use Rattle.instances_plans.specs.Carrying.{Advanced, Carried, Doing, advance_of_plan, advanced_by, advanced_from, carry_of_plan, carried_after}
-use Rattle.instances_plans.specs.Plans.{Plan, all_but_first, plan_after_action, plan_after_code}
-use Rattle.instances_plans.proofs.Carrying.{carries_by_turns}
+use Rattle.instances_table.specs.declared.plans.action.PlanAction.{PlanAction}
+use Rattle.instances_table.specs.declared.plans.code.Advance.{Advance}
+use Rattle.instances_table.specs.declared.plans.code.Advance.TheVariants as advance
+use Rattle.instances_table.specs.declared.plans.code.Code.{Code}
+use Rattle.instances_table.specs.declared.plans.code.Ended.{Ended}
+use Rattle.instances_table.specs.declared.plans.code.Outcome.{Outcome}
+use Rattle.instances_table.specs.declared.plans.code.Outcome.TheVariants.{Well}
+use Rattle.instances_table.specs.plans.Carrying.{Advanced, Carried, Doing, advance_of_plan, advanced_by, advanced_from, carry_of_plan, carried_after}
+use Rattle.instances_table.specs.plans.Plans.{Plan, all_but_first, plan_after_action, plan_after_code}
+use Rattle.instances_table.proofs.PlansLemmas.Carrying.{carries_by_turns}
 use Rattle.instances.specs.world.Sound.{IsWorld}
 use Rattle.instances.specs.world.World.{World}
 use Rattle.instances.specs.actions.Pending.{is_pending, pending_by, pending_of}

@@ -4,10 +4,10 @@ use Rattle.std.proofs.Common.{◌≡◌, ℕ, ◌<◌, ◌≤◌, ◌==◌, ◌|
 use Rattle.std.specs.Prelude.{slice_get}
 use Rattle.std.specs.List.{list_any}
 use Rattle.std.proofs.lemmas.Bool.{cases_Bool, eqb-true, eq-eqb, or_left, or_parts, or_right, false≢true, both_ways, false_from_ne_true}
-use Rattle.instances_plans.specs.Calls.{clear_plan, delete_plan, instantiate_plan, load_plan, reinit_plan, tidy_plan}
-use Rattle.instances_plans.specs.Doable.{AreSlots, IsDoable, is_used, without, without_all}
-use Rattle.instances_plans.specs.declared.given.Given.{Given}
-use Rattle.instances_plans.proofs.Doable.{clear_is_doable, instantiate_is_doable, load_is_doable, reinit_is_doable, tidy_is_doable}
+use Rattle.instances_table.specs.plans.Calls.{clear_plan, delete_plan, instantiate_plan, load_plan, reinit_plan, tidy_plan}
+use Rattle.instances_table.specs.plans.Doable.{AreSlots, IsDoable, is_used, without, without_all}
+use Rattle.instances_table.specs.declared.plans.given.Given.{Given}
+use Rattle.instances_table.proofs.PlansLemmas.Doable.{clear_is_doable, instantiate_is_doable, load_is_doable, reinit_is_doable, tidy_is_doable}
 use Rattle.instances_table.specs.Modules.{AreModules, Module, has_instance, has_title, number_passing, slot_count, slots_of}
 use Rattle.instances_table.specs.Changes.{module_has_slot, is_slot_held, modules_of_title, titled_otherwise}
 use Rattle.instances_table.proofs.Counting.{none_counted}

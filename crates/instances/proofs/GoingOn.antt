@@ -7,13 +7,13 @@ use Rattle.std.proofs.lemmas.Bool.{cases_Bool, false≢true}
 use Rattle.profile.specs.Outcome.{Leaves, bind}
 use Rattle.profile.specs.declared.error.ErrorNumber.{ErrorNumber}
 use Rattle.profile.specs.declared.error.ErrorNumber.TheVariants.{InstanceExists}
-use Rattle.instances_plans.specs.Header.{Header}
+use Rattle.instances_table.specs.plans.Header.{Header}
 use Rattle.dynamic_areas.specs.Ground.{Estate, IsEstate}
-use Rattle.instances_plans.specs.declared.action.PlanAction.{PlanAction}
-use Rattle.instances_plans.specs.declared.action.PlanAction.TheVariants.{Finalise, Remove, FreePrivate, Insert, Instantiate, GiveUp, Slide, Initialise}
-use Rattle.instances_plans.specs.declared.given.Given.{Given}
-use Rattle.instances_plans.specs.Doable.{IsDoable}
-use Rattle.instances_plans.specs.Plans.{Plan, first_action}
+use Rattle.instances_table.specs.declared.plans.action.PlanAction.{PlanAction}
+use Rattle.instances_table.specs.declared.plans.action.PlanAction.TheVariants.{Finalise, Remove, FreePrivate, Insert, Instantiate, GiveUp, Slide, Initialise}
+use Rattle.instances_table.specs.declared.plans.given.Given.{Given}
+use Rattle.instances_table.specs.plans.Doable.{IsDoable}
+use Rattle.instances_table.specs.plans.Plans.{Plan, first_action}
 use Rattle.instances_table.specs.declared.parts.Image.{Image}
 use Rattle.instances_table.specs.Changes.{is_named, modules_with_names, preferring, modules_after_rename, with_name, with_names, with_preferred}
 use Rattle.instances_table.specs.Lookup.{place_meant, slot_at}

@@ -4,7 +4,7 @@ use Rattle.std.specs.Prelude.{IfSome, Option, option_map, slice_get}
 use Rattle.std.specs.List.{position}
 use Rattle.std.proofs.lemmas.Bool.{cases_Bool}
 use Rattle.std.proofs.lemmas.Option.{IfSome_then}
-use Rattle.instances_plans.specs.Doable.{is_used}
+use Rattle.instances_table.specs.plans.Doable.{is_used}
 use Rattle.instances_table.specs.declared.parts.Handler.{Handler}
 use Rattle.instances_table.specs.Changes.{is_slot_held}
 use Rattle.instances_table.specs.Lookup.{handled_at, handled_in, handler_of, has_call}

@@ -7,17 +7,17 @@ use Rattle.profile.specs.Outcome.{Gives, bind}
 use Rattle.profile.specs.declared.error.ErrorNumber.{ErrorNumber}
 use Rattle.profile.specs.declared.error.ErrorNumber.TheVariants.{BadPointer, BadString}
 use Rattle.address_map.specs.Bytes.{bytes_between}
-use Rattle.instances_plans.specs.HeaderFault.{HeaderFault}
-use Rattle.instances_plans.specs.Header.{Header}
-use Rattle.instances_plans.specs.ModuleHeaderHeader.{header_of}
+use Rattle.instances_table.specs.plans.HeaderFault.{HeaderFault}
+use Rattle.instances_table.specs.plans.Header.{Header}
+use Rattle.instances_table.specs.plans.ModuleHeaderHeader.{header_of}
 use Rattle.rma.specs.Calls.{with_store}
 use Rattle.rma.specs.Copies.{may_be_copied}
 use Rattle.rma.specs.NewImages.{image_copied, image_made, may_be_in_place, with_image_in_place}
-use Rattle.instances_plans.specs.declared.action.PlanAction.{PlanAction}
-use Rattle.instances_plans.specs.declared.action.PlanAction.TheVariants.{GiveUp, Initialise, Insert}
-use Rattle.instances_plans.specs.Calls.{clear_actions, delete_plan, reinit_plan}
-use Rattle.instances_plans.specs.Doable.{CanDo, IsDoable, is_used, without, without_all}
-use Rattle.instances_plans.specs.Plans.{Plan}
+use Rattle.instances_table.specs.declared.plans.action.PlanAction.{PlanAction}
+use Rattle.instances_table.specs.declared.plans.action.PlanAction.TheVariants.{GiveUp, Initialise, Insert}
+use Rattle.instances_table.specs.plans.Calls.{clear_actions, delete_plan, reinit_plan}
+use Rattle.instances_table.specs.plans.Doable.{CanDo, IsDoable, is_used, without, without_all}
+use Rattle.instances_table.specs.plans.Plans.{Plan}
 use Rattle.instances_table.specs.declared.parts.Image.{Image}
 use Rattle.instances_table.specs.declared.parts.Place.{Place}
 use Rattle.instances_table.specs.Changes.{instance_room, modules_of_title}

@@ -8,18 +8,18 @@ use Rattle.std.specs.List.{list_any}
 use Rattle.std.proofs.lemmas.Bool.{cases_Bool, or_parts}
 use Rattle.std.proofs.lemmas.Bool.Decides.{nat_tests}
 use Rattle.std.proofs.lemmas.List.Folds.{list_any-append}
-use Rattle.instances_plans.proofs.Doable.{some_head}
-use Rattle.instances_plans.specs.declared.action.PlanAction.{PlanAction}
-use Rattle.instances_plans.specs.declared.action.PlanAction.TheVariants.{Finalise, Remove, FreePrivate, Insert, Instantiate, GiveUp, Slide, Initialise}
-use Rattle.instances_plans.specs.declared.code.Code.{Code}
-use Rattle.instances_plans.specs.declared.code.CodeKind.{CodeKind}
-use Rattle.instances_plans.specs.declared.code.CodeKind.TheVariants as kind
-use Rattle.instances_plans.specs.declared.code.Outcome.{Outcome}
-use Rattle.instances_plans.specs.declared.code.Outcome.TheVariants.{Well, Refused}
-use Rattle.instances_plans.specs.declared.given.Given.{Given}
-use Rattle.instances_plans.specs.Carrying.{Carried, carry_of_plan, carried_by, carried_from}
-use Rattle.instances_plans.specs.Doable.{CanDo, IsDoable, is_used}
-use Rattle.instances_plans.specs.Plans.{Plan, all_but_first, first_action, actions_owed, plan_after_refusal, plan_after_code, settled_by}
+use Rattle.instances_table.proofs.PlansLemmas.Doable.{some_head}
+use Rattle.instances_table.specs.declared.plans.action.PlanAction.{PlanAction}
+use Rattle.instances_table.specs.declared.plans.action.PlanAction.TheVariants.{Finalise, Remove, FreePrivate, Insert, Instantiate, GiveUp, Slide, Initialise}
+use Rattle.instances_table.specs.declared.plans.code.Code.{Code}
+use Rattle.instances_table.specs.declared.plans.code.CodeKind.{CodeKind}
+use Rattle.instances_table.specs.declared.plans.code.CodeKind.TheVariants as kind
+use Rattle.instances_table.specs.declared.plans.code.Outcome.{Outcome}
+use Rattle.instances_table.specs.declared.plans.code.Outcome.TheVariants.{Well, Refused}
+use Rattle.instances_table.specs.declared.plans.given.Given.{Given}
+use Rattle.instances_table.specs.plans.Carrying.{Carried, carry_of_plan, carried_by, carried_from}
+use Rattle.instances_table.specs.plans.Doable.{CanDo, IsDoable, is_used}
+use Rattle.instances_table.specs.plans.Plans.{Plan, all_but_first, first_action, actions_owed, plan_after_refusal, plan_after_code, settled_by}
 use Rattle.instances_table.specs.declared.parts.Place.{Place}
 use Rattle.instances_table.specs.Additions.{added_to}
 use Rattle.instances_table.specs.Changes.{is_slot_held, is_new, new_module, still, with_instance, with_module, without_first_passing, without_instance}

@@ -11,10 +11,10 @@ use Rattle.profile.specs.Outcome.{bind}
 use Rattle.profile.specs.declared.error.ErrorNumber.{ErrorNumber}
 use Rattle.profile.specs.declared.error.ErrorNumber.TheVariants.{InstanceExists, InstanceTableFull, ModuleNotFound}
 use Rattle.arrayvec.specs.ArrayVec.{ArrayVec}
-use Rattle.instances_plans.specs.declared.action.PlanAction.TheVariants.{Insert, Initialise}
-use Rattle.instances_plans.specs.declared.given.Given.{Given}
-use Rattle.instances_plans.specs.Calls.{clear_plan, delete_plan, instantiate_plan, load_plan, reinit_plan, tidy_plan}
-use Rattle.instances_plans.specs.Doable.{without_all}
+use Rattle.instances_table.specs.declared.plans.action.PlanAction.TheVariants.{Insert, Initialise}
+use Rattle.instances_table.specs.declared.plans.given.Given.{Given}
+use Rattle.instances_table.specs.plans.Calls.{clear_plan, delete_plan, instantiate_plan, load_plan, reinit_plan, tidy_plan}
+use Rattle.instances_table.specs.plans.Doable.{without_all}
 use Rattle.instances_table.specs.declared.parts.NewInstance.{NewInstance}
 use Rattle.instances_table.specs.Changes.{IsRoomFor, free_slot, module_has_slot, instance_room, is_slot_held, is_named, modules_of_title, titled_otherwise}
 use Rattle.instances_table.specs.declared.parts.ModuleInfo.{ModuleInfo}

@@ -6,15 +6,15 @@ use Rattle.std.proofs.lemmas.Bool.{cases_Bool, false≢true}
 use Rattle.address_map.specs.declared.follow.Move.{Move}
 use Rattle.rma.specs.lists.Heap.{HeapList}
 use Rattle.dynamic_areas.specs.Store.{find_heap}
-use Rattle.instances_plans.specs.declared.action.PlanAction.{PlanAction}
-use Rattle.instances_plans.specs.declared.action.PlanAction.TheVariants.{Finalise, Remove, FreePrivate, Insert, Instantiate, GiveUp, Slide, Initialise}
-use Rattle.instances_plans.specs.declared.code.Advance.TheVariants as advance
-use Rattle.instances_plans.specs.declared.code.Code.{Code}
-use Rattle.instances_plans.specs.declared.code.Outcome.{Outcome}
-use Rattle.instances_plans.specs.declared.code.Outcome.TheVariants.{Refused, Well}
-use Rattle.instances_plans.specs.declared.given.Given.{Given}
-use Rattle.instances_plans.specs.Carrying.{Advanced, Doing, advance_of_plan, advanced_by, advanced_from}
-use Rattle.instances_plans.specs.Plans.{Plan, end_by, plan_after_action, first_action, plan_after_refusal, plan_after_code, settled_by, plan_with_code_entered}
+use Rattle.instances_table.specs.declared.plans.action.PlanAction.{PlanAction}
+use Rattle.instances_table.specs.declared.plans.action.PlanAction.TheVariants.{Finalise, Remove, FreePrivate, Insert, Instantiate, GiveUp, Slide, Initialise}
+use Rattle.instances_table.specs.declared.plans.code.Advance.TheVariants as advance
+use Rattle.instances_table.specs.declared.plans.code.Code.{Code}
+use Rattle.instances_table.specs.declared.plans.code.Outcome.{Outcome}
+use Rattle.instances_table.specs.declared.plans.code.Outcome.TheVariants.{Refused, Well}
+use Rattle.instances_table.specs.declared.plans.given.Given.{Given}
+use Rattle.instances_table.specs.plans.Carrying.{Advanced, Doing, advance_of_plan, advanced_by, advanced_from}
+use Rattle.instances_table.specs.plans.Plans.{Plan, end_by, plan_after_action, first_action, plan_after_refusal, plan_after_code, settled_by, plan_with_code_entered}
 use Rattle.instances_table.specs.declared.parts.Image.{Image}
 use Rattle.instances_table.specs.Modules.{AreModules, Module}
 use Rattle.instances.specs.world.Sound.{IsWorld}

@@ -9,15 +9,15 @@ use Rattle.profile.specs.declared.error.ErrorNumber.TheVariants.{BadPointer, Bad
 use Rattle.address_map.specs.Bytes.{bytes_between}
 use Rattle.address_map.specs.declared.map.AddressMap.{AddressMap}
 use Rattle.address_map.specs.declared.region.Kind.TheVariants as kind
-use Rattle.instances_plans.specs.ModuleHeaderHeader.{header_of}
-use Rattle.instances_plans.specs.HeaderFault.{HeaderFault}
-use Rattle.instances_plans.specs.Header.{Header}
+use Rattle.instances_table.specs.plans.ModuleHeaderHeader.{header_of}
+use Rattle.instances_table.specs.plans.HeaderFault.{HeaderFault}
+use Rattle.instances_table.specs.plans.Header.{Header}
 use Rattle.dynamic_areas.specs.Order.{AddsRecord}
 use Rattle.rma.specs.Calls.{with_store}
 use Rattle.rma.specs.Copies.{may_be_copied}
 use Rattle.rma.specs.NewImages.{image_copied, image_made, may_be_in_place, with_image_in_place}
-use Rattle.instances_plans.specs.Calls.{instantiate_plan, load_plan}
-use Rattle.instances_plans.specs.Plans.{Plan}
+use Rattle.instances_table.specs.plans.Calls.{instantiate_plan, load_plan}
+use Rattle.instances_table.specs.plans.Plans.{Plan}
 use Rattle.instances_table.specs.declared.parts.Image.{Image}
 use Rattle.instances_table.specs.Modules.{Module, slots_of}
 use Rattle.instances_table.specs.Changes.{free_slot_for, instance_room, modules_of_title}

@@ -2,8 +2,8 @@
 -- project's own).
 use Rattle.std.specs.Prelude.{ℕ, Bool, nat_lt, List, [], length}
 use Rattle.arrayvec.specs.ArrayVec.{ArrayVec}
-use Rattle.instances_plans.specs.Header.{Header}
-use Rattle.instances_plans.specs.declared.given.Given.{Given}
+use Rattle.instances_table.specs.plans.Header.{Header}
+use Rattle.instances_table.specs.declared.plans.given.Given.{Given}
 use Rattle.instances_table.specs.declared.parts.Image.{Image}
 use Rattle.instances_table.specs.declared.parts.NewInstance.{NewInstance}
 

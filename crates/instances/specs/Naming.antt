@@ -1,13 +1,13 @@
 -- The instances that a call on modules may still come to: those that its plan names, by their slots
 -- (this project's own).
 use Rattle.std.specs.Prelude.{◌≡◌, ◌==◌, ℕ, true, false, IfSome, Option, Some, None, Result, Ok, Err, List, [], ◌∷◌, ◌++◌}
-use Rattle.instances_plans.specs.HeaderFault.{HeaderFault}
-use Rattle.instances_plans.specs.Header.{Header}
-use Rattle.instances_plans.specs.declared.action.PlanAction.{PlanAction}
-use Rattle.instances_plans.specs.declared.action.PlanAction.TheVariants.{Finalise, Remove, FreePrivate, Insert, Instantiate, Initialise}
-use Rattle.instances_plans.specs.declared.code.Code.{Code}
-use Rattle.instances_plans.specs.Doable.{is_used}
-use Rattle.instances_plans.specs.Plans.{Plan}
+use Rattle.instances_table.specs.plans.HeaderFault.{HeaderFault}
+use Rattle.instances_table.specs.plans.Header.{Header}
+use Rattle.instances_table.specs.declared.plans.action.PlanAction.{PlanAction}
+use Rattle.instances_table.specs.declared.plans.action.PlanAction.TheVariants.{Finalise, Remove, FreePrivate, Insert, Instantiate, Initialise}
+use Rattle.instances_table.specs.declared.plans.code.Code.{Code}
+use Rattle.instances_table.specs.plans.Doable.{is_used}
+use Rattle.instances_table.specs.plans.Plans.{Plan}
 use Rattle.instances_table.specs.Changes.{modules_of_title}
 use Rattle.instances_table.specs.Modules.{Module, slots_of}
 

@@ -4,8 +4,8 @@ use Rattle.std.specs.Prelude.{ℕ, List, [], Result, Ok, Err, if◌then◌else�
 use Rattle.profile.specs.Outcome.{bind}
 use Rattle.profile.specs.declared.error.ErrorNumber.{ErrorNumber}
 use Rattle.profile.specs.declared.error.ErrorNumber.TheVariants.{BadString}
-use Rattle.instances_plans.specs.Calls.{delete_plan, clear_plan, reinit_plan, tidy_plan}
-use Rattle.instances_plans.specs.Plans.{Plan}
+use Rattle.instances_table.specs.plans.Calls.{delete_plan, clear_plan, reinit_plan, tidy_plan}
+use Rattle.instances_table.specs.plans.Plans.{Plan}
 use Rattle.instances_table.specs.Modules.{Module, slots_of}
 use Rattle.instances_table.specs.Lookup.{looked_up, slot_at}
 use Rattle.instances.specs.Given.{given_only, is_text_too_long}

@@ -4,7 +4,7 @@ use Rattle.std.specs.Prelude.{ℕ, ◌+◌, ◌%◌, ◌^◌, ◌==◌, List, Op
 use Rattle.profile.specs.Outcome.{bind}
 use Rattle.profile.specs.declared.error.ErrorNumber.{ErrorNumber}
 use Rattle.address_map.specs.Bytes.{word_at}
-use Rattle.instances_plans.specs.Code.{private_of}
+use Rattle.instances_table.specs.plans.Code.{private_of}
 use Rattle.instances_table.specs.declared.parts.Place.{Place}
 use Rattle.instances_table.specs.Modules.{Module}
 use Rattle.instances_table.specs.Lookup.{information, looked_up, module_at, slot_at}

@@ -1,11 +1,11 @@
 -- A call that is under way on the world: its plan finds what its actions ask for, and module code
 -- runs only where an action has some (this project's own).
 use Rattle.std.specs.Prelude.{◌≡◌, Bool, true, false, Option, Some, None, List, []}
-use Rattle.instances_plans.specs.declared.action.PlanAction.{PlanAction}
-use Rattle.instances_plans.specs.declared.action.PlanAction.TheVariants.{Finalise, Initialise}
-use Rattle.instances_plans.specs.declared.code.Code.{Code}
-use Rattle.instances_plans.specs.Carrying.{Doing}
-use Rattle.instances_plans.specs.Plans.{Plan, first_action}
+use Rattle.instances_table.specs.declared.plans.action.PlanAction.{PlanAction}
+use Rattle.instances_table.specs.declared.plans.action.PlanAction.TheVariants.{Finalise, Initialise}
+use Rattle.instances_table.specs.declared.plans.code.Code.{Code}
+use Rattle.instances_table.specs.plans.Carrying.{Doing}
+use Rattle.instances_table.specs.plans.Plans.{Plan, first_action}
 use Rattle.instances.specs.world.Sound.{IsWorld}
 use Rattle.instances.specs.world.World.{World}
 use Rattle.instances_table.specs.Modules.{Module}

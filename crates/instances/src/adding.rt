@@ -7,7 +7,7 @@ ghost use Rattle.dynamic_areas.specs.Order.{KeepsOrder};
 ghost use Rattle.dynamic_areas.specs.Store.{store_of, AreClasses};
 ghost use Rattle.rma.specs.flex_frame.Keeping.{KeepsFlex};
 ghost use Rattle.rma.specs.Places.{KeepsPlaces};
-ghost use Rattle.instances_plans.specs.ModuleHeaderHeader.{header_of};
+ghost use Rattle.instances_table.specs.plans.ModuleHeaderHeader.{header_of};
 ghost use Rattle.instances.specs.actions.Pending.{pending_of};
 ghost use Rattle.instances.specs.actions.Ready.{IsReady};
 ghost use Rattle.instances_table.specs.Changes.{is_slot_held, titled_otherwise};
@@ -19,8 +19,8 @@ use crate::given::{given_module, is_too_long};
 use crate::instances::Instances;
 use address_map::AddressMap;
 use dynamic_areas::Areas;
-use instances_plans::{Header, HeaderFault, Plan};
 use instances_table::Image;
+use instances_table::plans::{Header, HeaderFault, Plan};
 use profile::ErrorNumber;
 use rma::Rma;
 

@@ -5,8 +5,8 @@ ghost use Rattle.std.specs.Prelude.{◌≡◌, [], None, Some, IfSome};
 ghost use Rattle.address_map.specs.Memory.{mapping, regions};
 ghost use Rattle.dynamic_areas.specs.Store.{AreClasses, store_of};
 ghost use Rattle.rma.specs.flex_frame.Keeping.{KeepsFlex};
-ghost use Rattle.instances_plans.specs.Carrying.{advance_of_plan, carry_of_plan};
-ghost use Rattle.instances_plans.specs.Plans.{plan_after_action, first_action, plan_after_code};
+ghost use Rattle.instances_table.specs.plans.Carrying.{advance_of_plan, carry_of_plan};
+ghost use Rattle.instances_table.specs.plans.Plans.{plan_after_action, first_action, plan_after_code};
 ghost use Rattle.instances.specs.world.Records.{CarriesRecords, MayTurnRecords, TurnsRecords};
 ghost use Rattle.instances.specs.world.Sound.{IsWorld};
 ghost use Rattle.instances.specs.world.World.{world_of};
@@ -21,7 +21,7 @@ use crate::instances::Instances;
 use crate::tidying::slide;
 use address_map::AddressMap;
 use dynamic_areas::Areas;
-use instances_plans::{Advance, Code, Outcome, Plan, PlanAction};
+use instances_table::plans::{Advance, Code, Outcome, Plan, PlanAction};
 
 impl Instances {
     /// Carries a call on: the code that was under way, if any was, has come back with this outcome;

@@ -8,7 +8,7 @@ ghost use Rattle.dynamic_areas.specs.Store.{AreClasses, store_of};
 ghost use Rattle.rma.specs.flex_frame.Keeping.{KeepsFlex};
 ghost use Rattle.rma.specs.Places.{KeepsPlaces};
 ghost use Rattle.rma.specs.Copies.{may_be_copied};
-ghost use Rattle.instances_plans.specs.ModuleHeaderHeader.{header_of};
+ghost use Rattle.instances_table.specs.plans.ModuleHeaderHeader.{header_of};
 ghost use Rattle.instances.specs.actions.Pending.{pending_of};
 ghost use Rattle.instances.specs.actions.Ready.{IsReady};
 ghost use Rattle.instances.specs.world.Sound.{IsWorld};
@@ -19,8 +19,8 @@ use crate::adding::header_at;
 use crate::instances::Instances;
 use address_map::AddressMap;
 use dynamic_areas::Areas;
-use instances_plans::{Header, Plan};
 use instances_table::Image;
+use instances_table::plans::{Header, Plan};
 use profile::ErrorNumber;
 use rma::Rma;
 

@@ -3,8 +3,8 @@ ghost use Rattle.std.specs.Prelude.{◌≡◌, ◌≤◌, false, length};
 ghost use Rattle.instances.specs.Given.{given_instance, given_module, given_only, is_text_too_long};
 
 use arrayvec::ArrayVec;
-use instances_plans::given::MOST_TEXT_BYTES;
-use instances_plans::{Given, Header};
+use instances_table::plans::given::MOST_TEXT_BYTES;
+use instances_table::plans::{Given, Header};
 use instances_table::{Image, ModuleInfo, NewInstance};
 
 /// Whether a text is longer than one that is kept.

@@ -5,7 +5,7 @@ ghost use Rattle.profile.specs.Outcome.{Leaves};
 ghost use Rattle.address_map.specs.Bytes.{AreMapped};
 ghost use Rattle.address_map.specs.Memory.{byte_at, is_mapped};
 ghost use Rattle.dynamic_areas.specs.Ground.{Estate};
-ghost use Rattle.instances_plans.specs.Plans.{Plan};
+ghost use Rattle.instances_table.specs.plans.Plans.{Plan};
 ghost use Rattle.instances_table.specs.Lookup.{told_of_module, told_of_place};
 ghost use Rattle.instances_table.specs.Changes.{preferring, modules_after_rename};
 ghost use Rattle.instances_table.specs.Modules.{AreModules, slots_of};

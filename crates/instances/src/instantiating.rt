@@ -6,7 +6,7 @@ ghost use Rattle.instances.specs.Adding.{instantiation};
 
 use crate::given::{given_instance, is_too_long};
 use crate::instances::Instances;
-use instances_plans::Plan;
+use instances_table::plans::Plan;
 use profile::ErrorNumber;
 
 impl Instances {

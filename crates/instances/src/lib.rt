@@ -19,6 +19,6 @@ pub mod world;
 pub use answers::{Found, Start, Told};
 pub use dynamic_areas::Area;
 pub use instances::Instances;
-pub use instances_plans::{Advance, Code, CodeKind, Ended, Outcome, Plan};
+pub use instances_table::plans::{Advance, Code, CodeKind, Ended, Outcome, Plan};
 pub use instances_table::{Handler, InstanceInfo, InstanceTable, ModuleInfo, Place};
 pub use rma::Rma;

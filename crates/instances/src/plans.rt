@@ -8,7 +8,7 @@ ghost use Rattle.instances.specs.Plans.{clearing, deletion, reinitialisation, ti
 
 use crate::given::{given_only, is_too_long};
 use crate::instances::Instances;
-use instances_plans::Plan;
+use instances_table::plans::Plan;
 use profile::ErrorNumber;
 
 impl Instances {

@@ -1,7 +1,7 @@
 //! What is read of the list of modules alone.
 
 ghost use Rattle.std.specs.Prelude.{◌≡◌, ◌<◌, ◌≤◌, ◌+◌, ◌%◌, ◌^◌, ◌==◌, if◌then◌else◌, length, slice_get, IfOk, IfSome, Some, None, true};
-ghost use Rattle.instances_plans.specs.Doable.{is_used};
+ghost use Rattle.instances_table.specs.plans.Doable.{is_used};
 ghost use Rattle.instances_table.specs.Changes.{modules_of_title};
 ghost use Rattle.instances_table.specs.Lookup.{handler_of, instance_count};
 ghost use Rattle.instances_table.specs.Modules.{slots_of};

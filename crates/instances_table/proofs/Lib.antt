@@ -11,3 +11,4 @@ pub mod RoomLemmas
 pub mod RoomViews
 pub mod SlotLemmas
 pub mod ViewLemmas
+pub mod PlansLemmas

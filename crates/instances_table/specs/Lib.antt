@@ -7,3 +7,4 @@ pub mod ModuleArea
 pub mod Modules
 pub mod Names
 pub mod Table
+pub mod plans

@@ -11,6 +11,7 @@ pub mod images;
 mod loaded;
 mod names;
 pub mod parts;
+pub mod plans;
 pub mod room;
 pub mod table;
 

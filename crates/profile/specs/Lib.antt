@@ -15,3 +15,5 @@ pub mod Sizes
 pub mod Sums
 pub mod SwiNames
 pub mod Word
+pub mod text_lines
+pub mod text_sink

@@ -15,6 +15,8 @@ pub mod sink;
 pub mod source;
 pub mod stop;
 pub mod swi;
+pub mod text_lines;
+pub mod text_sink;
 pub mod word;
 
 pub use config::Config;

@@ -2,7 +2,7 @@
 -- answers or records for which there was room, and how long all of them are.
 use Rattle.std.specs.Prelude.{◌≡◌, ◌⊎◌, ℕ, ◌++◌, List, true, length, take, drop}
 use Rattle.std.specs.List.{list_all}
-use Rattle.record_text.specs.Safe.{is_safe}
+use Rattle.trace_effects.specs.record_text.Safe.{is_safe}
 use Rattle.rosm_settings.specs.command_line.Status.{status_after}
 use Rattle.command_shell.specs.State.{Answered}
 

@@ -1,16 +1,16 @@
 //! The answers to a script, in room that a caller lends.
 
 ghost use Rattle.std.specs.Prelude.{◌≡◌, ◌<◌, ◌≤◌, length, IfOk};
-ghost use Rattle.view_items.specs.TextSink.{sink_text_of};
+ghost use Rattle.profile.specs.text_sink.TextSink.{sink_text_of};
 ghost use Rattle.command_shell.specs.Script.{script_told};
 ghost use Rattle.rosm_c.specs.Answers.{TellsAnswersUnlessNone, room_with};
 
 use command_shell::{RunError, run_script};
 use image_loader::Images;
+use profile::text_sink::TextSink;
 use profile::{Config, Device, Stop};
 use rosm_settings::command_line::stop_status;
 use std::alloc::Global;
-use view_items::TextSink;
 
 /// The status for sizes that no machine has.
 pub(crate) const SIZES_REFUSED: u32 = 2;

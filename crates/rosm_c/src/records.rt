@@ -4,14 +4,14 @@ ghost use Rattle.std.specs.Prelude.{◌≡◌, ◌<◌, length};
 ghost use Rattle.rosm_c.specs.Answers.{TellsRecordsUnlessNone};
 
 use crate::answers::{NOT_RUN, put, refuse};
-use debug_checks::reports::ReportForm;
+use debug_modes::expectations::reports::ReportForm;
 use debug_records::{DebugSetting, record_script};
+use debug_tables::run_meter::RunMeter;
 use image_loader::Images;
 use profile::Config;
 use profile::memory_map::MOST_BYTES;
-use run_meter::RunMeter;
+use profile::text_sink::TextSink;
 use std::alloc::Global;
-use view_items::TextSink;
 
 /// Answers a debugging script on a fresh machine, and puts as much of its records to the front of the room
 /// as fits, and how long they are into `written`. Answers the exit status, which is 4 where memory runs

@@ -3,6 +3,7 @@
 #![tactic(auto)]
 
 pub mod boot_error;
+pub mod law_frames;
 pub mod lending;
 pub mod machine;
 pub mod outside;

@@ -9,13 +9,13 @@ ghost use Rattle.swi_dispatch_guest.specs.Run.{last_or, quiet_last, quiet_run, r
 ghost use Rattle.swi_dispatch_guest.specs.Step.{machine_step, module_loaded, store_called};
 
 use crate::boot_error::BootError;
+use arm_core::breaks::Breaks;
 use arrayvec::ArrayVec;
 use image_loader::Images;
 use profile::memory_map::PAGE_SIZE;
 use profile::{Config, Sink, Stop, WriteFault};
 use std::alloc::{AllocError, Global};
 use std::marker::Model;
-use swi_dispatch_breaks::Breaks;
 use swi_dispatch_guest::{Guest, Output, Ran};
 
 /// A machine: a guest, and what its last step printed.

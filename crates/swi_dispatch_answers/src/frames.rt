@@ -13,4 +13,4 @@ pub use call::Call;
 pub use enter::{enter_code, enter_swi};
 pub use frame::{Frame, FrameKind};
 pub use frames::{Frames, MOST_FRAMES};
-pub use instances_plans::CodeKind;
+pub use instances_table::plans::CodeKind;

@@ -5,17 +5,17 @@ use Rattle.profile.specs.Outcome.{Leaves}
 use Rattle.address_map.specs.declared.map.AddressMap.{AddressMap}
 use Rattle.address_map.specs.Memory.{free_pages}
 use Rattle.arm_core.specs.State.{State}
-use Rattle.swi_dispatch_flex.specs.Flex.{Flex}
+use Rattle.swi_dispatch_answers.specs.flex.Flex.{Flex}
 use Rattle.instances.proofs.WorldLemmas.Worlds.{few_records}
 use Rattle.instances.specs.world.Sound.{IsWorld}
 use Rattle.instances.specs.world.World.{World, world_of}
-use Rattle.instances_plans.specs.declared.given.Given.{Given}
-use Rattle.instances_plans.specs.Plans.{Plan}
+use Rattle.instances_table.specs.declared.plans.given.Given.{Given}
+use Rattle.instances_table.specs.plans.Plans.{Plan}
 use Rattle.instances_table.specs.declared.parts.Image.{Image}
 use Rattle.instances_table.specs.Modules.{Module, slots_of}
 use Rattle.swi_dispatch_answers.specs.declared.refusal.Refusal.{Refusal}
-use Rattle.swi_dispatch_flex.specs.Calls.{FlexMemory, memory_of}
-use Rattle.swi_dispatch_flex.specs.Leaving.{CanCallFlex, LeavesFlex}
+use Rattle.swi_dispatch_answers.specs.flex.Calls.{FlexMemory, memory_of}
+use Rattle.swi_dispatch_answers.specs.flex.Leaving.{CanCallFlex, LeavesFlex}
 use Rattle.instances.specs.Turns.{MayGoOn}
 use Rattle.instances.specs.actions.Pending.{is_pending, pending_by, pending_of}
 use Rattle.instances.specs.actions.Ready.{IsReady}

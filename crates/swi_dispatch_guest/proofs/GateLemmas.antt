@@ -11,12 +11,12 @@ use Rattle.instances.proofs.RmaKeeping.{keeps_then}
 use Rattle.os_heap.specs.Store.{AreClasses, store_of}
 use Rattle.profile.specs.Outcome.{Gives}
 use Rattle.profile.specs.declared.error.ErrorNumber.{ErrorNumber}
-use Rattle.instances_plans.specs.declared.action.PlanAction.{PlanAction}
-use Rattle.instances_plans.specs.declared.code.Code.{Code}
-use Rattle.instances_plans.specs.declared.code.Outcome.{Outcome as CodeOutcome}
-use Rattle.instances_plans.specs.declared.code.Outcome.TheVariants.{Well}
-use Rattle.instances_plans.specs.Carrying.{Carried, Doing, carry_of_plan, carried_by, carried_from}
-use Rattle.instances_plans.specs.Plans.{Plan, plan_after_code}
+use Rattle.instances_table.specs.declared.plans.action.PlanAction.{PlanAction}
+use Rattle.instances_table.specs.declared.plans.code.Code.{Code}
+use Rattle.instances_table.specs.declared.plans.code.Outcome.{Outcome as CodeOutcome}
+use Rattle.instances_table.specs.declared.plans.code.Outcome.TheVariants.{Well}
+use Rattle.instances_table.specs.plans.Carrying.{Carried, Doing, carry_of_plan, carried_by, carried_from}
+use Rattle.instances_table.specs.plans.Plans.{Plan, plan_after_code}
 use Rattle.instances.specs.world.Sound.{IsWorld}
 use Rattle.instances.specs.world.World.{World, world_of}
 use Rattle.instances.specs.Turns.{IsUnderWay, MayGoOn, module_doing}
@@ -34,7 +34,7 @@ use Rattle.swi_dispatch_guest.specs.Carried.{CodeUnderWay, IsCarriedNext}
 use Rattle.swi_dispatch_guest.specs.OpenFrames.{AreFrames}
 use Rattle.swi_dispatch_guest.specs.Parts.{IsWellFormed, Parts, parts_world}
 use Rattle.swi_dispatch_guest.specs.Returns.{outcome_of_halt}
-use Rattle.swi_dispatch_flex.specs.Ground.{HasFlex}
+use Rattle.swi_dispatch_answers.specs.flex.Ground.{HasFlex}
 use Rattle.instances.specs.flex_frame.Keeping.{KeepsFlex}
 use Rattle.swi_dispatch_guest.proofs.CarriedFrames.{AreBeneath, opened_frames}
 use Rattle.swi_dispatch_guest.proofs.Kept.{flex_by}

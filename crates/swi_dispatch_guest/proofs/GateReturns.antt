@@ -4,8 +4,8 @@ use Rattle.std.specs.Prelude.{if◌then◌else◌, Bool, Option, ◌==◌, ◌&&
 use Rattle.arm_core.specs.declared.psr.Mode.{Mode}
 use Rattle.arm_core.specs.declared.psr.Mode.TheVariants.{User, FastInterrupt, Interrupt, Supervisor}
 use Rattle.arm_core.specs.State.{State, register_in, register_of, slot_of}
-use Rattle.instances_plans.specs.declared.code.CodeKind.{CodeKind}
-use Rattle.instances_plans.specs.Plans.{Plan}
+use Rattle.instances_table.specs.declared.plans.code.CodeKind.{CodeKind}
+use Rattle.instances_table.specs.plans.Plans.{Plan}
 use Rattle.profile.specs.declared.fault.Fault.TheVariants.{ErrorStop}
 use Rattle.swi_dispatch_answers.specs.Returns.{state_after_return}
 use Rattle.swi_dispatch_answers.specs.frames.Busy.{is_swi}

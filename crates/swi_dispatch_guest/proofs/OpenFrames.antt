@@ -6,9 +6,9 @@ use Rattle.std.proofs.lemmas.Bool.{false≢true, or_parts}
 use Rattle.std.proofs.lemmas.List.{take-append-drop}
 use Rattle.std.proofs.lemmas.List.Elements.{All-cons, All-head, All-nil, All-push, All-tail, All-take}
 use Rattle.instances.specs.Naming.{slots_of_kept, slots_of_plan}
-use Rattle.instances_plans.specs.declared.code.CodeKind.{CodeKind}
-use Rattle.instances_plans.specs.Plans.{Plan, first_action}
-use Rattle.instances_plans.specs.Doable.{is_used}
+use Rattle.instances_table.specs.declared.plans.code.CodeKind.{CodeKind}
+use Rattle.instances_table.specs.plans.Plans.{Plan, first_action}
+use Rattle.instances_table.specs.plans.Doable.{is_used}
 use Rattle.instances_table.specs.Modules.{Module, slots_of}
 use Rattle.swi_dispatch_answers.specs.declared.frames.frame.Frame.{Frame}
 use Rattle.swi_dispatch_answers.specs.declared.frames.frame.FrameKind.{FrameKind}

@@ -4,7 +4,7 @@ use Rattle.std.specs.Prelude.{◌≡◌, ℕ, Bool, List, Option, Result, Ok, Er
 use Rattle.profile.specs.Outcome.{bind}
 use Rattle.profile.specs.declared.error.ErrorNumber.{ErrorNumber}
 use Rattle.swi_dispatch_plans.specs.Entries.{Entry}
-use Rattle.instances_plans.specs.Plans.{Plan}
+use Rattle.instances_table.specs.plans.Plans.{Plan}
 use Rattle.instances.specs.world.World.{World}
 use Rattle.instances.specs.Adding.{copying, inserting, loading}
 use Rattle.swi_dispatch_answers.specs.declared.frames.call.Call.{Call}

@@ -8,10 +8,10 @@ use Rattle.os_heap.specs.Store.{AreClasses, store_of}
 use Rattle.instances.specs.flex_frame.Keeping.{KeepsFlex}
 use Rattle.instances.specs.world.Sound.{IsWorld}
 use Rattle.instances.specs.world.World.{world_of}
-use Rattle.instances_plans.specs.declared.code.Code.{Code}
-use Rattle.instances_plans.specs.declared.code.Outcome.{Outcome as CodeOutcome}
-use Rattle.instances_plans.specs.Carrying.{carry_of_plan}
-use Rattle.instances_plans.specs.Plans.{Plan, first_action, plan_after_code}
+use Rattle.instances_table.specs.declared.plans.code.Code.{Code}
+use Rattle.instances_table.specs.declared.plans.code.Outcome.{Outcome as CodeOutcome}
+use Rattle.instances_table.specs.plans.Carrying.{carry_of_plan}
+use Rattle.instances_table.specs.plans.Plans.{Plan, first_action, plan_after_code}
 use Rattle.instances_table.specs.Modules.{Module}
 use Rattle.swi_dispatch_answers.specs.declared.frames.call.Call.{Call}
 use Rattle.swi_dispatch_answers.specs.declared.frames.frame.Frame.{Frame}

@@ -8,12 +8,12 @@ use Rattle.profile.specs.declared.fault.Fault.TheVariants.{FetchUnmapped, ErrorS
 use Rattle.arm_core.specs.declared.psr.Mode.TheVariants.{Supervisor}
 use Rattle.address_map.specs.Bytes.{Bytes}
 use Rattle.arm_core.specs.State.{State, register_in, register_of}
-use Rattle.instances_plans.specs.declared.code.Code.{Code}
-use Rattle.instances_plans.specs.declared.code.Outcome.{Outcome as CodeOutcome}
-use Rattle.instances_plans.specs.declared.code.Outcome.TheVariants.{Well, Refused}
-use Rattle.instances_plans.specs.declared.given.Given.{Given}
-use Rattle.instances_plans.specs.Carrying.{Carried}
-use Rattle.instances_plans.specs.Plans.{Plan, plan_after_code}
+use Rattle.instances_table.specs.declared.plans.code.Code.{Code}
+use Rattle.instances_table.specs.declared.plans.code.Outcome.{Outcome as CodeOutcome}
+use Rattle.instances_table.specs.declared.plans.code.Outcome.TheVariants.{Well, Refused}
+use Rattle.instances_table.specs.declared.plans.given.Given.{Given}
+use Rattle.instances_table.specs.plans.Carrying.{Carried}
+use Rattle.instances_table.specs.plans.Plans.{Plan, plan_after_code}
 use Rattle.instances.specs.world.World.{World}
 use Rattle.instances.specs.declared.answers.Start.{Start}
 use Rattle.instances.specs.Reading.{start_found}

@@ -11,9 +11,9 @@ use Rattle.os_heap.specs.Store.{Store}
 use Rattle.dynamic_areas.specs.Areas.{Land, start_land}
 use Rattle.dynamic_areas.specs.Ground.{Estate, pool_of}
 use Rattle.dynamic_areas.specs.Start.{start_store}
-use Rattle.swi_dispatch_flex.specs.Flex.{Flex}
+use Rattle.swi_dispatch_answers.specs.flex.Flex.{Flex}
 use Rattle.instances.specs.world.World.{World}
-use Rattle.instances_plans.specs.Plans.{Plan}
+use Rattle.instances_table.specs.plans.Plans.{Plan}
 use Rattle.instances_table.specs.Modules.{Module}
 use Rattle.swi_dispatch_answers.specs.declared.frames.frame.Frame.{Frame}
 use Rattle.swi_dispatch_plans.specs.Setting.{Setting}

@@ -1,11 +1,11 @@
 -- What holds of the frames of module code that is under way (this project's own).
 use Rattle.std.specs.Prelude.{◌≡◌, ℕ, false, is_some, Option, Some, None, List, ◌∷◌, ◌++◌, if◌then◌else◌}
 use Rattle.std.specs.List.{All}
-use Rattle.instances_plans.specs.declared.action.PlanAction.{PlanAction}
-use Rattle.instances_plans.specs.declared.action.PlanAction.TheVariants as act
-use Rattle.instances_plans.specs.declared.code.CodeKind.{CodeKind}
-use Rattle.instances_plans.specs.declared.code.CodeKind.TheVariants as kind
-use Rattle.instances_plans.specs.Plans.{Plan, first_action}
+use Rattle.instances_table.specs.declared.plans.action.PlanAction.{PlanAction}
+use Rattle.instances_table.specs.declared.plans.action.PlanAction.TheVariants as act
+use Rattle.instances_table.specs.declared.plans.code.CodeKind.{CodeKind}
+use Rattle.instances_table.specs.declared.plans.code.CodeKind.TheVariants as kind
+use Rattle.instances_table.specs.plans.Plans.{Plan, first_action}
 use Rattle.swi_dispatch_answers.specs.frames.Busy.{has_swi_of, is_swi}
 use Rattle.swi_dispatch_answers.specs.declared.frames.frame.Frame.{Frame}
 use Rattle.swi_dispatch_answers.specs.declared.frames.frame.FrameKind.{FrameKind}

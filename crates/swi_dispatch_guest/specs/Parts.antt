@@ -6,12 +6,12 @@ use Rattle.address_map.specs.Memory.{free_pages}
 use Rattle.os_heap.specs.Store.{AreClasses, store_of}
 use Rattle.dynamic_areas.specs.Ground.{AreAreas, IsRecorded, system_pages_range}
 use Rattle.dynamic_areas.specs.Rooms.{IsAreaTable}
-use Rattle.swi_dispatch_flex.specs.Ground.{HasFlex}
+use Rattle.swi_dispatch_answers.specs.flex.Ground.{HasFlex}
 use Rattle.arm_core.specs.declared.turn.Turn.{Turn}
 use Rattle.arm_core.specs.declared.turn.Turn.TheVariants.{Done}
 use Rattle.arm_core.specs.State.{IsCore, State}
 use Rattle.instances.specs.world.World.{World, world_of}
-use Rattle.instances_plans.specs.Plans.{Plan}
+use Rattle.instances_table.specs.plans.Plans.{Plan}
 use Rattle.instances_table.specs.Modules.{AreModules}
 use Rattle.instances.specs.Turns.{MayGoOn}
 use Rattle.swi_dispatch_guest.specs.declared.halt.Halt.{Halt}

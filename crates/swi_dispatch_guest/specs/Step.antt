@@ -18,7 +18,7 @@ use Rattle.arm_core.specs.State.{State, register_of}
 use Rattle.arm_step.specs.Step.{result_of_step}
 use Rattle.os_heap.specs.Store.{owned_in}
 use Rattle.swi_dispatch_plans.specs.Entries.{Entry}
-use Rattle.instances_plans.specs.Plans.{Plan}
+use Rattle.instances_table.specs.plans.Plans.{Plan}
 use Rattle.swi_dispatch_answers.specs.declared.frames.call.Call.{Call}
 use Rattle.swi_dispatch_answers.specs.declared.frames.frame.FrameKind.TheVariants.{Swi}
 use Rattle.swi_dispatch_answers.specs.frames.Entering.{swi_entered}

@@ -2,13 +2,13 @@
 //! (RISC OS 3 Programmer's Reference Manual, "OS_Module", reasons 0, 1, 10 and 11).
 
 ghost use Rattle.std.specs.Prelude.{◌≡◌, ◌<◌, ◌^◌, false, true, Ok, OnErr};
-ghost use Rattle.module_header.specs.Header.{header_of};
+ghost use Rattle.image_loader.specs.module_header.Header.{header_of};
 ghost use Rattle.instances.specs.Copies.{may_be_copied};
 ghost use Rattle.instances.specs.NewImages.{may_be_in_place};
 
 use crate::guest::Guest;
 use crate::module_steps::carry_next;
-use instances_plans::{Outcome, Plan};
+use instances_table::plans::{Outcome, Plan};
 use profile::ErrorNumber;
 use swi_dispatch_answers::frames::Call;
 use swi_dispatch_plans::{ImageFound, ImageRange, Images};

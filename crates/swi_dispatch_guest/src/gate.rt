@@ -11,7 +11,7 @@ use crate::halt::Halt;
 use crate::module_steps::carry_next;
 use address_map::AddressMap;
 use arm_core::Cpu;
-use instances_plans::{Outcome, Plan};
+use instances_table::plans::{Outcome, Plan};
 use profile::Fault;
 use swi_dispatch_answers::errors::error_at;
 use swi_dispatch_answers::frames::{Call, Frame, FrameKind};

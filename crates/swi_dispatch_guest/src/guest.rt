@@ -10,15 +10,15 @@ use arm_core::{Cpu, Turn};
 use arm_run::ReadyWords;
 use dynamic_areas::{Areas, start_memory};
 use instances::Instances;
-use instances_plans::Plan;
+use instances_table::plans::Plan;
 use os_heap::Heaps;
 use profile::Config;
 use profile::memory_map::{ADDRESS_LIMIT, APPLICATION_START};
 use profile::word::is_bit_set;
 use std::alloc::{AllocError, Global};
 use std::marker::Model;
+use swi_dispatch_answers::flex::Flex;
 use swi_dispatch_answers::frames::Frames;
-use swi_dispatch_flex::Flex;
 use swi_dispatch_plans::{Images, Spare};
 
 /// The bit of a call's number that asks for errors to be returned.

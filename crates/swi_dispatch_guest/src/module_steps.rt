@@ -14,7 +14,7 @@ use address_map::AddressMap;
 use arm_core::Cpu;
 use dynamic_areas::Areas;
 use instances::Instances;
-use instances_plans::{Code, Ended, Given, Outcome, Plan};
+use instances_table::plans::{Code, Ended, Given, Outcome, Plan};
 use profile::ErrorNumber;
 use swi_dispatch_answers::frames::{Call, Frame, FrameKind, Frames, enter_code};
 

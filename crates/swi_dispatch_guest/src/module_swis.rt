@@ -1,7 +1,7 @@
 //! SWIs of modules: the module whose chunk has the number handles it, in a frame.
 
 ghost use Rattle.std.specs.Prelude.{◌≡◌, ◌<◌, ◌^◌, false, true, length};
-ghost use Rattle.instances_plans.specs.Doable.{is_used};
+ghost use Rattle.instances_table.specs.plans.Doable.{is_used};
 
 use crate::guest::Guest;
 use instances::Handler;

@@ -7,12 +7,12 @@ use Rattle.address_map.specs.declared.map.AddressMap.{AddressMap}
 use Rattle.address_map.specs.Memory.{Layout, byte_at, bytes_of, class_of, layout}
 use Rattle.instances.specs.world.World.{World, world_of}
 use Rattle.dynamic_areas.specs.Areas.{Land}
-use Rattle.instances_plans.specs.declared.code.Code.{Code}
-use Rattle.instances_plans.specs.declared.code.Ended.{Ended}
-use Rattle.instances_plans.specs.declared.code.Ended.TheVariants as ended
-use Rattle.instances_plans.specs.declared.code.Outcome.{Outcome as CodeOutcome}
-use Rattle.instances_plans.specs.Carrying.{Carried, carry_of_plan}
-use Rattle.instances_plans.specs.Plans.{Plan, end_by, plan_after_code}
+use Rattle.instances_table.specs.declared.plans.code.Code.{Code}
+use Rattle.instances_table.specs.declared.plans.code.Ended.{Ended}
+use Rattle.instances_table.specs.declared.plans.code.Ended.TheVariants as ended
+use Rattle.instances_table.specs.declared.plans.code.Outcome.{Outcome as CodeOutcome}
+use Rattle.instances_table.specs.plans.Carrying.{Carried, carry_of_plan}
+use Rattle.instances_table.specs.plans.Plans.{Plan, end_by, plan_after_code}
 use Rattle.instances.specs.Modules.{Module}
 use Rattle.os_heap.proofs.Frame.{IsKept, classes_same, heads_kept}
 use Rattle.os_heap.specs.Store.{AreClasses, IsSound, Store, store_of}

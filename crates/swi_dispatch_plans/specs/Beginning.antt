@@ -3,12 +3,12 @@ use Rattle.std.specs.Prelude.{◌≡◌, ◌<◌, ◌+◌, length, ℕ, true, fa
 use Rattle.std.specs.List.{All}
 use Rattle.instances.specs.world.Sound.{IsWorld}
 use Rattle.dynamic_areas.specs.Ground.{IsEstate}
-use Rattle.instances_plans.specs.Doable.{is_used}
-use Rattle.instances_plans.specs.Plans.{Plan}
+use Rattle.instances_table.specs.plans.Doable.{is_used}
+use Rattle.instances_table.specs.plans.Plans.{Plan}
 use Rattle.instances.specs.Changes.{modules_of_title}
 use Rattle.instances.specs.Modules.{Module, slots_of}
-use Rattle.module_header.specs.declared.fault.HeaderFault.{HeaderFault}
-use Rattle.module_header.specs.declared.header.Header.{Header}
+use Rattle.image_loader.specs.declared.module_header.fault.HeaderFault.{HeaderFault}
+use Rattle.image_loader.specs.declared.module_header.header.Header.{Header}
 use Rattle.swi_dispatch_answers.specs.frames.Busy.{has_swi_of, is_swi}
 use Rattle.swi_dispatch_answers.specs.declared.frames.frame.Frame.{Frame}
 use Rattle.instances.specs.Naming.{slots_of_plan}

@@ -5,7 +5,7 @@ use Rattle.address_map.specs.declared.map.AddressMap.{AddressMap}
 use Rattle.swi_dispatch_answers.specs.State.{State}
 use Rattle.instances.specs.world.World.{World, world_of}
 use Rattle.dynamic_areas.specs.Areas.{Land}
-use Rattle.instances_plans.specs.Plans.{Plan}
+use Rattle.instances_table.specs.plans.Plans.{Plan}
 use Rattle.instances.specs.Modules.{Module}
 use Rattle.swi_dispatch_answers.specs.Strings.{string_in}
 use Rattle.swi_dispatch_answers.specs.declared.frames.frame.Frame.{Frame}

@@ -4,7 +4,7 @@
 ghost use Rattle.std.specs.Prelude.{◌≡◌, ◌≤◌, length, true, IfOk, Ok};
 ghost use Rattle.profile.specs.Outcome.{bind};
 ghost use Rattle.address_map.specs.Bytes.{AreMapped};
-ghost use Rattle.module_header.specs.Header.{header_of};
+ghost use Rattle.image_loader.specs.module_header.Header.{header_of};
 ghost use Rattle.instances.specs.Copies.{may_be_copied};
 ghost use Rattle.instances.specs.NewImages.{may_be_in_place};
 ghost use Rattle.swi_dispatch_plans.specs.Beginning.{CanBegin, IsFree, SparesTitle};
@@ -13,9 +13,9 @@ ghost use Rattle.swi_dispatch_plans.specs.Setting.{setting_in};
 
 use crate::planner::Planner;
 use image_loader::Images;
+use image_loader::module_header::Header;
 use instances::Rma;
-use instances_plans::Plan;
-use module_header::Header;
+use instances_table::plans::Plan;
 use profile::ErrorNumber;
 use swi_dispatch_answers::words::{name_part, text_part};
 

@@ -8,7 +8,7 @@ ghost use Rattle.swi_dispatch_plans.specs.Setting.{setting_in};
 use crate::planner::Planner;
 use arrayvec::ArrayVec;
 use instances::Start;
-use instances_plans::private_word;
+use instances_table::plans::private_word;
 use profile::ErrorNumber;
 use profile::memory_map::ENVIRONMENT_TEXT;
 use swi_dispatch_answers::{Cpu, MAX_TEXT, Mode, Psr};

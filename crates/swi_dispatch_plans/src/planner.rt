@@ -9,7 +9,7 @@ use address_map::AddressMap;
 use arrayvec::ArrayVec;
 use dynamic_areas::Areas;
 use instances::Instances;
-use instances_plans::Plan;
+use instances_table::plans::Plan;
 use profile::ErrorNumber;
 use std::marker::Model;
 use swi_dispatch_answers::frames::Frames;

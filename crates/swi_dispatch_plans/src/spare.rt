@@ -4,7 +4,7 @@
 ghost use Rattle.std.specs.Prelude.{◌≡◌, IfOk};
 ghost use Rattle.profile.specs.Sizes.{AreGood};
 ghost use Rattle.os_heap.specs.Store.{AreClasses};
-ghost use Rattle.instances_plans.specs.Plans.{plan_after_code};
+ghost use Rattle.instances_table.specs.plans.Plans.{plan_after_code};
 ghost use Rattle.instances.specs.world.World.{world_of};
 ghost use Rattle.instances.specs.Turns.{IsUnderWay};
 ghost use Rattle.swi_dispatch_plans.specs.Trials.{error_ahead};
@@ -12,7 +12,7 @@ ghost use Rattle.swi_dispatch_plans.specs.Trials.{error_ahead};
 use address_map::AddressMap;
 use dynamic_areas::{Areas, areas_count_pages};
 use instances::Instances;
-use instances_plans::{Ended, Outcome, Plan};
+use instances_table::plans::{Ended, Outcome, Plan};
 use profile::Config;
 use std::alloc::{AllocError, Global};
 use std::marker::Model;

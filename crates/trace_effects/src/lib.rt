@@ -7,7 +7,12 @@ pub mod changes;
 pub mod effects;
 pub mod leaving;
 pub mod loaded;
+pub mod record_text;
+pub mod store_words;
 pub mod stored;
+pub mod told_registers;
+pub mod told_words;
+pub mod word_text;
 
 pub use cause::{Cause, called_swi};
 pub use effects::{Effects, effects_of};

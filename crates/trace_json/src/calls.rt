@@ -4,8 +4,8 @@ use crate::names::plain_name;
 use address_map::AddressMap;
 use arm_core::Cpu;
 use profile::{AreaReason, HeapReason, ModuleReason, SwiName};
-use record_text::{Bracket, RecordText};
 use std::alloc::AllocError;
+use trace_effects::record_text::{Bracket, RecordText};
 
 /// The most characters of a string that a record has.
 const MOST_CHARACTERS: u32 = 256;

@@ -6,13 +6,13 @@ use crate::heaps::{BlockFate, push_changed_heaps};
 use crate::lists::{push_areas, push_modules};
 use crate::words::push_words;
 use arm_core::Cpu;
-use record_text::RecordText;
 use std::alloc::{AllocError, Global};
 use swi_dispatch::Machine;
-use told_registers::{WrittenRegisters, told_registers};
-use told_words::changed_words;
 use trace_effects::changes::jump_of;
-use trace_words::StoreCopy;
+use trace_effects::record_text::RecordText;
+use trace_effects::store_words::StoreCopy;
+use trace_effects::told_registers::{WrittenRegisters, told_registers};
+use trace_effects::told_words::changed_words;
 
 /// What is kept of a machine, to tell later what differs.
 #[derive(Drop)]

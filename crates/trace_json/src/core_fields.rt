@@ -2,11 +2,11 @@
 
 use crate::names::{mode_name, register_name};
 use arm_core::{Cpu, Psr};
-use record_text::{Bracket, RecordText};
 use std::alloc::AllocError;
 use trace_effects::changes::{
     Flag, REGISTERS, RegisterChange, changed_flag, changed_mode, home_of,
 };
+use trace_effects::record_text::{Bracket, RecordText};
 
 /// Writes registers by their new values, if there are some.
 pub(crate) fn push_registers(

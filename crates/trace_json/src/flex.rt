@@ -4,8 +4,8 @@ ghost use Rattle.flex_store.specs.State.{IsFlex};
 
 use address_map::AddressMap;
 use flex_store::{Flex, FlexBlock};
-use record_text::{Bracket, RecordText};
 use std::alloc::AllocError;
+use trace_effects::record_text::{Bracket, RecordText};
 use trace_store_text::flex::{find_block, is_same_block};
 
 /// Writes where the flex store is, `null` where there is none.

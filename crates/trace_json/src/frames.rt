@@ -3,9 +3,9 @@
 use crate::names::mode_name;
 use arm_core::{Cpu, Mode};
 use instances::Instances;
-use record_text::{Bracket, RecordText};
 use std::alloc::AllocError;
 use swi_dispatch::{CodeKind, Frame, FrameKind, Machine};
+use trace_effects::record_text::{Bracket, RecordText};
 use trace_store_text::modules::marks_of;
 
 /// Writes which frames a step has left and which one it entered, where so many were kept open of so

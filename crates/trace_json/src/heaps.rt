@@ -3,8 +3,8 @@
 ghost use Rattle.os_heap.specs.Store.{IsSound, store_of};
 
 use address_map::{AddressMap, Item, Region};
-use record_text::{Bracket, RecordText};
 use std::alloc::{AllocError, Global};
+use trace_effects::record_text::{Bracket, RecordText};
 use trace_moments::{SameBlock, all_changed_items, resized_block, slid_blocks};
 use trace_store_text::heaps::{HeapLimits, limits_of};
 use trace_store_text::items::{ItemChange, ItemWalk};

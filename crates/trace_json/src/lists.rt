@@ -5,8 +5,8 @@ use dynamic_areas::Area;
 use instances::Instances;
 use instances_table::ModuleInfo;
 use profile::memory_map::{PAGE_SIZE, PRIVATE_WORDS};
-use record_text::{Bracket, RecordText};
 use std::alloc::AllocError;
+use trace_effects::record_text::{Bracket, RecordText};
 
 /// Writes all dynamic areas, and how many pages are in the pool.
 pub(crate) fn push_areas(

@@ -6,10 +6,10 @@ use crate::heaps::BlockFate;
 use crate::step::push_out;
 use crate::stops::{push_stop, stop_reason};
 use arm_core::Cpu;
-use record_text::{Bracket, RecordText};
 use std::alloc::{AllocError, Global};
 use swi_dispatch::Machine;
-use told_registers::WrittenRegisters;
+use trace_effects::record_text::{Bracket, RecordText};
+use trace_effects::told_registers::WrittenRegisters;
 
 /// Begins the record of so many steps that aren't told one by one, and writes what they left; but for
 /// where images stand.

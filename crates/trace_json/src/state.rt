@@ -5,9 +5,9 @@ use crate::flex::push_store;
 use crate::heaps::push_all_heaps;
 use crate::lists::{push_areas, push_modules};
 use crate::words::push_memory;
-use record_text::RecordText;
 use std::alloc::AllocError;
 use swi_dispatch::Machine;
+use trace_effects::record_text::RecordText;
 
 /// Writes all that stands in a machine: its core, its memory, its heaps, areas and modules, and where
 /// its flex store is.

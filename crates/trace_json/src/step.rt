@@ -8,19 +8,19 @@ use crate::stops::{push_error, push_stop, stop_reason};
 use crate::words::{push_reads, push_words};
 use arm_core::{Cpu, Mode};
 use assembler_text::disassemble;
+use profile::text_sink::TextSink;
 use profile::word::is_bit_set;
 use profile::{HexText, Stop, SwiName};
-use record_text::{Bracket, RecordText};
 use std::alloc::{AllocError, Global};
 use swi_dispatch::{Machine, without_x_bit};
-use told_registers::WrittenRegisters;
-use told_words::ToldWord;
 use trace_effects::changes::following_word;
+use trace_effects::record_text::{Bracket, RecordText};
+use trace_effects::told_registers::WrittenRegisters;
+use trace_effects::told_words::ToldWord;
 use trace_effects::{Cause, called_swi, stored_words};
 use trace_moments::{
     loaded_words, stored_changes, words_at, written_by_call, written_by_instruction,
 };
-use view_items::TextSink;
 
 /// How a step is made.
 #[derive(Clone, Copy, Debug, PartialEq, Eq)]

@@ -1,11 +1,11 @@
 //! Errors and stops in records.
 
+use profile::text_lines::cut;
+use profile::text_sink::TextSink;
 use profile::{Fault, Stop};
-use record_text::{Bracket, RecordText};
 use std::alloc::{AllocError, Global};
-use text_lines::cut;
+use trace_effects::record_text::{Bracket, RecordText};
 use trace_text::errors::push_error as push_error_words;
-use view_items::TextSink;
 
 /// Writes an error by its number, and by its name where it is one of the store calls'.
 ///

@@ -4,9 +4,9 @@ ghost use Rattle.std.specs.Prelude.{◌<◌};
 
 use address_map::AddressMap;
 use profile::memory_map::{ADDRESS_LIMIT, PAGE_SIZE};
-use record_text::{Bracket, RecordText};
 use std::alloc::AllocError;
-use told_words::ToldWord;
+use trace_effects::record_text::{Bracket, RecordText};
+use trace_effects::told_words::ToldWord;
 
 /// The most words that a record has.
 const MOST_WORDS: usize = 4096;

@@ -1,1 +1,2 @@
 -- What a step or a line leaves of a machine, as values.
+pub mod law_trace

@@ -3,6 +3,7 @@
 #![tactic(auto)]
 
 mod items;
+pub mod law_trace;
 mod stored;
 mod written;
 

@@ -6,7 +6,7 @@ ghost use Rattle.trace_effects.specs.Loaded.{loaded_words};
 use address_map::AddressMap;
 use arm_core::Cpu;
 use std::alloc::{AllocError, Global};
-use told_words::ToldWord;
+use trace_effects::told_words::ToldWord;
 use trace_effects::{Cause, StoredWords};
 
 /// The words that the instruction at a core's program counter loads, if it loads any, of which LDRB

@@ -5,7 +5,7 @@ use Rattle.std.specs.Fmt.{decimal}
 use Rattle.std.specs.List.{flat_map}
 use Rattle.profile.specs.Digits.{hex_number}
 use Rattle.instances_table.specs.Modules.{Module}
-use Rattle.instances_plans.specs.declared.code.CodeKind.TheVariants.{Initialise, Finalise}
+use Rattle.instances_table.specs.declared.plans.code.CodeKind.TheVariants.{Initialise, Finalise}
 use Rattle.swi_dispatch_answers.specs.frames.Frames.{innermost_frame}
 use Rattle.swi_dispatch_answers.specs.declared.frames.frame.Frame.{Frame}
 use Rattle.swi_dispatch_answers.specs.declared.frames.frame.FrameKind.{FrameKind}

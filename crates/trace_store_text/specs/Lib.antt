@@ -2,7 +2,7 @@
 pub use Rattle.debugger.specs.Memory
 pub use Rattle.debugger.specs.Registers
 pub use Rattle.debugger.specs.views
-pub use Rattle.trace_words.specs.Copies
+pub use Rattle.trace_effects.specs.store_words.Copies
 pub mod FlexLines
 pub mod FrameWords
 pub mod HeapLines

@@ -3,7 +3,7 @@
 ghost use Rattle.std.specs.Prelude.{◌≡◌};
 ghost use Rattle.profile.specs.Output.{Writes};
 ghost use Rattle.debugger.specs.Parts.{state_of};
-ghost use Rattle.trace_words.specs.Copies.{kept_in, kept_of};
+ghost use Rattle.trace_effects.specs.store_words.Copies.{kept_in, kept_of};
 ghost use Rattle.trace_store_text.specs.FlexLines.{flex_lines};
 ghost use Rattle.trace_store_text.specs.HeapLines.{heap_lines};
 ghost use Rattle.trace_store_text.specs.ImageLines.{image_lines};
@@ -17,7 +17,7 @@ use crate::module_lines::push_modules;
 use crate::word_lines::push_words;
 use debugger::Machine;
 use profile::{Sink, WriteFault};
-use trace_words::{StoreCopy, changed_words};
+use trace_effects::store_words::{StoreCopy, changed_words};
 
 /// Writes a line for each thing that differs from the store as it was before a call.
 #[tactic(auto, unfolding(crate::specs::StoreLines::store_lines))]

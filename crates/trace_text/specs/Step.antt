@@ -30,8 +30,8 @@ use Rattle.trace_text.specs.Calls.{call_words}
 use Rattle.trace_text.specs.Columns.{below_text, columns_text, words_behind}
 use Rattle.trace_text.specs.Core.{core_words}
 use Rattle.trace_text.specs.Errors.{stop_word}
-use Rattle.trace_word_text.specs.Loaded.{loaded_words_text}
-use Rattle.trace_word_text.specs.Stored.{stored_below, stored_here, word_values_from}
+use Rattle.trace_effects.specs.word_text.Loaded.{loaded_words_text}
+use Rattle.trace_effects.specs.word_text.Stored.{stored_below, stored_here, word_values_from}
 use Rattle.trace_text.specs.declared.start.Taking.{Taking}
 use Rattle.trace_text.specs.declared.start.Taking.TheVariants as taking
 

@@ -17,12 +17,12 @@ use crate::columns::{push_behind, push_below};
 use crate::core_text::push_core;
 use crate::errors::{push_error, push_stop};
 use crate::start::{StepStart, Taking};
+use profile::text_sink::TextSink;
 use profile::{Sink, Stop, WriteFault, push_all};
 use std::alloc::Global;
+use trace_effects::word_text::{push_loaded, push_stored_below, push_stored_here};
 use trace_store_text::frame_words::{push_entered, push_left};
 use trace_store_text::{Frame, Machine, StoreCopy, push_quoted, push_store_lines};
-use trace_word_text::{push_loaded, push_stored_below, push_stored_here};
-use view_items::TextSink;
 
 impl StepStart {
     ghost use Rattle.trace_text.specs.Start.{known_in};

@@ -5,15 +5,15 @@ ghost use Rattle.address_map.specs.Memory.{bytes_of};
 ghost use Rattle.profile.specs.Output.{Writes};
 ghost use Rattle.trace_text.specs.Calls.{call_words};
 ghost use Rattle.trace_text.specs.Step.{calling_text, loading_text, outside_line};
-ghost use Rattle.view_items.specs.TextSink.{sink_text_of};
+ghost use Rattle.profile.specs.text_sink.TextSink.{sink_text_of};
 
 use crate::calls::push_call;
 use crate::columns::push_line;
 use address_map::AddressMap;
 use arm_core::Cpu;
+use profile::text_sink::TextSink;
 use profile::{HexText, Sink, WriteFault, push_parts};
 use std::alloc::Global;
-use view_items::TextSink;
 
 /// Writes the line of what is done from outside: what it is, and its words.
 pub(crate) fn push_outside<W: Sink>(

@@ -11,7 +11,7 @@ ghost use Rattle.trace_effects.specs.Cause.{cause_of, swi_of_cause};
 ghost use Rattle.trace_text.specs.Start.{store_kept};
 ghost use Rattle.trace_text.specs.Step.{front_text, is_skipped, start_text, store_before, taking_of, taking_swi, taking_text, what_text, word_column};
 ghost use Rattle.trace_store_text.specs.Copies.{kept_in, kept_of};
-ghost use Rattle.view_items.specs.TextSink.{sink_text_of};
+ghost use Rattle.profile.specs.text_sink.TextSink.{sink_text_of};
 
 use crate::areas::{AreaMark, MOST_AREAS, area_marks};
 use crate::calls::push_call;
@@ -21,15 +21,15 @@ use address_map::AddressMap;
 use arm_core::Cpu;
 use arrayvec::ArrayVec;
 use assembler_text::disassemble;
+use profile::text_sink::TextSink;
 use profile::word::is_bit_set;
 use profile::{HexText, Sink, WriteFault, push_all, push_parts};
 use std::alloc::{AllocError, Global};
 use trace_effects::changes::following_word;
+use trace_effects::word_text::{MOST_STORED, old_words};
 use trace_effects::{Cause, Effects, StoredWords, call_leaves, effects_of};
 use trace_store_text::frame_words::innermost;
 use trace_store_text::{Frame, Machine, StoreCopy, without_x_bit};
-use trace_word_text::{MOST_STORED, old_words};
-use view_items::TextSink;
 
 /// How a step is told.
 #[derive(Clone, Copy, Debug, PartialEq, Eq)]

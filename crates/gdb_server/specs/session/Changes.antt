@@ -6,8 +6,8 @@ use Rattle.hex.specs.declared.error.FromHexError.{FromHexError}
 use Rattle.command_shell.specs.Memory.{script_at, script_with_bank_register, script_with_register, script_with_status}
 use Rattle.command_shell.specs.State.{ScriptState}
 use Rattle.command_shell.specs.Stepping.{script_with_break, script_without_break}
-use Rattle.swi_dispatch_breaks.specs.declared.breaks.BreakError.{BreakError}
-use Rattle.swi_dispatch_breaks.specs.declared.breaks.BreakError.TheVariants as break
+use Rattle.arm_core.specs.declared.breaks.breaks.BreakError.{BreakError}
+use Rattle.arm_core.specs.declared.breaks.breaks.BreakError.TheVariants as break
 use Rattle.gdb_machine.specs.Changes.{register_write}
 use Rattle.gdb_machine.specs.Watches.{with_watch, without_watch}
 use Rattle.gdb_machine.specs.declared.changes.RegisterWrite.{RegisterWrite}

@@ -1,9 +1,9 @@
 -- The breaks for which the machine's own table, of 16, has no room: 240 at most.
 use Rattle.std.specs.Prelude.{ℕ, ◌==◌, List, [], ◌∷◌, ◌++◌, length, remove, Option, Some, None, Result, Ok, Err, if◌then◌else◌}
 use Rattle.std.specs.List.{position}
-use Rattle.swi_dispatch_breaks.specs.declared.breaks.BreakError.{BreakError}
-use Rattle.swi_dispatch_breaks.specs.declared.breaks.BreakError.TheVariants.{BreakTableFull}
-unfoldable pub use Rattle.swi_dispatch_breaks.specs.Breaks.{is_among}
+use Rattle.arm_core.specs.declared.breaks.breaks.BreakError.{BreakError}
+use Rattle.arm_core.specs.declared.breaks.breaks.BreakError.TheVariants.{BreakTableFull}
+unfoldable pub use Rattle.arm_core.specs.breaks.Breaks.{is_among}
 
 abbrev pub most_more : ℕ
 most_more = 240

@@ -10,8 +10,8 @@ use crate::session::session::{GdbAnswer, GdbSession, Going};
 use command_shell::RunError;
 use gdb_machine::{GdbStop, signal_number_of};
 use image_loader::Images;
+use profile::text_sink::TextSink;
 use profile::{Fault, Sink, Stop, WriteFault, push_all};
-use view_items::TextSink;
 
 impl GdbSession {
     ghost use Rattle.image_loader.specs.Entries.{Entry};

@@ -2,15 +2,15 @@
 
 ghost use Rattle.std.specs.Prelude.{◌≡◌, List, Some, IfErr, IfOk, OnOk};
 ghost use Rattle.command_shell.specs.Error.{IsLineError};
-ghost use Rattle.view_items.specs.TextSink.{sink_text_of};
+ghost use Rattle.profile.specs.text_sink.TextSink.{sink_text_of};
 
 use crate::session::changing::decoded;
 use crate::session::session::{GdbAnswer, GdbSession};
 use command_shell::RunError;
 use gdb_machine::GdbStop;
 use image_loader::Images;
-use text_lines::Lines;
-use view_items::TextSink;
+use profile::text_lines::Lines;
+use profile::text_sink::TextSink;
 
 impl GdbSession {
     ghost use Rattle.image_loader.specs.Entries.{Entry};

@@ -71,7 +71,7 @@ impl MoreBreaks {
     }
 
     /// Whether runs stop at the address.
-    #[tactic(auto, unfolding(swi_dispatch_breaks::specs::Breaks::is_among))]
+    #[tactic(auto, unfolding(arm_core::specs::breaks::Breaks::is_among))]
     pub(crate) fn has(&self, address: u32) -> bool
         ensures { result ≡ is_among self.now address }
     {

@@ -5,7 +5,7 @@ ghost use Rattle.std.specs.Prelude.{◌≡◌, ◌++◌, ◌&&◌, nat_lt, List,
 ghost use Rattle.command_shell.specs.Answers.{stop_text};
 ghost use Rattle.command_shell.specs.Error.{IsLineError};
 ghost use Rattle.profile.specs.Output.{Writes};
-ghost use Rattle.view_items.specs.TextSink.{sink_text_of};
+ghost use Rattle.profile.specs.text_sink.TextSink.{sink_text_of};
 ghost use Rattle.gdb_server.specs.session.Steps.{steps_further as goes_on_told};
 ghost use Rattle.gdb_server.specs.session.Runs.{stop_after_step, user_text, was_library as was_library_told};
 
@@ -14,8 +14,8 @@ use crate::session::stepping::goes_on;
 use command_shell::{RunError, tell_stop};
 use gdb_machine::{GdbStop, library_lines, stop_packet};
 use image_loader::Images;
+use profile::text_sink::TextSink;
 use profile::{Sink, Stop, WriteFault, push_all};
-use view_items::TextSink;
 
 /// How many steps are taken before the other side is asked.
 const SLICE: u64 = 100_000;

@@ -3,18 +3,17 @@
 ghost use Rattle.std.specs.Prelude.{◌≡◌, List, IfErr, IfOk};
 ghost use Rattle.command_shell.specs.Error.{IsLineError};
 ghost use Rattle.command_shell.specs.Parts.{state_of};
-ghost use Rattle.view_items.specs.TextSink.{sink_text_of};
-ghost use Rattle.gdb_server.specs.session.Steps.{begins_call, has_left, is_interrupt as is_interrupt_told, may_change_list};
-ghost use Rattle.gdb_server.specs.session.Steps.{steps_further as goes_on_told};
+ghost use Rattle.profile.specs.text_sink.TextSink.{sink_text_of};
+ghost use Rattle.gdb_server.specs.session.Steps.{begins_call, has_left, is_interrupt as is_interrupt_told, may_change_list, steps_further as goes_on_told};
 
 use crate::session::session::{GdbSession, Going};
 use command_shell::{Machine, RunError};
 use gdb_machine::{GdbStop, SeenByte, first_changed, library_lines};
 use image_loader::Images;
 use profile::memory_map::RETURN_GATE;
+use profile::text_sink::TextSink;
 use profile::{Fault, Stop};
 use std::alloc::AllocError;
-use view_items::TextSink;
 
 impl GdbSession {
     ghost use Rattle.image_loader.specs.Entries.{Entry};

@@ -2,10 +2,10 @@
 use Rattle.std.proofs.Common.{◌≡◌, ℕ, ◌==◌, true, false, List, [], ◌∷◌, ◌++◌, refl, sym, ◌∙◌, inl, inr}
 use Rattle.std.specs.List.{list_any}
 use Rattle.std.proofs.lemmas.Bool.{cases_Bool, eq-eqb, eqb-true, false≢true}
-use Rattle.instances_plans.specs.declared.action.PlanAction.{PlanAction}
-use Rattle.instances_plans.specs.declared.action.PlanAction.TheVariants.{Insert, Initialise, Slide}
-use Rattle.instances_plans.specs.Calls.{clear_actions, finalise_all, initialise_all, load_actions, tidy_actions}
-use Rattle.instances_plans.specs.Doable.{is_used, without, without_all}
+use Rattle.instances_table.specs.declared.plans.action.PlanAction.{PlanAction}
+use Rattle.instances_table.specs.declared.plans.action.PlanAction.TheVariants.{Insert, Initialise, Slide}
+use Rattle.instances_table.specs.plans.Calls.{clear_actions, finalise_all, initialise_all, load_actions, tidy_actions}
+use Rattle.instances_table.specs.plans.Doable.{is_used, without, without_all}
 use Rattle.instances.specs.actions.Ready.{AllGo, ClearIsReady, InstantiateIsReady, LoadIsReady, ReinitIsReady, TidyIsReady, instantiates}
 use Rattle.instances.specs.actions.Pending.{slots_titled}
 use Rattle.instances.proofs.ActionsLemmas.Readying.{none_first}

@@ -1,7 +1,7 @@
 -- The images of modules after a module, or an instance, was added.
 use Rattle.std.proofs.Common.{◌≡◌, ℕ, true, List, [], ◌∷◌, ◌++◌, refl, ap, ◌∙◌, Some, None}
 use Rattle.std.specs.Prelude.{Option}
-use Rattle.instances_plans.specs.declared.given.Given.{Given}
+use Rattle.instances_table.specs.declared.plans.given.Given.{Given}
 use Rattle.instances_table.specs.Additions.{added_to}
 use Rattle.instances_table.specs.Modules.{Module}
 use Rattle.instances_table.specs.Lookup.{number_of_title}

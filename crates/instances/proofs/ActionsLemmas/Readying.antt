@@ -7,12 +7,12 @@ use Rattle.std.proofs.lemmas.Bool.{cases_Bool, false≢true, or_parts, lt-ltb}
 use Rattle.std.proofs.lemmas.List.{length-map}
 use Rattle.std.proofs.lemmas.List.Folds.{list_any-append}
 use Rattle.std.proofs.lemmas.List.Quantifiers.{position-Some}
-use Rattle.instances_plans.specs.declared.action.PlanAction.{PlanAction}
-use Rattle.instances_plans.specs.declared.action.PlanAction.TheVariants.{Finalise, Remove, FreePrivate, Insert, Instantiate, GiveUp, Slide, Initialise}
-use Rattle.instances_plans.specs.declared.given.Given.{Given}
-use Rattle.instances_plans.specs.Doable.{CanDo, is_used, used_after, without}
-use Rattle.instances_plans.specs.Plans.{Plan, all_but_first, first_action, actions_owed, plan_after_refusal}
-use Rattle.instances_plans.proofs.Doable.{some_head, stays_doable, stays_doable_refused}
+use Rattle.instances_table.specs.declared.plans.action.PlanAction.{PlanAction}
+use Rattle.instances_table.specs.declared.plans.action.PlanAction.TheVariants.{Finalise, Remove, FreePrivate, Insert, Instantiate, GiveUp, Slide, Initialise}
+use Rattle.instances_table.specs.declared.plans.given.Given.{Given}
+use Rattle.instances_table.specs.plans.Doable.{CanDo, is_used, used_after, without}
+use Rattle.instances_table.specs.plans.Plans.{Plan, all_but_first, first_action, actions_owed, plan_after_refusal}
+use Rattle.instances_table.proofs.PlansLemmas.Doable.{some_head, stays_doable, stays_doable_refused}
 use Rattle.instances_table.specs.Additions.{added_to}
 use Rattle.instances_table.specs.Lookup.{number_of_title}
 use Rattle.instances_table.specs.Modules.{AreModules, EachIsModule, Instance, Module, changed_at, has_instance, has_slot, has_title, slots_of}

@@ -1,13 +1,13 @@
 -- Plans that settle once what becomes of a new image.
 use Rattle.std.proofs.Common.{◌≡◌, ℕ, Bool, true, false, Some, List, [], ◌∷◌, ◌++◌, refl, sym, ap, subst, ◌∙◌}
 use Rattle.std.proofs.lemmas.Bool.{true≢false, false≢true}
-use Rattle.instances_plans.proofs.Doable.{some_head}
-use Rattle.instances_plans.specs.declared.action.PlanAction.{PlanAction}
-use Rattle.instances_plans.specs.declared.action.PlanAction.TheVariants.{Finalise, Remove, FreePrivate, Insert, Instantiate, GiveUp, Slide, Initialise}
-use Rattle.instances_plans.specs.declared.given.Given.{Given}
-use Rattle.instances_plans.specs.Calls.{clear_actions, finalise_all, initialise_all}
-use Rattle.instances_plans.specs.Doable.{without, without_all}
-use Rattle.instances_plans.specs.Plans.{Plan, all_but_first, first_action, actions_owed, plan_after_refusal}
+use Rattle.instances_table.proofs.PlansLemmas.Doable.{some_head}
+use Rattle.instances_table.specs.declared.plans.action.PlanAction.{PlanAction}
+use Rattle.instances_table.specs.declared.plans.action.PlanAction.TheVariants.{Finalise, Remove, FreePrivate, Insert, Instantiate, GiveUp, Slide, Initialise}
+use Rattle.instances_table.specs.declared.plans.given.Given.{Given}
+use Rattle.instances_table.specs.plans.Calls.{clear_actions, finalise_all, initialise_all}
+use Rattle.instances_table.specs.plans.Doable.{without, without_all}
+use Rattle.instances_table.specs.plans.Plans.{Plan, all_but_first, first_action, actions_owed, plan_after_refusal}
 use Rattle.instances.specs.actions.Actions.{image_given}
 use Rattle.instances.specs.actions.Laws.{ClearSettles, InstantiateSettles, LoadSettles, NoneSlides, PendingIsSettled, PendingOutlastsRefusal, PendingStays, ReinitSettles, StaysSettled, StaysSettledRefused, TidySettles}
 use Rattle.instances.specs.actions.Pending.{AreTitledAfter, GivesUpOnce, IsSettledOnce, SettlesOnce, is_pending, pending_by, pending_of, settles}

@@ -5,8 +5,8 @@ use Rattle.std.specs.Prelude.{if◌then◌else◌}
 use Rattle.std.specs.List.{list_any}
 use Rattle.std.specs.Str.{str_eq_ignore_ascii_case}
 use Rattle.std.proofs.lemmas.Bool.{cases_Bool, or_parts}
-use Rattle.instances_plans.specs.Header.{Header}
-use Rattle.instances_plans.specs.Doable.{is_used, without}
+use Rattle.instances_table.specs.plans.Header.{Header}
+use Rattle.instances_table.specs.plans.Doable.{is_used, without}
 use Rattle.instances_table.specs.Modules.{Instance, Module, has_instance, has_slot, number_passing, slot_count, slots_of}
 use Rattle.instances_table.specs.Changes.{is_slot_held, still, without_first_passing, without_instance}
 use Rattle.instances_table.proofs.Counting.{count_some, none_counted}

@@ -1,10 +1,10 @@
 -- What a plan asks depends on which slots are used, and not on their order.
 use Rattle.std.proofs.Common.{◌≡◌, ℕ, ◌==◌, ◌||◌, Bool, false, List, [], ◌∷◌, ◌++◌, refl, sym, ap, ◌∙◌, inl, inr}
 use Rattle.std.proofs.lemmas.Bool.{cases_Bool, eqb-true}
-use Rattle.instances_plans.specs.declared.action.PlanAction.{PlanAction}
-use Rattle.instances_plans.specs.declared.action.PlanAction.TheVariants.{Finalise, Remove, FreePrivate, Insert, Instantiate, GiveUp, Slide, Initialise}
-use Rattle.instances_plans.specs.Doable.{CanDo, StandsInstead, is_used, without}
-use Rattle.instances_plans.specs.Plans.{actions_owed}
+use Rattle.instances_table.specs.declared.plans.action.PlanAction.{PlanAction}
+use Rattle.instances_table.specs.declared.plans.action.PlanAction.TheVariants.{Finalise, Remove, FreePrivate, Insert, Instantiate, GiveUp, Slide, Initialise}
+use Rattle.instances_table.specs.plans.Doable.{CanDo, StandsInstead, is_used, without}
+use Rattle.instances_table.specs.plans.Plans.{actions_owed}
 use Rattle.instances.proofs.ActionsLemmas.Slots.{used_append}
 
 abbrev pub SameUsed : List ℕ → List ℕ → Type 0

@@ -27,7 +27,7 @@ use Rattle.dynamic_areas.specs.Ground.{Estate, IsEstate}
 use Rattle.dynamic_areas.specs.Rooms.{IsAreaRoom}
 use Rattle.dynamic_areas.specs.declared.area.Area.{Area}
 use Rattle.rma.specs.Calls.{or_nothing, rma_described, with_store}
-use Rattle.instances_plans.specs.Code.{private_of}
+use Rattle.instances_table.specs.plans.Code.{private_of}
 use Rattle.instances_table.specs.Modules.{slots_of}
 use Rattle.instances.specs.world.Sound.{IsWorld}
 use Rattle.instances.specs.world.World.{World, private_word, with_private}

@@ -6,7 +6,7 @@ use Rattle.address_map.specs.Bytes.{word_at}
 use Rattle.address_map.specs.Moves.{moved_to}
 use Rattle.address_map.specs.declared.follow.Move.{Move}
 use Rattle.dynamic_areas.specs.Ground.{Estate}
-use Rattle.instances_plans.specs.Code.{private_of}
+use Rattle.instances_table.specs.plans.Code.{private_of}
 use Rattle.instances_table.specs.Changes.{with_image_at}
 use Rattle.instances_table.specs.Lookup.{told_of_module}
 use Rattle.instances_table.specs.declared.parts.ModuleInfo.{ModuleInfo}

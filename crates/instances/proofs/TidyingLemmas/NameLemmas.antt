@@ -21,7 +21,7 @@ use Rattle.rma.proofs.HeapSlideLemmas.Records.{slid_in}
 use Rattle.rma.specs.heap_slide.Slide.{is_listed, item_place_after, slid_bytes, with_slid}
 use Rattle.dynamic_areas.specs.Ground.{Estate}
 use Rattle.rma.specs.Calls.{with_store}
-use Rattle.instances_plans.specs.Code.{private_of}
+use Rattle.instances_table.specs.plans.Code.{private_of}
 use Rattle.instances_table.proofs.RoomLemmas.{slots_once}
 use Rattle.instances_table.specs.Changes.{is_slot_held}
 use Rattle.instances_table.specs.Modules.{AreModules, number_passing, slots_of}

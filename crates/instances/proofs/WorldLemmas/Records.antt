@@ -11,9 +11,9 @@ use Rattle.dynamic_areas.specs.Store.{store_of}
 use Rattle.dynamic_areas.proofs.Frame.{layout-regions}
 -- what calls that write to memory leave of what is mapped
 pub use Rattle.address_map.proofs.Stores.{layout-mapping}
-use Rattle.instances_plans.specs.declared.action.PlanAction.{PlanAction}
-use Rattle.instances_plans.specs.declared.action.PlanAction.TheVariants.{Finalise, Remove, FreePrivate, Insert, Instantiate, GiveUp, Slide, Initialise}
-use Rattle.instances_plans.specs.Plans.{all_but_first, first_action}
+use Rattle.instances_table.specs.declared.plans.action.PlanAction.{PlanAction}
+use Rattle.instances_table.specs.declared.plans.action.PlanAction.TheVariants.{Finalise, Remove, FreePrivate, Insert, Instantiate, GiveUp, Slide, Initialise}
+use Rattle.instances_table.specs.plans.Plans.{all_but_first, first_action}
 use Rattle.instances.specs.world.Records.{CarriesRecords, LosesRecords, MayTurnRecords, TurnsRecords}
 
 loses_none : (rs : List Region) → LosesRecords rs rs

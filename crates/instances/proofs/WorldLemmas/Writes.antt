@@ -17,7 +17,7 @@ use Rattle.dynamic_areas.proofs.HeapCalls.{areas_written, system_mapped}
 use Rattle.dynamic_areas.proofs.SystemWrites.{system_kept}
 use Rattle.rma.specs.flex_frame.Keeping.{KeepsFlex}
 use Rattle.rma.proofs.FlexFrameLemmas.Writes.{system_keeps}
-use Rattle.instances_plans.specs.Code.{private_of}
+use Rattle.instances_table.specs.plans.Code.{private_of}
 use Rattle.instances_table.specs.declared.parts.Image.{Image}
 use Rattle.instances_table.specs.Modules.{Module}
 use Rattle.instances.specs.world.Sound.{HasSystemPages, IsWorld}

@@ -2,11 +2,11 @@
 -- Reference Manual, "Modules", "Initialisation entry point", "Finalisation entry point", and
 -- OS_Module). An action of a slot that no instance has does nothing to the list.
 use Rattle.std.specs.Prelude.{ℕ, List, Option}
-use Rattle.instances_plans.specs.declared.action.PlanAction.{PlanAction}
-use Rattle.instances_plans.specs.declared.action.PlanAction.TheVariants as act
-use Rattle.instances_plans.specs.declared.code.Code.{Code}
-use Rattle.instances_plans.specs.declared.given.Given.{Given}
-use Rattle.instances_plans.specs.Carrying.{Doing}
+use Rattle.instances_table.specs.declared.plans.action.PlanAction.{PlanAction}
+use Rattle.instances_table.specs.declared.plans.action.PlanAction.TheVariants as act
+use Rattle.instances_table.specs.declared.plans.code.Code.{Code}
+use Rattle.instances_table.specs.declared.plans.given.Given.{Given}
+use Rattle.instances_table.specs.plans.Carrying.{Doing}
 use Rattle.instances_table.specs.declared.parts.Image.{Image}
 use Rattle.instances_table.specs.Additions.{added_to}
 use Rattle.instances_table.specs.Modules.{Module}

@@ -3,13 +3,13 @@
 -- has runs none.
 use Rattle.profile.specs.MemoryMap.{environment_text_start}
 use Rattle.std.specs.Prelude.{ℕ, Bool, true, false, ◌+◌, ◌%◌, ◌^◌, ◌==◌, List, Option, Some, None, slice_get, if◌then◌else◌}
-use Rattle.instances_plans.specs.Header.{Header}
-use Rattle.instances_plans.specs.declared.action.PlanAction.{PlanAction}
-use Rattle.instances_plans.specs.declared.action.PlanAction.TheVariants as act
-use Rattle.instances_plans.specs.declared.code.Code.{Code}
-use Rattle.instances_plans.specs.declared.code.CodeKind.{CodeKind}
-use Rattle.instances_plans.specs.declared.code.CodeKind.TheVariants as kind
-use Rattle.instances_plans.specs.Code.{private_of}
+use Rattle.instances_table.specs.plans.Header.{Header}
+use Rattle.instances_table.specs.declared.plans.action.PlanAction.{PlanAction}
+use Rattle.instances_table.specs.declared.plans.action.PlanAction.TheVariants as act
+use Rattle.instances_table.specs.declared.plans.code.Code.{Code}
+use Rattle.instances_table.specs.declared.plans.code.CodeKind.{CodeKind}
+use Rattle.instances_table.specs.declared.plans.code.CodeKind.TheVariants as kind
+use Rattle.instances_table.specs.plans.Code.{private_of}
 use Rattle.instances_table.specs.declared.parts.Place.{Place}
 use Rattle.instances_table.specs.Modules.{Module}
 use Rattle.instances_table.specs.Lookup.{place_of_slot}

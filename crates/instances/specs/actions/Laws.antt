@@ -1,11 +1,11 @@
 -- Laws over plans that settle what becomes of a new image.
 use Rattle.std.specs.Prelude.{◌≡◌, ℕ, true, false, Some, List, [], ◌∷◌}
-use Rattle.instances_plans.specs.declared.action.PlanAction.{PlanAction}
-use Rattle.instances_plans.specs.declared.action.PlanAction.TheVariants.{Slide}
-use Rattle.instances_plans.specs.declared.given.Given.{Given}
-use Rattle.instances_plans.specs.Calls.{clear_plan, instantiate_plan, load_plan, reinit_plan, tidy_plan}
-use Rattle.instances_plans.specs.Doable.{without_all}
-use Rattle.instances_plans.specs.Plans.{Plan, plan_after_action, first_action, plan_after_refusal}
+use Rattle.instances_table.specs.declared.plans.action.PlanAction.{PlanAction}
+use Rattle.instances_table.specs.declared.plans.action.PlanAction.TheVariants.{Slide}
+use Rattle.instances_table.specs.declared.plans.given.Given.{Given}
+use Rattle.instances_table.specs.plans.Calls.{clear_plan, instantiate_plan, load_plan, reinit_plan, tidy_plan}
+use Rattle.instances_table.specs.plans.Doable.{without_all}
+use Rattle.instances_table.specs.plans.Plans.{Plan, plan_after_action, first_action, plan_after_refusal}
 use Rattle.instances.specs.actions.Actions.{image_given}
 use Rattle.instances.specs.actions.Pending.{AreTitledAfter, IsSettledOnce, pending_of, settles}
 

@@ -2,12 +2,12 @@
 -- (this project's own).
 use Rattle.std.specs.Prelude.{◌≡◌, ◌≢◌, ℕ, Bool, true, false, Some, List, [], ◌∷◌, map}
 use Rattle.std.specs.List.{list_any}
-use Rattle.instances_plans.specs.declared.action.PlanAction.{PlanAction}
-use Rattle.instances_plans.specs.declared.action.PlanAction.TheVariants.{Remove, Insert, Instantiate, Slide}
-use Rattle.instances_plans.specs.declared.given.Given.{Given}
-use Rattle.instances_plans.specs.Calls.{clear_plan, instantiate_plan, load_plan, reinit_plan, tidy_plan}
-use Rattle.instances_plans.specs.Doable.{IsDoable, without_all}
-use Rattle.instances_plans.specs.Plans.{Plan, plan_after_action, first_action, plan_after_refusal}
+use Rattle.instances_table.specs.declared.plans.action.PlanAction.{PlanAction}
+use Rattle.instances_table.specs.declared.plans.action.PlanAction.TheVariants.{Remove, Insert, Instantiate, Slide}
+use Rattle.instances_table.specs.declared.plans.given.Given.{Given}
+use Rattle.instances_table.specs.plans.Calls.{clear_plan, instantiate_plan, load_plan, reinit_plan, tidy_plan}
+use Rattle.instances_table.specs.plans.Doable.{IsDoable, without_all}
+use Rattle.instances_table.specs.plans.Plans.{Plan, plan_after_action, first_action, plan_after_refusal}
 use Rattle.instances_table.specs.Modules.{AreModules, Module, has_title, slots_of}
 use Rattle.instances_table.specs.Changes.{without_instance}
 use Rattle.instances.specs.actions.Actions.{with_another, with_new}

@@ -11,7 +11,7 @@ use Rattle.dynamic_areas.specs.Store.{find_heap}
 use Rattle.rma.specs.heap_slide.Slide.{is_listed, moves_of, with_slid}
 use Rattle.dynamic_areas.specs.Ground.{Estate}
 use Rattle.rma.specs.Calls.{with_store}
-use Rattle.instances_plans.specs.Code.{private_of}
+use Rattle.instances_table.specs.plans.Code.{private_of}
 use Rattle.instances_table.specs.Changes.{with_image_at}
 use Rattle.instances_table.specs.Modules.{Module, slots_of}
 use Rattle.instances.specs.world.World.{World, private_word, with_private}

@@ -5,8 +5,8 @@ use Rattle.std.specs.Prelude.{◌≡◌, ◌⊎◌, Option, Some, None, List, []
 use Rattle.address_map.specs.declared.follow.Move.{Move}
 use Rattle.address_map.specs.declared.region.Region.{Region}
 use Rattle.address_map.specs.Moves.{moved_regions}
-use Rattle.instances_plans.specs.declared.action.PlanAction.{PlanAction}
-use Rattle.instances_plans.specs.declared.action.PlanAction.TheVariants.{Slide}
+use Rattle.instances_table.specs.declared.plans.action.PlanAction.{PlanAction}
+use Rattle.instances_table.specs.declared.plans.action.PlanAction.TheVariants.{Slide}
 
 -- Of the records some may be gone, and each other one stands where it stood.
 abbrev pub LosesRecords : List Region → List Region → Type 0

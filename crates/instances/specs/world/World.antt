@@ -10,7 +10,7 @@ use Rattle.dynamic_areas.specs.Areas.{Land}
 use Rattle.dynamic_areas.specs.Ground.{Estate, estate_of}
 use Rattle.rma.specs.Calls.{rma_freed, with_store}
 use Rattle.rma.specs.Images.{image_dropped, image_freed}
-use Rattle.instances_plans.specs.Code.{private_of}
+use Rattle.instances_table.specs.plans.Code.{private_of}
 use Rattle.instances_table.specs.declared.parts.Image.{Image}
 use Rattle.instances_table.specs.ModuleArea.{is_in_module_area}
 use Rattle.instances_table.specs.Modules.{Module, has_instance}

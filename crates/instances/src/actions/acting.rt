@@ -17,8 +17,8 @@ use crate::actions::adding::{give_up, insert, instantiate};
 use crate::actions::removal::{free_private, remove};
 use crate::world::put_text;
 use address_map::AddressMap;
-use instances_plans::{Given, PlanAction};
 use instances_table::InstanceTable;
+use instances_table::plans::{Given, PlanAction};
 
 /// Does an action's own part, before its code runs; a slide is done elsewhere. The image of a new
 /// module is pending until an insertion adds it, or it is given up.

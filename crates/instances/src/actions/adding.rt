@@ -18,7 +18,7 @@ use crate::actions::removal::drop_image;
 use crate::world::put_private;
 use address_map::AddressMap;
 use arrayvec::ArrayVec;
-use instances_plans::{Given, Header};
+use instances_table::plans::{Given, Header};
 use instances_table::{Image, InstanceTable};
 
 /// Adds the new module, the youngest, with its first instance in a slot, whose private word is 0.

@@ -3,7 +3,7 @@ ghost use Rattle.std.specs.Prelude.{◌≡◌, [], ◌≤◌, length};
 ghost use Rattle.address_map.specs.Memory.{mapping, regions};
 ghost use Rattle.dynamic_areas.specs.Store.{AreClasses, store_of};
 ghost use Rattle.rma.specs.flex_frame.Keeping.{KeepsFlex};
-ghost use Rattle.instances_plans.specs.declared.action.PlanAction.TheVariants.{Slide};
+ghost use Rattle.instances_table.specs.declared.plans.action.PlanAction.TheVariants.{Slide};
 ghost use Rattle.instances.specs.world.Records.{TurnsRecords};
 ghost use Rattle.instances.specs.world.Sound.{IsWorld};
 ghost use Rattle.instances.specs.world.World.{world_of};

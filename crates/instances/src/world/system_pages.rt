@@ -7,14 +7,14 @@ ghost use Rattle.dynamic_areas.specs.Store.{AreClasses, store_of};
 ghost use Rattle.dynamic_areas.specs.Areas.{Land};
 ghost use Rattle.dynamic_areas.specs.Ground.{IsEstate, estate_of};
 ghost use Rattle.rma.specs.flex_frame.Keeping.{KeepsFlex};
-ghost use Rattle.instances_plans.specs.Code.{private_of};
+ghost use Rattle.instances_table.specs.plans.Code.{private_of};
 ghost use Rattle.instances_table.specs.declared.parts.Image.{Image};
 ghost use Rattle.instances_table.specs.Modules.{Module};
 ghost use Rattle.instances.specs.world.Sound.{HasSystemPages, IsWorld};
 ghost use Rattle.instances.specs.world.World.{private_word, with_private, with_text, world_of};
 
 use address_map::AddressMap;
-use instances_plans::private_word;
+use instances_table::plans::private_word;
 use profile::memory_map::ENVIRONMENT_TEXT;
 
 /// The value of the private word of a slot.

@@ -7,8 +7,8 @@ use Rattle.std.specs.Prelude.{ℕ, false, ◌+◌, ◌%◌}
 use Rattle.arm_core.specs.declared.psr.Mode.TheVariants.{User, Supervisor}
 use Rattle.arm_core.specs.Psr.{psr_bits}
 use Rattle.arm_core.specs.State.{State, with_mode, with_overflow, with_pc, with_register_in}
-use Rattle.instances_plans.specs.Code.{private_of}
-use Rattle.instances_plans.specs.declared.code.Code.{Code}
+use Rattle.instances_table.specs.plans.Code.{private_of}
+use Rattle.instances_table.specs.declared.plans.code.Code.{Code}
 
 -- where module code returns to, which is never mapped
 abbrev pub gate : ℕ

@@ -4,7 +4,7 @@ ghost use Rattle.std.specs.Prelude.{◌≡◌, ◌<◌};
 ghost use Rattle.swi_dispatch_answers.specs.frames.Entering.{state_after_entry, swi_entered, code_entered};
 
 use arm_core::{Cpu, Mode};
-use instances_plans::{Code, private_word};
+use instances_table::plans::{Code, private_word};
 use profile::memory_map::RETURN_GATE;
 
 /// The core goes to the SWI handler of a module: R11 is the number of the SWI in its chunk, R12 the

@@ -7,7 +7,7 @@ ghost use Rattle.swi_dispatch_answers.specs.frames.Frames.{frame_of, shared_regi
 
 use crate::frames::call::Call;
 use arm_core::{Cpu, Mode};
-use instances_plans::CodeKind;
+use instances_table::plans::CodeKind;
 
 /// How many registers a frame can restore: R0 to R12.
 pub const SAVED_REGISTERS: usize = 13;

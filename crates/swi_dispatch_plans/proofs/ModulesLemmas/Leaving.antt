@@ -8,7 +8,7 @@ use Rattle.os_heap.specs.Store.{AreClasses, Store, store_of}
 use Rattle.dynamic_areas.specs.Areas.{Land}
 use Rattle.dynamic_areas.specs.Ground.{AreAreas, IsEstate, estate_of}
 use Rattle.dynamic_areas.proofs.HeapCalls.{system_mapped}
-use Rattle.instances_plans.specs.Plans.{Plan}
+use Rattle.instances_table.specs.plans.Plans.{Plan}
 use Rattle.instances.specs.Modules.{Module, slots_of}
 use Rattle.instances.proofs.GoingOn.{may_go_on_kept}
 use Rattle.instances.specs.Turns.{MayGoOn}

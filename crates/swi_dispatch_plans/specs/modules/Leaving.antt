@@ -5,7 +5,7 @@ use Rattle.dynamic_areas.specs.Areas.{Land}
 use Rattle.swi_dispatch_plans.specs.store.Leaving.{LeavesSound}
 use Rattle.instances.specs.world.World.{world_of}
 use Rattle.instances.specs.Turns.{MayGoOn}
-use Rattle.instances_plans.specs.Plans.{Plan}
+use Rattle.instances_table.specs.plans.Plans.{Plan}
 use Rattle.instances.specs.Modules.{Module, slots_of}
 
 -- Memory, areas and modules after a call: memory and areas as sound as before, the same instances,

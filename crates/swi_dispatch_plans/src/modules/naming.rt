@@ -7,7 +7,7 @@ ghost use Rattle.profile.specs.Outcome.{Leaves};
 ghost use Rattle.address_map.specs.Bytes.{AreMapped};
 ghost use Rattle.address_map.specs.Memory.{is_mapped};
 ghost use Rattle.dynamic_areas.specs.Areas.{Land};
-ghost use Rattle.instances_plans.specs.Plans.{Plan};
+ghost use Rattle.instances_table.specs.plans.Plans.{Plan};
 ghost use Rattle.instances.specs.Modules.{slots_of};
 ghost use Rattle.instances.specs.Turns.{MayGoOn};
 ghost use Rattle.instances.specs.world.World.{world_of};

@@ -3,7 +3,7 @@ use Rattle.address_map.specs.Memory.{bytes_of, is_owned}
 use Rattle.address_map.proofs.Words.{is_owned-same}
 use Rattle.arm_core.specs.State.{State}
 use Rattle.arm_core.specs.declared.turn.Turn.TheVariants as turn
-use Rattle.swi_dispatch_breaks.specs.Breaks.{is_among}
+use Rattle.arm_core.specs.breaks.Breaks.{is_among}
 use Rattle.arm_run.specs.Standing.{core_at}
 use Rattle.arm_run.proofs.StepByStep.{none_done, one_more_done, same_count, same_pair, none_among, refuses_so, turns_so}
 use Rattle.arm_run.proofs.running.run.Goals as goal

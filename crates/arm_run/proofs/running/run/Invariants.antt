@@ -1,9 +1,9 @@
 use Rattle.std.proofs.Common.{◌≡◌, ◌≤◌, ◌<◌, ◌⊎◌, ◌+◌, ◌-◌, ◌*◌, ◌%◌, ◌^◌, false, []}
 use Rattle.address_map.specs.Memory.{bytes_of, class_of, is_owned, layout, place}
-use Rattle.swi_dispatch_breaks.specs.Breaks.{is_among}
+use Rattle.arm_core.specs.breaks.Breaks.{is_among}
 use Rattle.arm_run.specs.Runs.{AreDone}
 use Rattle.arm_run.specs.Standing.{core_at}
-use Rattle.arm_window.specs.Windows.{IsOpen}
+use Rattle.arm_step.specs.window.Windows.{IsOpen}
 use Rattle.arm_run.proofs.running.run.Given as goal
 
 -- so far each step was an instruction that was done, and none led to a break

@@ -1,9 +1,9 @@
 use Rattle.std.proofs.Common.{◌≡◌, ap, inr, refl, sym, ◌∙◌, List, ℕ}
 use Rattle.std.specs.Str.Lines.{lines}
-use Rattle.text_lines.specs.Lines.{ReadingPlace}
+use Rattle.profile.specs.text_lines.Lines.{ReadingPlace}
 use Rattle.command_shell.specs.declared.error.RunError.TheVariants as error
 use Rattle.debug_records.specs.ExitStatus.{debug_status}
-use Rattle.debug_checks.specs.reports.Reports.{summary_text}
+use Rattle.debug_modes.specs.expectations.reports.Reports.{summary_text}
 use Rattle.debug_records.specs.Session.{debug_state}
 use Rattle.debug_records.specs.DebugSession.{DebugSession}
 use Rattle.debug_face.proofs.TranscriptLemmas.{begun_so, fewer_lines, line_error, next_is, none_next, some_of, starts_so, state_at_end, summary_is, transcript_ends, transcript_goes_on, transcript_starts}

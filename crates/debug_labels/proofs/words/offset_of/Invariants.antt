@@ -1,5 +1,5 @@
 use Rattle.std.proofs.Common.{◌≡◌, drop}
-use Rattle.assembler_names.specs.Labels.{address_of}
+use Rattle.assembler_text.specs.naming.Labels.{address_of}
 use Rattle.debug_labels.proofs.words.offset_of.Given as goal
 
 -- no label that was passed has the name

@@ -1,6 +1,6 @@
 use Rattle.std.proofs.Common.{◌≡◌, ℕ, List, subst, sym, ◌∙◌}
 use Rattle.std.specs.Prelude.{IfOk}
-use Rattle.text_lines.specs.WholeLines.{whole_lines}
+use Rattle.profile.specs.text_lines.WholeLines.{whole_lines}
 use Rattle.debug_lines.proofs.BlockEndLemmas.{ends_all_read, ends_read_on}
 use Rattle.debug_lines.proofs.block_ends.missing_ends.Goals as goal
 

@@ -1,5 +1,5 @@
 use Rattle.std.proofs.Common.{◌≡◌, length}
-use Rattle.text_lines.specs.WholeLines.{unended_line, whole_lines}
+use Rattle.profile.specs.text_lines.WholeLines.{unended_line, whole_lines}
 use Rattle.debug_lines.specs.BlockEnds.{blocks_after_lines, blocks_read, blocks_read_from}
 use Rattle.debug_lines.proofs.block_ends.missing_ends.Given as goal
 

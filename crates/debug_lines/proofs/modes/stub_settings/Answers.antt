@@ -2,7 +2,7 @@
 use Rattle.std.proofs.Common.{◌≡◌, [], List, Some, None, ap, refl, sym, ◌∙◌, arith}
 use Rattle.std.specs.Prelude.{◌==◌, option_map}
 use Rattle.arrayvec.specs.ArrayVec.{ArrayVec}
-use Rattle.text_lines.proofs.LineLemmas.{some_part}
+use Rattle.profile.proofs.TextLinesLemmas.LineLemmas.{some_part}
 use Rattle.command_shell_lines.specs.Numbers.{script_number}
 use Rattle.command_shell_lines.specs.Operands.{cpu_register_named}
 use Rattle.command_shell_lines.specs.Requests.{words}

@@ -1,7 +1,7 @@
 -- By the lemmas on how far a text was read, for requests that are whole and for blocks that lack their
 -- END.
 use Rattle.std.proofs.Common.{Bool, ap, refl, subst, sym, ◌∙◌}
-use Rattle.text_lines.specs.WholeLines.{whole_lines}
+use Rattle.profile.specs.text_lines.WholeLines.{whole_lines}
 use Rattle.debug_lines.specs.BlockEnds.{BlocksRead, blocks_after_lines, is_in_block}
 use Rattle.debug_lines.proofs.BlockEndLemmas.{ends_read_on, ends_whole_read, in_block_then}
 use Rattle.debug_lines.proofs.WholeDebugRequestLemmas.{HasReadDebug, debug_read_starts, debug_read_on, debug_read_whole, debug_read_all}

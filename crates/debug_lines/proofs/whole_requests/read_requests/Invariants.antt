@@ -1,5 +1,5 @@
 use Rattle.std.proofs.Common.{◌≡◌, length}
-use Rattle.text_lines.specs.WholeLines.{whole_lines}
+use Rattle.profile.specs.text_lines.WholeLines.{whole_lines}
 use Rattle.debug_lines.specs.BlockEnds.{blocks_after_lines, blocks_read, blocks_read_from, is_in_block}
 use Rattle.debug_lines.proofs.WholeDebugRequestLemmas.{HasReadDebug}
 use Rattle.debug_lines.proofs.whole_requests.read_requests.Given as goal

@@ -1,5 +1,5 @@
 -- Records stand behind records.
-use Rattle.record_text.proofs.WritingLemmas.{none_added, then_added}
+use Rattle.trace_effects.proofs.RecordTextLemmas.WritingLemmas.{none_added, then_added}
 use Rattle.debug_records.proofs.script.record_lines.Goals as goal
 
 pub loop-lines-init : goal.loop-lines-init

@@ -1,4 +1,4 @@
-use Rattle.record_text.specs.Safe.{AddsSafe}
+use Rattle.trace_effects.specs.record_text.Safe.{AddsSafe}
 use Rattle.debug_records.proofs.script.record_lines.Given as goal
 
 -- what was written so far is records

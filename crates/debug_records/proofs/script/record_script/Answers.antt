@@ -1,5 +1,5 @@
 -- The first record, those of the lines, and the last.
-use Rattle.record_text.proofs.WritingLemmas.{then_added}
+use Rattle.trace_effects.proofs.RecordTextLemmas.WritingLemmas.{then_added}
 use Rattle.debug_records.proofs.script.record_script.Goals as goal
 
 pub returns : goal.returns

@@ -8,7 +8,7 @@ use Rattle.debug_runs.specs.Runs.{end_after, next_step, steps_run}
 use Rattle.debug_runs.specs.declared.running.RunGoal.TheVariants.{Nowhere}
 use Rattle.debug_tables.specs.WordWatches.{watched_words}
 use Rattle.debug_tables.specs.counts.Counts.{step_counted}
-use Rattle.view_items.specs.TextSink.{sink_text_of}
+use Rattle.profile.specs.text_sink.TextSink.{sink_text_of}
 use Rattle.debug_runs.proofs.LastLemmas.{fewer_before, last_on, last_rest, last_stop, untold_goes_on, untold_runs_out, untold_stops}
 use Rattle.debug_runs.proofs.PlaceLemmas.{counts_on, counts_rest, counts_stop}
 use Rattle.debug_runs.proofs.RunLemmas.{enough_left}

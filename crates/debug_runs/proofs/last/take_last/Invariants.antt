@@ -5,7 +5,7 @@ use Rattle.debug_runs.specs.LastSteps.{texts_of_run, with_steps}
 use Rattle.debug_runs.specs.Places.{places_of_run}
 use Rattle.debug_runs.specs.Runs.{steps_run}
 use Rattle.debug_runs.specs.declared.running.RunGoal.TheVariants.{Nowhere}
-use Rattle.view_items.specs.TextSink.{sink_text_of}
+use Rattle.profile.specs.text_sink.TextSink.{sink_text_of}
 use Rattle.debug_runs.proofs.LastLemmas.{IsUntoldRest}
 use Rattle.debug_runs.proofs.last.take_last.Given as goal
 

@@ -2,7 +2,7 @@ use Rattle.std.proofs.Common.{◌≡◌, ◌++◌, length}
 use Rattle.std.specs.List.{flat_map}
 use Rattle.std.specs.VecDeque.{deque_len}
 use Rattle.debug_runs.specs.LastSteps.{whole_text}
-use Rattle.view_items.specs.TextSink.{sink_text_of}
+use Rattle.profile.specs.text_sink.TextSink.{sink_text_of}
 use Rattle.debug_runs.proofs.last_steps.push_steps.Given as goal
 
 -- what stands written, and the steps that are left, is all

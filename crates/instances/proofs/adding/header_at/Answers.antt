@@ -1,6 +1,6 @@
 use Rattle.address_map.specs.Bytes.{bytes_between}
 use Rattle.address_map.specs.Memory.{byte_at}
-use Rattle.instances_plans.specs.ModuleHeaderHeader.{header_of}
+use Rattle.instances_table.specs.plans.ModuleHeaderHeader.{header_of}
 use Rattle.dynamic_areas.specs.Store.{store_of}
 use Rattle.instances.proofs.AddingLemmas.{header_good}
 use Rattle.instances.proofs.adding.header_at.Goals as goal

@@ -1,7 +1,7 @@
 use Rattle.std.proofs.Common.{refl}
 use Rattle.address_map.specs.Memory.{bytes_of}
 use Rattle.debugger.specs.Parts.{state_of}
-use Rattle.trace_words.specs.Copies.{kept_in}
+use Rattle.trace_effects.specs.store_words.Copies.{kept_in}
 use Rattle.trace_store_text.proofs.LineLemmas.{store_lines_kept}
 use Rattle.trace_store_text.proofs.store_lines.push_changed_words.Goals as goal
 

@@ -4,7 +4,7 @@ use Rattle.command_shell_lines.specs.Blocks.{lines_taken}
 use Rattle.debug_records.specs.DebugScript.{line_opens}
 use Rattle.debug_records.specs.DebugState.{DebugAnswered}
 use Rattle.debug_records.specs.Session.{debug_state}
-use Rattle.text_lines.specs.Lines.{ReadingPlace}
+use Rattle.profile.specs.text_lines.Lines.{ReadingPlace}
 use Rattle.debug_face.proofs.AnsweringLemmas.{left_behind_line, place_is}
 use Rattle.debug_face.specs.Answering.{place_after_line, place_of_answering, told_with_block}
 use Rattle.debug_face.specs.declared.answering.ScriptAnswering.{ScriptAnswering}

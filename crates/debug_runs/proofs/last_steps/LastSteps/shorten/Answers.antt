@@ -2,7 +2,7 @@
 use Rattle.std.proofs.Common.{◌≡◌, ◌<◌, arith, length, subst}
 use Rattle.std.specs.Prelude.{OnOk}
 use Rattle.debug_runs.specs.LastSteps.{LastState, last_ones_of}
-use Rattle.view_items.specs.TextSink.{sink_text_of}
+use Rattle.profile.specs.text_sink.TextSink.{sink_text_of}
 use Rattle.debug_runs.proofs.LastLemmas.{one_gone}
 use Rattle.debug_runs.proofs.last_steps.LastSteps.shorten.Goals as goal
 

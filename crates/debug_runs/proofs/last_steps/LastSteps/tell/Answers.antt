@@ -3,7 +3,7 @@ use Rattle.std.proofs.Common.{◌≡◌, ◌++◌, subst}
 use Rattle.std.specs.List.{flat_map}
 use Rattle.std.specs.Prelude.{OnOk}
 use Rattle.debug_runs.specs.LastSteps.{LastState, last_text, steps_before_text, whole_text}
-use Rattle.view_items.specs.TextSink.{sink_text_of}
+use Rattle.profile.specs.text_sink.TextSink.{sink_text_of}
 use Rattle.debug_runs.proofs.LastLemmas.{last_pushed}
 use Rattle.debug_runs.proofs.last_steps.LastSteps.tell.Goals as goal
 

@@ -5,7 +5,7 @@ use Rattle.swi_dispatch_guest.specs.MachineState.{outcome_with}
 use Rattle.swi_dispatch_guest.specs.Parts.{state_of}
 use Rattle.command_shell.specs.Value.{MachineValue}
 use Rattle.command_shell.specs.Session.{script_state}
-use Rattle.view_items.specs.TextSink.{sink_text_of}
+use Rattle.profile.specs.text_sink.TextSink.{sink_text_of}
 use Rattle.trace_text.specs.Start.{known_in}
 use Rattle.trace_text.specs.Step.{known_outside, step_end_text}
 use Rattle.debug_runs.specs.Calls.{outside_start_text, outside_text}

@@ -10,7 +10,7 @@ use Rattle.command_shell.specs.Calls.{step_made}
 use Rattle.command_shell.specs.Session.{script_state}
 use Rattle.command_shell.specs.State.{ScriptState}
 use Rattle.trace_text.specs.Step.{step_text}
-use Rattle.view_items.specs.TextSink.{sink_text_of}
+use Rattle.profile.specs.text_sink.TextSink.{sink_text_of}
 use Rattle.debug_runs.specs.Runs.{next_step}
 use Rattle.debug_tables.specs.Stubs.{stub_ahead}
 use Rattle.debug_runs.specs.Telling.{label_line_in, stub_step_text, text_by_stub, whole_step_text}

@@ -1,6 +1,6 @@
 use Rattle.std.proofs.Common.{◌+◌, ◌∙◌, ap, length, sym}
 use Rattle.command_shell_lines.specs.Blocks.{block_lines}
-use Rattle.text_lines.specs.Lines.{ReadingPlace}
+use Rattle.profile.specs.text_lines.Lines.{ReadingPlace}
 use Rattle.debug_session.specs.DebugScript.{debug_line_told, debug_lines_told, line_opens}
 use Rattle.debug_session.specs.DebugState.{DebugAnswered}
 use Rattle.debug_session.specs.Session.{debug_state}

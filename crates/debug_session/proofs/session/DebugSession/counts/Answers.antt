@@ -1,8 +1,8 @@
 use Rattle.std.proofs.Common.{◌∙◌, ap}
 use Rattle.debug_modes.specs.Counting.{counts_text}
 use Rattle.debug_modes.specs.Telling.{naming_in}
-use Rattle.run_meter.specs.Value.{MachineValue}
-use Rattle.run_meter.specs.Parts.{state_of}
+use Rattle.debug_tables.specs.run_meter.Value.{MachineValue}
+use Rattle.debug_tables.specs.run_meter.Parts.{state_of}
 use Rattle.debug_session.specs.Session.{debug_state}
 use Rattle.debug_session.proofs.OwnLemmas.{view_of_text}
 use Rattle.debug_session.proofs.session.DebugSession.counts.Goals as goal

@@ -1,9 +1,9 @@
 -- Each request is told as its own call tells it.
 use Rattle.std.proofs.Common.{◌≡◌, ◌+◌, ap, subst, sym}
 use Rattle.std.specs.Prelude.{OnOk}
-use Rattle.run_meter.specs.Memory.{script_at, script_with_status}
+use Rattle.debug_tables.specs.run_meter.Memory.{script_with_status}
 use Rattle.command_shell_lines.specs.Blocks.{block_lines, lines_after, lines_taken}
-use Rattle.debug_checks.specs.Checks.{status_after_pattern}
+use Rattle.debug_modes.specs.expectations.Checks.{status_after_pattern}
 use Rattle.debug_lines.specs.DebugRequests.{DebugRequest, debug_opens_block, debug_request_of_command}
 use Rattle.debug_session.specs.Session.{debug_state}
 use Rattle.debug_session.proofs.OwnLemmas.{asked, asked_if, changed_quietly, checked_by}
@@ -35,6 +35,13 @@ returns-in-View-clause-told g c =
     c.args.self.now.setting c.args.script.now.number c.args.words.now (block_lines c.args.script.now.left) _
     (debug_request_of_command c.args.command) (sym (ap debug_request_of_command c.in-View.is)) (c.look.ensures.told c.args.images.now)
 
+pub returns-in-Form-clause-told : goal.returns-in-Form-clause-told
+returns-in-Form-clause-told g c =
+    asked_if c.show_form.result (g.W.Sink.contents c.args.sink.now) (g.W.Sink.contents c.show_form.new.sink)
+    (debug_state c.show_form.new.self c.args.images.now) (debug_state c.args.self.now c.args.images.now)
+    c.args.self.now.setting c.args.script.now.number c.args.words.now (block_lines c.args.script.now.left) _
+    (debug_request_of_command c.args.command) (sym (ap debug_request_of_command c.in-Form.is)) (c.show_form.ensures.told c.args.images.now)
+
 pub returns-in-Forget-clause-told : goal.returns-in-Forget-clause-told
 returns-in-Forget-clause-told g c =
     asked_if c.forget.result (g.W.Sink.contents c.args.sink.now) (g.W.Sink.contents c.forget.new.sink)
@@ -51,13 +58,10 @@ returns-in-Counts-clause-told g c =
 
 pub returns-in-SetPc-clause-told : goal.returns-in-SetPc-clause-told
 returns-in-SetPc-clause-told g c =
-    asked (g.W.Sink.contents c.args.sink.now) (g.W.Sink.contents c.args.sink.now)
-    (debug_state c.set_pc.new.self c.args.images.now) (debug_state c.args.self.now c.args.images.now)
+    asked_if c.move_pc.result (g.W.Sink.contents c.args.sink.now) (g.W.Sink.contents c.move_pc.new.sink)
+    (debug_state c.move_pc.new.self c.args.images.now) (debug_state c.args.self.now c.args.images.now)
     c.args.self.now.setting c.args.script.now.number c.args.words.now (block_lines c.args.script.now.left) _
-    (debug_request_of_command c.args.command) (sym (ap debug_request_of_command c.in-SetPc.is))
-    (changed_quietly _ _ (debug_state c.args.self.now c.args.images.now)
-    (script_at (debug_state c.args.self.now c.args.images.now).script c.in-SetPc.address)
-    (c.set_pc.ensures.told c.args.images.now))
+    (debug_request_of_command c.args.command) (sym (ap debug_request_of_command c.in-SetPc.is)) (c.move_pc.ensures.told c.args.images.now)
 
 pub returns-in-SetPsr-clause-told : goal.returns-in-SetPsr-clause-told
 returns-in-SetPsr-clause-told g c =

@@ -2,8 +2,8 @@ use Rattle.std.proofs.Common.{◌∙◌, ap, refl}
 use Rattle.debug_lines.specs.ModeRequests.{mode_request_of}
 use Rattle.debug_modes.specs.Changes.{mode_told}
 use Rattle.debug_modes.specs.declared.modes.DebugModes.{DebugModes}
-use Rattle.run_meter.specs.Value.{MachineValue}
-use Rattle.run_meter.specs.Parts.{state_of}
+use Rattle.debug_tables.specs.run_meter.Value.{MachineValue}
+use Rattle.debug_tables.specs.run_meter.Parts.{state_of}
 use Rattle.debug_session.specs.DebugState.{DebugState}
 use Rattle.debug_session.specs.Session.{debug_state}
 use Rattle.debug_session.specs.declared.session.DebugSession.{DebugSession}

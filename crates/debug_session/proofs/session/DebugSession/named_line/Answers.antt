@@ -1,7 +1,7 @@
 use Rattle.std.proofs.Common.{◌∙◌, ap, refl}
-use Rattle.run_meter.specs.Memory.{script_with_budget}
-use Rattle.run_meter.specs.Script.{request_told}
-use Rattle.run_meter.specs.State.{ScriptState}
+use Rattle.debug_tables.specs.run_meter.Memory.{script_with_budget}
+use Rattle.debug_tables.specs.run_meter.Script.{request_told}
+use Rattle.debug_tables.specs.run_meter.State.{ScriptState}
 use Rattle.command_shell_lines.specs.Blocks.{block_lines}
 use Rattle.command_shell_lines.specs.Requests.{request_of_command}
 use Rattle.debug_session.specs.Session.{debug_state}

@@ -1,8 +1,8 @@
 -- The image is there or not, and its bytes are written or refused.
 use Rattle.std.proofs.Common.{ℕ, List, Option, ap, subst, ◌∙◌}
-use Rattle.byte_writes.specs.Put.{script_after_put}
-use Rattle.run_meter.specs.Answers.{refused_text}
-use Rattle.run_meter.specs.Session.{script_state}
+use Rattle.debug_tables.specs.byte_writes.Put.{script_after_put}
+use Rattle.debug_tables.specs.run_meter.Answers.{refused_text}
+use Rattle.debug_tables.specs.run_meter.Session.{script_state}
 use Rattle.debug_session.specs.DebugScript.{put_found}
 use Rattle.debug_session.specs.DebugState.{IsDebugged}
 use Rattle.debug_session.specs.Session.{debug_state}

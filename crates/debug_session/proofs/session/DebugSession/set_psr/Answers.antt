@@ -1,10 +1,10 @@
 use Rattle.std.proofs.Common.{◌∙◌, ap}
-use Rattle.run_meter.specs.Memory.{script_with_status}
-use Rattle.run_meter.specs.Session.{script_state}
-use Rattle.debug_checks.specs.Checks.{status_after_pattern}
-use Rattle.run_meter.specs.Value.{MachineValue}
+use Rattle.debug_tables.specs.run_meter.Memory.{script_with_status}
+use Rattle.debug_tables.specs.run_meter.Session.{script_state}
+use Rattle.debug_modes.specs.expectations.Checks.{status_after_pattern}
+use Rattle.debug_tables.specs.run_meter.Value.{MachineValue}
 use Rattle.arm_core.specs.State.{State}
-use Rattle.run_meter.specs.Parts.{state_of}
+use Rattle.debug_tables.specs.run_meter.Parts.{state_of}
 use Rattle.debug_session.specs.Session.{debug_state}
 use Rattle.debug_session.proofs.OwnLemmas.{changed_script}
 use Rattle.debug_session.proofs.session.DebugSession.set_psr.Goals as goal

@@ -82,5 +82,5 @@ returns-clause-told g c =
     (c.as_slice.ensures.value ∙ c.in_ok-numbered.ensures c.args.images.now)
     (sym (c.is_repeatable.ensures ∙ ap is_repeatable meant) ∙ c.if-is_repeatable.false))
     (subst (λ (n : ℕ). OnOk c.refuse.result (IsDebugged (g.W.Sink.contents c.args.sink.now) (g.W.Sink.contents c.refuse.new.sink)
-    (debug_state c.refuse.new.self c.args.images.now) (unknown_told setting d n))) c.number.ensures
+    (debug_state c.refuse.new.self c.args.images.now) (unknown_told setting d n line))) c.number.ensures
     (c.refuse.ensures.told c.args.images.now))

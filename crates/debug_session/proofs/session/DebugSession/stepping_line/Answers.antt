@@ -1,5 +1,5 @@
 use Rattle.std.proofs.Common.{◌∙◌, ap}
-use Rattle.run_meter.specs.State.{ScriptState}
+use Rattle.debug_tables.specs.run_meter.State.{ScriptState}
 use Rattle.debug_lines.specs.SteppingRequests.{stepping_request_of}
 use Rattle.debug_modes.specs.Stepping.{modes_after, stepping_in_modes}
 use Rattle.debug_session.specs.Session.{debug_state}

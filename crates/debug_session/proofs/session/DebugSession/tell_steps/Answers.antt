@@ -2,7 +2,7 @@
 use Rattle.std.proofs.Common.{ℕ, List, ap, subst}
 use Rattle.std.specs.Io.KnownBytes.{Appends}
 use Rattle.debug_session.specs.DebugState.{DebugState}
-use Rattle.debug_checks.specs.reports.Reports.{answer_in}
+use Rattle.debug_modes.specs.expectations.reports.Reports.{answer_in}
 use Rattle.debug_session.specs.Session.{debug_state}
 use Rattle.debug_session.proofs.SteppingLemmas.{written_both}
 use Rattle.debug_session.proofs.session.DebugSession.tell_steps.Goals as goal

@@ -1,6 +1,6 @@
 use Rattle.std.proofs.Common.{◌<◌, ◌+◌, ◌^◌, ap, arith, length}
-use Rattle.text_lines.proofs.WholeLineLemmas.{lines_at_most}
-use Rattle.text_lines.specs.Lines.{ReadingPlace}
+use Rattle.profile.proofs.TextLinesLemmas.WholeLineLemmas.{lines_at_most}
+use Rattle.profile.specs.text_lines.Lines.{ReadingPlace}
 use Rattle.debug_session.proofs.typing.DebugTyping.answer.Goals as goal
 
 pub overflow_add-self : goal.overflow_add-self

@@ -1,8 +1,8 @@
 use Rattle.std.proofs.Common.{List, Some, sym, ap, subst, ◌∙◌}
 use Rattle.address_map.specs.Memory.{regions}
-use Rattle.instances_plans.specs.declared.action.PlanAction.{PlanAction}
-use Rattle.instances_plans.specs.declared.given.Given.{Given}
-use Rattle.instances_plans.specs.Plans.{plan_after_action}
+use Rattle.instances_table.specs.declared.plans.action.PlanAction.{PlanAction}
+use Rattle.instances_table.specs.declared.plans.given.Given.{Given}
+use Rattle.instances_table.specs.plans.Plans.{plan_after_action}
 use Rattle.instances_table.specs.Modules.{AreModules, Module}
 use Rattle.instances.specs.world.Records.{TurnsRecords}
 use Rattle.instances.specs.world.Sound.{IsWorld}

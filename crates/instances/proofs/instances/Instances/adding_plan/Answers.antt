@@ -1,5 +1,5 @@
 use Rattle.std.proofs.Common.{sym, ap, ◌∙◌}
-use Rattle.instances_plans.specs.declared.given.Given.{Given}
+use Rattle.instances_table.specs.declared.plans.given.Given.{Given}
 use Rattle.instances.proofs.ReadyLemmas.{load_ready}
 use Rattle.instances.proofs.instances.Instances.adding_plan.Goals as goal
 

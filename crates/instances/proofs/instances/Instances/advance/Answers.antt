@@ -1,8 +1,8 @@
 use Rattle.std.proofs.Common.{List, sym, ap, subst, refl, ◌∙◌}
 use Rattle.std.specs.Prelude.{Option}
 use Rattle.address_map.specs.Memory.{regions}
-use Rattle.instances_plans.specs.declared.action.PlanAction.{PlanAction}
-use Rattle.instances_plans.specs.Plans.{Plan, first_action}
+use Rattle.instances_table.specs.declared.plans.action.PlanAction.{PlanAction}
+use Rattle.instances_table.specs.plans.Plans.{Plan, first_action}
 use Rattle.instances_table.specs.Modules.{AreModules, Module}
 use Rattle.instances.specs.world.Records.{MayTurnRecords}
 use Rattle.instances.specs.world.World.{world_of}

@@ -1,7 +1,7 @@
 use Rattle.std.proofs.Common.{List, None, Some, refl, subst, ◌∙◌}
 use Rattle.address_map.specs.Memory.{regions}
-use Rattle.instances_plans.specs.declared.action.PlanAction.{PlanAction}
-use Rattle.instances_plans.specs.Plans.{plan_after_code}
+use Rattle.instances_table.specs.declared.plans.action.PlanAction.{PlanAction}
+use Rattle.instances_table.specs.plans.Plans.{plan_after_code}
 use Rattle.rma.proofs.FlexFrameLemmas.Keeping.{keeps_then}
 use Rattle.instances.specs.world.Records.{CarriesRecords}
 use Rattle.instances.specs.world.World.{world_of}

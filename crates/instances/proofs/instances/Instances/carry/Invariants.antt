@@ -3,8 +3,8 @@ use Rattle.address_map.specs.Memory.{mapping, regions}
 use Rattle.address_map.specs.declared.region.Region.{Region}
 use Rattle.dynamic_areas.specs.Store.{AreClasses, store_of}
 use Rattle.rma.specs.flex_frame.Keeping.{KeepsFlex}
-use Rattle.instances_plans.specs.Carrying.{carry_of_plan}
-use Rattle.instances_plans.specs.Plans.{plan_after_code}
+use Rattle.instances_table.specs.plans.Carrying.{carry_of_plan}
+use Rattle.instances_table.specs.plans.Plans.{plan_after_code}
 use Rattle.instances.specs.world.Records.{CarriesRecords}
 use Rattle.instances.specs.world.World.{world_of}
 use Rattle.instances.specs.Turns.{IsUnderWay, module_doing}

@@ -1,6 +1,6 @@
 use Rattle.std.proofs.Common.{sym, ap}
 use Rattle.profile.specs.declared.error.ErrorNumber.TheVariants.{ModuleNotFound}
-use Rattle.instances_plans.specs.declared.given.Given.{Given}
+use Rattle.instances_table.specs.declared.plans.given.Given.{Given}
 use Rattle.instances.proofs.ReadyLemmas.{instantiate_told}
 use Rattle.instances.proofs.instances.Instances.instantiate.Goals as goal
 

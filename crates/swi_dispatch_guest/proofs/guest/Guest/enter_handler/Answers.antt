@@ -1,5 +1,5 @@
 use Rattle.std.proofs.Common.{refl, ap, ◌∙◌}
-use Rattle.instances_plans.specs.Doable.{is_used}
+use Rattle.instances_table.specs.plans.Doable.{is_used}
 use Rattle.instances_table.specs.Modules.{slots_of}
 use Rattle.swi_dispatch_answers.specs.frames.Busy.{is_swi}
 use Rattle.swi_dispatch_answers.specs.declared.frames.frame.Frame.{Frame}

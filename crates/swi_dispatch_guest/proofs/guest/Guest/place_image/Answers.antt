@@ -1,6 +1,6 @@
 use Rattle.std.proofs.Common.{refl, subst, sym, ◌∙◌}
 use Rattle.instances.proofs.NamedByCalls.{loading_names, named_given}
-use Rattle.module_header.specs.Header.{header_of}
+use Rattle.image_loader.specs.module_header.Header.{header_of}
 use Rattle.swi_dispatch_plans.specs.Beginning.{IsFree, SparesTitle}
 use Rattle.swi_dispatch_guest.specs.MachineState.{MachineState, machine_world, setting_of}
 use Rattle.swi_dispatch_guest.specs.Parts.{Parts, state_of}

@@ -1,5 +1,5 @@
 use Rattle.std.proofs.Common.{subst}
-use Rattle.module_header.specs.Header.{header_of}
+use Rattle.image_loader.specs.module_header.Header.{header_of}
 use Rattle.swi_dispatch_plans.specs.Beginning.{IsFree, SparesTitle}
 use Rattle.swi_dispatch_plans.specs.Setting.{Setting}
 use Rattle.swi_dispatch_guest.proofs.guest.Guest.start_load.Goals as goal

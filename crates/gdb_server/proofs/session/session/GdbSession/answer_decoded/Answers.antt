@@ -2,7 +2,7 @@ use Rattle.std.proofs.Common.{◌≡◌, [], ap}
 use Rattle.std.specs.Prelude.{Some}
 use Rattle.command_shell_lines.specs.Blocks.{block_lines}
 use Rattle.debug_session.specs.Session.{debug_state}
-use Rattle.view_items.specs.TextSink.{sink_text_of}
+use Rattle.profile.specs.text_sink.TextSink.{sink_text_of}
 use Rattle.gdb_server.specs.session.Session.{gdb_state}
 use Rattle.gdb_server.proofs.SessionLemmas.RunLemmas.{line_answered}
 use Rattle.gdb_server.proofs.session.session.GdbSession.answer_decoded.Goals as goal

@@ -1,7 +1,7 @@
 use Rattle.std.proofs.Common.{◌≡◌, ap, ◌∙◌}
 use Rattle.std.specs.Str.Lines.{lines}
 use Rattle.debug_session.specs.Session.{debug_state}
-use Rattle.view_items.specs.TextSink.{sink_text_of}
+use Rattle.profile.specs.text_sink.TextSink.{sink_text_of}
 use Rattle.gdb_server.specs.session.Runs.{begin_told, without_quit}
 use Rattle.gdb_server.specs.session.Session.{gdb_state}
 use Rattle.gdb_server.proofs.SessionLemmas.RunLemmas.{begun_so, lines_answered}

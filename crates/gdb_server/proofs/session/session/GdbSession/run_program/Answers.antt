@@ -1,7 +1,7 @@
 use Rattle.std.proofs.Common.{ℕ, List, ap, subst, ◌∙◌}
 use Rattle.std.specs.Prelude.{IfOk}
 use Rattle.gdb_machine.specs.declared.stops.GdbStop.TheVariants as reason
-use Rattle.view_items.specs.TextSink.{sink_text_of}
+use Rattle.profile.specs.text_sink.TextSink.{sink_text_of}
 use Rattle.gdb_server.specs.session.Runs.{after_begin, begin_told, gdb_stop_told}
 use Rattle.gdb_server.specs.session.Session.{gdb_state, IsGdbAnswered}
 use Rattle.gdb_server.specs.session.State.{GdbState, GdbAnswered}

@@ -1,6 +1,6 @@
 use Rattle.std.proofs.Common.{◌≡◌, ℕ, ◌&&◌, false, true, List, ap, subst, sym, ◌∙◌}
 use Rattle.std.specs.Prelude.{nat_lt}
-use Rattle.view_items.specs.TextSink.{sink_text_of}
+use Rattle.profile.specs.text_sink.TextSink.{sink_text_of}
 use Rattle.gdb_server.specs.session.Runs.{slice_steps}
 use Rattle.gdb_server.specs.session.Session.{gdb_state, IsAfterSteps}
 use Rattle.gdb_server.specs.session.State.{GdbState}

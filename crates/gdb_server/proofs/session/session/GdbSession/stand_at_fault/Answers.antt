@@ -4,7 +4,7 @@ use Rattle.profile.specs.declared.stop.Stop.TheVariants as stop
 use Rattle.gdb_server.specs.session.Runs.{gdb_stop_told, halted_text, stop_told_with}
 use Rattle.gdb_server.specs.session.Session.{gdb_state}
 use Rattle.gdb_server.specs.session.State.{GdbState}
-use Rattle.view_items.specs.TextSink.{sink_text_of}
+use Rattle.profile.specs.text_sink.TextSink.{sink_text_of}
 use Rattle.gdb_server.proofs.SessionLemmas.RunLemmas.{answered_as, fault_ends, fault_stays}
 use Rattle.gdb_server.proofs.session.session.GdbSession.stand_at_fault.Goals as goal
 

@@ -1,6 +1,6 @@
 use Rattle.std.proofs.Common.{ℕ, List, subst}
 use Rattle.gdb_server.specs.declared.session.session.Going.TheVariants as going
-use Rattle.view_items.specs.TextSink.{sink_text_of}
+use Rattle.profile.specs.text_sink.TextSink.{sink_text_of}
 use Rattle.gdb_server.specs.session.Session.{gdb_state, IsAfterSteps}
 use Rattle.gdb_server.specs.session.State.{GdbState}
 use Rattle.gdb_server.specs.session.Steps.{gdb_steps}

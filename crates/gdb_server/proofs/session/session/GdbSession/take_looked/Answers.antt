@@ -4,7 +4,7 @@ use Rattle.command_shell.proofs.GateLemmas.{none_else}
 use Rattle.command_shell.specs.Parts.{state_of}
 use Rattle.command_shell.specs.Value.{MachineValue}
 use Rattle.gdb_machine.specs.declared.stops.GdbStop.TheVariants as reason
-use Rattle.view_items.specs.TextSink.{sink_text_of}
+use Rattle.profile.specs.text_sink.TextSink.{sink_text_of}
 use Rattle.gdb_server.specs.session.Session.{gdb_state}
 use Rattle.gdb_server.specs.session.State.{GdbState}
 use Rattle.gdb_server.specs.session.Steps.{StepLooks, end_of_step, looks_at, may_change_list}

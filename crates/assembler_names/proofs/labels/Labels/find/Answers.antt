@@ -1,9 +1,0 @@
--- By the lemmas of `Entries`.
-use Rattle.std.proofs.Common.{arith}
-use Rattle.assembler_names.proofs.Entries.{label_steps}
-use Rattle.assembler_names.specs.Labels.{address_of}
-use Rattle.assembler_names.proofs.labels.Labels.find.Goals as goal
-
-pub returns : goal.returns
-unfolding address_of
-returns c = grind (arith, label_steps)

@@ -1,8 +1,0 @@
--- As the definition says.
-use Rattle.std.proofs.Common.{rules}
-use Rattle.assembler_names.specs.Mnemonics.{mnemonic_named}
-use Rattle.assembler_names.proofs.mnemonics.mnemonic_named.Goals as goal
-
-pub returns : goal.returns
-unfolding mnemonic_named
-returns c = search rules

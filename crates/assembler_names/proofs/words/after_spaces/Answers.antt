@@ -1,9 +1,0 @@
--- As the definition says.
-use Rattle.std.proofs.lemmas.Grind.{common_steps}
-use Rattle.std.proofs.Common.{arith}
-use Rattle.assembler_names.specs.Words.{after_spaces}
-use Rattle.assembler_names.proofs.words.after_spaces.Goals as goal
-
-pub returns : goal.returns
-unfolding after_spaces
-returns c = grind (arith, common_steps)

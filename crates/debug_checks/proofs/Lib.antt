@@ -1,3 +1,0 @@
-pub mod EndingLemmas
-pub mod LineLemmas
-pub mod ReportsLemmas

@@ -1,8 +1,0 @@
--- What a line EXPECT is answered. Begin with Checks.
-pub use Rattle.debugger.specs.Flex
-pub use Rattle.debugger.specs.Heap
-pub use Rattle.debugger.specs.views
-pub mod Checks
-pub mod Endings
-pub mod Reasons
-pub mod reports

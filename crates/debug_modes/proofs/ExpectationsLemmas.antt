@@ -1,0 +1,4 @@
+pub mod DumpLemmas
+pub mod EndingLemmas
+pub mod LineLemmas
+pub mod ReportsLemmas

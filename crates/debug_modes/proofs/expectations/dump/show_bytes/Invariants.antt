@@ -1,0 +1,15 @@
+use Rattle.std.proofs.Common.{◌≡◌}
+use Rattle.profile.specs.Output.{AddsAllBut}
+use Rattle.address_map.specs.Memory.{bytes_of}
+use Rattle.debugger.specs.Memory.{bytes_text}
+use Rattle.debug_modes.proofs.expectations.dump.show_bytes.Given as goal
+
+abbrev pub invariant-loop-left : goal.invariant-loop-left
+invariant-loop-left g l = record {
+  text : AddsAllBut (g.W.Sink.contents l.fn.sink) (g.W.Sink.contents l.sink) (bytes_text (bytes_of l.map) l.at l.left)
+      (bytes_text (bytes_of l.map) l.address l.count);
+  same_flag : g.W.Sink.has_failed l.sink ≡ g.W.Sink.has_failed l.fn.sink;
+}
+
+abbrev pub decreases-loop-left : goal.decreases-loop-left
+decreases-loop-left g l = l.left

@@ -1,0 +1,28 @@
+-- What is written is the reason, and what is kept is a script's answer.
+use Rattle.std.proofs.Common.{◌≡◌, ℕ, List, ap, refl, subst, ◌∙◌}
+use Rattle.std.specs.Io.KnownBytes.{Appends}
+use Rattle.debug_tables.specs.run_meter.Answers.{unknown_text}
+use Rattle.debug_modes.specs.declared.expectations.reports.reports.CheckTally.{CheckTally}
+use Rattle.debug_modes.specs.expectations.reports.Reports.{report_of_refusal, with_refusal}
+use Rattle.debug_session.specs.DebugState.{DebugState}
+use Rattle.debug_session.specs.Refusals.{reasoned_text}
+use Rattle.debug_session.specs.Session.{debug_state}
+use Rattle.debug_session.proofs.session.DebugSession.refuse.Goals as goal
+
+refused_state : (d : DebugState) (answer text : List ℕ) (tally counted : CheckTally) → answer ≡ text → tally ≡ counted
+    → record d { answer = answer; tally = tally } ≡ record d { answer = text; tally = counted }
+refused_state d answer text tally counted same count = rw (same, count) refl
+
+pub returns-clause-told : goal.returns-clause-told
+returns-clause-told g c images =
+    let d = debug_state c.args.self.now images in
+    let form = c.args.self.now.setting.form in
+    let number = c.args.number in record {
+      text = subst (λ (xs : List ℕ). Appends (g.W.Sink.contents c.args.sink.now) (g.W.Sink.contents c.push_refusal.new.sink)
+          (report_of_refusal form c.args.self.now.tally number xs))
+          (c.as_slice-2.ensures.value ∙ c.in_ok-told.ensures
+          ∙ ap (reasoned_text number) (c.as_slice.ensures.value ∙ c.in_ok-reason.ensures images))
+          c.in_ok-push_refusal.ensures.text;
+      state = refused_state d c.in_ok-answer.answer.items (unknown_text number) c.with_refusal-self.result
+          (with_refusal c.args.self.now.tally) c.in_ok-answer.ensures c.with_refusal-self.ensures;
+    }

@@ -1,0 +1,85 @@
+//! Lines that are none of the language: what a script answers, and why.
+
+ghost use Rattle.std.specs.Prelude.{◌≡◌, List, IfErr, IfOk, OnOk};
+ghost use Rattle.debug_tables.specs.run_meter.Error.{IsLineError};
+ghost use Rattle.debug_tables.specs.run_meter.Answers.{unknown_text};
+ghost use Rattle.debug_session.specs.Refusals.{reasoned_text};
+
+use crate::session::DebugSession;
+use debug_labels::place_views::names_on;
+use debug_modes::expectations::reports::push_refusal;
+use debug_tables::run_meter::{RunError, tell_unknown};
+use itoa::Buffer;
+use profile::Sink;
+use profile::text_sink::TextSink;
+use std::alloc::{AllocError, Global};
+
+impl DebugSession {
+    ghost use Rattle.image_loader.specs.Entries.{Entry};
+    ghost use Rattle.debug_session.specs.DebugScript.{unknown_told};
+    ghost use Rattle.debug_session.specs.DebugState.{IsDebugged};
+    ghost use Rattle.debug_session.specs.Naming.{naming_of};
+    ghost use Rattle.debug_labels.specs.Reasons.{refusal_reason};
+    ghost use Rattle.debug_session.specs.Session.{debug_state};
+
+    /// Tells that a tidy line is none of the language, and why. Lines EXPECT find a script's answer.
+    pub(crate) fn refuse<W: Sink>(
+        &mut self,
+        sink: &mut W,
+        words: &[u8],
+        number: usize,
+    ) -> Result<(), RunError>
+        ensures told { (images : List Entry) → OnOk result
+            (IsDebugged (W.contents sink.old) (W.contents sink.new) (debug_state self.new images)
+            (unknown_told self.old.setting (debug_state self.old images) number words.now)) }
+        ensures setting { self.new.setting ≡ self.old.setting }
+        ensures errors { IfErr result IsLineError }
+        ensures same_flag { OnOk result (W.has_failed sink.new ≡ W.has_failed sink.old) }
+    {
+        let reason = self.refusal_reason(words)?;
+        let told = refusal_line(self.alloc, number, reason.as_slice())?;
+        let answer = unknown_line(self.alloc, number)?;
+        push_refusal(sink, self.setting.form, self.tally, number, told.as_slice())?;
+        self.answer = answer;
+        self.tally = self.tally.with_refusal();
+        Ok(())
+    }
+
+    // Why a tidy line is none of the language.
+    fn refusal_reason(&self, words: &[u8]) -> Result<Vec<u8>, AllocError>
+        ensures { (images : List Entry) → IfOk result (λ text. text.items
+            ≡ refusal_reason (naming_of (debug_state self.now images)) words.now) }
+    {
+        let numbered = self.with_numbers(words)?;
+        let mut text = TextSink::new(self.alloc);
+        let names = names_on(&self.labels, self.session.machine());
+        match names.push_reason(words, numbered.as_slice(), &mut text) {
+            Ok(()) => Ok(text.into_bytes()),
+            Err(_) => Err(AllocError),
+        }
+    }
+}
+
+// What a script answers.
+fn unknown_line(alloc: Global, number: usize) -> Result<Vec<u8>, AllocError>
+    ensures { IfOk result (λ text. text.items ≡ unknown_text number) }
+{
+    let mut text = TextSink::new(alloc);
+    match tell_unknown(&mut text, number) {
+        Ok(()) => Ok(text.into_bytes()),
+        Err(_) => Err(AllocError),
+    }
+}
+
+// The same, and why.
+fn refusal_line(alloc: Global, number: usize, reason: &[u8]) -> Result<Vec<u8>, AllocError>
+    ensures { IfOk result (λ text. text.items ≡ reasoned_text number reason.now) }
+{
+    let mut digits = Buffer::new();
+    let mut text = Vec::from_slice(alloc, b"? line ")?;
+    text.extend_from_slice(digits.format(number).as_bytes())?;
+    text.extend_from_slice(b": ")?;
+    text.extend_from_slice(reason)?;
+    text.push(b'\n')?;
+    Ok(text)
+}

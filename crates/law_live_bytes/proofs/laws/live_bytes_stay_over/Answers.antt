@@ -1,5 +1,0 @@
-use Rattle.law_live_bytes.proofs.Runs.{runs_are_steps, stay_over}
-use Rattle.law_live_bytes.proofs.laws.live_bytes_stay_over.Goals as goal
-
-pub returns : goal.returns
-returns c = record { moves = stay_over; runs = runs_are_steps }

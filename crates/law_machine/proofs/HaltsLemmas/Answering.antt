@@ -1,0 +1,63 @@
+-- Calls that run no module code never halt the machine.
+use Rattle.std.proofs.Common.{ℕ, ◌≡◌, List, Option, Some, None, Result, Ok, Err, refl}
+use Rattle.profile.specs.declared.swi.SwiName.{SwiName}
+use Rattle.profile.specs.declared.swi.SwiName.TheVariants as swi
+use Rattle.arm_core.specs.State.{State, register_of}
+use Rattle.os_heap.specs.Store.{Store}
+use Rattle.dynamic_areas.specs.Ground.{Estate}
+use Rattle.instances.specs.world.World.{World}
+use Rattle.swi_dispatch_answers.specs.declared.refusal.Refusal.{Refusal}
+use Rattle.swi_dispatch_answers.specs.flex.Calls.{FlexMemory}
+use Rattle.swi_dispatch_guest.specs.Answers.{went_on}
+use Rattle.swi_dispatch_guest.specs.Calls.{call_answer, on_estate, on_flex, on_store, on_world, wrote_text_after, wrote_text_at}
+use Rattle.swi_dispatch_guest.specs.MachineState.{MachineState, StepOutcome}
+
+abbrev pub IsLeft : MachineState → StepOutcome → Type 0
+IsLeft s o = o.now.halt ≡ s.halt
+
+store_left : (s : MachineState) (next : ℕ) (r : Result (State × Store) Refusal) → IsLeft s (went_on s next (on_store s r)).left
+store_left s next (Ok q) = refl
+store_left s next (Err e) = refl
+
+estate_left : (s : MachineState) (next : ℕ) (r : Result (State × Estate) Refusal) → IsLeft s (went_on s next (on_estate s r)).left
+estate_left s next (Ok q) = refl
+estate_left s next (Err e) = refl
+
+world_left : (s : MachineState) (next : ℕ) (r : Result (State × World) Refusal) → IsLeft s (went_on s next (on_world s r)).left
+world_left s next (Ok q) = refl
+world_left s next (Err e) = refl
+
+flex_left : (s : MachineState) (next : ℕ) (r : Result (State × FlexMemory) Refusal) → IsLeft s (went_on s next (on_flex s r)).left
+flex_left s next (Ok q) = refl
+flex_left s next (Err e) = refl
+
+after_left : (s : MachineState) (next : ℕ) (o : Option (List ℕ)) → IsLeft s (wrote_text_after s next o).left
+after_left s next None = refl
+after_left s next (Some text) = refl
+
+at_left : (s : MachineState) (next at : ℕ) (o : Option (List ℕ)) → IsLeft s (wrote_text_at s next at o).left
+at_left s next at None = refl
+at_left s next at (Some text) = refl
+
+pub answer_left : (s : MachineState) (next number : ℕ) (name : Option SwiName) → IsLeft s (call_answer s next number name).left
+unfolding call_answer
+answer_left s next number None = flex_left s next _
+answer_left s next number (Some swi.WriteC) = refl
+answer_left s next number (Some swi.WriteS) = after_left s next _
+answer_left s next number (Some swi.Write0) = at_left s next (register_of s.cpu 0) _
+answer_left s next number (Some swi.NewLine) = refl
+answer_left s next number (Some swi.Exit) = flex_left s next _
+answer_left s next number (Some swi.EnterOs) = refl
+answer_left s next number (Some swi.Heap) = store_left s next _
+answer_left s next number (Some swi.Module) = world_left s next _
+answer_left s next number (Some swi.ChangeDynamicArea) = refl
+answer_left s next number (Some swi.GenerateError) = refl
+answer_left s next number (Some swi.ReadDynamicArea) = estate_left s next _
+answer_left s next number (Some swi.DynamicArea) = estate_left s next _
+answer_left s next number (Some swi.WriteI) = refl
+answer_left s next number (Some swi.FlexInit) = flex_left s next _
+answer_left s next number (Some swi.FlexAlloc) = flex_left s next _
+answer_left s next number (Some swi.FlexFree) = flex_left s next _
+answer_left s next number (Some swi.FlexSize) = flex_left s next _
+answer_left s next number (Some swi.FlexExtend) = flex_left s next _
+answer_left s next number (Some swi.FlexMidExtend) = flex_left s next _

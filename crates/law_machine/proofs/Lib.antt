@@ -1,0 +1,14 @@
+-- Proofs of the laws of the whole machine.
+pub mod ModulesLemmas
+pub mod HeapAloneLemmas
+pub mod LiveBytesLemmas
+pub mod OtherBytesLemmas
+pub mod ModuleHeapsLemmas
+pub mod HeapRunsLemmas
+pub mod ModuleSwisLemmas
+pub mod HaltsLemmas
+pub mod SlidingLemmas
+pub mod MovesLemmas
+pub mod FlagsLemmas
+pub mod DecodedLemmas
+pub mod AssembledLemmas

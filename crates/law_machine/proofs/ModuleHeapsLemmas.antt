@@ -1,0 +1,7 @@
+pub mod Asking
+pub mod Calls
+pub mod Carrying
+pub mod Giving
+pub mod Near
+pub mod Quiet
+pub mod Planning

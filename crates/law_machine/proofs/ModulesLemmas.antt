@@ -1,0 +1,4 @@
+pub mod Naming
+pub mod Packed
+pub mod Removals
+pub mod Tidied

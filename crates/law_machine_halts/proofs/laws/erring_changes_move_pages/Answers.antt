@@ -1,5 +1,0 @@
-use Rattle.law_machine_halts.proofs.LateErrors.{erring_changes_move_pages}
-use Rattle.law_machine_halts.proofs.laws.erring_changes_move_pages.Goals as goal
-
-pub returns : goal.returns
-returns c = erring_changes_move_pages

@@ -1,8 +1,0 @@
-use Rattle.law_machine_halts.proofs.LateErrors.{refused_loads_change_nothing, refused_plans_change_nothing}
-use Rattle.law_machine_halts.proofs.laws.refused_plans_change_nothing.Goals as goal
-
-pub returns-clause-calls : goal.returns-clause-calls
-returns-clause-calls c = refused_plans_change_nothing
-
-pub returns-clause-loads : goal.returns-clause-loads
-returns-clause-loads c = refused_loads_change_nothing

@@ -1,8 +1,0 @@
-use Rattle.law_module_swis.proofs.Entering.{swi_steps_enter, swis_enter}
-use Rattle.law_module_swis.proofs.laws.frames_name_the_preferred.Goals as goal
-
-pub returns-clause-calls : goal.returns-clause-calls
-returns-clause-calls c = swis_enter
-
-pub returns-clause-steps : goal.returns-clause-steps
-returns-clause-steps c = swi_steps_enter

@@ -1,4 +1,0 @@
-mod Naming
-mod Packed
-pub mod Removals
-pub mod Tidied

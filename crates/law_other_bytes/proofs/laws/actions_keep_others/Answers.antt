@@ -1,6 +1,0 @@
-use Rattle.law_other_bytes.proofs.Actions.{actions_keep_others, plans_keep_others}
-use Rattle.law_other_bytes.proofs.Names.{tidies_keep_words}
-use Rattle.law_other_bytes.proofs.laws.actions_keep_others.Goals as goal
-
-pub returns : goal.returns
-returns c = record { actions = actions_keep_others; plans = plans_keep_others; words = tidies_keep_words }

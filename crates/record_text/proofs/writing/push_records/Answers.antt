@@ -1,8 +1,0 @@
-use Rattle.record_text.proofs.writing.push_records.Goals as goal
-
-pub returns : goal.returns
-returns g c = record {
-  text = c.bytes.result.now;
-  adds = c.in_ok-push_all.ensures.text;
-  safe = c.bytes.ensures;
-}

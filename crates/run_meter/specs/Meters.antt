@@ -1,7 +1,0 @@
--- What is told of a run that goes on.
-use Rattle.std.specs.Prelude.{None}
-use Rattle.run_meter.specs.declared.meter.RunMeter.{RunMeter}
-
--- a meter that tells nothing
-abbrev pub silent_meter : RunMeter
-silent_meter = record { errors = None }

@@ -1,5 +1,0 @@
-use Rattle.swi_dispatch_breaks.proofs.Marks.{still_marked}
-use Rattle.swi_dispatch_breaks.proofs.breaks.Breaks.remove.Goals as goal
-
-pub invariant_of-self : goal.invariant_of-self
-invariant_of-self c = still_marked c.self.inside.marks c.self.inside.addresses.items _ c.in_ok-place.place c.self.invariant c.remove.ensures.items

@@ -1,3 +1,0 @@
-pub use Rattle.flex_machine.proofs.Kept
-mod Called
-mod Made

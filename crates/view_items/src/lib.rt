@@ -1,6 +1,0 @@
-//! A sink over a `Vec`, which keeps the text that is written to it.
-#![tactic(auto)]
-
-mod text_sink;
-
-pub use text_sink::TextSink;
