@@ -6,19 +6,17 @@ use Rattle.std.specs.Option.{option_or}
 use Rattle.std.proofs.lemmas.List.{drop_more, drop_all, map-append, take_more}
 use Rattle.std.proofs.lemmas.Option.{get_or_from_slice_get, slice_get-get_or, slice_get_within}
 use Rattle.std.specs.Io.KnownBytes.{Appends}
+use Rattle.profile.specs.Firsts.{first_of}
 use Rattle.profile.specs.Output.{Writes}
+use Rattle.profile.proofs.FirstLemmas.{first_past}
 use Rattle.profile.proofs.OutputLemmas.{Appends-join}
 use Rattle.assembler_text.specs.naming.Labels.{Entries}
 use Rattle.debug_labels.specs.Labels.{labels_behind}
-use Rattle.debug_labels.specs.Standing.{first_of}
 
 pub first_next : {X Y : Type 0} (f : X → Option Y) (xs : List X) (n : ℕ) → n < length xs
     → first_of f (drop n xs) ≡ option_or (option_and_then f (slice_get xs n)) (first_of f (drop (n + 1) xs))
 first_next f [] n below = absurd (omega arith)
 first_next f (x ∷ rest) n below = rw (slice_get-get_or (x ∷ rest) n x below, drop_more (x ∷ rest) n x below) refl
-
-pub first_past : {X Y : Type 0} (f : X → Option Y) (xs : List X) (n : ℕ) → length xs ≤ n → first_of f (drop n xs) ≡ None
-first_past f xs n past = rw (drop_all n xs past) refl
 
 -- a text of each item, one after another
 pub next_shown : {X : Type 0} (text : X → List ℕ) (xs : List X) (n : ℕ) (x : X) → n < length xs → x ≡ get_or xs n x

@@ -3,7 +3,8 @@ use Rattle.std.specs.Prelude.{ℕ, List, Option, Some, None, if◌then◌else◌
 use Rattle.std.specs.Str.{bytes_eq}
 use Rattle.instances_table.specs.Modules.{Module}
 use Rattle.debug_labels.specs.Labels.{ImageLabels}
-use Rattle.debug_labels.specs.Standing.{first_of, start_now}
+use Rattle.debug_labels.specs.Standing.{start_now}
+use Rattle.profile.specs.Firsts.{first_of}
 use Rattle.debug_labels.specs.Words.{Naming}
 use Rattle.debug_labels.specs.declared.images.ImagePlace.{ImagePlace}
 

@@ -3,16 +3,12 @@
 use Rattle.std.specs.Prelude.{ℕ, Bool, false, ◌+◌, ◌%◌, ◌^◌, ◌==◌, ◌&&◌, List, [], ◌∷◌, Option, Some, None, unwrap_or, if◌then◌else◌}
 use Rattle.std.specs.Option.{option_or}
 use Rattle.std.specs.Str.{bytes_eq}
+use Rattle.profile.specs.Firsts.{first_of}
 use Rattle.image_loader.specs.declared.module_header.header.Header.{Header}
 use Rattle.instances_table.specs.Lookup.{told_of_module}
 use Rattle.instances_table.specs.Modules.{Module}
 use Rattle.instances_table.specs.declared.parts.ModuleInfo.{ModuleInfo}
 use Rattle.debug_labels.specs.Labels.{ImageLabels}
-
--- what the first has of which a function has something
-abbrev pub first_of : {X Y : Type 0} → (X → Option Y) → List X → Option Y
-first_of f [] = None
-first_of f (x ∷ xs) = option_or (f x) (first_of f xs)
 
 abbrev pub is_titled : Option Header → ModuleInfo → Bool
 is_titled None m = false

@@ -1,5 +1,7 @@
 //! The labels of assembled images, for debuggers: where each stands now, words that name places,
 //! lines with such words as lines with numbers, and places as text.
+//!
+//! Promise: a word that names a place means the address where its label stands now.
 #![tactic(auto)]
 
 mod images;

@@ -3,7 +3,8 @@ use Rattle.std.proofs.Common.{◌≡◌, ℕ, suc, ◌+◌, ◌-◌, ◌/◌, �
 use Rattle.std.specs.Prelude.{min}
 use Rattle.profile.proofs.OutputLemmas.{AddsAllBut-start, AddsAllBut-more, AddsAllBut-same, Appends-from_all_but}
 use Rattle.address_map.specs.Bytes.{Bytes}
-use Rattle.debugger.specs.Memory.{address_further, byte_text, bytes_text, line_text, lines_text, memory_text}
+use Rattle.debugger.specs.Memory.{byte_text, bytes_text, line_text, lines_text, memory_text}
+use Rattle.profile.specs.Sums.{address_further}
 
 pub no_bytes : (b : Bytes) (at left : ℕ) → left ≡ 0 → bytes_text b at left ≡ []
 unfolding bytes_text

@@ -1,6 +1,7 @@
 -- Memory as text: lines of 16 bytes, each line with the address of its first byte. A byte is two
 -- hexadecimal digits after a space, or `--` where no memory is mapped. Addresses count modulo 2^32.
 use Rattle.std.specs.Prelude.{ℕ, zero, suc, ◌+◌, ◌-◌, ◌/◌, ◌%◌, ◌^◌, ◌++◌, min, List, [], ◌∷◌, codes, Result, Ok, Err}
+use Rattle.profile.specs.Sums.{address_further}
 use Rattle.profile.specs.Digits.{hex_digit, hex_word}
 use Rattle.profile.specs.declared.fault.Fault.{Fault}
 use Rattle.address_map.specs.Bytes.{Bytes, byte_loaded}
@@ -14,9 +15,6 @@ loaded_text (Err fault) = codes "--"
 
 abbrev pub byte_text : Bytes → ℕ → List ℕ
 byte_text b address = codes " " ++ loaded_text (byte_loaded b address)
-
-abbrev pub address_further : ℕ → ℕ → ℕ
-address_further address count = (address + count) % 2 ^ 32
 
 -- so many bytes from an address on
 unfoldable pub bytes_text : Bytes → ℕ → ℕ → List ℕ

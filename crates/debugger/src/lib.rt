@@ -1,5 +1,7 @@
 //! Views of the machine, printed for scripts: registers, memory, heaps, areas, modules and flex
 //! blocks.
+//!
+//! Promise: each view writes a text that is a function of the written machine, and changes nothing.
 #![tactic(auto)]
 
 mod areas;

@@ -1,3 +1,4 @@
+pub mod FirstLemmas
 pub mod OutputLemmas
 pub mod KnownLemmas
 pub mod Shifting

@@ -4,6 +4,7 @@ pub mod Devices
 pub mod Digits
 pub mod ErrorNames
 pub mod FaultNames
+pub mod Firsts
 pub mod MemoryDevices
 pub mod MemoryMap
 pub mod Outcome
@@ -12,6 +13,7 @@ pub mod Pulls
 pub mod Reasons
 pub mod Shift
 pub mod Sizes
+pub mod Status
 pub mod Sums
 pub mod SwiNames
 pub mod Word

@@ -27,3 +27,7 @@ difference_of x y c = record {
   carry = nat_le (y + 1) (x + from_bool c);
   overflow = not (is_signed_word (signed_value_of x -ℤ signed_value_of y -ℤ pos 1 +ℤ pos (from_bool c)));
 }
+
+-- so many bytes further, modulo 2^32
+abbrev pub address_further : ℕ → ℕ → ℕ
+address_further address count = (address + count) % 2 ^ 32

@@ -1,2 +1,3 @@
 -- What a sink over memory keeps.
+pub mod Safe
 pub mod TextSink

@@ -1,5 +1,8 @@
 //! Names, numbers and limits of the machine, words and their sums, and devices, for all crates
 //! above. Devices are what scripts are read from and answers written to.
+//!
+//! Promise: every number and name is a table that definitions and code share, and what is pushed to
+//! a device is the bytes that it has taken.
 #![tactic(auto)]
 
 pub mod config;

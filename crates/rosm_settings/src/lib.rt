@@ -1,5 +1,8 @@
-//! What `rosm` does, for its `main` and the faces of `rosm_tools`: files as images, a script, its answers, an
-//! exit status.
+//! What `rosm` does, for its `main` and the faces of `rosm_tools`: files as images, a script, its
+//! answers, an exit status.
+//!
+//! Promise: the answers on the stream are those of the script, and each ending has its status and
+//! its line.
 #![tactic(auto)]
 
 pub mod answering;
@@ -9,7 +12,7 @@ pub mod process;
 pub mod refusal;
 pub mod watched;
 
-pub use crate::command_line::{Files, Settings, SettingsError, settings, stop_status};
+pub use crate::command_line::{Files, Settings, SettingsError, settings};
 pub use answering::{answer_script, run, run_to_stream};
 pub use command_shell::RunError;
 pub use process::{exit_code, read_settings, run_on_standard_streams};

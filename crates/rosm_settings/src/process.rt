@@ -9,11 +9,10 @@ ghost use Rattle.rosm_settings.specs.Endings.{IsSettingsRefusalOf, TellsEnding, 
 ghost use Rattle.rosm_settings.specs.Texts.{refusal_text};
 
 use crate::answering::run_to_stream;
-use crate::command_line::{
-    Settings, SettingsError, line_reason, settings, sizes_reason, stop_status,
-};
+use crate::command_line::{Settings, SettingsError, line_reason, settings, sizes_reason};
 use crate::refusal::SettingsRefusal;
 use crate::watched::Watched;
+use profile::stop::stop_status;
 use profile::{Device, Sink, Stop, WriteFault, push_parts};
 use std::alloc::{AllocError, Global};
 use std::env::Env;

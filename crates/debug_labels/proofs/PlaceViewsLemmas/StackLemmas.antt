@@ -7,7 +7,7 @@ use Rattle.profile.proofs.OutputLemmas.{AddsAllBut-start, AddsAllBut-more, AddsA
 use Rattle.profile.specs.declared.fault.Fault.{Fault}
 use Rattle.address_map.specs.Bytes.{Bytes, word_loaded}
 use Rattle.debug_labels.specs.Words.{Naming}
-use Rattle.debugger.specs.Memory.{address_further}
+use Rattle.profile.specs.Sums.{address_further}
 use Rattle.debug_labels.specs.place_views.Stack.{stack_end_text, stack_words_text_at, stacked_word_text, word_and_more}
 
 pub no_entries : (n : Naming) (b : Bytes) (at left : ℕ) → left ≡ 0 → stack_words_text_at n b at left ≡ []

@@ -10,7 +10,7 @@ use Rattle.profile.specs.declared.fault.Fault.{Fault}
 use Rattle.profile.specs.declared.swi.SwiName.{SwiName}
 use Rattle.profile.specs.declared.swi.SwiName.TheVariants as swi
 use Rattle.address_map.specs.Bytes.{Bytes, word_loaded}
-use Rattle.debugger.specs.Memory.{address_further}
+use Rattle.profile.specs.Sums.{address_further}
 use Rattle.debugger.specs.Modules.{one_text}
 use Rattle.debugger.specs.Registers.{mode_text}
 use Rattle.instances_table.specs.Modules.{Instance, Module}

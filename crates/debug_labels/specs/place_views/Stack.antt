@@ -11,7 +11,7 @@ use Rattle.arm_core.specs.State.{State, register_of}
 use Rattle.debug_labels.specs.Places.{place_of}
 use Rattle.debug_labels.specs.Views.{spaced_place_text}
 use Rattle.debug_labels.specs.Words.{Naming}
-use Rattle.debugger.specs.Memory.{address_further}
+use Rattle.profile.specs.Sums.{address_further}
 
 -- the address in a word's bits 25 to 2
 abbrev pub stacked_address : ℕ → ℕ

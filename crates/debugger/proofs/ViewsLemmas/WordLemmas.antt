@@ -3,7 +3,7 @@ use Rattle.std.proofs.Common.{◌≡◌, ℕ, suc, ◌+◌, ◌-◌, ◌/◌, �
 use Rattle.std.specs.Prelude.{min}
 use Rattle.profile.proofs.OutputLemmas.{AddsAllBut-start, AddsAllBut-more, AddsAllBut-same, Appends-from_all_but}
 use Rattle.address_map.specs.Bytes.{Bytes}
-use Rattle.debugger.specs.Memory.{address_further}
+use Rattle.profile.specs.Sums.{address_further}
 use Rattle.debugger.specs.views.Words.{spaced_word_text, spaced_words_text, words_line, words_lines, memory_words_text_at}
 
 pub no_words : (b : Bytes) (at left : ℕ) → left ≡ 0 → spaced_words_text b at left ≡ []

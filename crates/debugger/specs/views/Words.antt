@@ -5,7 +5,7 @@ use Rattle.std.specs.Prelude.{ℕ, zero, suc, ◌+◌, ◌-◌, ◌/◌, ◌++�
 use Rattle.profile.specs.Digits.{hex_word}
 use Rattle.profile.specs.declared.fault.Fault.{Fault}
 use Rattle.address_map.specs.Bytes.{Bytes, word_loaded, word_start}
-use Rattle.debugger.specs.Memory.{address_further}
+use Rattle.profile.specs.Sums.{address_further}
 
 abbrev pub word_or_dashes : Result ℕ Fault → List ℕ
 word_or_dashes (Ok word) = hex_word word

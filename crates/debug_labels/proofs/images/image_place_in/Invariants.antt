@@ -1,6 +1,6 @@
 use Rattle.std.proofs.Common.{◌≡◌, drop}
 use Rattle.debug_labels.specs.Images.{image_place_if_named, image_place_in}
-use Rattle.debug_labels.specs.Standing.{first_of}
+use Rattle.profile.specs.Firsts.{first_of}
 use Rattle.debug_labels.proofs.images.image_place_in.Given as goal
 
 -- the first image of that name is among those that are left

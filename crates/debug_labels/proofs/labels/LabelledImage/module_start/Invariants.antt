@@ -1,6 +1,7 @@
 use Rattle.std.proofs.Common.{◌≡◌, drop}
 use Rattle.instances_table.specs.Lookup.{told_of_module}
-use Rattle.debug_labels.specs.Standing.{first_of, module_start, start_as}
+use Rattle.debug_labels.specs.Standing.{module_start, start_as}
+use Rattle.profile.specs.Firsts.{first_of}
 use Rattle.debug_labels.proofs.labels.LabelledImage.module_start.Given as goal
 
 -- none of the modules that were passed is loaded from the image
