@@ -1,4 +1,3 @@
 pub use Rattle.os_heap.proofs.Found
 pub use Rattle.swi_dispatch_guest.proofs.RunLoop
 pub mod Starting
-pub mod LawFramesLemmas

@@ -17,4 +17,3 @@ pub use Rattle.swi_dispatch_guest.specs.declared.halt.Halt as SwiDispatchGuestHa
 pub mod Boot
 pub mod BootErrors
 pub mod Value
-pub mod law_frames

@@ -1,9 +1,11 @@
 //! The machine, for the debugger and the shell: a guest, and what its steps print, one step at a
 //! time or many.
+//!
+//! Promise: `step`, `run`, `boot` and calls from outside are those of the written machine, and so
+//! is what they print.
 #![tactic(auto)]
 
 pub mod boot_error;
-pub mod law_frames;
 pub mod lending;
 pub mod machine;
 pub mod outside;

@@ -2,7 +2,7 @@
 
 ghost use Rattle.std.specs.Prelude.{◌≡◌, ◌≤◌, ◌<◌, ◌%◌, ◌^◌, ◌&&◌, false, is_err};
 ghost use Rattle.profile.specs.Outcome.{Leaves};
-ghost use Rattle.swi_dispatch_guest.specs.Writes.{machine_after_poke, machine_at, machine_with_bank_register, machine_with_register, machine_with_status};
+ghost use Rattle.swi_dispatch_guest.specs.Writes.{machine_after_poke, machine_at, machine_awake, machine_with_bank_register, machine_with_register, machine_with_status};
 
 use crate::machine::Machine;
 use arm_core::{Mode, Psr};
@@ -47,6 +47,16 @@ impl Machine {
     {
         self.is_fresh = false;
         self.guest.set_pc(address);
+        self.known();
+    }
+
+    /// Lets the machine take steps again, whatever has halted it.
+    pub fn wake(&mut self)
+        ensures written { IsWritten self.old self.new (machine_awake (state_of self.old.guest)) }
+        ensures kept { IsMachine self.new }
+    {
+        self.is_fresh = false;
+        self.guest.wake();
         self.known();
     }
 

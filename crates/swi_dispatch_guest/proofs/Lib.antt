@@ -7,6 +7,7 @@ pub mod FlexCalls
 pub mod GateLemmas
 pub mod GateReturns
 pub mod Kept
+pub mod LawFramesLemmas
 pub mod NextEntry
 pub mod NextTurn
 pub mod OpenFrames

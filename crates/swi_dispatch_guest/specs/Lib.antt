@@ -21,3 +21,4 @@ pub mod Returns
 pub mod Run
 pub mod Step
 pub mod Writes
+pub mod law_frames

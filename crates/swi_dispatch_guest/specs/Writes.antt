@@ -1,6 +1,6 @@
 -- What a user writes to a machine from outside: a program, a register, the program counter or the
--- status, or one word as a guest's store instruction would (this project's own).
-use Rattle.std.specs.Prelude.{ℕ, Result, Ok, List}
+-- status, or one word as a guest's store instruction would; or that it wakes it (this project's own).
+use Rattle.std.specs.Prelude.{ℕ, None, Result, Ok, List}
 use Rattle.profile.specs.MemoryMap.{application_start}
 use Rattle.profile.specs.Outcome.{bind}
 use Rattle.profile.specs.declared.fault.Fault.{Fault}
@@ -27,6 +27,10 @@ machine_with_bank_register s mode n v = record s { cpu = with_register_in mode s
 
 abbrev pub machine_at : MachineState → ℕ → MachineState
 machine_at s address = record s { cpu = record s.cpu { pc = address } }
+
+-- whatever has halted it, it can take steps again
+abbrev pub machine_awake : MachineState → MachineState
+machine_awake s = record s { halt = None }
 
 -- the flags, the interrupt bits and the mode
 abbrev pub machine_with_status : MachineState → Psr → MachineState

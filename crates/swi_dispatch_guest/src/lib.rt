@@ -1,5 +1,8 @@
 //! The guest, with all that its instructions and store calls act on: its value is the written
 //! machine.
+//!
+//! Promise: each step and each call from outside leaves the written machine's state after it, and
+//! what holds of every machine stays.
 #![tactic(auto)]
 
 pub mod additions;
@@ -9,6 +12,7 @@ pub mod errors;
 pub mod gate;
 pub mod guest;
 pub mod halt;
+pub mod law_frames;
 pub mod laws;
 pub mod lending;
 pub mod module_start;

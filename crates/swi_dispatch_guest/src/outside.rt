@@ -18,7 +18,7 @@ impl Guest {
     ghost use Rattle.swi_dispatch_guest.specs.Additions.{load_planned};
     ghost use Rattle.swi_dispatch_guest.specs.MachineState.{outcome_with, quiet};
     ghost use Rattle.swi_dispatch_guest.specs.Step.{outcome_of_call, outcome_of_planned, without_x};
-    ghost use Rattle.swi_dispatch_guest.specs.Writes.{machine_after_poke, machine_at, machine_with_bank_register};
+    ghost use Rattle.swi_dispatch_guest.specs.Writes.{machine_after_poke, machine_at, machine_awake, machine_with_bank_register};
     ghost use Rattle.swi_dispatch_guest.specs.Writes.{machine_with_register, machine_with_status};
 
     /// Makes a store call with the X bit, of which bits 31 to 24 of the number and its X bit are
@@ -72,6 +72,13 @@ impl Guest {
         ensures { state_of self.new ≡ machine_at (state_of self.old) address }
     {
         self.cpu.set_pc(address);
+    }
+
+    /// Lets the guest take steps again, whatever has halted it.
+    pub fn wake(&mut self)
+        ensures { state_of self.new ≡ machine_awake (state_of self.old) }
+    {
+        self.halt = None;
     }
 
     /// Sets the flags, the interrupt bits and the mode.

@@ -62,8 +62,8 @@ use Rattle.swi_dispatch_guest.specs.MachineState.{MachineState, StepOutcome, mac
 use Rattle.swi_dispatch_guest.specs.ModuleStart.{opened_at}
 use Rattle.swi_dispatch_guest.specs.Returns.{error_answered, gone_back, outcome_of_error, outcome_of_halt}
 use Rattle.swi_dispatch_guest.specs.Step.{begun_alone, call_of, call_refused, called_by, is_exit, machine_step, module_entered, os_module_called, os_module_called_for, outcome_of_answer, outcome_of_call, outcome_of_end, outcome_of_module_swi, outcome_of_planned, outcome_of_turn, result_of_instruction, unless_halted, without_x}
-use Rattle.swi_dispatch.proofs.LawFramesLemmas.Answering.{IsLeft, answer_left}
-use Rattle.swi_dispatch.specs.law_frames.Frames.{KeepsFrames, OnlyTheGateCloses}
+use Rattle.swi_dispatch_guest.proofs.LawFramesLemmas.Answering.{IsLeft, answer_left}
+use Rattle.swi_dispatch_guest.specs.law_frames.Frames.{KeepsFrames, OnlyTheGateCloses}
 
 -- none is opened
 none_opened : (s : MachineState) (o : StepOutcome) → IsLeft s o → KeepsFrames s o

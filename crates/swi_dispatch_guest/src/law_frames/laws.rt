@@ -1,6 +1,6 @@
 //! The law of open frames. It is the contract of a function that does nothing.
 
-ghost use Rattle.swi_dispatch.specs.law_frames.Frames.{OnlyTheGateCloses};
+ghost use Rattle.swi_dispatch_guest.specs.law_frames.Frames.{OnlyTheGateCloses};
 
 /// A step that doesn't begin at the address that module code returns to leaves all frames of module
 /// code open that were open before it; where it opens one, that is the innermost.
