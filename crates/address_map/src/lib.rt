@@ -1,5 +1,8 @@
 //! The 26-bit address space, for the core and the store calls: mapped pages, bytes, records and
 //! faults.
+//!
+//! Promise: bytes, classes of words and records are functions of an address, a store changes one of
+//! them, and each refused access has its fault.
 #![tactic(auto)]
 
 pub mod class;

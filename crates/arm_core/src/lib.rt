@@ -1,5 +1,8 @@
 //! The core of the ARM2: its registers and status, and what an instruction that needs no memory
 //! leaves of them.
+//!
+//! Promise: registers are those of the mode, and each operation leaves the result and the flags of
+//! its definition.
 #![tactic(auto)]
 
 pub mod breaks;

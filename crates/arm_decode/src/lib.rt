@@ -1,5 +1,8 @@
 //! The ARM2's instructions, from words to values and back, for the core and the assembler.
 //!
+//! Promise: a word and its instruction go both ways, and just the words of the data sheet that it
+//! forbids or leaves open are refused.
+//!
 //! The table is that of the ARM2 data sheet; what the data sheet leaves undefined or forbids is
 //! refused by name. `docs/INSTRUCTIONS.md` has it in words.
 #![tactic(auto)]

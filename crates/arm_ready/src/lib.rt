@@ -1,4 +1,6 @@
 //! Words made ready: what carrying a word out needs of it, taken out of it once and kept beside it.
+//!
+//! Promise: what is kept of a word is what that word decodes to, or nothing.
 #![tactic(auto)]
 
 mod blocks;

@@ -1,4 +1,7 @@
 //! Steps of the core one after another, by words made ready.
+//!
+//! Promise: a run is so many steps of `arm_step`, none of the positions between them a break, and
+//! what comes next.
 #![tactic(auto)]
 
 mod act;

@@ -1,5 +1,8 @@
 //! The ARM2 core, for the machine: registers, status, and one instruction at a time over the memory
 //! map.
+//!
+//! Promise: one step leaves the core and memory of the data sheet's table, or its fault, and no
+//! owned byte is changed.
 #![tactic(auto)]
 
 pub mod block;

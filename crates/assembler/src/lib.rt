@@ -1,5 +1,8 @@
 //! The assembler, for scripts: the text of a program to its bytes at an address.
 //!
+//! Promise: a program is the pieces of its lines under its labels, or the first line that is
+//! refused has its reason.
+//!
 //! `docs/ASSEMBLER.md` has the grammar by example.
 #![tactic(auto)]
 

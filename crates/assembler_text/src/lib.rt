@@ -1,4 +1,6 @@
 //! The text of instructions, for views and the assembler: each word has one at its address.
+//!
+//! Promise: a word's text is a function of the word and its address.
 #![tactic(auto)]
 
 pub mod names;

@@ -1,5 +1,8 @@
 //! Dynamic areas, for the store calls and the module area: ranges that grow by pages out of one
 //! pool.
+//!
+//! Promise: pages go between an area and the pool as the definition says, none with an anchor or a
+//! record, and no heap changes.
 #![tactic(auto)]
 
 pub mod area;

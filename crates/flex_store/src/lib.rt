@@ -1,5 +1,8 @@
 //! The flex store, for the flex calls: blocks that slide to fill its gaps, each with an anchor that
 //! follows.
+//!
+//! Promise: blocks lie without gaps, each anchor has the address of its block, and all that others
+//! hold stays.
 #![tactic(auto)]
 
 mod block;

@@ -1,5 +1,8 @@
 //! Program images by name, for scripts and module calls: bytes that are booted or loaded as
 //! modules.
+//!
+//! Promise: a name has one image, which stays byte for byte, and each refusal leaves the table as
+//! it was.
 #![tactic(auto)]
 
 pub mod error;

@@ -1,5 +1,8 @@
 //! Modules and their instances, together with the memory that they stand in, for the calls of
 //! OS_Module.
+//!
+//! Promise: each action of a plan leaves the modules and the memory that its definition says, and a
+//! plan finds all that it asks for.
 #![tactic(auto)]
 
 pub mod actions;

@@ -1,5 +1,8 @@
 //! The table of loaded modules, for module calls: each with its header, its image, and its
 //! instances. No memory is touched here.
+//!
+//! Promise: modules and instances are a list, and each call answers and changes it as its
+//! definition says.
 #![tactic(auto)]
 
 pub mod additions;

@@ -1,4 +1,5 @@
-//! Laws of the whole machine: what instructions mean, that heaps answer alone, that live bytes and all others stay, of modules, frames and halts.
+//! Laws of the whole machine: what instructions mean, that heaps answer alone, that live bytes and
+//! all others stay, of modules, frames and halts.
 #![tactic(auto)]
 
 pub mod assembled;

@@ -1,5 +1,8 @@
 //! The heaps of OS_Heap, for the store calls and the module area: their only record is guest
 //! memory. Blocks are found by the words before them, free room by links kept in it.
+//!
+//! Promise: each call answers and leaves what its definition says, its errors come in their order,
+//! and all heaps stay sound.
 #![tactic(auto)]
 
 pub mod blocks;

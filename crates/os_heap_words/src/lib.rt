@@ -1,5 +1,8 @@
 //! One heap as the words of memory that spell it: its items, found by the words before them, and
 //! its free room, linked by words kept in it. Nothing is said here of other heaps.
+//!
+//! Promise: memory spells the list of blocks that a claim, a free or a new size has by the
+//! definitions on lists.
 #![tactic(auto)]
 
 pub mod blocks;

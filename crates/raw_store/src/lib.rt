@@ -1,5 +1,8 @@
 //! One region of raw bytes, all of a machine's memory, with its reads and writes, for
 //! `address_map`.
+//!
+//! Promise: a read gives the byte that was written last, zero before that, and no byte outside the
+//! region is touched.
 #![tactic(auto)]
 
 pub mod block;

@@ -1,4 +1,7 @@
 //! The relocatable module area, for module calls: a heap that grows as blocks are claimed.
+//!
+//! Promise: the module area is a heap whose calls are those of a heap, growing where pages are
+//! left, and a slide keeps each block's bytes.
 #![tactic(auto)]
 
 pub mod area;

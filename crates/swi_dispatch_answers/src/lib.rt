@@ -1,5 +1,8 @@
 //! What all store calls share: guests' strings, how a call is refused, and the block of an error.
 //!
+//! Promise: strings and errors are read and written as the definitions say, and a caller goes on
+//! where it called.
+//!
 //! Its calls read strings (`text_at`, `string_in`) and the words in them (`name_part`,
 //! `text_part`), read and write error blocks (`error_at`, `write_error`), and bring a guest back
 //! from a call (`return_to`). None keeps anything between calls.

@@ -1,6 +1,9 @@
 //! Module calls that may run module code, before they begin: what each refuses, and the plan that
 //! it makes.
 //!
+//! Promise: a call is refused for the first reason that holds, and then nothing changes; else its
+//! plan may begin.
+//!
 //! A `Planner` is made from the parts of a machine that these calls read; it changes none of them.
 //! What holds between calls is its invariant (`IsSetting`), so that a plan of its may begin
 //! (`CanBegin`) on what it was made from. A `Spare` tries a call that is under way on a copy, to
