@@ -7,7 +7,7 @@ use Rattle.profile.specs.Sizes.{Sizes}
 use Rattle.profile.specs.declared.fault.Fault.{Fault}
 use Rattle.profile.specs.declared.stop.Stop.{Stop}
 use Rattle.swi_dispatch_guest.specs.MachineState.{MachineState}
-use Rattle.swi_dispatch_guest.specs.Writes.{machine_after_poke, machine_at, machine_with_bank_register, machine_with_register, machine_with_status}
+use Rattle.swi_dispatch_guest.specs.Writes.{machine_after_poke, machine_at, machine_awake, machine_with_bank_register, machine_with_register, machine_with_status}
 use Rattle.swi_dispatch_guest.specs.ArmCoreMode.{Mode}
 use Rattle.swi_dispatch_guest.specs.ArmCorePsr.{Psr}
 use Rattle.command_shell.specs.Answers.{refused_text}
@@ -46,6 +46,10 @@ poke_told s address value = poke_done s (machine_after_poke s.machine address va
 -- another program counter
 abbrev pub script_at : ScriptState → ℕ → ScriptState
 script_at s address = script_with_machine s (machine_at s.machine address)
+
+-- a machine that can take steps again, whatever has halted it
+abbrev pub script_awake : ScriptState → ScriptState
+script_awake s = script_with_machine s (machine_awake s.machine)
 
 -- another status
 abbrev pub script_with_status : ScriptState → Psr → ScriptState

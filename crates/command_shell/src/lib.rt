@@ -1,5 +1,8 @@
 //! Scripts, for the programs: lines that build images, run a machine and look at it, and their
 //! answers.
+//!
+//! Promise: the answers of a script are those of the definition, for every script, start and
+//! budget.
 #![tactic(auto)]
 
 mod answers;

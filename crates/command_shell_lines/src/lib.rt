@@ -1,4 +1,6 @@
 //! The lines of a script, for the shell: reading them, and what each asks for. It knows no machine.
+//!
+//! Promise: each line means the one request whose words it has, or none.
 #![tactic(auto)]
 
 mod blocks;

@@ -14,7 +14,7 @@ HEX wants a name, as HEX main, and a line END
 END ends a block that ASM or HEX opens
 BOOT wants the name of an image, as BOOT main
 RUN stands alone
-STEP wants a number, as STEP 1
+STEP stands alone, or with a number, as STEP 4
 BREAK wants an address, as BREAK &8004 or BREAK loop
 UNBREAK wants an address, as UNBREAK &8004 or UNBREAK loop
 CALL wants a SWI's number or the name of a store call, as CALL &1D or CALL OS_Heap
