@@ -5,8 +5,8 @@ pub mod Leaving
 pub mod Loaded
 pub mod Stored
 pub mod changes
+pub mod record_text
 pub mod store_words
 pub mod told_words
 pub mod told_registers
-pub mod record_text
 pub mod word_text

@@ -1,2 +1,2 @@
--- Which bytes a record has.
-pub mod Safe
+-- How a record is spelt.
+pub mod Spelling

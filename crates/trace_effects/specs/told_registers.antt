@@ -1,1 +1,1 @@
--- The registers that are told of a step. Begin with trace_changes' Laws, which says how they are replayed.
+-- The registers that are told of a step. Begin with changes' Laws, which says how they are replayed.

@@ -1,5 +1,7 @@
-//! What a step finds, of what a trace tells: the word at the program counter, the words of memory that
-//! its instruction loads and stores to, and whether a store call leaves the store as it is.
+//! What a step finds, of what a trace tells: the word at the program counter, the words of memory
+//! that its instruction loads and stores to, and whether a store call leaves the store as it is.
+//!
+//! Promise: what is listed of a step is all that it changes, and each of that did change.
 #![tactic(auto)]
 
 pub mod cause;

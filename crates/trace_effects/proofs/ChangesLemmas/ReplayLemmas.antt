@@ -82,13 +82,13 @@ files f g few many =
     ext_get_or 0 (partly f g 26) g (b.size ∙ few ∙ sym many)
     (λ i inside. b.lower i (let here : length (partly f g 26) ≡ 26 = b.size ∙ few in omega arith))
 
-bools : (old new : Bool) → unwrap_or (new_bool old new) old ≡ new
+pub bools : (old new : Bool) → unwrap_or (new_bool old new) old ≡ new
 bools true true = refl
 bools true false = refl
 bools false true = refl
 bools false false = refl
 
-modes : (old new : Mode) → unwrap_or (new_mode old new) old ≡ new
+pub modes : (old new : Mode) → unwrap_or (new_mode old new) old ≡ new
 modes User User = refl
 modes User FastInterrupt = refl
 modes User Interrupt = refl
@@ -106,7 +106,7 @@ modes Supervisor FastInterrupt = refl
 modes Supervisor Interrupt = refl
 modes Supervisor Supervisor = refl
 
-places : (expected : ℕ) (s' : State) → unwrap_or (jump expected s') expected ≡ s'.pc
+pub places : (expected : ℕ) (s' : State) → unwrap_or (jump expected s') expected ≡ s'.pc
 places expected s' = elim (cases_Bool (s'.pc == expected)) [
   | inl same ↦ rw same (sym (eqb-true s'.pc expected same))
   | inr other ↦ rw other refl

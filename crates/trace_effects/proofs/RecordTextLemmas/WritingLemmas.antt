@@ -3,13 +3,13 @@ use Rattle.std.proofs.Common.{◌≡◌, ℕ, List, [], ◌++◌, true, Option, 
 use Rattle.std.proofs.lemmas.List.{append-nil}
 use Rattle.std.proofs.lemmas.List.Folds.{list_all-append}
 use Rattle.std.specs.Io.KnownBytes.{Appends}
-use Rattle.trace_effects.specs.record_text.Safe.{AddsSafe, is_safe}
+use Rattle.profile.specs.text_sink.Safe.{AddsSafe, is_safe}
 
-nothing_adds : (o : Option (List ℕ)) → Appends o o []
+pub nothing_adds : (o : Option (List ℕ)) → Appends o o []
 nothing_adds None = tt
 nothing_adds (Some xs) = sym (append-nil xs)
 
-then_adds : (a b c : Option (List ℕ)) (s t : List ℕ) → Appends a b s → Appends b c t → Appends a c (s ++ t)
+pub then_adds : (a b c : Option (List ℕ)) (s t : List ℕ) → Appends a b s → Appends b c t → Appends a c (s ++ t)
 then_adds None b c s t h k = tt
 then_adds (Some xs) None c s t h k = absurd h
 then_adds (Some xs) (Some ys) None s t h k = absurd k

@@ -3,7 +3,7 @@ use Rattle.std.proofs.Common.{◌≡◌, ℕ, zero, suc, ◌+◌, ◌-◌, ◌<�
 use Rattle.std.proofs.lemmas.List.{append-nil, drop_all}
 use Rattle.profile.proofs.OutputLemmas.{AddsAllBut-start, AddsAllBut-more, AddsAllBut-same, Appends-from_all_but}
 use Rattle.address_map.specs.Bytes.{Bytes, word_loaded}
-use Rattle.debugger.specs.Memory.{address_further}
+use Rattle.profile.specs.Sums.{address_further}
 use Rattle.trace_effects.specs.word_text.Stored.{stored_line, stored_lines, word_or_zero, word_values_from}
 
 no_words : (b : Bytes) (at : ℕ) → word_values_from b at 0 ≡ []

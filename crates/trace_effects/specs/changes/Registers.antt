@@ -1,8 +1,8 @@
 -- The registers that differ between two cores, by their places in the file of all banks.
-use Rattle.std.specs.Prelude.{ℕ, zero, suc, ◌==◌, List, [], ◌∷◌, ◌++◌, ◌-◌, nat_lt, slice_index, if◌then◌else◌}
+use Rattle.std.specs.Prelude.{ℕ, zero, suc, ◌≡◌, ◌<◌, ◌≤◌, ◌==◌, List, [], ◌∷◌, ◌++◌, ◌-◌, nat_lt, slice_index, if◌then◌else◌}
 use Rattle.arm_core.specs.declared.psr.Mode.{Mode}
 use Rattle.arm_core.specs.declared.psr.Mode.TheVariants.{User, FastInterrupt, Interrupt, Supervisor}
-use Rattle.arm_core.specs.State.{State}
+use Rattle.arm_core.specs.State.{State, slot_of}
 use Rattle.trace_effects.specs.declared.changes.registers.RegisterChange.{RegisterChange}
 
 -- the bank of the register at a place, and its number there: R0 to R14 of USR, R8 to R14 of FIQ, R13
@@ -13,6 +13,12 @@ home_of place =
     if nat_lt place 22 then (FastInterrupt, place - 7) else (
     if nat_lt place 24 then (Interrupt, place - 9) else
     (Supervisor, place - 11)))
+
+-- At the places from one up to another lie registers of a mode, so many places behind their numbers.
+pub record IsBank (mode : Mode) (behind first end : ℕ) : Type 0 where
+  pub from : behind ≤ first
+  pub numbers : (place : ℕ) → first ≤ place → place < end → place - behind < 15
+  pub places : (place : ℕ) → first ≤ place → place < end → slot_of mode (place - behind) ≡ place
 
 -- what a change of the register at a place is
 abbrev pub register_change : List ℕ → List ℕ → ℕ → RegisterChange

@@ -4,7 +4,7 @@ use Rattle.std.specs.Prelude.{ℕ, zero, suc, ◌==◌, List, [], ◌∷◌, ◌
 use Rattle.profile.specs.Digits.{hex_word}
 use Rattle.profile.specs.declared.fault.Fault.{Fault}
 use Rattle.address_map.specs.Bytes.{Bytes, word_loaded}
-use Rattle.debugger.specs.Memory.{address_further}
+use Rattle.profile.specs.Sums.{address_further}
 
 -- a word where no memory is mapped counts as 0
 abbrev pub word_or_zero : Result ℕ Fault → ℕ

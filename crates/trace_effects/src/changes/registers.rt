@@ -1,8 +1,8 @@
 //! The registers that differ between two cores.
 
-ghost use Rattle.std.specs.Prelude.{◌≡◌, ◌<◌};
+ghost use Rattle.std.specs.Prelude.{◌≡◌, ◌+◌, ◌<◌, ◌≤◌, length};
 ghost use Rattle.arm_core.specs.State.{slot_of};
-ghost use Rattle.trace_effects.specs.changes.Registers.{changes_of, home_of};
+ghost use Rattle.trace_effects.specs.changes.Registers.{IsBank, changes_below, changes_of, home_of};
 
 use arm_core::{Cpu, Mode};
 use arrayvec::ArrayVec;
@@ -21,20 +21,66 @@ pub struct RegisterChange {
 }
 
 /// The registers of all banks that differ, in the order of their places.
-#[tactic(auto, using(crate::proofs::ChangesLemmas::ChangeLemmas::change_steps))]
 pub fn changed_registers(before: &Cpu, after: &Cpu) -> ArrayVec<RegisterChange, REGISTERS>
     ensures { result.items ≡ changes_of before.now after.now }
 {
     let mut changes = ArrayVec::new();
-    for place in 0..REGISTERS as u32 {
-        let (mode, number) = home_of(place);
-        let old = before.register_in(mode, number);
-        let new = after.register_in(mode, number);
-        if old != new {
-            changes.push(RegisterChange { place, old, new });
-        }
-    }
+    add_bank(&mut changes, before, after, Mode::User, 0, 0, 15);
+    add_bank(&mut changes, before, after, Mode::FastInterrupt, 7, 15, 22);
+    add_bank(&mut changes, before, after, Mode::Interrupt, 9, 22, 24);
+    add_bank(&mut changes, before, after, Mode::Supervisor, 11, 24, 26);
     changes
+}
+
+// Those at the places from `first` up to `end`, where a mode's registers lie so many places behind
+// their numbers. The mode is known where this is called, so that no look-up of a register asks for it.
+#[inline(always)]
+fn add_bank(
+    changes: &mut ArrayVec<RegisterChange, REGISTERS>,
+    before: &Cpu,
+    after: &Cpu,
+    mode: Mode,
+    behind: u32,
+    first: u32,
+    end: u32,
+)
+    requires bank { IsBank mode behind first end }
+    requires range { first ≤ end }
+    requires inside { end ≤ 26 }
+    requires few { length changes.old.items ≤ first }
+    requires listed { changes.old.items ≡ changes_below before.now.file after.now.file first }
+    ensures few { length changes.new.items ≤ end }
+    ensures listed { changes.new.items ≡ changes_below before.now.file after.now.file end }
+{
+    for place in first..end {
+        add_place(changes, before, after, mode, place - behind, place);
+    }
+}
+
+// That of one place, if the register there differs.
+#[tactic(auto, using(crate::proofs::ChangesLemmas::ChangeLemmas::change_steps))]
+#[inline(always)]
+fn add_place(
+    changes: &mut ArrayVec<RegisterChange, REGISTERS>,
+    before: &Cpu,
+    after: &Cpu,
+    mode: Mode,
+    number: u32,
+    place: u32,
+)
+    requires number { number < 15 }
+    requires home { slot_of mode number ≡ place }
+    requires inside { place < 26 }
+    requires few { length changes.old.items ≤ place }
+    requires listed { changes.old.items ≡ changes_below before.now.file after.now.file place }
+    ensures few { length changes.new.items ≤ place + 1 }
+    ensures listed { changes.new.items ≡ changes_below before.now.file after.now.file (place + 1) }
+{
+    let old = before.register_in(mode, number);
+    let new = after.register_in(mode, number);
+    if old != new {
+        changes.push(RegisterChange { place, old, new });
+    }
 }
 
 /// The bank and the number of the register at a place.

@@ -19,6 +19,7 @@ pub enum Flag {
 
 impl Flag {
     /// Whether a status has it set.
+    #[inline(always)]
     pub fn is_set(self, psr: Psr) -> bool
         ensures value { result ≡ flag_of self psr }
     {
@@ -34,6 +35,7 @@ impl Flag {
 }
 
 /// The new value of a flag, where it differs.
+#[inline(always)]
 pub fn changed_flag(flag: Flag, before: Psr, after: Psr) -> Option<bool>
     ensures value { result ≡ flag_change flag before after }
 {

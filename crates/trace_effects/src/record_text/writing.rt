@@ -1,7 +1,8 @@
 //! Records, written.
 
 ghost use Rattle.std.specs.Prelude.{OnOk};
-ghost use Rattle.trace_effects.specs.record_text.Safe.{AddsSafe};
+ghost use Rattle.std.specs.Io.KnownBytes.{Appends};
+ghost use Rattle.profile.specs.text_sink.Safe.{AddsSafe};
 
 use crate::record_text::text::RecordText;
 use profile::{Sink, WriteFault, push_all};
@@ -12,7 +13,8 @@ use profile::{Sink, WriteFault, push_all};
 ///
 /// `WriteFault` where the sink failed.
 pub fn push_records<W: Sink>(sink: &mut W, text: &RecordText) -> Result<(), WriteFault>
-    ensures { OnOk result (AddsSafe (W.contents sink.old) (W.contents sink.new)) }
+    ensures text { OnOk result (Appends (W.contents sink.old) (W.contents sink.new) text.now.bytes.items) }
+    ensures safe { OnOk result (AddsSafe (W.contents sink.old) (W.contents sink.new)) }
 {
     push_all(sink, text.bytes())?;
     Ok(())

@@ -1,9 +1,10 @@
 //! What is kept of a machine's store before a call that may change it.
 
-ghost use Rattle.std.specs.Prelude.{◌≡◌, ◌≤◌, IfOk};
+ghost use Rattle.std.specs.Prelude.{◌≡◌, ◌≤◌, true, IfOk};
 ghost use Rattle.address_map.specs.Memory.{page_total};
 ghost use Rattle.os_heap.specs.Store.{IsSound, store_of};
 ghost use Rattle.swi_dispatch.specs.Parts.{state_of};
+ghost use Rattle.trace_effects.specs.store_words.Copies.{kept_in, kept_of};
 
 use crate::store_words::pages::{PAGES, past_unmapped};
 use address_map::{AddressMap, pages_are_counted};
@@ -20,11 +21,15 @@ use swi_dispatch::Machine;
 #[derive(Drop)]
 pub struct StoreCopy {
     memory: AddressMap,
+    // How many pages the memory has, mapped or not.
+    pages: u32,
     instances: Instances,
     flex: Flex,
 }
 
 impl Model for StoreCopy {
+    ghost use Rattle.std.specs.Prelude.{◌≡◌};
+    ghost use Rattle.address_map.specs.Memory.{page_total};
     ghost use Rattle.os_heap.specs.Store.{IsSound, store_of};
     ghost use Rattle.flex_store.specs.State.{IsFlex};
     ghost use Rattle.trace_effects.specs.store_words.Copies.{CopiedParts};
@@ -33,13 +38,13 @@ impl Model for StoreCopy {
 
     ghost view = { λ c. record { map = c.memory; modules = c.instances; flex = c.flex } };
 
-    ghost invariant = { λ c. IsSound (store_of c.memory) × IsFlex c.memory c.flex };
+    ghost invariant = { λ c. IsSound (store_of c.memory) × IsFlex c.memory c.flex
+        × (page_total c.memory ≡ c.pages) };
 }
 
 impl StoreCopy {
     ghost use Rattle.address_map.specs.Memory.{bytes_of};
     ghost use Rattle.flex_store.specs.State.{IsFlex};
-    ghost use Rattle.trace_effects.specs.store_words.Copies.{kept_in, kept_of};
 
     /// A copy of a machine's store as it is.
     ///
@@ -51,14 +56,54 @@ impl StoreCopy {
     {
         machine.known();
         areas_count_pages();
-        let copy = copy_of(alloc, machine.memory(), page_total(machine))?;
+        let pages = page_total(machine);
+        let copy = copy_of(alloc, machine.memory(), pages)?;
         let mut instances = Instances::new();
         instances.copy_from(machine.instances());
         Ok(StoreCopy {
             memory: copy,
+            pages,
             instances,
             flex: *machine.flex(),
         })
+    }
+
+    /// A copy of a machine's store as it is, in the host memory of another copy that is needed no more.
+    ///
+    /// # Errors
+    ///
+    /// Where the host has no memory for it; none is asked for where the other copy is of a memory of
+    /// as many pages.
+    pub fn over(
+        spare: Option<Box<StoreCopy>>,
+        alloc: Global,
+        machine: &Machine,
+    ) -> Result<Box<StoreCopy>, AllocError>
+        ensures kept { IfOk result
+            (λ copy. kept_in copy.value ≡ kept_of (state_of machine.now.guest)) }
+    {
+        if let Some(mut copy) = spare {
+            if copy.renew(machine) {
+                return Ok(copy);
+            }
+        }
+        let copy = StoreCopy::of(alloc, machine)?;
+        Ok(Box::new(alloc, copy)?)
+    }
+
+    // Becomes a copy of the store of a machine, if the memory of that has as many pages.
+    fn renew(&mut self, machine: &Machine) -> bool
+        ensures { result ≡ true → kept_in self.new ≡ kept_of (state_of machine.now.guest) }
+    {
+        machine.known();
+        areas_count_pages();
+        if self.pages != page_total(machine) {
+            return false;
+        }
+        copy_over(&mut self.memory, machine.memory());
+        self.instances.copy_from(machine.instances());
+        self.flex = *machine.flex();
+        true
     }
 
     /// The memory as it was.
@@ -90,11 +135,20 @@ impl StoreCopy {
 fn copy_of(alloc: Global, memory: &AddressMap, pages: u32) -> Result<AddressMap, AllocError>
     requires pages { pages ≡ page_total memory.now }
     requires few { pages ≤ 1024 }
-    ensures { IfOk result (λ copy. store_of copy ≡ store_of memory.now) }
+    ensures store { IfOk result (λ copy. store_of copy ≡ store_of memory.now) }
+    ensures total { IfOk result (λ copy. page_total copy ≡ pages) }
 {
     let mut copy = AddressMap::new(alloc, pages)?;
-    copy.copy_from(memory);
+    copy_over(&mut copy, memory);
     Ok(copy)
+}
+
+fn copy_over(copy: &mut AddressMap, memory: &AddressMap)
+    requires { page_total copy.old ≡ page_total memory.now }
+    ensures store { store_of copy.new ≡ store_of memory.now }
+    ensures total { page_total copy.new ≡ page_total copy.old }
+{
+    copy.copy_from(memory);
 }
 
 // How many pages a machine's memory has, mapped or not.

@@ -28,6 +28,11 @@ impl WrittenRegisters {
         }
     }
 
+    /// One more: R14 of supervisor mode, which a SWI writes.
+    pub fn add_link(&mut self) {
+        self.add(Mode::Supervisor, 14);
+    }
+
     /// Whether the register at a place is one.
     pub fn has(&self, place: u32) -> bool {
         match self.marks.get(place as usize) {

@@ -1,6 +1,6 @@
 use Rattle.std.proofs.Common.{◌≡◌, ◌≤◌, length}
 use Rattle.trace_effects.specs.changes.Registers.{changes_below}
-use Rattle.trace_effects.proofs.changes.registers.changed_registers.Given as goal
+use Rattle.trace_effects.proofs.changes.registers.add_bank.Given as goal
 
 abbrev pub invariant-loop-place : goal.invariant-loop-place
 invariant-loop-place l = record {
