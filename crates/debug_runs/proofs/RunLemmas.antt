@@ -7,7 +7,7 @@ use Rattle.profile.specs.declared.stop.Stop.{Stop}
 use Rattle.profile.specs.declared.stop.Stop.TheVariants as stop
 use Rattle.address_map.specs.Bytes.{Bytes}
 use Rattle.debug_labels.specs.Labels.{ImageLabels}
-use Rattle.debug_labels.specs.Standing.{first_of}
+use Rattle.profile.specs.Firsts.{first_of}
 use Rattle.swi_dispatch_guest.specs.declared.halt.Halt.{Halt}
 use Rattle.swi_dispatch_guest.specs.declared.halt.Halt.TheVariants as halt
 use Rattle.swi_dispatch_guest.specs.MachineState.{StepOutcome, stop_of}

@@ -1,5 +1,7 @@
-//! The lines of a debugging script that take steps: RUN, STEP, CALL, LOAD, FINISH and GOSUB, traced or
-//! not, with stubs for SWIs that the machine doesn't have and watches on words of memory.
+//! The lines of a debugging script that take steps: RUN, STEP, CALL, LOAD, FINISH and GOSUB, traced
+//! or not, with stubs for SWIs that the machine doesn't have and watches on words of memory.
+//!
+//! Promise: a traced run is the run without a trace, and without modes it is that of a script.
 #![tactic(auto)]
 
 mod context;

@@ -23,7 +23,7 @@ use profile::text_sink::TextSink;
 use profile::{Sink, WriteFault, push_all, push_parts};
 use std::alloc::Global;
 use trace_effects::Cause;
-use trace_text::{StepStart, push_prints_line};
+use trace_text::{StepStart, StoreCopy, push_prints_line};
 
 /// What is told of the steps of a line, and what the guest prints in them.
 #[derive(Drop)]
@@ -33,6 +33,8 @@ pub(crate) struct Telling {
     pub(crate) told: Option<u64>,
     pub(crate) text: TextSink,
     pub(crate) printed: TextSink,
+    // The host memory in which a step that was told kept the store.
+    spare: Option<Box<StoreCopy>>,
 }
 
 impl Telling {
@@ -56,6 +58,7 @@ impl Telling {
             told,
             text: TextSink::new(alloc),
             printed: TextSink::new(alloc),
+            spare: None,
         }
     }
 
@@ -177,7 +180,8 @@ impl Telling {
             (IsToldOn self.old self.new (step_text s.machine o) o.printed) }
         ensures same { self.new.told ≡ self.old.told }
     {
-        let start = StepStart::tell_step(self.alloc, session.machine(), &mut self.text)?;
+        let spare = self.spare.take();
+        let start = StepStart::tell_step(self.alloc, session.machine(), spare, &mut self.text)?;
         let mut printed = TextSink::new(self.alloc);
         session.take_step(images, &mut printed)?;
         start.tell_end(
@@ -186,6 +190,7 @@ impl Telling {
             printed.bytes(),
             &mut self.text,
         )?;
+        self.spare = start.into_spare();
         push_all(&mut self.printed, printed.bytes())
     }
 

@@ -1,4 +1,6 @@
 //! The lines below a store call, of what it changes in the machine's store.
+//!
+//! Promise: lines below a call have each item, instance and block that changed, or count it.
 #![tactic(auto)]
 
 pub mod flex;

@@ -2,7 +2,7 @@
 use Rattle.std.proofs.Common.{◌≡◌, ℕ, zero, suc, ◌+◌, ◌-◌, ◌<◌, ◌≤◌, List, [], ◌∷◌, ◌++◌, ap, ◌∙◌, sym, arith, refl, append_assoc, Option, Some, None}
 use Rattle.std.proofs.lemmas.List.{append-nil}
 use Rattle.address_map.specs.Bytes.{Bytes, byte_loaded}
-use Rattle.trace_store_text.specs.Memory.{address_further}
+use Rattle.profile.specs.Sums.{address_further}
 use Rattle.trace_text.specs.Strings.{character_loaded, character_then, characters_at}
 
 none_asked : (b : Bytes) (at : ℕ) → characters_at b at 0 ≡ []

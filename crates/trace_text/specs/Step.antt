@@ -24,6 +24,7 @@ use Rattle.trace_store_text.specs.FrameWords.{entered_word}
 use Rattle.trace_store_text.specs.StoreLines.{store_lines}
 use Rattle.trace_store_text.specs.Copies.{KeptStore, kept_of}
 use Rattle.trace_text.specs.declared.areas.AreaMark.{AreaMark}
+use Rattle.dynamic_areas.specs.declared.area.Area.{Area}
 use Rattle.trace_text.specs.Areas.{area_lines, area_marks}
 use Rattle.trace_text.specs.Below.{error_words, frames_kept, has_error, left_word_kept, prints_word}
 use Rattle.trace_text.specs.Calls.{call_words}
@@ -78,7 +79,8 @@ is_skipped _ = false
 -- What a trace knows of the machine before a step: its core, how the step is told, where it is
 -- expected to go on, whether its instruction is skipped, how long the instruction's text is, the words
 -- that it stores to as they are, those that it loads and the register that LDR loads, the frames, the
--- areas, and the store, unless it is an instruction or a call that leaves the store as it is.
+-- areas, unless it is an instruction, and the store, unless it is an instruction or a call that leaves the
+-- store as it is.
 pub record Known : Type 0 where
   pub cpu : State
   pub taking : Taking
@@ -93,6 +95,12 @@ pub record Known : Type 0 where
   pub innermost : Option Frame
   pub areas : List AreaMark
   pub before : Option KeptStore
+
+-- An instruction changes no area.
+abbrev pub areas_before : Taking → List Area → List AreaMark
+areas_before taking.Instruction areas = []
+areas_before (taking.Call is_x number) areas = area_marks areas
+areas_before taking.Gate areas = area_marks areas
 
 -- by what is in R0, the reason of a call that has one
 abbrev pub store_before : Taking → ℕ → KeptStore → Option KeptStore
@@ -113,7 +121,7 @@ known_by s cause stored loaded = record {
   target = loaded_register cause;
   frames = length s.tables.frames;
   innermost = innermost_frame s.tables.frames;
-  areas = area_marks s.tables.land.areas;
+  areas = areas_before (taking_of cause) s.tables.land.areas;
   before = store_before (taking_of cause) (register_of s.cpu 0) (kept_of s);
 }
 

@@ -3,7 +3,7 @@
 use Rattle.std.specs.Prelude.{ℕ, zero, suc, ◌==◌, nat_lt, List, [], ◌∷◌, ◌++◌, codes, length, Option, Some, None, Result, Ok, Err, if◌then◌else◌}
 use Rattle.profile.specs.declared.fault.Fault.{Fault}
 use Rattle.address_map.specs.Bytes.{Bytes, byte_loaded}
-use Rattle.trace_store_text.specs.Memory.{address_further}
+use Rattle.profile.specs.Sums.{address_further}
 use Rattle.trace_store_text.specs.views.Quoted.{quoted_text}
 
 -- a character that isn't a control character, if one is there

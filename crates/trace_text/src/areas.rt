@@ -1,18 +1,15 @@
 //! What a step changes in dynamic areas.
 
-ghost use Rattle.std.specs.Prelude.{◌≡◌, ◌≤◌, ◌*◌, length};
+ghost use Rattle.std.specs.Prelude.{◌≡◌, ◌*◌, IfOk};
 ghost use Rattle.std.specs.List.{flat_map};
 ghost use Rattle.profile.specs.Output.{Writes};
 ghost use Rattle.trace_text.specs.Areas.{area_line, area_line_by, area_lines, area_marks, gone_area_line, has_area, new_area_line, pages_marked, sized_area_line};
 
-use arrayvec::ArrayVec;
 use dynamic_areas::Area;
 use itoa::Buffer;
 use profile::memory_map::PAGE_SIZE;
 use profile::{HexText, Sink, WriteFault, push_parts};
-
-/// How many areas there may be.
-pub const MOST_AREAS: usize = 32;
+use std::alloc::{AllocError, Global};
 
 /// What a trace keeps of an area: its number, and how many pages it has.
 #[derive(Clone, Copy, Debug, Default, PartialEq, Eq)]
@@ -22,18 +19,30 @@ pub struct AreaMark {
 }
 
 /// What a trace keeps of some areas.
-pub fn area_marks(areas: &[Area]) -> ArrayVec<AreaMark, MOST_AREAS>
-    requires { length areas.now ≤ 32 }
-    ensures value { result.items ≡ area_marks areas.now }
+///
+/// # Errors
+///
+/// Where the host has no memory for it.
+pub fn area_marks(alloc: Global, areas: &[Area]) -> Result<Vec<AreaMark>, WriteFault>
+    ensures value { IfOk result (λ marks. marks.items ≡ area_marks areas.now) }
 {
-    let mut marks = ArrayVec::new();
+    match marks_of(alloc, areas) {
+        Ok(marks) => Ok(marks),
+        Err(_) => Err(WriteFault),
+    }
+}
+
+fn marks_of(alloc: Global, areas: &[Area]) -> Result<Vec<AreaMark>, AllocError>
+    ensures { IfOk result (λ marks. marks.items ≡ area_marks areas.now) }
+{
+    let mut marks = Vec::with_capacity(alloc, areas.len())?;
     for area in areas {
         marks.push(AreaMark {
             number: area.number,
             pages: area.pages,
-        });
+        })?;
     }
-    marks
+    Ok(marks)
 }
 
 /// Writes a line for each area that is gone, new or of another size.

@@ -1,10 +1,13 @@
 //! The columns of a trace.
 
-ghost use Rattle.std.specs.Prelude.{take};
+ghost use Rattle.std.specs.Prelude.{◌≡◌, [], IfOk, take};
 ghost use Rattle.profile.specs.Output.{Writes};
+ghost use Rattle.profile.specs.text_sink.TextSink.{sink_text_of};
 ghost use Rattle.trace_text.specs.Columns.{below_text, columns_text, words_behind};
 
+use profile::text_sink::TextSink;
 use profile::{Sink, WriteFault, push_all, push_parts};
+use std::alloc::Global;
 
 /// How many columns an instruction's text has, without the space of what follows on it.
 const TEXT_COLUMNS: usize = 25;
@@ -12,7 +15,24 @@ const TEXT_COLUMNS: usize = 25;
 /// How many columns stand before a line below a step, without the space of its first word.
 const BELOW_COLUMNS: usize = 17;
 
+/// How many bytes most lines have room in.
+const LINE_BYTES: usize = 80;
+
 const BLANKS: &[u8; TEXT_COLUMNS] = b"                         ";
+
+/// A sink that has taken nothing, with room for most lines: growing by and by takes more.
+///
+/// # Errors
+///
+/// Where memory ran out.
+pub(crate) fn line_sink(alloc: Global) -> Result<TextSink, WriteFault>
+    ensures { IfOk result (λ sink. sink_text_of sink ≡ []) }
+{
+    match Vec::with_capacity(alloc, LINE_BYTES) {
+        Ok(room) => Ok(TextSink::over(room)),
+        Err(_) => Err(WriteFault),
+    }
+}
 
 /// Writes a line: what stands in columns 1 to 18, a text, and words, which begin at column 45 where
 /// the text leaves them room. Each word has a space before it.

@@ -13,7 +13,7 @@ ghost use Rattle.trace_store_text.specs.Copies.{kept_of};
 ghost use Rattle.trace_text.specs.Step.{skipped_word, store_lines_below};
 
 use crate::areas::push_areas;
-use crate::columns::{push_behind, push_below};
+use crate::columns::{line_sink, push_behind, push_below};
 use crate::core_text::push_core;
 use crate::errors::{push_error, push_stop};
 use crate::start::{StepStart, Taking};
@@ -61,7 +61,7 @@ impl StepStart {
         ensures { OnOk result (Appends (W.contents sink.old) (W.contents sink.new)
             (instruction_end (known_in self.now) (state_of machine.now.guest) stop)) }
     {
-        let mut words = TextSink::new(alloc);
+        let mut words = line_sink(alloc)?;
         self.push_words(&mut words, machine, stop)?;
         push_behind(sink, self.text_length, words.bytes())?;
         push_all(sink, b"\n")?;

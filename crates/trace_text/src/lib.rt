@@ -1,4 +1,7 @@
-//! The lines of a traced step: its address, its word and its instruction, and what it leaves behind.
+//! The lines of a traced step: its address, its word and its instruction, and what it leaves
+//! behind.
+//!
+//! Promise: a step's text is a function of the machine before it and of what the step leaves.
 #![tactic(auto)]
 
 pub mod areas;
@@ -13,3 +16,4 @@ pub mod strings;
 
 pub use end::push_prints_line;
 pub use start::StepStart;
+pub use trace_store_text::StoreCopy;

@@ -9,13 +9,13 @@ ghost use Rattle.swi_dispatch_answers.specs.frames.Frames.{innermost_frame};
 ghost use Rattle.swi_dispatch_guest.specs.Parts.{state_of};
 ghost use Rattle.trace_effects.specs.Cause.{cause_of, swi_of_cause};
 ghost use Rattle.trace_text.specs.Start.{store_kept};
-ghost use Rattle.trace_text.specs.Step.{front_text, is_skipped, start_text, store_before, taking_of, taking_swi, taking_text, what_text, word_column};
+ghost use Rattle.trace_text.specs.Step.{areas_before, front_text, is_skipped, start_text, store_before, taking_of, taking_swi, taking_text, what_text, word_column};
 ghost use Rattle.trace_store_text.specs.Copies.{kept_in, kept_of};
 ghost use Rattle.profile.specs.text_sink.TextSink.{sink_text_of};
 
-use crate::areas::{AreaMark, MOST_AREAS, area_marks};
+use crate::areas::{AreaMark, area_marks};
 use crate::calls::push_call;
-use crate::columns::push_behind;
+use crate::columns::{line_sink, push_behind};
 use crate::outside::{calling_text, loading_text, push_outside, words_of_call};
 use address_map::AddressMap;
 use arm_core::Cpu;
@@ -24,7 +24,7 @@ use assembler_text::disassemble;
 use profile::text_sink::TextSink;
 use profile::word::is_bit_set;
 use profile::{HexText, Sink, WriteFault, push_all, push_parts};
-use std::alloc::{AllocError, Global};
+use std::alloc::Global;
 use trace_effects::changes::following_word;
 use trace_effects::word_text::{MOST_STORED, old_words};
 use trace_effects::{Cause, Effects, StoredWords, call_leaves, effects_of};
@@ -80,10 +80,12 @@ pub struct StepStart {
     pub(crate) target: Option<u32>,
     pub(crate) frames: usize,
     pub(crate) innermost: Option<Frame>,
-    pub(crate) areas: ArrayVec<AreaMark, MOST_AREAS>,
+    pub(crate) areas: Vec<AreaMark>,
     /// The store as it was; an instruction's own words are told without it, and a call that leaves
     /// the store as it is needs none.
     pub(crate) before: Option<Box<StoreCopy>>,
+    /// Host memory that a later copy can use.
+    pub(crate) spare: Option<Box<StoreCopy>>,
 }
 
 impl StepStart {
@@ -93,7 +95,7 @@ impl StepStart {
     ghost use Rattle.trace_effects.specs.Stored.{stored_words};
 
     /// Writes what stands at the program counter, and of a store call what it reads; and keeps what
-    /// the step may change.
+    /// the step may change, in host memory that an earlier step left, if it did.
     ///
     /// # Errors
     ///
@@ -101,6 +103,7 @@ impl StepStart {
     pub fn tell_step<W: Sink>(
         alloc: Global,
         machine: &Machine,
+        spare: Option<Box<StoreCopy>>,
         sink: &mut W,
     ) -> Result<StepStart, WriteFault>
         ensures text { let s = state_of machine.now.guest in OnOk result
@@ -111,8 +114,9 @@ impl StepStart {
         let effects = effects_of(cause, machine.cpu());
         let taking = taking_of(cause, effects.swi);
         let text_length = push_start(alloc, machine, cause, taking, sink)?;
-        let before = store_before(alloc, machine, taking)?;
-        Ok(StepStart::keeping(machine, cause, &effects, text_length, before))
+        let areas = areas_before(alloc, machine, taking)?;
+        let (before, spare) = store_before(alloc, machine, taking, spare)?;
+        Ok(StepStart::keeping(machine, cause, &effects, text_length, areas, before, spare))
     }
 
     // What is kept of a machine where this stands at the program counter.
@@ -121,7 +125,9 @@ impl StepStart {
         cause: Cause,
         effects: &Effects,
         text_length: usize,
+        areas: Vec<AreaMark>,
         before: Option<Box<StoreCopy>>,
+        spare: Option<Box<StoreCopy>>,
     ) -> StepStart
         requires swi { effects.now.swi ≡ swi_of_cause cause }
         requires stored { effects.now.stored
@@ -131,6 +137,8 @@ impl StepStart {
         requires target { effects.now.target ≡ loaded_register cause }
         requires few { effects.now.stored.count ≤ 16 }
         requires length { text_length ≡ length (what_text (state_of machine.now.guest).cpu.pc cause) }
+        requires areas { areas.items
+            ≡ areas_before (taking_of cause) (state_of machine.now.guest).tables.land.areas }
         requires before { let s = state_of machine.now.guest in store_kept before
             ≡ store_before (taking_of cause) (register_of s.cpu 0) (kept_of s) }
         ensures { let s = state_of machine.now.guest in
@@ -150,9 +158,15 @@ impl StepStart {
             target: effects.target,
             frames: machine.frames(),
             innermost: innermost(machine.open_frames()),
-            areas: area_marks(machine.areas().list()),
+            areas,
             before,
+            spare,
         }
+    }
+
+    /// The host memory in which the store was kept, if it was.
+    pub fn into_spare(self) -> Option<Box<StoreCopy>> {
+        self.before.or(self.spare)
     }
 
     /// Writes a store call that is made from outside, and what it reads; and keeps what it may
@@ -210,6 +224,7 @@ impl StepStart {
             is_x: true,
             number: 0,
         };
+        let areas = areas_before(alloc, machine, taking)?;
         Ok(StepStart {
             cpu: *cpu,
             taking,
@@ -222,42 +237,58 @@ impl StepStart {
             target: None,
             frames: machine.frames(),
             innermost: innermost(machine.open_frames()),
-            areas: area_marks(machine.areas().list()),
-            before: kept_store(alloc, machine)?,
+            areas,
+            before: Some(kept_store(alloc, machine, None)?),
+            spare: None,
         })
     }
 }
 
-// A copy of the store, where the step is no instruction and no call that leaves it as it is.
+// The areas, where the step is no instruction.
+fn areas_before(
+    alloc: Global,
+    machine: &Machine,
+    taking: Taking,
+) -> Result<Vec<AreaMark>, WriteFault>
+    ensures { IfOk result (λ marks. marks.items
+        ≡ areas_before taking (state_of machine.now.guest).tables.land.areas) }
+{
+    match taking {
+        Taking::Instruction => Ok(Vec::new(alloc)),
+        Taking::Call { .. } | Taking::Gate => area_marks(alloc, machine.areas().list()),
+    }
+}
+
+// A copy of the store, unless the step leaves it as it is; and the spare one, where it isn't used.
 fn store_before(
     alloc: Global,
     machine: &Machine,
     taking: Taking,
-) -> Result<Option<Box<StoreCopy>>, WriteFault>
-    ensures { let s = state_of machine.now.guest in IfOk result (λ before. store_kept before
+    spare: Option<Box<StoreCopy>>,
+) -> Result<(Option<Box<StoreCopy>>, Option<Box<StoreCopy>>), WriteFault>
+    ensures { let s = state_of machine.now.guest in IfOk result (λ kept. store_kept kept.0
         ≡ store_before taking (register_of s.cpu 0) (kept_of s)) }
 {
     match taking {
-        Taking::Instruction => Ok(None),
-        Taking::Call { number, .. } if call_leaves(machine.cpu().register(0), number) => Ok(None),
-        Taking::Call { .. } | Taking::Gate => kept_store(alloc, machine),
+        Taking::Instruction => Ok((None, spare)),
+        Taking::Call { number, .. } if call_leaves(machine.cpu().register(0), number) => {
+            Ok((None, spare))
+        }
+        Taking::Call { .. } | Taking::Gate => Ok((Some(kept_store(alloc, machine, spare)?), None)),
     }
 }
 
-fn kept_store(alloc: Global, machine: &Machine) -> Result<Option<Box<StoreCopy>>, WriteFault>
-    ensures { IfOk result (λ before. store_kept before ≡ Some (kept_of (state_of machine.now.guest))) }
-{
-    match boxed_copy(alloc, machine) {
-        Ok(copy) => Ok(Some(copy)),
-        Err(_) => Err(WriteFault),
-    }
-}
-
-fn boxed_copy(alloc: Global, machine: &Machine) -> Result<Box<StoreCopy>, AllocError>
+fn kept_store(
+    alloc: Global,
+    machine: &Machine,
+    spare: Option<Box<StoreCopy>>,
+) -> Result<Box<StoreCopy>, WriteFault>
     ensures { IfOk result (λ copy. kept_in copy.value ≡ kept_of (state_of machine.now.guest)) }
 {
-    let copy = StoreCopy::of(alloc, machine)?;
-    Ok(Box::new(alloc, copy)?)
+    match StoreCopy::over(spare, alloc, machine) {
+        Ok(copy) => Ok(copy),
+        Err(_) => Err(WriteFault),
+    }
 }
 
 fn is_skipped(cause: Cause) -> bool
@@ -321,7 +352,7 @@ fn push_word_column<W: Sink>(sink: &mut W, cause: Cause) -> Result<(), WriteFaul
 pub fn text_of(alloc: Global, pc: u32, cause: Cause) -> Result<TextSink, WriteFault>
     ensures { IfOk result (λ text. sink_text_of text ≡ what_text pc cause) }
 {
-    let mut text = TextSink::new(alloc);
+    let mut text = line_sink(alloc)?;
     push_what(&mut text, pc, cause)?;
     Ok(text)
 }
@@ -351,7 +382,7 @@ fn push_taking<W: Sink>(
     match taking {
         Taking::Instruction => Ok(()),
         Taking::Call { is_x, number } => {
-            let mut words = TextSink::new(alloc);
+            let mut words = line_sink(alloc)?;
             push_call(&mut words, cpu, memory, is_x, number)?;
             push_behind(sink, len, words.bytes())?;
             push_all(sink, b"\n")

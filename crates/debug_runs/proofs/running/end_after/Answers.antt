@@ -1,7 +1,7 @@
 -- By the lemmas that are named.
 use Rattle.std.proofs.Common.{Option, sym, ap, ◌∙◌}
 use Rattle.std.specs.Option.{option_map}
-use Rattle.debug_labels.specs.Standing.{first_of}
+use Rattle.profile.specs.Firsts.{first_of}
 use Rattle.command_shell.specs.Value.{MachineValue}
 use Rattle.swi_dispatch_guest.specs.MachineState.{stop_of}
 use Rattle.swi_dispatch_guest.specs.Parts.{state_of}

@@ -2,7 +2,7 @@
 use Rattle.std.proofs.Common.{arith, refl, sym, ◌∙◌}
 use Rattle.std.proofs.lemmas.Grind.{common_steps}
 use Rattle.address_map.specs.Memory.{bytes_of}
-use Rattle.trace_store_text.specs.Memory.{address_further}
+use Rattle.profile.specs.Sums.{address_further}
 use Rattle.trace_text.specs.Strings.{characters_at}
 use Rattle.trace_text.proofs.StringLemmas.{character_ends, character_more, characters_done}
 use Rattle.trace_text.proofs.strings.characters_at.Goals as goal

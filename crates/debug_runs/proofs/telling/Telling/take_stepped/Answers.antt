@@ -20,7 +20,7 @@ returns-clause-told c =
     let t = sink_text_of c.args.self.now.text in
     let u = sink_text_of c.tell_step.new.sink in
     let all = c.in_ok-take_step.ensures.text ∙ ap (λ (xs : List ℕ). xs ++ o.printed) c.new-printed.ensures in
-    told_pushed c.push_all.result c.args.self.now (record c.args.self.now { text = c.tell_end.new.sink; printed = c.push_all.new.sink })
+    told_pushed c.push_all.result c.args.self.now (record c.args.self.now { text = c.tell_end.new.sink; printed = c.push_all.new.sink; spare = c.into_spare.result })
     (step_text s.machine o) o.printed c.bytes-2.result.now
     (step_told s (script_state c.take_step.new.self images) o kept t u (sink_text_of c.tell_end.new.sink) c.bytes.result.now
     c.in_ok-take_step.ensures.state
