@@ -1,3 +1,4 @@
+pub mod LawReplayLemmas
 pub mod ItemLemmas
 pub mod WalkLemmas
 pub mod LawTraceLemmas

@@ -1,8 +1,11 @@
-//! What a step or a line leaves of a machine, as values: registers that are written, words that are loaded
-//! and stored, and items of heaps, without a bound.
+//! What a step or a line leaves of a machine, as values: registers that are written, words that are
+//! loaded and stored, and items of heaps, without a bound.
+//!
+//! Promise: the lists of a moment, replayed on the machine before it, make the one after it.
 #![tactic(auto)]
 
 mod items;
+pub mod law_replay;
 pub mod law_trace;
 mod stored;
 mod written;

@@ -1,0 +1,2 @@
+-- The law that records can be replayed.
+pub mod Laws
