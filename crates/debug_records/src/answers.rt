@@ -1,10 +1,10 @@
 //! The answer to a line, recorded.
 
+use crate::counts::LineCounts;
 use crate::images::push_image;
 use crate::lines::LineUse;
 use crate::recorder::Recorder;
 use command_shell_lines::skip_block;
-use debug_modes::expectations::reports::CheckTally;
 use profile::text_lines::{Lines, cut};
 use std::alloc::{AllocError, Global};
 use trace_effects::record_text::{Bracket, RecordText};
@@ -15,8 +15,8 @@ use trace_json::{MachineCopy, push_changes, push_state, push_stop};
 pub(crate) struct AnswerParts<'a> {
     /// Its number.
     pub(crate) number: usize,
-    /// How many lines expected something before it.
-    pub(crate) tally: CheckTally,
+    /// How many lines passed, failed and were refused before it.
+    pub(crate) counts: LineCounts,
     /// How many steps it took.
     pub(crate) taken: u64,
     /// What was written.
@@ -76,13 +76,13 @@ impl Recorder {
         block: &Lines,
     ) -> Result<(), AllocError> {
         push_text(&mut self.text, parts.answer)?;
-        let tally = self.session.tally();
-        if parts.tally.refused < tally.refused {
+        let counts = LineCounts::of(&self.session);
+        if parts.counts.refused < counts.refused {
             self.text.truth_field(b"refused")?;
         }
-        push_verdict(&mut self.text, parts, tally)?;
+        push_verdict(&mut self.text, parts, counts)?;
         if let LineUse::Block(name, origin) = *used {
-            if parts.tally.refused == tally.refused {
+            if parts.counts.refused == counts.refused {
                 self.tell_image(name, origin, block)?;
             }
         }
@@ -136,14 +136,14 @@ fn push_text(text: &mut RecordText, bytes: &[u8]) -> Result<(), AllocError> {
 fn push_verdict(
     text: &mut RecordText,
     parts: &AnswerParts<'_>,
-    tally: CheckTally,
+    counts: LineCounts,
 ) -> Result<(), AllocError> {
-    if parts.tally.passed < tally.passed {
+    if parts.counts.passed < counts.passed {
         text.open_field(b"expect", Bracket::Object)?;
         text.truth_field(b"pass")?;
         return text.close(Bracket::Object);
     }
-    if parts.tally.failed == tally.failed {
+    if parts.counts.failed == counts.failed {
         return Ok(());
     }
     text.open_field(b"expect", Bracket::Object)?;

@@ -1,8 +1,12 @@
-//! Debugging scripts as records, JSON objects one a line: the machine at the start, each line, each of its
-//! steps and its answer.
+//! Debugging scripts as records, JSON objects one a line: the machine at the start, each line, each
+//! of its steps and its answer.
+//!
+//! Promise: bytes of records are safe to stand in a page.
 #![tactic(auto)]
 
 mod answers;
+mod counts;
+mod ends;
 mod images;
 mod lines;
 mod recorder;

@@ -1,6 +1,7 @@
 //! One line of a script, recorded.
 
 use crate::answers::AnswerParts;
+use crate::counts::LineCounts;
 use crate::recorder::Recorder;
 use command_shell::RunError;
 use command_shell_lines::{ScriptCommand, command_of, skip_block};
@@ -118,14 +119,14 @@ impl Recorder {
         let used = use_of(meant.as_slice());
         self.tell_line(line, number, time, used.opens_block(), script)?;
         let block = script.again();
-        let tally = self.session.tally();
+        let counts = LineCounts::of(&self.session);
         let mut answer = TextSink::new(self.alloc);
         self.session
             .answer_line(&mut self.images, &mut answer, words, script)?;
         let taken = self.record_taken(meant.as_slice())?;
         let parts = AnswerParts {
             number,
-            tally,
+            counts,
             taken,
             answer: answer.bytes(),
         };

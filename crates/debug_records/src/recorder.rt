@@ -1,21 +1,15 @@
 //! What a debugging script is recorded on.
 
 ghost use Rattle.std.specs.Prelude.{OnOk};
-ghost use Rattle.trace_effects.specs.record_text.Safe.{AddsSafe};
+ghost use Rattle.profile.specs.text_sink.Safe.{AddsSafe};
 
+use crate::ends::{FIRST_LIMIT, end_record};
 use crate::images::KnownImage;
 use debug_session::{DebugSession, DebugSetting};
 use image_loader::Images;
 use profile::{Sink, WriteFault};
 use std::alloc::{AllocError, Global};
-use trace_effects::record_text::{Bracket, RecordText, push_records};
-use trace_json::push_state;
-
-/// So many steps of a line are told one by one where no line says otherwise.
-const FIRST_LIMIT: u64 = 100_000;
-
-/// The version of the records.
-const VERSION: u64 = 1;
+use trace_effects::record_text::{RecordText, push_records};
 
 /// A debugging session whose lines are recorded.
 ///
@@ -62,45 +56,9 @@ impl Recorder {
         })
     }
 
-    /// Makes the first record: the machine as it stands, and what the script may take.
-    pub(crate) fn tell_start(
-        &mut self,
-        setting: &DebugSetting,
-        name: &[u8],
-    ) -> Result<(), AllocError> {
-        let text = &mut self.text;
-        text.open(Bracket::Object)?;
-        text.number_field(b"start", VERSION)?;
-        text.string_field(b"name", name)?;
-        text.open_field(b"sizes", Bracket::Object)?;
-        text.number_field(b"pages", u64::from(setting.config.pages()))?;
-        text.number_field(b"app", u64::from(setting.config.app()))?;
-        text.number_field(b"rma", u64::from(setting.config.rma()))?;
-        text.close(Bracket::Object)?;
-        text.number_field(b"budget", setting.budget)?;
-        text.number_field(b"limit", self.limit)?;
-        push_state(text, self.twin.machine())?;
-        self.end_record()
-    }
-
-    /// Makes the last record: how many lines EXPECT passed and failed, and the exit status.
-    pub(crate) fn tell_end(&mut self) -> Result<(), AllocError> {
-        let tally = self.session.tally();
-        let status = self.session.status();
-        let text = &mut self.text;
-        text.open(Bracket::Object)?;
-        text.number_field(b"end", 1)?;
-        text.number_field(b"passed", tally.passed)?;
-        text.number_field(b"failed", tally.failed)?;
-        text.number_field(b"refused", tally.refused)?;
-        text.number_field(b"status", u64::from(status))?;
-        self.end_record()
-    }
-
     /// Ends the object and the line of a record.
     pub(crate) fn end_record(&mut self) -> Result<(), AllocError> {
-        self.text.close(Bracket::Object)?;
-        self.text.end_line()
+        end_record(&mut self.text)
     }
 }
 

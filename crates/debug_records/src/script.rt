@@ -1,8 +1,10 @@
 //! A whole script, recorded.
 
-ghost use Rattle.std.specs.Prelude.{OnOk};
-ghost use Rattle.trace_effects.specs.record_text.Safe.{AddsSafe};
+ghost use Rattle.std.specs.Prelude.{IfOk, OnOk};
+ghost use Rattle.debug_records.specs.Records.{HasAllRecords};
+ghost use Rattle.profile.specs.text_sink.Safe.{AddsSafe};
 
+use crate::ends::{record_end, record_start};
 use crate::recorder::{Recorder, hand_on};
 use command_shell::RunError;
 use debug_session::DebugSetting;
@@ -11,8 +13,9 @@ use profile::Sink;
 use profile::text_lines::Lines;
 use std::alloc::Global;
 
-/// Writes the records of a script on a fresh machine, and gives the exit status of its lines. The images
-/// are handed in twice, for the session that answers and for the one that takes its steps one by one.
+/// Writes the records of a script on a fresh machine, from the first to the last, and gives the exit
+/// status of its lines, which the last record has. The images are handed in twice, for the session that
+/// answers and for the one that takes its steps one by one.
 ///
 /// # Errors
 ///
@@ -27,13 +30,14 @@ pub fn record_script<W: Sink>(
     sink: &mut W,
 ) -> Result<u8, RunError>
     ensures safe { OnOk result (AddsSafe (W.contents sink.old) (W.contents sink.new)) }
+    ensures whole { IfOk result (λ status.
+        HasAllRecords setting name.now status (W.contents sink.old) (W.contents sink.new)) }
 {
     let mut recorder = Recorder::new(alloc, setting, images, twin_images)?;
-    recorder.tell_start(&setting, name)?;
-    hand_on(&mut recorder, sink)?;
+    record_start(&recorder, &setting, name, sink)?;
     record_lines(&mut recorder, script, sink)?;
-    record_end(&mut recorder, sink)?;
-    Ok(recorder.session.status())
+    let status = record_end(&recorder, sink)?;
+    Ok(status)
 }
 
 // Records the lines of a script, up to its end or a line QUIT.
@@ -65,12 +69,4 @@ fn record_next<W: Sink>(
     let goes_on = !recorder.session.has_quit() && recorder.next_line(lines)?;
     hand_on(recorder, sink)?;
     Ok(goes_on)
-}
-
-fn record_end<W: Sink>(recorder: &mut Recorder, sink: &mut W) -> Result<(), RunError>
-    ensures { OnOk result (AddsSafe (W.contents sink.old) (W.contents sink.new)) }
-{
-    recorder.tell_end()?;
-    hand_on(recorder, sink)?;
-    Ok(())
 }

@@ -3,7 +3,6 @@
 ghost use Rattle.std.specs.Prelude.{◌≡◌, ◌<◌, ◌%◌, ◌^◌};
 
 use crate::recorder::Recorder;
-use arm_core::{Cpu, Mode};
 use command_shell::{OutsideCall, Session};
 use debug_lines::SteppingCommand;
 use debug_session::{DebugSession, Stub};
@@ -12,7 +11,6 @@ use profile::WriteFault;
 use profile::memory_map::ADDRESS_LIMIT;
 use profile::text_sink::TextSink;
 use std::alloc::{AllocError, Global};
-use swi_dispatch::Machine;
 use trace_effects::changes::{REGISTERS, home_of};
 use trace_effects::told_registers::WrittenRegisters;
 use trace_json::{MachineCopy, StepBefore, push_skip};
@@ -30,21 +28,13 @@ impl Recorder {
         command: &SteppingCommand<'_>,
         taken: u64,
     ) -> Result<(), AllocError> {
-        let mut told = *self.twin.machine().cpu();
-        if taken == 0 {
-            return Ok(());
-        }
-        if let SteppingCommand::Gosub(address) = command {
-            enter_routine(&mut self.twin.session, address.address());
-        }
         let most = taken.min(self.limit);
         for index in 0..most {
             let is_last = taken - index == 1;
-            self.record_step(command, index, is_last, &told)?;
-            told = *self.twin.machine().cpu();
+            self.record_step(command, index, is_last)?;
         }
         if most < taken {
-            self.record_rest(command, most, taken - most, &told)?;
+            self.record_rest(command, most, taken - most)?;
         }
         Ok(())
     }
@@ -55,22 +45,23 @@ impl Recorder {
         command: &SteppingCommand<'_>,
         index: u64,
         is_last: bool,
-        told: &Cpu,
     ) -> Result<(), AllocError> {
         self.steps = self.steps.saturating_add(1);
+        let shown = *self.twin.machine().cpu();
+        self.enter(command, index);
         let mut printed = TextSink::new(self.alloc);
         let (before, stub) = match outside_call(command, index) {
             Some(call) => self.begin_call(call, &mut printed)?,
             None => self.begin_step(&mut printed)?,
         };
         if is_last {
-            settle(&mut self.twin.session, self.session.machine());
+            settle(&mut self.twin.session, &self.session);
         }
         let machine = self.twin.machine();
         before.tell_end(
             self.alloc,
             &mut self.text,
-            told,
+            &shown,
             machine,
             &stub,
             printed.bytes(),
@@ -86,12 +77,11 @@ impl Recorder {
         &mut self,
         printed: &mut TextSink,
     ) -> Result<(StepBefore, WrittenRegisters), AllocError> {
-        let machine = self.twin.machine();
-        let stub = stub_ahead(&self.twin, machine);
+        let stub = stub_ahead(&self.twin);
         let before = StepBefore::step(
             self.alloc,
             &mut self.text,
-            machine,
+            self.twin.machine(),
             self.steps,
             stub.is_some(),
         )?;
@@ -129,9 +119,10 @@ impl Recorder {
         command: &SteppingCommand<'_>,
         index: u64,
         count: u64,
-        told: &Cpu,
     ) -> Result<(), AllocError> {
         self.steps = self.steps.saturating_add(count);
+        let shown = *self.twin.machine().cpu();
+        self.enter(command, index);
         let before = MachineCopy::of(self.alloc, self.twin.machine())?;
         let mut printed = TextSink::new(self.alloc);
         let mut left = count;
@@ -140,19 +131,29 @@ impl Recorder {
             left = left.saturating_sub(1);
         }
         take_steps(&mut self.twin, &self.twin_images, &mut printed, left)?;
-        settle(&mut self.twin.session, self.session.machine());
+        settle(&mut self.twin.session, &self.session);
         push_skip(
             self.alloc,
             &mut self.text,
             self.steps,
             count,
             &before,
-            told,
+            &shown,
             self.twin.machine(),
             printed.bytes(),
         )?;
         self.push_places(true)?;
         self.end_record()
+    }
+
+    // The twin stands at the routine that a line calls, before the first of its steps.
+    fn enter(&mut self, command: &SteppingCommand<'_>, index: u64) {
+        if index > 0 {
+            return;
+        }
+        if let SteppingCommand::Gosub(address) = command {
+            enter_routine(&mut self.twin.session, address.address());
+        }
     }
 }
 
@@ -169,18 +170,18 @@ fn outside_call<'a>(command: &SteppingCommand<'a>, index: u64) -> Option<Outside
 }
 
 // The registers that the stub sets which the next step meets, if it meets one.
-fn stub_ahead(twin: &DebugSession, machine: &Machine) -> Option<WrittenRegisters> {
-    let stub = twin.stubs().ahead(machine)?;
-    Some(written_by_stub(machine, stub))
+fn stub_ahead(twin: &DebugSession) -> Option<WrittenRegisters> {
+    let stub = twin.stubs().ahead(twin.machine())?;
+    Some(written_by_stub(twin, stub))
 }
 
-fn written_by_stub(machine: &Machine, stub: &Stub) -> WrittenRegisters {
-    let mode = machine.cpu().psr().mode;
+fn written_by_stub(twin: &DebugSession, stub: &Stub) -> WrittenRegisters {
+    let mode = twin.machine().cpu().psr().mode;
     let mut written = WrittenRegisters::new();
     for setting in &stub.registers {
         written.add(mode, setting.register.number());
     }
-    written.add(Mode::Supervisor, LINK);
+    written.add_link();
     written
 }
 
@@ -262,8 +263,8 @@ fn enter_routine(twin: &mut Session, address: u32)
 
 // The core of the twin becomes that of the session: a routine that has come back leaves R14 and the
 // program counter as they were before it.
-fn settle(twin: &mut Session, machine: &Machine) {
-    let cpu = machine.cpu();
+fn settle(twin: &mut Session, session: &DebugSession) {
+    let cpu = session.machine().cpu();
     cpu.known();
     for place in 0..REGISTERS as u32 {
         let (mode, number) = home_of(place);

@@ -1,1 +1,2 @@
--- Records of steps have no definitions of their own: told_registers, told_words and trace_moments say what they show.
+-- Records of steps have no definitions of their own: told_registers and told_words of trace_effects,
+-- and trace_moments, say what they show.

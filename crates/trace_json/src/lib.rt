@@ -1,5 +1,7 @@
-//! Moments of a machine as records, JSON objects: what stands in it at the start, and what each step and
-//! each line leaves.
+//! Moments of a machine as records, JSON objects: what stands in it at the start, and what each
+//! step and each line leaves.
+//!
+//! Promise: nothing but that it is safe: rows of `transcripts/records` show what it writes.
 #![tactic(auto)]
 
 mod calls;

@@ -6,7 +6,7 @@ use crate::frames::push_frames;
 use crate::heaps::BlockFate;
 use crate::stops::{push_error, push_stop, stop_reason};
 use crate::words::{push_reads, push_words};
-use arm_core::{Cpu, Mode};
+use arm_core::Cpu;
 use assembler_text::disassemble;
 use profile::text_sink::TextSink;
 use profile::word::is_bit_set;
@@ -249,7 +249,7 @@ impl StepBefore {
                 } else {
                     written_by_call(number, &self.cpu)
                 };
-                written.add(Mode::Supervisor, 14);
+                written.add_link();
                 written
             }
         }

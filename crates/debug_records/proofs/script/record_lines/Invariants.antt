@@ -1,4 +1,4 @@
-use Rattle.trace_effects.specs.record_text.Safe.{AddsSafe}
+use Rattle.profile.specs.text_sink.Safe.{AddsSafe}
 use Rattle.debug_records.proofs.script.record_lines.Given as goal
 
 -- what was written so far is records
