@@ -1,5 +1,5 @@
 -- How the bytes of a packet are written one after another, and their sum.
-use Rattle.std.proofs.Common.{◌≡◌, ℕ, List, [], ◌∷◌, ◌++◌, Option}
+use Rattle.std.proofs.Common.{ℕ, List, [], ◌∷◌, ◌++◌, Option}
 use Rattle.std.specs.Io.KnownBytes.{Appends}
 use Rattle.profile.proofs.OutputLemmas.{AddsAllBut-start, AddsAllBut-more, AddsAllBut-same, Appends-from_all_but, Appends-join}
 use Rattle.gdb_packets.specs.Frames.{frame_end, packet_frame, sent_bytes}

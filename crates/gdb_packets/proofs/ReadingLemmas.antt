@@ -1,8 +1,8 @@
 -- What is sent in a frame is read as that packet: it is opened, each byte is read back, and its end is
 -- that of the sum so far.
-use Rattle.std.proofs.Common.{◌≡◌, ◌≤◌, ◌<◌, ◌+◌, ◌-◌, ◌*◌, ◌/◌, ◌%◌, ℕ, Bool, true, false, List, [], ◌∷◌, ◌++◌, Option, Some, None, length, length-append, append_assoc, arith, refl, ap, sym, ◌∙◌}
-use Rattle.std.specs.Prelude.{◌==◌, ◌&&◌, ◌||◌, nat_lt, nat_le, if◌then◌else◌}
-use Rattle.std.specs.List.{sum, flat_map}
+use Rattle.std.proofs.Common.{◌≡◌, ◌≤◌, ◌<◌, ◌+◌, ◌-◌, ◌*◌, ◌/◌, ◌%◌, ℕ, Bool, true, false, List, [], ◌∷◌, ◌++◌, Some, length, length-append, append_assoc, arith, refl, ap, ◌∙◌}
+use Rattle.std.specs.Prelude.{◌==◌, ◌&&◌, ◌||◌, nat_lt, nat_le}
+use Rattle.std.specs.List.{sum}
 use Rattle.std.proofs.lemmas.Bool.Decides.{nat_tests}
 use Rattle.std.proofs.lemmas.Bool.{agree_below_at, eqb-true, ltb-true}
 use Rattle.std.proofs.lemmas.List.{append-nil}
@@ -10,8 +10,8 @@ use Rattle.std.proofs.lemmas.List.Sums.{sum_by-append}
 use Rattle.gdb_packets.specs.declared.reader.Piece.TheVariants as piece
 use Rattle.gdb_packets.specs.declared.reader.FramePlace.TheVariants as place
 use Rattle.gdb_packets.specs.Digits.{digit, digit_value, two_digits}
-use Rattle.gdb_packets.specs.Frames.{check_sum, frame_end, packet_frame, is_escaped, sent_byte, sent_bytes, turned_byte}
-use Rattle.gdb_packets.specs.Laws.{PacketsAreRead, Heard, are_bytes, heard}
+use Rattle.gdb_packets.specs.Frames.{frame_end, is_escaped, sent_byte, sent_bytes, turned_byte}
+use Rattle.gdb_packets.specs.Laws.{PacketsAreRead, are_bytes, heard}
 use Rattle.gdb_packets.specs.Reading.{Reading, byte_taken}
 
 -- within a packet that fits so far

@@ -5,7 +5,7 @@ use Rattle.gdb_packets.specs.declared.reader.Piece.{Piece}
 use Rattle.gdb_packets.specs.declared.reader.Piece.TheVariants as piece
 use Rattle.gdb_packets.specs.declared.reader.FramePlace.TheVariants as place
 use Rattle.gdb_packets.specs.Frames.{packet_frame}
-use Rattle.gdb_packets.specs.Reading.{Reading, Taken, byte_taken, most_packet}
+use Rattle.gdb_packets.specs.Reading.{Reading, byte_taken, most_packet}
 
 -- a piece, and the packet that stands read then
 pub record Heard : Type 0 where

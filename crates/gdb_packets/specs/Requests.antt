@@ -40,7 +40,8 @@ pub data GdbRequest : Type 0 where
   -- so many bytes of the target's description, from there on, or of the list of its libraries
   Description : ByteRange → GdbRequest
   Libraries : ByteRange → GdbRequest
-  Thread : GdbRequest
+  -- `H`, `T`, or an action's: a thread, and whether it is the one that there is
+  Thread : Bool → GdbRequest
   IsAttached : GdbRequest
   CurrentThread : GdbRequest
   FirstThreads : GdbRequest
@@ -103,9 +104,21 @@ abbrev pub of_range : Option ByteRange → (ByteRange → GdbRequest) → GdbReq
 of_range None request = Unknown
 of_range (Some range) request = request range
 
--- a thread, or what a call came to: a number, or `-1`, which is all threads or a failure
-abbrev pub is_thread : List ℕ → Bool
-is_thread text = is_some (packet_number text) || bytes_eq text (codes "-1")
+-- what a call came to: a number, or `-1`, which is a failure
+abbrev pub is_call_result : List ℕ → Bool
+is_call_result text = is_some (packet_number text) || bytes_eq text (codes "-1")
+
+-- a thread, and whether it is the one that there is: that has the number 1; 0 means any, and -1 all
+abbrev pub thread_numbered : Option ℕ → Bool → Option Bool
+thread_numbered (Some n) is_all = Some (nat_le n 1)
+thread_numbered None is_all = if is_all then Some true else None
+
+abbrev pub thread_in : List ℕ → Option Bool
+thread_in text = thread_numbered (packet_number text) (bytes_eq text (codes "-1"))
+
+abbrev pub of_thread : Option Bool → GdbRequest
+of_thread None = Unknown
+of_thread (Some is_own) = Thread is_own
 
 abbrev pub register_request : Option ℕ → GdbRequest
 register_request None = Unknown
@@ -174,17 +187,23 @@ action_request (letter ∷ digit ∷ digits) =
     if letter == 83 then of_signal (packet_number (digit ∷ digits)) StepWith else (
     if letter == 114 then places_request (parts_around 44 (digit ∷ digits)) else Unknown))
 
--- an action, and `:` with a thread or not
-abbrev pub action_for_parts : Option PacketParts → List ℕ → GdbRequest
-action_for_parts None text = action_request text
-action_for_parts (Some parts) text = if_told (is_thread parts.behind) (action_request parts.before)
-
-abbrev pub action_for_thread : List ℕ → GdbRequest
-action_for_thread text = action_for_parts (parts_around 58 text) text
-
 abbrev pub is_known_packet : GdbRequest → Bool
 is_known_packet Unknown = false
 is_known_packet _ = true
+
+-- an action of a thread; of another than the one that there is none is taken
+abbrev pub action_of : Option Bool → GdbRequest → GdbRequest
+action_of None action = Unknown
+action_of (Some true) action = action
+action_of (Some false) action = if_told (is_known_packet action) (Thread false)
+
+-- an action, and `:` with a thread or not
+abbrev pub action_for_parts : Option PacketParts → List ℕ → GdbRequest
+action_for_parts None text = action_request text
+action_for_parts (Some parts) text = action_of (thread_in parts.behind) (action_request parts.before)
+
+abbrev pub action_for_thread : List ℕ → GdbRequest
+action_for_thread text = action_for_parts (parts_around 58 text) text
 
 -- one action, or two, of which the first tells what the one thread does
 abbrev pub actions_in : Option PacketParts → List ℕ → GdbRequest
@@ -202,9 +221,9 @@ host_answer_flagged (Some parts) text =
 
 -- a result; behind a comma an error's number; behind another `C`
 abbrev pub host_answer_in : Option PacketParts → List ℕ → GdbRequest
-host_answer_in None text = if_told (is_thread text) (HostAnswer false)
+host_answer_in None text = if_told (is_call_result text) (HostAnswer false)
 host_answer_in (Some parts) text =
-    if_told (is_thread parts.before) (host_answer_flagged (parts_around 44 parts.behind) parts.behind)
+    if_told (is_call_result parts.before) (host_answer_flagged (parts_around 44 parts.behind) parts.behind)
 
 abbrev pub host_answer_request : List ℕ → GdbRequest
 host_answer_request text = host_answer_in (parts_around 44 text) text
@@ -212,7 +231,7 @@ host_answer_request text = host_answer_in (parts_around 44 text) text
 -- `g` or `c`, and a thread
 abbrev pub thread_request : List ℕ → GdbRequest
 thread_request [] = Unknown
-thread_request (letter ∷ thread) = if_told ((letter == 103 || letter == 99) && is_thread thread) Thread
+thread_request (letter ∷ thread) = if letter == 103 || letter == 99 then of_thread (thread_in thread) else Unknown
 
 -- `;` and the number of a process
 abbrev pub is_process : List ℕ → Bool
@@ -248,7 +267,7 @@ control_request letter rest =
     if letter == 67 then of_signal (packet_number rest) ContinueWith else (
     if letter == 83 then of_signal (packet_number rest) StepWith else (
     if letter == 72 then thread_request rest else (
-    if letter == 84 then if_told (is_thread rest) Thread else (
+    if letter == 84 then of_thread (thread_in rest) else (
     if letter == 70 then host_answer_request rest else (
     if letter == 68 then if_told (is_process rest) Detach else (
     if letter == 82 then if_told (is_some (packet_number rest)) Restart else Unknown))))))
@@ -356,7 +375,7 @@ gdb_request request.Supported = Supported
 gdb_request request.NoAcks = NoAcks
 gdb_request (request.Description range) = Description range
 gdb_request (request.Libraries range) = Libraries range
-gdb_request request.Thread = Thread
+gdb_request (request.Thread is_own) = Thread is_own
 gdb_request request.IsAttached = IsAttached
 gdb_request request.CurrentThread = CurrentThread
 gdb_request request.FirstThreads = FirstThreads

@@ -1,5 +1,8 @@
-//! GDB's remote protocol as bytes: packets in their frames, both ways, and what a packet asks for. It
-//! knows no machine.
+//! GDB's remote protocol as bytes: packets in their frames, both ways, and what a packet asks for.
+//! It knows no machine.
+//!
+//! Promise: what is framed is read as that packet, and a request is read just where the grammar has
+//! it.
 #![tactic(auto)]
 
 mod digits;

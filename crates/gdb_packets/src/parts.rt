@@ -2,7 +2,7 @@
 
 ghost use Rattle.std.specs.Prelude.{◌≡◌, ◌==◌, option_map};
 ghost use Rattle.std.specs.List.{position};
-ghost use Rattle.gdb_packets.specs.Requests.{PacketParts, behind_opening as behind_told, is_thread as is_thread_told, parts_around as parted_told, parts_of, byte_range_of as range_told};
+ghost use Rattle.gdb_packets.specs.Requests.{PacketParts, behind_opening as behind_told, is_call_result as is_result_told, thread_in, parts_around as parted_told, parts_of, byte_range_of as range_told};
 
 use crate::numbers::number_of;
 use crate::requests::ByteRange;
@@ -57,9 +57,21 @@ pub(crate) fn byte_range_of(text: &[u8]) -> Option<ByteRange>
     }
 }
 
-/// Whether a text names a thread, or tells what a call came to: a number, or `-1`.
-pub(crate) fn is_thread(text: &[u8]) -> bool
-    ensures { result ≡ is_thread_told text.now }
+/// Whether a text tells what a call came to: a number, or `-1`.
+pub(crate) fn is_call_result(text: &[u8]) -> bool
+    ensures { result ≡ is_result_told text.now }
 {
     number_of(text).is_some() || text == b"-1".as_slice()
+}
+
+/// Whether the thread that a text names is the one that there is, if it names one: 1, or 0 for any, or
+/// `-1` for all.
+pub(crate) fn thread_in(text: &[u8]) -> Option<bool>
+    ensures { result ≡ thread_in text.now }
+{
+    match number_of(text) {
+        Some(number) => Some(number <= 1),
+        None if text == b"-1".as_slice() => Some(true),
+        None => None,
+    }
 }

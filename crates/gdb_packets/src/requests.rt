@@ -1,10 +1,10 @@
 //! What a packet asks for.
 
 ghost use Rattle.std.specs.Prelude.{◌≡◌, option_map};
-ghost use Rattle.gdb_packets.specs.Requests.{gdb_request, packet_request, parts_around, Memory, AddPoint, RemovePoint, lone_request, access_request, control_request, lettered_request, register_request, set_register_request, store_pairs_request, store_bytes_request, point_kind, point_request, thread_request, is_process, begins_word, of_range, of_signal, ContinueWith, StepWith};
+ghost use Rattle.gdb_packets.specs.Requests.{gdb_request, packet_request, parts_around, Memory, AddPoint, RemovePoint, lone_request, access_request, control_request, lettered_request, register_request, set_register_request, store_pairs_request, store_bytes_request, point_kind, point_request, thread_request, is_process, begins_word, of_range, of_signal, of_thread, ContinueWith, StepWith};
 
 use crate::numbers::number_of;
-use crate::parts::{byte_range_of, is_thread, parts_around};
+use crate::parts::{byte_range_of, parts_around, thread_in};
 use crate::words::{host_answer_request, word_request};
 
 /// What a point is set for.
@@ -81,8 +81,8 @@ pub enum Request<'a> {
     Description(ByteRange),
     /// `qXfer:libraries:read`: bytes of the list of its libraries.
     Libraries(ByteRange),
-    /// `H`, `T`: a thread is meant or asked after; there is one.
-    Thread,
+    /// `H`, `T`, or an action's: a thread is meant or asked after, and whether it is the one that there is.
+    Thread(bool),
     /// `qAttached`.
     IsAttached,
     /// `qC`.
@@ -183,7 +183,7 @@ fn control_request(letter: u8, rest: &[u8]) -> Request<'static>
         b'C' => continue_with(number_of(rest)),
         b'S' => step_with(number_of(rest)),
         b'H' => thread_request(rest),
-        b'T' if is_thread(rest) => Request::Thread,
+        b'T' => of_thread(thread_in(rest)),
         b'F' => host_answer_request(rest),
         b'D' if is_process(rest) => Request::Detach,
         b'R' if number_of(rest).is_some() => Request::Restart,
@@ -310,8 +310,17 @@ fn thread_request(text: &[u8]) -> Request<'static>
     ensures { gdb_request result ≡ thread_request text.now }
 {
     match text {
-        [b'g' | b'c', thread @ ..] if is_thread(thread) => Request::Thread,
+        [b'g' | b'c', thread @ ..] => of_thread(thread_in(thread)),
         _ => Request::Unknown,
+    }
+}
+
+fn of_thread(is_own: Option<bool>) -> Request<'static>
+    ensures { gdb_request result ≡ of_thread is_own }
+{
+    match is_own {
+        Some(is_own) => Request::Thread(is_own),
+        None => Request::Unknown,
     }
 }
 

@@ -1,10 +1,10 @@
 //! Packets that are words, or begin with one.
 
 ghost use Rattle.std.specs.Prelude.{◌≡◌, option_map};
-ghost use Rattle.gdb_packets.specs.Requests.{gdb_request, action_request, action_for_thread, actions_request, places_request, is_known_packet, host_answer_request, host_answer_flagged, parts_around, whole_word_request, opened_request, word_request, about_attachment, about_libraries, about_process, about_session, about_target};
+ghost use Rattle.gdb_packets.specs.Requests.{gdb_request, action_request, action_for_thread, action_of, actions_request, places_request, is_known_packet, host_answer_request, host_answer_flagged, parts_around, whole_word_request, opened_request, word_request, about_attachment, about_libraries, about_process, about_session, about_target};
 
 use crate::numbers::number_of;
-use crate::parts::{behind_opening, byte_range_of, is_thread, parts_around};
+use crate::parts::{behind_opening, byte_range_of, is_call_result, parts_around, thread_in};
 use crate::requests::{PlaceRange, Request, continue_with, step_with};
 
 /// Of a word.
@@ -139,8 +139,18 @@ fn action_for_thread(text: &[u8]) -> Request<'static>
 {
     match parts_around(b':', text) {
         None => action_request(text),
-        Some(parts) if is_thread(parts.behind) => action_request(parts.before),
-        Some(_) => Request::Unknown,
+        Some(parts) => action_of(thread_in(parts.behind), action_request(parts.before)),
+    }
+}
+
+// An action of a thread; of another than the one that there is none is taken.
+fn action_of(is_own: Option<bool>, action: Request<'static>) -> Request<'static>
+    ensures { gdb_request result ≡ action_of is_own (gdb_request action.entry) }
+{
+    match is_own {
+        Some(true) => action,
+        Some(false) if is_known_packet(&action) => Request::Thread(false),
+        _ => Request::Unknown,
     }
 }
 
@@ -176,9 +186,9 @@ pub(crate) fn host_answer_request(text: &[u8]) -> Request<'static>
     ensures { gdb_request result ≡ host_answer_request text.now }
 {
     match parts_around(b',', text) {
-        None if is_thread(text) => Request::HostAnswer(false),
+        None if is_call_result(text) => Request::HostAnswer(false),
         None => Request::Unknown,
-        Some(parts) if is_thread(parts.before) => host_answer_flagged(parts.behind),
+        Some(parts) if is_call_result(parts.before) => host_answer_flagged(parts.behind),
         Some(_) => Request::Unknown,
     }
 }

@@ -14,7 +14,7 @@ use Rattle.gdb_packets.specs.Numbers.{below_limit, number_onto, packet_number, w
 use Rattle.gdb_packets.specs.Requests.{PacketParts, behind_opening, parts_around, parts_at}
 use Rattle.gdb_packets.proofs.NumberLemmas.{onto}
 use Rattle.gdb_packets.proofs.ReadingLemmas.{both_true}
-use Rattle.gdb_packets.specs.request_laws.Grammar.{HasNumber, IsNumber, IsThread}
+use Rattle.gdb_packets.specs.request_laws.Grammar.{HasNumber, IsCallResult, IsNumber, IsThread}
 
 -- TWO PARTS
 
@@ -173,15 +173,27 @@ pub some_long : (text : List ℕ) → HasNumber text → 0 < length text
 some_long [] is = absurd (cc)
 some_long (d ∷ ds) is = omega arith
 
--- a thread has none of a comma, a colon and a semicolon
-pub thread_free : (separator : ℕ) (text : List ℕ) → digit_value separator ≡ None → Free separator (codes "-1") → IsThread text
+-- what a call came to has no comma
+pub result_free : (separator : ℕ) (text : List ℕ) → digit_value separator ≡ None → Free separator (codes "-1") → IsCallResult text
     → Free separator text
-thread_free separator text none other (inl number) = some_free separator text none number
-thread_free separator text none other (inr is) = rw is other
+result_free separator text none other (inl number) = some_free separator text none number
+result_free separator text none other (inr is) = rw is other
 
-pub thread_long : (text : List ℕ) → IsThread text → 0 < length text
-thread_long text (inl number) = some_long text number
-thread_long text (inr is) = rw is (omega arith)
+pub result_long : (text : List ℕ) → IsCallResult text → 0 < length text
+result_long text (inl number) = some_long text number
+result_long text (inr is) = rw is (omega arith)
+
+-- a thread has no semicolon
+pub thread_free : (is_own : Bool) (separator : ℕ) (text : List ℕ) → digit_value separator ≡ None → Free separator (codes "-1")
+    → IsThread is_own text → Free separator text
+thread_free true separator text none other (inl t) = number_free separator t.number text none t.is
+thread_free true separator text none other (inr is) = rw is other
+thread_free false separator text none other t = number_free separator t.number text none t.is
+
+pub thread_long : (is_own : Bool) (text : List ℕ) → IsThread is_own text → 0 < length text
+thread_long true text (inl t) = number_long t.number text t.is
+thread_long true text (inr is) = rw is (omega arith)
+thread_long false text t = number_long t.number text t.is
 
 pub parted_long : (separator : ℕ) (before behind : List ℕ) → 0 < length (before ++ (separator ∷ behind))
 parted_long separator before behind = omega (arith, length-append before (separator ∷ behind))

@@ -1,17 +1,20 @@
 -- Pieces of packets, read: ranges, points, stores, threads, actions and what calls came to.
 use Rattle.std.proofs.Common.{◌≡◌, inl, inr, ℕ, Bool, true, false, not, List, [], ◌∷◌, refl, ap, sym, subst, ◌∙◌, arith, length, ◌++◌}
-use Rattle.std.specs.Prelude.{Option, Some, None, is_some, ◌==◌, codes}
+use Rattle.std.specs.Prelude.{Option, Some, None, is_some, nat_le, ◌==◌, codes}
+use Rattle.std.specs.Str.{bytes_eq}
+use Rattle.std.proofs.lemmas.Bool.{le-leb, lt-leb}
 use Rattle.std.proofs.lemmas.Option.{none-some}
 use Rattle.gdb_packets.specs.Digits.{digit_value}
 use Rattle.gdb_packets.specs.Numbers.{packet_number}
 use Rattle.gdb_packets.specs.Requests as request
-use Rattle.gdb_packets.specs.Requests.{GdbRequest, PacketParts, action_for_parts, action_for_thread, action_request, actions_in, actions_request, byte_range_of, host_answer_flagged, host_answer_in, host_answer_request, if_told, is_known_packet, is_thread, of_signal, parts_around, places_of_both, places_request, point_kind, point_of_kind, point_request, range_of_both, range_of_parts, set_register_request, store_bytes_request, store_pairs_request}
+use Rattle.gdb_packets.specs.Requests.{GdbRequest, PacketParts, action_for_parts, action_for_thread, action_of, action_request, actions_in, actions_request, byte_range_of, host_answer_flagged, host_answer_in, host_answer_request, if_told, is_call_result, is_known_packet, of_signal, parts_around, places_of_both, places_request, point_kind, point_of_kind, point_request, range_of_both, range_of_parts, set_register_request, store_bytes_request, store_pairs_request, thread_in, thread_numbered}
 use Rattle.gdb_packets.specs.declared.requests.ByteRange.{ByteRange}
 use Rattle.gdb_packets.specs.declared.requests.PlaceRange.{PlaceRange}
 use Rattle.gdb_packets.specs.declared.requests.PointKind.{PointKind}
 use Rattle.gdb_packets.specs.declared.requests.PointKind.TheVariants as point
-use Rattle.gdb_packets.specs.request_laws.Grammar.{AreActions, Behind, HasNumber, Is, IsAction, IsAnyForThread, IsCallEnd, IsCallStopped, IsForThread, IsKind, IsNumber, IsPoint, IsRange, IsStoreText, IsThread, IsStepRange, Parted}
-use Rattle.gdb_packets.proofs.RequestLawsLemmas.PartLemmas.{Free, free_append, free_cons, number_free, or_true, parted_long, parts_found, parts_none, some_free, thread_free}
+use Rattle.gdb_packets.specs.request_laws.Grammar.{AreActions, Behind, HasNumber, Is, IsAction, IsAnyAction, IsAnyForThread, IsCallEnd, IsCallResult, IsCallStopped, IsForThread, IsKind, IsNumber, IsOwnAction, IsPoint, IsRange, IsStoreText, IsThread, IsStepRange, Parted}
+use Rattle.gdb_packets.proofs.NumberLemmas.{onto}
+use Rattle.gdb_packets.proofs.RequestLawsLemmas.PartLemmas.{Free, free_append, free_cons, number_free, or_true, parted_long, parts_found, parts_none, result_free, some_free, thread_free}
 
 -- what parts a text in two kinds is read as
 parts_read : {First Second : List ℕ → Type 0} (separator : ℕ) (text : List ℕ) (p : Parted separator First Second text)
@@ -71,9 +74,22 @@ store_bytes_read range stored text p =
     ∙ ap (λ (o : Option ByteRange). request.of_range o (λ r. request.StoreBytes r p.behind)) (range_read range p.before p.first)
     ∙ ap (request.StoreBytes range) p.second
 
-pub thread_read : (text : List ℕ) → IsThread text → is_thread text ≡ true
-thread_read text (inl number) = rw number refl
-thread_read text (inr is) = rw is (or_true (is_some (packet_number (codes "-1"))) true refl)
+pub result_read : (text : List ℕ) → IsCallResult text → is_call_result text ≡ true
+result_read text (inl number) = rw number refl
+result_read text (inr is) = rw is (or_true (is_some (packet_number (codes "-1"))) true refl)
+
+-- a minus is no digit
+no_number : packet_number (codes "-1") ≡ None
+no_number = onto 0 45 (49 ∷ [])
+
+numbered : (text : List ℕ) (n : ℕ) (is_own : Bool) → packet_number text ≡ Some n → nat_le n 1 ≡ is_own → thread_in text ≡ Some is_own
+numbered text n is_own is own =
+    ap (λ (o : Option ℕ). thread_numbered o (bytes_eq text (codes "-1"))) is ∙ ap (λ (b : Bool). Some b) own
+
+pub thread_read : (is_own : Bool) (text : List ℕ) → IsThread is_own text → thread_in text ≡ Some is_own
+thread_read true text (inl t) = numbered text t.number true t.is (le-leb t.number 1 t.within)
+thread_read true text (inr is) = ap thread_in is ∙ ap (λ (o : Option ℕ). thread_numbered o true) no_number
+thread_read false text t = numbered text t.number false t.is (lt-leb t.number 1 t.beyond)
 
 -- ACTIONS
 
@@ -142,30 +158,59 @@ colon = record { none = refl; small_c = refl; small_s = refl; capital_c = refl; 
 semicolon : Others 59
 semicolon = record { none = refl; small_c = refl; small_s = refl; capital_c = refl; capital_s = refl; small_r = refl; comma = refl }
 
-for_thread_read : (r : GdbRequest) (text : List ℕ) → IsForThread (IsAction r) text → action_for_thread text ≡ r
-for_thread_read r text (inl action) =
-    ap (λ (o : Option PacketParts). action_for_parts o text) (parts_none 58 text (action_free 58 r text colon action))
-    ∙ action_read r text action
-for_thread_read r text (inr p) =
-    ap (λ (o : Option PacketParts). action_for_parts o text) (parts_read 58 text p (action_free 58 r p.before colon p.first))
-    ∙ ap (λ (b : Bool). if_told b (action_request p.before)) (thread_read p.behind p.second) ∙ action_read r p.before p.first
-
-for_thread_free : (r : GdbRequest) (text : List ℕ) → IsForThread (IsAction r) text → Free 59 text
-for_thread_free r text (inl action) = action_free 59 r text semicolon action
-for_thread_free r text (inr p) =
-    subst (Free 59) (sym p.whole) (free_append 59 p.before (58 ∷ p.behind) (action_free 59 r p.before semicolon p.first)
-    (free_cons 59 58 p.behind refl (thread_free 59 p.behind refl refl p.second)))
-
 -- a request that a text of an action asks for is a known one
-action_known : (r : GdbRequest) (text : List ℕ) → IsForThread (IsAction r) text → is_known_packet r ≡ true
-action_known request.Unknown text (inl none) = absurd none
-action_known request.Unknown text (inr p) = absurd p.first
+action_known : (r : GdbRequest) (text : List ℕ) → IsAction r text → is_known_packet r ≡ true
+action_known request.Unknown text none = absurd none
 action_known other text is = refl
 
-any_known : (text : List ℕ) → IsAnyForThread text → is_known_packet (action_for_thread text) ≡ true
-any_known text any = ap is_known_packet (for_thread_read any.action text any.for_thread) ∙ action_known any.action text any.for_thread
+own_read : (r : GdbRequest) (text : List ℕ) → IsOwnAction r text → action_for_thread text ≡ r
+own_read r text (inl action) =
+    ap (λ (o : Option PacketParts). action_for_parts o text) (parts_none 58 text (action_free 58 r text colon action))
+    ∙ action_read r text action
+own_read r text (inr p) =
+    ap (λ (o : Option PacketParts). action_for_parts o text) (parts_read 58 text p (action_free 58 r p.before colon p.first))
+    ∙ ap (λ (o : Option Bool). action_of o (action_request p.before)) (thread_read true p.behind p.second) ∙ action_read r p.before p.first
 
-pub actions_read : (r : GdbRequest) (text : List ℕ) → AreActions (IsAction r) text → actions_request text ≡ r
+other_read : (text : List ℕ) → Parted 58 IsAnyAction (IsThread false) text → action_for_thread text ≡ request.Thread false
+other_read text p =
+    let a = p.first in
+    ap (λ (o : Option PacketParts). action_for_parts o text) (parts_read 58 text p (action_free 58 a.action p.before colon a.kind))
+    ∙ ap (λ (o : Option Bool). action_of o (action_request p.before)) (thread_read false p.behind p.second)
+    ∙ ap (λ (b : Bool). if_told b (request.Thread false))
+    (ap is_known_packet (action_read a.action p.before a.kind) ∙ action_known a.action p.before a.kind)
+
+for_thread_read : (r : GdbRequest) (text : List ℕ) → IsForThread r text → action_for_thread text ≡ r
+for_thread_read (request.Thread false) text p = other_read text p
+for_thread_read other text own = own_read other text own
+
+-- behind the colon of an action no semicolon stands
+colon_free : (is_own : Bool) (r : GdbRequest) (text before behind : List ℕ) → text ≡ before ++ (58 ∷ behind) → IsAction r before
+    → IsThread is_own behind → Free 59 text
+colon_free is_own r text before behind whole action thread =
+    subst (Free 59) (sym whole) (free_append 59 before (58 ∷ behind) (action_free 59 r before semicolon action)
+    (free_cons 59 58 behind refl (thread_free is_own 59 behind refl refl thread)))
+
+own_free : (r : GdbRequest) (text : List ℕ) → IsOwnAction r text → Free 59 text
+own_free r text (inl action) = action_free 59 r text semicolon action
+own_free r text (inr p) = colon_free true r text p.before p.behind p.whole p.first p.second
+
+for_thread_free : (r : GdbRequest) (text : List ℕ) → IsForThread r text → Free 59 text
+for_thread_free (request.Thread false) text p = colon_free false p.first.action text p.before p.behind p.whole p.first.kind p.second
+for_thread_free other text own = own_free other text own
+
+own_known : (r : GdbRequest) (text : List ℕ) → IsOwnAction r text → is_known_packet r ≡ true
+own_known r text (inl action) = action_known r text action
+own_known r text (inr p) = action_known r p.before p.first
+
+for_thread_known : (r : GdbRequest) (text : List ℕ) → IsForThread r text → is_known_packet r ≡ true
+for_thread_known (request.Thread false) text p = refl
+for_thread_known other text own = own_known other text own
+
+any_known : (text : List ℕ) → IsAnyForThread text → is_known_packet (action_for_thread text) ≡ true
+any_known text any =
+    ap is_known_packet (for_thread_read any.action text any.for_thread) ∙ for_thread_known any.action text any.for_thread
+
+pub actions_read : (r : GdbRequest) (text : List ℕ) → AreActions r text → actions_request text ≡ r
 actions_read r text (inl action) =
     ap (λ (o : Option PacketParts). actions_in o text) (parts_none 59 text (for_thread_free r text action))
     ∙ for_thread_read r text action
@@ -176,12 +221,12 @@ actions_read r text (inr p) =
 -- WHAT CALLS CAME TO
 
 pub call_end_read : (text : List ℕ) → IsCallEnd text → host_answer_request text ≡ request.HostAnswer false
-call_end_read text (inl thread) =
-    ap (λ (o : Option PacketParts). host_answer_in o text) (parts_none 44 text (thread_free 44 text refl refl thread))
-    ∙ ap (λ (b : Bool). if_told b (request.HostAnswer false)) (thread_read text thread)
+call_end_read text (inl result) =
+    ap (λ (o : Option PacketParts). host_answer_in o text) (parts_none 44 text (result_free 44 text refl refl result))
+    ∙ ap (λ (b : Bool). if_told b (request.HostAnswer false)) (result_read text result)
 call_end_read text (inr p) =
-    ap (λ (o : Option PacketParts). host_answer_in o text) (parts_read 44 text p (thread_free 44 p.before refl refl p.first))
-    ∙ ap (λ (b : Bool). if_told b (host_answer_flagged (parts_around 44 p.behind) p.behind)) (thread_read p.before p.first)
+    ap (λ (o : Option PacketParts). host_answer_in o text) (parts_read 44 text p (result_free 44 p.before refl refl p.first))
+    ∙ ap (λ (b : Bool). if_told b (host_answer_flagged (parts_around 44 p.behind) p.behind)) (result_read p.before p.first)
     ∙ ap (λ (o : Option PacketParts). host_answer_flagged o p.behind) (parts_none 44 p.behind (some_free 44 p.behind refl p.second))
     ∙ ap (λ (b : Bool). if_told b (request.HostAnswer false)) p.second
 
@@ -193,6 +238,6 @@ flag_read text p =
 
 pub call_stopped_read : (text : List ℕ) → IsCallStopped text → host_answer_request text ≡ request.HostAnswer true
 call_stopped_read text p =
-    ap (λ (o : Option PacketParts). host_answer_in o text) (parts_read 44 text p (thread_free 44 p.before refl refl p.first))
-    ∙ ap (λ (b : Bool). if_told b (host_answer_flagged (parts_around 44 p.behind) p.behind)) (thread_read p.before p.first)
+    ap (λ (o : Option PacketParts). host_answer_in o text) (parts_read 44 text p (result_free 44 p.before refl refl p.first))
+    ∙ ap (λ (b : Bool). if_told b (host_answer_flagged (parts_around 44 p.behind) p.behind)) (result_read p.before p.first)
     ∙ flag_read p.behind p.second

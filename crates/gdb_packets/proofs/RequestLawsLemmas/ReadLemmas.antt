@@ -2,11 +2,11 @@
 use Rattle.std.proofs.Common.{◌≡◌, ◌<◌, ◌⊎◌, inl, inr, ℕ, Bool, true, false, List, [], ◌∷◌, ◌++◌, length, refl, ap, sym, subst, ◌∙◌, arith}
 use Rattle.std.specs.Prelude.{Option, None, codes, take}
 use Rattle.gdb_packets.specs.Requests as request
-use Rattle.gdb_packets.specs.Requests.{GdbRequest, about_attachment, about_libraries, about_process, about_session, about_target, actions_or, attachment_or, begins_word, byte_range_of, if_told, kill_or_run, lettered_request, libraries_or, line_or_description, of_range, of_signal, opened_request, packet_request, register_request, supported_or, whole_word_request, word_request}
+use Rattle.gdb_packets.specs.Requests.{GdbRequest, about_attachment, about_libraries, about_process, about_session, about_target, actions_or, attachment_or, begins_word, byte_range_of, if_told, kill_or_run, lettered_request, libraries_or, line_or_description, of_range, of_signal, of_thread, opened_request, packet_request, register_request, supported_or, whole_word_request, word_request}
 use Rattle.gdb_packets.specs.declared.requests.ByteRange.{ByteRange}
 use Rattle.std.specs.Str.{bytes_eq}
-use Rattle.gdb_packets.specs.request_laws.Grammar.{AsksFor, Behind, HasNumber, Is, IsCallEnd, IsGoing, IsNumber, IsRange, IsSignalled, IsThread}
-use Rattle.gdb_packets.proofs.RequestLawsLemmas.PartLemmas.{behind_found, behind_missing, number_long, parted_long, some_long, thread_long}
+use Rattle.gdb_packets.specs.request_laws.Grammar.{AsksFor, Behind, HasNumber, Is, IsAboutThread, IsCallEnd, IsGoing, IsNumber, IsRange, IsSignalled, IsThread}
+use Rattle.gdb_packets.proofs.RequestLawsLemmas.PartLemmas.{behind_found, behind_missing, number_long, parted_long, result_long, some_long, thread_long}
 use Rattle.gdb_packets.proofs.RequestLawsLemmas.PieceLemmas.{actions_read, call_end_read, call_stopped_read, point_read, range_read, set_register_read, store_bytes_read, store_pairs_read, thread_read}
 
 -- PACKETS OF A LETTER AND WHAT FOLLOWS
@@ -208,14 +208,17 @@ steps : (text : List ℕ) → Is (codes "s") text ⊎ IsGoing request.Step text 
 steps text (inl is) = alone text (115 ∷ []) request.Step is (lone 115)
 steps text (inr going_on) = going request.Step text going_on
 
-about_thread : (text : List ℕ) → (Behind (codes "Hg") IsThread text ⊎ Behind (codes "Hc") IsThread text) ⊎ Behind (codes "T") IsThread text
-    → packet_request text ≡ request.Thread
-about_thread text (inl (inl b)) = ap packet_request b.whole ∙ lettered 72 (103 ∷ b.rest) (omega arith) refl
-    ∙ ap (λ (n : Bool). if_told n request.Thread) (thread_read b.rest b.kind)
-about_thread text (inl (inr b)) = ap packet_request b.whole ∙ lettered 72 (99 ∷ b.rest) (omega arith) refl
-    ∙ ap (λ (n : Bool). if_told n request.Thread) (thread_read b.rest b.kind)
-about_thread text (inr b) = behind_letter 84 IsThread text b (thread_long b.rest b.kind) refl
-    ∙ ap (λ (n : Bool). if_told n request.Thread) (thread_read b.rest b.kind)
+about_thread : (is_own : Bool) (text : List ℕ) → IsAboutThread is_own text → packet_request text ≡ request.Thread is_own
+about_thread is_own text (inl (inl b)) = ap packet_request b.whole ∙ lettered 72 (103 ∷ b.rest) (omega arith) refl
+    ∙ ap of_thread (thread_read is_own b.rest b.kind)
+about_thread is_own text (inl (inr b)) = ap packet_request b.whole ∙ lettered 72 (99 ∷ b.rest) (omega arith) refl
+    ∙ ap of_thread (thread_read is_own b.rest b.kind)
+about_thread is_own text (inr b) = behind_letter 84 (IsThread is_own) text b (thread_long is_own b.rest b.kind) refl
+    ∙ ap of_thread (thread_read is_own b.rest b.kind)
+
+of_another : (text : List ℕ) → IsAboutThread false text ⊎ IsGoing (request.Thread false) text → packet_request text ≡ request.Thread false
+of_another text (inl asked) = about_thread false text asked
+of_another text (inr going_on) = going (request.Thread false) text going_on
 
 detaches : (text : List ℕ) → Is (codes "D") text ⊎ Behind (codes "D;") HasNumber text → packet_request text ≡ request.Detach
 detaches text (inl is) = alone text (codes "D") request.Detach is (lone 68)
@@ -235,7 +238,7 @@ sets_registers : (pairs : List ℕ) → 0 < length pairs → packet_request (71 
 sets_registers pairs some = lettered 71 pairs some refl
 
 call_long : (rest : List ℕ) → IsCallEnd rest → 0 < length rest
-call_long rest (inl thread) = thread_long rest thread
+call_long rest (inl result) = result_long rest result
 call_long rest (inr p) = subst (λ (x : List ℕ). 0 < length x) (sym p.whole) (parted_long 44 p.before p.behind)
 
 pub reads : (r : GdbRequest) (text : List ℕ) → AsksFor r text → packet_request text ≡ r
@@ -279,7 +282,8 @@ reads (request.Description range) text b = ap packet_request b.whole ∙ descrip
     ∙ ap (λ (o : Option ByteRange). of_range o request.Description) (range_read range b.rest b.kind)
 reads (request.Libraries range) text b = ap packet_request b.whole ∙ libraries_opened b.rest
     ∙ ap (λ (o : Option ByteRange). of_range o request.Libraries) (range_read range b.rest b.kind)
-reads request.Thread text asks = about_thread text asks
+reads (request.Thread true) text asks = about_thread true text asks
+reads (request.Thread false) text asks = of_another text asks
 reads request.IsAttached text asks = attaches text asks
 reads request.CurrentThread text is = alone text (codes "qC") request.CurrentThread is current_read
 reads request.FirstThreads text is = alone text (codes "qfThreadInfo") request.FirstThreads is first_read

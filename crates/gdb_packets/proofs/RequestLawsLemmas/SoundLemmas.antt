@@ -1,17 +1,17 @@
 -- What a text is read as, it asks for by the grammar.
 use Rattle.std.proofs.Common.{◌≡◌, ◌<◌, ◌⊎◌, inl, inr, ℕ, Bool, true, false, ◌&&◌, ◌||◌, List, [], ◌∷◌, ◌++◌, length, refl, ap, subst, ◌∙◌, arith}
-use Rattle.std.proofs.lemmas.Bool.{eqb-true}
+use Rattle.std.proofs.lemmas.Bool.{eqb-true, leb-false, leb-true}
 use Rattle.std.proofs.lemmas.Option.{none-some}
-use Rattle.std.specs.Prelude.{Option, Some, None, is_some, ◌==◌, codes, if◌then◌else◌}
+use Rattle.std.specs.Prelude.{Option, Some, None, is_some, nat_le, ◌==◌, codes, if◌then◌else◌}
 use Rattle.std.specs.Str.{bytes_eq}
 use Rattle.gdb_packets.specs.Numbers.{packet_number}
 use Rattle.gdb_packets.specs.Requests as request
-use Rattle.gdb_packets.specs.Requests.{GdbRequest, PacketParts, byte_range_of, control_request, first_told, host_answer_flagged, host_answer_in, host_answer_request, if_told, is_process, is_thread, lettered_request, lone_request, of_range, of_signal, parts_around, point_kind, point_of_kind, point_request, range_of_both, range_of_parts, register_request, set_register_numbered, set_register_request, store_bytes_request, store_pairs_request, thread_request}
+use Rattle.gdb_packets.specs.Requests.{GdbRequest, PacketParts, byte_range_of, control_request, first_told, host_answer_flagged, host_answer_in, host_answer_request, if_told, is_call_result, is_process, lettered_request, lone_request, of_range, of_signal, of_thread, parts_around, point_kind, point_of_kind, point_request, range_of_both, range_of_parts, register_request, set_register_numbered, set_register_request, store_bytes_request, store_pairs_request, thread_in, thread_numbered, thread_request}
 use Rattle.gdb_packets.specs.declared.requests.ByteRange.{ByteRange}
 use Rattle.gdb_packets.specs.declared.requests.PointKind.{PointKind}
 use Rattle.gdb_packets.specs.declared.requests.PointKind.TheVariants as point
 use Rattle.gdb_packets.proofs.ReadingLemmas.{both_true}
-use Rattle.gdb_packets.specs.request_laws.Grammar.{AsksFor, IsCallEnd, IsKind, IsPoint, IsRange, IsThread}
+use Rattle.gdb_packets.specs.request_laws.Grammar.{AsksFor, IsAboutThread, IsCallEnd, IsCallResult, IsKind, IsPoint, IsRange, IsThread}
 use Rattle.gdb_packets.proofs.RequestLawsLemmas.PartLemmas.{or_either, parts_were, same_bytes}
 
 abbrev AsksOrUnknown : GdbRequest → List ℕ → Type 0
@@ -56,12 +56,35 @@ lone_sound letter =
 
 -- PIECES
 
-pub thread_was : (text : List ℕ) → is_thread text ≡ true → IsThread text
-thread_was text is = by (or_either (is_some (packet_number text)) (bytes_eq text (codes "-1")) is)
+pub result_was : (text : List ℕ) → is_call_result text ≡ true → IsCallResult text
+result_was text is = by (or_either (is_some (packet_number text)) (bytes_eq text (codes "-1")) is)
   where
-    by : ((is_some (packet_number text) ≡ true) ⊎ (bytes_eq text (codes "-1") ≡ true)) → IsThread text
+    by : ((is_some (packet_number text) ≡ true) ⊎ (bytes_eq text (codes "-1") ≡ true)) → IsCallResult text
     by (inl number) = inl number
     by (inr same) = inr (same_bytes text (codes "-1") same)
+
+pub thread_was : (is_own : Bool) (text : List ℕ) → thread_in text ≡ Some is_own → IsThread is_own text
+thread_was is_own text is = by (packet_number text) refl is
+  where
+    numbered : (own : Bool) (n : ℕ) → packet_number text ≡ Some n → nat_le n 1 ≡ own → IsThread own text
+    numbered true n e h = inl (record { number = n; is = e; within = leb-true n 1 h })
+    numbered false n e h = record { number = n; is = e; beyond = leb-false n 1 h }
+
+    all : (own b : Bool) → bytes_eq text (codes "-1") ≡ b → thread_numbered None b ≡ Some own → IsThread own text
+    all true true e h = inr (same_bytes text (codes "-1") e)
+    all false true e h = absurd (cc)
+    all own false e h = absurd (none-some own h)
+
+    by : (o : Option ℕ) → packet_number text ≡ o → thread_numbered o (bytes_eq text (codes "-1")) ≡ Some is_own → IsThread is_own text
+    by None e h = all is_own (bytes_eq text (codes "-1")) refl h
+    by (Some n) e h = numbered is_own n e (let same : nat_le n 1 ≡ is_own = cc in same)
+
+-- a thread that is asked about
+of_thread_sound : (o : Option Bool) (text : List ℕ) → ((is_own : Bool) → o ≡ Some is_own → IsAboutThread is_own text)
+    → Sound (of_thread o) text
+of_thread_sound None text asks = unknown text
+of_thread_sound (Some true) text asks = record { asks = asks true refl }
+of_thread_sound (Some false) text asks = record { asks = inl (asks false refl) }
 
 pub range_was : (range : ByteRange) (text : List ℕ) → byte_range_of text ≡ Some range → IsRange range text
 range_was range text is = by (parts_around 44 text) refl is
@@ -195,7 +218,7 @@ host_sound letter rest is = by (parts_around 44 rest) refl
     ends : IsCallEnd rest → Sound (request.HostAnswer false) (letter ∷ rest)
     ends kind = record { asks = record { rest = rest; whole = begins letter 70 rest is; kind = kind } }
 
-    flagged : (parts : PacketParts) (o : Option PacketParts) → rest ≡ parts.before ++ (44 ∷ parts.behind) → IsThread parts.before
+    flagged : (parts : PacketParts) (o : Option PacketParts) → rest ≡ parts.before ++ (44 ∷ parts.behind) → IsCallResult parts.before
         → parts_around 44 parts.behind ≡ o → Sound (host_answer_flagged o parts.behind) (letter ∷ rest)
     flagged parts None whole thread e = told_sound (is_some (packet_number parts.behind)) (request.HostAnswer false) (letter ∷ rest)
         (λ number. ends (inr (record { before = parts.before; behind = parts.behind; whole = whole; first = thread; second = number })))
@@ -222,22 +245,24 @@ host_sound letter rest is = by (parts_around 44 rest) refl
         })
 
     by : (o : Option PacketParts) → parts_around 44 rest ≡ o → Sound (host_answer_in o rest) (letter ∷ rest)
-    by None e = told_sound (is_thread rest) (request.HostAnswer false) (letter ∷ rest) (λ thread. ends (inl (thread_was rest thread)))
-    by (Some parts) e = told_sound (is_thread parts.before) (host_answer_flagged (parts_around 44 parts.behind) parts.behind) (letter ∷ rest)
-        (λ thread. flagged parts (parts_around 44 parts.behind) (parts_were 44 rest parts e) (thread_was parts.before thread) refl)
+    by None e = told_sound (is_call_result rest) (request.HostAnswer false) (letter ∷ rest) (λ result. ends (inl (result_was rest result)))
+    by (Some parts) e = told_sound (is_call_result parts.before) (host_answer_flagged (parts_around 44 parts.behind) parts.behind) (letter ∷ rest)
+        (λ result. flagged parts (parts_around 44 parts.behind) (parts_were 44 rest parts e) (result_was parts.before result) refl)
 
 about_thread_sound : (letter next : ℕ) (rest : List ℕ) → (letter == 72) ≡ true → Sound (thread_request (next ∷ rest)) (letter ∷ next ∷ rest)
 about_thread_sound letter next rest is =
-    told_sound ((next == 103 || next == 99) && is_thread rest) request.Thread (letter ∷ next ∷ rest) (λ both.
-    let parted = both_true (next == 103 || next == 99) (is_thread rest) both in
-    by (or_either (next == 103) (next == 99) parted.0) (thread_was rest parted.1))
+    if_sound (next == 103 || next == 99) (of_thread (thread_in rest)) request.Unknown (letter ∷ next ∷ rest) (λ opened.
+    of_thread_sound (thread_in rest) (letter ∷ next ∷ rest) (λ is_own told.
+    by is_own (or_either (next == 103) (next == 99) opened) (thread_was is_own rest told)))
+    (unknown (letter ∷ next ∷ rest))
   where
     opens : (k : ℕ) → (next == k) ≡ true → letter ∷ next ∷ rest ≡ 72 ∷ k ∷ rest
     opens k e = ap (λ (l : ℕ). l ∷ next ∷ rest) (eqb-true letter 72 is) ∙ ap (λ (l : ℕ). 72 ∷ l ∷ rest) (eqb-true next k e)
 
-    by : (((next == 103) ≡ true) ⊎ ((next == 99) ≡ true)) → IsThread rest → Sound request.Thread (letter ∷ next ∷ rest)
-    by (inl e) thread = record { asks = inl (inl (record { rest = rest; whole = opens 103 e; kind = thread })) }
-    by (inr e) thread = record { asks = inl (inr (record { rest = rest; whole = opens 99 e; kind = thread })) }
+    by : (is_own : Bool) → (((next == 103) ≡ true) ⊎ ((next == 99) ≡ true)) → IsThread is_own rest
+        → IsAboutThread is_own (letter ∷ next ∷ rest)
+    by is_own (inl e) thread = inl (inl (record { rest = rest; whole = opens 103 e; kind = thread }))
+    by is_own (inr e) thread = inl (inr (record { rest = rest; whole = opens 99 e; kind = thread }))
 
 detach_sound : (letter next : ℕ) (rest : List ℕ) → (letter == 68) ≡ true
     → Sound (if_told (is_process (next ∷ rest)) request.Detach) (letter ∷ next ∷ rest)
@@ -268,9 +293,8 @@ control_sound letter next rest =
       asks = inl (record { rest = text; whole = begins letter 83 text e; kind = number });
     }))
     (if_sound (letter == 72) _ _ _ (λ e. about_thread_sound letter next rest e)
-    (if_sound (letter == 84) _ _ _ (λ e. told_sound (is_thread text) request.Thread (letter ∷ text) (λ thread. record {
-      asks = inr (record { rest = text; whole = begins letter 84 text e; kind = thread_was text thread });
-    }))
+    (if_sound (letter == 84) _ _ _ (λ e. of_thread_sound (thread_in text) (letter ∷ text) (λ is_own told.
+    inr (record { rest = text; whole = begins letter 84 text e; kind = thread_was is_own text told })))
     (if_sound (letter == 70) _ _ _ (λ e. host_sound letter text e)
     (if_sound (letter == 68) _ _ _ (λ e. detach_sound letter next rest e)
     (if_sound (letter == 82) _ _ _ (λ e. told_sound (is_some (packet_number text)) request.Restart (letter ∷ text) (λ number. record {

@@ -1,12 +1,12 @@
 -- What a packet that begins with `q`, `Q` or `v` is read as, it asks for by the grammar.
-use Rattle.std.proofs.Common.{◌≡◌, inl, inr, ℕ, Bool, true, false, List, [], ◌∷◌, ◌++◌, refl, ap}
+use Rattle.std.proofs.Common.{◌≡◌, ◌⊎◌, inl, inr, ℕ, Bool, true, false, List, [], ◌∷◌, ◌++◌, refl, ap}
 use Rattle.std.specs.Prelude.{Option, Some, None, is_some, ◌==◌, codes, if◌then◌else◌}
 use Rattle.std.proofs.lemmas.Bool.{eqb-true}
 use Rattle.std.specs.Str.{bytes_eq}
 use Rattle.gdb_packets.specs.Numbers.{packet_number}
 use Rattle.gdb_packets.specs.Requests as request
-use Rattle.gdb_packets.specs.Requests.{GdbRequest, PacketParts, about_attachment, about_libraries, about_process, about_session, about_target, action_for_parts, action_for_thread, action_request, actions_in, actions_or, actions_request, attachment_or, behind_opening, byte_range_of, is_known_packet, is_thread, kill_or_run, libraries_or, line_or_description, of_signal, opened_request, packet_request, parts_around, places_of_both, places_request, supported_or, whole_word_request, word_request}
-use Rattle.gdb_packets.specs.request_laws.Grammar.{AreActions, IsAction, IsAnyForThread, IsForThread}
+use Rattle.gdb_packets.specs.Requests.{GdbRequest, PacketParts, about_attachment, about_libraries, about_process, about_session, about_target, action_for_parts, action_for_thread, action_of, action_request, actions_in, actions_or, actions_request, attachment_or, behind_opening, byte_range_of, is_known_packet, kill_or_run, libraries_or, line_or_description, of_signal, opened_request, packet_request, parts_around, places_of_both, places_request, supported_or, thread_in, whole_word_request, word_request}
+use Rattle.gdb_packets.specs.request_laws.Grammar.{AreActions, IsAction, IsAnyAction, IsAnyForThread, IsForThread, IsOwnAction, Parted}
 use Rattle.gdb_packets.proofs.RequestLawsLemmas.PartLemmas.{behind_was, parts_were, same_bytes}
 use Rattle.gdb_packets.proofs.RequestLawsLemmas.SoundLemmas.{Sound, first_sound, if_sound, lettered_sound, lone_sound, of_range_sound, range_was, thread_was, told_sound, unknown}
 
@@ -76,34 +76,56 @@ action_was (letter ∷ digit ∷ digits) =
     }))
     (if_goes (letter == 114) _ _ _ (λ e. places_goes letter text e) (none_goes (letter ∷ text))))
 
-abbrev ForThread : GdbRequest → List ℕ → Type 0
-ForThread r text = IsForThread (IsAction r) text
+-- what the one thread is to do
+own_for : (r : GdbRequest) (text : List ℕ) → IsOwnAction r text → IsForThread r text
+own_for (request.Thread false) text (inl none) = absurd none
+own_for (request.Thread false) text (inr p) = absurd p.first
+own_for other text own = own
 
-for_thread_was : (text : List ℕ) → Goes ForThread (action_for_thread text) text
+any_action : (text : List ℕ) → is_known_packet (action_request text) ≡ true → IsAnyAction text
+any_action text known = by (action_request text) known (action_was text)
+  where
+    by : (r : GdbRequest) → is_known_packet r ≡ true → Goes IsAction r text → IsAnyAction text
+    by request.Unknown k g = absurd (cc)
+    by other k g = record { action = other; kind = g.way }
+
+for_thread_was : (text : List ℕ) → Goes IsForThread (action_for_thread text) text
 for_thread_was text = by (parts_around 58 text) refl
   where
-    by : (o : Option PacketParts) → parts_around 58 text ≡ o → Goes ForThread (action_for_parts o text) text
-    by None e = goes_on (action_request text) text text (λ a. inl a) (action_was text)
-    by (Some parts) e = if_goes (is_thread parts.behind) (action_request parts.before) request.Unknown text
-        (λ thread. goes_on (action_request parts.before) parts.before text
-        (λ a. inr (record { before = parts.before; behind = parts.behind; whole = parts_were 58 text parts e; first = a; second = thread_was parts.behind thread }))
-        (action_was parts.before))
+    of : (parts : PacketParts) (o : Option Bool) → text ≡ parts.before ++ (58 ∷ parts.behind) → thread_in parts.behind ≡ o
+        → Goes IsForThread (action_of o (action_request parts.before)) text
+    of parts None whole t = none_goes text
+    of parts (Some true) whole t = goes_on (action_request parts.before) parts.before text
+        (λ a. own_for (action_request parts.before) text
+        (inr (record { before = parts.before; behind = parts.behind; whole = whole; first = a; second = thread_was true parts.behind t })))
+        (action_was parts.before)
+    of parts (Some false) whole t = if_goes (is_known_packet (action_request parts.before)) (request.Thread false) request.Unknown text
+        (λ known. record {
+          way = record {
+            before = parts.before;
+            behind = parts.behind;
+            whole = whole;
+            first = any_action parts.before known;
+            second = thread_was false parts.behind t;
+          };
+        })
         (none_goes text)
+
+    by : (o : Option PacketParts) → parts_around 58 text ≡ o → Goes IsForThread (action_for_parts o text) text
+    by None e = goes_on (action_request text) text text (λ a. own_for (action_request text) text (inl a)) (action_was text)
+    by (Some parts) e = of parts (thread_in parts.behind) (parts_were 58 text parts e) refl
 
 any_was : (text : List ℕ) → is_known_packet (action_for_thread text) ≡ true → IsAnyForThread text
 any_was text known = by (action_for_thread text) known (for_thread_was text)
   where
-    by : (r : GdbRequest) → is_known_packet r ≡ true → Goes ForThread r text → IsAnyForThread text
+    by : (r : GdbRequest) → is_known_packet r ≡ true → Goes IsForThread r text → IsAnyForThread text
     by request.Unknown k g = absurd (cc)
     by other k g = record { action = other; for_thread = g.way }
 
-abbrev Actions : GdbRequest → List ℕ → Type 0
-Actions r text = AreActions (IsAction r) text
-
-actions_were : (text : List ℕ) → Goes Actions (actions_request text) text
+actions_were : (text : List ℕ) → Goes AreActions (actions_request text) text
 actions_were text = by (parts_around 59 text) refl
   where
-    by : (o : Option PacketParts) → parts_around 59 text ≡ o → Goes Actions (actions_in o text) text
+    by : (o : Option PacketParts) → parts_around 59 text ≡ o → Goes AreActions (actions_in o text) text
     by None e = goes_on (action_for_thread text) text text (λ a. inl a) (for_thread_was text)
     by (Some parts) e = if_goes (is_known_packet (action_for_thread parts.behind)) (action_for_thread parts.before) request.Unknown text
         (λ known. goes_on (action_for_thread parts.before) parts.before text
@@ -112,21 +134,23 @@ actions_were text = by (parts_around 59 text) refl
         (none_goes text)
 
 -- no text is of actions where none is of one
-no_thread : (r : GdbRequest) (text : List ℕ) → ((t : List ℕ) → IsAction r t → ⊥) → IsForThread (IsAction r) text → ⊥
+no_thread : (r : GdbRequest) (text : List ℕ) → ((t : List ℕ) → IsAction r t → ⊥) → IsOwnAction r text → ⊥
 no_thread r text none (inl a) = none text a
 no_thread r text none (inr p) = none p.before p.first
 
-no_actions : (r : GdbRequest) (text : List ℕ) → ((t : List ℕ) → IsAction r t → ⊥) → AreActions (IsAction r) text → ⊥
+no_actions : (r : GdbRequest) (text : List ℕ) → ((t : List ℕ) → IsAction r t → ⊥)
+    → (IsOwnAction r text ⊎ Parted 59 (IsOwnAction r) IsAnyForThread text) → ⊥
 no_actions r text none (inl a) = no_thread r text none a
 no_actions r text none (inr p) = no_thread r p.before none p.first
 
 -- `vCont;` and actions
-go_sound : (r : GdbRequest) (packet rest : List ℕ) → packet ≡ codes "vCont;" ++ rest → Goes Actions r rest → Sound r packet
+go_sound : (r : GdbRequest) (packet rest : List ℕ) → packet ≡ codes "vCont;" ++ rest → Goes AreActions r rest → Sound r packet
 go_sound request.Continue packet rest whole g = record { asks = inr (record { rest = rest; whole = whole; kind = g.way }) }
 go_sound (request.ContinueWith n) packet rest whole g = record { asks = inr (record { rest = rest; whole = whole; kind = g.way }) }
 go_sound request.Step packet rest whole g = record { asks = inr (record { rest = rest; whole = whole; kind = g.way }) }
 go_sound (request.StepWith n) packet rest whole g = record { asks = inr (record { rest = rest; whole = whole; kind = g.way }) }
 go_sound (request.StepRange places) packet rest whole g = record { asks = record { rest = rest; whole = whole; kind = g.way } }
+go_sound (request.Thread false) packet rest whole g = record { asks = inr (record { rest = rest; whole = whole; kind = g.way }) }
 go_sound request.Unknown packet rest whole g = unknown packet
 go_sound other packet rest whole g = absurd (no_actions other rest (λ t none. none) g.way)
 

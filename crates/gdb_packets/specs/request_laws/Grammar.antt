@@ -1,7 +1,7 @@
 -- Which texts ask for which request, told by what they are made of ("Packets", "General Query Packets",
 -- "vCont packet" and "The F reply packet" in GDB's manual). A byte that parts two texts is none of the
 -- first.
-use Rattle.std.specs.Prelude.{◌≡◌, ◌<◌, ◌⊎◌, ℕ, true, false, List, [], ◌∷◌, ◌++◌, length, codes, Some, is_some}
+use Rattle.std.specs.Prelude.{◌≡◌, ◌<◌, ◌≤◌, ◌⊎◌, ℕ, Bool, true, false, List, [], ◌∷◌, ◌++◌, length, codes, Some, is_some}
 use Rattle.gdb_packets.specs.Numbers.{packet_number}
 use Rattle.gdb_packets.specs.Requests as request
 use Rattle.gdb_packets.specs.Requests.{GdbRequest}
@@ -39,9 +39,26 @@ IsNumber n text = packet_number text ≡ Some n
 abbrev pub HasNumber : List ℕ → Type 0
 HasNumber text = is_some (packet_number text) ≡ true
 
--- a thread, or what a call came to: a number, or `-1`
-abbrev pub IsThread : List ℕ → Type 0
-IsThread text = HasNumber text ⊎ Is (codes "-1") text
+-- what a call came to: a number, or `-1`
+abbrev pub IsCallResult : List ℕ → Type 0
+IsCallResult text = HasNumber text ⊎ Is (codes "-1") text
+
+-- the number of the one thread, 1, or that of any, 0
+pub record IsOwnNumber (text : List ℕ) : Type 0 where
+  pub number : ℕ
+  pub is : IsNumber number text
+  pub within : number ≤ 1
+
+-- that of another
+pub record IsOtherNumber (text : List ℕ) : Type 0 where
+  pub number : ℕ
+  pub is : IsNumber number text
+  pub beyond : 1 < number
+
+-- a thread: the one that there is, where `-1` means all; or another
+abbrev pub IsThread : Bool → List ℕ → Type 0
+IsThread true text = IsOwnNumber text ⊎ Is (codes "-1") text
+IsThread false text = IsOtherNumber text
 
 -- `a,n`: an address, and how many bytes
 abbrev pub IsRange : ByteRange → List ℕ → Type 0
@@ -70,10 +87,6 @@ IsSignalled letter signal = Behind (letter ∷ []) (IsNumber signal)
 abbrev pub IsStepRange : PlaceRange → List ℕ → Type 0
 IsStepRange places = Behind (codes "r") (Parted 44 (IsNumber places.start) (IsNumber places.end))
 
--- the texts of an action, and `:` with a thread or not
-abbrev pub IsForThread : (List ℕ → Type 0) → List ℕ → Type 0
-IsForThread Action text = Action text ⊎ Parted 58 Action IsThread text
-
 -- what asks for an action
 abbrev pub IsAction : GdbRequest → List ℕ → Type 0
 IsAction request.Continue text = Is (codes "c") text
@@ -83,30 +96,44 @@ IsAction (request.StepWith signal) text = IsSignalled 83 signal text
 IsAction (request.StepRange places) text = IsStepRange places text
 IsAction other text = ⊥
 
+pub record IsAnyAction (text : List ℕ) : Type 0 where
+  pub action : GdbRequest
+  pub kind : IsAction action text
+
+-- an action, and `:` with the one thread or not
+abbrev pub IsOwnAction : GdbRequest → List ℕ → Type 0
+IsOwnAction action text = IsAction action text ⊎ Parted 58 (IsAction action) (IsThread true) text
+
+-- or any action with another thread, which asks for that thread
+abbrev pub IsForThread : GdbRequest → List ℕ → Type 0
+IsForThread (request.Thread false) text = Parted 58 IsAnyAction (IsThread false) text
+IsForThread action text = IsOwnAction action text
+
 pub record IsAnyForThread (text : List ℕ) : Type 0 where
   pub action : GdbRequest
-  pub for_thread : IsForThread (IsAction action) text
+  pub for_thread : IsForThread action text
 
 -- one action, or two, of which the first tells what the one thread does
-abbrev pub AreActions : (List ℕ → Type 0) → List ℕ → Type 0
-AreActions Action text = IsForThread Action text ⊎ Parted 59 (IsForThread Action) IsAnyForThread text
+abbrev pub AreActions : GdbRequest → List ℕ → Type 0
+AreActions action text = IsForThread action text ⊎ Parted 59 (IsForThread action) IsAnyForThread text
 
 -- an action behind `vCont;`
 abbrev pub IsGoing : GdbRequest → List ℕ → Type 0
-IsGoing action = Behind (codes "vCont;") (AreActions (IsAction action))
+IsGoing action = Behind (codes "vCont;") (AreActions action)
 
 -- what a call came to, and behind a comma an error's number
 abbrev pub IsCallEnd : List ℕ → Type 0
-IsCallEnd text = IsThread text ⊎ Parted 44 IsThread HasNumber text
+IsCallEnd text = IsCallResult text ⊎ Parted 44 IsCallResult HasNumber text
 
 -- the same with `,C` behind it
 abbrev pub IsCallStopped : List ℕ → Type 0
-IsCallStopped = Parted 44 IsThread (Parted 44 HasNumber (Is (codes "C")))
+IsCallStopped = Parted 44 IsCallResult (Parted 44 HasNumber (Is (codes "C")))
 
 -- `Hg` or `Hc` and a thread, or `T` and one
-abbrev pub IsAboutThread : List ℕ → Type 0
-IsAboutThread text =
-    (Behind (codes "Hg") IsThread text ⊎ Behind (codes "Hc") IsThread text) ⊎ Behind (codes "T") IsThread text
+abbrev pub IsAboutThread : Bool → List ℕ → Type 0
+IsAboutThread is_own text =
+    (Behind (codes "Hg") (IsThread is_own) text ⊎ Behind (codes "Hc") (IsThread is_own) text)
+    ⊎ Behind (codes "T") (IsThread is_own) text
 
 -- which texts ask for a request; none asks for one that isn't known
 abbrev pub AsksFor : GdbRequest → List ℕ → Type 0
@@ -130,7 +157,8 @@ AsksFor request.Supported text = Is (codes "qSupported") text ⊎ Behind (codes 
 AsksFor request.NoAcks text = Is (codes "QStartNoAckMode") text
 AsksFor (request.Description range) text = Behind (codes "qXfer:features:read:target.xml:") (IsRange range) text
 AsksFor (request.Libraries range) text = Behind (codes "qXfer:libraries:read::") (IsRange range) text
-AsksFor request.Thread text = IsAboutThread text
+AsksFor (request.Thread true) text = IsAboutThread true text
+AsksFor (request.Thread false) text = IsAboutThread false text ⊎ IsGoing (request.Thread false) text
 AsksFor request.IsAttached text = Is (codes "qAttached") text ⊎ Behind (codes "qAttached:") HasNumber text
 AsksFor request.CurrentThread text = Is (codes "qC") text
 AsksFor request.FirstThreads text = Is (codes "qfThreadInfo") text
