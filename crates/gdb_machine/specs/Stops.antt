@@ -10,6 +10,8 @@ use Rattle.arm_core.specs.State.{State}
 use Rattle.gdb_machine.specs.declared.stops.GdbStop.{GdbStop}
 use Rattle.gdb_machine.specs.declared.stops.GdbStop.TheVariants as reason
 use Rattle.gdb_machine.specs.declared.stops.Signal.{Signal}
+use Rattle.gdb_machine.specs.declared.watches.WatchKind.{WatchKind}
+use Rattle.gdb_machine.specs.declared.watches.WatchKind.TheVariants as kind
 use Rattle.gdb_machine.specs.declared.stops.Signal.TheVariants as signal
 use Rattle.gdb_machine.specs.Registers.{register_shown, word_digits}
 
@@ -44,7 +46,7 @@ signal_number_of f = signal_number (signal_of_fault f)
 -- none where the program is no more
 abbrev pub signal_of : GdbStop → Option Signal
 signal_of reason.Stepped = Some signal.Trap
-signal_of (reason.Watched address) = Some signal.Trap
+signal_of (reason.Watched place) = Some signal.Trap
 signal_of reason.Library = Some signal.Trap
 signal_of reason.Asked = Some signal.Interrupt
 signal_of (reason.Ran (stop.Break address)) = Some signal.Trap
@@ -53,11 +55,16 @@ signal_of (reason.Ran (stop.Fault f)) = Some (signal_of_fault f)
 signal_of (reason.Ran stop.Exit) = None
 signal_of (reason.Killed f) = None
 
--- what reached it: a break, or a byte that is watched, by its address; or that GDB has to ask for the list
--- of libraries
+abbrev pub watch_word : WatchKind → List ℕ
+watch_word kind.Store = codes "watch:"
+watch_word kind.Load = codes "rwatch:"
+watch_word kind.Access = codes "awatch:"
+
+-- what reached it: a break, or a watch that was struck, by its kind and the address; or that GDB has to ask for
+-- the list of libraries
 abbrev pub reached_text : GdbStop → List ℕ
 reached_text (reason.Ran (stop.Break address)) = codes "swbreak:;"
-reached_text (reason.Watched address) = codes "watch:" ++ encode_lower (to_be_bytes w32 address) ++ codes ";"
+reached_text (reason.Watched place) = watch_word place.kind ++ encode_lower (to_be_bytes w32 place.address) ++ codes ";"
 reached_text reason.Library = codes "library:;"
 reached_text (reason.Ran stop.Budget) = []
 reached_text (reason.Ran (stop.Fault f)) = []
@@ -81,7 +88,7 @@ gone_text (reason.Killed f) = codes "X" ++ encode_lower (signal_number_of f ∷ 
 gone_text (reason.Ran x) = codes "W00"
 gone_text reason.Stepped = codes "W00"
 gone_text reason.Asked = codes "W00"
-gone_text (reason.Watched address) = codes "W00"
+gone_text (reason.Watched place) = codes "W00"
 gone_text reason.Library = codes "W00"
 
 abbrev pub signalled_text : Option Signal → GdbStop → State → List ℕ
@@ -98,7 +105,7 @@ is_gone (reason.Ran (stop.Break address)) = false
 is_gone (reason.Ran (stop.Fault f)) = false
 is_gone reason.Stepped = false
 is_gone reason.Asked = false
-is_gone (reason.Watched address) = false
+is_gone (reason.Watched place) = false
 is_gone reason.Library = false
 
 -- `T05swbreak:;0b:..`, `T0b0b:..`, `W00`, `X0b`

@@ -1,5 +1,7 @@
-//! What GDB sees of a machine: the registers as it numbers them, memory as far as it is mapped, why the
-//! program stands, and bytes that are watched. It knows no step.
+//! What GDB sees of a machine: the registers as it numbers them, memory as far as it is mapped, why
+//! the program stands, and bytes that are watched. It knows no step.
+//!
+//! Promise: registers and mapped bytes are those of the machine, in GDB's order.
 #![tactic(auto)]
 
 mod changes;
@@ -19,4 +21,4 @@ pub use libraries::{libraries_part, library_lines};
 pub use memory::{known_bytes, memory_told};
 pub use registers::{all_registers, one_register, register_shown};
 pub use stops::{GdbStop, Signal, signal_number_of, stop_packet};
-pub use watches::{SeenByte, WatchError, Watches, first_changed};
+pub use watches::{SeenByte, Watch, WatchError, WatchKind, WatchedPlace, Watches, first_changed};

@@ -2,9 +2,10 @@
 
 ghost use Rattle.std.specs.Prelude.{◌≡◌, ◌∷◌, [], IfOk};
 ghost use Rattle.hex.specs.Hex.{encode_lower};
-ghost use Rattle.gdb_machine.specs.Stops.{gone_text, first_registers_text, is_gone, reached_text, signal_number, signal_number_of as number_told, signal_of, signal_of_fault as fault_told, stop_packet as packet_told, told_value};
+ghost use Rattle.gdb_machine.specs.Stops.{gone_text, first_registers_text, is_gone, reached_text, signal_number, signal_number_of as number_told, signal_of, signal_of_fault as fault_told, stop_packet as packet_told, told_value, watch_word};
 
 use crate::registers::{register_shown, word_digits};
+use crate::watches::{WatchKind, WatchedPlace};
 use arm_core::Cpu;
 use hex::encode;
 use profile::{Fault, Stop};
@@ -57,8 +58,8 @@ pub enum GdbStop {
     Ran(Stop),
     /// The user asked for it.
     Asked,
-    /// The byte at this address, which is watched, has changed.
-    Watched(u32),
+    /// A watch was struck.
+    Watched(WatchedPlace),
     /// Other modules are there than GDB was told of.
     Library,
     /// It was ended by the signal of its fault.
@@ -139,20 +140,30 @@ fn gone_text(alloc: Global, why: GdbStop) -> Result<Vec<u8>, AllocError>
     Ok(text)
 }
 
-// What reached the program: a break, or a byte that is watched; or that other modules are there.
+// What reached the program: a break, or a watch that was struck; or that other modules are there.
 fn reached(alloc: Global, why: GdbStop) -> Result<Vec<u8>, AllocError>
     ensures { IfOk result (λ text. text.items ≡ reached_text why) }
 {
     match why {
         GdbStop::Ran(Stop::Break(_)) => Vec::from_slice(alloc, b"swbreak:;"),
         GdbStop::Library => Vec::from_slice(alloc, b"library:;"),
-        GdbStop::Watched(address) => {
-            let mut text = Vec::from_slice(alloc, b"watch:")?;
-            text.extend_from_slice(encode(alloc, address.to_be_bytes())?.as_bytes())?;
+        GdbStop::Watched(place) => {
+            let mut text = Vec::from_slice(alloc, watch_word(place.kind))?;
+            text.extend_from_slice(encode(alloc, place.address.to_be_bytes())?.as_bytes())?;
             text.extend_from_slice(b";")?;
             Ok(text)
         }
         _ => Ok(Vec::new(alloc)),
+    }
+}
+
+fn watch_word(kind: WatchKind) -> &'static [u8]
+    ensures { result.now ≡ watch_word kind }
+{
+    match kind {
+        WatchKind::Store => b"watch:",
+        WatchKind::Load => b"rwatch:",
+        WatchKind::Access => b"awatch:",
     }
 }
 
