@@ -13,6 +13,7 @@ use Rattle.profile.proofs.OutputLemmas.{AddsAllBut-more, AddsAllBut-start, Appen
 use Rattle.gdb_server.specs.Server.{IsServed}
 use Rattle.gdb_server.specs.Serving.{ServerState, Served, byte_served, bytes_served, piece_served, stop_served, then_served, text_packet, text_packets, told_packets}
 use Rattle.debug_session.specs.declared.session.DebugSetting.{DebugSetting}
+use Rattle.debug_session.proofs.FailLemmas.{front_then}
 
 served_cons : (setting : DebugSetting) (start : List ℕ) (byte : ℕ) (bytes : List ℕ) (s : ServerState) → s.session.has_ended ≡ false
     → bytes_served setting start (byte ∷ bytes) s
@@ -105,42 +106,14 @@ told_none t empty =
     let none : (length t + 1023) / 1024 ≡ 0 = omega (arith, empty) in
     ap (λ (n : ℕ). text_packets n t) none ∙ told_zero t
 
--- what stands written of a front
-pub record WrittenOf (before after : Option (List ℕ)) (text : List ℕ) : Type 0 where
-  pub written : List ℕ
-  pub left : List ℕ
-  pub appends : Appends before after written
-  pub whole : written ++ left ≡ text
-
-pub written_of : (before after : Option (List ℕ)) (text : List ℕ) → AddsFront before after text → WrittenOf before after text
-written_of None after text front = record { written = text; left = []; appends = tt; whole = append-nil text }
-written_of (Some held) None text front = absurd (grind (arith, front.front.adds.holds))
-written_of (Some held) (Some now) text front = record {
-  written = front.front.adds.part;
-  left = front.rest;
-  appends = (let e : Some now ≡ Some (held ++ front.front.adds.part) = front.front.adds.holds in cc);
-  whole = front.front.adds.whole;
-}
-
--- a front of a piece after what was written before it
-pub front_more : (a b c : Option (List ℕ)) (rest piece more all : List ℕ) → AddsAllBut a b rest all → rest ≡ piece ++ more
-    → AddsFront b c piece → AddsFront a c all
-front_more a b c rest piece more all done split front =
-    let w = written_of b c piece front in
-    record {
-      rest = w.left ++ more;
-      front = AddsAllBut-more a b c rest w.written (w.left ++ more) all done w.appends
-          (split ∙ ap (λ (p : List ℕ). p ++ more) (sym w.whole) ∙ append_assoc w.written w.left more);
-    }
-
 -- a front of a text is one of a longer text
 pub front_of_more : (a b : Option (List ℕ)) (piece more : List ℕ) → AddsFront a b piece → AddsFront a b (piece ++ more)
-front_of_more a b piece more front = front_more a a b (piece ++ more) piece more (piece ++ more) (AddsAllBut-start a (piece ++ more)) refl front
+front_of_more a b piece more front = front_then a a b (piece ++ more) piece more (piece ++ more) (AddsAllBut-start a (piece ++ more)) refl front
 
 -- all of a piece and a front of the next
 pub front_after : (a b c : Option (List ℕ)) (piece next : List ℕ) → Appends a b piece → AddsFront b c next → AddsFront a c (piece ++ next)
 front_after a b c piece next whole front =
-    front_more a b c next next [] (piece ++ next)
+    front_then a b c next next [] (piece ++ next)
     (AddsAllBut-more a a b (piece ++ next) piece next (piece ++ next) (AddsAllBut-start a (piece ++ next)) whole refl)
     (sym (append-nil next)) front
 

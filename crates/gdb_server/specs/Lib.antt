@@ -1,4 +1,5 @@
 -- What GDB's bytes are answered with. Begin with Serving.
+pub use Rattle.command_shell.specs.declared.error.RunError
 pub use Rattle.debug_session.specs.DebugState
 pub use Rattle.debug_session.specs.declared.session.DebugSetting
 pub mod Serving

@@ -7,10 +7,12 @@ use Rattle.gdb_machine.specs.Watches.{first_changed}
 use Rattle.gdb_machine.specs.declared.stops.GdbStop.{GdbStop}
 use Rattle.gdb_machine.specs.declared.stops.GdbStop.TheVariants as reason
 use Rattle.profile.specs.declared.stop.Stop.TheVariants as stop
+use Rattle.gdb_machine.specs.declared.watches.WatchedPlace.{WatchedPlace}
 use Rattle.gdb_server.specs.declared.session.session.Going.{Going}
+use Rattle.gdb_server.specs.declared.session.stepping.StepAhead.{StepAhead}
 use Rattle.gdb_server.specs.session.Laws.{GdbSlicesAreOneRun}
 use Rattle.gdb_server.specs.session.MoreBreaks.{is_among}
-use Rattle.gdb_server.specs.session.Steps.{StepLooks, StepsTaken, end_beside, end_of_step, has_left, is_other_list, looked_further, looked_steps, machine_end, may_change_list, printed_before, script_steps, steps_further, watched_or}
+use Rattle.gdb_server.specs.session.Steps.{StepLooks, StepsTaken, end_beside, end_of_step, has_left, is_other_list, looked_further, looked_steps, machine_end, ahead_of, printed_before, script_steps, steps_further, struck_after, watched_or}
 use Rattle.gdb_server.proofs.SessionLemmas.StepLemmas.{no_step, one_more}
 
 -- what ends steps is no end of a budget
@@ -35,12 +37,14 @@ machine_ends l why may s = by (steps_further why) refl
     by true e = beside_ends l.going l.breaks l.libraries may s
     by false e = e
 
-step_ends_so : (l : StepLooks) (may : Bool) (why : GdbStop) (s : ScriptState) → Ends (end_of_step l may why s)
-step_ends_so l may why s = by (first_changed s.machine.store.bytes l.seen)
-  where
-    by : (o : Option ℕ) → Ends (watched_or o (machine_end l why may s))
-    by (Some address) = refl
-    by None = machine_ends l why may s
+watched_ends : (o : Option WatchedPlace) (other : Option GdbStop) → Ends other → Ends (watched_or o other)
+watched_ends (Some place) other ends = refl
+watched_ends None other ends = ends
+
+step_ends_so : (l : StepLooks) (ahead : StepAhead) (why : GdbStop) (s : ScriptState) → Ends (end_of_step l ahead why s)
+step_ends_so l ahead why s =
+    watched_ends (first_changed s.machine.store.bytes l.seen) _
+    (watched_ends (struck_after why ahead.struck) _ (machine_ends l why ahead.may_change s))
 
 pub slices_are_one_run : GdbSlicesAreOneRun
 slices_are_one_run l s zero more goes =
@@ -48,13 +52,13 @@ slices_are_one_run l s zero more goes =
     ap (λ (n : ℕ). looked_steps l n s) all
     ∙ sym (ap (λ (t : StepsTaken). printed_before t.printed (looked_steps l more t.script)) (no_step l 0 s refl))
 slices_are_one_run l s (suc n) more goes =
-    by (end_of_step l (may_change_list l.going s.machine) r.stop r.script) refl
-    (step_ends_so l (may_change_list l.going s.machine) r.stop r.script) (slices_are_one_run l r.script n more)
+    by (end_of_step l (ahead_of l.going l.watches s) r.stop r.script) refl
+    (step_ends_so l (ahead_of l.going l.watches s) r.stop r.script) (slices_are_one_run l r.script n more)
   where
     r : StepsTaken
     r = script_steps s 1
 
-    by : (o : Option GdbStop) → end_of_step l (may_change_list l.going s.machine) r.stop r.script ≡ o → Ends o
+    by : (o : Option GdbStop) → end_of_step l (ahead_of l.going l.watches s) r.stop r.script ≡ o → Ends o
         → ((looked_steps l n r.script).stop ≡ reason.Ran stop.Budget → looked_steps l (n + more) r.script
         ≡ printed_before (looked_steps l n r.script).printed (looked_steps l more (looked_steps l n r.script).script))
         → looked_steps l (suc n + more) s ≡ printed_before (looked_steps l (suc n) s).printed (looked_steps l more (looked_steps l (suc n) s).script)

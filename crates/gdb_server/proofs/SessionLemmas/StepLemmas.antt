@@ -1,30 +1,33 @@
 -- Steps that are taken one by one, with a look after each: what is left of them.
 use Rattle.std.proofs.Common.{◌≡◌, ◌<◌, ◌-◌, ℕ, suc, Bool, true, false, ◌&&◌, List, ◌++◌, append_assoc, refl, ap, subst, sym, ◌∙◌, arith}
-use Rattle.std.specs.Prelude.{Option, Some, None, min, if◌then◌else◌}
+use Rattle.std.specs.Prelude.{Option, Some, None, min, nat_lt, if◌then◌else◌}
 use Rattle.std.proofs.lemmas.List.{append-nil}
+use Rattle.std.proofs.lemmas.Bool.Decides.{nat_tests}
 use Rattle.command_shell.specs.State.{ScriptState}
 use Rattle.command_shell.specs.Stepping.{IsAfterRun}
 use Rattle.gdb_machine.specs.Watches.{first_changed}
 use Rattle.gdb_machine.specs.declared.stops.GdbStop.{GdbStop}
 use Rattle.gdb_machine.specs.declared.stops.GdbStop.TheVariants as reason
 use Rattle.gdb_machine.specs.declared.watches.SeenByte.{SeenByte}
+use Rattle.gdb_machine.specs.declared.watches.WatchedPlace.{WatchedPlace}
 use Rattle.gdb_server.specs.declared.session.session.Going.{Going}
+use Rattle.gdb_server.specs.declared.session.stepping.StepAhead.{StepAhead}
 use Rattle.profile.specs.declared.stop.Stop.{Stop}
 use Rattle.profile.specs.declared.stop.Stop.TheVariants as stop
 use Rattle.gdb_server.specs.session.MoreBreaks.{is_among}
 use Rattle.gdb_server.specs.session.Session.{IsAfterSteps}
 use Rattle.gdb_server.specs.session.State.{GdbState, with_script}
-use Rattle.gdb_server.specs.session.Steps.{StepLooks, StepsTaken, end_beside, end_of_step, has_left, is_other_list, looked_further, looked_steps, looks_at, machine_end, may_change_list, none_taken, printed_before, script_steps, steps_further, watched_or}
+use Rattle.gdb_server.specs.session.Steps.{StepLooks, StepsTaken, end_beside, end_of_step, has_left, is_other_list, looked_further, looked_steps, looks_at, machine_end, ahead_of, none_taken, printed_before, script_steps, steps_further, struck_after, watched_or}
 
 pub one_more : (l : StepLooks) (left : ℕ) (s : ScriptState) → looked_steps l (suc left) s
     ≡ looked_further (script_steps s 1)
-    (end_of_step l (may_change_list l.going s.machine) (script_steps s 1).stop (script_steps s 1).script) (looked_steps l left)
+    (end_of_step l (ahead_of l.going l.watches s) (script_steps s 1).stop (script_steps s 1).script) (looked_steps l left)
 unfolding looked_steps
 one_more l left s = refl
 
 next_step : (l : StepLooks) (left : ℕ) (s : ScriptState) → 0 < left → looked_steps l left s
     ≡ looked_further (script_steps s 1)
-    (end_of_step l (may_change_list l.going s.machine) (script_steps s 1).stop (script_steps s 1).script) (looked_steps l (left - 1))
+    (end_of_step l (ahead_of l.going l.watches s) (script_steps s 1).stop (script_steps s 1).script) (looked_steps l (left - 1))
 next_step l left s some =
     let split : left ≡ suc (left - 1) = omega arith in
     ap (λ (n : ℕ). looked_steps l n s) split ∙ one_more l (left - 1) s
@@ -35,13 +38,13 @@ no_step l left s e = rw e refl
 
 -- the steps end with the next one, or go on after it
 step_ends : (l : StepLooks) (left : ℕ) (s : ScriptState) (why : GdbStop) → 0 < left
-    → end_of_step l (may_change_list l.going s.machine) (script_steps s 1).stop (script_steps s 1).script ≡ Some why
+    → end_of_step l (ahead_of l.going l.watches s) (script_steps s 1).stop (script_steps s 1).script ≡ Some why
     → looked_steps l left s ≡ record (script_steps s 1) { stop = why }
 step_ends l left s why some is =
     next_step l left s some ∙ ap (λ (o : Option GdbStop). looked_further (script_steps s 1) o (looked_steps l (left - 1))) is
 
 step_more : (l : StepLooks) (left : ℕ) (s : ScriptState) → 0 < left
-    → end_of_step l (may_change_list l.going s.machine) (script_steps s 1).stop (script_steps s 1).script ≡ None
+    → end_of_step l (ahead_of l.going l.watches s) (script_steps s 1).stop (script_steps s 1).script ≡ None
     → looked_steps l left s ≡ printed_before (script_steps s 1).printed (looked_steps l (left - 1) (script_steps s 1).script)
 step_more l left s some is =
     next_step l left s some ∙ ap (λ (o : Option GdbStop). looked_further (script_steps s 1) o (looked_steps l (left - 1))) is
@@ -83,17 +86,17 @@ one_step s now held after taken end ran = (ran.state, ran.text, ap (λ (e : Stop
 
 -- what was looked at after it
 looked_there : (l : StepLooks) (s now : ScriptState) (end : Stop) (o : Option GdbStop) → now ≡ (script_steps s 1).script
-    → reason.Ran end ≡ (script_steps s 1).stop → end_of_step l (may_change_list l.going s.machine) (reason.Ran end) now ≡ o
-    → end_of_step l (may_change_list l.going s.machine) (script_steps s 1).stop (script_steps s 1).script ≡ o
+    → reason.Ran end ≡ (script_steps s 1).stop → end_of_step l (ahead_of l.going l.watches s) (reason.Ran end) now ≡ o
+    → end_of_step l (ahead_of l.going l.watches s) (script_steps s 1).stop (script_steps s 1).script ≡ o
 looked_there l s now end o script why is =
-    ap (λ (x : ScriptState). end_of_step l (may_change_list l.going s.machine) (script_steps s 1).stop x) (sym script)
-    ∙ ap (λ (e : GdbStop). end_of_step l (may_change_list l.going s.machine) e now) (sym why) ∙ is
+    ap (λ (x : ScriptState). end_of_step l (ahead_of l.going l.watches s) (script_steps s 1).stop x) (sym script)
+    ∙ ap (λ (e : GdbStop). end_of_step l (ahead_of l.going l.watches s) e now) (sym why) ∙ is
 
 -- the steps end with it
 pub ends_there : (l : StepLooks) (first here now : GdbState) (before held after : List ℕ) (count left taken : ℕ) (end : Stop)
     (why : GdbStop) → AreStepsLeft l first here before held count left → 0 < left → now ≡ with_script here now.debug.script
     → IsAfterRun here.debug.script (min 1 here.debug.script.left) now.debug.script (Some held) (Some after) taken end
-    → end_of_step l (may_change_list l.going here.debug.script.machine) (reason.Ran end) now.debug.script ≡ Some why
+    → end_of_step l (ahead_of l.going l.watches here.debug.script) (reason.Ran end) now.debug.script ≡ Some why
     → IsAfterSteps first now before after why (looked_steps l count first.debug.script)
 ends_there l first here now before held after count left taken end why i some others ran is =
     let step = one_step here.debug.script now.debug.script held after taken end ran in
@@ -105,7 +108,7 @@ ends_there l first here now before held after count left taken end why i some ot
 pub goes_further : (l : StepLooks) (first here now : GdbState) (before held after : List ℕ) (count left taken : ℕ) (end : Stop)
     → AreStepsLeft l first here before held count left → 0 < left → now ≡ with_script here now.debug.script
     → IsAfterRun here.debug.script (min 1 here.debug.script.left) now.debug.script (Some held) (Some after) taken end
-    → end_of_step l (may_change_list l.going here.debug.script.machine) (reason.Ran end) now.debug.script ≡ None
+    → end_of_step l (ahead_of l.going l.watches here.debug.script) (reason.Ran end) now.debug.script ≡ None
     → AreStepsLeft l first now before after count (left - 1)
 goes_further l first here now before held after count left taken end i some others ran is =
     let step = one_step here.debug.script now.debug.script held after taken end ran in
@@ -131,26 +134,40 @@ ends_here l first here before held count left i none =
 
 -- WHAT IS LOOKED AT
 
-pub strikes : (l : StepLooks) (may : Bool) (why : GdbStop) (s : ScriptState) (address : ℕ)
-    → first_changed s.machine.store.bytes l.seen ≡ Some address → Some (reason.Watched address) ≡ end_of_step l may why s
-strikes l may why s address is = sym (ap (λ (o : Option ℕ). watched_or o (machine_end l why may s)) is)
+abbrev beyond_change : StepLooks → StepAhead → GdbStop → ScriptState → Option GdbStop
+beyond_change l ahead why s = watched_or (struck_after why ahead.struck) (machine_end l why ahead.may_change s)
 
-pub machine_stands : (l : StepLooks) (may : Bool) (why : GdbStop) (s : ScriptState)
-    → first_changed s.machine.store.bytes l.seen ≡ None → steps_further why ≡ false → Some why ≡ end_of_step l may why s
-machine_stands l may why s same ends =
-    sym (ap (λ (o : Option ℕ). watched_or o (machine_end l why may s)) same ∙ by (steps_further why) ends)
+pub strikes : (l : StepLooks) (ahead : StepAhead) (why : GdbStop) (s : ScriptState) (place : WatchedPlace)
+    → first_changed s.machine.store.bytes l.seen ≡ Some place → Some (reason.Watched place) ≡ end_of_step l ahead why s
+strikes l ahead why s place is = sym (ap (λ (o : Option WatchedPlace). watched_or o (beyond_change l ahead why s)) is)
+
+pub struck_so : (l : StepLooks) (ahead : StepAhead) (why : GdbStop) (s : ScriptState) (place : WatchedPlace)
+    → first_changed s.machine.store.bytes l.seen ≡ None → struck_after why ahead.struck ≡ Some place
+    → Some (reason.Watched place) ≡ end_of_step l ahead why s
+struck_so l ahead why s place same is =
+    sym (ap (λ (o : Option WatchedPlace). watched_or o (beyond_change l ahead why s)) same
+    ∙ ap (λ (o : Option WatchedPlace). watched_or o (machine_end l why ahead.may_change s)) is)
+
+pub machine_stands : (l : StepLooks) (ahead : StepAhead) (why : GdbStop) (s : ScriptState)
+    → first_changed s.machine.store.bytes l.seen ≡ None → struck_after why ahead.struck ≡ None → steps_further why ≡ false
+    → Some why ≡ end_of_step l ahead why s
+machine_stands l ahead why s same none ends =
+    sym (ap (λ (o : Option WatchedPlace). watched_or o (beyond_change l ahead why s)) same
+    ∙ ap (λ (o : Option WatchedPlace). watched_or o (machine_end l why ahead.may_change s)) none ∙ by (steps_further why) ends)
   where
-    by : (b : Bool) → b ≡ false → (if b then end_beside l.going l.breaks l.libraries may s else Some why) ≡ Some why
+    by : (b : Bool) → b ≡ false
+        → (if b then end_beside l.going l.breaks l.libraries ahead.may_change s else Some why) ≡ Some why
     by b is = rw is refl
 
-pub looks_beside : (l : StepLooks) (may : Bool) (why : GdbStop) (s : ScriptState)
-    → first_changed s.machine.store.bytes l.seen ≡ None → steps_further why ≡ true
-    → end_beside l.going l.breaks l.libraries may s ≡ end_of_step l may why s
-looks_beside l may why s same goes =
-    sym (ap (λ (o : Option ℕ). watched_or o (machine_end l why may s)) same ∙ by (steps_further why) goes)
+pub looks_beside : (l : StepLooks) (ahead : StepAhead) (why : GdbStop) (s : ScriptState)
+    → first_changed s.machine.store.bytes l.seen ≡ None → struck_after why ahead.struck ≡ None → steps_further why ≡ true
+    → end_beside l.going l.breaks l.libraries ahead.may_change s ≡ end_of_step l ahead why s
+looks_beside l ahead why s same none goes =
+    sym (ap (λ (o : Option WatchedPlace). watched_or o (beyond_change l ahead why s)) same
+    ∙ ap (λ (o : Option WatchedPlace). watched_or o (machine_end l why ahead.may_change s)) none ∙ by (steps_further why) goes)
   where
-    by : (b : Bool) → b ≡ true
-        → (if b then end_beside l.going l.breaks l.libraries may s else Some why) ≡ end_beside l.going l.breaks l.libraries may s
+    by : (b : Bool) → b ≡ true → (if b then end_beside l.going l.breaks l.libraries ahead.may_change s else Some why)
+        ≡ end_beside l.going l.breaks l.libraries ahead.may_change s
     by b is = rw is refl
 
 pub beside_list : (goes : Going) (breaks told : List ℕ) (may : Bool) (s : ScriptState) → is_among breaks s.machine.cpu.pc ≡ false
@@ -173,3 +190,10 @@ beside_nothing goes breaks told may s no_break within may_change same =
         ≡ (if a then Some (reason.Ran (stop.Break s.machine.cpu.pc)) else (
         if b then Some reason.Stepped else (if may && o then Some reason.Library else None)))
     by a b o na nb is = rw (na, nb, is, may_change) refl
+
+-- what is known ahead of a step where steps are left, and where none is
+pub known_ahead : (left : ℕ) (place : Option WatchedPlace) → 0 < left → place ≡ (if nat_lt 0 left then place else None)
+known_ahead left place some = grind (arith, nat_tests, some)
+
+pub none_ahead : (left : ℕ) (place : Option WatchedPlace) → left ≡ 0 → None ≡ (if nat_lt 0 left then place else None)
+none_ahead left place none = rw none refl

@@ -3,7 +3,7 @@ use Rattle.std.specs.Prelude.{ℕ, true, ◌==◌, List, codes, Option, Some, No
 use Rattle.std.specs.Int.{from_le_bytes, w32}
 use Rattle.hex.specs.Hex.{decode_of, decode_sized}
 use Rattle.hex.specs.declared.error.FromHexError.{FromHexError}
-use Rattle.command_shell.specs.Memory.{script_at, script_with_bank_register, script_with_register, script_with_status}
+use Rattle.command_shell.specs.Memory.{script_at, script_awake, script_with_bank_register, script_with_register, script_with_status}
 use Rattle.command_shell.specs.State.{ScriptState}
 use Rattle.command_shell.specs.Stepping.{script_with_break, script_without_break}
 use Rattle.arm_core.specs.declared.breaks.breaks.BreakError.{BreakError}
@@ -12,6 +12,7 @@ use Rattle.gdb_machine.specs.Changes.{register_write}
 use Rattle.gdb_machine.specs.Watches.{with_watch, without_watch}
 use Rattle.gdb_machine.specs.declared.changes.RegisterWrite.{RegisterWrite}
 use Rattle.gdb_machine.specs.declared.changes.RegisterWrite.TheVariants as change
+use Rattle.gdb_machine.specs.declared.watches.Watch.{Watch}
 use Rattle.gdb_machine.specs.declared.watches.WatchError.{WatchError}
 use Rattle.gdb_machine.specs.declared.watches.WatchError.TheVariants as watch
 use Rattle.gdb_packets.specs.declared.requests.ByteRange.{ByteRange}
@@ -19,10 +20,10 @@ use Rattle.gdb_server.specs.session.MoreBreaks.{with_more, without_more}
 use Rattle.gdb_server.specs.session.State.{GdbState, GdbAnswered, packet_reply, with_script}
 use Rattle.gdb_server.specs.session.Stores.{store_told}
 
--- a register
+-- a register; at another place a machine that was halted takes steps again
 abbrev pub script_with_change : ScriptState → RegisterWrite → ScriptState
 script_with_change s (change.Present n value) = script_with_register s n value
-script_with_change s (change.Place address) = script_at s address
+script_with_change s (change.Place address) = script_awake (script_at s address)
 script_with_change s (change.Status status) = script_with_status s status
 script_with_change s (change.Banked mode n value) = script_with_bank_register s mode n value
 
@@ -83,16 +84,16 @@ abbrev pub watch_refusal : WatchError → List ℕ
 watch_refusal watch.WatchTableFull = codes "E1c"
 watch_refusal watch.BadLength = codes "E16"
 
-abbrev pub watch_set : GdbState → Result (List ByteRange) WatchError → GdbAnswered
+abbrev pub watch_set : GdbState → Result (List Watch) WatchError → GdbAnswered
 watch_set g (Ok watches) = packet_reply (record g { watches = watches }) (codes "OK")
 watch_set g (Err error) = packet_reply g (watch_refusal error)
 
--- `Z2`, `z2`
-abbrev pub add_watch_told : GdbState → ByteRange → GdbAnswered
-add_watch_told g range = watch_set g (with_watch g.watches range)
+-- `Z2`, `Z3`, `Z4`, and `z2`, `z3`, `z4`
+abbrev pub add_watch_told : GdbState → Watch → GdbAnswered
+add_watch_told g watch = watch_set g (with_watch g.watches watch)
 
-abbrev pub remove_watch_told : GdbState → ByteRange → GdbAnswered
-remove_watch_told g range = packet_reply (record g { watches = without_watch g.watches range }) (codes "OK")
+abbrev pub remove_watch_told : GdbState → Watch → GdbAnswered
+remove_watch_told g watch = packet_reply (record g { watches = without_watch g.watches watch }) (codes "OK")
 
 -- the debugger goes
 abbrev pub at_session_end : GdbState → GdbState

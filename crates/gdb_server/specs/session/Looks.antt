@@ -3,8 +3,6 @@
 use Rattle.std.specs.Prelude.{ℕ, Bool, true, false, List, [], ◌++◌, Option, Some, None, codes}
 use Rattle.gdb_packets.specs.Requests as request
 use Rattle.gdb_packets.specs.Requests.{GdbRequest}
-use Rattle.gdb_packets.specs.declared.requests.PointKind.{PointKind}
-use Rattle.gdb_packets.specs.declared.requests.PointKind.TheVariants as point
 use Rattle.gdb_machine.specs.Description.{description_text}
 use Rattle.gdb_machine.specs.Libraries.{libraries_part}
 use Rattle.gdb_machine.specs.Memory.{memory_reply}
@@ -17,17 +15,11 @@ supported_text =
     codes "PacketSize=4000;QStartNoAckMode+;vContSupported+;swbreak+;hwbreak+;qXfer:features:read+"
     ++ codes ";qXfer:libraries:read+"
 
--- watches of loads can't be set
-abbrev pub unknown_point : PointKind → Option (List ℕ)
-unknown_point point.LoadWatch = Some []
-unknown_point point.AccessWatch = Some []
-unknown_point point.Break = None
-unknown_point point.StoreWatch = None
-
 -- a packet that is always the same; an empty one says that a request isn't known
 abbrev pub fixed_reply : GdbRequest → Option (List ℕ)
 fixed_reply request.NoAcks = Some (codes "OK")
-fixed_reply request.Thread = Some (codes "OK")
+fixed_reply (request.Thread true) = Some (codes "OK")
+fixed_reply (request.Thread false) = Some (codes "E01")
 fixed_reply request.Extended = Some (codes "OK")
 fixed_reply request.Supported = Some supported_text
 fixed_reply request.Ways = Some (codes "vCont;c;C;s;S;r")
@@ -35,8 +27,6 @@ fixed_reply request.IsAttached = Some (codes "0")
 fixed_reply request.CurrentThread = Some (codes "QC1")
 fixed_reply request.MoreThreads = Some (codes "l")
 fixed_reply (request.SetRegisters pairs) = Some []
-fixed_reply (request.AddPoint kind range) = unknown_point kind
-fixed_reply (request.RemovePoint kind range) = unknown_point kind
 fixed_reply request.Unknown = Some []
 fixed_reply _ = None
 

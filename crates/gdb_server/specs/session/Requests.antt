@@ -5,6 +5,7 @@ use Rattle.gdb_packets.specs.Requests.{GdbRequest}
 use Rattle.gdb_packets.specs.declared.requests.ByteRange.{ByteRange}
 use Rattle.gdb_packets.specs.declared.requests.PointKind.{PointKind}
 use Rattle.gdb_packets.specs.declared.requests.PointKind.TheVariants as point
+use Rattle.gdb_machine.specs.declared.watches.WatchKind.TheVariants as kind
 use Rattle.gdb_server.specs.declared.session.session.Going.TheVariants as going
 use Rattle.gdb_server.specs.session.Changes as changes
 use Rattle.gdb_server.specs.session.Looks.{look_reply}
@@ -15,23 +16,23 @@ use Rattle.debug_session.specs.declared.session.DebugSetting.{DebugSetting}
 
 abbrev pub add_point_told : GdbState → PointKind → ByteRange → GdbAnswered
 add_point_told g point.Break range = changes.add_break_told g range
-add_point_told g point.StoreWatch range = changes.add_watch_told g range
-add_point_told g point.LoadWatch range = changes.add_watch_told g range
-add_point_told g point.AccessWatch range = changes.add_watch_told g range
+add_point_told g point.StoreWatch range = changes.add_watch_told g (record { kind = kind.Store; range = range })
+add_point_told g point.LoadWatch range = changes.add_watch_told g (record { kind = kind.Load; range = range })
+add_point_told g point.AccessWatch range = changes.add_watch_told g (record { kind = kind.Access; range = range })
 
 abbrev pub remove_point_told : GdbState → PointKind → ByteRange → GdbAnswered
 remove_point_told g point.Break range = changes.remove_break_told g range
-remove_point_told g point.StoreWatch range = changes.remove_watch_told g range
-remove_point_told g point.LoadWatch range = changes.remove_watch_told g range
-remove_point_told g point.AccessWatch range = changes.remove_watch_told g range
+remove_point_told g point.StoreWatch range = changes.remove_watch_told g (record { kind = kind.Store; range = range })
+remove_point_told g point.LoadWatch range = changes.remove_watch_told g (record { kind = kind.Load; range = range })
+remove_point_told g point.AccessWatch range = changes.remove_watch_told g (record { kind = kind.Access; range = range })
 
 -- what changes without a step; `k` and any other packet ends the session
 abbrev pub gdb_change_told : GdbState → GdbRequest → GdbAnswered
 gdb_change_told g (request.SetRegister n pairs) = changes.set_register_told g n pairs
 gdb_change_told g (request.StorePairs range pairs) = changes.store_pairs_told g range pairs
 gdb_change_told g (request.StoreBytes range bytes) = store_told g range bytes
-gdb_change_told g (request.AddPoint kind range) = add_point_told g kind range
-gdb_change_told g (request.RemovePoint kind range) = remove_point_told g kind range
+gdb_change_told g (request.AddPoint asked range) = add_point_told g asked range
+gdb_change_told g (request.RemovePoint asked range) = remove_point_told g asked range
 gdb_change_told g request.KillProgram = packet_reply g (codes "OK")
 gdb_change_told g request.Detach = packet_reply (changes.at_session_end g) (codes "OK")
 gdb_change_told g other = no_reply (changes.at_session_end g)

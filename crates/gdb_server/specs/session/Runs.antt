@@ -31,7 +31,7 @@ user_text (reason.Ran stop.Exit) pc = []
 user_text (reason.Ran (stop.Break address)) pc = []
 user_text reason.Stepped pc = []
 user_text reason.Asked pc = []
-user_text (reason.Watched address) pc = []
+user_text (reason.Watched place) pc = []
 user_text reason.Library pc = []
 user_text (reason.Killed f) pc = []
 
@@ -40,7 +40,7 @@ abbrev pub libraries_after : GdbStop → GdbState → List ℕ
 libraries_after reason.Library g = script_libraries g.debug.script
 libraries_after reason.Stepped g = g.libraries
 libraries_after reason.Asked g = g.libraries
-libraries_after (reason.Watched address) g = g.libraries
+libraries_after (reason.Watched place) g = g.libraries
 libraries_after (reason.Ran x) g = g.libraries
 libraries_after (reason.Killed f) g = g.libraries
 
@@ -90,7 +90,7 @@ abbrev pub was_library : GdbStop → Bool
 was_library reason.Library = true
 was_library reason.Stepped = false
 was_library reason.Asked = false
-was_library (reason.Watched address) = false
+was_library (reason.Watched place) = false
 was_library (reason.Ran x) = false
 was_library (reason.Killed f) = false
 
@@ -150,7 +150,7 @@ last_stop (Some x) = stop_after_step (reason.Ran x)
 -- looks at the bytes ("have_nonsteppable_watchpoint" in GDB's own terms). Here a watch strikes once they have
 -- changed: the step is taken already, and that request moves nothing.
 abbrev pub taken_after : GdbStop → Option Stop → Option GdbStop
-taken_after (reason.Watched address) last = Some (last_stop last)
+taken_after (reason.Watched place) last = Some (last_stop last)
 taken_after reason.Library last = None
 taken_after reason.Stepped last = None
 taken_after reason.Asked last = None
@@ -171,7 +171,7 @@ awake_told g (going.Within places) = unless_taken (step_taken g) g (slice_told g
 
 -- A machine that a fault has halted takes no step. The signal of its fault, given back to it, ends the program.
 abbrev pub halted_text : Fault → List ℕ
-halted_text f = codes "rosm: halted by " ++ (fault_name f ++ codes "; RESET wakes the machine\n")
+halted_text f = codes "rosm: halted by " ++ (fault_name f ++ codes "; RESET, load or another pc wakes the machine\n")
 
 abbrev pub is_own_signal : Option ℕ → Fault → Bool
 is_own_signal None f = false

@@ -9,16 +9,16 @@ use Rattle.debug_session.specs.declared.session.DebugSetting.{DebugSetting}
 use Rattle.gdb_machine.specs.Libraries.{library_lines}
 use Rattle.gdb_machine.specs.declared.stops.GdbStop.{GdbStop}
 use Rattle.gdb_machine.specs.declared.stops.GdbStop.TheVariants as reason
-use Rattle.gdb_packets.specs.declared.requests.ByteRange.{ByteRange}
+use Rattle.gdb_machine.specs.declared.watches.Watch.{Watch}
 use Rattle.gdb_server.specs.declared.session.session.GdbSetting.{GdbSetting}
 use Rattle.gdb_server.specs.declared.session.session.Going.{Going}
 
--- What a debugging script works on, the bytes that GDB watches, its breaks beyond those of the machine's own
+-- What a debugging script works on, GDB's watches, its breaks beyond those of the machine's own
 -- table, the lines of the modules that GDB was told are there, how many steps a run may take, what the run that
 -- is under way is for, if one is, why the program stands, and whether GDB is gone.
 pub record GdbState : Type 0 where
   pub debug : DebugState
-  pub watches : List ByteRange
+  pub watches : List Watch
   pub breaks : List ℕ
   pub libraries : List ℕ
   pub most : ℕ

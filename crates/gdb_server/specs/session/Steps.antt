@@ -1,5 +1,5 @@
--- Steps that are taken one by one, with a look after each, and where they end: where a byte that is watched
--- has changed, the machine itself stops, a break is reached, or what they are taken for.
+-- Steps that are taken one by one, with a look before and after each, and where they end: where a watch is
+-- struck, the machine itself stops, a break is reached, or what they are taken for.
 use Rattle.std.specs.Prelude.{ℕ, zero, suc, ◌/◌, ◌%◌, ◌==◌, not, ◌||◌, ◌&&◌, nat_le, nat_lt, min, Bool, true, false, List, [], ◌++◌, Option, Some, None, Result, Ok, Err, if◌then◌else◌}
 use Rattle.std.specs.Str.{bytes_eq}
 use Rattle.profile.specs.MemoryMap.{return_gate}
@@ -10,13 +10,16 @@ use Rattle.command_shell.specs.MachineState.{MachineState}
 use Rattle.command_shell.specs.Run.{Run}
 use Rattle.command_shell.specs.State.{ScriptState}
 use Rattle.command_shell.specs.Stepping.{script_run, script_after_run}
-use Rattle.gdb_machine.specs.Watches.{first_changed, watched_bytes}
+use Rattle.gdb_machine.specs.Watches.{first_changed, struck_place, watched_bytes}
 use Rattle.gdb_machine.specs.declared.stops.GdbStop.{GdbStop}
 use Rattle.gdb_machine.specs.declared.stops.GdbStop.TheVariants as reason
 use Rattle.gdb_machine.specs.declared.watches.SeenByte.{SeenByte}
+use Rattle.gdb_machine.specs.declared.watches.Watch.{Watch}
+use Rattle.gdb_machine.specs.declared.watches.WatchedPlace.{WatchedPlace}
 use Rattle.gdb_packets.specs.declared.requests.PlaceRange.{PlaceRange}
 use Rattle.gdb_server.specs.declared.session.session.Going.{Going}
 use Rattle.gdb_server.specs.declared.session.session.Going.TheVariants as going
+use Rattle.gdb_server.specs.declared.session.stepping.StepAhead.{StepAhead}
 use Rattle.gdb_server.specs.session.MoreBreaks.{is_among}
 use Rattle.gdb_server.specs.session.State.{GdbState, script_libraries}
 
@@ -45,20 +48,22 @@ steps_further (reason.Ran (stop.Break address)) = false
 steps_further (reason.Ran (stop.Fault f)) = false
 steps_further reason.Stepped = false
 steps_further reason.Asked = false
-steps_further (reason.Watched address) = false
+steps_further (reason.Watched place) = false
 steps_further reason.Library = false
 steps_further (reason.Killed f) = false
 
--- what is looked at after each step: what the steps are for, the watched bytes as they were before, breaks
--- beyond those of the machine's table, and the lines of the modules that GDB was told are there
+-- what is looked at for each step: what the steps are for, the watches and the watched bytes as they were
+-- before, breaks beyond those of the machine's table, and the lines of the modules that GDB was told are there
 pub record StepLooks : Type 0 where
   pub going : Going
+  pub watches : List Watch
   pub seen : List SeenByte
   pub breaks : List ℕ
   pub libraries : List ℕ
 
 abbrev pub looks_at : GdbState → Going → List SeenByte → StepLooks
-looks_at g goes seen = record { going = goes; seen = seen; breaks = g.breaks; libraries = g.libraries }
+looks_at g goes seen =
+    record { going = goes; watches = g.watches; seen = seen; breaks = g.breaks; libraries = g.libraries }
 
 -- A software interrupt is an instruction with bits 27 to 24 set.
 abbrev pub is_interrupt : Result ℕ Fault → Bool
@@ -75,6 +80,16 @@ abbrev pub may_change_list : Going → MachineState → Bool
 may_change_list going.Once m = false
 may_change_list (going.Within places) m = false
 may_change_list going.On m = begins_call m
+
+-- before a step, if there is one: whether it may change that, and where it strikes a watch by what it loads or
+-- stores to
+abbrev pub struck_ahead : List Watch → ScriptState → Option WatchedPlace
+struck_ahead watches s =
+    if nat_lt 0 s.left then struck_place s.machine.cpu s.machine.store.bytes watches else None
+
+abbrev pub ahead_of : Going → List Watch → ScriptState → StepAhead
+ahead_of goes watches s =
+    record { may_change = may_change_list goes s.machine; struck = struck_ahead watches s }
 
 -- whether other modules are there than GDB was told of last
 abbrev pub is_other_list : List ℕ → ScriptState → Bool
@@ -99,14 +114,20 @@ abbrev pub machine_end : StepLooks → GdbStop → Bool → ScriptState → Opti
 machine_end l why may_change s =
     if steps_further why then end_beside l.going l.breaks l.libraries may_change s else Some why
 
-abbrev pub watched_or : Option ℕ → Option GdbStop → Option GdbStop
-watched_or (Some address) other = Some (reason.Watched address)
+abbrev pub watched_or : Option WatchedPlace → Option GdbStop → Option GdbStop
+watched_or (Some place) other = Some (reason.Watched place)
 watched_or None other = other
 
--- why the steps end with one that left this, and after which the machine itself stood for that reason
-abbrev pub end_of_step : StepLooks → Bool → GdbStop → ScriptState → Option GdbStop
-end_of_step l may_change why s =
-    watched_or (first_changed s.machine.store.bytes l.seen) (machine_end l why may_change s)
+-- what a step that ended so struck: one that met a fault has loaded and stored nothing
+abbrev pub struck_after : GdbStop → Option WatchedPlace → Option WatchedPlace
+struck_after (reason.Ran (stop.Fault f)) struck = None
+struck_after why struck = struck
+
+-- why the steps end with one before which that was so, that left this, and after which the machine itself stood
+-- for that reason
+abbrev pub end_of_step : StepLooks → StepAhead → GdbStop → ScriptState → Option GdbStop
+end_of_step l ahead why s = watched_or (first_changed s.machine.store.bytes l.seen)
+    (watched_or (struck_after why ahead.struck) (machine_end l why ahead.may_change s))
 
 abbrev pub looked_further : StepsTaken → Option GdbStop → (ScriptState → StepsTaken) → StepsTaken
 looked_further first (Some why) next = record first { stop = why }
@@ -118,7 +139,7 @@ none_taken s = record { script = s; printed = []; stop = reason.Ran stop.Budget 
 unfoldable pub looked_steps : StepLooks → ℕ → ScriptState → StepsTaken
 looked_steps l zero s = none_taken s
 looked_steps l (suc count) s = looked_further (script_steps s 1)
-    (end_of_step l (may_change_list l.going s.machine) (script_steps s 1).stop (script_steps s 1).script)
+    (end_of_step l (ahead_of l.going l.watches s) (script_steps s 1).stop (script_steps s 1).script)
     (looked_steps l count)
 
 -- so many steps of a session, fewer where they end before

@@ -8,7 +8,7 @@ ghost use Rattle.command_shell.specs.Error.{IsLineError};
 
 use crate::session::session::GdbSession;
 use command_shell::{BreakError, RunError};
-use gdb_machine::{RegisterWrite, WatchError, register_write};
+use gdb_machine::{RegisterWrite, Watch, WatchError, WatchKind, register_write};
 use gdb_packets::{ByteRange, PointKind};
 use hex::{FromHexError, decode, decode_to_slice};
 use std::alloc::{AllocError, Global};
@@ -16,7 +16,7 @@ use std::alloc::{AllocError, Global};
 impl GdbSession {
     ghost use Rattle.image_loader.specs.Entries.{Entry};
     ghost use Rattle.command_shell.specs.Stepping.{script_without_break};
-    ghost use Rattle.gdb_server.specs.session.Changes.{add_break_told, add_watch_told, break_cleared, more_set, script_with_change};
+    ghost use Rattle.gdb_server.specs.session.Changes.{add_break_told, add_watch_told, break_cleared, more_set, remove_watch_told, script_with_change};
     ghost use Rattle.gdb_server.specs.session.Changes.{set_register_told, store_pairs_told};
     ghost use Rattle.gdb_server.specs.session.MoreBreaks.{with_more};
     ghost use Rattle.gdb_server.specs.session.Requests.{add_point_told, remove_point_told};
@@ -49,7 +49,10 @@ impl GdbSession {
     {
         match change {
             RegisterWrite::Present(number, value) => self.debug.session.set_register(number, value),
-            RegisterWrite::Place(address) => self.debug.session.set_pc(address),
+            RegisterWrite::Place(address) => {
+                self.debug.session.set_pc(address);
+                self.debug.session.wake();
+            }
             RegisterWrite::Status(status) => self.debug.session.set_psr(status),
             RegisterWrite::Banked(mode, number, value) => {
                 self.debug.session.set_register_in(mode, number, value);
@@ -85,9 +88,9 @@ impl GdbSession {
     {
         match kind {
             PointKind::Break => self.add_break(range),
-            PointKind::StoreWatch | PointKind::LoadWatch | PointKind::AccessWatch => {
-                self.add_watch(range)
-            }
+            PointKind::StoreWatch => self.add_watch(WatchKind::Store, range),
+            PointKind::LoadWatch => self.add_watch(WatchKind::Load, range),
+            PointKind::AccessWatch => self.add_watch(WatchKind::Access, range),
         }
     }
 
@@ -120,13 +123,13 @@ impl GdbSession {
         }
     }
 
-    fn add_watch(&mut self, range: ByteRange) -> &'static [u8]
+    fn add_watch(&mut self, kind: WatchKind, range: ByteRange) -> &'static [u8]
         ensures told { (images : List Entry) → packet_reply (gdb_state self.new images) result.now
-            ≡ add_watch_told (gdb_state self.old images) range }
+            ≡ add_watch_told (gdb_state self.old images) (record { kind = kind; range = range }) }
         ensures setting { self.new.debug.setting ≡ self.old.debug.setting }
         ensures start { self.new.start.items ≡ self.old.start.items }
     {
-        match self.watches.add(range) {
+        match self.watches.add(Watch { kind, range }) {
             Ok(()) => b"OK",
             Err(error) => watch_refusal(error),
         }
@@ -141,10 +144,19 @@ impl GdbSession {
     {
         match kind {
             PointKind::Break => self.remove_break(range.start),
-            PointKind::StoreWatch | PointKind::LoadWatch | PointKind::AccessWatch => {
-                self.watches.remove(range);
-            }
+            PointKind::StoreWatch => self.remove_watch(WatchKind::Store, range),
+            PointKind::LoadWatch => self.remove_watch(WatchKind::Load, range),
+            PointKind::AccessWatch => self.remove_watch(WatchKind::Access, range),
         }
+    }
+
+    fn remove_watch(&mut self, kind: WatchKind, range: ByteRange)
+        ensures told { (images : List Entry) → packet_reply (gdb_state self.new images) (codes "OK")
+            ≡ remove_watch_told (gdb_state self.old images) (record { kind = kind; range = range }) }
+        ensures setting { self.new.debug.setting ≡ self.old.debug.setting }
+        ensures start { self.new.start.items ≡ self.old.start.items }
+    {
+        self.watches.remove(Watch { kind, range });
     }
 
     fn remove_break(&mut self, address: u32)

@@ -133,7 +133,7 @@ fn is_own_signal(signal: Option<u32>, fault: Fault) -> bool
     }
 }
 
-// `rosm: halted by DataUnmapped; RESET wakes the machine`
+// `rosm: halted by DataUnmapped; RESET, load or another pc wakes the machine`
 fn push_halted<W: Sink>(sink: &mut W, fault: Fault) -> Result<(), WriteFault>
     ensures { Writes W.contents W.has_failed sink.old sink.new result (halted_text fault) }
 {
@@ -141,7 +141,7 @@ fn push_halted<W: Sink>(sink: &mut W, fault: Fault) -> Result<(), WriteFault>
         sink,
         b"rosm: halted by ",
         fault.name().as_bytes(),
-        b"; RESET wakes the machine\n",
+        b"; RESET, load or another pc wakes the machine\n",
     )
 }
 

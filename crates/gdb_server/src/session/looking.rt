@@ -8,7 +8,7 @@ use crate::session::session::GdbSession;
 use gdb_machine::{
     all_registers, description_part, libraries_part, memory_told, one_register, stop_packet,
 };
-use gdb_packets::{PointKind, Request};
+use gdb_packets::Request;
 use std::alloc::AllocError;
 
 /// What the other side may ask for.
@@ -66,16 +66,14 @@ fn fixed_reply(request: &Request<'_>) -> Option<&'static [u8]>
     ensures { option_map (λ text. text.now) result ≡ fixed_told (gdb_request request.now) }
 {
     match request {
-        Request::NoAcks | Request::Thread | Request::Extended => Some(b"OK"),
+        Request::NoAcks | Request::Thread(true) | Request::Extended => Some(b"OK"),
+        Request::Thread(false) => Some(b"E01"),
         Request::Supported => Some(SUPPORTED),
         Request::Ways => Some(b"vCont;c;C;s;S;r"),
         Request::IsAttached => Some(b"0"),
         Request::CurrentThread => Some(b"QC1"),
         Request::MoreThreads => Some(b"l"),
-        Request::Unknown
-        | Request::SetRegisters(_)
-        | Request::AddPoint(PointKind::LoadWatch | PointKind::AccessWatch, _)
-        | Request::RemovePoint(PointKind::LoadWatch | PointKind::AccessWatch, _) => Some(b""),
+        Request::Unknown | Request::SetRegisters(_) => Some(b""),
         _ => None,
     }
 }

@@ -1,24 +1,32 @@
-//! Steps that are taken one by one, with a look after each.
+//! Steps that are taken one by one, with a look before and after each.
 
 ghost use Rattle.std.specs.Prelude.{◌≡◌, List, IfErr, IfOk};
 ghost use Rattle.command_shell.specs.Error.{IsLineError};
 ghost use Rattle.command_shell.specs.Parts.{state_of};
 ghost use Rattle.profile.specs.text_sink.TextSink.{sink_text_of};
-ghost use Rattle.gdb_server.specs.session.Steps.{begins_call, has_left, is_interrupt as is_interrupt_told, may_change_list, steps_further as goes_on_told};
+ghost use Rattle.gdb_server.specs.session.Steps.{begins_call, has_left, is_interrupt as is_interrupt_told, may_change_list, steps_further as goes_on_told, struck_after};
 
 use crate::session::session::{GdbSession, Going};
 use command_shell::{Machine, RunError};
-use gdb_machine::{GdbStop, SeenByte, first_changed, library_lines};
+use gdb_machine::{GdbStop, SeenByte, WatchedPlace, first_changed, library_lines};
 use image_loader::Images;
 use profile::memory_map::RETURN_GATE;
 use profile::text_sink::TextSink;
 use profile::{Fault, Stop};
 use std::alloc::AllocError;
 
+/// What is known before a step: whether it may change which modules are there, and where its instruction
+/// strikes a watch by what it loads or stores to.
+#[derive(Clone, Copy)]
+pub(crate) struct StepAhead {
+    may_change: bool,
+    struck: Option<WatchedPlace>,
+}
+
 impl GdbSession {
     ghost use Rattle.image_loader.specs.Entries.{Entry};
     ghost use Rattle.gdb_server.specs.session.Session.{gdb_state, IsAfterSteps};
-    ghost use Rattle.gdb_server.specs.session.Steps.{end_beside, end_of_step, gdb_steps, is_other_list};
+    ghost use Rattle.gdb_server.specs.session.Steps.{ahead_of, end_beside, end_of_step, gdb_steps, is_other_list, struck_ahead};
     ghost use Rattle.gdb_server.specs.session.Steps.{looked_steps, looks_at};
 
     /// Takes so many steps, fewer where they end before.
@@ -61,9 +69,9 @@ impl GdbSession {
     {
         let mut left = count;
         while left > 0 {
-            let may_change = may_change_list(going, self.debug.session.machine());
+            let ahead = self.ahead_of_step(going);
             let ran = self.debug.session.take_steps(images, printed, 1)?;
-            let end = self.end_of_step(going, seen, may_change, GdbStop::Ran(ran.stop))?;
+            let end = self.end_of_step(going, seen, ahead, GdbStop::Ran(ran.stop))?;
             if let Some(stop) = end {
                 return Ok(stop);
             }
@@ -72,25 +80,51 @@ impl GdbSession {
         Ok(GdbStop::Ran(Stop::Budget))
     }
 
-    // Why the steps end with one that left this, and after which the machine itself stood so.
+    // What is known before the next step.
+    fn ahead_of_step(&self, going: Going) -> StepAhead
+        ensures { (images : List Entry) → result ≡ ahead_of going (gdb_state self.now images).watches
+            (gdb_state self.now images).debug.script }
+    {
+        StepAhead {
+            may_change: may_change_list(going, self.debug.session.machine()),
+            struck: self.struck_ahead(),
+        }
+    }
+
+    fn struck_ahead(&self) -> Option<WatchedPlace>
+        ensures { (images : List Entry) → result ≡ struck_ahead (gdb_state self.now images).watches
+            (gdb_state self.now images).debug.script }
+    {
+        if self.debug.session.left() == 0 {
+            return None;
+        }
+        let machine = self.debug.session.machine();
+        self.watches.struck_place(machine.cpu(), machine.memory())
+    }
+
+    // Why the steps end with one before which that was known, that left this, and after which the machine
+    // itself stood so.
     fn end_of_step(
         &self,
         going: Going,
         seen: &[SeenByte],
-        may_change: bool,
+        ahead: StepAhead,
         stop: GdbStop,
     ) -> Result<Option<GdbStop>, AllocError>
         ensures { (images : List Entry) → IfOk result (λ end. end
-            ≡ end_of_step (looks_at (gdb_state self.now images) going seen.now) may_change stop
+            ≡ end_of_step (looks_at (gdb_state self.now images) going seen.now) ahead stop
             (gdb_state self.now images).debug.script) }
     {
-        if let Some(address) = first_changed(self.debug.session.machine().memory(), seen) {
-            return Ok(Some(GdbStop::Watched(address)));
+        if let Some(place) = first_changed(self.debug.session.machine().memory(), seen) {
+            return Ok(Some(GdbStop::Watched(place)));
+        }
+        if let Some(place) = struck_after(stop, ahead.struck) {
+            return Ok(Some(GdbStop::Watched(place)));
         }
         if !goes_on(stop) {
             return Ok(Some(stop));
         }
-        self.end_beside(going, may_change)
+        self.end_beside(going, ahead.may_change)
     }
 
     // Why they end where no byte has changed and the machine could go on.
@@ -124,6 +158,16 @@ impl GdbSession {
     {
         let now = library_lines(self.alloc, self.debug.session.machine().instances())?;
         Ok(now.as_slice() != self.libraries.as_slice())
+    }
+}
+
+// What a step that ended so struck: one that met a fault has loaded and stored nothing.
+fn struck_after(stop: GdbStop, struck: Option<WatchedPlace>) -> Option<WatchedPlace>
+    ensures { result ≡ struck_after stop struck }
+{
+    match stop {
+        GdbStop::Ran(Stop::Fault(_)) => None,
+        _ => struck,
     }
 }
 

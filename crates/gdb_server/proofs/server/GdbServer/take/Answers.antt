@@ -6,7 +6,8 @@ use Rattle.profile.proofs.OutputLemmas.{AddsAllBut-more}
 use Rattle.gdb_server.specs.Server.{IsServed, server_state}
 use Rattle.gdb_server.specs.Serving.{ServerState, Served, byte_served, bytes_served}
 use Rattle.debug_session.specs.declared.session.DebugSetting.{DebugSetting}
-use Rattle.gdb_server.proofs.ServingLemmas.{ends_served, front_more, served_ended, served_more, served_none}
+use Rattle.debug_session.proofs.FailLemmas.{front_then}
+use Rattle.gdb_server.proofs.ServingLemmas.{ends_served, served_ended, served_more, served_none}
 use Rattle.gdb_server.proofs.server.GdbServer.take.Goals as goal
 
 pub returns-then-has_ended-clause-told : goal.returns-then-has_ended-clause-told
@@ -79,7 +80,7 @@ returns-in_err-take_byte-clause-front g c =
     (subst (λ (u : DebugSetting). AddsFront before after (byte_served u c.loop-byte.self.session.start.items s byte).text) i.setting
     c.in_err-take_byte.ensures.front) in
     let first : Served = byte_served setting start s byte in
-    at_err _ _ (front_more (g.W.Sink.contents c.args.sink.now) before after (bytes_served setting start (drop index bytes) s).text
+    at_err _ _ (front_then (g.W.Sink.contents c.args.sink.now) before after (bytes_served setting start (drop index bytes) s).text
     first.text (bytes_served setting start (drop (index + 1) bytes) first.state).text
     (bytes_served setting start bytes (server_state c.args.self.now c.args.images.now)).text i.text
     (ap (λ (x : Served). x.text) (served_more setting start bytes index s c.loop-byte-test.true goes)) front)

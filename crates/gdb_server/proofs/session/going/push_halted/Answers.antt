@@ -6,5 +6,5 @@ use Rattle.gdb_server.proofs.session.going.push_halted.Goals as goal
 pub returns : goal.returns
 returns g c =
     subst (λ (x : List ℕ). Writes g.W.Sink.contents g.W.Sink.has_failed c.args.sink.now c.push_between.new.sink c.push_between.result
-    (codes "rosm: halted by " ++ (x ++ codes "; RESET wakes the machine\n")))
+    (codes "rosm: halted by " ++ (x ++ codes "; RESET, load or another pc wakes the machine\n")))
     (c.as_bytes.ensures.value ∙ c.name.ensures) c.push_between.ensures

@@ -21,5 +21,6 @@ returns c images =
     (sym c.first_changed.ensures ∙ none_else c.first_changed.result c.in_default.not-Some) in
     let goes : c.goes_on.result ≡ true = grind arith in
     subst (λ (o : Option GdbStop). IfOk c.end_beside.result (λ (end : Option GdbStop). end ≡ o))
-    (looks_beside (looks_at g c.args.going c.args.seen.now) c.args.may_change c.args.stop g.debug.script same (sym c.goes_on.ensures ∙ goes))
+    (looks_beside (looks_at g c.args.going c.args.seen.now) c.args.ahead c.args.stop g.debug.script same
+    (sym c.struck_after.ensures ∙ none_else c.struck_after.result c.in_default-struck_after.not-Some) (sym c.goes_on.ensures ∙ goes))
     (c.end_beside.ensures images)

@@ -1,4 +1,5 @@
 use Rattle.std.proofs.Common.{ap, sym, ◌∙◌}
+use Rattle.command_shell.specs.Memory.{script_awake}
 use Rattle.command_shell.specs.State.{ScriptState}
 use Rattle.gdb_server.specs.session.Session.{gdb_state}
 use Rattle.gdb_machine.specs.declared.changes.RegisterWrite.{RegisterWrite}
@@ -13,7 +14,7 @@ returns-in-Present-clause-told c images =
 
 pub returns-in-Place-clause-told : goal.returns-in-Place-clause-told
 returns-in-Place-clause-told c images =
-    ap (λ (s : ScriptState). with_script (gdb_state c.args.self.now images) s) (c.set_pc.ensures images
+    ap (λ (s : ScriptState). with_script (gdb_state c.args.self.now images) s) (c.wake.ensures images ∙ ap script_awake (c.set_pc.ensures images)
     ∙ ap (λ (d : RegisterWrite). script_with_change (gdb_state c.args.self.now images).debug.script d) (sym c.in-Place.is))
 
 pub returns-in-Status-clause-told : goal.returns-in-Status-clause-told

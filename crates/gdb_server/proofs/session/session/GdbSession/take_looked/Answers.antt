@@ -1,13 +1,12 @@
-use Rattle.std.proofs.Common.{◌≡◌, Bool, refl, ap, subst, sym, ◌∙◌, arith}
+use Rattle.std.proofs.Common.{◌≡◌, refl, ap, subst, sym, ◌∙◌, arith}
 use Rattle.std.specs.Prelude.{Some, None}
 use Rattle.command_shell.proofs.GateLemmas.{none_else}
-use Rattle.command_shell.specs.Parts.{state_of}
-use Rattle.command_shell.specs.Value.{MachineValue}
 use Rattle.gdb_machine.specs.declared.stops.GdbStop.TheVariants as reason
 use Rattle.profile.specs.text_sink.TextSink.{sink_text_of}
 use Rattle.gdb_server.specs.session.Session.{gdb_state}
 use Rattle.gdb_server.specs.session.State.{GdbState}
-use Rattle.gdb_server.specs.session.Steps.{StepLooks, end_of_step, looks_at, may_change_list}
+use Rattle.gdb_server.specs.declared.session.stepping.StepAhead.{StepAhead}
+use Rattle.gdb_server.specs.session.Steps.{StepLooks, ahead_of, end_of_step, looks_at}
 use Rattle.gdb_server.proofs.SessionLemmas.StepLemmas.{ends_here, ends_there, goes_further, same_looks}
 use Rattle.gdb_server.proofs.session.session.GdbSession.take_looked.Goals as goal
 
@@ -20,12 +19,13 @@ returns-in-Some-clause-taken c =
     let l : StepLooks = looks_at first c.args.going c.args.seen.now in
     let same : looks_at now c.args.going c.args.seen.now ≡ l =
     same_looks first here now c.args.going c.args.seen.now c.loop-left.invariant.steps.others refl in
-    let may : c.may_change_list-may_change.result ≡ may_change_list c.args.going here.debug.script.machine =
-    c.may_change_list-may_change.ensures ∙ ap (λ (m : MachineValue). may_change_list c.args.going (state_of m.guest)) c.machine.ensures in
-    let is : end_of_step l (may_change_list c.args.going here.debug.script.machine) (reason.Ran c.in_ok-ran.ran.stop) now.debug.script
+    let ahead : c.ahead_of_step-ahead.result ≡ ahead_of c.args.going l.watches here.debug.script =
+    c.ahead_of_step-ahead.ensures images
+    ∙ ap (λ (g : GdbState). ahead_of c.args.going g.watches here.debug.script) c.loop-left.invariant.steps.others in
+    let is : end_of_step l (ahead_of c.args.going l.watches here.debug.script) (reason.Ran c.in_ok-ran.ran.stop) now.debug.script
     ≡ Some c.in-Some.stop =
-    ap (λ (b : Bool). end_of_step l b (reason.Ran c.in_ok-ran.ran.stop) now.debug.script) (sym may)
-    ∙ ap (λ (k : StepLooks). end_of_step k c.may_change_list-may_change.result (reason.Ran c.in_ok-ran.ran.stop) now.debug.script) (sym same)
+    ap (λ (a : StepAhead). end_of_step l a (reason.Ran c.in_ok-ran.ran.stop) now.debug.script) (sym ahead)
+    ∙ ap (λ (k : StepLooks). end_of_step k c.ahead_of_step-ahead.result (reason.Ran c.in_ok-ran.ran.stop) now.debug.script) (sym same)
     ∙ sym (c.in_ok-end.ensures images) ∙ c.in-Some.is in
     ends_there l first here now (sink_text_of c.args.printed.now) (sink_text_of c.loop-left.printed) (sink_text_of c.take_steps.new.sink)
     c.args.count c.loop-left.left c.in_ok-ran.ran.taken c.in_ok-ran.ran.stop c.in-Some.stop c.loop-left.invariant.steps
@@ -40,12 +40,13 @@ loop-left-preserved c =
     let l : StepLooks = looks_at first c.args.going c.args.seen.now in
     let same : looks_at now c.args.going c.args.seen.now ≡ l =
     same_looks first here now c.args.going c.args.seen.now c.loop-left.invariant.steps.others refl in
-    let may : c.may_change_list-may_change.result ≡ may_change_list c.args.going here.debug.script.machine =
-    c.may_change_list-may_change.ensures ∙ ap (λ (m : MachineValue). may_change_list c.args.going (state_of m.guest)) c.machine.ensures in
-    let is : end_of_step l (may_change_list c.args.going here.debug.script.machine) (reason.Ran c.in_ok-ran.ran.stop) now.debug.script
+    let ahead : c.ahead_of_step-ahead.result ≡ ahead_of c.args.going l.watches here.debug.script =
+    c.ahead_of_step-ahead.ensures images
+    ∙ ap (λ (g : GdbState). ahead_of c.args.going g.watches here.debug.script) c.loop-left.invariant.steps.others in
+    let is : end_of_step l (ahead_of c.args.going l.watches here.debug.script) (reason.Ran c.in_ok-ran.ran.stop) now.debug.script
     ≡ None =
-    ap (λ (b : Bool). end_of_step l b (reason.Ran c.in_ok-ran.ran.stop) now.debug.script) (sym may)
-    ∙ ap (λ (k : StepLooks). end_of_step k c.may_change_list-may_change.result (reason.Ran c.in_ok-ran.ran.stop) now.debug.script) (sym same)
+    ap (λ (a : StepAhead). end_of_step l a (reason.Ran c.in_ok-ran.ran.stop) now.debug.script) (sym ahead)
+    ∙ ap (λ (k : StepLooks). end_of_step k c.ahead_of_step-ahead.result (reason.Ran c.in_ok-ran.ran.stop) now.debug.script) (sym same)
     ∙ sym (c.in_ok-end.ensures images) ∙ none_else c.in_ok-end.end c.in_default.not-Some in
     record {
       steps = goes_further l first here now (sink_text_of c.args.printed.now) (sink_text_of c.loop-left.printed)
