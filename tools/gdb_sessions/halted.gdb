@@ -1,6 +1,5 @@
 continue
 x/i $pc
-set var $pc = 0x8008
 signal 0
 info threads
 continue

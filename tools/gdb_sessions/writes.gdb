@@ -13,6 +13,8 @@ print/x $pc
 set $pc = $pc - 4
 set $cpsr = 0x20000000
 print $cpsr
+print $r15
+print/x $r15
 delete
 print write_number(5)
 bt

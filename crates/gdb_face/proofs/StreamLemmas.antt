@@ -6,10 +6,10 @@ use Rattle.std.specs.Io.KnownBytes.{Appends, Consumes, IsAtEnd, Keeps}
 use Rattle.std.proofs.KnownBytes.{Appends-kept, Appends-trans, Consumes-nil, Consumes-trans}
 use Rattle.profile.specs.Output.{AddsFront}
 use Rattle.profile.proofs.OutputLemmas.{Appends-nothing}
-use Rattle.command_shell.proofs.FrontLemmas.{AddsFront-start}
 use Rattle.gdb_server.specs.DebugSetting.{DebugSetting}
 use Rattle.gdb_server.specs.Serving.{ServerState, Served, bytes_served}
 use Rattle.gdb_server.specs.Server.{IsServed}
+use Rattle.gdb_server.proofs.FrontLemmas.{AddsFront-start}
 use Rattle.gdb_server.proofs.ServingLemmas.{front_after, served_append, served_ended, served_none}
 use Rattle.gdb_face.specs.Streams.{AnswersFront, AnswersInput}
 

@@ -5,7 +5,7 @@ use Rattle.std.specs.declared.io.ErrorKind.{ErrorKind}
 use Rattle.std.specs.declared.io.ErrorKind.TheVariants.{OutOfMemory}
 use Rattle.profile.specs.declared.stop.Stop.{Stop}
 use Rattle.rosm_settings.specs.command_line.Settings.{settings_for}
-use Rattle.rosm_settings.specs.command_line.Status.{status_after}
+use Rattle.profile.specs.Status.{status_after}
 use Rattle.rosm_settings.specs.declared.command_line.options.Settings.{Settings}
 use Rattle.rosm_settings.specs.declared.command_line.options.SettingsError.{SettingsError}
 use Rattle.rosm_settings.specs.declared.command_line.options.SettingsError.TheVariants as refused

@@ -3,8 +3,8 @@
 use Rattle.std.specs.Prelude.{◌≡◌, ℕ, false, List, Option}
 use Rattle.std.specs.Io.KnownBytes.{Consumes, IsAtEnd}
 use Rattle.profile.specs.Output.{AddsFront}
-use Rattle.command_shell.specs.declared.error.RunError.{RunError}
-use Rattle.command_shell.specs.declared.error.RunError.TheVariants as run
+use Rattle.gdb_server.specs.RunError.{RunError}
+use Rattle.gdb_server.specs.RunError.TheVariants as run
 use Rattle.gdb_server.specs.DebugSetting.{DebugSetting}
 use Rattle.gdb_server.specs.Serving.{ServerState, bytes_served}
 use Rattle.gdb_server.specs.Server.{IsServed}

@@ -1,5 +1,7 @@
-//! GDB's remote protocol over standard input and output: the face `gdb` of the program `rosm_tools`,
-//! which people type as `rosm_gdb`.
+//! GDB's remote protocol over standard input and output: the face `gdb` of the program
+//! `rosm_tools`, which people type as `rosm_gdb`.
+//!
+//! Promise: it serves what `gdb_server` answers, to the end of the input.
 //!
 //! `rosm_gdb [--script FILE] [--pages N] [--app N] [--rma N] [--budget N] [FILE...]`
 #![tactic(auto)]

@@ -3,7 +3,7 @@
 ghost use Rattle.std.specs.Prelude.{◌≡◌};
 
 use crate::serve::ServeError;
-use command_shell::RunError;
+use gdb_server::RunError;
 use rosm_settings::command_line::SettingsError;
 use rosm_settings::image_files::FileError;
 use std::alloc::AllocError;

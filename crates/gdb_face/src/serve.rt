@@ -6,8 +6,7 @@ ghost use Rattle.gdb_server.specs.Serving.{bytes_served};
 ghost use Rattle.gdb_server.specs.Server.{IsServed, server_state};
 ghost use Rattle.gdb_face.specs.Streams.{AnswersFront, AnswersInput, EndsWithInput};
 
-use command_shell::RunError;
-use gdb_server::GdbServer;
+use gdb_server::{GdbServer, RunError};
 use image_loader::Images;
 use profile::{Device, ReadFault, Source, WriteFault};
 use std::io::Write;

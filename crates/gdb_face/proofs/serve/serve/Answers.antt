@@ -1,6 +1,6 @@
 use Rattle.std.proofs.Common.{◌≡◌, true, inr, refl, sym, ap, ◌∙◌}
 use Rattle.std.proofs.lemmas.Bool.{both_ways}
-use Rattle.command_shell.proofs.ImageLemmas.{at_err}
+use Rattle.gdb_server.proofs.ImageLemmas.{at_err}
 use Rattle.gdb_server.specs.session.Session.{gdb_state}
 use Rattle.gdb_server.specs.declared.session.session.GdbSession.{GdbSession}
 use Rattle.gdb_server.specs.Server.{server_state}

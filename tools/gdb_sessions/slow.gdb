@@ -1,0 +1,3 @@
+print $r0
+print $r1
+stepi
