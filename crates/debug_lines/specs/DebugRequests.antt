@@ -6,6 +6,7 @@ use Rattle.image_loader.specs.Entries.{can_name_image}
 use Rattle.command_shell_lines.specs.Numbers.{script_number}
 use Rattle.command_shell_lines.specs.Operands.{word_address, origin_of, count_up_to}
 use Rattle.command_shell_lines.specs.Requests.{Request, Call, Poke, Set, Unknown, opens_block, request_of, request_of_command, is_same_word, words}
+use Rattle.command_shell_lines.specs.Requests as script
 use Rattle.debug_lines.specs.declared.status.StatusPattern.{StatusPattern}
 use Rattle.debug_lines.specs.declared.requests.DebugCommand.{DebugCommand}
 use Rattle.debug_lines.specs.declared.requests.DebugCommand.TheVariants as command
@@ -80,12 +81,13 @@ own_request_of_word word =
     if is_same_word word (codes "STACK") then View (Stack 8) else (
     if is_frames_word word then View Frames else (
     if is_same_word word (codes "LABELS") then View Labels else (
+    if is_same_word word (codes "STEP") then Script (script.Step 1) else (
     if is_same_word word (codes "FINISH") then Stepping false Finish else (
     if is_same_word word (codes "RESET") then Reset else (
     if is_same_word word (codes "WHY") then View Why else (
     if is_same_word word (codes "HELP") then View Help else (
     if is_same_word word (codes "QUIT") then Quit else
-    NotKnown)))))))))
+    NotKnown))))))))))
 
 abbrev pub stack_of : Option ℕ → DebugRequest
 stack_of (Some count) = View (Stack count)

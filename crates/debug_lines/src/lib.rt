@@ -1,5 +1,8 @@
 //! The lines of a debugging script, and what each asks for: those of a script, the same untidy, and
 //! the debugging language's own. It knows no machine.
+//!
+//! Promise: a line of a script of `rosm` means what it means there, and each other line one
+//! request, or none.
 #![tactic(auto)]
 
 mod block_ends;

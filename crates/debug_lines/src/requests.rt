@@ -213,6 +213,8 @@ fn command_of_word(word: &[u8]) -> DebugCommand<'static>
         DebugCommand::View(DebugView::Frames)
     } else if has_letters(word, b"LABELS") {
         DebugCommand::View(DebugView::Labels)
+    } else if has_letters(word, b"STEP") {
+        DebugCommand::Script(ScriptCommand::Step(1))
     } else if has_letters(word, b"FINISH") {
         DebugCommand::Stepping(false, SteppingCommand::Finish)
     } else if has_letters(word, b"RESET") {
