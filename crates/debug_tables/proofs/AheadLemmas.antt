@@ -1,5 +1,6 @@
 -- Which instructions call a SWI.
-use Rattle.std.proofs.Common.{◌≡◌, ◌==◌, ℕ, Bool, true, false, Option, Some, None, Result, Ok, Err, refl}
+use Rattle.std.proofs.Common.{◌≡◌, ◌==◌, ℕ, Bool, true, false, Option, Some, None, Result, Ok, Err, refl, sym}
+use Rattle.std.proofs.lemmas.Bool.{false≢true}
 use Rattle.std.specs.Prelude.{if◌then◌else◌}
 use Rattle.std.specs.Option.{option_map}
 use Rattle.profile.specs.MemoryMap.{return_gate}
@@ -10,15 +11,20 @@ use Rattle.arm_core.specs.Conditions.{condition_holds}
 use Rattle.arm_core.specs.Effect.{with_next_pc}
 use Rattle.arm_core.specs.State.{State}
 use Rattle.arm_core.specs.declared.turn.Turn.TheVariants as turn
-use Rattle.arm_decode.specs.Decoded.{instruction_of_word}
-use Rattle.arm_decode.specs.Fields.{condition_in}
+use Rattle.arm_core.specs.declared.psr.Psr.{Psr}
+use Rattle.arm_decode.specs.Decoded.{decoded_as, instruction_of_word, unless_refused}
+use Rattle.arm_decode.specs.Fields.{action_in, condition_in}
+use Rattle.arm_decode.specs.Refusals.{refusal}
+use Rattle.arm_decode.specs.Table.{form_of}
+use Rattle.arm_decode.specs.declared.form.Form.{Form}
+use Rattle.arm_decode.specs.declared.form.Form.TheVariants as form
 use Rattle.arm_decode.specs.declared.action.Action.{Action}
 use Rattle.arm_decode.specs.declared.action.Action.TheVariants as action
 use Rattle.arm_decode.specs.declared.condition.Condition.{Condition}
 use Rattle.arm_step.specs.Step.{acted_if_decoded, executed_if_fetched, or_fault, result_of_action, result_of_step, result_of_word}
 use Rattle.arm_step.specs.Transfers.{result_of_transfer}
 use Rattle.arm_step.specs.Blocks.{result_of_block_transfer}
-use Rattle.debug_tables.specs.Stubs.{swi_next, swi_decoded, swi_fetched, swi_in_action, swi_in_turn, swi_in_word, swi_unless_halted}
+use Rattle.debug_tables.specs.Stubs.{has_swi_form, swi_next, swi_decoded, swi_fetched, swi_in_action, swi_in_turn, swi_in_word, swi_unless_halted}
 use Rattle.command_shell.specs.MachineState.{stop_of}
 use Rattle.command_shell.specs.Halt.{Halt}
 
@@ -71,3 +77,33 @@ awake (Some h) swi none = absurd (cc)
 pub halted : (o : Option Halt) (swi : Option ℕ) (stop : Stop) → Some stop ≡ option_map stop_of o → None ≡ swi_unless_halted o swi
 halted None swi stop some = absurd (cc)
 halted (Some h) swi stop some = refl
+
+-- an action that its parts refuse, or that is no SWI
+unless : (refused : Option Fault) (c : Condition) (a : Action) → swi_in_action a ≡ None → swi_decoded (unless_refused refused (c, a)) ≡ None
+unless None c a other = other
+unless (Some f) c a other = refl
+
+no_swi : (f : Form) (w : ℕ) → has_swi_form (Ok f) ≡ false → swi_in_action (action_in f w) ≡ None
+no_swi form.Multiply w other = refl
+no_swi form.ShiftByNumber w other = refl
+no_swi form.ShiftByRegister w other = refl
+no_swi form.Immediate w other = refl
+no_swi form.OffsetByNumber w other = refl
+no_swi form.OffsetByRegister w other = refl
+no_swi form.BlockTransfer w other = refl
+no_swi form.Branch w other = refl
+no_swi form.SoftwareInterrupt w other = absurd (false≢true (sym other))
+
+no_swi_of : (row : Result Form Fault) (w : ℕ) → has_swi_form row ≡ false → swi_decoded (decoded_as row w) ≡ None
+no_swi_of (Ok f) w other = unless (refusal (action_in f w)) (condition_in w) (action_in f w) (no_swi f w other)
+no_swi_of (Err fault) w other = refl
+
+no_swi_if : (met : Bool) (i : Result (Condition × Action) Fault) → swi_decoded i ≡ None → None ≡ (if met then swi_decoded i else None)
+no_swi_if true i none = sym none
+no_swi_if false i none = refl
+
+-- a word whose form is another one calls no SWI
+pub no_swi_in : (psr : Psr) (w : ℕ) → has_swi_form (form_of w) ≡ false → None ≡ swi_in_word psr w
+unfolding instruction_of_word
+no_swi_in psr w other =
+    no_swi_if (condition_holds (condition_in w) psr) (instruction_of_word w) (no_swi_of (form_of w) w other)

@@ -1,4 +1,5 @@
 pub mod AheadLemmas
+pub mod BlockErrorLemmas
 pub mod StubLemmas
 pub mod TextLemmas
 pub mod WatchLemmas

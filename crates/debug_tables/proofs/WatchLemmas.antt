@@ -2,8 +2,8 @@
 use Rattle.std.proofs.Common.{◌≡◌, ℕ, ◌+◌, ◌<◌, List, length, drop, get_or, Option, sym, ap, ◌∙◌}
 use Rattle.std.proofs.lemmas.List.{drop_more}
 use Rattle.std.specs.Option.{option_or}
-use Rattle.debug_labels.specs.Standing.{first_of}
-use Rattle.debug_labels.proofs.WalkLemmas.{first_past}
+use Rattle.profile.specs.Firsts.{first_of}
+use Rattle.profile.proofs.FirstLemmas.{first_past}
 
 pub first_at : {X Y : Type 0} (f : X → Option Y) (xs : List X) (n : ℕ) (x : X) → n < length xs → x ≡ get_or xs n x
     → first_of f (drop n xs) ≡ option_or (f x) (first_of f (drop (n + 1) xs))

@@ -1,4 +1,6 @@
 -- What a debugger keeps beside the machine while steps are taken. Begin with Stubs and WordWatches.
+pub mod BlockErrors
+pub mod BlockErrorTexts
 pub mod Modes
 pub mod StubNames
 pub mod Stubs

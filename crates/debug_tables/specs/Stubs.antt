@@ -1,6 +1,6 @@
 -- Stubs: what a debugger lets a SWI do that the machine doesn't have: registers are set, V is
 -- clear, and the guest goes on as after a real call.
-use Rattle.std.specs.Prelude.{ℕ, Bool, false, ◌+◌, ◌-◌, ◌%◌, ◌^◌, ◌==◌, ◌||◌, nat_le, length, List, [], ◌∷◌, ◌++◌, Option, Some, None, is_some, Result, Ok, Err, slice_get, if◌then◌else◌}
+use Rattle.std.specs.Prelude.{ℕ, Bool, true, false, ◌+◌, ◌-◌, ◌%◌, ◌^◌, ◌==◌, ◌||◌, nat_le, length, List, [], ◌∷◌, ◌++◌, Option, Some, None, is_some, Result, Ok, Err, slice_get, if◌then◌else◌}
 use Rattle.std.specs.List.{position, remove}
 use Rattle.profile.specs.SwiNames.{swi_of}
 use Rattle.profile.specs.declared.fault.Fault.{Fault}
@@ -18,6 +18,8 @@ use Rattle.arm_decode.specs.Fields.{condition_in}
 use Rattle.arm_decode.specs.declared.action.Action.{Action}
 use Rattle.arm_decode.specs.declared.action.Action.TheVariants as action
 use Rattle.arm_decode.specs.declared.condition.Condition.{Condition}
+use Rattle.arm_decode.specs.declared.form.Form.{Form}
+use Rattle.arm_decode.specs.declared.form.Form.TheVariants as form
 use Rattle.image_loader.specs.Entries.{Entry}
 use Rattle.instances_table.specs.Lookup.{handler_of}
 use Rattle.command_shell.specs.MachineState.{MachineState, StepOutcome, quiet}
@@ -40,6 +42,11 @@ swi_in_turn _ = None
 abbrev pub swi_in_action : Action → Option ℕ
 swi_in_action (action.SoftwareInterrupt number) = Some number
 swi_in_action _ = None
+
+-- whether a word of this form is a SWI
+abbrev pub has_swi_form : Result Form Fault → Bool
+has_swi_form (Ok form.SoftwareInterrupt) = true
+has_swi_form row = false
 
 abbrev pub swi_decoded : Result (Condition × Action) Fault → Option ℕ
 swi_decoded (Ok i) = swi_in_action i.1

@@ -4,7 +4,7 @@ use Rattle.std.specs.List.{position, remove}
 use Rattle.std.specs.Result.{result_ok}
 use Rattle.profile.specs.Digits.{hex_number, hex_word}
 use Rattle.address_map.specs.Bytes.{Bytes, word_loaded}
-use Rattle.debug_labels.specs.Standing.{first_of}
+use Rattle.profile.specs.Firsts.{first_of}
 unfoldable pub use Rattle.command_shell.specs.Run.{is_among}
 use Rattle.debug_tables.specs.declared.watches.WordWatchError.{WordWatchError}
 use Rattle.debug_tables.specs.declared.watches.WordWatchError.TheVariants.{WatchTableFull, NoWatch}

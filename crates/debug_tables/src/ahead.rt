@@ -2,13 +2,14 @@
 
 ghost use Rattle.std.specs.Prelude.{◌≡◌};
 ghost use Rattle.address_map.specs.Memory.{bytes_of};
-ghost use Rattle.debug_tables.specs.Stubs.{is_known_swi, swi_ahead, swi_next, swi_in_action, swi_in_word};
+ghost use Rattle.arm_decode.specs.Table.{form_of};
+ghost use Rattle.debug_tables.specs.Stubs.{has_swi_form, is_known_swi, swi_ahead, swi_next, swi_in_action, swi_in_word};
 ghost use Rattle.command_shell.specs.Parts.{state_of};
 
 use address_map::AddressMap;
 use arm_core::condition::is_met;
 use arm_core::{Cpu, Psr};
-use arm_decode::{Action, Condition, decode};
+use arm_decode::{Action, Condition, Form, decode, row_of};
 use command_shell::Machine;
 use profile::SwiName;
 use profile::memory_map::RETURN_GATE;
@@ -36,6 +37,23 @@ fn swi_next(cpu: &Cpu, memory: &AddressMap) -> Option<u32>
 }
 
 fn swi_in_word(psr: Psr, word: u32) -> Option<u32>
+    ensures { result ≡ swi_in_word psr word }
+{
+    if is_swi(word) {
+        swi_if_met(psr, word)
+    } else {
+        None
+    }
+}
+
+// Whether a word is a SWI, which its form says: few words are decoded.
+fn is_swi(word: u32) -> bool
+    ensures { result ≡ has_swi_form (form_of word) }
+{
+    matches!(row_of(word), Ok(Form::SoftwareInterrupt))
+}
+
+fn swi_if_met(psr: Psr, word: u32) -> Option<u32>
     ensures { result ≡ swi_in_word psr word }
 {
     if !is_met(Condition::in_word(word), psr) {

@@ -1,8 +1,13 @@
 //! What a debugger keeps beside the machine while steps are taken: stubs for SWIs that the machine
 //! doesn't have, and watches on words of memory.
+//!
+//! Promise: a stub answers its SWI as it was set, a watch finds the first of its words that
+//! changed, and the errors of an ASM block are those of their lines.
 #![tactic(auto)]
 
 mod ahead;
+mod block_error_texts;
+pub mod block_errors;
 pub mod byte_writes;
 pub mod counts;
 mod modes;
@@ -11,6 +16,7 @@ mod stubbing;
 mod stubs;
 mod watches;
 
+pub use block_error_texts::with_errors;
 pub use modes::StepModes;
 pub use stubs::{MOST_STUB_REGISTERS, MOST_STUBS, Stub, StubError, StubRegister, Stubs};
 pub use watches::{

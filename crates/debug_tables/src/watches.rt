@@ -3,7 +3,7 @@
 ghost use Rattle.std.specs.Prelude.{◌≡◌, ◌==◌, ◌↔◌, ◌<◌, ◌≤◌, [], IsTrue, IfSome, length};
 ghost use Rattle.std.specs.List.{position};
 ghost use Rattle.address_map.specs.Memory.{bytes_of};
-ghost use Rattle.debug_labels.specs.Standing.{first_of};
+ghost use Rattle.profile.specs.Firsts.{first_of};
 ghost use Rattle.profile.specs.Outcome.{Leaves};
 ghost use Rattle.profile.specs.Output.{Writes};
 ghost use Rattle.debug_tables.specs.WordWatches.{change_of_word, hit_unless_same, is_unchanged_word, mapped_word, mapped_word_text, watch_error_name, watch_change_text, was_text, watch_text, watched_text, watched_words};

@@ -1,9 +1,10 @@
 //! Steps that are taken so many at a time, between which the meter is told. What they come to is what
 //! they come to at once.
 
-ghost use Rattle.std.specs.Prelude.{◌≡◌, ◌↔◌, ◌+◌, List, min, true, IfOk, IfErr, IsTrue, OnOk};
+ghost use Rattle.std.specs.Prelude.{◌≡◌, ◌↔◌, ◌+◌, List, min, true, Err, IfOk, IfErr, IsTrue, OnOk, OnErr};
 ghost use Rattle.command_shell.specs.Error.{IsLineError};
-ghost use Rattle.command_shell.specs.Script.{request_told};
+ghost use Rattle.command_shell.specs.Fronts.{AreOldOrTold};
+ghost use Rattle.command_shell.specs.Script.{request_told, takes_memory};
 ghost use Rattle.command_shell.specs.Session.{script_state};
 ghost use Rattle.command_shell.specs.State.{IsAnswered};
 ghost use Rattle.command_shell.specs.Stepping.{IsAfterRun, run_told, script_run, step_told};
@@ -43,6 +44,13 @@ pub fn answer_metered<W: Sink>(
         ≡ lines_after (opens_block (request_of_command command.now)) script.old.left) }
     ensures number { OnOk result (script.new.number ≡ script.old.number
         + lines_taken (opens_block (request_of_command command.now)) script.old.left) }
+    ensures memory { result ≡ Err RunError.Memory → sink.new ≡ sink.old }
+    ensures taking { result ≡ Err RunError.Memory
+        → takes_memory images.old (request_of_command command.now) ≡ true }
+    ensures write_fault { result ≡ Err RunError.WriteFault → W.has_failed sink.new ≡ true }
+    ensures images { OnErr result (AreOldOrTold images.old images.new
+        (request_told (script_state session.old images.old) script.old.number
+        (request_of_command command.now) (block_lines script.old.left))) }
     ensures errors { IfErr result IsLineError }
     ensures same_flag { OnOk result (W.has_failed sink.new ≡ W.has_failed sink.old) }
 {
@@ -62,6 +70,7 @@ fn run<W: Sink>(
 ) -> Result<(), WriteFault>
     ensures told { OnOk result (IsAnswered (W.contents sink.old) (W.contents sink.new)
         (script_state session.new images.now) (run_told (script_state session.old images.now))) }
+    ensures flag { OnErr result (W.has_failed sink.new ≡ true) }
     ensures same_flag { OnOk result (W.has_failed sink.new ≡ W.has_failed sink.old) }
 {
     let left = session.left();
@@ -80,6 +89,7 @@ fn step<W: Sink>(
     ensures told { OnOk result (IsAnswered (W.contents sink.old) (W.contents sink.new)
         (script_state session.new images.now)
         (step_told (script_state session.old images.now) count)) }
+    ensures flag { OnErr result (W.has_failed sink.new ≡ true) }
     ensures same_flag { OnOk result (W.has_failed sink.new ≡ W.has_failed sink.old) }
 {
     let count = u64::from(count);
@@ -99,6 +109,7 @@ fn take_steps<W: Sink>(
     ensures ran { let s = script_state session.old images.now in
         IfOk result (λ stop. IsAfterRun s (min count s.left) (script_state session.new images.now)
         (W.contents sink.old) (W.contents sink.new) (script_run s (min count s.left)).taken stop) }
+    ensures flag { OnErr result (W.has_failed sink.new ≡ true) }
     ensures same_flag { OnOk result (W.has_failed sink.new ≡ W.has_failed sink.old) }
 {
     let most = count.min(session.left());

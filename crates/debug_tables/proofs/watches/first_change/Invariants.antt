@@ -1,6 +1,6 @@
 use Rattle.std.proofs.Common.{◌≡◌, drop}
 use Rattle.address_map.specs.Memory.{bytes_of}
-use Rattle.debug_labels.specs.Standing.{first_of}
+use Rattle.profile.specs.Firsts.{first_of}
 use Rattle.debug_tables.specs.WordWatches.{change_of_word}
 use Rattle.debug_tables.proofs.watches.first_change.Given as goal
 
