@@ -1,14 +1,18 @@
-//! The modes of a debugger, for `debug_session`: whether steps are told one by one, and how many, stubs,
-//! watches and counts; the lines that change them, and lines that take steps in them.
+//! The modes of a debugger, for `debug_session`: whether steps are told one by one, and how many,
+//! stubs, watches and counts; the lines that change them, and lines that take steps in them.
+//!
+//! Promise: a mode changes just what its line says, and steps are taken in the modes that are set.
 #![tactic(auto)]
 
 mod answers;
 mod changing;
 mod counting;
 pub mod expectations;
+mod help;
 mod modes;
 mod stepping;
 mod stub_lines;
 
 pub use answers::refused_line;
+pub use help::HELP;
 pub use modes::DebugModes;

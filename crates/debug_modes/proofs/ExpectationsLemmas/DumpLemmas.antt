@@ -3,7 +3,7 @@ use Rattle.std.proofs.Common.{◌≡◌, ℕ, false, suc, ◌+◌, ◌-◌, ◌/
 use Rattle.std.specs.Prelude.{◌==◌, min}
 use Rattle.profile.proofs.OutputLemmas.{AddsAllBut-start, AddsAllBut-more, AddsAllBut-same, Appends-from_all_but}
 use Rattle.address_map.specs.Bytes.{Bytes, byte_loaded}
-use Rattle.debugger.specs.Memory.{address_further}
+use Rattle.profile.specs.Sums.{address_further}
 use Rattle.debug_modes.specs.expectations.Dump.{character_of, character_text, characters_text, dump_line, dump_lines, dump_text}
 use Rattle.debug_modes.specs.expectations.Why.{loaded_or_zero, message_from, message_text}
 

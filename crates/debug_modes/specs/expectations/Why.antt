@@ -7,7 +7,7 @@ use Rattle.profile.specs.Digits.{hex_number}
 use Rattle.profile.specs.declared.fault.Fault.{Fault}
 use Rattle.address_map.specs.Bytes.{Bytes, byte_loaded, word_loaded}
 use Rattle.arm_core.specs.State.{State, register_of}
-use Rattle.debugger.specs.Memory.{address_further}
+use Rattle.profile.specs.Sums.{address_further}
 use Rattle.debug_modes.specs.expectations.Dump.{character_of}
 
 abbrev pub loaded_or_zero : Result ℕ Fault → ℕ

@@ -1,0 +1,32 @@
+//! What HELP is answered.
+
+/// The language's lines, a page of a terminal.
+pub const HELP: &[u8] = b"lines of a script:
+  ASM name origin .. END, HEX name .. END    an image from text or digits
+  BOOT name, RUN, STEP n, BREAK a, UNBREAK a
+  CALL n, LOAD text                          a store call, a module
+  REGS, MEM a n, CODE a n, HEAP a, AREAS, MODULES, FLEX
+  SET Rn v, POKE a v
+lines of a debugging script:
+  ; text, # text                             a comment, a heading
+  WORDS a n, STACK n, BANKS, WHERE           words, the stack, the banks, the PC
+  FRAMES, LABELS                             open calls of module code; labels of images
+  DUMP a n, WHY                              bytes and characters; the error that R0 leads to
+  SET PC a, SET PSR Nz SVC                   letters left out stay
+  SET SP v, SET LR v, SET R0 -1, CALL OS_Heap  names of registers and store calls
+  RESET                                      a fresh machine; images, labels, breaks, modes stay
+  FORGET name, REPEAT n line                 an image goes; a line, n times
+  TRACE line, TRACE n, TRACE ON, TRACE OFF   steps told one by one; TRACE LIMIT n of a line
+  STEP                                       STEP 1
+  TRACE LAST n                               RUN, of which the last n steps are told
+  FINISH, GOSUB a                            until a frame has gone back; a routine called
+  PUT name a                                 an image's bytes to an address
+  STUB n R0 v .., UNSTUB n                   a SWI that the machine doesn't have
+  WATCH a, UNWATCH a                         a run ends where the word changes
+  COUNT ON, COUNT OFF, COUNTS name           how often the steps of an image were taken
+  label, image:label+4, R1, PC-4             in place of an address, or behind SET x, EXPECT x
+  EXPECT R0 v, R13_svc v, PC v, FLAGS Zc     what should be so, or the script fails
+  EXPECT WORD a v, BYTE a v, STEPS n, STEPS <= n
+  EXPECT ANSWER text, LINE text, ERROR n, OUTPUT \"text\"
+  HELP, HELP STEP, QUIT                      these lines; what a line needs
+";
