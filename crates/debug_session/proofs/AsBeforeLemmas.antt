@@ -2,6 +2,9 @@
 use Rattle.std.proofs.Common.{◌≡◌, ◌≤◌, ℕ, zero, suc, ◌+◌, Bool, true, false, List, [], ◌∷◌, ◌++◌, length, Option, None, Some, ◌⊎◌, inl, inr, ap, sym, ◌∙◌, refl, arith}
 use Rattle.std.specs.Prelude.{◌&&◌, if◌then◌else◌}
 use Rattle.std.proofs.lemmas.Bool.{cases_Bool}
+use Rattle.debug_tables.specs.BlockErrors.{is_assembled}
+use Rattle.debug_tables.specs.BlockErrorTexts.{text_with_errors}
+use Rattle.debug_tables.proofs.BlockErrorLemmas.{nothing_behind}
 use Rattle.debug_tables.specs.run_meter.Memory.{script_with_budget}
 use Rattle.debug_tables.specs.run_meter.Script.{lines_told, request_told}
 use Rattle.debug_tables.specs.run_meter.State.{Answered, ScriptState}
@@ -70,43 +73,47 @@ with_own_budget s b own = ap (λ (n : ℕ). script_with_budget s n) (sym own)
 
 -- one that takes steps, where the budgets are the same
 told_stepping : (c : DebugSetting) (d : DebugState) (s : ScriptState) (number : ℕ) (r : Request) (block : List (List ℕ))
-    → c.form ≡ Answers → SameBut c.budget d.script s → s.left ≡ c.budget
+    → c.form ≡ Answers → is_assembled r block ≡ true → SameBut c.budget d.script s → s.left ≡ c.budget
     → IsTold c d (request_told s number r block) (plain_line_told c d number r block)
 unfolding SameBut
-told_stepping c d s number r block form same whole =
+told_stepping c d s number r block form assembled same whole =
     let with_budget : ScriptState = script_with_budget d.script c.budget in
     let told : Answered = request_told with_budget number r block in
     let refused : Bool = is_refused_block d.script.images told.state.images r in
+    let shown : List ℕ = text_with_errors refused number r block told.text in
+    let behind : shown ≡ told.text = nothing_behind refused number r block told.text assembled in
     let is : with_budget ≡ s = same ∙ with_own_budget s c.budget whole in
     let answers : told ≡ request_told s number r block = ap (λ (t : ScriptState). request_told t number r block) is in
     record {
-      text = told_text c d (state_after_line c d r told block) number refused told.text form ∙ ap (λ (a : Answered). a.text) answers;
+      text = told_text c d (state_after_line c d r told block) number refused shown form ∙ behind ∙ ap (λ (a : Answered). a.text) answers;
       script = ap (λ (t : ScriptState). script_with_budget t c.budget)
-          (told_script c d (state_after_line c d r told block) number refused told.text ∙ noted_by_if c d r told block (asks_nothing r)
+          (told_script c d (state_after_line c d r told block) number refused shown ∙ noted_by_if c d r told block (asks_nothing r)
           ∙ ap (λ (a : Answered). a.state) answers);
-      quit = told_quit c d (state_after_line c d r told block) number refused told.text ∙ quit_by_if c d r told block (asks_nothing r);
-      modes = told_modes c d (state_after_line c d r told block) number refused told.text ∙ modes_by_if c d r told block (asks_nothing r);
+      quit = told_quit c d (state_after_line c d r told block) number refused shown ∙ quit_by_if c d r told block (asks_nothing r);
+      modes = told_modes c d (state_after_line c d r told block) number refused shown ∙ modes_by_if c d r told block (asks_nothing r);
     }
 
 -- one that takes none
 told_still : (c : DebugSetting) (d : DebugState) (s : ScriptState) (number : ℕ) (r : Request) (block : List (List ℕ))
-    → c.form ≡ Answers → SameBut c.budget d.script s → takes_steps r ≡ false
+    → c.form ≡ Answers → is_assembled r block ≡ true → SameBut c.budget d.script s → takes_steps r ≡ false
     → IsTold c d (request_told s number r block) (plain_line_told c d number r block)
 unfolding SameBut
-told_still c d s number r block form same none =
+told_still c d s number r block form assembled same none =
     let told : Answered = request_told (script_with_budget d.script c.budget) number r block in
     let refused : Bool = is_refused_block d.script.images told.state.images r in
+    let shown : List ℕ = text_with_errors refused number r block told.text in
+    let behind : shown ≡ told.text = nothing_behind refused number r block told.text assembled in
     let other : Answered = request_told (script_with_budget s c.budget) number r block in
     let answers : told ≡ other = ap (λ (t : ScriptState). request_told t number r block) same in
     let unread : IsUnread s c.budget (request_told s number r block) other = budget_unread s c.budget number r block none in
     record {
-      text = told_text c d (state_after_line c d r told block) number refused told.text form
+      text = told_text c d (state_after_line c d r told block) number refused shown form ∙ behind
           ∙ ap (λ (a : Answered). a.text) answers ∙ unread.text;
       script = ap (λ (t : ScriptState). script_with_budget t c.budget)
-          (told_script c d (state_after_line c d r told block) number refused told.text ∙ noted_by_if c d r told block (asks_nothing r)
+          (told_script c d (state_after_line c d r told block) number refused shown ∙ noted_by_if c d r told block (asks_nothing r)
           ∙ ap (λ (a : Answered). a.state) answers ∙ unread.state);
-      quit = told_quit c d (state_after_line c d r told block) number refused told.text ∙ quit_by_if c d r told block (asks_nothing r);
-      modes = told_modes c d (state_after_line c d r told block) number refused told.text ∙ modes_by_if c d r told block (asks_nothing r);
+      quit = told_quit c d (state_after_line c d r told block) number refused shown ∙ quit_by_if c d r told block (asks_nothing r);
+      modes = told_modes c d (state_after_line c d r told block) number refused shown ∙ modes_by_if c d r told block (asks_nothing r);
     }
 
 -- the first line of some, and the others
@@ -126,19 +133,19 @@ Stands c d s count = SameBut c.budget d.script s × ((count ≡ 0) ⊎ ((s.left 
 
 -- one line more
 stands_after : (c : DebugSetting) (d : DebugState) (s : ScriptState) (number more : ℕ) (r : Request) (block : List (List ℕ))
-    → c.form ≡ Answers → Stands c d s ((if takes_steps r then 1 else 0) + more)
+    → c.form ≡ Answers → is_assembled r block ≡ true → Stands c d s ((if takes_steps r then 1 else 0) + more)
     → IsTold c d (request_told s number r block) (plain_line_told c d number r block)
     × Stands c (plain_line_told c d number r block).state (request_told s number r block).state more
 unfolding Stands
-stands_after c d s number more r block form stands = elim (cases_Bool (takes_steps r)) [
+stands_after c d s number more r block form assembled stands = elim (cases_Bool (takes_steps r)) [
   | inl steps ↦ elim stands.1 [
     | inl none ↦ absurd (grind (arith, none, steps))
     | inr whole ↦
-        let told = told_stepping c d s number r block form stands.0 whole.0 in
+        let told = told_stepping c d s number r block form assembled stands.0 whole.0 in
         (told, (told.script, inl (grind (arith, whole.1, steps))))
   ]
   | inr still ↦
-      let told = told_still c d s number r block form stands.0 still in
+      let told = told_still c d s number r block form assembled stands.0 still in
       let unread = budget_unread s c.budget number r block still in (
         told,
         (
@@ -176,15 +183,18 @@ as_before (suc n) c number d s (line ∷ rest) form quit plain enough are stands
     let r : Request = request_of line in
     let next : ℕ = number + 1 + lines_taken (opens_block r) rest in
     let after : List (List ℕ) = lines_after (opens_block r) rest in
-    let is : is_script_request r ≡ true = first_of (is_script_request r) (are_script_lines n after) are in
+    let others_are : Bool = is_assembled r (block_lines rest) && are_script_lines n after in
+    let is : is_script_request r ≡ true = first_of (is_script_request r) others_are are in
+    let those : others_are ≡ true = second_of (is_script_request r) others_are are in
+    let assembled : is_assembled r (block_lines rest) ≡ true = first_of (is_assembled r (block_lines rest)) (are_script_lines n after) those in
     let first : DebugAnswered = plain_line_told c d (number + 1) r (block_lines rest) in
     let told : Answered = request_told s (number + 1) r (block_lines rest) in
-    let step = stands_after c d s (number + 1) (stepping_lines n after) r (block_lines rest) form stands in
+    let step = stands_after c d s (number + 1) (stepping_lines n after) r (block_lines rest) form assembled stands in
     let others : (some_lines_told n c next first.state after).text ≡ (lines_told next told.state None after).text =
     as_before n c next first.state told.state after form (step.0.quit ∙ quit)
     (ap takes_over step.0.modes ∙ plain)
     (omega (arith, enough, lines_after-shorter (opens_block r) rest))
-    (second_of (is_script_request r) (are_script_lines n after) are) step.1 in
+    (second_of (is_assembled r (block_lines rest)) (are_script_lines n after) those) step.1 in
     ap (λ (a : DebugAnswered). a.text) (one_line n c number d line rest quit plain is)
     ∙ ap (λ (xs : List ℕ). xs ++ (some_lines_told n c next first.state after).text) step.0.text
     ∙ ap (λ (xs : List ℕ). told.text ++ xs) others

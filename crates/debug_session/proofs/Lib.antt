@@ -1,6 +1,7 @@
 pub use Rattle.debug_tables.proofs.RunMeterLemmas.SliceLemmas
 pub mod AloneLemmas
 pub mod AsBeforeLemmas
+pub mod FailLemmas
 pub mod JoinLemmas
 pub mod LineLemmas
 pub mod NamingLemmas

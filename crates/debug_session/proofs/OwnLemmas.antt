@@ -5,7 +5,8 @@ use Rattle.std.specs.Io.KnownBytes.{Appends}
 use Rattle.profile.proofs.OutputLemmas.{Appends-nothing}
 use Rattle.debug_lines.specs.DebugRequests.{DebugRequest}
 use Rattle.profile.specs.declared.stop.Stop.{Stop}
-use Rattle.rosm_settings.specs.command_line.Status.{status_after}
+use Rattle.profile.specs.Status.{status_after}
+use Rattle.debug_tables.specs.BlockErrorTexts.{text_with_errors}
 use Rattle.debug_tables.specs.run_meter.Script.{request_told}
 use Rattle.debug_tables.specs.run_meter.State.{Answered, IsAnswered, ScriptState}
 use Rattle.debug_tables.specs.run_meter.Memory.{script_with_budget}
@@ -48,11 +49,12 @@ gathered held text bytes now s t number r block none same with_budget told =
     (subst (λ (xs : List ℕ). IsAnswered (Some xs) (Some text) now (request_told s number r block)) none told))
 
 -- the tally and the form alone count of the state before
-by_refusal : (c : DebugSetting) (d : DebugState) (number : ℕ) (r : Request) (told : Answered) (block : List (List ℕ)) (refused : Bool)
-    → told_or_refused c (state_with_answer c d r told block) number refused (state_with_answer c d r told block) told.text
-    ≡ told_or_refused c d number refused (state_with_answer c d r told block) told.text
-by_refusal c d number r told block true = refl
-by_refusal c d number r told block false = refl
+by_refusal : (c : DebugSetting) (d : DebugState) (number : ℕ) (r : Request) (told : Answered) (block : List (List ℕ)) (shown : List ℕ)
+    (refused : Bool)
+    → told_or_refused c (state_with_answer c d r told block) number refused (state_with_answer c d r told block) shown
+    ≡ told_or_refused c d number refused (state_with_answer c d r told block) shown
+by_refusal c d number r told block shown true = refl
+by_refusal c d number r told block shown false = refl
 
 noted_is : (c : DebugSetting) (d : DebugState) (r : Request) (told : Answered) (block : List (List ℕ)) (nothing : Bool)
     → nothing ≡ asks_nothing r → nothing ≡ false
@@ -60,18 +62,21 @@ noted_is : (c : DebugSetting) (d : DebugState) (r : Request) (told : Answered) (
 noted_is c d r told block nothing asks some = rw (sym asks ∙ some) refl
 
 pub line_told : (before after : Option (List ℕ)) (c : DebugSetting) (d at_tell now : DebugState) (number : ℕ)
-    (r : Request) (told : Answered) (block : List (List ℕ)) (text : List ℕ) (refused nothing : Bool)
-    → at_tell ≡ state_with_answer c d r told block → text ≡ told.text → nothing ≡ asks_nothing r → nothing ≡ false
+    (r : Request) (told : Answered) (block : List (List ℕ)) (text shown : List ℕ) (refused nothing : Bool)
+    → at_tell ≡ state_with_answer c d r told block → text ≡ told.text → shown ≡ text_with_errors refused number r block text
+    → nothing ≡ asks_nothing r → nothing ≡ false
     → refused ≡ is_refused_block d.script.images told.state.images r
-    → IsDebugged before after now (told_or_refused c at_tell number refused at_tell text)
+    → IsDebugged before after now (told_or_refused c at_tell number refused at_tell shown)
     → IsDebugged before after now (script_line_told_by c d number r told block)
-line_told before after c d at_tell now number r told block text refused nothing note same asks some is written =
+line_told before after c d at_tell now number r told block text shown refused nothing note same behind asks some is written =
     subst (λ (x : DebugAnswered). IsDebugged before after now x)
-    (ap (λ (x : DebugState). told_or_refused c x number refused x text) note
-    ∙ ap (λ (xs : List ℕ). told_or_refused c (state_with_answer c d r told block) number refused (state_with_answer c d r told block) xs) same
-    ∙ by_refusal c d number r told block refused
-    ∙ ap (λ (b : Bool). told_or_refused c d number b (state_with_answer c d r told block) told.text) is
-    ∙ ap (λ (x : DebugState). told_or_refused c d number (is_refused_block d.script.images told.state.images r) x told.text)
+    (ap (λ (x : DebugState). told_or_refused c x number refused x shown) note
+    ∙ ap (λ (xs : List ℕ). told_or_refused c (state_with_answer c d r told block) number refused (state_with_answer c d r told block) xs)
+    (behind ∙ ap (λ (xs : List ℕ). text_with_errors refused number r block xs) same)
+    ∙ by_refusal c d number r told block (text_with_errors refused number r block told.text) refused
+    ∙ ap (λ (b : Bool). told_or_refused c d number b (state_with_answer c d r told block) (text_with_errors b number r block told.text)) is
+    ∙ ap (λ (x : DebugState). told_or_refused c d number (is_refused_block d.script.images told.state.images r) x
+    (text_with_errors (is_refused_block d.script.images told.state.images r) number r block told.text))
     (noted_is c d r told block nothing asks some))
     written
 

@@ -7,7 +7,8 @@ use Rattle.std.proofs.Math.Seq.{take-append_seam, drop-append_seam}
 use Rattle.std.specs.Io.KnownBytes.{Appends}
 use Rattle.std.specs.Str.Lines.{lines}
 use Rattle.image_loader.specs.Entries.{Entry}
-use Rattle.profile.proofs.OutputLemmas.{Appends-join}
+use Rattle.profile.proofs.OutputLemmas.{AddsAllBut-start, Appends-join}
+use Rattle.profile.specs.Output.{AddsFront}
 use Rattle.profile.specs.text_lines.WholeLines.{line_of_some, unended_line, whole_lines}
 use Rattle.profile.specs.text_lines.Lines.{ReadingPlace}
 use Rattle.profile.proofs.TextLinesLemmas.WholeLineLemmas.{all_unended, lines_at_most, lines_cut, lines_whole_or_last, unended_line_goes_on, whole_at_place, whole_lines_go_on}
@@ -18,6 +19,8 @@ use Rattle.debug_session.specs.Session.{debug_state}
 use Rattle.debug_session.specs.Typing.{IsTaken, TypedPieceThenRest, TypedPiecesJoin, TypedTextTakenOneWay}
 use Rattle.debug_session.specs.declared.session.DebugSetting.{DebugSetting}
 use Rattle.debug_session.specs.declared.typing.DebugTyping.{DebugTyping}
+use Rattle.debug_session.specs.Failing.{IsTakenInPart}
+use Rattle.debug_session.proofs.FailLemmas.{front_then}
 use Rattle.debug_session.proofs.JoinLemmas.{requests_join}
 use Rattle.debug_session.proofs.LineLemmas.{joined}
 
@@ -192,6 +195,29 @@ piece_told first mid images images_mid before between piece rest taken setting =
     ∙ ap (λ (xs : List ℕ). debug_lines_told c mid.number (debug_state mid.session images_mid) (lines (xs ++ rest))) (sym taken.waits)
     ∙ ap (λ (x : DebugSetting). debug_lines_told x mid.number (debug_state mid.session images_mid) (lines (mid.pending.items ++ rest)))
     (sym setting))
+
+-- a front of what a piece is answered is one of what all is answered
+pub part_told : (first : DebugTyping) (images : List Entry) (before after : Option (List ℕ)) (piece rest : List ℕ)
+    → IsTakenInPart first images before after (first.pending.items ++ piece)
+    → AddsFront before after (debug_lines_told first.session.setting first.number (debug_state first.session images)
+    (lines (first.pending.items ++ (piece ++ rest)))).text
+part_told first images before after piece rest part =
+    let c : DebugSetting = first.session.setting in
+    let d : DebugState = debug_state first.session images in
+    let all : List ℕ = first.pending.items ++ piece in
+    let here : List ℕ = take part.count all in
+    let left : List ℕ = drop part.count all in
+    let answered : DebugAnswered = debug_lines_told c first.number d (lines here) in
+    let then_left : DebugAnswered =
+    debug_lines_told c (first.number + length (lines here)) answered.state (lines (left ++ rest)) in
+    let parts : first.pending.items ++ (piece ++ rest) ≡ here ++ (left ++ rest) =
+    sym (append_assoc first.pending.items piece rest)
+    ∙ ap (λ (xs : List ℕ). xs ++ rest) (sym (take-append-drop part.count all)) ∙ append_assoc here left rest in
+    let told : List ℕ = (debug_lines_told c first.number d (lines (first.pending.items ++ (piece ++ rest)))).text in
+    let split : told ≡ answered.text ++ then_left.text =
+    ap (λ (xs : List ℕ). (debug_lines_told c first.number d (lines xs)).text) parts
+    ∙ ap (λ (a : DebugAnswered). a.text) (two_told c first.number d here (left ++ rest) part.whole.at_an_end part.whole.closed) in
+    front_then before before after told answered.text then_left.text told (AddsAllBut-start before told) split part.front
 
 pub piece_then_rest : TypedPieceThenRest
 piece_then_rest first mid images images_mid now before between after piece rest taken setting last =

@@ -1,25 +1,28 @@
 -- A script is answered by a debugging session as a script is, byte for byte; and looking and
 -- expecting change nothing.
 use Rattle.std.specs.Prelude.{◌≡◌, ◌≤◌, ℕ, zero, suc, ◌+◌, ◌&&◌, Bool, true, false, List, [], ◌∷◌, length, None, if◌then◌else◌}
+use Rattle.debug_tables.specs.BlockErrors.{is_assembled}
 use Rattle.debug_tables.specs.run_meter.Script.{lines_told}
-use Rattle.command_shell_lines.specs.Blocks.{lines_after}
-use Rattle.command_shell_lines.specs.Requests.{opens_block, request_of}
+use Rattle.debug_tables.specs.run_meter.State.{Answered}
+use Rattle.command_shell_lines.specs.Blocks.{block_lines, lines_after}
+use Rattle.command_shell_lines.specs.Requests.{Request, opens_block, request_of}
 use Rattle.debug_lines.specs.DebugRequests.{DebugRequest, Expect, View, ViewRequest, is_script_request}
 use Rattle.debug_lines.specs.Expectations.{ExpectRequest}
 use Rattle.debug_modes.specs.Modes.{takes_over}
-use Rattle.debug_session.specs.DebugScript.{debug_lines_told, simple_request_told, takes_steps, unknown_told}
+use Rattle.debug_session.specs.DebugScript.{debug_lines_told, script_line_told_by, simple_request_told, takes_steps, unknown_told}
 use Rattle.debug_session.specs.DebugState.{DebugState}
-use Rattle.debug_session.specs.Refusals.{BeginsAsInScript}
+use Rattle.debug_session.specs.Refusals.{BeginsAsInScript, GoesOnBehind}
 use Rattle.debug_modes.specs.declared.expectations.reports.reports.ReportForm.TheVariants.{Answers}
 use Rattle.debug_session.specs.declared.session.DebugSetting.{DebugSetting}
 
--- Whether at most so many lines, and blocks between them, are those of a script; and of these, how
--- many lines take steps.
+-- Whether at most so many lines, and blocks between them, are those of a script, with a program in each
+-- ASM block; and of these, how many lines take steps.
 unfoldable pub are_script_lines : ℕ → List (List ℕ) → Bool
 are_script_lines zero left = true
 are_script_lines (suc more) [] = true
 are_script_lines (suc more) (line ∷ rest) = is_script_request (request_of line)
-    && are_script_lines more (lines_after (opens_block (request_of line)) rest)
+    && (is_assembled (request_of line) (block_lines rest)
+    && are_script_lines more (lines_after (opens_block (request_of line)) rest))
 
 unfoldable pub stepping_lines : ℕ → List (List ℕ) → ℕ
 stepping_lines zero left = 0
@@ -28,8 +31,8 @@ stepping_lines (suc more) (line ∷ rest) = (if takes_steps (request_of line) th
     + stepping_lines more (lines_after (opens_block (request_of line)) rest)
 
 -- Where no modes are set, as when a session begins, the answers to lines of a script alone, of which
--- one at most takes steps, are the script's. (Each line may take the whole budget, where all lines of a
--- script have one budget together.)
+-- one at most takes steps and whose ASM blocks have programs, are the script's. (Each line may take the
+-- whole budget, where all lines of a script have one budget together.)
 abbrev pub ScriptAsBefore : Type 0
 ScriptAsBefore = (c : DebugSetting) (number : ℕ) (d : DebugState) (left : List (List ℕ))
     → c.form ≡ Answers → d.has_quit ≡ false → takes_over d.modes ≡ false → d.script.left ≡ c.budget
@@ -51,6 +54,15 @@ LookingLeavesTheMachine = (c : DebugSetting) (d : DebugState) (number : ℕ) (wo
     (block : List (List ℕ)) → LookingChangesNothing c d number words block
 
 -- A line that means nothing to either is answered as a script answers it, and then comes the reason.
-abbrev pub RefusedAsBefore : Type 0
-RefusedAsBefore = (c : DebugSetting) (d : DebugState) (number : ℕ) (words : List ℕ) → c.form ≡ Answers
+abbrev pub LineRefusedAsBefore : Type 0
+LineRefusedAsBefore = (c : DebugSetting) (d : DebugState) (number : ℕ) (words : List ℕ) → c.form ≡ Answers
     → BeginsAsInScript number (unknown_told c d number words).text
+
+-- So is a line of a script, and behind the answer to a block that is refused come its errors.
+abbrev pub BlockAnsweredAsBefore : Type 0
+BlockAnsweredAsBefore = (c : DebugSetting) (d : DebugState) (number : ℕ) (request : Request) (told : Answered)
+    (block : List (List ℕ)) → c.form ≡ Answers
+    → GoesOnBehind told.text (script_line_told_by c d number request told block).text
+
+abbrev pub RefusedAsBefore : Type 0
+RefusedAsBefore = LineRefusedAsBefore × BlockAnsweredAsBefore

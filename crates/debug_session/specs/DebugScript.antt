@@ -7,6 +7,7 @@ use Rattle.debug_tables.specs.byte_writes.Put.{script_after_put}
 use Rattle.profile.specs.Digits.{hex_number}
 use Rattle.profile.specs.FaultNames.{fault_name}
 use Rattle.profile.specs.declared.fault.Fault.{Fault}
+use Rattle.debug_tables.specs.BlockErrorTexts.{text_with_errors}
 use Rattle.debug_tables.specs.run_meter.Answers.{refused_text, unknown_text}
 use Rattle.debug_tables.specs.run_meter.Memory.{script_at, script_started_anew, script_with_budget, script_with_status}
 use Rattle.debug_tables.specs.run_meter.Script.{request_told}
@@ -38,7 +39,7 @@ use Rattle.debug_session.specs.DebugState.{DebugAnswered, DebugState, debug_answ
 use Rattle.debug_session.specs.Naming.{labels_with_block, meant_request, naming_of, repeated_now}
 use Rattle.debug_session.specs.Refusals.{reasoned_text}
 use Rattle.debug_labels.specs.Reasons.{refusal_reason}
-use Rattle.debug_session.specs.declared.help.TheConstants.{HELP}
+use Rattle.debug_modes.specs.declared.help.TheConstants.{HELP}
 use Rattle.debug_session.specs.declared.session.DebugSetting.{DebugSetting}
 use Rattle.debug_modes.specs.expectations.reports.Reports.{answer_in, fail_text, pass_text, report_of_refusal, summary_text, with_fail, with_pass, with_refusal}
 
@@ -94,11 +95,13 @@ told_or_refused c d number true after text = debug_answer (record after { tally 
     (report_of_refusal c.form d.tally number text)
 told_or_refused c d number false after text = debug_answer after (answer_in c.form text)
 
+-- Where an ASM block is refused, its errors stand behind what a script answers.
 abbrev pub script_line_told_by : DebugSetting → DebugState → ℕ → Request → Answered → List (List ℕ)
     → DebugAnswered
 script_line_told_by c d number request told block =
     told_or_refused c d number (is_refused_block d.script.images told.state.images request)
-    (state_after_line c d request told block) told.text
+    (state_after_line c d request told block)
+    (text_with_errors (is_refused_block d.script.images told.state.images request) number request block told.text)
 
 -- A line of a script may take the whole budget.
 abbrev pub plain_line_told : DebugSetting → DebugState → ℕ → Request → List (List ℕ) → DebugAnswered

@@ -1,6 +1,6 @@
 -- The exit status of a program whose lines a debugging script's were.
 use Rattle.std.specs.Prelude.{ℕ, ◌==◌, ◌&&◌, if◌then◌else◌}
-use Rattle.rosm_settings.specs.command_line.Status.{status_after}
+use Rattle.profile.specs.Status.{status_after}
 use Rattle.debug_modes.specs.expectations.reports.Reports.{is_untested}
 use Rattle.debug_session.specs.DebugState.{DebugState}
 

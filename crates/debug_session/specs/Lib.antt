@@ -6,6 +6,7 @@ pub mod AsBefore
 pub mod DebugScript
 pub mod DebugState
 pub mod ExitStatus
+pub mod Failing
 pub mod Looking
 pub mod Naming
 pub mod Refusals

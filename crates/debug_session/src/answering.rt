@@ -1,7 +1,9 @@
 //! One line of a debugging script, answered.
 
-ghost use Rattle.std.specs.Prelude.{◌≡◌, ◌+◌, true, false, List, Some, option_map, IfErr, IfOk, IfNone, IfSome, OnOk};
+ghost use Rattle.std.specs.Prelude.{◌≡◌, ◌+◌, true, false, List, Some, Err, option_map, IfErr, IfOk, IfNone, IfSome, OnOk};
 ghost use Rattle.debug_tables.specs.run_meter.Error.{IsLineError};
+ghost use Rattle.debug_session.specs.Failing.{EndsAtOnce, ReportsWriteFault};
+ghost use Rattle.profile.specs.Output.{AddsFront};
 ghost use Rattle.command_shell_lines.specs.Blocks.{block_lines, lines_after, lines_taken};
 
 use crate::session::DebugSession;
@@ -31,7 +33,7 @@ impl DebugSession {
     ///
     /// # Errors
     ///
-    /// `Memory`, and nothing is written then; `WriteFault`.
+    /// `Memory`, when a front of the answer may stand written; `WriteFault`.
     pub fn answer_line<W: Sink>(
         &mut self,
         images: &mut Images,
@@ -47,6 +49,11 @@ impl DebugSession {
         ensures number { OnOk result (script.new.number
             ≡ script.old.number + lines_taken (line_opens line.now) script.old.left) }
         ensures setting { self.new.setting ≡ self.old.setting }
+        ensures memory { result ≡ Err RunError.Memory
+            → AddsFront (W.contents sink.old) (W.contents sink.new)
+            (debug_line_told self.old.setting (debug_state self.old images.old) script.old.number
+            line.now (block_lines script.old.left)).text }
+        ensures write_fault { ReportsWriteFault W.has_failed sink.old sink.new result }
         ensures errors { IfErr result IsLineError }
         ensures same_flag { OnOk result (W.has_failed sink.new ≡ W.has_failed sink.old) }
     {
@@ -75,6 +82,11 @@ impl DebugSession {
         ensures number { OnOk result (script.new.number
             ≡ script.old.number + lines_taken (debug_opens_block (own_request words.now)) script.old.left) }
         ensures setting { self.new.setting ≡ self.old.setting }
+        ensures memory { result ≡ Err RunError.Memory
+            → AddsFront (W.contents sink.old) (W.contents sink.new)
+            (tidy_line_told self.old.setting (debug_state self.old images.old) script.old.number
+            words.now (block_lines script.old.left)).text }
+        ensures write_fault { ReportsWriteFault W.has_failed sink.old sink.new result }
         ensures errors { IfErr result IsLineError }
         ensures same_flag { OnOk result (W.has_failed sink.new ≡ W.has_failed sink.old) }
     {
@@ -181,6 +193,11 @@ impl DebugSession {
         ensures left { OnOk result (script.new.left ≡ script.old.left) }
         ensures number { OnOk result (script.new.number ≡ script.old.number) }
         ensures setting { self.new.setting ≡ self.old.setting }
+        ensures memory { result ≡ Err RunError.Memory
+            → AddsFront (W.contents sink.old) (W.contents sink.new)
+            (repeated_told count self.old.setting script.old.number line.now
+            (block_lines script.old.left) (debug_state self.old images.old)).text }
+        ensures write_fault { ReportsWriteFault W.has_failed sink.old sink.new result }
         ensures errors { IfErr result IsLineError }
         ensures same_flag { OnOk result (W.has_failed sink.new ≡ W.has_failed sink.old) }
     {
@@ -212,8 +229,7 @@ impl DebugSession {
         ensures number { OnOk result (script.new.number ≡ script.old.number
             + lines_taken (debug_opens_block (simple_request words.now)) script.old.left) }
         ensures setting { self.new.setting ≡ self.old.setting }
-        ensures errors { IfErr result IsLineError }
-        ensures same_flag { OnOk result (W.has_failed sink.new ≡ W.has_failed sink.old) }
+        ensures ends { EndsAtOnce W.has_failed sink.old sink.new result }
     {
         let command = simple_command(words);
         if command.is_known() {
@@ -245,8 +261,7 @@ impl DebugSession {
         ensures number { OnOk result (script.new.number ≡ script.old.number
             + lines_taken (debug_opens_block (debug_request_of_command command.entry)) script.old.left) }
         ensures setting { self.new.setting ≡ self.old.setting }
-        ensures errors { IfErr result IsLineError }
-        ensures same_flag { OnOk result (W.has_failed sink.new ≡ W.has_failed sink.old) }
+        ensures ends { EndsAtOnce W.has_failed sink.old sink.new result }
     {
         match command {
             DebugCommand::Script(command) => self.script_line(images, sink, &command, script),

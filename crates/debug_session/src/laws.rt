@@ -14,7 +14,7 @@ pub fn looking_leaves_the_machine()
 {}
 
 /// A line that means nothing to a script nor to a debugging session is answered as by a script, and
-/// behind that stands the reason.
+/// behind that stands the reason; and what a block is answered begins as a script's answer.
 pub fn refused_as_before()
     ensures { RefusedAsBefore }
 {}

@@ -1,9 +1,10 @@
 //! Debugging scripts, for the program `rosm_debug`: lines of a script and lines of their own, which
 //! look at a machine, change it, and say what they expect of it; each is answered at once.
+//!
+//! Promise: lines of `rosm` are answered as by `rosm`, and pieces of lines as the whole.
 #![tactic(auto)]
 
 mod answering;
-mod help;
 pub mod laws;
 mod looking;
 mod own_lines;

@@ -1,15 +1,14 @@
 //! The lines of its own that a debugging script has.
 
-ghost use Rattle.std.specs.Prelude.{◌≡◌, ◌++◌, codes, ◌%◌, ◌<◌, ◌^◌, is_some, true, List, IfOk, IfErr, OnOk, OnErr};
+ghost use Rattle.std.specs.Prelude.{◌≡◌, ◌++◌, codes, ◌%◌, ◌<◌, ◌^◌, is_some, true, List, IfOk, OnOk, OnErr};
 ghost use Rattle.std.specs.Option.{option_map};
 ghost use Rattle.image_loader.specs.Entries.{bytes_of_image};
-ghost use Rattle.debug_tables.specs.run_meter.Error.{IsLineError};
+ghost use Rattle.debug_session.specs.Failing.{EndsAtOnce};
 ghost use Rattle.debug_modes.specs.expectations.Reasons.{reason_text};
 ghost use Rattle.debug_modes.specs.expectations.Halted.{halted_at_text, halting_fault};
 ghost use Rattle.debug_session.specs.DebugScript.{forget_text, put_text};
 ghost use Rattle.profile.specs.Output.{Writes};
 
-use crate::help::HELP;
 use crate::session::DebugSession;
 use command_shell_lines::Origin;
 use debug_labels::place_views::{names_on, show_frames, show_stack, show_where};
@@ -19,7 +18,7 @@ use debug_modes::expectations::{
     Mismatch, SeenMachine, check, halting_fault, push_halted, push_reason, show_banks, show_dump,
     show_why, show_words, status_with,
 };
-use debug_modes::refused_line;
+use debug_modes::{HELP, refused_line};
 use debug_tables::byte_writes::put_bytes;
 use debug_tables::run_meter::RunError;
 use image_loader::Images;
@@ -81,8 +80,7 @@ impl DebugSession {
             (view_text (debug_state self.old images).labels (debug_state self.old images).script.machine
             (view_request_of view)))) }
         ensures setting { self.new.setting ≡ self.old.setting }
-        ensures errors { IfErr result IsLineError }
-        ensures same_flag { OnOk result (W.has_failed sink.new ≡ W.has_failed sink.old) }
+        ensures ends { EndsAtOnce W.has_failed sink.old sink.new result }
     {
         let text = self.view_text(view)?;
         Ok(self.view(sink, text)?)
@@ -96,8 +94,7 @@ impl DebugSession {
             (view_text (debug_state self.old images).labels (debug_state self.old images).script.machine
             (Form form.now)))) }
         ensures setting { self.new.setting ≡ self.old.setting }
-        ensures errors { IfErr result IsLineError }
-        ensures same_flag { OnOk result (W.has_failed sink.new ≡ W.has_failed sink.old) }
+        ensures ends { EndsAtOnce W.has_failed sink.old sink.new result }
     {
         let text = form_line(self.alloc, form)?;
         Ok(self.view(sink, text)?)
@@ -114,8 +111,7 @@ impl DebugSession {
             (debug_state self.new images.new)
             (forget_told self.old.setting (debug_state self.old images.old) name.now)) }
         ensures setting { self.new.setting ≡ self.old.setting }
-        ensures errors { IfErr result IsLineError }
-        ensures same_flag { OnOk result (W.has_failed sink.new ≡ W.has_failed sink.old) }
+        ensures ends { EndsAtOnce W.has_failed sink.old sink.new result }
     {
         let is_there = has_image(images, name);
         let text = forget_text(self.alloc, is_there, name)?;
@@ -136,8 +132,7 @@ impl DebugSession {
             (debug_state self.new images.now)
             (put_told self.old.setting (debug_state self.old images.now) name.now address)) }
         ensures setting { self.new.setting ≡ self.old.setting }
-        ensures errors { IfErr result IsLineError }
-        ensures same_flag { OnOk result (W.has_failed sink.new ≡ W.has_failed sink.old) }
+        ensures ends { EndsAtOnce W.has_failed sink.old sink.new result }
     {
         let Some(bytes) = images.get(name) else {
             let text = refused_line(self.alloc, b"NoImage")?;
@@ -176,8 +171,7 @@ impl DebugSession {
             (IsDebugged (W.contents sink.old) (W.contents sink.new) (debug_state self.new images)
             (reset_told self.old.setting (debug_state self.old images))) }
         ensures setting { self.new.setting ≡ self.old.setting }
-        ensures errors { IfErr result IsLineError }
-        ensures same_flag { OnOk result (W.has_failed sink.new ≡ W.has_failed sink.old) }
+        ensures ends { EndsAtOnce W.has_failed sink.old sink.new result }
     {
         let text = Vec::from_slice(self.alloc, b"reset\n")?;
         self.start_anew()?;
@@ -190,6 +184,7 @@ impl DebugSession {
             (IsDebugged (W.contents sink.old) (W.contents sink.new) (debug_state self.new images)
             (view_told self.old.setting (debug_state self.old images) text.items)) }
         ensures setting { self.new.setting ≡ self.old.setting }
+        ensures flag { OnErr result (W.has_failed sink.new ≡ true) }
         ensures same_flag { OnOk result (W.has_failed sink.new ≡ W.has_failed sink.old) }
     {
         push_answer(sink, self.setting.form, text.as_slice())?;
@@ -214,8 +209,7 @@ impl DebugSession {
             (IsDebugged (W.contents sink.old) (W.contents sink.new) (debug_state self.new images)
             (set_pc_told self.old.setting (debug_state self.old images) address)) }
         ensures setting { self.new.setting ≡ self.old.setting }
-        ensures errors { IfErr result IsLineError }
-        ensures same_flag { OnOk result (W.has_failed sink.new ≡ W.has_failed sink.old) }
+        ensures ends { EndsAtOnce W.has_failed sink.old sink.new result }
     {
         match self.halting_fault() {
             None => {
@@ -276,8 +270,7 @@ impl DebugSession {
             (checked_told self.old.setting (debug_state self.old images) number words.now
             (option_map (λ text. text.items) reason))) }
         ensures setting { self.new.setting ≡ self.old.setting }
-        ensures errors { IfErr result IsLineError }
-        ensures same_flag { OnOk result (W.has_failed sink.new ≡ W.has_failed sink.old) }
+        ensures ends { EndsAtOnce W.has_failed sink.old sink.new result }
     {
         let form = self.setting.form;
         match reason {

@@ -1,8 +1,8 @@
 //! Lines that are none of the language: what a script answers, and why.
 
-ghost use Rattle.std.specs.Prelude.{◌≡◌, List, IfErr, IfOk, OnOk};
-ghost use Rattle.debug_tables.specs.run_meter.Error.{IsLineError};
+ghost use Rattle.std.specs.Prelude.{◌≡◌, List, IfOk, OnOk};
 ghost use Rattle.debug_tables.specs.run_meter.Answers.{unknown_text};
+ghost use Rattle.debug_session.specs.Failing.{EndsAtOnce};
 ghost use Rattle.debug_session.specs.Refusals.{reasoned_text};
 
 use crate::session::DebugSession;
@@ -33,8 +33,7 @@ impl DebugSession {
             (IsDebugged (W.contents sink.old) (W.contents sink.new) (debug_state self.new images)
             (unknown_told self.old.setting (debug_state self.old images) number words.now)) }
         ensures setting { self.new.setting ≡ self.old.setting }
-        ensures errors { IfErr result IsLineError }
-        ensures same_flag { OnOk result (W.has_failed sink.new ≡ W.has_failed sink.old) }
+        ensures ends { EndsAtOnce W.has_failed sink.old sink.new result }
     {
         let reason = self.refusal_reason(words)?;
         let told = refusal_line(self.alloc, number, reason.as_slice())?;

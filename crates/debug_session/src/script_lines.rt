@@ -2,7 +2,7 @@
 //! answered is kept for the lines that expect something of it.
 
 ghost use Rattle.std.specs.Prelude.{◌≡◌, ◌+◌, ◌-◌, ◌&&◌, ◌||◌, not, false, true, List, Some, [], IfOk, IfErr, OnOk, OnErr, if◌then◌else◌};
-ghost use Rattle.debug_tables.specs.run_meter.Error.{IsLineError};
+ghost use Rattle.debug_session.specs.Failing.{EndsAtOnce};
 ghost use Rattle.debug_tables.specs.run_meter.Script.{request_told};
 ghost use Rattle.command_shell_lines.specs.Blocks.{block_lines, lines_after, lines_taken};
 ghost use Rattle.debug_modes.specs.expectations.Endings.{ending_of, output_of};
@@ -17,6 +17,7 @@ use command_shell_lines::{Origin, ScriptCommand, skip_block};
 use debug_modes::expectations::answer_parts;
 use debug_modes::expectations::reports::{push_answer, push_refusal};
 use debug_tables::run_meter::{RunError, answer_metered};
+use debug_tables::with_errors;
 use image_loader::Images;
 use profile::text_lines::Lines;
 use profile::text_sink::TextSink;
@@ -50,15 +51,13 @@ impl DebugSession {
         ensures number { OnOk result (script.new.number ≡ script.old.number
             + lines_taken (opens_block (request_of_command command.now)) script.old.left) }
         ensures setting { self.new.setting ≡ self.old.setting }
-        ensures errors { IfErr result IsLineError }
-        ensures same_flag { OnOk result (W.has_failed sink.new ≡ W.has_failed sink.old) }
+        ensures ends { EndsAtOnce W.has_failed sink.old sink.new result }
     {
         if !command.opens_block() {
             return self.lone_line(images, sink, command, script);
         }
-        let number = script.number();
         let block = script.again();
-        self.named_line(images, sink, number, command, script, &block)
+        self.named_line(images, sink, command, script, &block)
     }
 
     // The same of a line that opens no block.
@@ -79,8 +78,7 @@ impl DebugSession {
         ensures number { OnOk result (script.new.number ≡ script.old.number
             + lines_taken (opens_block (request_of_command command.now)) script.old.left) }
         ensures setting { self.new.setting ≡ self.old.setting }
-        ensures errors { IfErr result IsLineError }
-        ensures same_flag { OnOk result (W.has_failed sink.new ≡ W.has_failed sink.old) }
+        ensures ends { EndsAtOnce W.has_failed sink.old sink.new result }
     {
         let answer = self.answer_to(images, command, script)?;
         if !asks_nothing(command) {
@@ -92,20 +90,19 @@ impl DebugSession {
         Ok(())
     }
 
-    // The same of a line at that number; of one that opens a block, `named` are the lines from which
-    // its labels are taken.
+    // The same of a line; of one that opens a block, `named` are the lines from which its labels are
+    // taken, and its errors.
     fn named_line<W: Sink>(
         &mut self,
         images: &mut Images,
         sink: &mut W,
-        number: usize,
         command: &ScriptCommand<'_>,
         script: &mut Lines,
         named: &Lines,
     ) -> Result<(), RunError>
         ensures told { OnOk result (IsDebugged (W.contents sink.old) (W.contents sink.new)
             (debug_state self.new images.new)
-            (script_line_told_by self.old.setting (debug_state self.old images.old) number
+            (script_line_told_by self.old.setting (debug_state self.old images.old) named.now.number
             (request_of_command command.now) (request_told (script_with_budget
             (debug_state self.old images.old).script self.old.setting.budget) script.old.number
             (request_of_command command.now) (block_lines script.old.left))
@@ -115,8 +112,7 @@ impl DebugSession {
         ensures taken { OnOk result (script.new.number ≡ script.old.number
             + lines_taken (opens_block (request_of_command command.now)) script.old.left) }
         ensures setting { self.new.setting ≡ self.old.setting }
-        ensures errors { IfErr result IsLineError }
-        ensures same_flag { OnOk result (W.has_failed sink.new ≡ W.has_failed sink.old) }
+        ensures ends { EndsAtOnce W.has_failed sink.old sink.new result }
     {
         let was_there = is_named_image(images, command);
         let answer = self.answer_to(images, command, script)?;
@@ -127,7 +123,9 @@ impl DebugSession {
         self.note(takes_steps(command), text)?;
         let is_refused = is_refused_block(was_there, images, command);
         self.take_labels(images, command, named, is_refused)?;
-        self.tell(sink, number, is_refused, text)?;
+        let explained = with_errors(self.alloc, is_refused, command, named, text)?;
+        let shown = explained.as_slice();
+        self.tell(sink, named.number(), is_refused, shown)?;
         self.spare = answer;
         Ok(())
     }
@@ -152,7 +150,7 @@ impl DebugSession {
           session = self.new.session;
           spare = self.new.spare;
         } }
-        ensures errors { IfErr result IsLineError }
+        ensures errors { IfErr result (λ error. error ≡ RunError.Memory) }
     {
         self.session.set_budget(self.setting.budget);
         let memory = replace(&mut self.spare, Vec::new(self.alloc));
@@ -210,7 +208,7 @@ impl DebugSession {
             (block_lines block.now.left))) }
         ensures rest { OnOk result (self.new ≡ record self.old { labels = self.new.labels }) }
         ensures setting { self.new.setting ≡ self.old.setting }
-        ensures errors { IfErr result IsLineError }
+        ensures errors { IfErr result (λ error. error ≡ RunError.Memory) }
     {
         match *command {
             ScriptCommand::Asm(name, origin) if !is_refused => match images.get(name) {
@@ -234,7 +232,7 @@ impl DebugSession {
             (Some bytes.now) (labels_of_lines (block_lines block.now.left) origin)) }
         ensures rest { OnOk result (self.new ≡ record self.old { labels = self.new.labels }) }
         ensures setting { self.new.setting ≡ self.old.setting }
-        ensures errors { IfErr result IsLineError }
+        ensures errors { IfErr result (λ error. error ≡ RunError.Memory) }
     {
         let mut after = block.again();
         let count = skip_block(&mut after);

@@ -1,17 +1,17 @@
 //! What a debugging script works on, and how its lines are answered, one after another.
 
-ghost use Rattle.std.specs.Prelude.{◌≡◌, ◌+◌, false, List, [], IfOk, IfErr, OnOk, length};
+ghost use Rattle.std.specs.Prelude.{◌≡◌, ◌+◌, false, List, [], Err, IfOk, IfErr, OnOk, length};
 ghost use Rattle.debug_tables.specs.run_meter.Error.{IsLineError};
-ghost use Rattle.profile.specs.Output.{Writes};
+ghost use Rattle.profile.specs.Output.{AddsFront, Writes};
 
 use debug_labels::LabelTable;
 use debug_modes::DebugModes;
 use debug_modes::expectations::reports::{CheckTally, ReportForm, push_summary};
 use debug_tables::run_meter::{RunError, RunMeter, Session};
 use image_loader::Images;
+use profile::stop::stop_status;
 use profile::text_lines::Lines;
 use profile::{Config, Sink, WriteFault};
-use rosm_settings::command_line::stop_status;
 use std::alloc::{AllocError, Global};
 
 /// What a debugging script is answered on.
@@ -50,6 +50,7 @@ impl DebugSession {
     ghost use Rattle.image_loader.specs.Entries.{Entry};
     ghost use Rattle.debug_session.specs.DebugScript.{debug_lines_told};
     ghost use Rattle.debug_session.specs.DebugState.{IsDebugged, debug_start_state};
+    ghost use Rattle.debug_session.specs.Failing.{ReportsWriteFault};
     ghost use Rattle.debug_modes.specs.expectations.reports.Reports.{summary_text};
     ghost use Rattle.debug_session.specs.ExitStatus.{debug_status};
     ghost use Rattle.debug_session.specs.Session.{debug_state};
@@ -153,6 +154,11 @@ impl DebugSession {
         ensures counted { OnOk result (script.new.number + length script.new.left
             ≡ script.old.number + length script.old.left) }
         ensures setting { self.new.setting ≡ self.old.setting }
+        ensures memory { result ≡ Err RunError.Memory
+            → AddsFront (W.contents sink.old) (W.contents sink.new)
+            (debug_lines_told self.old.setting script.old.number (debug_state self.old images.old)
+            script.old.left).text }
+        ensures write_fault { ReportsWriteFault W.has_failed sink.old sink.new result }
         ensures errors { IfErr result IsLineError }
         ensures same_flag { OnOk result (W.has_failed sink.new ≡ W.has_failed sink.old) }
     {

@@ -1,7 +1,7 @@
 //! Lines that take steps in the modes that are set, and lines that change these.
 
-ghost use Rattle.std.specs.Prelude.{◌≡◌, ◌+◌, true, List, option_map, IfErr, OnOk, OnErr};
-ghost use Rattle.debug_tables.specs.run_meter.Error.{IsLineError};
+ghost use Rattle.std.specs.Prelude.{◌≡◌, ◌+◌, true, List, option_map, OnOk, OnErr};
+ghost use Rattle.debug_session.specs.Failing.{EndsAtOnce};
 ghost use Rattle.command_shell_lines.specs.Blocks.{block_lines, lines_after, lines_taken};
 ghost use Rattle.command_shell_lines.specs.Requests.{opens_block, request_of_command};
 ghost use Rattle.debug_lines.specs.ModeRequests.{mode_request_of};
@@ -39,8 +39,7 @@ impl DebugSession {
         ensures number { OnOk result (script.new.number ≡ script.old.number
             + lines_taken (opens_block (request_of_command command.now)) script.old.left) }
         ensures setting { self.new.setting ≡ self.old.setting }
-        ensures errors { IfErr result IsLineError }
-        ensures same_flag { OnOk result (W.has_failed sink.new ≡ W.has_failed sink.old) }
+        ensures ends { EndsAtOnce W.has_failed sink.old sink.new result }
     {
         match self.stepping_now(command) {
             Some(steps) => self.stepping_line(images, sink, false, &steps),
@@ -73,8 +72,7 @@ impl DebugSession {
             (stepping_line_told self.old.setting (debug_state self.old images.now) is_traced
             (stepping_request_of command.now))) }
         ensures setting { self.new.setting ≡ self.old.setting }
-        ensures errors { IfErr result IsLineError }
-        ensures same_flag { OnOk result (W.has_failed sink.new ≡ W.has_failed sink.old) }
+        ensures ends { EndsAtOnce W.has_failed sink.old sink.new result }
     {
         self.session.set_budget(self.setting.budget);
         let told = self.modes.answer(
@@ -120,8 +118,7 @@ impl DebugSession {
             (IsDebugged (W.contents sink.old) (W.contents sink.new) (debug_state self.new images)
             (counts_told self.old.setting (debug_state self.old images) name.now)) }
         ensures setting { self.new.setting ≡ self.old.setting }
-        ensures errors { IfErr result IsLineError }
-        ensures same_flag { OnOk result (W.has_failed sink.new ≡ W.has_failed sink.old) }
+        ensures ends { EndsAtOnce W.has_failed sink.old sink.new result }
     {
         let machine = self.session.machine();
         let text = self
@@ -140,8 +137,7 @@ impl DebugSession {
             (IsDebugged (W.contents sink.old) (W.contents sink.new) (debug_state self.new images)
             (mode_line_told self.old.setting (debug_state self.old images) (mode_request_of command.now))) }
         ensures setting { self.new.setting ≡ self.old.setting }
-        ensures errors { IfErr result IsLineError }
-        ensures same_flag { OnOk result (W.has_failed sink.new ≡ W.has_failed sink.old) }
+        ensures ends { EndsAtOnce W.has_failed sink.old sink.new result }
     {
         let machine = self.session.machine();
         let text = self.modes.change(self.alloc, machine, command)?;

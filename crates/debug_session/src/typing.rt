@@ -1,11 +1,13 @@
 //! A debugging script as it is typed: bytes that come in pieces, and each line answered as soon as it
 //! is whole.
 
-ghost use Rattle.std.specs.Prelude.{◌≡◌, ◌++◌, ◌+◌, ◌<◌, ◌^◌, List, [], IfOk, IfErr, OnOk, OnErr, length};
+ghost use Rattle.std.specs.Prelude.{◌≡◌, ◌++◌, ◌+◌, ◌<◌, ◌≤◌, ◌^◌, ◌⊎◌, List, [], Err, IfOk, IfErr, OnOk, OnErr, length};
 ghost use Rattle.std.specs.Str.Lines.{lines};
 ghost use Rattle.debug_lines.specs.BlockEnds.{shown_beyond};
 ghost use Rattle.debug_lines.specs.WholeDebugRequests.{AreWholeDebugRequests};
 ghost use Rattle.debug_session.specs.DebugState.{IsDebugTypingError};
+ghost use Rattle.debug_tables.specs.run_meter.Error.{IsLineError};
+ghost use Rattle.profile.specs.Output.{AddsFront};
 
 use crate::session::{DebugSession, DebugSetting};
 use debug_lines::{missing_ends, read_requests};
@@ -53,6 +55,7 @@ impl DebugTyping {
     ghost use Rattle.image_loader.specs.Entries.{Entry};
     ghost use Rattle.debug_session.specs.DebugScript.{debug_lines_told};
     ghost use Rattle.debug_session.specs.DebugState.{IsDebugged, debug_start_state};
+    ghost use Rattle.debug_session.specs.Failing.{HasTooLong, IsTakenInPart, ReportsWriteFault};
     ghost use Rattle.debug_session.specs.Session.{debug_state};
     ghost use Rattle.debug_session.specs.Typing.{IsTaken, missing_ends_at_end, missing_ends_typed};
     ghost use Rattle.debug_session.specs.Typing.{TypedPieceThenRest, TypedPiecesJoin, TypedTextTakenOneWay};
@@ -143,6 +146,14 @@ impl DebugTyping {
         ensures taken { OnOk result (IsTaken self.old self.new images.old images.new
             (W.contents sink.old) (W.contents sink.new) (self.old.pending.items ++ piece.now)) }
         ensures setting { self.new.session.setting ≡ self.old.session.setting }
+        ensures waiting { OnOk result (length self.new.pending.items ≤ 1048576) }
+        ensures memory { result ≡ Err RunError.Memory → (sink.new ≡ sink.old) ⊎ IsTakenInPart self.old
+            images.old (W.contents sink.old) (W.contents sink.new) (self.old.pending.items ++ piece.now) }
+        ensures too_long { result ≡ Err RunError.ScriptTooLong
+            → HasTooLong self.old.number (self.old.pending.items ++ piece.now) }
+        ensures nothing { result ≡ Err RunError.ScriptTooLong
+            → (sink.new ≡ sink.old) × (self.new ≡ self.old) × (images.new ≡ images.old) }
+        ensures write_fault { ReportsWriteFault W.has_failed sink.old sink.new result }
         ensures errors { IfErr result IsDebugTypingError }
         ensures same_flag { OnOk result (W.has_failed sink.new ≡ W.has_failed sink.old) }
     {
@@ -166,6 +177,13 @@ impl DebugTyping {
         ensures taken { OnOk result (IsTaken self.old self.new images.old images.new
             (W.contents sink.old) (W.contents sink.new) read.text.items) }
         ensures setting { self.new.session.setting ≡ self.old.session.setting }
+        ensures waiting { OnOk result (length self.new.pending.items ≤ 1048576) }
+        ensures memory { result ≡ Err RunError.Memory → (sink.new ≡ sink.old) ⊎ IsTakenInPart self.old
+            images.old (W.contents sink.old) (W.contents sink.new) read.text.items }
+        ensures too_long { result ≡ Err RunError.ScriptTooLong → HasTooLong self.old.number read.text.items }
+        ensures nothing { result ≡ Err RunError.ScriptTooLong
+            → (sink.new ≡ sink.old) × (self.new ≡ self.old) × (images.new ≡ images.old) }
+        ensures write_fault { ReportsWriteFault W.has_failed sink.old sink.new result }
         ensures errors { IfErr result IsDebugTypingError }
         ensures same_flag { OnOk result (W.has_failed sink.new ≡ W.has_failed sink.old) }
     {
@@ -197,7 +215,11 @@ impl DebugTyping {
             (debug_lines_told self.session.setting self.number (debug_state self.session images.old)
             (lines self.pending.items))) }
         ensures setting { IfOk result (λ session. session.setting ≡ self.session.setting) }
-        ensures errors { IfErr result IsDebugTypingError }
+        ensures memory { result ≡ Err RunError.Memory → AddsFront (W.contents sink.old) (W.contents sink.new)
+            (debug_lines_told self.session.setting self.number (debug_state self.session images.old)
+            (lines self.pending.items)).text }
+        ensures write_fault { ReportsWriteFault W.has_failed sink.old sink.new result }
+        ensures errors { IfErr result IsLineError }
         ensures same_flag { OnOk result (W.has_failed sink.new ≡ W.has_failed sink.old) }
     {
         let mut session = self.session;

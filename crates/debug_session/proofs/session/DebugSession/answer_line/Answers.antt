@@ -4,6 +4,7 @@ use Rattle.std.specs.Prelude.{OnOk}
 use Rattle.command_shell_lines.specs.Blocks.{block_lines, lines_after, lines_taken}
 use Rattle.debug_session.specs.Session.{debug_state}
 use Rattle.debug_session.proofs.LineLemmas.{line_as_script, opens_as_script}
+use Rattle.debug_session.proofs.FailLemmas.{front_start, unwritten}
 use Rattle.debug_session.proofs.session.DebugSession.answer_line.Goals as goal
 
 pub returns-then-is_script_command-clause-told : goal.returns-then-is_script_command-clause-told
@@ -27,3 +28,10 @@ returns-then-is_script_command-clause-number g c =
     ≡ c.args.script.now.number + lines_taken b c.args.script.now.left))
     (opens_as_script c.args.line.now _ c.command_of-command.ensures
     (sym c.is_script_command.ensures ∙ c.if-is_script_command.true)) c.script_line.ensures.number
+
+pub returns-then-is_script_command-clause-memory : goal.returns-then-is_script_command-clause-memory
+returns-then-is_script_command-clause-memory g c = λ is.
+    unwritten g.W.Sink.contents c.args.sink.now c.script_line.new.sink _ (c.script_line.ensures.ends.memory is)
+
+pub returns-in_err-words-clause-memory : goal.returns-in_err-words-clause-memory
+returns-in_err-words-clause-memory g c = λ is. front_start _ _

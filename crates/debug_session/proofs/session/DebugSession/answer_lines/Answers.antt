@@ -1,10 +1,11 @@
-use Rattle.std.proofs.Common.{◌+◌, ◌∙◌, ap, length, sym}
-use Rattle.command_shell_lines.specs.Blocks.{block_lines}
+use Rattle.std.proofs.Common.{◌+◌, ◌∙◌, ap, length, refl, rules, sym}
+use Rattle.command_shell_lines.specs.Blocks.{block_lines, lines_after, lines_taken}
 use Rattle.profile.specs.text_lines.Lines.{ReadingPlace}
 use Rattle.debug_session.specs.DebugScript.{debug_line_told, debug_lines_told, line_opens}
 use Rattle.debug_session.specs.DebugState.{DebugAnswered}
 use Rattle.debug_session.specs.Session.{debug_state}
 use Rattle.profile.proofs.OutputLemmas.{AddsAllBut-more, Appends-from_all_but}
+use Rattle.debug_session.proofs.FailLemmas.{front_then}
 use Rattle.debug_session.proofs.LineLemmas.{fewer, lines_counted, none_left, none_told, step_state, step_text}
 use Rattle.debug_session.proofs.session.DebugSession.answer_lines.Goals as goal
 
@@ -70,3 +71,21 @@ returns-clause-told g c =
           c.loop-self.invariant.text (ap (λ (a : DebugAnswered). a.text) quit);
       state = sym (ap (λ (a : DebugAnswered). a.state) quit) ∙ c.loop-self.invariant.state;
     }
+
+pub returns-in_err-answer_line-clause-memory : goal.returns-in_err-answer_line-clause-memory
+returns-in_err-answer_line-clause-memory g c = λ is.
+    let before = debug_state c.loop-self.self c.loop-self.images in
+    let number = c.loop-self.script.number in
+    let here = c.next_line.new.self.number in
+    let line = c.in-Some.line.now in
+    let all = c.loop-self.script.left in
+    let rest = c.next_line.new.self.left in
+    let setting = c.args.self.now.setting in
+    let own = c.loop-self.self.setting in
+    let first = debug_line_told own before here line (block_lines rest) in
+    front_then (g.W.Sink.contents c.args.sink.now) (g.W.Sink.contents c.loop-self.sink) (g.W.Sink.contents c.answer_line.new.sink)
+    _ first.text _ _ c.loop-self.invariant.text
+    (step_text setting own number here (here + lines_taken (line_opens line) rest) before first.state line all rest
+    (lines_after (line_opens line) rest) c.loop-self-test.true (sym c.loop-self.invariant.setting) c.in-Some.ensures.line
+    c.in-Some.ensures.number refl refl refl)
+    (c.in_err-answer_line.ensures.memory (search rules))

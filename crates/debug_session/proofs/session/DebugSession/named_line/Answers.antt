@@ -17,7 +17,7 @@ returns-then-asks_nothing-clause-told g c =
     let block = block_lines c.args.script.now.left in
     let named = block_lines c.args.named.now.left in
     let told = request_told (script_with_budget d.script old.setting.budget) c.args.script.now.number r block in
-    nothing_told old.setting d (debug_state c.answer_to.new.self c.answer_to.new.images) c.args.number c.args.script.now.number r block named
+    nothing_told old.setting d (debug_state c.answer_to.new.self c.answer_to.new.images) c.args.named.now.number c.args.script.now.number r block named
     (g.W.Sink.contents c.args.sink.now) c.asks_nothing.result c.asks_nothing.ensures c.if-asks_nothing.true
     (session_moved old c.answer_to.new.self c.args.images.now c.answer_to.new.images told.state
     c.in_ok-answer.ensures.rest c.in_ok-answer.ensures.told.state)
@@ -43,8 +43,8 @@ returns-clause-told g c =
     let refusal = refused_as_told refused c.is_named_image-was_there.result c.args.images.now after told.state.images r
     c.is_refused_block-is_refused.ensures c.is_named_image-was_there.ensures there in
     line_told (g.W.Sink.contents c.args.sink.now) (g.W.Sink.contents c.tell.new.sink) old.setting d at_tell
-    (debug_state c.tell.new.self after) c.args.number r told named c.as_slice-text.result.now
-    refused c.asks_nothing.result
+    (debug_state c.tell.new.self after) c.args.named.now.number r told named c.as_slice-text.result.now
+    c.as_slice-shown.result.now refused c.asks_nothing.result
     (session_labelled noted taken after old.setting d r told named labelled.rest
     (session_noted old mid noted c.args.images.now after c.as_slice-text.result.now c.takes_steps.result r told
     answered.rest kept.rest kept.answer kept.output kept.steps c.takes_steps.ensures answered.told.state
@@ -52,8 +52,9 @@ returns-clause-told g c =
     (labels_taken taken.labels noted.labels d refused after r told named named labelled.labels
     (noted_labels old mid noted answered.rest kept.rest) refusal there refl))
     (c.as_slice-text.ensures.value ∙ answered.told.text)
+    (c.as_slice-shown.ensures.value ∙ c.in_ok-explained.ensures)
     c.asks_nothing.ensures c.if-asks_nothing.false refusal
-    (told_with _ _ _ at_tell taken.setting old.setting c.args.number c.args.number
-    refused c.as_slice-text.result.now
-    (labelled.setting ∙ kept.setting ∙ ap (λ (s : DebugSession). s.setting) answered.rest) refl
+    (told_with _ _ _ at_tell taken.setting old.setting c.number.result c.args.named.now.number
+    refused c.as_slice-shown.result.now
+    (labelled.setting ∙ kept.setting ∙ ap (λ (s : DebugSession). s.setting) answered.rest) c.number.ensures
     (c.in_ok-tell.ensures.told after))

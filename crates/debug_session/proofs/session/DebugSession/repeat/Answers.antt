@@ -1,9 +1,10 @@
-use Rattle.std.proofs.Common.{◌≡◌, ◌+◌, ◌-◌, Bool, ◌∙◌, ap, sym, arith}
+use Rattle.std.proofs.Common.{◌≡◌, ◌+◌, ◌-◌, Bool, ◌∙◌, ap, sym, arith, rules}
 use Rattle.command_shell_lines.specs.Blocks.{block_lines, lines_after, lines_taken}
 use Rattle.debug_session.specs.DebugScript.{repeated_told, simple_line_told}
 use Rattle.debug_session.specs.DebugState.{DebugAnswered}
 use Rattle.debug_session.specs.Session.{debug_state}
 use Rattle.profile.proofs.OutputLemmas.{AddsAllBut-more, Appends-from_all_but}
+use Rattle.debug_session.proofs.FailLemmas.{unwritten_then}
 use Rattle.debug_session.proofs.RepeatLemmas.{repeat_none, repeat_quit, repeat_state, repeat_text, told_there}
 use Rattle.debug_session.proofs.session.DebugSession.repeat.Goals as goal
 
@@ -33,7 +34,7 @@ loop-left-preserved g c =
           (repeated_told (n - 1) setting number line block after).text _ i.text told.text text;
       state = sym state ∙ i.state;
       setting = own.setting ∙ i.setting;
-      same_flag = own.same_flag ∙ i.same_flag;
+      same_flag = own.ends.same_flag ∙ i.same_flag;
       lines = own.left ∙ ap (λ (b : Bool). lines_after b c.loop-left.script.left) alone ∙ i.lines;
       number = omega (arith, taken, i.number);
     }
@@ -58,3 +59,8 @@ returns-clause-told g c =
           c.loop-left.invariant.text (ap (λ (a : DebugAnswered). a.text) none);
       state = sym (ap (λ (a : DebugAnswered). a.state) none) ∙ c.loop-left.invariant.state;
     }
+
+pub returns-in_err-simple_line-clause-memory : goal.returns-in_err-simple_line-clause-memory
+returns-in_err-simple_line-clause-memory g c = λ is.
+    unwritten_then g.W.Sink.contents (g.W.Sink.contents c.args.sink.now) c.loop-left.sink c.simple_line.new.sink _ _
+    c.loop-left.invariant.text (c.in_err-simple_line.ensures.ends.memory (search rules))
