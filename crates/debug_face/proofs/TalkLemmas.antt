@@ -4,13 +4,19 @@ use Rattle.std.specs.Prelude.{OnOk}
 use Rattle.std.specs.Io.KnownBytes.{Appends, Consumes, IsAtEnd, Keeps}
 use Rattle.std.specs.Str.Lines.{lines}
 use Rattle.std.proofs.KnownBytes.{Consumes-nil, Consumes-trans}
+use Rattle.command_shell.specs.declared.error.RunError.{RunError}
+use Rattle.command_shell.specs.declared.error.RunError.TheVariants.{WriteFault}
 use Rattle.image_loader.specs.Entries.{Entry}
-use Rattle.profile.specs.Output.{AddsAllBut}
+use Rattle.profile.specs.Devices.{device_inner}
+use Rattle.profile.specs.Output.{AddsAllBut, AddsFront}
+use Rattle.profile.specs.declared.device.Device.{Device}
+use Rattle.profile.proofs.KnownLemmas.{Keeps-self}
 use Rattle.profile.proofs.OutputLemmas.{AddsAllBut-more, AddsAllBut-start, Appends-from_all_but, Appends-join}
 use Rattle.debug_records.specs.DebugScript.{debug_lines_told, debug_script_told, then_summary}
 use Rattle.debug_records.specs.DebugState.{DebugAnswered, DebugState, IsDebugged, debug_start_state}
 use Rattle.debug_records.specs.ExitStatus.{debug_status}
 use Rattle.debug_modes.specs.expectations.reports.Reports.{summary_text}
+use Rattle.debug_records.specs.Failing.{IsTakenInPart, ReportsWriteFault}
 use Rattle.debug_records.specs.Session.{debug_state}
 use Rattle.debug_records.specs.Typing.{IsTaken}
 use Rattle.debug_modes.specs.declared.expectations.reports.reports.ReportForm.TheVariants.{Answers}
@@ -18,10 +24,24 @@ use Rattle.debug_records.specs.DebugSession.{DebugSession}
 use Rattle.debug_records.specs.DebugSessionDebugSetting.{DebugSetting}
 use Rattle.debug_records.specs.DebugTyping.{DebugTyping}
 use Rattle.debug_records.proofs.LineLemmas.{none_told}
-use Rattle.debug_records.proofs.TakenLemmas.{piece_told}
-use Rattle.debug_face.specs.Talking.{DebugsInput, HasTalked, IsPlainTalk, IsStatusOfInput, IsStatusOfScript, TakesPiece, debug_bytes_told}
+use Rattle.debug_records.proofs.FailLemmas.{front_start, front_then}
+use Rattle.debug_records.proofs.TakenLemmas.{part_told, piece_told}
+use Rattle.debug_face.specs.Talking.{BeginsInput, DebugsInput, HasTalked, IsPlainTalk, IsStatusOfInput, IsStatusOfScript, TakesPiece, TakesPieceInPart, debug_bytes_told}
 
 -- WRITERS
+
+-- a writer that has failed no more than before
+pub unfailed_reports : {S A : Type 0} (has_failed : S → Bool) (old new : S) (value : A) → has_failed new ≡ has_failed old
+    → ReportsWriteFault has_failed old new (Ok value)
+unfailed_reports has_failed old new value same = record {
+  only = λ is. absurd (let no : Ok value ≡ Err WriteFault = is in cc);
+  reported = λ before after. absurd (let no : true ≡ false = sym after ∙ same ∙ before in cc);
+}
+
+-- a writer whose fault is reported
+pub failed_reports : {S A : Type 0} (has_failed : S → Bool) (old new : S) (result : Result A RunError)
+    → result ≡ Err WriteFault → has_failed new ≡ true → ReportsWriteFault has_failed old new result
+failed_reports has_failed old new result is failed = record { only = λ same. failed; reported = λ before after. is }
 
 keeps_nothing : (a b : Option (List ℕ)) → Keeps a b → Appends a b []
 keeps_nothing None b kept = tt
@@ -31,6 +51,11 @@ keeps_nothing (Some a) (Some b) kept = kept ∙ sym (append-nil a)
 appends_kept : (a b c : Option (List ℕ)) (text : List ℕ) → Appends a b text → Keeps b c → Appends a c text
 appends_kept a b c text done kept =
     subst (λ (xs : List ℕ). Appends a c xs) (append-nil text) (Appends-join a b c text [] done (keeps_nothing b c kept))
+
+-- a flag that would have stayed up was down
+pub flag_kept : (first last : Bool) → last ≡ false → (first ≡ true → last ≡ true) → last ≡ first
+flag_kept true last down stays = stays refl
+flag_kept false last down stays = down
 
 -- PIECES
 
@@ -117,6 +142,95 @@ talked_still_by old t images images_t input left next before here prompted hande
     talked_still old t images images_t input left next before here prompted handed is_terminal (take count buffer) so_far takes
     (ap (λ (n : ℕ). take n buffer) none) prompt kept
 
+-- A READER THAT FAILS
+
+-- where the next piece can't be read, a front of the answers stands written, behind which a prompt may stand
+pub talked_front : (old t : DebugTyping) (images images_t : List Entry) (input left before here prompted handed : Option (List ℕ))
+    (is_terminal : Bool) → HasTalked old t images images_t input left before here is_terminal
+    → (is_terminal ≡ false → prompted ≡ here) → Keeps prompted handed → BeginsInput old images is_terminal input before handed
+talked_front old t images images_t None left before here prompted handed is_terminal so_far prompt kept = tt
+talked_front old t images images_t (Some bytes) None before here prompted handed is_terminal so_far prompt kept =
+    absurd so_far.of_input
+talked_front old t images images_t (Some bytes) (Some rest) before here prompted handed is_terminal so_far prompt kept = λ plain.
+    let told : List ℕ = (debug_bytes_told t images_t rest).text in
+    let same : Keeps here handed = subst (λ (w : Option (List ℕ)). Keeps w handed) (prompt plain.prompts) kept in
+    record {
+      rest = told;
+      front = subst (λ (xs : List ℕ). AddsAllBut before handed told (debug_bytes_told old images xs).text) (sym so_far.of_input)
+          (AddsAllBut-more before here handed told [] told _ (so_far.text plain rest) (keeps_nothing here handed same) refl);
+    }
+
+pub talked_here : (old t : DebugTyping) (images images_t : List Entry) (input left before here : Option (List ℕ))
+    (is_terminal : Bool) → HasTalked old t images images_t input left before here is_terminal
+    → BeginsInput old images is_terminal input before here
+talked_here old t images images_t input left before here is_terminal so_far =
+    talked_front old t images images_t input left before here here here is_terminal so_far (λ _. refl) (Keeps-self here)
+
+-- a writer that is as it was
+pub begins_still : {T : Type 0} (contents : T → Option (List ℕ)) (old : DebugTyping) (images : List Entry) (is_terminal : Bool)
+    (input before : Option (List ℕ)) (mid new : Device T) → new ≡ mid
+    → BeginsInput old images is_terminal input before (contents (device_inner mid))
+    → BeginsInput old images is_terminal input before (contents (device_inner new))
+begins_still {T = T} contents old images is_terminal input before mid new same begins =
+    subst (λ (w : Device T). BeginsInput old images is_terminal input before (contents (device_inner w))) (sym same) begins
+
+-- A PIECE THAT IS TAKEN IN PART
+
+-- before which comments of the protocol may stand
+pub takes_in_part : {S : Type 0} (contents : S → Option (List ℕ)) (old : DebugTyping) (images : List Entry)
+    (before : Option (List ℕ)) (mid new : S) (piece text : List ℕ)
+    → (old.session.setting.form ≡ Answers → contents mid ≡ before) → text ≡ old.pending.items ++ piece
+    → (new ≡ mid) ⊎ IsTakenInPart old images (contents mid) (contents new) text
+    → TakesPieceInPart old images before (contents new) piece
+takes_in_part contents old images before mid new piece text plain is (inl same) =
+    record { between = contents mid; plain = plain; part = inl (ap contents same) }
+takes_in_part contents old images before mid new piece text plain is (inr part) = record {
+  between = contents mid;
+  plain = plain;
+  part = inr (subst (λ (xs : List ℕ). IsTakenInPart old images (contents mid) (contents new) xs) is part);
+}
+
+-- nothing of it was taken
+pub takes_nothing : (old : DebugTyping) (images : List Entry) (held : Option (List ℕ)) (piece : List ℕ)
+    → TakesPieceInPart old images held held piece
+takes_nothing old images held piece = record { between = held; plain = λ _. refl; part = inl refl }
+
+front_by : (t : DebugTyping) (images : List Entry) (handed between after : Option (List ℕ)) (piece rest : List ℕ)
+    → between ≡ handed → (after ≡ between) ⊎ IsTakenInPart t images between after (t.pending.items ++ piece)
+    → AddsFront handed after (debug_bytes_told t images (piece ++ rest)).text
+front_by t images handed between after piece rest same (inl none) =
+    subst (λ (w : Option (List ℕ)). AddsFront handed w (debug_bytes_told t images (piece ++ rest)).text)
+    (sym (none ∙ same)) (front_start handed (debug_bytes_told t images (piece ++ rest)).text)
+front_by t images handed between after piece rest same (inr part) =
+    subst (λ (w : Option (List ℕ)). AddsFront w after (debug_bytes_told t images (piece ++ rest)).text) same
+    (part_told t images between after piece rest part)
+
+-- what was read before it and a front of its answers are a front of what all is answered
+pub talked_part : (old t : DebugTyping) (images images_t : List Entry)
+    (input left next before here prompted handed after : Option (List ℕ)) (is_terminal : Bool) (piece : List ℕ)
+    → HasTalked old t images images_t input left before here is_terminal → Consumes left next piece
+    → (is_terminal ≡ false → prompted ≡ here) → Keeps prompted handed → TakesPieceInPart t images_t handed after piece
+    → BeginsInput old images is_terminal input before after
+talked_part old t images images_t None left next before here prompted handed after is_terminal piece so_far takes prompt kept part = tt
+talked_part old t images images_t (Some bytes) None next before here prompted handed after is_terminal piece so_far takes prompt kept part =
+    absurd so_far.of_input
+talked_part old t images images_t (Some bytes) (Some left) None before here prompted handed after is_terminal piece so_far takes prompt kept part =
+    absurd takes
+talked_part old t images images_t (Some bytes) (Some left) (Some rest) before here prompted handed after is_terminal piece so_far takes prompt kept part =
+    λ plain.
+    let told : List ℕ = (debug_bytes_told t images_t (piece ++ rest)).text in
+    let all : List ℕ = (debug_bytes_told old images bytes).text in
+    let same : Keeps here handed = subst (λ (w : Option (List ℕ)). Keeps w handed) (prompt plain.prompts) kept in
+    let parts : bytes ≡ so_far.read ++ (piece ++ rest) =
+    so_far.of_input ∙ ap (λ (xs : List ℕ). so_far.read ++ xs) takes in
+    let done : AddsAllBut before handed told all =
+    subst (λ (xs : List ℕ). AddsAllBut before handed told (debug_bytes_told old images xs).text) (sym parts)
+    (AddsAllBut-more before here handed told [] told _ (so_far.text plain (piece ++ rest)) (keeps_nothing here handed same) refl) in
+    let answers : t.session.setting.form ≡ Answers =
+    ap (λ (c : DebugSetting). c.form) so_far.setting ∙ plain.form in
+    front_then before handed after told told [] all done (sym (append-nil told))
+    (front_by t images_t handed part.between after piece rest (part.plain answers) part.part)
+
 -- THE END
 
 -- All of the input was read, or nothing more of it is answered.
@@ -143,7 +257,7 @@ ended_by old now images images_now before after is_terminal bytes read rest all 
 }
 
 -- nothing is answered after QUIT
-quit_told : (t : DebugTyping) (images : List Entry) (rest : List ℕ) → t.session.has_quit ≡ true
+pub quit_told : (t : DebugTyping) (images : List Entry) (rest : List ℕ) → t.session.has_quit ≡ true
     → debug_bytes_told t images rest ≡ debug_bytes_told t images []
 quit_told t images rest quit =
     let d : DebugState = debug_state t.session images in
@@ -227,9 +341,34 @@ talk_text old now images images_now (Some bytes) left before here commented told
     (debug_lines_told now.session.setting now.number (debug_state now.session images_now) (lines now.pending.items))) (none plain) told)
     (subst (λ (c : DebugSetting). Appends told_at summed (summary_text c.form end.tally)) same summary) kept plain
 
+ended_front : (old now : DebugTyping) (images images_now : List Entry) (before here after : Option (List ℕ)) (is_terminal : Bool)
+    (bytes : List ℕ) → HasEnded old now images images_now before here is_terminal bytes → IsPlainTalk old is_terminal
+    → AddsFront here after
+    (debug_lines_told now.session.setting now.number (debug_state now.session images_now) (lines now.pending.items)).text
+    → AddsFront before after (debug_bytes_told old images bytes).text
+ended_front old now images images_now before here after is_terminal bytes ended plain front =
+    let last : List ℕ = (debug_bytes_told now images_now []).text in
+    front_then before here after last last [] (debug_bytes_told old images bytes).text (ended.text plain) (sym (append-nil last))
+    (subst (λ (a : DebugAnswered). AddsFront here after a.text) (sym (waiting_told now images_now)) front)
+
+-- what waits is answered in part
+pub talk_front : (old now : DebugTyping) (images images_now : List Entry) (input left before here commented after : Option (List ℕ))
+    (is_terminal : Bool) → HasTalked old now images images_now input left before here is_terminal
+    → (IsAtEnd left) ⊎ (now.session.has_quit ≡ true) → (IsPlainTalk old is_terminal → commented ≡ here)
+    → AddsFront commented after
+    (debug_lines_told now.session.setting now.number (debug_state now.session images_now) (lines now.pending.items)).text
+    → BeginsInput old images is_terminal input before after
+talk_front old now images images_now None left before here commented after is_terminal talked ends none front = tt
+talk_front old now images images_now (Some bytes) left before here commented after is_terminal talked ends none front = λ plain.
+    ended_front old now images images_now before here after is_terminal bytes
+    (has_ended old now images images_now (Some bytes) left before here is_terminal talked ends) plain
+    (subst (λ (w : Option (List ℕ)). AddsFront w after
+    (debug_lines_told now.session.setting now.number (debug_state now.session images_now) (lines now.pending.items)).text)
+    (none plain) front)
+
 -- A WHOLE SCRIPT
 
-script_told_by : (c : DebugSetting) (t : DebugTyping) (images : List Entry) (bytes : List ℕ) → t.session.setting ≡ c
+pub script_told_by : (c : DebugSetting) (t : DebugTyping) (images : List Entry) (bytes : List ℕ) → t.session.setting ≡ c
     → debug_state t.session images ≡ debug_start_state c images → t.pending.items ≡ [] → t.number ≡ 0
     → debug_bytes_told t images bytes ≡ debug_lines_told c 0 (debug_start_state c images) (lines bytes)
 script_told_by c t images bytes setting state pending number =

@@ -3,6 +3,7 @@
 pub mod Answering
 pub mod Endings
 pub mod FrontLines
+pub mod GoingOn
 pub mod Options
 pub mod Spelling
 pub mod Talking

@@ -1,13 +1,14 @@
 -- What is read and answered, up to the end of what is read or a line QUIT: in whatever pieces it comes,
 -- it is answered as the whole of it is.
-use Rattle.std.specs.Prelude.{◌≡◌, ℕ, Bool, true, false, List, ◌++◌, Option, IfSome}
+use Rattle.std.specs.Prelude.{◌≡◌, ◌⊎◌, ℕ, Bool, true, false, List, ◌++◌, Option, IfSome}
 use Rattle.std.specs.Io.KnownBytes.{Appends, Consumes}
 use Rattle.std.specs.Str.Lines.{lines}
 use Rattle.image_loader.specs.Entries.{Entry}
-use Rattle.profile.specs.Output.{AddsAllBut}
+use Rattle.profile.specs.Output.{AddsAllBut, AddsFront}
 use Rattle.debug_records.specs.DebugScript.{debug_lines_told, debug_script_told, then_summary}
 use Rattle.debug_records.specs.DebugState.{DebugAnswered}
 use Rattle.debug_records.specs.ExitStatus.{debug_status}
+use Rattle.debug_records.specs.Failing.{IsTakenInPart}
 use Rattle.debug_records.specs.Session.{debug_state}
 use Rattle.debug_records.specs.Typing.{IsTaken}
 use Rattle.debug_modes.specs.declared.expectations.reports.reports.ReportForm.{ReportForm}
@@ -32,6 +33,14 @@ pub record TakesPiece (old now : DebugTyping) (images images_now : List Entry)
   pub plain : old.session.setting.form ≡ Answers → between ≡ before
   pub taken : IsTaken old now images images_now between after (old.pending.items ++ piece)
 
+-- A piece was taken in part: of its answers a front stands written, or nothing; only where the form is
+-- that of the protocol something is written before it.
+pub record TakesPieceInPart (old : DebugTyping) (images : List Entry) (before after : Option (List ℕ))
+    (piece : List ℕ) : Type 0 where
+  pub between : Option (List ℕ)
+  pub plain : old.session.setting.form ≡ Answers → between ≡ before
+  pub part : (after ≡ between) ⊎ IsTakenInPart old images between after (old.pending.items ++ piece)
+
 -- So much of the input was read. Whatever follows it, what the session is still to answer is what is
 -- left of the answer to all.
 pub record HasTalked (old now : DebugTyping) (images images_now : List Entry)
@@ -49,6 +58,12 @@ abbrev pub DebugsInput : DebugTyping → List Entry → Bool → Option (List �
     → Option (List ℕ) → Type 0
 DebugsInput t images is_terminal input before after = IfSome input (λ bytes. IsPlainTalk t is_terminal
     → Appends before after (then_summary t.session.setting (debug_bytes_told t images bytes)).text)
+
+-- A front of what all of the input is answered stands written, where only answers are written.
+abbrev pub BeginsInput : DebugTyping → List Entry → Bool → Option (List ℕ) → Option (List ℕ)
+    → Option (List ℕ) → Type 0
+BeginsInput t images is_terminal input before after = IfSome input (λ bytes. IsPlainTalk t is_terminal
+    → AddsFront before after (debug_bytes_told t images bytes).text)
 
 -- The exit status is that of the whole input.
 abbrev pub IsStatusOfInput : DebugTyping → List Entry → Option (List ℕ) → ℕ → Type 0

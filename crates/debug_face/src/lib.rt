@@ -1,18 +1,24 @@
-//! Debugging scripts, from a terminal, a file or standard input, each line answered on standard output
-//! as it comes, or all of them as a transcript: the face `debug` of the program `rosm_tools`, which people type as `rosm_debug`.
+//! Debugging scripts, from a terminal, a file or standard input, each line answered on standard
+//! output as it comes, or all of them as a transcript: the face `debug` of the program
+//! `rosm_tools`, which people type as `rosm_debug`.
 //!
-//! `rosm_debug [--script FILE] [--tap | --transcript | --json] [--pages N] [--app N] [--rma N]
+//! Promise: it writes what `debug_session` answers, to the end of the input.
+//!
+//! `rosm_debug [--script FILE [-i]] [--tap | --transcript | --json] [--pages N] [--app N] [--rma N]
 //! [--budget N] [FILE...] <SCRIPT`
 #![tactic(auto)]
 
 mod answering;
 mod front_lines;
+mod going_on;
 mod options;
 mod process;
+mod prompted;
 mod refusal;
 mod spelling;
 mod talk;
 mod transcript;
+mod whole_lines;
 mod words;
 
 pub use debug_records::RunMeter;

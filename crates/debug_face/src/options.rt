@@ -1,8 +1,8 @@
-//! The words that are the program's own: those that ask for a form, and `--script` with the path that
-//! follows it.
+//! The words that are the program's own: those that ask for a form, the name of a script, `--script` with
+//! the path that follows it, and `-i`.
 
 ghost use Rattle.std.specs.Prelude.{◌≡◌, [], false, map, IfOk};
-ghost use Rattle.debug_face.specs.Options.{form_named, is_dashes, kind_at, kind_of_other, kind_of_word, words_told, DebugWords};
+ghost use Rattle.debug_face.specs.Options.{form_named, is_dashes, is_script_name, kind_at, kind_of_other, kind_of_word, words_told, DebugWords};
 
 use debug_records::ReportForm;
 use std::alloc::{AllocError, Global};
@@ -25,8 +25,10 @@ pub enum WordKind {
     Form(WantedForm),
     /// `--script`, which a path follows.
     Script,
-    /// The path of a script.
+    /// The path of a script: the word behind `--script`, or one that ends with `.script`.
     Path,
+    /// `-i`.
+    GoingOn,
     /// A word of `rosm`.
     Other,
 }
@@ -42,6 +44,8 @@ pub struct PartedDebugWords<'a> {
     pub others: Vec<&'a str>,
     /// Whether a path is missing after the last word.
     pub lacks_path: bool,
+    /// Whether standard input is answered behind the script.
+    pub goes_on: bool,
 }
 
 /// Separates the program's own words from all others; after a word `--` all are `rosm`'s.
@@ -58,6 +62,7 @@ pub fn part_words<'a>(
         paths: Vec::new(alloc),
         others: Vec::new(alloc),
         lacks_path: false,
+        goes_on: false,
     };
     let mut are_files = false;
     for word in words {
@@ -67,6 +72,7 @@ pub fn part_words<'a>(
         match kind {
             WordKind::Form(form) => parted.forms.push(form)?,
             WordKind::Script => {}
+            WordKind::GoingOn => parted.goes_on = true,
             WordKind::Path => parted.paths.push(*word)?,
             WordKind::Other => parted.others.push(*word)?,
         }
@@ -101,9 +107,21 @@ fn kind_of_other(word: &str) -> WordKind
 {
     if word.as_bytes() == b"--script".as_slice() {
         WordKind::Script
+    } else if word.as_bytes() == b"-i".as_slice() {
+        WordKind::GoingOn
+    } else if is_script_name(word) {
+        WordKind::Path
     } else {
         WordKind::Other
     }
+}
+
+// Whether a word names a script by its end, and is no option.
+fn is_script_name(word: &str) -> bool
+    ensures { result ≡ is_script_name word.now }
+{
+    let word = word.as_bytes();
+    word.ends_with(b".script") && !word.starts_with(b"-")
 }
 
 // The form that a word asks for, if it is one that does.

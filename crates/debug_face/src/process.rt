@@ -2,11 +2,14 @@
 
 ghost use Rattle.std.specs.Prelude.{◌≡◌, IfOk, OnOk};
 ghost use Rattle.std.specs.Process.{exit_status};
-ghost use Rattle.trace_effects.specs.record_text.Safe.{AddsSafe};
+ghost use Rattle.profile.specs.text_sink.Safe.{AddsSafe};
 ghost use Rattle.debug_face.specs.Endings.{ending_status};
+ghost use Rattle.debug_face.specs.GoingOn.{IsStatusOfBothScripts};
 ghost use Rattle.debug_face.specs.Talking.{IsStatusOfScript};
 
+use crate::going_on::talk_behind_script;
 use crate::options::WantedForm;
+use crate::prompted::PromptedLines;
 use crate::refusal::DebugRefusal;
 use crate::talk::{hand_on, talk};
 use crate::transcript::show_transcript;
@@ -43,9 +46,10 @@ where
     }
 }
 
-// Answers the lines of the script that is asked for, or of standard input, which may be a terminal,
-// on standard output, or writes their transcript, and gives the exit status that they end with. The first file that gives no
-// image, or the script's file that can't be read, is told before any line is answered.
+// Answers the lines of the script that is asked for, or of standard input, which may be a terminal, or
+// both, on standard output, or writes their transcript, and gives the exit status that they end with.
+// The first file that gives no image, or the script's file that can't be read, is reported before any
+// line is answered.
 fn debug_on_standard_streams<'a, R, E>(
     rt: &R,
     wanted: &'a WantedSession,
@@ -61,10 +65,13 @@ where
     take_files(rt, wanted, &mut images)?;
     match &wanted.script {
         None => {
-            let mut input = Device::new(rt.reader());
+            let mut input = PromptedLines::new(Device::new(rt.reader()), is_terminal);
             answer(rt, wanted, images, &mut input, errors, is_terminal, meter)
         }
         Some(path) => match File::open(rt, path.as_str()) {
+            Ok(file) if wanted.goes_on => {
+                go_on(rt, wanted, images, file, errors, is_terminal, meter)
+            }
             Ok(file) => {
                 let mut input = Device::new(file);
                 answer(
@@ -151,6 +158,64 @@ where
             Ok(status)
         }
     }
+}
+
+// Answers the lines of a script's file, and then those of standard input, on standard output.
+fn go_on<'a, R, E>(
+    rt: &R,
+    wanted: &'a WantedSession,
+    mut images: Images,
+    script: R::File,
+    errors: &mut E,
+    is_terminal: bool,
+    meter: RunMeter,
+) -> Result<u8, DebugRefusal<'a>>
+where
+    R: AllocGlobal + fs::Files + Input + Print,
+    E: Sink,
+{
+    let form = match wanted.form {
+        WantedForm::Lines(form) => form,
+        WantedForm::Transcript | WantedForm::Records => ReportForm::Answers,
+    };
+    let alloc = rt.alloc();
+    let Ok(buffered) = BufWriter::new(alloc, io::writer(rt)) else {
+        return Err(DebugRefusal::Memory);
+    };
+    let mut input = PromptedLines::new(Device::new(rt.reader()), is_terminal);
+    answer_both(
+        alloc,
+        setting_of(wanted, form, meter),
+        &mut images,
+        Device::new(script),
+        &mut input,
+        &mut Device::new(buffered),
+        errors,
+        is_terminal,
+    )
+}
+
+// Answers the lines of a script and those that are typed behind it, on a fresh machine.
+fn answer_both<'a, F, S, W, E>(
+    alloc: Global,
+    setting: DebugSetting,
+    images: &mut Images,
+    script: F,
+    reader: &mut S,
+    writer: &mut Device<W>,
+    errors: &mut E,
+    is_terminal: bool,
+) -> Result<u8, DebugRefusal<'a>>
+where
+    F: Source + Drop,
+    S: Source,
+    W: Write,
+    E: Sink,
+    ensures { IfOk result (IsStatusOfBothScripts setting images.old (F.remaining script)
+        (S.remaining reader.old)) }
+{
+    let typing = DebugTyping::new(alloc, setting)?;
+    Ok(talk_behind_script(typing, images, script, reader, writer, errors, is_terminal)?)
 }
 
 // Reads a script whole, writes its records, and gives the exit status of its lines.

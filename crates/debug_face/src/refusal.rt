@@ -11,7 +11,7 @@ use std::alloc::AllocError;
 use thiserror::Error;
 
 /// The form of a command line, in one line.
-pub const USAGE: &str = "usage: rosm_debug [--script FILE] \
+pub const USAGE: &str = "usage: rosm_debug [--script FILE [-i]] \
 [--tap | --transcript | --json] [--pages N] [--app N] [--rma N] [--budget N] [FILE...] <SCRIPT";
 
 /// Why the program ends without having answered all lines. The text is one line.

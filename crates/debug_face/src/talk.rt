@@ -1,10 +1,13 @@
 //! A session: what is read is answered as it comes, line by line.
 
-ghost use Rattle.std.specs.Prelude.{◌≡◌, ◌⊎◌, true, false, IfOk, OnOk};
+ghost use Rattle.std.specs.Prelude.{◌≡◌, ◌⊎◌, true, false, Err, IfOk, IfErr, OnOk, OnErr};
 ghost use Rattle.std.specs.Io.KnownBytes.{IsAtEnd, Keeps};
-ghost use Rattle.profile.specs.Devices.{device_inner};
+ghost use Rattle.profile.specs.Devices.{device_failed, device_inner};
+ghost use Rattle.command_shell.specs.Error.{IsLineError};
+ghost use Rattle.debug_records.specs.DebugState.{IsDebugTypingError};
+ghost use Rattle.debug_records.specs.Failing.{ReportsReadFault, ReportsWriteFault};
 ghost use Rattle.debug_modes.specs.declared.expectations.reports.reports.ReportForm.TheVariants.{Answers};
-ghost use Rattle.debug_face.specs.Talking.{DebugsInput, HasTalked, IsStatusOfInput, TakesPiece};
+ghost use Rattle.debug_face.specs.Talking.{BeginsInput, DebugsInput, HasTalked, IsStatusOfInput, TakesPiece, TakesPieceInPart};
 
 use command_shell::RunError;
 use debug_modes::expectations::reports::push_missing_end;
@@ -36,6 +39,17 @@ pub fn talk<R: Source, W: Write, E: Sink>(
     ensures text { OnOk result (DebugsInput typing images.old is_terminal (R.remaining reader.old)
         (W.contents (device_inner writer.old)) (W.contents (device_inner writer.new))) }
     ensures status { IfOk result (IsStatusOfInput typing images.old (R.remaining reader.old)) }
+    ensures read_fault { ReportsReadFault R.has_failed reader.old reader.new result }
+    ensures read_front { result ≡ Err RunError.ReadFault → BeginsInput typing images.old is_terminal
+        (R.remaining reader.old) (W.contents (device_inner writer.old))
+        (W.contents (device_inner writer.new)) }
+    ensures memory { result ≡ Err RunError.Memory → BeginsInput typing images.old is_terminal
+        (R.remaining reader.old) (W.contents (device_inner writer.old))
+        (W.contents (device_inner writer.new)) }
+    ensures long_front { result ≡ Err RunError.ScriptTooLong → BeginsInput typing images.old is_terminal
+        (R.remaining reader.old) (W.contents (device_inner writer.old))
+        (W.contents (device_inner writer.new)) }
+    ensures write_fault { ReportsWriteFault device_failed writer.old writer.new result }
 {
     let mut typing = typing;
     answer_pieces(&mut typing, images, reader, writer, errors, is_terminal)?;
@@ -47,7 +61,7 @@ pub fn talk<R: Source, W: Write, E: Sink>(
 }
 
 // Answers all lines that are whole.
-fn answer_pieces<R: Source, W: Write, E: Sink>(
+pub(crate) fn answer_pieces<R: Source, W: Write, E: Sink>(
     typing: &mut DebugTyping,
     images: &mut Images,
     reader: &mut R,
@@ -59,6 +73,19 @@ fn answer_pieces<R: Source, W: Write, E: Sink>(
         (R.remaining reader.old) (R.remaining reader.new)
         (W.contents (device_inner writer.old)) (W.contents (device_inner writer.new)) is_terminal) }
     ensures ends { OnOk result ((IsAtEnd (R.remaining reader.new)) ⊎ (typing.new.session.has_quit ≡ true)) }
+    ensures read_fault { ReportsReadFault R.has_failed reader.old reader.new result }
+    ensures read_front { result ≡ Err RunError.ReadFault → BeginsInput typing.old images.old is_terminal
+        (R.remaining reader.old) (W.contents (device_inner writer.old))
+        (W.contents (device_inner writer.new)) }
+    ensures memory { result ≡ Err RunError.Memory → BeginsInput typing.old images.old is_terminal
+        (R.remaining reader.old) (W.contents (device_inner writer.old))
+        (W.contents (device_inner writer.new)) }
+    ensures long_front { result ≡ Err RunError.ScriptTooLong → BeginsInput typing.old images.old is_terminal
+        (R.remaining reader.old) (W.contents (device_inner writer.old))
+        (W.contents (device_inner writer.new)) }
+    ensures write_fault { ReportsWriteFault device_failed writer.old writer.new result }
+    ensures read_flag { OnOk result (R.has_failed reader.old ≡ false → R.has_failed reader.new ≡ false) }
+    ensures same_flag { OnOk result (device_failed writer.new ≡ device_failed writer.old) }
 {
     let mut piece = [0u8; PIECE];
     for _pulls in 0..u64::MAX {
@@ -84,7 +111,10 @@ fn answer_pieces<R: Source, W: Write, E: Sink>(
 ///
 /// `WriteFault`.
 pub fn hand_on<W: Write>(writer: &mut Device<W>) -> Result<(), RunError>
-    ensures { Keeps (W.contents (device_inner writer.old)) (W.contents (device_inner writer.new)) }
+    ensures kept { Keeps (W.contents (device_inner writer.old)) (W.contents (device_inner writer.new)) }
+    ensures errors { IfErr result (λ error. error ≡ RunError.WriteFault) }
+    ensures flag { OnErr result (device_failed writer.new ≡ true) }
+    ensures same_flag { OnOk result (device_failed writer.new ≡ device_failed writer.old) }
 {
     match writer.flush() {
         Ok(()) => Ok(()),
@@ -103,6 +133,13 @@ fn answer_piece<W: Sink, E: Sink>(
     ensures taken { OnOk result (TakesPiece typing.old typing.new images.old images.new
         (W.contents sink.old) (W.contents sink.new) piece.now) }
     ensures setting { typing.new.session.setting ≡ typing.old.session.setting }
+    ensures memory { result ≡ Err RunError.Memory → TakesPieceInPart typing.old images.old
+        (W.contents sink.old) (W.contents sink.new) piece.now }
+    ensures long_front { result ≡ Err RunError.ScriptTooLong → TakesPieceInPart typing.old images.old
+        (W.contents sink.old) (W.contents sink.new) piece.now }
+    ensures errors { IfErr result IsDebugTypingError }
+    ensures write_fault { ReportsWriteFault W.has_failed sink.old sink.new result }
+    ensures same_flag { OnOk result (W.has_failed sink.new ≡ W.has_failed sink.old) }
 {
     let read = typing.read(piece)?;
     let form = typing.session().form();
@@ -115,8 +152,12 @@ fn tell_missing_at_end<W: Sink, E: Sink>(
     sink: &mut W,
     errors: &mut E,
 ) -> Result<(), RunError>
-    ensures { OnOk result (typing.now.session.setting.form ≡ Answers
+    ensures plain { OnOk result (typing.now.session.setting.form ≡ Answers
         → W.contents sink.new ≡ W.contents sink.old) }
+    ensures memory { result ≡ Err RunError.Memory → sink.new ≡ sink.old }
+    ensures errors { IfErr result IsLineError }
+    ensures write_fault { ReportsWriteFault W.has_failed sink.old sink.new result }
+    ensures same_flag { OnOk result (W.has_failed sink.new ≡ W.has_failed sink.old) }
 {
     if typing.session().has_quit() {
         return Ok(());
@@ -133,7 +174,9 @@ fn tell_missing_ends<W: Sink, E: Sink>(
     form: ReportForm,
     begins: &[usize],
 ) -> Result<(), WriteFault>
-    ensures { OnOk result (form ≡ Answers → W.contents sink.new ≡ W.contents sink.old) }
+    ensures plain { OnOk result (form ≡ Answers → W.contents sink.new ≡ W.contents sink.old) }
+    ensures flag { OnErr result (W.has_failed sink.new ≡ true) }
+    ensures same_flag { OnOk result (W.has_failed sink.new ≡ W.has_failed sink.old) }
 {
     match form {
         ReportForm::Answers => {
@@ -148,7 +191,10 @@ fn push_missing_ends<W: Sink>(
     sink: &mut W,
     front: &[u8],
     begins: &[usize],
-) -> Result<(), WriteFault> {
+) -> Result<(), WriteFault>
+    ensures flag { OnErr result (W.has_failed sink.new ≡ true) }
+    ensures same_flag { OnOk result (W.has_failed sink.new ≡ W.has_failed sink.old) }
+{
     for begin in begins {
         push_missing_end(sink, front, *begin)?;
     }
@@ -161,7 +207,9 @@ fn push_prompt<W: Sink>(
     is_terminal: bool,
     is_in_block: bool,
 ) -> Result<(), WriteFault>
-    ensures { OnOk result (is_terminal ≡ false → W.contents sink.new ≡ W.contents sink.old) }
+    ensures plain { OnOk result (is_terminal ≡ false → W.contents sink.new ≡ W.contents sink.old) }
+    ensures flag { OnErr result (W.has_failed sink.new ≡ true) }
+    ensures same_flag { OnOk result (W.has_failed sink.new ≡ W.has_failed sink.old) }
 {
     if !is_terminal {
         return Ok(());

@@ -1,10 +1,12 @@
 //! The transcript of a debugging script: its lines as they are typed, each with what it is answered
 //! below it, so that a program can run it again and compare.
 
-ghost use Rattle.std.specs.Prelude.{◌≡◌, ◌⊎◌, true, Err, IfOk, IfSome, OnOk, IfErr};
+ghost use Rattle.std.specs.Prelude.{◌≡◌, ◌<◌, ◌⊎◌, true, length, Err, IfOk, IfSome, IsErr, OnOk, IfErr};
 ghost use Rattle.profile.specs.Output.{Writes};
+ghost use Rattle.profile.specs.Pulls.{PullsAtMost};
 ghost use Rattle.command_shell.specs.Error.{IsLineError};
 ghost use Rattle.debug_records.specs.ExitStatus.{debug_status};
+ghost use Rattle.debug_records.specs.Failing.{ReportsWriteFault};
 ghost use Rattle.debug_modes.specs.expectations.reports.Reports.{summary_text};
 ghost use Rattle.debug_face.specs.Transcript.{answered_text, debug_told_in, BeginsTranscript, WritesTranscript};
 
@@ -35,6 +37,16 @@ pub fn show_transcript<R: Source, W: Sink>(
         setting images script (W.contents sink.old) (W.contents sink.new))) }
     ensures status { IfOk result (λ status. IfSome (R.remaining reader.old) (λ script.
         status ≡ debug_status (debug_told_in setting images script).state)) }
+    ensures memory { result ≡ Err RunError.Memory → (sink.new ≡ sink.old) ⊎ IfSome (R.remaining reader.old)
+        (λ script. BeginsTranscript setting images script (W.contents sink.old) (W.contents sink.new)) }
+    ensures read_told { R.has_failed reader.new ≡ true → result ≡ Err RunError.ReadFault }
+    ensures read_fault { result ≡ Err RunError.ReadFault
+        → (R.has_failed reader.new ≡ true) × (sink.new ≡ sink.old) }
+    ensures write_fault { ReportsWriteFault W.has_failed sink.old sink.new result }
+    ensures too_long { result ≡ Err RunError.ScriptTooLong
+        → (sink.new ≡ sink.old) × IfSome (R.remaining reader.old) (λ script. 1048576 < length script) }
+    ensures never_long { IfSome (R.remaining reader.old) (λ script. 1048576 < length script → IsErr result) }
+    ensures few_pulls { PullsAtMost (R.pulls reader.old) (R.pulls reader.new) 1048577 }
 {
     let script = read_script(alloc, reader)?;
     let status = push_transcript(alloc, sink, script.as_slice(), images, setting)?;
@@ -62,7 +74,7 @@ pub fn push_transcript<W: Sink>(
         (debug_told_in setting images script.now).state) }
     ensures memory { result ≡ Err RunError.Memory → (sink.new ≡ sink.old)
         ⊎ BeginsTranscript setting images script.now (W.contents sink.old) (W.contents sink.new) }
-    ensures write_fault { result ≡ Err RunError.WriteFault → W.has_failed sink.new ≡ true }
+    ensures write_fault { ReportsWriteFault W.has_failed sink.old sink.new result }
     ensures errors { IfErr result IsLineError }
     ensures same_flag { OnOk result (W.has_failed sink.new ≡ W.has_failed sink.old) }
 {

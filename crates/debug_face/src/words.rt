@@ -1,7 +1,7 @@
 //! The words behind the face's own: those that it alone takes, and those that `rosm` takes too.
 
 ghost use Rattle.std.specs.Prelude.{◌≡◌, drop, map, string_bytes, IfOk};
-ghost use Rattle.debug_face.specs.Options.{form_of_all};
+ghost use Rattle.debug_face.specs.Options.{form_of_all, may_go_on};
 
 use crate::options::{WantedForm, part_words};
 use crate::refusal::DebugRefusal;
@@ -15,6 +15,9 @@ use std::io::ErrorKind;
 // What is wrong with more forms than one.
 const FORM_REASON: &str = "--tap, --transcript or --json once at most";
 
+// What is wrong with -i where there is no script, or where all of it is written at once.
+const GOING_ON_REASON: &str = "-i goes with a script, and not with --transcript or --json";
+
 /// What the words ask for.
 #[derive(Drop)]
 pub struct WantedSession {
@@ -22,6 +25,8 @@ pub struct WantedSession {
     pub form: WantedForm,
     /// The file of the script, if it isn't standard input.
     pub script: Option<String>,
+    /// Whether standard input is answered behind the script's file.
+    pub goes_on: bool,
     /// The machine, what each line may take, and the files.
     pub settings: Settings,
 }
@@ -30,8 +35,8 @@ pub struct WantedSession {
 ///
 /// # Errors
 ///
-/// `NotText`, `Line`, `Sizes` and `Memory`, as for the program `rosm`; a second form or script,
-/// or a script without a path, is `Line` too.
+/// `NotText`, `Line`, `Sizes` and `Memory`, as for the program `rosm`; a second form or script, a
+/// script without a path, or `-i` where nothing can go on, is `Line` too.
 pub fn read_words<R: Env + AllocGlobal>(rt: &R) -> Result<WantedSession, DebugRefusal<'static>> {
     let alloc = rt.alloc();
     let args = match env::args(rt) {
@@ -80,10 +85,14 @@ fn wanted_of(alloc: Global, words: &[String]) -> Result<WantedSession, DebugRefu
         [path] => Some(String::from_str(alloc, path)?),
         _ => return Err(refused_line(alloc, "one script at most")),
     };
+    if parted.goes_on && !may_go_on(form, script.is_some()) {
+        return Err(refused_line(alloc, GOING_ON_REASON));
+    }
     let settings = settings_of(alloc, parted.others.as_slice())?;
     Ok(WantedSession {
         form,
         script,
+        goes_on: parted.goes_on,
         settings,
     })
 }
@@ -96,6 +105,17 @@ fn form_of(forms: &[WantedForm]) -> Option<WantedForm>
         [] => Some(WantedForm::Lines(ReportForm::Answers)),
         [form] => Some(*form),
         _ => None,
+    }
+}
+
+// Whether standard input may be answered behind a script: there is one, and answers are written line by
+// line.
+fn may_go_on(form: WantedForm, has_script: bool) -> bool
+    ensures { result ≡ may_go_on form has_script }
+{
+    match form {
+        WantedForm::Lines(_) => has_script,
+        WantedForm::Transcript | WantedForm::Records => false,
     }
 }
 

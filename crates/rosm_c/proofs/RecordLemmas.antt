@@ -1,7 +1,7 @@
 -- Records that were gathered in memory, and then put into room that a caller lends.
 use Rattle.std.proofs.Common.{◌≡◌, ℕ, List, [], ◌++◌, length, true, Some, ap, sym, subst, ◌∙◌}
 use Rattle.std.specs.List.{list_all}
-use Rattle.trace_effects.specs.record_text.Safe.{AddsSafe, is_safe}
+use Rattle.profile.specs.text_sink.Safe.{AddsSafe, is_safe}
 use Rattle.rosm_c.specs.Answers.{TellsRecords, room_with}
 
 pub records_put : (held text lent again room after : List ℕ) (count : ℕ) → held ≡ [] → AddsSafe (Some held) (Some text)

@@ -2,8 +2,8 @@
 -- answers or records for which there was room, and how long all of them are.
 use Rattle.std.specs.Prelude.{◌≡◌, ◌⊎◌, ℕ, ◌++◌, List, true, length, take, drop}
 use Rattle.std.specs.List.{list_all}
-use Rattle.trace_effects.specs.record_text.Safe.{is_safe}
-use Rattle.rosm_settings.specs.command_line.Status.{status_after}
+use Rattle.profile.specs.text_sink.Safe.{is_safe}
+use Rattle.profile.specs.Status.{status_after}
 use Rattle.command_shell.specs.State.{Answered}
 
 -- the room, with as much of a text as fits at its front

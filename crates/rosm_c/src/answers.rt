@@ -7,9 +7,9 @@ ghost use Rattle.rosm_c.specs.Answers.{TellsAnswersUnlessNone, room_with};
 
 use command_shell::{RunError, run_script};
 use image_loader::Images;
+use profile::stop::stop_status;
 use profile::text_sink::TextSink;
 use profile::{Config, Device, Stop};
-use rosm_settings::command_line::stop_status;
 use std::alloc::Global;
 
 /// The status for sizes that no machine has.

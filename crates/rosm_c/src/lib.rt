@@ -1,5 +1,7 @@
 //! `rosm` as a library for C, and for whatever can call C: a script, and perhaps an image, to its
 //! answers.
+//!
+//! Promise: a run of a script is that of `command_shell`, as many bytes of its answers as fit.
 #![tactic(auto)]
 
 mod answers;

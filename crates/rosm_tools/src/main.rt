@@ -1,4 +1,7 @@
-//! The program `rosm_tools`: tools that stand on a whole machine, of which the first word names one.
+//! The program `rosm_tools`: tools that stand on a whole machine, of which the first word names
+//! one.
+//!
+//! Promise: the first word chooses the tool, and another is refused.
 //!
 //! `rosm_tools debug WORD..` is what people type as `rosm_debug WORD..`; so it is with `rosm_gdb`.
 #![tactic(auto)]

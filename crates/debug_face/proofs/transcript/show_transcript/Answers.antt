@@ -1,7 +1,7 @@
-use Rattle.std.proofs.Common.{◌≡◌, ℕ, List}
+use Rattle.std.proofs.Common.{◌≡◌, ℕ, List, inl, refl, rules}
 use Rattle.debug_records.specs.ExitStatus.{debug_status}
-use Rattle.debug_face.specs.Transcript.{debug_told_in, WritesTranscript}
-use Rattle.debug_face.proofs.ReadLemmas.{of_read}
+use Rattle.debug_face.specs.Transcript.{BeginsTranscript, debug_told_in, WritesTranscript}
+use Rattle.debug_face.proofs.ReadLemmas.{of_read, of_read_or}
 use Rattle.debug_face.proofs.transcript.show_transcript.Goals as goal
 
 pub returns-clause-text : goal.returns-clause-text
@@ -13,3 +13,11 @@ pub returns-clause-status : goal.returns-clause-status
 returns-clause-status g c =
     of_read (λ script. c.in_ok-status.status ≡ debug_status (debug_told_in c.args.setting c.args.images script).state) _
     c.in_ok-script.script.items c.as_slice.result.now c.as_slice.ensures.value c.in_ok-script.ensures.bytes c.in_ok-status.ensures.status
+
+pub returns-in_err-script-clause-memory : goal.returns-in_err-script-clause-memory
+returns-in_err-script-clause-memory g c = λ is. inl refl
+
+pub returns-in_err-status-clause-memory : goal.returns-in_err-status-clause-memory
+returns-in_err-status-clause-memory g c = λ is.
+    of_read_or (λ script. BeginsTranscript c.args.setting c.args.images script _ _) _ _ c.in_ok-script.script.items
+    c.as_slice.result.now c.as_slice.ensures.value c.in_ok-script.ensures.bytes (c.in_err-status.ensures.memory (search rules))
