@@ -62,6 +62,16 @@ def width_of(words: argparse.Namespace) -> int:
     return int(text)
 
 
+def script_among(files: list[str]) -> str:
+    """Takes the script out of the files that rosm_debug is given: one may be named so, or standard input is it."""
+    named = [file for file in files if file.endswith(".script")]
+    if len(named) > 1:
+        raise WordsError("one script at most")
+    if named:
+        files.remove(named[0])
+    return named[0] if named else "-"
+
+
 def debugger_of(words: argparse.Namespace) -> Debugger:
     """The program that answers the script."""
     files, script = list(words.files), words.script
@@ -69,6 +79,8 @@ def debugger_of(words: argparse.Namespace) -> Debugger:
         if not files:
             raise WordsError("the script is missing; `-` is standard input")
         script = files.pop(0)
+    elif script == "-":
+        script = script_among(files)
     options = []
     for size in SIZES:
         if getattr(words, size) is not None:

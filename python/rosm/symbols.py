@@ -121,9 +121,10 @@ def image_of(block: Block, name: str) -> dict[str, Any]:
             image: dict[str, Any] = record["image"]
             return image
         if record.get("refused"):
-            if record["text"].endswith(": Memory"):
+            reason = record["text"].partition("\n")[0]
+            if reason.endswith(": Memory"):
                 raise Refused("out of memory", TROUBLE)
-            raise Refused(record["text"], WRONG)
+            raise Refused(reason, WRONG)
     raise Refused(f"rosm_debug has made no image of {name}", TROUBLE)
 
 

@@ -52,7 +52,8 @@ def test_gdb_finds_the_caller(tmp_path: Path) -> None:
     registers = {"r4": 3, "sp": 0x1C02000, "lr": 0x3800003, "pc": LOADED + 36, "cpsr": 3, "r13_usr": 0x8FFC, "r14_usr": 0x8008}
     (tmp_path / "state").write_text(json.dumps({"registers": registers, "memory": memory, "lines": {"FRAMES": FRAMES}}))
     target = shlex.join([sys.executable, str(STUB), str(tmp_path / "state")])
-    asked = [f"target remote | {target}", f"source {SCRIPT}", f"add-symbol-file {tmp_path / 'counter.elf'} -o {LOADED}",
+    asked = ["set remotetimeout 60", f"target remote | {target}", f"source {SCRIPT}",
+             f"add-symbol-file {tmp_path / 'counter.elf'} -o {LOADED}",
              "bt", "up", "up", "print $r4", "print/x $sp", "print $r0", "info symbol 0x3800000"]
     words = [word for line in [*SETTINGS, *asked] for word in ("-ex", line)]
     done = subprocess.run(["gdb-multiarch", "-nx", "-batch", *words, str(tmp_path / "driver.elf")], capture_output=True, check=True)

@@ -26,6 +26,8 @@ NAMED_LINE = re.compile(r"\bline (\d+): \w+$", re.MULTILINE)
 MOST_SOURCE = 80
 QUIT = re.compile(r"\s*((TRACE|REPEAT\s+\S+)\s+)*QUIT\b", re.IGNORECASE)
 FAILED_LINE = re.compile(r"^fail line \d+: ", re.MULTILINE)
+# an error of a block's line, by the number of the line in the script
+LISTED_ERROR = re.compile(r"^line (\d+)(?=: .*: .* \(\w+\)$)", re.MULTILINE)
 UNKNOWN_LINE = re.compile(r"^\? line \d+(: |$)", re.MULTILINE)
 
 
@@ -204,6 +206,12 @@ def spelt(text: str) -> str:
     return UNKNOWN_LINE.sub(lambda found: "" if found[1] else "no such line; HELP lists them", text)
 
 
+def text_in_block(record: Record) -> str:
+    """The text of an answer, with errors of a block's lines by their numbers in the block."""
+    begin = record["answer"]
+    return LISTED_ERROR.sub(lambda found: f"line {int(found[1]) - begin}", record["text"])
+
+
 def with_texts(text: str, lines: list[str]) -> str:
     """What an assembler says, with the text of each line that it names by number and one word."""
     def told(found: re.Match[str]) -> str:
@@ -221,7 +229,7 @@ def answered_of(records: list[Record]) -> Answered:
     verdicts = [record["expect"] for record in answers if "expect" in record]
     failed: Record = next((verdict for verdict in verdicts if not verdict["pass"]), {})
     return Answered(
-        text=spelt("\n".join(record["text"] for record in answers if "text" in record)),
+        text=spelt("\n".join(text_in_block(record) for record in answers if "text" in record)),
         steps=sum(record.get("steps", 0) for record in answers),
         output="".join(record.get("out", "") for record in records),
         stop=last.get("stop", {}).get("reason", ""),

@@ -133,7 +133,7 @@ def end_reason(lines: list[str], number: int) -> str:
 
 def assembly_reason(name: str, text: str, lines: list[str]) -> str:
     """What the assembler says, with the text of the line that it names."""
-    text = with_texts(text.removeprefix(f"asm {name}: "), lines)
+    text = with_texts(text.partition("\n")[0].removeprefix(f"asm {name}: "), lines)
     if any(OBJASM_LINE.match(line) for line in lines):
         text += ' (it looks like a source for ObjAsm, which language = "objasm" takes)'
     return text

@@ -14,6 +14,7 @@ from rosm.pictures.records import Reader, command_of
 from rosm.pictures.state import Heaps, RecordError
 from rosm.pictures.transcript import Answers, unspelt
 from rosm.pictures.views import view_of
+from rosm.show import WordsError, script_among
 
 START = json.dumps({"start": 1, "heaps": []})
 END = json.dumps({"end": 1, "passed": 0, "failed": 0, "refused": 0, "status": 3})
@@ -171,3 +172,12 @@ def test_blocks_that_are_moved_go_before_any_comes():
         heaps.take({"step": 3, "heaps": [{"heap": 4, "gone": True}]})
     heaps.take({"answer": 1, "reset": {"heaps": []}})
     assert heaps.heaps == {}
+
+
+def test_a_script_by_its_name():
+    files = ["six", "sum.script", "seven"]
+    assert script_among(files) == "sum.script"
+    assert files == ["six", "seven"]
+    assert script_among(files) == "-"
+    with pytest.raises(WordsError, match="one script at most"):
+        script_among(["a.script", "b.script"])

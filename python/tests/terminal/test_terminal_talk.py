@@ -49,7 +49,9 @@ def test_lines_and_blocks(talk: Talk) -> None:
 
 def test_a_block_that_is_refused(talk: Talk) -> None:
     shown = typed(talk, "ASM c &8000", " MOV R0,#1", " MOV R0,#257", "END")
-    assert [(line.kind, line.text) for line in shown] == [("refused", "asm c: line 2: BadImmediate: MOV R0,#257")]
+    assert [(line.kind, line.text) for line in shown] == [
+        ("refused", "asm c: line 2: BadImmediate: MOV R0,#257"),
+        ("refused", "line 2: MOV R0,#257: the number doesn't fit (BadImmediate)")]
 
 
 def test_answers_are_those_of_the_script(talk: Talk, tmp_path: Path) -> None:
@@ -140,11 +142,15 @@ def test_a_long_run_is_ended(tmp_path: Path) -> None:
     typed(talk, "ASM l &8000", "loop B loop", "END", "BOOT l", "SET R0 5")
     main = threading.main_thread().ident
     assert main
-    threading.Timer(1, signal.pthread_kill, [main, signal.SIGINT]).start()
-    begun = time.monotonic()
-    with pytest.raises(KeyboardInterrupt):
-        talk.type("RUN")
-    assert time.monotonic() - begun < 10
+    before = signal.signal(signal.SIGINT, signal.default_int_handler)  # a test in the background may ignore it
+    try:
+        threading.Timer(1, signal.pthread_kill, [main, signal.SIGINT]).start()
+        begun = time.monotonic()
+        with pytest.raises(KeyboardInterrupt):
+            talk.type("RUN")
+        assert time.monotonic() - begun < 30
+    finally:
+        signal.signal(signal.SIGINT, before)
     assert texts(typed(talk, "EXPECT R0 5", "STEP 3", "EXPECT STEPS 3")) == ["pass", "at &8000", "pass"]
 
 
