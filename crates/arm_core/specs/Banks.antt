@@ -1,8 +1,8 @@
 -- A register file in which R0 to R14 of the present mode stand in the first 15 places, as the core keeps one: the registers that the
 -- mode has for itself have changed places with those of user mode.
 use Rattle.std.specs.Prelude.{◌≡◌, ℕ, List, length, refl, IsTrue}
-use Rattle.arm_banks.specs.Banks.{changed_place, bank_exchanged, is_bank}
-use Rattle.arm_banks.proofs.Exchanging.{twice_exchanged}
+use Rattle.arm_core.specs.register_file.Banks.{changed_place, bank_exchanged, is_bank}
+use Rattle.arm_core.specs.register_file.Exchanging.{twice_exchanged}
 use Rattle.arm_core.specs.declared.psr.Mode.{Mode}
 use Rattle.arm_core.specs.declared.psr.Mode.TheVariants.{User, FastInterrupt, Interrupt, Supervisor}
 

@@ -10,3 +10,4 @@ pub mod Operate
 pub mod Psr
 pub mod State
 pub mod breaks
+pub mod register_file

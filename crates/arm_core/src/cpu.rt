@@ -5,7 +5,7 @@ ghost use Rattle.arm_core.specs.Banks.{exchanged_file, exchanged_place, first_ow
 ghost use Rattle.arm_core.specs.State.{IsCore, slot_of, register_in, with_register_in, register_of, with_register, r15_of, with_psr, with_pc, with_flags, with_overflow, with_mode, cpu_start_state};
 
 use crate::psr::{Mode, Psr};
-use arm_banks::{changed_place, exchange};
+use crate::register_file::{changed_place, exchange};
 use arm_decode::{ADDRESS_LIMIT, APPLICATION_START, SVC_STACK_END};
 use std::marker::Model;
 
@@ -24,7 +24,7 @@ pub struct Cpu {
 
 impl Model for Cpu {
     ghost use Rattle.std.specs.Prelude.{◌≡◌, ◌<◌, ◌*◌, ◌/◌, ◌^◌, length};
-    ghost use Rattle.arm_banks.proofs.Exchanging.{quarter};
+    ghost use Rattle.arm_core.specs.register_file.Exchanging.{quarter};
     ghost use Rattle.arm_core.specs.Banks.{exchanged_file, file_comes_back};
     ghost use Rattle.arm_core.specs.State.{State};
 

@@ -13,6 +13,7 @@ pub mod laws;
 pub mod operand;
 pub mod operate;
 pub mod psr;
+pub mod register_file;
 pub mod registers;
 pub mod turn;
 

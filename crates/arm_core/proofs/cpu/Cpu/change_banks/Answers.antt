@@ -1,5 +1,5 @@
 use Rattle.std.proofs.Common.{◌*◌, ◌∙◌, ℕ, List, ap, length}
-use Rattle.arm_banks.proofs.Exchanging.{size}
+use Rattle.arm_core.specs.register_file.Exchanging.{size}
 use Rattle.arm_core.specs.Banks.{exchanged_file, first_own, own_ahead, file_comes_back}
 use Rattle.arm_core.specs.State.{State, with_mode}
 use Rattle.arm_core.proofs.cpu.Cpu.change_banks.Goals as goal

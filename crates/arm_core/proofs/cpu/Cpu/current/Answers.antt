@@ -1,5 +1,5 @@
 use Rattle.std.proofs.Common.{◌∙◌, ap, sym, slice_index}
-use Rattle.arm_banks.proofs.Exchanging.{reading}
+use Rattle.arm_core.specs.register_file.Exchanging.{reading}
 use Rattle.arm_core.specs.Banks.{first_own, own_ahead}
 use Rattle.arm_core.specs.State.{State, slot_of}
 use Rattle.arm_core.proofs.Exchanging.{slot_below, present_place}

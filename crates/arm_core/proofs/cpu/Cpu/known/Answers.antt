@@ -1,5 +1,5 @@
 use Rattle.std.proofs.Common.{subst, arith}
-use Rattle.arm_banks.proofs.Exchanging.{size, words_exchanged}
+use Rattle.arm_core.specs.register_file.Exchanging.{size, words_exchanged}
 use Rattle.arm_core.specs.Banks.{first_own, own_ahead}
 use Rattle.arm_core.specs.State.{IsCore}
 use Rattle.arm_core.proofs.cpu.Cpu.known.Goals as goal

@@ -1,5 +1,5 @@
 use Rattle.std.proofs.Common.{◌≡◌, ◌*◌, ℕ, List, ap, subst, slice_set}
-use Rattle.arm_banks.proofs.Exchanging.{setting}
+use Rattle.arm_core.specs.register_file.Exchanging.{setting}
 use Rattle.arm_core.specs.Banks.{exchanged_file, first_own, own_ahead, own_bank}
 use Rattle.arm_core.specs.State.{State, slot_of, with_register_in}
 use Rattle.arm_core.proofs.Exchanging.{slot_below}

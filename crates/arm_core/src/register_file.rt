@@ -5,11 +5,11 @@
 #![tactic(auto)]
 
 ghost use Rattle.std.specs.Prelude.{◌≡◌, ◌<◌, ◌+◌, IsTrue};
-ghost use Rattle.arm_banks.specs.Banks.{changed_place, bank_exchanged, is_bank};
+ghost use Rattle.arm_core.specs.register_file.Banks.{changed_place, bank_exchanged, is_bank};
 
 /// The place that a place of the file changes with, where the registers from R`first` up to R14
 /// change with those `ahead` places on.
-#[tactic(auto, using(crate::proofs::Places::place_below, crate::proofs::Places::bounds))]
+#[tactic(auto, using(crate::specs::register_file::Places::place_below, crate::specs::register_file::Places::bounds))]
 #[inline(always)]
 pub fn changed_place(first: usize, ahead: usize, place: usize) -> usize
     requires bank { IsTrue (is_bank first ahead) }

@@ -1,9 +1,9 @@
 use Rattle.std.proofs.Common.{◌≡◌, ◌<◌, ◌≤◌, ◌+◌, ◌∙◌, ℕ, ap, sym, length, slice_index, slice_set, arith, subst}
 use Rattle.std.proofs.lemmas.List.{length-set}
-use Rattle.arm_banks.specs.Banks.{changed_place}
-use Rattle.arm_banks.proofs.Exchanging.{one_more_changed, exchanged_by}
-use Rattle.arm_banks.proofs.Places.{IsApart, bounds, none_changed, inside}
-use Rattle.arm_banks.proofs.exchange.Goals as goal
+use Rattle.arm_core.specs.register_file.Banks.{changed_place}
+use Rattle.arm_core.specs.register_file.Exchanging.{one_more_changed, exchanged_by}
+use Rattle.arm_core.specs.register_file.Places.{IsApart, bounds, none_changed, inside}
+use Rattle.arm_core.proofs.register_file.exchange.Goals as goal
 
 pub overflow_add-file : goal.overflow_add-file
 overflow_add-file c = grind (arith, inside c.args.first c.args.ahead c.loop-number.number c.requires c.loop-number-test.true)

@@ -1,6 +1,6 @@
 use Rattle.std.proofs.Common.{◌≡◌, ◌<◌, ℕ, List, length, slice_index}
-use Rattle.arm_banks.specs.Banks.{changed_place}
-use Rattle.arm_banks.proofs.exchange.Given as goal
+use Rattle.arm_core.specs.register_file.Banks.{changed_place}
+use Rattle.arm_core.proofs.register_file.exchange.Given as goal
 
 pub record IsChanged (file old : List ℕ) (first ahead end : ℕ) : Type 0 where
   pub size : length file ≡ 26

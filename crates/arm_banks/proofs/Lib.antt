@@ -1,2 +1,0 @@
-pub mod Exchanging
-pub mod Places

@@ -1,2 +1,0 @@
--- A register file of which some registers have changed places with others.
-pub mod Banks
