@@ -8,6 +8,7 @@ use Rattle.arm_core.specs.declared.breaks.breaks.BreakError.{BreakError}
 use Rattle.arm_core.specs.declared.breaks.breaks.BreakError.TheVariants as break
 use Rattle.arm_core.specs.breaks.Breaks.{with_break, without_break}
 use Rattle.swi_dispatch_guest.specs.MachineState.{MachineState}
+use Rattle.swi_dispatch_guest.specs.Parts.{AreCoreSteps}
 use Rattle.swi_dispatch_guest.specs.Run as machine
 use Rattle.command_shell.specs.Answers.{break_text, unbreak_text, refused_text, stop_text, stepped_text}
 use Rattle.command_shell.specs.State.{ScriptState, Answered, answer}
@@ -39,9 +40,10 @@ abbrev pub script_after_quiet : ScriptState → MachineState → ℕ → ScriptS
 script_after_quiet s now taken =
     record s { machine = now; is_fresh = s.is_fresh && (taken == 0); left = s.left - taken }
 
--- Steps that print nothing left this.
+-- Steps that print nothing left this, of which each is an instruction that the core does by itself.
 pub record IsAfterQuietSteps (s now : ScriptState) (taken : ℕ) (end : Stop) : Type 0 where
   pub run : script_run s taken ≡ machine.quiet_run now.machine taken end
+  pub steps : AreCoreSteps taken s.machine now.machine
   pub state : now ≡ script_after_quiet s now.machine taken
   pub awake : now.machine.halt ≡ None
 

@@ -48,7 +48,7 @@ impl Model for Machine {
 impl Machine {
     ghost use Rattle.swi_dispatch.specs.Boot.{machine_after_boot};
     ghost use Rattle.swi_dispatch.specs.Value.{HasRun, IsAfterStep, IsBesides, IsMachine};
-    ghost use Rattle.swi_dispatch_guest.specs.Parts.{AwaitsOtherTurn, state_of};
+    ghost use Rattle.swi_dispatch_guest.specs.Parts.{AreCoreSteps, AwaitsOtherTurn, state_of};
     ghost use Rattle.swi_dispatch_guest.specs.MachineState.{machine_start, quiet, stop_of};
 
     /// A machine of these sizes at its start: user mode at &8000, each register 0 but the stack
@@ -198,6 +198,7 @@ impl Machine {
         requires awake { (state_of self.old.guest).halt ≡ None }
         ensures ran { (images : List Entry) → ran images breaks.now result.taken (state_of self.old.guest)
             ≡ quiet_run (state_of self.new.guest) result.taken result.stop }
+        ensures steps { AreCoreSteps result.taken (state_of self.old.guest) (state_of self.new.guest) }
         ensures awake { (state_of self.new.guest).halt ≡ None }
         ensures count { result.taken ≤ most }
         ensures further { result.stop ≡ Stop.Budget → result.taken < most

@@ -22,7 +22,7 @@ done_by images s (Err e) s' h = (ap (λ (t : Turn). outcome_of_turn images s (Er
 pub done_awake : (s s' : MachineState) (t : Turn) → t ≡ turn.Done → s.halt ≡ None → TakesTurn s t s' → s'.halt ≡ None
 done_awake s s' t done awake h = (done_by [] s (result_of_instruction s) s' (subst (λ (x : Turn). TakesTurn s x s') done h)).1 ∙ awake
 
-done_step : (images : List Entry) (s s' : MachineState) → s.halt ≡ None → TakesTurn s turn.Done s' → machine_step images s ≡ quiet s'
+pub done_step : (images : List Entry) (s s' : MachineState) → s.halt ≡ None → TakesTurn s turn.Done s' → machine_step images s ≡ quiet s'
 unfolding machine_step
 done_step images s s' awake h =
     ap (λ (o : Option Halt). unless_halted s o (outcome_of_turn images s (result_of_instruction s))) awake ∙ (done_by images s (result_of_instruction s) s' h).0

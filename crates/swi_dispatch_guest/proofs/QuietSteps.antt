@@ -18,7 +18,7 @@ use Rattle.swi_dispatch_plans.specs.Entries.{Entry}
 use Rattle.swi_dispatch_guest.specs.declared.halt.Halt.{Halt}
 use Rattle.swi_dispatch_guest.specs.MachineState.{MachineState, Tables}
 use Rattle.swi_dispatch_guest.specs.Step.{Turned, moved_on}
-use Rattle.swi_dispatch_guest.specs.Parts.{TakesTurn}
+use Rattle.swi_dispatch_guest.specs.Parts.{AreCoreSteps, TakesTurn}
 use Rattle.swi_dispatch_guest.specs.Run.{is_among, ran, quiet_run, quiet_stop}
 use Rattle.swi_dispatch_guest.proofs.Kept.{IsStored, keeps_stored, kept_memory, same_pool, with_core, over}
 use Rattle.swi_dispatch_guest.proofs.Quiet.{quiet_start, quiet_more, ends_by}
@@ -101,3 +101,20 @@ ran_by images breaks s (suc n) old new (Err (stop.Break at)) awake h ends =
     quiet_to_break images breaks s n old new awake h ends.2 ∙ ap (λ (x : ℕ). quiet_run (moved s new) (suc n) (stop.Break x)) (sym ends.1)
 ran_by images breaks s n old new (Err stop.Exit) awake h ends = absurd ends
 ran_by images breaks s n old new (Err (stop.Fault f)) awake h ends = absurd ends
+
+-- and each of them is a step of the machine that the core does by itself
+one_more : (n : ℕ) (s m s' : MachineState) → AreCoreSteps n s m → TakesTurn m turn.Done s' → AreCoreSteps (suc n) s s'
+unfolding AreCoreSteps
+one_more zero s m s' same h = (s', (subst (λ (x : MachineState). TakesTurn x turn.Done s') same h, refl))
+one_more (suc n) s m s' steps h = (steps.0, (steps.1.0, one_more n steps.0 m s' steps.1.1 h))
+
+none_yet : (s s' : MachineState) → s' ≡ s → AreCoreSteps 0 s s'
+unfolding AreCoreSteps
+none_yet s s' same = same
+
+pub core_steps : (breaks : List ℕ) (s : MachineState) (n : ℕ) (old new : State × Bytes) → AreDone (owned_in s.store) breaks n old new
+    → AreCoreSteps n (moved s old) (moved s new)
+unfolding AreDone
+core_steps breaks s zero old new h = none_yet (moved s old) (moved s new) (ap (moved s) h)
+core_steps breaks s (suc n) old new h =
+    one_more n (moved s old) (moved s h.0) (moved s new) (core_steps breaks s n old h.0 h.1.0) (taken s h.0 new h.1.1.step)

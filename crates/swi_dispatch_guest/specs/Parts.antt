@@ -1,5 +1,5 @@
 -- The parts of a guest, and the written machine that they stand for.
-use Rattle.std.specs.Prelude.{◌≡◌, ◌≢◌, ◌≤◌, ◌<◌, length, ℕ, IfSome, Option, Some, None, Result, Ok, Err}
+use Rattle.std.specs.Prelude.{◌≡◌, ◌≢◌, ◌≤◌, ◌<◌, length, ℕ, zero, suc, IfSome, Option, Some, None, Result, Ok, Err}
 use Rattle.profile.specs.Sizes.{Sizes}
 use Rattle.address_map.specs.declared.map.AddressMap.{AddressMap}
 use Rattle.address_map.specs.Memory.{free_pages}
@@ -102,3 +102,9 @@ pub record AwaitsOtherTurn (s : MachineState) : Type 0 where
   pub turn : Turn
   pub other : turn ≢ Done
   pub takes : TakesTurn s turn s
+
+-- So many steps one after another, each an instruction that the core does by itself: none of them is a
+-- software interrupt, a step at an address that module code returns to, or a fault.
+unfoldable pub AreCoreSteps : ℕ → MachineState → MachineState → Type 0
+AreCoreSteps zero s s' = s' ≡ s
+AreCoreSteps (suc n) s s' = (next : MachineState) × (TakesTurn s Done next × AreCoreSteps n next s')

@@ -3,7 +3,7 @@
 ghost use Rattle.std.specs.Prelude.{◌≡◌, ◌≢◌, ◌<◌, ◌≤◌, None, Err, List, [], IfOk, OnOk};
 ghost use Rattle.arm_core.specs.declared.turn.Turn.TheVariants.{Done};
 ghost use Rattle.swi_dispatch_plans.specs.Entries.{Entry};
-ghost use Rattle.swi_dispatch_guest.specs.Parts.{TakesTurn, state_of};
+ghost use Rattle.swi_dispatch_guest.specs.Parts.{AreCoreSteps, TakesTurn, state_of};
 ghost use Rattle.swi_dispatch_guest.specs.MachineState.{outcome_with};
 ghost use Rattle.swi_dispatch_guest.specs.Run.{ran, quiet_run, quiet_stop};
 ghost use Rattle.swi_dispatch_guest.specs.Step.{machine_step};
@@ -39,6 +39,7 @@ impl Guest {
         requires awake { (state_of self.old).halt ≡ None }
         ensures ran { (images : List Entry) → ran images breaks.now result.0 (state_of self.old)
             ≡ quiet_run (state_of self.new) result.0 (quiet_stop result.1) }
+        ensures steps { AreCoreSteps result.0 (state_of self.old) (state_of self.new) }
         ensures next { IfOk result.1 (λ turn. TakesTurn (state_of self.new) turn (state_of self.new)) }
         ensures other { IfOk result.1 (λ turn. turn ≢ Done) }
         ensures fewer { OnOk result.1 (result.0 < most) }

@@ -6,10 +6,10 @@ use Rattle.os_heap.specs.Store.{store_of, owned_in}
 use Rattle.arm_step.specs.Step.{result_of_step}
 use Rattle.arm_step.specs.Turns.{Turns}
 use Rattle.swi_dispatch_guest.specs.MachineState.{MachineState, Tables}
-use Rattle.swi_dispatch_guest.specs.Parts.{Parts, TakesTurn, state_of}
+use Rattle.swi_dispatch_guest.specs.Parts.{AreCoreSteps, Parts, TakesTurn, state_of}
 use Rattle.swi_dispatch_guest.specs.Run.{ran, quiet_run, quiet_stop}
 use Rattle.swi_dispatch_guest.proofs.Kept.{by_words, flex_after, over, well_kept}
-use Rattle.swi_dispatch_guest.proofs.QuietSteps.{next_by, ran_by, settled, steps_keep, turn_taken}
+use Rattle.swi_dispatch_guest.proofs.QuietSteps.{core_steps, moved, next_by, ran_by, settled, steps_keep, turn_taken}
 use Rattle.swi_dispatch_guest.proofs.guest.Guest.take_instructions.Goals as goal
 
 pub invariant_of-self : goal.invariant_of-self
@@ -54,3 +54,19 @@ returns-clause-next c =
     (turn_taken s t (c.run.new.cpu, bytes_of n) (c.run.new.cpu, bytes_of n)
     (subst (λ (owned : ℕ → Bool). Turns (c.run.new.cpu, bytes_of n) (result_of_step owned c.run.new.cpu (bytes_of n)) t (c.run.new.cpu, bytes_of n)) (owned_marks m well.classes) h)))
     c.run.ensures.next
+
+pub returns-clause-steps : goal.returns-clause-steps
+returns-clause-steps c =
+    let well = c.self.invariant in
+    let m = c.self.inside.memory in
+    let n = c.run.new.memory in
+    let cpu = c.self.inside.cpu in
+    let tables : Tables = record { land = c.self.inside.areas; modules = c.self.inside.instances; frames = c.self.inside.frames; plan = c.self.inside.plan; flex = c.self.inside.flex } in
+    let done = subst (λ (owned : ℕ → Bool). AreDone owned c.args.breaks.now c.run.result.0 (cpu, bytes_of m) (c.run.new.cpu, bytes_of n)) (owned_marks m well.classes) c.run.ensures.done in
+    let kept = settled m n cpu c.run.new.cpu tables c.self.inside.halt
+    c.run.ensures.layout c.run.ensures.marks well.areas.ground.sound (steps_keep _ _ _ _ _ (by_words (store_of m)) done) in
+    let start = settled m m cpu cpu tables c.self.inside.halt refl refl well.areas.ground.sound (record { mapped = refl; bytes = λ a o. refl }) in
+    let s = over m cpu tables c.self.inside.halt in
+    rw (← c.self.view_is) (subst (λ (x : MachineState). AreCoreSteps c.run.result.0 s x) (sym kept.1)
+    (subst (λ (x : MachineState). AreCoreSteps c.run.result.0 x (moved s (c.run.new.cpu, bytes_of n))) (sym start.1)
+    (core_steps c.args.breaks.now s c.run.result.0 (cpu, bytes_of m) (c.run.new.cpu, bytes_of n) done)))
