@@ -10,6 +10,7 @@ use Rattle.profile.specs.declared.stop.Stop.{Stop}
 use Rattle.profile.specs.declared.stop.Stop.TheVariants as stop
 use Rattle.swi_dispatch_guest.proofs.RunLoop.{ran-none}
 use Rattle.swi_dispatch_guest.specs.MachineState.{MachineState}
+use Rattle.swi_dispatch_guest.specs.Parts.{AreCoreSteps}
 use Rattle.swi_dispatch_guest.specs.Run.{is_among, quiet_run, ran}
 use Rattle.arm_core.specs.breaks.Breaks.{without_break, without_place}
 use Rattle.arm_core.specs.declared.breaks.breaks.BreakError.{BreakError}
@@ -107,6 +108,7 @@ up_to_its_break address n s now x ahead after = record {
   ahead = ahead;
   ends = x;
   run = after.run;
+  steps = after.steps;
   state = after.state;
   awake = after.awake;
 }
@@ -124,6 +126,7 @@ up_to_last_break address n s mid now breaks x is after back =
       ends = x;
       run = ap (λ (xs : List ℕ). ran s.images xs n s.machine) (sym is) ∙ after.run
           ∙ ap (λ (m : MachineState). quiet_run m n x) (sym same);
+      steps = subst (λ (m : MachineState). AreCoreSteps n s.machine m) (sym same) after.steps;
       state = back ∙ ap (λ (w : ScriptState). let v : ScriptState = record w { breaks = breaks } in v) after.state
           ∙ ap (λ (m : MachineState). let v : ScriptState = record s { breaks = breaks } in script_after_quiet v m n) (sym same);
       awake = ap (λ (m : MachineState). m.halt) same ∙ after.awake;
@@ -131,6 +134,7 @@ up_to_last_break address n s mid now breaks x is after back =
 
 -- none, where it can't be one
 pub none_up_to : (address : ℕ) (s now : ScriptState) → s.machine.halt ≡ None → now ≡ s → IsAfterQuietUpTo address s now 0
+unfolding AreCoreSteps
 none_up_to address s now awake back =
     let same : now.machine ≡ s.machine = ap (λ (w : ScriptState). w.machine) back in
     let fresh : s.is_fresh ≡ (s.is_fresh && (0 == 0)) = and_true s.is_fresh in
@@ -144,6 +148,7 @@ none_up_to address s now awake back =
       ends = stop.Budget;
       run = ran-none s.images (s.breaks ++ address ∷ []) s.machine awake
           ∙ ap (λ (m : MachineState). quiet_run m 0 stop.Budget) there;
+      steps = same;
       state = back ∙ start;
       awake = ap (λ (m : MachineState). m.halt) same ∙ awake;
     }

@@ -1,4 +1,5 @@
 pub mod BreakLemmas
+pub mod CoreStepLemmas
 pub mod LastLemmas
 pub mod LineLemmas
 pub mod PlaceLemmas

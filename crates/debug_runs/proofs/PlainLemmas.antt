@@ -41,7 +41,7 @@ use Rattle.debug_tables.proofs.StubLemmas.{no_stub, real_steps}
 abbrev pub no_modes : StepModes
 no_modes = record { stubs = []; watches = [] }
 
-empty : {A : Type 0} (xs : List A) → (length xs == 0) ≡ true → xs ≡ []
+pub empty : {A : Type 0} (xs : List A) → (length xs == 0) ≡ true → xs ≡ []
 empty [] is = refl
 empty (x ∷ xs) is = let none = eqb-true (length (x ∷ xs)) 0 is in absurd (omega (arith, none))
 

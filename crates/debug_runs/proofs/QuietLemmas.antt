@@ -15,6 +15,8 @@ use Rattle.swi_dispatch_guest.specs.declared.halt.Halt.{Halt}
 use Rattle.swi_dispatch_guest.specs.MachineState.{MachineState, StepOutcome}
 use Rattle.swi_dispatch_guest.specs.Run.{Run, count_after, go_on, is_among, quiet_run, ran, resting, run_after_steps}
 use Rattle.swi_dispatch_guest.specs.Step.{machine_step}
+use Rattle.swi_dispatch_guest.specs.Parts.{AreCoreSteps}
+use Rattle.debug_tables.specs.declared.stubs.Stub.{Stub}
 use Rattle.swi_dispatch_guest.proofs.RunLoop.{ran-none}
 use Rattle.command_shell.specs.Calls.{step_made}
 use Rattle.command_shell.specs.State.{ScriptState}
@@ -26,9 +28,9 @@ use Rattle.debug_runs.specs.declared.running.RunEnd.{RunEnd}
 use Rattle.debug_runs.specs.declared.running.RunEnd.TheVariants as end
 use Rattle.debug_runs.specs.declared.running.RunGoal.{RunGoal}
 use Rattle.debug_runs.specs.declared.running.RunGoal.TheVariants as goal
-use Rattle.debug_tables.specs.Modes.{are_plain}
 use Rattle.debug_tables.specs.declared.modes.StepModes.{StepModes}
-use Rattle.debug_runs.proofs.PlainLemmas.{and_true, no_modes, plain_modes, plain_step, ran_first, stale}
+use Rattle.debug_runs.proofs.CoreStepLemmas.{real_step, step_leads, with_stubs}
+use Rattle.debug_runs.proofs.PlainLemmas.{and_true, empty, ran_first, stale}
 use Rattle.debug_runs.specs.Told.{IsAfterStepping}
 use Rattle.debug_runs.specs.declared.telling.Telling.{Telling}
 use Rattle.debug_runs.proofs.RunLemmas.{IsRest, first_step_of, rest_ends}
@@ -112,36 +114,37 @@ rested images stops m now x awake is =
 
 -- STEP BY STEP
 
-abbrev rest_of : List ImageLabels → RunGoal → Option ℕ → ℕ → ScriptState → SteppingRun
-rest_of labels g told n s = steps_run no_modes labels g n told s
+abbrev rest_of : List Stub → List ImageLabels → RunGoal → Option ℕ → ℕ → ScriptState → SteppingRun
+rest_of stubs labels g told n s = steps_run (with_stubs stubs) labels g n told s
 
 -- where it leads, and what then is left
-abbrev left_of : List ImageLabels → RunGoal → Option ℕ → ScriptState → ℕ → SteppingRun
-left_of labels g told now m = run_unless now (end_after [] g now now) (rest_of labels g told m now)
+abbrev left_of : List Stub → List ImageLabels → RunGoal → Option ℕ → ScriptState → ℕ → SteppingRun
+left_of stubs labels g told now m = run_unless now (end_after [] g now now) (rest_of stubs labels g told m now)
 
-first_unseen : (labels : List ImageLabels) (g : RunGoal) (told : Option ℕ) (n : ℕ) (s : ScriptState)
-    → rest_of labels g told (suc n) s
+first_unseen : (stubs : List Stub) (labels : List ImageLabels) (g : RunGoal) (told : Option ℕ) (n : ℕ) (s : ScriptState)
+    → next_step (with_stubs stubs) s ≡ machine_step s.images s.machine
+    → rest_of stubs labels g told (suc n) s
     ≡ (let o = machine_step s.images s.machine in run_step [] g s o
-    (told_of_step told (whole_step_text [] labels s.machine o) o.printed) (rest_of labels g (one_told told) n))
-first_unseen labels g told n s =
-    first_step_of no_modes labels g n told s
+    (told_of_step told (whole_step_text stubs labels s.machine o) o.printed) (rest_of stubs labels g (one_told told) n))
+first_unseen stubs labels g told n s real =
+    first_step_of (with_stubs stubs) labels g n told s
     ∙ ap (λ (o : StepOutcome). run_step [] g s o
-    (told_of_step told (whole_step_text [] labels s.machine o) o.printed) (rest_of labels g (one_told told) n)) (plain_step s)
+    (told_of_step told (whole_step_text stubs labels s.machine o) o.printed) (rest_of stubs labels g (one_told told) n)) real
 
 -- a step that prints nothing tells nothing
 abbrev silent_behind : RunGoal → ScriptState → StepOutcome → (ScriptState → SteppingRun) → SteppingRun
 silent_behind g s o f = (let after = step_made s o in run_unless after (end_after [] g s after) (f after))
 
-step_silent : (labels : List ImageLabels) (g : RunGoal) (told : Option ℕ) (most : ℕ) (s : ScriptState) → is_step_told told ≡ false → 0 < most
-    → (machine_step s.images s.machine).printed ≡ []
-    → rest_of labels g told most s ≡ silent_behind g s (machine_step s.images s.machine) (rest_of labels g told (most - 1))
-step_silent labels g told most s untold some silent =
+step_silent : (stubs : List Stub) (labels : List ImageLabels) (g : RunGoal) (told : Option ℕ) (most : ℕ) (s : ScriptState) → is_step_told told ≡ false
+    → 0 < most → next_step (with_stubs stubs) s ≡ machine_step s.images s.machine → (machine_step s.images s.machine).printed ≡ []
+    → rest_of stubs labels g told most s ≡ silent_behind g s (machine_step s.images s.machine) (rest_of stubs labels g told (most - 1))
+step_silent stubs labels g told most s untold some real silent =
     let o = machine_step s.images s.machine in
     let split : most ≡ suc (most - 1) = omega (arith, some) in
-    let text = silent_step told (whole_step_text [] labels s.machine o) o.printed untold silent in
+    let text = silent_step told (whole_step_text stubs labels s.machine o) o.printed untold silent in
     let same = stays_untold told untold in
-    ap (λ (n : ℕ). rest_of labels g told n s) split ∙ first_unseen labels g told (most - 1) s
-    ∙ (λ i. run_behind (text i) (silent i) (silent_behind g s o (rest_of labels g (same i) (most - 1))))
+    ap (λ (n : ℕ). rest_of stubs labels g told n s) split ∙ first_unseen stubs labels g told (most - 1) s real
+    ∙ (λ i. run_behind (text i) (silent i) (silent_behind g s o (rest_of stubs labels g (same i) (most - 1))))
 
 -- the states
 made_one : (s : ScriptState) (o : StepOutcome) (now : MachineState) (k : ℕ) → o.now.halt ≡ None
@@ -192,44 +195,51 @@ StaysShort images stops g P = (m : MachineState) → P m → is_among stops (mac
 abbrev Covers : List ℕ → List ℕ → Type 0
 Covers breaks stops = (at : ℕ) → is_among stops at ≡ false → is_among breaks at ≡ false
 
-quiet_last_step : (labels : List ImageLabels) (g : RunGoal) (told : Option ℕ) (most : ℕ) (s : ScriptState) (now : MachineState) → is_step_told told ≡ false
-    → 0 < most → (machine_step s.images s.machine).now.halt ≡ None → (machine_step s.images s.machine).printed ≡ [] → (machine_step s.images s.machine).now ≡ now
-    → rest_of labels g told most s ≡ left_of labels g told (script_after_quiet s now 1) (most - 1)
-quiet_last_step labels g told most s now untold some awake silent is =
+quiet_last_step : (stubs : List Stub) (labels : List ImageLabels) (g : RunGoal) (told : Option ℕ) (most : ℕ) (s : ScriptState) (now : MachineState)
+    → is_step_told told ≡ false → 0 < most → next_step (with_stubs stubs) s ≡ machine_step s.images s.machine
+    → (machine_step s.images s.machine).now.halt ≡ None → (machine_step s.images s.machine).printed ≡ [] → (machine_step s.images s.machine).now ≡ now
+    → rest_of stubs labels g told most s ≡ left_of stubs labels g told (script_after_quiet s now 1) (most - 1)
+quiet_last_step stubs labels g told most s now untold some real awake silent is =
     let o = machine_step s.images s.machine in
     let after = step_made s o in
     let made : after ≡ script_after_quiet s now 1 = made_last s o awake ∙ ap (λ (m : MachineState). script_after_quiet s m 1) is in
-    step_silent labels g told most s untold some silent
-    ∙ ap (λ (e : Option RunEnd). run_unless after e (rest_of labels g told (most - 1) after)) (end_any g s after after)
-    ∙ ap (λ (w : ScriptState). left_of labels g told w (most - 1)) made
+    step_silent stubs labels g told most s untold some real silent
+    ∙ ap (λ (e : Option RunEnd). run_unless after e (rest_of stubs labels g told (most - 1) after)) (end_any g s after after)
+    ∙ ap (λ (w : ScriptState). left_of stubs labels g told w (most - 1)) made
 
-quiet_on : (labels : List ImageLabels) (g : RunGoal) (told : Option ℕ) (stops : List ℕ) (P : MachineState → Type 0) (k most : ℕ) (s : ScriptState) (now : MachineState) (x : Stop)
-    → is_step_told told ≡ false → suc k ≤ most → s.machine.halt ≡ None → now.halt ≡ None → Covers s.breaks stops → StaysShort s.images stops g P → P s.machine
-    → IsQuiet (ran s.images stops (suc k) s.machine) now (suc k) x
-    → rest_of labels g told most s ≡ left_of labels g told (script_after_quiet s now (suc k)) (most - suc k)
-quiet_on labels g told stops P zero most s now x untold few awake still covers short holds is =
+quiet_on : (stubs : List Stub) (labels : List ImageLabels) (g : RunGoal) (told : Option ℕ) (stops : List ℕ) (P : MachineState → Type 0) (k most : ℕ) (s : ScriptState)
+    (now : MachineState) (x : Stop) → is_step_told told ≡ false → suc k ≤ most → s.machine.halt ≡ None → now.halt ≡ None → Covers s.breaks stops
+    → StaysShort s.images stops g P → P s.machine → AreCoreSteps (suc k) s.machine now → IsQuiet (ran s.images stops (suc k) s.machine) now (suc k) x
+    → rest_of stubs labels g told most s ≡ left_of stubs labels g told (script_after_quiet s now (suc k)) (most - suc k)
+unfolding AreCoreSteps
+quiet_on stubs labels g told stops P zero most s now x untold few awake still covers short holds steps is =
     let o = machine_step s.images s.machine in
     let first = first_quiet s.images stops 0 s.machine now x awake still is in
+    let real = real_step stubs s steps.0 awake steps.1.0 in
     let some : 0 < most = omega (arith, few) in
     elim first.next [
-      | inl last ↦ quiet_last_step labels g told most s now untold some first.awake first.silent last.1
-      | inr more ↦ quiet_last_step labels g told most s now untold some first.awake first.silent (rested s.images stops o.now now x first.awake more.1)
+      | inl last ↦ quiet_last_step stubs labels g told most s now untold some real first.awake first.silent last.1
+      | inr more ↦ quiet_last_step stubs labels g told most s now untold some real first.awake first.silent
+          (rested s.images stops o.now now x first.awake more.1)
     ]
-quiet_on labels g told stops P (suc k) most s now x untold few awake still covers short holds is =
+quiet_on stubs labels g told stops P (suc k) most s now x untold few awake still covers short holds steps is =
     let o = machine_step s.images s.machine in
     let after = step_made s o in
     let first = first_quiet s.images stops (suc k) s.machine now x awake still is in
+    let real = real_step stubs s steps.0 awake steps.1.0 in
+    let further : AreCoreSteps (suc k) o.now now =
+    subst (λ (m : MachineState). AreCoreSteps (suc k) m now) (step_leads s steps.0 awake steps.1.0) steps.1.1 in
     let some : 0 < most = omega (arith, few) in
     let fewer : suc k ≤ most - 1 = omega (arith, few) in
     let rest : most - 1 - suc k ≡ most - suc (suc k) = omega arith in
     elim first.next [
       | inl last ↦ absurd (let none : suc k ≡ 0 = last.0 in omega (arith, none))
       | inr more ↦ (let kept = short s.machine holds more.0 in
-          step_silent labels g told most s untold some first.silent
-          ∙ ap (λ (e : Option RunEnd). run_unless after e (rest_of labels g told (most - 1) after))
+          step_silent stubs labels g told most s untold some real first.silent
+          ∙ ap (λ (e : Option RunEnd). run_unless after e (rest_of stubs labels g told (most - 1) after))
           (no_end s after g first.awake kept.1 (covers o.now.cpu.pc more.0))
-          ∙ quiet_on labels g told stops P k (most - 1) after now x untold fewer first.awake still covers short kept.0 more.1
-          ∙ (λ i. left_of labels g told (made_one s o now (suc k) first.awake i) (rest i)))
+          ∙ quiet_on stubs labels g told stops P k (most - 1) after now x untold fewer first.awake still covers short kept.0 further more.1
+          ∙ (λ i. left_of stubs labels g told (made_one s o now (suc k) first.awake i) (rest i)))
     ]
 
 -- A RUN AT WHOSE STEPS NOTHING LOOKS
@@ -242,32 +252,37 @@ abbrev pub GoesOnAfter : List ImageLabels → RunGoal → Option ℕ → ℕ →
 GoesOnAfter labels g told most n s now modes = steps_run modes labels g most told s
     ≡ run_unless now (end_of_unseen g now n) (steps_run modes labels g (most - n) told now)
 
-plain_run : (labels : List ImageLabels) (g : RunGoal) (told : Option ℕ) (stops : List ℕ) (P : MachineState → Type 0) (most n : ℕ) (s now : ScriptState) (x : Stop)
-    → is_step_told told ≡ false → n ≤ most → s.machine.halt ≡ None → now.machine.halt ≡ None → Covers s.breaks stops → StaysShort s.images stops g P → P s.machine
-    → IsQuiet (ran s.images stops n s.machine) now.machine n x → now ≡ script_after_quiet s now.machine n
-    → GoesOnAfter labels g told most n s now no_modes
-plain_run labels g told stops P most zero s now x untold few awake still covers short holds is state =
+stubbed_run : (stubs : List Stub) (labels : List ImageLabels) (g : RunGoal) (told : Option ℕ) (stops : List ℕ) (P : MachineState → Type 0) (most n : ℕ) (s now : ScriptState)
+    (x : Stop) → is_step_told told ≡ false → n ≤ most → s.machine.halt ≡ None → now.machine.halt ≡ None → Covers s.breaks stops → StaysShort s.images stops g P
+    → P s.machine → AreCoreSteps n s.machine now.machine → IsQuiet (ran s.images stops n s.machine) now.machine n x → now ≡ script_after_quiet s now.machine n
+    → GoesOnAfter labels g told most n s now (with_stubs stubs)
+stubbed_run stubs labels g told stops P most zero s now x untold few awake still covers short holds steps is state =
     let same : s.machine ≡ now.machine = rested s.images stops s.machine now.machine x awake is in
     let fresh : s.is_fresh ≡ (s.is_fresh && (0 == 0)) = and_true s.is_fresh in
     let left : s.left ≡ s.left - 0 = omega arith in
     let all : most ≡ most - 0 = omega arith in
     let start : s ≡ script_after_quiet s now.machine 0 = λ i. record s { machine = same i; is_fresh = fresh i; left = left i } in
     let whole : s ≡ now = start ∙ sym state in
-    λ i. rest_of labels g told (all i) (whole i)
-plain_run labels g told stops P most (suc k) s now x untold few awake still covers short holds is state =
-    quiet_on labels g told stops P k most s now.machine x untold few awake still covers short holds is
-    ∙ ap (λ (w : ScriptState). left_of labels g told w (most - suc k)) (sym state)
+    λ i. rest_of stubs labels g told (all i) (whole i)
+stubbed_run stubs labels g told stops P most (suc k) s now x untold few awake still covers short holds steps is state =
+    quiet_on stubs labels g told stops P k most s now.machine x untold few awake still covers short holds steps is
+    ∙ ap (λ (w : ScriptState). left_of stubs labels g told w (most - suc k)) (sym state)
+
+unwatched : (modes : StepModes) → (length modes.watches == 0) ≡ true → modes ≡ with_stubs modes.stubs
+unwatched modes is =
+    let none : modes.watches ≡ [] = empty modes.watches is in
+    λ i. record { stubs = modes.stubs; watches = none i }
 
 unseen_run : (modes : StepModes) (labels : List ImageLabels) (g : RunGoal) (told : Option ℕ) (stops : List ℕ) (P : MachineState → Type 0) (most n : ℕ) (s now : ScriptState) (x : Stop)
     → are_unseen modes told ≡ true → n ≤ most → s.machine.halt ≡ None → now.machine.halt ≡ None → Covers s.breaks stops → StaysShort s.images stops g P → P s.machine
-    → ran s.images stops n s.machine ≡ quiet_run now.machine n x → now ≡ script_after_quiet s now.machine n
+    → AreCoreSteps n s.machine now.machine → ran s.images stops n s.machine ≡ quiet_run now.machine n x → now ≡ script_after_quiet s now.machine n
     → GoesOnAfter labels g told most n s now modes
-unseen_run modes labels g told stops P most n s now x unseen few awake still covers short holds run state =
-    let parts = and_parts (not (is_step_told told)) (are_plain modes) unseen in
+unseen_run modes labels g told stops P most n s now x unseen few awake still covers short holds steps run state =
+    let parts = and_parts (not (is_step_told told)) (length modes.watches == 0) unseen in
     let quiet : IsQuiet (ran s.images stops n s.machine) now.machine n x =
     subst (λ (q : Run). IsQuiet q now.machine n x) (sym run) (is_quiet now.machine n x) in
-    subst (λ (m : StepModes). GoesOnAfter labels g told most n s now m) (sym (plain_modes modes parts.1))
-    (plain_run labels g told stops P most n s now x (untold_by (is_step_told told) parts.0) few awake still covers short holds quiet state)
+    subst (λ (m : StepModes). GoesOnAfter labels g told most n s now m) (sym (unwatched modes parts.1))
+    (stubbed_run modes.stubs labels g told stops P most n s now x (untold_by (is_step_told told) parts.0) few awake still covers short holds steps quiet state)
 
 -- without a goal
 pub nowhere_run : (modes : StepModes) (labels : List ImageLabels) (told : Option ℕ) (most n : ℕ) (s now : ScriptState) (x : Stop)
@@ -275,7 +290,7 @@ pub nowhere_run : (modes : StepModes) (labels : List ImageLabels) (told : Option
     → GoesOnAfter labels goal.Nowhere told most n s now modes
 nowhere_run modes labels told most n s now x unseen few awake after =
     unseen_run modes labels goal.Nowhere told s.breaks (λ (m : MachineState). Unit {0}) most n s now x unseen few awake after.awake
-    (λ at clear. clear) (λ m holds clear. (tt, refl)) tt after.run after.state
+    (λ at clear. clear) (λ m holds clear. (tt, refl)) tt after.steps after.run after.state
 
 -- until a routine has come back, where the run stops at the address to which it goes back
 elsewhere : (stops : List ℕ) (address at : ℕ) → is_among stops address ≡ true → is_among stops at ≡ false → (at ≡ address → ⊥)
@@ -297,7 +312,7 @@ routine_run modes labels count told most n s now unseen few awake after =
       not_back count (machine_step s.images m).now
           (elsewhere after.stops routine_end (machine_step s.images m).now.cpu.pc after.ahead clear),
     ))
-    tt after.run after.state
+    tt after.steps after.run after.state
 
 -- until so many frames are open, where the run stops at the return gate
 record IsOpenBefore (count : ℕ) (m : MachineState) : Type 0 where
@@ -329,7 +344,7 @@ pub frames_run : (modes : StepModes) (labels : List ImageLabels) (count : ℕ) (
 frames_run modes labels count told most n s now unseen few awake stays after =
     unseen_run modes labels (goal.Frames count) told after.stops (IsOpenBefore count) most n s now after.ends unseen few awake after.awake
     after.breaks (λ m holds clear. stays_open s.images after.stops count m after.ahead holds clear)
-    (open_by (s.machine.cpu.pc == return_gate) count s.machine refl stays) after.run after.state
+    (open_by (s.machine.cpu.pc == return_gate) count s.machine refl stays) after.steps after.run after.state
 
 -- why it ends with them
 pub no_end_of_none : (g : RunGoal) (now : ScriptState) (n : ℕ) → n ≡ 0 → end_of_unseen g now n ≡ None

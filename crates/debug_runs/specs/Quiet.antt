@@ -4,6 +4,7 @@ use Rattle.profile.specs.MemoryMap.{return_gate}
 use Rattle.profile.specs.declared.stop.Stop.{Stop}
 use Rattle.swi_dispatch_guest.specs.MachineState.{MachineState}
 use Rattle.swi_dispatch_guest.specs.Run.{is_among, quiet_run, ran}
+use Rattle.swi_dispatch_guest.specs.Parts.{AreCoreSteps}
 use Rattle.command_shell.specs.State.{ScriptState}
 use Rattle.command_shell.specs.Stepping.{script_after_quiet}
 
@@ -12,7 +13,7 @@ use Rattle.command_shell.specs.Stepping.{script_after_quiet}
 abbrev pub stay_open : ℕ → MachineState → Bool
 stay_open count s = if s.cpu.pc == return_gate then false else nat_lt count (length s.tables.frames)
 
--- So many steps that print nothing left this, of which none but the last came to an address or to a break:
+-- So many steps of the core by itself left this, of which none but the last came to an address or to a break:
 -- they are a run that stops at these.
 pub record IsAfterQuietUpTo (address : ℕ) (s now : ScriptState) (taken : ℕ) : Type 0 where
   pub stops : List ℕ
@@ -20,5 +21,6 @@ pub record IsAfterQuietUpTo (address : ℕ) (s now : ScriptState) (taken : ℕ) 
   pub ahead : is_among stops address ≡ true
   pub ends : Stop
   pub run : ran s.images stops taken s.machine ≡ quiet_run now.machine taken ends
+  pub steps : AreCoreSteps taken s.machine now.machine
   pub state : now ≡ script_after_quiet s now.machine taken
   pub awake : now.machine.halt ≡ None

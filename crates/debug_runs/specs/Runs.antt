@@ -9,7 +9,6 @@ use Rattle.swi_dispatch_guest.specs.MachineState.{MachineState, StepOutcome, sto
 use Rattle.swi_dispatch_guest.specs.Run.{is_among}
 use Rattle.command_shell.specs.Calls.{step_made}
 use Rattle.command_shell.specs.State.{ScriptState}
-use Rattle.debug_tables.specs.Modes.{are_plain}
 use Rattle.debug_tables.specs.Stubs.{stubbed_step}
 use Rattle.debug_runs.specs.Telling.{is_step_told, one_told, told_of_step, whole_step_text}
 use Rattle.debug_tables.specs.WordWatches.{watch_hit}
@@ -90,9 +89,10 @@ call_run modes labels g most told s text o =
     run_step modes.watches g s o (told_of_step told text o.printed)
     (steps_run modes labels g (most - 1) (one_told told))
 
--- whether nothing looks at the steps of a run: none of them is told, and there is no stub and no watch
+-- whether nothing looks at the instructions of a run: no step of it is told, and there is no watch; a stub
+-- answers software interrupts alone
 abbrev pub are_unseen : StepModes → Option ℕ → Bool
-are_unseen modes told = not (is_step_told told) && are_plain modes
+are_unseen modes told = not (is_step_told told) && length modes.watches == 0
 
 -- Why a run ends with so many steps at which nothing looked, if it does: that is tested after the last of
 -- them alone, by the state that they left.

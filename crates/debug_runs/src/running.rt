@@ -109,11 +109,12 @@ fn take_unseen(
     (taken, end_of_unseen(session, goal, taken))
 }
 
-// Whether nothing looks at the steps of a run of which so many are told.
+// Whether nothing looks at the instructions of a run of which so many steps are told. A stub looks at
+// software interrupts alone, which the machine's own run doesn't take by itself.
 fn are_unseen(told: Option<u64>, modes: &StepModes) -> bool
     ensures { result ≡ are_unseen modes.now told }
 {
-    !is_step_told(told) && modes.is_plain()
+    !is_step_told(told) && modes.watches.is_empty()
 }
 
 // Why a run ends with so many steps at which nothing looked, if it does.
