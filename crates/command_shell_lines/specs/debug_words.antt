@@ -2,4 +2,7 @@
 pub use Rattle.assembler_text.specs.naming.SwiNames
 pub mod ErrorNumbers
 pub mod Forms
+pub mod NamedBytes
+pub mod Spelling
+pub mod Texts
 pub mod Values

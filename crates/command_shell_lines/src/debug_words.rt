@@ -1,12 +1,18 @@
 //! What words of a debugging line stand for beside numbers of a script: values below 0, store calls and
-//! errors by their names; and what each line needs.
+//! errors by their names, bytes and texts; and what each line needs.
 #![tactic(auto)]
 
 mod error_names;
 mod forms;
+mod named_bytes;
+mod spelling;
+mod texts;
 mod values;
 
 pub use assembler_text::naming::swi_named;
 pub use error_names::error_told;
 pub use forms::{form_of_line, form_of_word};
+pub use named_bytes::{bytes_named, bytes_written, names_bytes};
+pub use spelling::{is_spelt, is_well_spelt};
+pub use texts::{between_quotes, byte_value, cut_at_quote, text_behind};
 pub use values::{swi_told, value_told};

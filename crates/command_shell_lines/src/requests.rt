@@ -277,8 +277,8 @@ fn code_command(address: &[u8], count: &[u8]) -> ScriptCommand<'static>
     }
 }
 
-// The same letters in either case.
-fn has_letters(word: &[u8], letters: &[u8]) -> bool
+/// The same letters in either case.
+pub(crate) fn has_letters(word: &[u8], letters: &[u8]) -> bool
     ensures { result ≡ is_same_word word.now letters.now }
 {
     word.eq_ignore_ascii_case(letters)

@@ -17,7 +17,7 @@ RUN stands alone
 STEP stands alone, or with a number, as STEP 4
 BREAK wants an address, as BREAK &8004 or BREAK loop
 UNBREAK wants an address, as UNBREAK &8004 or UNBREAK loop
-CALL wants a SWI's number or the name of a store call, as CALL &1D or CALL OS_Heap
+CALL wants a SWI's number, or the name of a store call or of a loaded module's SWI, as CALL OS_Heap
 LOAD wants the name of an image, and takes a text behind it, as LOAD module
 REGS stands alone
 MEM wants an address and how many bytes, 1 to 4096, as MEM &8000 16
@@ -30,7 +30,9 @@ FLEX stands alone
 SET wants R0 to R14, SP, LR, PC or PSR and a value, as SET R0 5
 PC wants a multiple of 4 below 2^26, as SET PC &8000
 PSR wants letters of flags, each once, or a mode, or both, as SET PSR Zc SVC
-POKE wants a word's address and its value, as POKE &9000 5
+POKE wants a word's address and a value, or an address and BYTES v .. or a text, as POKE &9000 5
+FILL wants an address, how many bytes, 1 to 2^20, and a value, BYTES v .. or a text, as FILL &9000 64 0
+FIND wants an address, how many, 1 to 2^26, and a value, BYTES v .. or a text, as FIND &8000 64 \"Heap\"
 WORDS wants a word's address and how many words, 1 to 1024, as WORDS &9000 4
 STACK stands alone, or with how many words, 1 to 1024, as STACK 4
 BANKS stands alone
