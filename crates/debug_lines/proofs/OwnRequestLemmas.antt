@@ -1,15 +1,18 @@
 -- The debugging language's own lines open no block.
 use Rattle.std.proofs.Common.{◌≡◌, ℕ, Bool, true, false, List, [], ◌∷◌, Option, Some, None, refl}
-use Rattle.std.specs.Prelude.{codes, if◌then◌else◌}
+use Rattle.std.specs.Prelude.{codes, is_some, if◌then◌else◌}
 use Rattle.command_shell_lines.specs.Numbers.{script_number}
 use Rattle.command_shell_lines.specs.Operands.{word_address, origin_of, count_up_to}
 use Rattle.command_shell_lines.specs.Requests.{Poke, Set, is_same_word, opens_block, words}
 use Rattle.command_shell_lines.specs.Requests as script
 use Rattle.image_loader.specs.Entries.{can_name_image}
-use Rattle.debug_lines.specs.DebugRequests.{DebugRequest, Script, Stepping, Mode, Counts, Forget, Reset, Quit, View, NotKnown, expect_line, own_request_behind, Banks, Frames, Help, Labels, Stack, Where, Why, named_call, dump_at, gosub_to, help_of, script_of_two, is_frames_word, mode_line, of_image, put_at, own_request_of_four, own_request_of_three, own_request_of_two, own_request_of_word, own_request_of_words, set_pc_to, set_psr_to, set_request, stack_of, words_at, trace_last, trace_of_words, trace_limit, trace_step}
+use Rattle.debug_lines.specs.DebugRequests.{DebugRequest, Script, Stepping, Mode, Counts, Forget, Reset, Quit, View, NotKnown, expect_line, own_request_behind, Banks, Frames, Help, Labels, Stack, Where, Why, named_call, dump_at, gosub_to, help_of, script_of_two, is_frames_word, mode_line, of_image, put_at, Write, bytes_request, bytes_request_by, fill_of, find_of, poke_by, poke_of, write_at, own_request_of_four, own_request_of_three, own_request_of_two, own_request_of_word, own_request_of_words, set_pc_to, set_psr_to, set_request, stack_of, words_at, trace_last, trace_of_words, trace_limit, trace_step}
 use Rattle.debug_lines.specs.Expectations.{ExpectRequest, expect_request}
 use Rattle.command_shell_lines.specs.debug_words.SwiNames.{swi_named}
 use Rattle.command_shell_lines.specs.debug_words.Forms.{form_of_word}
+use Rattle.command_shell_lines.specs.debug_words.NamedBytes.{named_bytes}
+use Rattle.command_shell_lines.specs.debug_words.Texts.{text_behind}
+use Rattle.debug_lines.specs.ByteLines.{counted_bytes, word_and_rest}
 use Rattle.debug_lines.specs.Registers.{register_of_name}
 use Rattle.command_shell_lines.specs.debug_words.Values.{value_told}
 use Rattle.debug_lines.specs.ModeRequests.{ModeRequest, Trace, mode_of_two, stub_request}
@@ -138,8 +141,7 @@ own_three word first second =
     own_if (is_same_word word (codes "WORDS")) _ _ (own_words_at (word_address first) (count_up_to 1024 second))
     (own_if (is_same_word word (codes "SET")) _ _ (own_set first second)
     (own_if (is_same_word word (codes "PUT")) _ _ (own_put (can_name_image first) first (script_number second))
-    (own_if (is_same_word word (codes "POKE")) _ _ (own_poke (word_address first) (value_told second))
-    (own_if (is_same_word word (codes "DUMP")) _ NotKnown (own_dump (script_number first) (count_up_to 4096 second)) refl))))
+    (own_if (is_same_word word (codes "DUMP")) _ NotKnown (own_dump (script_number first) (count_up_to 4096 second)) refl)))
 
 own_four : (word first second third : List ℕ) → asks_block (own_request_of_four word first second third) ≡ false
 unfolding asks_block
@@ -156,15 +158,55 @@ own_of_words (word ∷ first ∷ second ∷ []) = own_three word first second
 own_of_words (word ∷ first ∷ second ∷ third ∷ []) = own_four word first second third
 own_of_words (word ∷ first ∷ second ∷ third ∷ fourth ∷ more) = refl
 
-pub own_behind : (expected stub : Option (List ℕ)) (line : List ℕ) → asks_block (own_request_behind expected stub line) ≡ false
-own_behind (Some expected) stub line = own_expect (expect_request expected)
-own_behind None (Some stub) line = own_mode (stub_request stub)
-own_behind None None line = own_of_words (words line)
-
--- and TRACE alone opens none
 unfoldable pub some_asks_block : Option DebugRequest → Bool
 some_asks_block (Some d) = asks_block d
 some_asks_block None = false
+
+own_write : (o : Option ℕ) (text : List ℕ) → asks_block (write_at o text) ≡ false
+unfolding asks_block
+own_write (Some address) text = own_if (is_some (named_bytes text)) (Write address None text) NotKnown refl refl
+own_write None text = refl
+
+own_poke_by : (o : Option ℕ) (address text : List ℕ) → asks_block (poke_by o address text) ≡ false
+own_poke_by (Some value) address text = own_poke (word_address address) (Some value)
+own_poke_by None address text = own_write (script_number address) text
+
+own_poke_of : (o : Option (List ℕ × List ℕ)) → asks_block (poke_of o) ≡ false
+unfolding asks_block
+own_poke_of (Some parts) = own_poke_by (value_told parts.1) parts.0 parts.1
+own_poke_of None = refl
+
+own_fill : (o : Option (ℕ × (ℕ × List ℕ))) → asks_block (fill_of o) ≡ false
+unfolding asks_block
+own_fill (Some fill) = refl
+own_fill None = refl
+
+own_find : (o : Option (ℕ × (ℕ × List ℕ))) → asks_block (find_of o) ≡ false
+unfolding asks_block
+own_find (Some find) = refl
+own_find None = refl
+
+own_bytes_by : (poke fill find : Option (List ℕ)) → some_asks_block (bytes_request_by poke fill find) ≡ false
+unfolding some_asks_block
+own_bytes_by (Some poke) fill find = own_poke_of (word_and_rest poke)
+own_bytes_by None (Some fill) find = own_fill (counted_bytes 1048576 fill)
+own_bytes_by None None (Some find) = own_find (counted_bytes 67108864 find)
+own_bytes_by None None None = refl
+
+own_behind_by : (expected stub : Option (List ℕ)) (bytes : Option DebugRequest) (line : List ℕ)
+    → some_asks_block bytes ≡ false → asks_block (own_request_behind expected stub bytes line) ≡ false
+unfolding some_asks_block
+own_behind_by (Some expected) stub bytes line own = own_expect (expect_request expected)
+own_behind_by None (Some stub) bytes line own = own_mode (stub_request stub)
+own_behind_by None None (Some request) line own = own
+own_behind_by None None None line own = own_of_words (words line)
+
+pub own_behind : (expected stub : Option (List ℕ)) (line : List ℕ)
+    → asks_block (own_request_behind expected stub (bytes_request line) line) ≡ false
+own_behind expected stub line = own_behind_by expected stub (bytes_request line) line
+    (own_bytes_by (text_behind (codes "POKE ") line) (text_behind (codes "FILL ") line) (text_behind (codes "FIND ") line))
+
+-- and TRACE alone opens none
 
 own_step : (o : Option ℕ) → some_asks_block (trace_step o) ≡ false
 unfolding some_asks_block asks_block

@@ -1,18 +1,21 @@
 -- What a line of a debugging script asks for. A line is first read as a line of a script; only what is
 -- none is made tidy and looked at further. Command words may be in upper or lower case.
-use Rattle.std.specs.Prelude.{ℕ, Bool, true, false, ◌==◌, ◌&&◌, ◌||◌, ◌+◌, nat_lt, not, List, [], ◌∷◌, codes, drop, take, Option, Some, None, if◌then◌else◌}
+use Rattle.std.specs.Prelude.{ℕ, Bool, true, false, ◌==◌, ◌&&◌, ◌||◌, ◌+◌, nat_lt, not, List, [], ◌∷◌, codes, drop, take, is_some, Option, Some, None, if◌then◌else◌}
 use Rattle.std.specs.List.{position}
 use Rattle.image_loader.specs.Entries.{can_name_image}
 use Rattle.command_shell_lines.specs.Numbers.{script_number}
 use Rattle.command_shell_lines.specs.Operands.{word_address, origin_of, count_up_to}
 use Rattle.command_shell_lines.specs.Requests.{Request, Call, Poke, Set, Unknown, opens_block, request_of, request_of_command, is_same_word, words}
 use Rattle.command_shell_lines.specs.Requests as script
+use Rattle.command_shell_lines.specs.debug_words.NamedBytes.{named_bytes}
+use Rattle.debug_lines.specs.ByteLines.{counted_bytes, word_and_rest}
 use Rattle.debug_lines.specs.declared.status.StatusPattern.{StatusPattern}
 use Rattle.debug_lines.specs.declared.requests.DebugCommand.{DebugCommand}
 use Rattle.debug_lines.specs.declared.requests.DebugCommand.TheVariants as command
 use Rattle.debug_lines.specs.declared.requests.DebugView.{DebugView}
 use Rattle.debug_lines.specs.declared.requests.DebugView.TheVariants as view
-use Rattle.debug_lines.specs.Expectations.{ExpectRequest, expect_request, expect_request_of, text_behind}
+use Rattle.command_shell_lines.specs.debug_words.Texts.{text_behind}
+use Rattle.debug_lines.specs.Expectations.{ExpectRequest, expect_request, expect_request_of}
 use Rattle.command_shell_lines.specs.debug_words.Forms.{form_of_word}
 use Rattle.debug_lines.specs.ModeRequests.{ModeRequest, Trace, TraceLimit, mode_of_two, mode_request_of, stub_request}
 use Rattle.debug_lines.specs.Status.{status_of_word, status_of_two}
@@ -33,6 +36,8 @@ pub data ViewRequest : Type 0 where
   Dump : ℕ → ℕ → ViewRequest
   Why : ViewRequest
   Help : ViewRequest
+  -- where bytes stand, as a text names them: the first address that is looked at, and how many
+  Find : ℕ → ℕ → List ℕ → ViewRequest
   -- the form of the lines that begin with a word
   Form : List ℕ → ViewRequest
 
@@ -48,6 +53,8 @@ pub data DebugRequest : Type 0 where
   SetPsr : StatusPattern → DebugRequest
   -- an image's bytes to an address
   Put : List ℕ → ℕ → DebugRequest
+  -- bytes to an address, as a text names them, and where they fill a range, of how many bytes
+  Write : ℕ → Option ℕ → List ℕ → DebugRequest
   Forget : List ℕ → DebugRequest
   -- how often the steps of an image's words were taken
   Counts : List ℕ → DebugRequest
@@ -166,9 +173,8 @@ own_request_of_three word first second =
     if is_same_word word (codes "WORDS") then words_at (word_address first) (count_up_to 1024 second) else (
     if is_same_word word (codes "SET") then set_request first second else (
     if is_same_word word (codes "PUT") then put_at (can_name_image first) first (script_number second) else (
-    if is_same_word word (codes "POKE") then script_of_two (word_address first) (value_told second) Poke else (
     if is_same_word word (codes "DUMP") then dump_at (script_number first) (count_up_to 4096 second) else
-    NotKnown))))
+    NotKnown)))
 
 abbrev pub set_psr_of_two : List ℕ → List ℕ → List ℕ → DebugRequest
 set_psr_of_two what letters mode =
@@ -190,18 +196,57 @@ abbrev pub expect_line : Option ExpectRequest → DebugRequest
 expect_line (Some expected) = Expect expected
 expect_line None = NotKnown
 
--- EXPECT and STUB read what follows for themselves.
-abbrev pub own_request_behind : Option (List ℕ) → Option (List ℕ) → List ℕ → DebugRequest
-own_request_behind (Some expected) stub line = expect_line (expect_request expected)
-own_request_behind None (Some stub) line = mode_line (stub_request stub)
-own_request_behind None None line = own_request_of_words (words line)
+-- LINES THAT NAME BYTES
+
+abbrev pub write_at : Option ℕ → List ℕ → DebugRequest
+write_at (Some address) text = if is_some (named_bytes text) then Write address None text else NotKnown
+write_at None text = NotKnown
+
+-- a word's value to the address of a word, or bytes to any address
+abbrev pub poke_by : Option ℕ → List ℕ → List ℕ → DebugRequest
+poke_by (Some value) address text = script_of_two (word_address address) (Some value) Poke
+poke_by None address text = write_at (script_number address) text
+
+abbrev pub poke_at : List ℕ → List ℕ → DebugRequest
+poke_at address text = poke_by (value_told text) address text
+
+abbrev pub poke_of : Option (List ℕ × List ℕ) → DebugRequest
+poke_of (Some parts) = poke_at parts.0 parts.1
+poke_of None = NotKnown
+
+abbrev pub fill_of : Option (ℕ × (ℕ × List ℕ)) → DebugRequest
+fill_of (Some fill) = Write fill.0 (Some fill.1.0) fill.1.1
+fill_of None = NotKnown
+
+abbrev pub find_of : Option (ℕ × (ℕ × List ℕ)) → DebugRequest
+find_of (Some find) = View (Find find.0 find.1.0 find.1.1)
+find_of None = NotKnown
+
+-- POKE, FILL and FIND: FILL writes 2^20 bytes at most, FIND looks at 2^26 addresses at most.
+abbrev pub bytes_request_by : Option (List ℕ) → Option (List ℕ) → Option (List ℕ) → Option DebugRequest
+bytes_request_by (Some poke) fill find = Some (poke_of (word_and_rest poke))
+bytes_request_by None (Some fill) find = Some (fill_of (counted_bytes 1048576 fill))
+bytes_request_by None None (Some find) = Some (find_of (counted_bytes 67108864 find))
+bytes_request_by None None None = None
+
+abbrev pub bytes_request : List ℕ → Option DebugRequest
+bytes_request line = bytes_request_by
+    (text_behind (codes "POKE ") line) (text_behind (codes "FILL ") line) (text_behind (codes "FIND ") line)
+
+-- EXPECT, STUB and the lines that name bytes read what follows for themselves.
+abbrev pub own_request_behind : Option (List ℕ) → Option (List ℕ) → Option DebugRequest → List ℕ → DebugRequest
+own_request_behind (Some expected) stub bytes line = expect_line (expect_request expected)
+own_request_behind None (Some stub) bytes line = mode_line (stub_request stub)
+own_request_behind None None (Some request) line = request
+own_request_behind None None None line = own_request_of_words (words line)
 
 -- what a tidy line asks for that is neither a REPEAT nor a TRACE
 unfoldable pub untraced_request : List ℕ → DebugRequest
 untraced_request line =
     if is_remark line then Remark else (
     if is_script_request (request_of line) then Script (request_of line) else
-    own_request_behind (text_behind (codes "EXPECT ") line) (text_behind (codes "STUB ") line) line)
+    own_request_behind (text_behind (codes "EXPECT ") line) (text_behind (codes "STUB ") line)
+    (bytes_request line) line)
 
 -- whether the lines that follow are a block of the line's own
 abbrev pub debug_opens_block : DebugRequest → Bool
@@ -331,6 +376,8 @@ debug_request_of_command (command.Form text) = View (Form text.now)
 debug_request_of_command (command.SetPc address) = SetPc address
 debug_request_of_command (command.SetPsr pattern) = SetPsr pattern
 debug_request_of_command (command.Put name address) = Put name.now address
+debug_request_of_command (command.Write address count text) = Write address count text.now
+debug_request_of_command (command.Find address count text) = View (Find address count text.now)
 debug_request_of_command (command.Forget name) = Forget name.now
 debug_request_of_command (command.Counts name) = Counts name.now
 debug_request_of_command command.Reset = Reset

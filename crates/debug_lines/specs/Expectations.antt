@@ -1,5 +1,5 @@
 -- What a line EXPECT says should be so, by what stands behind the word EXPECT.
-use Rattle.std.specs.Prelude.{ℕ, Bool, true, false, ◌-◌, ◌==◌, ◌&&◌, nat_le, nat_lt, List, [], ◌∷◌, length, take, drop, slice_index, codes, Option, Some, None, option_map, option_and_then, is_some, if◌then◌else◌}
+use Rattle.std.specs.Prelude.{ℕ, Bool, true, false, List, [], ◌∷◌, codes, Option, Some, None, option_map, option_and_then, is_some, if◌then◌else◌}
 use Rattle.std.specs.Str.{bytes_eq}
 use Rattle.arm_core.specs.declared.psr.Mode.{Mode}
 use Rattle.command_shell_lines.specs.Numbers.{script_number}
@@ -10,7 +10,8 @@ use Rattle.debug_lines.specs.declared.expectations.Expectation.{Expectation}
 use Rattle.debug_lines.specs.declared.expectations.Expectation.TheVariants as expectation
 use Rattle.command_shell_lines.specs.debug_words.ErrorNumbers.{error_told}
 use Rattle.debug_lines.specs.Registers.{register_of_name, banked_register_named}
-use Rattle.debug_lines.specs.Spelling.{spelt_bytes}
+use Rattle.command_shell_lines.specs.debug_words.Spelling.{spelt_bytes}
+use Rattle.command_shell_lines.specs.debug_words.Texts.{between_quotes, byte_value, text_behind}
 use Rattle.debug_lines.specs.Status.{status_of_word, status_of_two}
 use Rattle.command_shell_lines.specs.debug_words.Values.{value_told}
 
@@ -31,29 +32,9 @@ pub data ExpectRequest : Type 0 where
   Steps : ℕ → ExpectRequest
   StepsAtMost : ℕ → ExpectRequest
 
--- what follows an opening, if a byte does; the opening's letters may be in either case
-abbrev pub text_behind : List ℕ → List ℕ → Option (List ℕ)
-text_behind opening line =
-    if nat_lt (length opening) (length line) && is_same_word (take (length opening) line) opening
-    then Some (drop (length opening) line) else None
-
--- a text in double quotes (34): what stands between the first byte and the last
-abbrev pub between_quotes : List ℕ → Option (List ℕ)
-between_quotes text =
-    if nat_le 2 (length text) && (slice_index text 0 == 34 && slice_index text (length text - 1) == 34)
-    then Some (take (length text - 2) (drop 1 text)) else None
-
 -- a text that is well spelt
 abbrev pub well_spelt : List ℕ → Option (List ℕ)
 well_spelt raw = if is_some (spelt_bytes raw) then Some raw else None
-
-abbrev pub of_a_byte : Option ℕ → Option ℕ
-of_a_byte (Some n) = if nat_lt n 256 then Some n else None
-of_a_byte None = None
-
--- the value of a byte
-abbrev pub byte_value : List ℕ → Option ℕ
-byte_value word = of_a_byte (script_number word)
 
 abbrev pub expect_both : Option ℕ → Option ℕ → (ℕ → ℕ → ExpectRequest) → Option ExpectRequest
 expect_both (Some n) (Some m) request = Some (request n m)

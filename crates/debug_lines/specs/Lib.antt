@@ -1,5 +1,6 @@
 -- What each line of a debugging script asks for. Begin with DebugRequests.
 pub mod BlockEnds
+pub mod ByteLines
 pub mod DebugRequests
 pub mod Expectations
 pub mod FewWords
@@ -7,7 +8,6 @@ pub mod ModeRequests
 pub mod Openers
 pub mod Registers
 pub mod Repeats
-pub mod Spelling
 pub mod Status
 pub mod SteppingRequests
 pub mod Tidy

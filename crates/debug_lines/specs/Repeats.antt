@@ -3,7 +3,7 @@
 use Rattle.std.specs.Prelude.{ℕ, ◌==◌, ◌+◌, nat_lt, List, codes, drop, take, Option, Some, None, if◌then◌else◌}
 use Rattle.std.specs.List.{position}
 use Rattle.command_shell_lines.specs.Numbers.{script_number}
-use Rattle.debug_lines.specs.Expectations.{text_behind}
+use Rattle.command_shell_lines.specs.debug_words.Texts.{text_behind}
 use Rattle.debug_lines.specs.declared.repeats.RepeatedLine.{RepeatedLine}
 
 abbrev pub count_and_line : RepeatedLine → ℕ × List ℕ

@@ -4,15 +4,17 @@ ghost use Rattle.std.specs.Prelude.{◌≡◌, option_map};
 ghost use Rattle.command_shell_lines.specs.Numbers.{script_number};
 ghost use Rattle.command_shell_lines.specs.Operands.{word_address};
 ghost use Rattle.command_shell_lines.specs.Requests.{words};
-ghost use Rattle.debug_lines.specs.Expectations.{Word as IsWord, Byte as IsByte, expect_both, expect_steps, text_behind, between_quotes, byte_value, expect_value, expect_of_two, expect_of_three, expect_of_words, expect_output, expect_request, expect_request_of};
+ghost use Rattle.command_shell_lines.specs.debug_words.Texts.{byte_value};
+ghost use Rattle.debug_lines.specs.Expectations.{Word as IsWord, Byte as IsByte, expect_both, expect_steps, expect_value, expect_of_two, expect_of_three, expect_of_words, expect_output, expect_request, expect_request_of};
 ghost use Rattle.command_shell_lines.specs.debug_words.Values.{value_told};
 
 use crate::few_words::{FewWords, few_words, has_letters};
 use crate::registers::{banked_register_named, register_of_name};
-use crate::spelling::is_well_spelt;
 use crate::status::StatusPattern;
 use arm_core::Mode;
-use command_shell_lines::debug_words::{error_told, value_told};
+use command_shell_lines::debug_words::{
+    between_quotes, byte_value, error_told, is_well_spelt, text_behind, value_told,
+};
 use command_shell_lines::{RegisterNumber, WordAddress, number_of};
 
 /// What a line EXPECT says should be so.
@@ -44,17 +46,6 @@ pub enum Expectation<'a> {
     StepsAtMost(u32),
 }
 
-/// What follows an opening, if a byte does; the opening's letters may be in either case.
-pub(crate) fn text_behind<'a>(opening: &[u8], line: &'a [u8]) -> Option<&'a [u8]>
-    ensures { option_map (λ text. text.now) result ≡ text_behind opening.now line.now }
-{
-    if line.len() > opening.len() && has_letters(&line[..opening.len()], opening) {
-        Some(&line[opening.len()..])
-    } else {
-        None
-    }
-}
-
 /// What should be so, by what stands behind the word EXPECT.
 #[tactic(auto, unfolding(crate::specs::Expectations::expect_request))]
 pub(crate) fn expectation_of(text: &[u8]) -> Option<Expectation<'_>>
@@ -77,15 +68,6 @@ fn output_of(text: &[u8]) -> Option<Expectation<'_>>
 {
     match between_quotes(text) {
         Some(raw) if is_well_spelt(raw) => Some(Expectation::Output(raw)),
-        _ => None,
-    }
-}
-
-fn between_quotes(text: &[u8]) -> Option<&[u8]>
-    ensures { option_map (λ raw. raw.now) result ≡ between_quotes text.now }
-{
-    match text {
-        [b'"', raw @ .., b'"'] => Some(raw),
         _ => None,
     }
 }
@@ -173,12 +155,4 @@ fn byte_of(address: &[u8], value: &[u8]) -> Option<Expectation<'static>>
         (Some(address), Some(value)) => Some(Expectation::Byte(address, value)),
         _ => None,
     }
-}
-
-// The value of a byte.
-fn byte_value(word: &[u8]) -> Option<u32>
-    ensures { result ≡ byte_value word.now }
-{
-    let value = number_of(word)?;
-    if value < 256 { Some(value) } else { None }
 }

@@ -6,6 +6,7 @@
 #![tactic(auto)]
 
 mod block_ends;
+mod byte_lines;
 mod expectations;
 mod few_words;
 mod modes;
@@ -14,7 +15,6 @@ mod registers;
 mod repeats;
 mod requests;
 mod settings;
-mod spelling;
 mod status;
 mod stepping;
 mod tidy;
@@ -27,7 +27,6 @@ pub use modes::{MOST_STUB_SETTINGS, ModeCommand, StubSetting};
 pub use openers::opens_block;
 pub use repeats::{RepeatedLine, is_known_line, is_repeatable_line, repeated_line, repeated_text};
 pub use requests::{DebugCommand, DebugView, is_script_command, is_script_line};
-pub use spelling::is_spelt;
 pub use status::StatusPattern;
 pub use stepping::{SteppingCommand, stepping_in};
 pub use tidy::tidied;

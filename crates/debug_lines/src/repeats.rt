@@ -5,8 +5,8 @@ ghost use Rattle.std.specs.List.{position};
 ghost use Rattle.debug_lines.specs.DebugRequests.{is_known, is_repeatable, repeated_at, repeated_if, repeated_line, simple_request};
 ghost use Rattle.debug_lines.specs.Repeats.{count_and_line, counted_text, counted_text_at, repeated_text};
 
-use crate::expectations::text_behind;
 use crate::tracing::simple_command;
+use command_shell_lines::debug_words::text_behind;
 use command_shell_lines::number_of;
 
 /// A tidy line, and how often it is to be answered.
@@ -43,7 +43,8 @@ fn repeated_in(text: &[u8]) -> Option<RepeatedLine<'_>>
     }
 }
 
-fn space_in(text: &[u8]) -> Option<usize>
+// The place of the first space.
+pub(crate) fn space_in(text: &[u8]) -> Option<usize>
     ensures { result ≡ position (λ b. b == 32) text.now }
 {
     text.iter().position(|byte| *byte == b' ')

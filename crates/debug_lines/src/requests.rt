@@ -3,22 +3,22 @@
 ghost use Rattle.std.specs.Prelude.{◌≡◌, option_map};
 ghost use Rattle.command_shell_lines.specs.Numbers.{script_number};
 ghost use Rattle.command_shell_lines.specs.Operands.{word_address, count_up_to, origin_of};
-ghost use Rattle.command_shell_lines.specs.Requests.{Poke, request_of, request_of_command, words};
+ghost use Rattle.command_shell_lines.specs.Requests.{request_of, request_of_command, words};
 ghost use Rattle.image_loader.specs.Entries.{can_name_image};
-ghost use Rattle.debug_lines.specs.DebugRequests.{is_script_request, is_remark, untraced_request, expect_line, own_request_of_words, of_image, is_frames_word, own_request_of_word, own_request_of_two, own_request_of_three, own_request_of_four, named_call, dump_at, gosub_to, help_of, mode_line, put_at, script_of_two, stack_of, words_at, debug_request_of_command};
+ghost use Rattle.debug_lines.specs.DebugRequests.{is_script_request, is_remark, untraced_request, expect_line, own_request_of_words, of_image, is_frames_word, own_request_of_word, own_request_of_two, own_request_of_three, own_request_of_four, named_call, dump_at, gosub_to, help_of, mode_line, put_at, stack_of, words_at, debug_request_of_command};
 ghost use Rattle.debug_lines.specs.Expectations.{expect_request};
 ghost use Rattle.command_shell_lines.specs.debug_words.Forms.{form_of_word};
 ghost use Rattle.debug_lines.specs.ModeRequests.{mode_request_of};
-ghost use Rattle.command_shell_lines.specs.debug_words.Values.{value_told};
 ghost use Rattle.command_shell_lines.specs.debug_words.SwiNames.{swi_named};
 
-use crate::expectations::{Expectation, expectation_of, text_behind};
+use crate::byte_lines::bytes_command;
+use crate::expectations::{Expectation, expectation_of};
 use crate::few_words::{FewWords, few_words, has_letters};
 use crate::modes::{ModeCommand, mode_of_two, stub_command};
 use crate::settings::{set_command, set_psr_command};
 use crate::status::StatusPattern;
 use crate::stepping::SteppingCommand;
-use command_shell_lines::debug_words::{form_of_word, swi_named, value_told};
+use command_shell_lines::debug_words::{form_of_word, swi_named, text_behind};
 use command_shell_lines::{Origin, ScriptCommand, WordAddress, command_of, count_up_to, number_of};
 use image_loader::is_image_name;
 
@@ -76,6 +76,11 @@ pub enum DebugCommand<'a> {
     SetPsr(StatusPattern),
     /// `PUT name a`, with a name that an image can have.
     Put(&'a [u8], u32),
+    /// `POKE a "text"` or `POKE a BYTES v ..`; `FILL a n v`, of 1 to 1,048,576 bytes: an address, how
+    /// many bytes, where that is told, and a text that names bytes.
+    Write(u32, Option<u32>, &'a [u8]),
+    /// `FIND a n v`, of 1 to 2^26 addresses: the first of them, how many, and a text that names bytes.
+    Find(u32, u32, &'a [u8]),
     /// `FORGET name`, with a name that an image can have.
     Forget(&'a [u8]),
     /// `COUNTS name`, with a name that an image can have.
@@ -154,6 +159,8 @@ pub(crate) fn untraced_command(tidied: &[u8]) -> DebugCommand<'_>
         expect_command(text)
     } else if let Some(text) = text_behind(b"STUB ", tidied) {
         mode_command(stub_command(text))
+    } else if let Some(command) = bytes_command(tidied) {
+        command
     } else {
         command_of_words(tidied)
     }
@@ -313,8 +320,6 @@ fn command_of_three<'a>(word: &[u8], first: &'a [u8], second: &[u8]) -> DebugCom
         set_command(first, second)
     } else if has_letters(word, b"PUT") {
         put_command(first, second)
-    } else if has_letters(word, b"POKE") {
-        poke_command(first, second)
     } else if has_letters(word, b"DUMP") {
         dump_command(first, second)
     } else {
@@ -328,16 +333,6 @@ fn put_command<'a>(name: &'a [u8], address: &[u8]) -> DebugCommand<'a>
 {
     match number_of(address) {
         Some(address) if is_image_name(name) => DebugCommand::Put(name, address),
-        _ => DebugCommand::Unknown,
-    }
-}
-
-fn poke_command(address: &[u8], value: &[u8]) -> DebugCommand<'static>
-    ensures { debug_request_of_command result
-        ≡ script_of_two (word_address address.now) (value_told value.now) Poke }
-{
-    match (WordAddress::spelled(address), value_told(value)) {
-        (Some(address), Some(value)) => DebugCommand::Script(ScriptCommand::Poke(address, value)),
         _ => DebugCommand::Unknown,
     }
 }

@@ -4,11 +4,11 @@ ghost use Rattle.std.specs.Prelude.{◌≡◌, option_map};
 ghost use Rattle.command_shell_lines.specs.Requests.{words};
 ghost use Rattle.debug_lines.specs.DebugRequests.{debug_request_of_command, simple_request, trace_of_two, trace_of_word, trace_of_words, trace_request, traced_request};
 
-use crate::expectations::text_behind;
 use crate::few_words::{FewWords, few_words, has_letters};
 use crate::modes::ModeCommand;
 use crate::requests::{DebugCommand, untraced_command};
 use crate::stepping::{SteppingCommand, stepping_in};
+use command_shell_lines::debug_words::text_behind;
 use command_shell_lines::{count_up_to, number_of};
 
 /// The most of a run's last steps that a line tells.
