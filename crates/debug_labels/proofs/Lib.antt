@@ -1,3 +1,4 @@
 pub mod LineLemmas
+pub mod ModuleSwiLemmas
 pub mod WalkLemmas
 pub mod PlaceViewsLemmas

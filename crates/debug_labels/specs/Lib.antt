@@ -2,6 +2,7 @@
 pub mod Images
 pub mod Labels
 pub mod Lines
+pub mod ModuleSwis
 pub mod Places
 pub mod Reasons
 pub mod Standing

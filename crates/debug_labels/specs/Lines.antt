@@ -1,10 +1,14 @@
--- A tidy line with numbers in place of words that name places. Words are parted by single spaces.
+-- A tidy line with numbers in place of words that name places, or SWIs of loaded modules. Words are parted
+-- by single spaces.
 use Rattle.std.specs.Prelude.{ℕ, Bool, not, ◌+◌, ◌-◌, ◌||◌, nat_lt, List, [], ◌∷◌, ◌++◌, ◌&&◌, ◌==◌, codes, Option, Some, None, is_some, option_map, if◌then◌else◌}
 use Rattle.std.specs.List.{join_with_byte}
 use Rattle.profile.specs.Digits.{hex_number}
+use Rattle.address_map.specs.Bytes.{Bytes}
 use Rattle.assembler_text.specs.naming.Words.{is_same_name}
 use Rattle.command_shell_lines.specs.Numbers.{script_number}
 use Rattle.command_shell_lines.specs.Requests.{words}
+use Rattle.command_shell_lines.specs.debug_words.Texts.{text_behind}
+use Rattle.debug_labels.specs.ModuleSwis.{swi_of_modules}
 use Rattle.debug_labels.specs.Words.{Naming, place_of_word}
 
 -- lines of this word have places behind it
@@ -16,6 +20,7 @@ is_place_word word =
     || is_same_name word (codes "STEP") || is_same_name word (codes "WORDS")
     || is_same_name word (codes "GOSUB") || is_same_name word (codes "WATCH")
     || is_same_name word (codes "UNWATCH") || is_same_name word (codes "DUMP")
+    || is_same_name word (codes "FILL") || is_same_name word (codes "FIND")
 
 -- behind EXPECT, these have no places behind them
 abbrev pub is_text_check : List ℕ → Bool
@@ -65,15 +70,37 @@ abbrev pub numbered_behind : Naming → List ℕ → Option ℕ → List ℕ
 numbered_behind n line None = line
 numbered_behind n line (Some kept) = join_with_byte 32 (numbered_words n kept (words line))
 
+-- what lines are read by: what words are read by, and memory
+pub record LineNaming : Type 0 where
+  pub names : Naming
+  pub bytes : Bytes
+
+-- a call with the number of the SWI that a loaded module names so
+abbrev pub numbered_call : List ℕ → List ℕ → Option ℕ → List ℕ
+numbered_call front line (Some swi) = front ++ hex_number swi
+numbered_call front line None = line
+
+abbrev pub numbered_by : LineNaming → Option (List ℕ) → Option (List ℕ) → List ℕ → List ℕ
+numbered_by n (Some name) traced line =
+    numbered_call (codes "CALL &") line (swi_of_modules n.bytes n.names.modules name)
+numbered_by n None (Some name) line =
+    numbered_call (codes "TRACE CALL &") line (swi_of_modules n.bytes n.names.modules name)
+numbered_by n None None line = numbered_behind n.names line (kept_words (words line))
+
 -- what a line means: the line with the numbers
-abbrev pub line_with_numbers : Naming → List ℕ → List ℕ
-line_with_numbers n line = numbered_behind n line (kept_words (words line))
+abbrev pub line_with_numbers : LineNaming → List ℕ → List ℕ
+line_with_numbers n line =
+    numbered_by n (text_behind (codes "CALL ") line) (text_behind (codes "TRACE CALL ") line) line
+
+-- BYTES stands before numbers.
+abbrev pub is_number_or_bytes : List ℕ → Bool
+is_number_or_bytes word = is_some (script_number word) || is_same_name word (codes "BYTES")
 
 -- the first word behind so many that is no number
 abbrev pub unnumbered_behind : ℕ → List (List ℕ) → Option (List ℕ)
 unnumbered_behind kept [] = None
 unnumbered_behind kept (word ∷ others) =
-    if kept == 0 && not (is_some (script_number word)) then Some word else unnumbered_behind (kept - 1) others
+    if kept == 0 && not (is_number_or_bytes word) then Some word else unnumbered_behind (kept - 1) others
 
 abbrev pub unnumbered_if : Option ℕ → List (List ℕ) → Option (List ℕ)
 unnumbered_if None line = None

@@ -4,9 +4,8 @@ use Rattle.std.specs.Prelude.{ℕ, Bool, false, ◌==◌, ◌||◌, List, [], �
 use Rattle.std.specs.Int.{is_in_range}
 use Rattle.command_shell_lines.specs.Requests.{words}
 use Rattle.debug_labels.specs.Labels.{ImageLabels}
-use Rattle.debug_labels.specs.Lines.{line_with_numbers, unnumbered_word}
+use Rattle.debug_labels.specs.Lines.{LineNaming, line_with_numbers, unnumbered_word}
 use Rattle.debug_labels.specs.Views.{no_label_text}
-use Rattle.debug_labels.specs.Words.{Naming}
 use Rattle.command_shell_lines.specs.debug_words.Forms.{form_of_line}
 
 -- A word that is meant as a number begins with a digit, `&` (38), `-` (45), `$` (36) or `#` (35).
@@ -34,6 +33,6 @@ reason_by_word labels form (Some word) =
     form)
 
 -- why a tidy line is none of the language
-abbrev pub refusal_reason : Naming → List ℕ → List ℕ
+abbrev pub refusal_reason : LineNaming → List ℕ → List ℕ
 refusal_reason n line =
-    reason_by_word n.labels (form_text (form_of_line (words line))) (unnumbered_word (words (line_with_numbers n line)))
+    reason_by_word n.names.labels (form_text (form_of_line (words line))) (unnumbered_word (words (line_with_numbers n line)))

@@ -7,6 +7,7 @@
 mod images;
 mod labels;
 mod lines;
+mod module_swis;
 pub mod place_views;
 mod places;
 mod reasons;

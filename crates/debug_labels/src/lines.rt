@@ -1,12 +1,16 @@
-//! A tidy line with numbers in place of words that name places.
+//! A tidy line with numbers in place of words that name places, or SWIs of loaded modules.
 
 ghost use Rattle.std.specs.Prelude.{◌≡◌, ◌≤◌, ◌++◌, IfOk, IfSome, OnOk, option_map};
 ghost use Rattle.std.specs.List.{join_with_byte};
+ghost use Rattle.address_map.specs.Memory.{bytes_of};
 ghost use Rattle.command_shell_lines.specs.Requests.{words};
-ghost use Rattle.debug_labels.specs.Lines.{has_places_behind, is_place_word, is_text_check, kept_untraced, kept_words, unnumbered_word};
+ghost use Rattle.debug_labels.specs.Lines.{has_places_behind, is_number_or_bytes, is_place_word, is_text_check, kept_untraced, kept_words, numbered_call, unnumbered_word};
 
+use crate::module_swis::swi_of_modules;
 use crate::words::PlaceNames;
+use address_map::AddressMap;
 use assembler_text::naming::words::is_name;
+use command_shell_lines::debug_words::text_behind;
 use command_shell_lines::number_of;
 use profile::HexText;
 use profile::text_lines::cut;
@@ -17,18 +21,33 @@ impl PlaceNames<'_> {
 
     /// What a tidy line means: the line with a number, as `&8004`, in place of each word that names
     /// a place, in the lines that have places: behind BREAK, UNBREAK, MEM, CODE, HEAP, POKE, STEP,
-    /// WORDS, GOSUB, WATCH, UNWATCH and DUMP, and behind one word more after PUT, SET and EXPECT, but
-    /// behind SET PSR and where EXPECT compares text. TRACE may stand before these.
+    /// WORDS, GOSUB, WATCH, UNWATCH, DUMP, FILL and FIND, and behind one word more after PUT, SET and
+    /// EXPECT, but behind SET PSR and where EXPECT compares text. Behind CALL, it is the number of the
+    /// SWI that a loaded module's table in memory names so. TRACE may stand before these.
     ///
     /// # Errors
     ///
     /// Memory ran out.
-    pub fn line_with_numbers(&self, alloc: Global, line: &[u8]) -> Result<Vec<u8>, AllocError>
-        ensures { IfOk result (λ text. text.items ≡ line_with_numbers self.now line.now) }
+    pub fn line_with_numbers(
+        &self,
+        alloc: Global,
+        memory: &AddressMap,
+        line: &[u8],
+    ) -> Result<Vec<u8>, AllocError>
+        ensures { IfOk result (λ text. text.items
+            ≡ line_with_numbers (record { names = self.now; bytes = bytes_of memory.now }) line.now) }
     {
-        match kept_words(line) {
-            None => Vec::from_slice(alloc, line),
-            Some(kept) => self.numbered(alloc, line, kept),
+        if let Some(name) = text_behind(b"CALL ", line) {
+            let swi = swi_of_modules(memory, self.modules, name);
+            numbered_call(alloc, b"CALL &", line, swi)
+        } else if let Some(name) = text_behind(b"TRACE CALL ", line) {
+            let swi = swi_of_modules(memory, self.modules, name);
+            numbered_call(alloc, b"TRACE CALL &", line, swi)
+        } else {
+            match kept_words(line) {
+                None => Vec::from_slice(alloc, line),
+                Some(kept) => self.numbered(alloc, line, kept),
+            }
         }
     }
 
@@ -70,6 +89,25 @@ impl PlaceNames<'_> {
     }
 }
 
+// A call with the number of a SWI, or the line where there is none.
+fn numbered_call(
+    alloc: Global,
+    front: &[u8],
+    line: &[u8],
+    swi: Option<u32>,
+) -> Result<Vec<u8>, AllocError>
+    ensures { IfOk result (λ text. text.items ≡ numbered_call front.now line.now swi) }
+{
+    match swi {
+        None => Vec::from_slice(alloc, line),
+        Some(swi) => {
+            let mut text = Vec::from_slice(alloc, front)?;
+            text.extend_from_slice(HexText::number(swi).as_slice())?;
+            Ok(text)
+        }
+    }
+}
+
 /// Of a line with numbers in place of words that name places, the first word that is no number where
 /// a number or a place may stand.
 pub(crate) fn unnumbered_word(line: &[u8]) -> Option<&[u8]>
@@ -79,13 +117,20 @@ pub(crate) fn unnumbered_word(line: &[u8]) -> Option<&[u8]>
     let mut rest = Some(line);
     while let Some(text) = rest {
         let (word, others) = cut(text, b' ');
-        if left == 0 && number_of(word).is_none() {
+        if left == 0 && !is_number_or_bytes(word) {
             return Some(word);
         }
         left = left.saturating_sub(1);
         rest = others;
     }
     None
+}
+
+// BYTES stands before numbers.
+fn is_number_or_bytes(word: &[u8]) -> bool
+    ensures { result ≡ is_number_or_bytes word.now }
+{
+    number_of(word).is_some() || is_name(word, b"BYTES")
 }
 
 // How many words of a line stand as they are before those that may name places, if any may.
@@ -144,6 +189,8 @@ fn is_place_word(word: &[u8]) -> bool
         || is_name(word, b"WATCH")
         || is_name(word, b"UNWATCH")
         || is_name(word, b"DUMP")
+        || is_name(word, b"FILL")
+        || is_name(word, b"FIND")
 }
 
 fn is_text_check(word: &[u8]) -> bool

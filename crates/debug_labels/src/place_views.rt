@@ -8,6 +8,6 @@ mod stack;
 mod standing;
 
 pub use frames::show_frames;
-pub use names::names_on;
+pub use names::{line_on, names_on};
 pub use stack::show_stack;
 pub use standing::show_where;
