@@ -3,5 +3,6 @@ pub use Rattle.debug_runs.specs.Telling
 pub mod Changes
 pub mod Counting
 pub mod Modes
+pub mod OwnAnswers
 pub mod Stepping
 pub mod expectations

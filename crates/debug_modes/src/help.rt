@@ -13,7 +13,9 @@ lines of a debugging script:
   FRAMES, LABELS                             open calls of module code; labels of images
   DUMP a n, WHY                              bytes and characters; the error that R0 leads to
   SET PC a, SET PSR Nz SVC                   letters left out stay
-  SET SP v, SET LR v, SET R0 -1, CALL OS_Heap  names of registers and store calls
+  SET SP v, SET LR v, SET R0 -1, CALL OS_Heap  names of registers and of SWIs
+  POKE a \"text\", POKE a BYTES v ..           bytes to any address
+  FILL a n v, FIND a n v                     n bytes written; where a value or a text stands
   RESET                                      a fresh machine; images, labels, breaks, modes stay
   FORGET name, REPEAT n line                 an image goes; a line, n times
   TRACE line, TRACE n, TRACE ON, TRACE OFF   steps told one by one; TRACE LIMIT n of a line

@@ -10,9 +10,11 @@ mod counting;
 pub mod expectations;
 mod help;
 mod modes;
+mod own_answers;
 mod stepping;
 mod stub_lines;
 
 pub use answers::refused_line;
 pub use help::HELP;
 pub use modes::DebugModes;
+pub use own_answers::{forget_text, form_line, put_text, refusal_line, text_of, unknown_line};

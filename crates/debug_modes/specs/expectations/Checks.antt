@@ -14,7 +14,7 @@ use Rattle.arm_core.specs.declared.psr.Psr.{Psr}
 use Rattle.debugger.specs.Memory.{hex_byte}
 use Rattle.debugger.specs.Registers.{flags_and_mode_text}
 use Rattle.debug_lines.specs.Expectations.{ExpectRequest, Register, Pc, Banked, Flags, Word, Byte, Answer, Line, Error, Output, Steps, StepsAtMost}
-use Rattle.debug_lines.specs.Spelling.{is_spelling_of}
+use Rattle.command_shell_lines.specs.debug_words.Spelling.{is_spelling_of}
 use Rattle.debug_lines.specs.Tidy.{tidied_line}
 use Rattle.debug_lines.specs.declared.status.StatusPattern.{StatusPattern}
 use Rattle.debugger.specs.views.Banks.{banked_name}

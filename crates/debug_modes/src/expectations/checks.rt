@@ -11,8 +11,9 @@ use crate::expectations::answers::{
 };
 use crate::expectations::status::has_status;
 use arm_core::{Mode, Psr};
+use command_shell_lines::debug_words::is_spelt;
 use command_shell_lines::{RegisterNumber, WordAddress};
-use debug_lines::{Expectation, StatusPattern, is_spelt};
+use debug_lines::{Expectation, StatusPattern};
 use debugger::Machine;
 use std::alloc::{AllocError, Global};
 

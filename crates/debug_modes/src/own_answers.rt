@@ -1,0 +1,106 @@
+//! The answers of lines that are no script's.
+
+ghost use Rattle.std.specs.Prelude.{◌≡◌, ◌++◌, codes, IfOk};
+ghost use Rattle.command_shell.specs.Answers.{unknown_text};
+ghost use Rattle.debug_modes.specs.OwnAnswers.{forget_text, put_text, reasoned_text};
+ghost use Rattle.debug_modes.specs.expectations.Reasons.{reason_text};
+
+use crate::expectations::{Mismatch, push_reason};
+use command_shell::tell_unknown;
+use itoa::Buffer;
+use profile::HexText;
+use profile::text_sink::TextSink;
+use std::alloc::{AllocError, Global};
+
+/// `forget count`, or `refused NoImage` where there was no image of that name.
+///
+/// # Errors
+///
+/// Memory ran out.
+pub fn forget_text(alloc: Global, is_there: bool, name: &[u8]) -> Result<Vec<u8>, AllocError>
+    ensures { IfOk result (λ text. text.items ≡ forget_text is_there name.now) }
+{
+    if !is_there {
+        return Vec::from_slice(alloc, b"refused NoImage\n");
+    }
+    let mut text = Vec::from_slice(alloc, b"forget ")?;
+    text.extend_from_slice(name)?;
+    text.push(b'\n')?;
+    Ok(text)
+}
+
+/// What the lines of a word need, as a line.
+///
+/// # Errors
+///
+/// Memory ran out.
+pub fn form_line(alloc: Global, form: &[u8]) -> Result<Vec<u8>, AllocError>
+    ensures { IfOk result (λ text. text.items ≡ form.now ++ codes "\n") }
+{
+    let mut text = Vec::from_slice(alloc, form)?;
+    text.extend_from_slice(b"\n")?;
+    Ok(text)
+}
+
+/// `put count at &9000`.
+///
+/// # Errors
+///
+/// Memory ran out.
+pub fn put_text(alloc: Global, name: &[u8], address: u32) -> Result<Vec<u8>, AllocError>
+    ensures { IfOk result (λ text. text.items ≡ put_text name.now address) }
+{
+    let mut text = Vec::from_slice(alloc, b"put ")?;
+    text.extend_from_slice(name)?;
+    text.extend_from_slice(b" at &")?;
+    text.extend_from_slice(HexText::number(address).as_slice())?;
+    text.push(b'\n')?;
+    Ok(text)
+}
+
+/// Why what should be so isn't, as text.
+///
+/// # Errors
+///
+/// Memory ran out.
+pub fn text_of(alloc: Global, reason: &Mismatch) -> Result<Vec<u8>, AllocError>
+    ensures { IfOk result (λ text. text.items ≡ reason_text reason.now) }
+{
+    let mut text = TextSink::new(alloc);
+    match push_reason(&mut text, reason) {
+        Ok(()) => Ok(text.into_bytes()),
+        Err(_) => Err(AllocError),
+    }
+}
+
+/// What a script answers to a line that means nothing.
+///
+/// # Errors
+///
+/// Memory ran out.
+pub fn unknown_line(alloc: Global, number: usize) -> Result<Vec<u8>, AllocError>
+    ensures { IfOk result (λ text. text.items ≡ unknown_text number) }
+{
+    let mut text = TextSink::new(alloc);
+    match tell_unknown(&mut text, number) {
+        Ok(()) => Ok(text.into_bytes()),
+        Err(_) => Err(AllocError),
+    }
+}
+
+/// The same, and why.
+///
+/// # Errors
+///
+/// Memory ran out.
+pub fn refusal_line(alloc: Global, number: usize, reason: &[u8]) -> Result<Vec<u8>, AllocError>
+    ensures { IfOk result (λ text. text.items ≡ reasoned_text number reason.now) }
+{
+    let mut digits = Buffer::new();
+    let mut text = Vec::from_slice(alloc, b"? line ")?;
+    text.extend_from_slice(digits.format(number).as_bytes())?;
+    text.extend_from_slice(b": ")?;
+    text.extend_from_slice(reason)?;
+    text.push(b'\n')?;
+    Ok(text)
+}
