@@ -2,18 +2,17 @@
 use Rattle.std.proofs.Common.{◌≡◌, ℕ, zero, suc, ◌+◌, Bool, true, false, List, Option, Some, None, IfSome, codes, drop, take, position, ap, refl, ◌∙◌}
 use Rattle.std.specs.Prelude.{◌&&◌, ◌==◌, nat_lt, if◌then◌else◌}
 use Rattle.command_shell_lines.specs.Numbers.{script_number}
-use Rattle.debug_lines.specs.Expectations.{text_behind}
+use Rattle.command_shell_lines.specs.debug_words.Texts.{text_behind}
 use Rattle.std.specs.Option.{option_or}
-use Rattle.debug_labels.specs.Lines.{line_with_numbers}
-use Rattle.debug_labels.specs.Words.{Naming}
+use Rattle.debug_labels.specs.Lines.{LineNaming}
 use Rattle.command_shell_lines.specs.Requests.{Request, Nothing, Hex, Asm, Boot, Run, Regs, Set, Poke, Call, Load, Step, Break, Unbreak, Mem, Code, Heap, Areas, Modules, Flex, Unknown, opens_block, request_of}
-use Rattle.debug_lines.specs.DebugRequests.{DebugRequest, Script, Stepping, Mode, Remark, View, SetPc, SetPsr, Put, Forget, Counts, Reset, Quit, Expect, Repeat, NotKnown, debug_opens_block, is_known, is_repeatable, is_script_request, own_request, own_request_by, repeated_at, repeated_behind, repeated_if, repeated_line, simple_request}
+use Rattle.debug_lines.specs.DebugRequests.{DebugRequest, Script, Stepping, Mode, Remark, View, SetPc, SetPsr, Put, Write, Forget, Counts, Reset, Quit, Expect, Repeat, NotKnown, debug_opens_block, is_known, is_repeatable, is_script_request, own_request, own_request_by, repeated_at, repeated_behind, repeated_if, repeated_line, simple_request}
 use Rattle.debug_lines.specs.Repeats.{repeated_text}
 use Rattle.debug_lines.specs.SteppingRequests.{SteppingRequest}
 use Rattle.debug_lines.specs.Tidy.{tidied_line}
 use Rattle.debug_session.specs.DebugScript.{debug_line_told, line_opens, plain_line_told, repeated_told, script_line_told, script_line_told_in, simple_line_told, simple_request_told, stepping_now, tidy_line_told, tidy_line_told_by, unless_quit}
 use Rattle.debug_session.specs.DebugState.{DebugAnswered, DebugState, then_debugged}
-use Rattle.debug_session.specs.Naming.{if_repeatable, meant_request, naming_of, repeated_with_places, unless_alone}
+use Rattle.debug_session.specs.Naming.{if_repeatable, meant_request, naming_of, numbered_line, repeated_with_places, unless_alone}
 use Rattle.debug_session.specs.declared.session.DebugSetting.{DebugSetting}
 use Rattle.debug_session.proofs.LineLemmas.{joined}
 use Rattle.debug_session.proofs.NamingLemmas.{repeatable_alone, unknown_alone}
@@ -66,6 +65,7 @@ request_alone c d number words (View shown) block other alone = refl
 request_alone c d number words (SetPc address) block other alone = refl
 request_alone c d number words (SetPsr pattern) block other alone = refl
 request_alone c d number words (Put name address) block other alone = refl
+request_alone c d number words (Write address count named) block other alone = refl
 request_alone c d number words (Forget name) block other alone = refl
 request_alone c d number words (Counts name) block other alone = refl
 request_alone c d number words Reset block other alone = refl
@@ -84,10 +84,10 @@ meant_by true r numbered alone = alone
 meant_by false r numbered alone = numbered_alone numbered (is_repeatable numbered) refl
 
 -- whatever the words in it mean
-meant_alone : (n : Naming) (line : List ℕ) → debug_opens_block (simple_request line) ≡ false
+meant_alone : (n : LineNaming) (line : List ℕ) → debug_opens_block (simple_request line) ≡ false
     → debug_opens_block (meant_request n line) ≡ false
 meant_alone n line alone =
-    meant_by (is_known (simple_request line)) (simple_request line) (simple_request (line_with_numbers n line)) alone
+    meant_by (is_known (simple_request line)) (simple_request line) (simple_request (numbered_line n line)) alone
 
 simple_alone : (c : DebugSetting) (d : DebugState) (number : ℕ) (line : List ℕ) (block other : List (List ℕ))
     → debug_opens_block (simple_request line) ≡ false
@@ -131,24 +131,24 @@ may_alone_by : (known may : Bool) (r numbered : DebugRequest) → is_known r ≡
 may_alone_by true may r numbered is repeats so = repeatable_alone r (repeats ∙ so)
 may_alone_by false may r numbered is repeats so = unknown_alone r is
 
-may_alone : (n : Naming) (repeated : ℕ × List ℕ) (may : Bool) → is_repeatable (meant_request n repeated.1) ≡ may
+may_alone : (n : LineNaming) (repeated : ℕ × List ℕ) (may : Bool) → is_repeatable (meant_request n repeated.1) ≡ may
     → IfSome (if may then Some repeated else None) IsAlone
 unfolding IsAlone
 may_alone n repeated true is =
     may_alone_by (is_known (simple_request repeated.1)) true (simple_request repeated.1)
-    (simple_request (line_with_numbers n repeated.1)) refl is refl
+    (simple_request (numbered_line n repeated.1)) refl is refl
 may_alone n repeated false is = tt
 
-if_repeatable_alone : (n : Naming) (o : Option (ℕ × List ℕ)) → IfSome (if_repeatable n o) IsAlone
+if_repeatable_alone : (n : LineNaming) (o : Option (ℕ × List ℕ)) → IfSome (if_repeatable n o) IsAlone
 if_repeatable_alone n (Some repeated) = may_alone n repeated (is_repeatable (meant_request n repeated.1)) refl
 if_repeatable_alone n None = tt
 
-places_alone_by : (known : Bool) (n : Naming) (o : Option (ℕ × List ℕ))
+places_alone_by : (known : Bool) (n : LineNaming) (o : Option (ℕ × List ℕ))
     → IfSome (if known then None else if_repeatable n o) IsAlone
 places_alone_by true n o = tt
 places_alone_by false n o = if_repeatable_alone n o
 
-places_alone : (n : Naming) (line : List ℕ) → IfSome (repeated_with_places n line) IsAlone
+places_alone : (n : LineNaming) (line : List ℕ) → IfSome (repeated_with_places n line) IsAlone
 places_alone n line = places_alone_by (is_known (simple_request line)) n (repeated_text line)
 
 repeat_alone : (count : ℕ) (c : DebugSetting) (number : ℕ) (line : List ℕ) (block other : List (List ℕ)) (d : DebugState)

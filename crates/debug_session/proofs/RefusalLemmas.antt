@@ -10,7 +10,8 @@ use Rattle.debug_session.specs.AsBefore.{BlockAnsweredAsBefore, LineRefusedAsBef
 use Rattle.debug_session.specs.DebugScript.{is_refused_block, state_after_line, told_or_refused}
 use Rattle.debug_session.specs.DebugState.{DebugState}
 use Rattle.debug_session.specs.Naming.{naming_of}
-use Rattle.debug_session.specs.Refusals.{GoesOnBehind, reasoned_text}
+use Rattle.debug_modes.specs.OwnAnswers.{reasoned_text}
+use Rattle.debug_session.specs.Refusals.{GoesOnBehind}
 use Rattle.debug_session.specs.declared.session.DebugSetting.{DebugSetting}
 use Rattle.debug_labels.specs.Reasons.{refusal_reason}
 use Rattle.debug_tables.specs.BlockErrorTexts.{block_errors_text, text_with_errors}

@@ -1,5 +1,5 @@
 -- Lines that take steps in modes.
-use Rattle.std.proofs.Common.{◌≡◌, ℕ, Bool, true, false, List, ◌++◌, Option, None, Some, Result, Ok, Err, refl, subst}
+use Rattle.std.proofs.Common.{◌≡◌, ℕ, Bool, true, false, List, [], ◌++◌, Option, None, Some, Result, Ok, Err, refl, subst}
 use Rattle.std.specs.Prelude.{OnOk, if◌then◌else◌}
 use Rattle.std.specs.Io.KnownBytes.{Appends}
 use Rattle.profile.proofs.OutputLemmas.{Appends-join}
@@ -11,7 +11,8 @@ use Rattle.debug_tables.specs.run_meter.State.{ScriptState}
 use Rattle.command_shell_lines.specs.Requests.{Request, Nothing, Hex, Asm, Boot, Run, Regs, Set, Poke, Call, Load, Step, Break, Unbreak, Mem, Code, Heap, Areas, Modules, Flex, Unknown, opens_block}
 use Rattle.debug_lines.specs.SteppingRequests.{SteppingRequest, stepping_in}
 use Rattle.debug_modes.specs.declared.modes.DebugModes.{DebugModes}
-use Rattle.debug_session.specs.DebugScript.{put_done, put_text, stepping_told_by, view_told}
+use Rattle.debug_modes.specs.OwnAnswers.{put_text}
+use Rattle.debug_session.specs.DebugScript.{put_done, stepping_told_by, view_told, write_done}
 use Rattle.debug_session.specs.DebugState.{DebugAnswered, DebugState, IsDebugged}
 use Rattle.debug_modes.specs.expectations.reports.Reports.{answer_in}
 use Rattle.debug_modes.specs.declared.expectations.reports.reports.ReportForm.{ReportForm}
@@ -89,4 +90,22 @@ pub put_refused : (before after : Option (List ℕ)) (c : DebugSetting) (d now :
     → IsDebugged before after now (put_done c d name address o)
 put_refused before after c d now name address new (Ok s) fault text leaves same told = absurd leaves
 put_refused before after c d now name address new (Err f) fault text leaves same told =
+    subst (λ (x : DebugAnswered). IsDebugged before after now x) (rw (leaves.1, same, leaves.0) refl) told
+
+-- bytes that a line names, written or refused
+pub write_ok : (before after : Option (List ℕ)) (c : DebugSetting) (d now : DebugState) (old new : ScriptState)
+    (o : Result ScriptState Fault) (u : Unit {0}) (text : List ℕ) → Leaves {U = Unit {0}} old o (Ok u) new
+    → text ≡ [] → IsDebugged before after now (view_told c (record d { script = new }) text)
+    → IsDebugged before after now (write_done c d o)
+write_ok before after c d now old new (Ok s) u text leaves none told =
+    subst (λ (x : DebugAnswered). IsDebugged before after now x) (rw (leaves, none) refl) told
+write_ok before after c d now old new (Err fault) u text leaves none told = absurd leaves
+
+pub write_refused : (before after : Option (List ℕ)) (c : DebugSetting) (d now : DebugState) (new : ScriptState)
+    (o : Result ScriptState Fault) (fault : Fault) (text : List ℕ)
+    → Leaves {U = Unit {0}} d.script o (Err fault) new → text ≡ refused_text (fault_name fault)
+    → IsDebugged before after now (view_told c (record d { script = new }) text)
+    → IsDebugged before after now (write_done c d o)
+write_refused before after c d now new (Ok s) fault text leaves same told = absurd leaves
+write_refused before after c d now new (Err f) fault text leaves same told =
     subst (λ (x : DebugAnswered). IsDebugged before after now x) (rw (leaves.1, same, leaves.0) refl) told

@@ -3,8 +3,9 @@
 use Rattle.std.specs.Prelude.{ℕ, zero, suc, ◌+◌, ◌-◌, ◌&&◌, ◌||◌, Bool, true, false, not, List, [], ◌∷◌, ◌++◌, length, codes, Option, Some, None, Result, Ok, Err, is_some, option_map, if◌then◌else◌}
 use Rattle.std.specs.Str.Lines.{lines}
 use Rattle.image_loader.specs.Entries.{Entry, bytes_of_image, without_entry}
+use Rattle.debug_tables.specs.byte_writes.Find.{find_text}
 use Rattle.debug_tables.specs.byte_writes.Put.{script_after_put}
-use Rattle.profile.specs.Digits.{hex_number}
+use Rattle.command_shell_lines.specs.debug_words.NamedBytes.{bytes_written, named_bytes, or_no_bytes}
 use Rattle.profile.specs.FaultNames.{fault_name}
 use Rattle.profile.specs.declared.fault.Fault.{Fault}
 use Rattle.debug_tables.specs.BlockErrorTexts.{text_with_errors}
@@ -17,7 +18,7 @@ use Rattle.command_shell_lines.specs.Requests.{Request, Nothing, Hex, Asm, Run, 
 use Rattle.debug_modes.specs.expectations.Checks.{Seen, check_told, status_after_pattern}
 use Rattle.debug_modes.specs.expectations.Halted.{halted_at_text, halting_fault}
 use Rattle.debug_modes.specs.expectations.Endings.{ending_of, output_of}
-use Rattle.debug_lines.specs.DebugRequests.{DebugRequest, Script, Stepping, Mode, Remark, SetPc, SetPsr, Put, Forget, Counts, Reset, Quit, Expect, Repeat, NotKnown, debug_opens_block, debug_request, is_script_request, ViewRequest, View, Words, Where, Banks, Stack, Frames, Labels, Dump, Why, Help, Form}
+use Rattle.debug_lines.specs.DebugRequests.{DebugRequest, Script, Stepping, Mode, Remark, SetPc, SetPsr, Put, Write, Forget, Counts, Reset, Quit, Expect, Repeat, NotKnown, debug_opens_block, debug_request, is_script_request, ViewRequest, View, Words, Where, Banks, Stack, Frames, Labels, Dump, Why, Help, Find, Form}
 use Rattle.debug_tables.specs.run_meter.MachineState.{MachineState, stop_of}
 use Rattle.debug_lines.specs.ModeRequests.{ModeRequest}
 use Rattle.debug_lines.specs.SteppingRequests.{SteppingRequest, stepping_in}
@@ -37,7 +38,7 @@ use Rattle.debug_modes.specs.expectations.views.Banks.{banks_text}
 use Rattle.debug_modes.specs.expectations.views.Words.{memory_words_text}
 use Rattle.debug_session.specs.DebugState.{DebugAnswered, DebugState, debug_answer, debug_start_state, then_debugged}
 use Rattle.debug_session.specs.Naming.{labels_with_block, meant_request, naming_of, repeated_now}
-use Rattle.debug_session.specs.Refusals.{reasoned_text}
+use Rattle.debug_modes.specs.OwnAnswers.{forget_text, put_text, reasoned_text}
 use Rattle.debug_labels.specs.Reasons.{refusal_reason}
 use Rattle.debug_modes.specs.declared.help.TheConstants.{HELP}
 use Rattle.debug_session.specs.declared.session.DebugSetting.{DebugSetting}
@@ -157,6 +158,8 @@ view_text labels s Labels = labels_text (naming_on labels s)
 view_text labels s (Dump address count) = dump_text s.store.bytes address count
 view_text labels s Why = why_text s.cpu s.store.bytes
 view_text labels s Help = HELP.now
+view_text labels s (Find address count named) =
+    find_text s.store.bytes address count (or_no_bytes (named_bytes named))
 view_text labels s (Form form) = form ++ codes "\n"
 
 -- a view: its text is the answer
@@ -180,10 +183,6 @@ abbrev pub reset_told : DebugSetting → DebugState → DebugAnswered
 reset_told c d = view_told c (record d { script = script_started_anew d.script c.config c.budget })
     (codes "reset\n")
 
-abbrev pub forget_text : Bool → List ℕ → List ℕ
-forget_text true name = codes "forget " ++ name ++ codes "\n"
-forget_text false name = codes "refused NoImage\n"
-
 -- FORGET: the image of that name goes, if there is one, and its labels.
 abbrev pub forget_told : DebugSetting → DebugState → List ℕ → DebugAnswered
 forget_told c d name = view_told c
@@ -196,11 +195,7 @@ forget_told c d name = view_told c
 -- COUNTS
 abbrev pub counts_told : DebugSetting → DebugState → List ℕ → DebugAnswered
 counts_told c d name =
-    view_told c d (counts_text d.modes.counts (naming_of d) d.script.machine.store.bytes name)
-
--- `put count at &9000`
-abbrev pub put_text : List ℕ → ℕ → List ℕ
-put_text name address = codes "put " ++ (name ++ (codes " at &" ++ (hex_number address ++ codes "\n")))
+    view_told c d (counts_text d.modes.counts (naming_of d).names d.script.machine.store.bytes name)
 
 abbrev pub put_done : DebugSetting → DebugState → List ℕ → ℕ → Result ScriptState Fault → DebugAnswered
 put_done c d name address (Ok script) = view_told c (record d { script = script }) (put_text name address)
@@ -213,6 +208,15 @@ put_found c d name address (Some bytes) = put_done c d name address (script_afte
 
 abbrev pub put_told : DebugSetting → DebugState → List ℕ → ℕ → DebugAnswered
 put_told c d name address = put_found c d name address (bytes_of_image d.script.images name)
+
+-- POKE and FILL of bytes: whole, with no answer, or not at all.
+abbrev pub write_done : DebugSetting → DebugState → Result ScriptState Fault → DebugAnswered
+write_done c d (Ok script) = view_told c (record d { script = script }) []
+write_done c d (Err fault) = view_told c d (refused_text (fault_name fault))
+
+abbrev pub write_told : DebugSetting → DebugState → ℕ → Option ℕ → List ℕ → DebugAnswered
+write_told c d address count named = write_done c d
+    (script_after_put d.script address (bytes_written count (or_no_bytes (named_bytes named))))
 
 -- a change of modes, and its answer
 abbrev pub mode_told_by : DebugSetting → DebugState → ModeTold → DebugAnswered
@@ -257,6 +261,7 @@ simple_request_told c d number words (SetPc address) block = set_pc_told c d add
 simple_request_told c d number words (SetPsr pattern) block = machine_change_told d
     (script_with_status d.script (status_after_pattern pattern d.script.machine.cpu.psr))
 simple_request_told c d number words (Put name address) block = put_told c d name address
+simple_request_told c d number words (Write address count named) block = write_told c d address count named
 simple_request_told c d number words (Forget name) block = forget_told c d name
 simple_request_told c d number words (Counts name) block = counts_told c d name
 simple_request_told c d number words Reset block = reset_told c d

@@ -7,12 +7,12 @@ use Rattle.assembler.specs.Passes.{labels_of_lines}
 use Rattle.assembler.specs.declared.error.AsmError.{AsmError}
 use Rattle.assembler_text.specs.naming.Labels.{Entries}
 use Rattle.command_shell_lines.specs.Requests.{Request, Asm}
+use Rattle.command_shell_lines.specs.debug_words.Texts.{before_quote, from_quote}
 use Rattle.debug_labels.specs.Labels.{ImageLabels, labels_of_image}
-use Rattle.debug_labels.specs.Lines.{line_with_numbers}
-use Rattle.debug_labels.specs.Words.{Naming}
+use Rattle.debug_labels.specs.Lines.{LineNaming, line_with_numbers}
 use Rattle.debug_lines.specs.DebugRequests.{DebugRequest, NotKnown, is_known, is_repeatable, repeated_line, simple_request}
 use Rattle.debug_lines.specs.Repeats.{repeated_text}
-use Rattle.debug_labels.specs.place_views.Places.{naming_on}
+use Rattle.debug_labels.specs.place_views.Places.{line_naming_on}
 use Rattle.debug_session.specs.DebugState.{DebugState}
 
 -- LABELS
@@ -32,26 +32,30 @@ labels_with_block labels images request block = labels
 -- WORDS THAT NAME PLACES
 
 -- what words are read by now
-abbrev pub naming_of : DebugState → Naming
-naming_of d = naming_on d.labels d.script.machine
+abbrev pub naming_of : DebugState → LineNaming
+naming_of d = line_naming_on d.labels d.script.machine
+
+-- a line with the numbers of the places that it names, up to a text in quotes: no word of that names one
+abbrev pub numbered_line : LineNaming → List ℕ → List ℕ
+numbered_line n line = line_with_numbers n (before_quote line) ++ from_quote line
 
 -- a line with numbers opens no block
 abbrev pub unless_alone : DebugRequest → DebugRequest
 unless_alone request = if is_repeatable request then request else NotKnown
 
 -- what a tidy line asks for that is no REPEAT
-abbrev pub meant_request : Naming → List ℕ → DebugRequest
+abbrev pub meant_request : LineNaming → List ℕ → DebugRequest
 meant_request n line = if is_known (simple_request line) then simple_request line
-    else unless_alone (simple_request (line_with_numbers n line))
+    else unless_alone (simple_request (numbered_line n line))
 
-abbrev pub if_repeatable : Naming → Option (ℕ × List ℕ) → Option (ℕ × List ℕ)
+abbrev pub if_repeatable : LineNaming → Option (ℕ × List ℕ) → Option (ℕ × List ℕ)
 if_repeatable n (Some repeated) = if is_repeatable (meant_request n repeated.1) then Some repeated else None
 if_repeatable n None = None
 
 -- what is repeated, and how often, of a line that means nothing as it stands
-abbrev pub repeated_with_places : Naming → List ℕ → Option (ℕ × List ℕ)
+abbrev pub repeated_with_places : LineNaming → List ℕ → Option (ℕ × List ℕ)
 repeated_with_places n line = if is_known (simple_request line) then None else if_repeatable n (repeated_text line)
 
 -- what is repeated, and how often, of a tidy line
-abbrev pub repeated_now : Naming → List ℕ → Option (ℕ × List ℕ)
+abbrev pub repeated_now : LineNaming → List ℕ → Option (ℕ × List ℕ)
 repeated_now n line = option_or (repeated_line line) (repeated_with_places n line)

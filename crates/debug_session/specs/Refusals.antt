@@ -3,11 +3,6 @@ use Rattle.std.specs.Prelude.{◌≡◌, ℕ, List, ◌++◌, codes}
 use Rattle.std.specs.Fmt.{decimal}
 use Rattle.debug_tables.specs.run_meter.Answers.{unknown_text}
 
--- `? line 7: STEP stands alone, or with a number, as STEP 4`
-abbrev pub reasoned_text : ℕ → List ℕ → List ℕ
-reasoned_text number reason =
-    codes "? line " ++ (decimal number ++ (codes ": " ++ (reason ++ codes "\n")))
-
 -- an answer, and what stands behind it
 pub record GoesOnBehind (answer told : List ℕ) : Type 0 where
   pub more : List ℕ

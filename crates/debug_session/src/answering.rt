@@ -8,7 +8,8 @@ ghost use Rattle.command_shell_lines.specs.Blocks.{block_lines, lines_after, lin
 
 use crate::session::DebugSession;
 use command_shell_lines::command_of;
-use debug_labels::place_views::names_on;
+use command_shell_lines::debug_words::cut_at_quote;
+use debug_labels::place_views::line_on;
 use debug_lines::{
     DebugCommand, RepeatedLine, is_known_line, is_repeatable_line, is_script_command,
     repeated_line, repeated_text, simple_command, tidied,
@@ -21,12 +22,11 @@ use std::alloc::AllocError;
 
 impl DebugSession {
     ghost use Rattle.image_loader.specs.Entries.{Entry};
-    ghost use Rattle.debug_labels.specs.Lines.{line_with_numbers};
     ghost use Rattle.debug_lines.specs.DebugRequests.{debug_opens_block, debug_request_of_command, is_known, is_repeatable, own_request, simple_request};
     ghost use Rattle.debug_lines.specs.Repeats.{count_and_line};
     ghost use Rattle.debug_session.specs.DebugScript.{debug_line_told, line_opens, repeated_told, simple_line_told, simple_request_told, tidy_line_told};
     ghost use Rattle.debug_session.specs.DebugState.{IsDebugged};
-    ghost use Rattle.debug_session.specs.Naming.{if_repeatable, meant_request, naming_of, repeated_now, repeated_with_places};
+    ghost use Rattle.debug_session.specs.Naming.{if_repeatable, meant_request, naming_of, numbered_line, repeated_now, repeated_with_places};
     ghost use Rattle.debug_session.specs.Session.{debug_state};
 
     /// Answers a line; of one that opens a block, reads the block from the lines that follow.
@@ -168,12 +168,16 @@ impl DebugSession {
         Ok(is_repeatable_line(numbered.as_slice()))
     }
 
-    // A tidy line with numbers in place of the words that name places now.
+    // A tidy line with numbers in place of the words that name places now, up to a text in quotes.
     pub(crate) fn with_numbers(&self, line: &[u8]) -> Result<Vec<u8>, AllocError>
         ensures { (images : List Entry) → IfOk result (λ text. text.items
-            ≡ line_with_numbers (naming_of (debug_state self.now images)) line.now) }
+            ≡ numbered_line (naming_of (debug_state self.now images)) line.now) }
     {
-        names_on(&self.labels, self.session.machine()).line_with_numbers(self.alloc, line)
+        let (front, text) = cut_at_quote(line);
+        let machine = self.session.machine();
+        let mut numbered = line_on(self.alloc, &self.labels, machine, front)?;
+        numbered.extend_from_slice(text)?;
+        Ok(numbered)
     }
 
     // Answers a tidy line many times.
@@ -278,6 +282,8 @@ impl DebugSession {
                 Ok(())
             }
             DebugCommand::Put(name, address) => self.put(images, sink, name, address),
+            DebugCommand::Write(address, count, named) => self.write(sink, address, count, named),
+            DebugCommand::Find(address, count, named) => self.find(sink, address, count, named),
             DebugCommand::Forget(name) => self.forget(images, sink, name),
             DebugCommand::Counts(name) => self.counts(sink, name),
             DebugCommand::Reset => self.reset(sink),

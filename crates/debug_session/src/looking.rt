@@ -5,7 +5,6 @@ ghost use Rattle.std.specs.Prelude.{◌≡◌, List, IfOk};
 ghost use Rattle.debug_tables.specs.run_meter.Parts.{state_of};
 
 use crate::session::DebugSession;
-use debug_labels::place_views::names_on;
 use debug_lines::is_known_line;
 use debug_modes::expectations::reports::CheckTally;
 use debug_tables::run_meter::Machine;
@@ -47,7 +46,7 @@ impl DebugSession {
         if is_known_line(words) {
             return Vec::from_slice(alloc, words);
         }
-        names_on(&self.labels, self.session.machine()).line_with_numbers(alloc, words)
+        self.with_numbers(words)
     }
 
     /// The answer that EXPECT looks at: of a line that takes steps, how they ended.

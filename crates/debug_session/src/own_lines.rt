@@ -1,38 +1,37 @@
 //! The lines of its own that a debugging script has.
 
-ghost use Rattle.std.specs.Prelude.{◌≡◌, ◌++◌, codes, ◌%◌, ◌<◌, ◌^◌, is_some, true, List, IfOk, OnOk, OnErr};
+ghost use Rattle.std.specs.Prelude.{◌≡◌, ◌%◌, ◌<◌, ◌^◌, is_some, true, List, IfOk, OnOk, OnErr};
 ghost use Rattle.std.specs.Option.{option_map};
 ghost use Rattle.image_loader.specs.Entries.{bytes_of_image};
 ghost use Rattle.debug_session.specs.Failing.{EndsAtOnce};
-ghost use Rattle.debug_modes.specs.expectations.Reasons.{reason_text};
 ghost use Rattle.debug_modes.specs.expectations.Halted.{halted_at_text, halting_fault};
-ghost use Rattle.debug_session.specs.DebugScript.{forget_text, put_text};
 ghost use Rattle.profile.specs.Output.{Writes};
 
 use crate::session::DebugSession;
 use command_shell_lines::Origin;
+use command_shell_lines::debug_words::bytes_written;
 use debug_labels::place_views::{names_on, show_frames, show_stack, show_where};
 use debug_lines::{DebugView, Expectation, StatusPattern};
 use debug_modes::expectations::reports::{push_answer, push_fail, push_pass};
 use debug_modes::expectations::{
-    Mismatch, SeenMachine, check, halting_fault, push_halted, push_reason, show_banks, show_dump,
-    show_why, show_words, status_with,
+    SeenMachine, check, halting_fault, push_halted, show_banks, show_dump, show_why, show_words,
+    status_with,
 };
-use debug_modes::{HELP, refused_line};
-use debug_tables::byte_writes::put_bytes;
+use debug_modes::{HELP, forget_text, form_line, put_text, refused_line, text_of};
+use debug_tables::byte_writes::{find_text, put_bytes};
 use debug_tables::run_meter::RunError;
 use image_loader::Images;
 use profile::text_sink::TextSink;
-use profile::{Fault, HexText, Sink, WriteFault, push_all};
-use std::alloc::{AllocError, Global};
+use profile::{Fault, Sink, WriteFault, push_all};
+use std::alloc::AllocError;
 
 impl DebugSession {
     ghost use Rattle.image_loader.specs.Entries.{Entry};
     ghost use Rattle.debug_tables.specs.run_meter.Memory.{script_at, script_started_anew, script_with_status};
     ghost use Rattle.debug_modes.specs.expectations.Checks.{check_told, status_after_pattern};
     ghost use Rattle.debug_lines.specs.Expectations.{expect_request_of};
-    ghost use Rattle.debug_lines.specs.DebugRequests.{Form, view_request_of};
-    ghost use Rattle.debug_session.specs.DebugScript.{checked_told, forget_told, machine_change_told, put_told, reset_told, seen_of, set_pc_told, view_text, view_told};
+    ghost use Rattle.debug_lines.specs.DebugRequests.{Find, Form, view_request_of};
+    ghost use Rattle.debug_session.specs.DebugScript.{checked_told, forget_told, machine_change_told, put_told, reset_told, seen_of, set_pc_told, view_text, view_told, write_told};
     ghost use Rattle.debug_session.specs.DebugState.{IsDebugged};
     ghost use Rattle.debug_session.specs.Session.{debug_state};
     ghost use Rattle.debug_tables.specs.run_meter.MachineState.{stop_of};
@@ -146,6 +145,53 @@ impl DebugSession {
                 Ok(self.view(sink, text)?)
             }
         }
+    }
+
+    /// Writes the bytes that a text names to memory, or so many, by these again and again: all of
+    /// them, or none.
+    pub(crate) fn write<W: Sink>(
+        &mut self,
+        sink: &mut W,
+        address: u32,
+        count: Option<u32>,
+        named: &[u8],
+    ) -> Result<(), RunError>
+        ensures told { (images : List Entry) → OnOk result
+            (IsDebugged (W.contents sink.old) (W.contents sink.new) (debug_state self.new images)
+            (write_told self.old.setting (debug_state self.old images) address count named.now)) }
+        ensures setting { self.new.setting ≡ self.old.setting }
+        ensures ends { EndsAtOnce W.has_failed sink.old sink.new result }
+    {
+        let bytes = bytes_written(self.alloc, count, named)?;
+        let nothing = Vec::new(self.alloc);
+        match put_bytes(&mut self.session, address, bytes.as_slice()) {
+            Ok(()) => Ok(self.view(sink, nothing)?),
+            Err(fault) => {
+                let text = refused_line(self.alloc, fault.name().as_bytes())?;
+                Ok(self.view(sink, text)?)
+            }
+        }
+    }
+
+    /// Shows at which of so many addresses the bytes stand that a text names.
+    pub(crate) fn find<W: Sink>(
+        &mut self,
+        sink: &mut W,
+        address: u32,
+        count: u32,
+        named: &[u8],
+    ) -> Result<(), RunError>
+        ensures told { (images : List Entry) → OnOk result
+            (IsDebugged (W.contents sink.old) (W.contents sink.new) (debug_state self.new images)
+            (view_told self.old.setting (debug_state self.old images)
+            (view_text (debug_state self.old images).labels (debug_state self.old images).script.machine
+            (Find address count named.now)))) }
+        ensures setting { self.new.setting ≡ self.old.setting }
+        ensures ends { EndsAtOnce W.has_failed sink.old sink.new result }
+    {
+        let machine = self.session.machine();
+        let text = find_text(self.alloc, machine, address, count, named)?;
+        Ok(self.view(sink, text)?)
     }
 
     /// Begins anew on a fresh machine; images, labels, breaks and modes stay.
@@ -315,45 +361,4 @@ fn has_image(images: &Images, name: &[u8]) -> bool
     ensures { result ≡ is_some (bytes_of_image images.now name.now) }
 {
     images.get(name).is_some()
-}
-
-fn forget_text(alloc: Global, is_there: bool, name: &[u8]) -> Result<Vec<u8>, AllocError>
-    ensures { IfOk result (λ text. text.items ≡ forget_text is_there name.now) }
-{
-    if !is_there {
-        return Vec::from_slice(alloc, b"refused NoImage\n");
-    }
-    let mut text = Vec::from_slice(alloc, b"forget ")?;
-    text.extend_from_slice(name)?;
-    text.push(b'\n')?;
-    Ok(text)
-}
-
-fn form_line(alloc: Global, form: &[u8]) -> Result<Vec<u8>, AllocError>
-    ensures { IfOk result (λ text. text.items ≡ form.now ++ codes "\n") }
-{
-    let mut text = Vec::from_slice(alloc, form)?;
-    text.extend_from_slice(b"\n")?;
-    Ok(text)
-}
-
-fn put_text(alloc: Global, name: &[u8], address: u32) -> Result<Vec<u8>, AllocError>
-    ensures { IfOk result (λ text. text.items ≡ put_text name.now address) }
-{
-    let mut text = Vec::from_slice(alloc, b"put ")?;
-    text.extend_from_slice(name)?;
-    text.extend_from_slice(b" at &")?;
-    text.extend_from_slice(HexText::number(address).as_slice())?;
-    text.push(b'\n')?;
-    Ok(text)
-}
-
-fn text_of(alloc: Global, reason: &Mismatch) -> Result<Vec<u8>, AllocError>
-    ensures { IfOk result (λ text. text.items ≡ reason_text reason.now) }
-{
-    let mut text = TextSink::new(alloc);
-    match push_reason(&mut text, reason) {
-        Ok(()) => Ok(text.into_bytes()),
-        Err(_) => Err(AllocError),
-    }
 }

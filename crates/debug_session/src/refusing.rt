@@ -1,18 +1,16 @@
 //! Lines that are none of the language: what a script answers, and why.
 
 ghost use Rattle.std.specs.Prelude.{◌≡◌, List, IfOk, OnOk};
-ghost use Rattle.debug_tables.specs.run_meter.Answers.{unknown_text};
 ghost use Rattle.debug_session.specs.Failing.{EndsAtOnce};
-ghost use Rattle.debug_session.specs.Refusals.{reasoned_text};
 
 use crate::session::DebugSession;
-use debug_labels::place_views::names_on;
+use debug_labels::place_views::{line_on, names_on};
 use debug_modes::expectations::reports::push_refusal;
-use debug_tables::run_meter::{RunError, tell_unknown};
-use itoa::Buffer;
+use debug_modes::{refusal_line, unknown_line};
+use debug_tables::run_meter::RunError;
 use profile::Sink;
 use profile::text_sink::TextSink;
-use std::alloc::{AllocError, Global};
+use std::alloc::AllocError;
 
 impl DebugSession {
     ghost use Rattle.image_loader.specs.Entries.{Entry};
@@ -49,36 +47,12 @@ impl DebugSession {
         ensures { (images : List Entry) → IfOk result (λ text. text.items
             ≡ refusal_reason (naming_of (debug_state self.now images)) words.now) }
     {
-        let numbered = self.with_numbers(words)?;
-        let mut text = TextSink::new(self.alloc);
         let names = names_on(&self.labels, self.session.machine());
+        let numbered = line_on(self.alloc, &self.labels, self.session.machine(), words)?;
+        let mut text = TextSink::new(self.alloc);
         match names.push_reason(words, numbered.as_slice(), &mut text) {
             Ok(()) => Ok(text.into_bytes()),
             Err(_) => Err(AllocError),
         }
     }
-}
-
-// What a script answers.
-fn unknown_line(alloc: Global, number: usize) -> Result<Vec<u8>, AllocError>
-    ensures { IfOk result (λ text. text.items ≡ unknown_text number) }
-{
-    let mut text = TextSink::new(alloc);
-    match tell_unknown(&mut text, number) {
-        Ok(()) => Ok(text.into_bytes()),
-        Err(_) => Err(AllocError),
-    }
-}
-
-// The same, and why.
-fn refusal_line(alloc: Global, number: usize, reason: &[u8]) -> Result<Vec<u8>, AllocError>
-    ensures { IfOk result (λ text. text.items ≡ reasoned_text number reason.now) }
-{
-    let mut digits = Buffer::new();
-    let mut text = Vec::from_slice(alloc, b"? line ")?;
-    text.extend_from_slice(digits.format(number).as_bytes())?;
-    text.extend_from_slice(b": ")?;
-    text.extend_from_slice(reason)?;
-    text.push(b'\n')?;
-    Ok(text)
 }

@@ -14,8 +14,8 @@ ghost use Rattle.debug_session.specs.Naming.{labels_with_block, labels_with_imag
 use crate::session::DebugSession;
 use assembler::labels_of_lines;
 use command_shell_lines::{Origin, ScriptCommand, skip_block};
-use debug_modes::expectations::answer_parts;
 use debug_modes::expectations::reports::{push_answer, push_refusal};
+use debug_modes::expectations::{answer_parts, push_line_answer};
 use debug_tables::run_meter::{RunError, answer_metered};
 use debug_tables::with_errors;
 use image_loader::Images;
@@ -84,7 +84,7 @@ impl DebugSession {
         if !asks_nothing(command) {
             let text = answer.as_slice();
             self.note(takes_steps(command), text)?;
-            push_answer(sink, self.setting.form, text)?;
+            push_line_answer(sink, self.setting.form, takes_steps(command), text)?;
         }
         self.spare = answer;
         Ok(())

@@ -1,5 +1,5 @@
 use Rattle.std.proofs.Common.{Bool, ◌∙◌, ap, refl}
-use Rattle.debug_session.specs.DebugScript.{forget_text}
+use Rattle.debug_modes.specs.OwnAnswers.{forget_text}
 use Rattle.debug_session.specs.Session.{debug_state}
 use Rattle.debug_session.specs.declared.session.DebugSession.{DebugSession}
 use Rattle.debug_session.proofs.OwnLemmas.{view_after, without_image}

@@ -1,10 +1,12 @@
 -- Each request is told as its own call tells it.
-use Rattle.std.proofs.Common.{◌≡◌, ◌+◌, ap, subst, sym}
+use Rattle.std.proofs.Common.{◌≡◌, ◌+◌, ap, subst, sym, ℕ}
 use Rattle.std.specs.Prelude.{OnOk}
 use Rattle.debug_tables.specs.run_meter.Memory.{script_with_status}
 use Rattle.command_shell_lines.specs.Blocks.{block_lines, lines_after, lines_taken}
 use Rattle.debug_modes.specs.expectations.Checks.{status_after_pattern}
 use Rattle.debug_lines.specs.DebugRequests.{DebugRequest, debug_opens_block, debug_request_of_command}
+use Rattle.debug_session.specs.DebugScript.{unknown_told}
+use Rattle.debug_session.specs.DebugState.{IsDebugged}
 use Rattle.debug_session.specs.Session.{debug_state}
 use Rattle.debug_session.proofs.OwnLemmas.{asked, asked_if, changed_quietly, checked_by}
 use Rattle.debug_session.proofs.session.DebugSession.known_line.Goals as goal
@@ -105,9 +107,34 @@ returns-in-Put-clause-told g c =
     c.args.self.now.setting c.args.script.now.number c.args.words.now (block_lines c.args.script.now.left) _
     (debug_request_of_command c.args.command) (sym (ap debug_request_of_command c.in-Put.is)) c.put.ensures.told
 
+pub returns-in-Write-clause-told : goal.returns-in-Write-clause-told
+returns-in-Write-clause-told g c =
+    asked_if c.write.result (g.W.Sink.contents c.args.sink.now) (g.W.Sink.contents c.write.new.sink)
+    (debug_state c.write.new.self c.args.images.now) (debug_state c.args.self.now c.args.images.now)
+    c.args.self.now.setting c.args.script.now.number c.args.words.now (block_lines c.args.script.now.left) _
+    (debug_request_of_command c.args.command) (sym (ap debug_request_of_command c.in-Write.is)) (c.write.ensures.told c.args.images.now)
+
+pub returns-in-Find-clause-told : goal.returns-in-Find-clause-told
+returns-in-Find-clause-told g c =
+    asked_if c.find.result (g.W.Sink.contents c.args.sink.now) (g.W.Sink.contents c.find.new.sink)
+    (debug_state c.find.new.self c.args.images.now) (debug_state c.args.self.now c.args.images.now)
+    c.args.self.now.setting c.args.script.now.number c.args.words.now (block_lines c.args.script.now.left) _
+    (debug_request_of_command c.args.command) (sym (ap debug_request_of_command c.in-Find.is)) (c.find.ensures.told c.args.images.now)
+
 pub returns-in-Mode-clause-told : goal.returns-in-Mode-clause-told
 returns-in-Mode-clause-told g c =
     asked_if c.mode_line.result (g.W.Sink.contents c.args.sink.now) (g.W.Sink.contents c.mode_line.new.sink)
     (debug_state c.mode_line.new.self c.args.images.now) (debug_state c.args.self.now c.args.images.now)
     c.args.self.now.setting c.args.script.now.number c.args.words.now (block_lines c.args.script.now.left) _
     (debug_request_of_command c.args.command) (sym (ap debug_request_of_command c.in-Mode.is)) (c.mode_line.ensures.told c.args.images.now)
+
+pub returns-in-Unknown-clause-told : goal.returns-in-Unknown-clause-told
+returns-in-Unknown-clause-told g c =
+    let d = debug_state c.args.self.now c.args.images.now in
+    asked_if c.refuse.result (g.W.Sink.contents c.args.sink.now) (g.W.Sink.contents c.refuse.new.sink)
+    (debug_state c.refuse.new.self c.args.images.now) d
+    c.args.self.now.setting c.args.script.now.number c.args.words.now (block_lines c.args.script.now.left) _
+    (debug_request_of_command c.args.command) (sym (ap debug_request_of_command c.in-Unknown.is))
+    (subst (λ (n : ℕ). OnOk c.refuse.result (IsDebugged (g.W.Sink.contents c.args.sink.now) (g.W.Sink.contents c.refuse.new.sink)
+    (debug_state c.refuse.new.self c.args.images.now) (unknown_told c.args.self.now.setting d n c.args.words.now)))
+    c.number-in-Unknown.ensures (c.refuse.ensures.told c.args.images.now))

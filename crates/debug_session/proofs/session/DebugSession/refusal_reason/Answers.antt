@@ -4,9 +4,12 @@ use Rattle.std.specs.Prelude.{Ok, Err, OnOk}
 use Rattle.std.specs.Io.KnownBytes.{Appends}
 use Rattle.command_shell_lines.specs.Requests.{words}
 use Rattle.command_shell_lines.specs.debug_words.Forms.{form_of_line}
-use Rattle.debug_labels.specs.Lines.{unnumbered_word}
+use Rattle.debug_labels.specs.Lines.{line_with_numbers, unnumbered_word}
 use Rattle.debug_labels.specs.Reasons.{form_text, reason_by_word}
 use Rattle.debug_labels.specs.Words.{Naming}
+use Rattle.debug_labels.specs.place_views.Places.{line_naming_on}
+use Rattle.debug_tables.specs.run_meter.Value.{MachineValue}
+use Rattle.debug_tables.specs.run_meter.Parts.{state_of}
 use Rattle.debug_session.specs.Session.{debug_state}
 use Rattle.debug_session.proofs.session.DebugSession.refusal_reason.Goals as goal
 
@@ -25,4 +28,6 @@ returns-in-Ok c images =
     c.in-Ok.is c.new-text.ensures c.into_bytes.ensures c.push_reason.ensures.text
     ∙ ap (λ (n : Naming). reason_by_word n.labels form (unnumbered_word (words c.as_slice.result.now))) c.names_on-names.ensures
     ∙ ap (λ (xs : List ℕ). reason_by_word d.labels form (unnumbered_word (words xs)))
-    (c.as_slice.ensures.value ∙ c.in_ok-numbered.ensures images)
+    (c.as_slice.ensures.value ∙ c.in_ok-numbered.ensures
+    ∙ ap (λ (m : MachineValue). line_with_numbers (line_naming_on d.labels (state_of m.guest)) c.args.words.now)
+    c.machine-2.ensures)
