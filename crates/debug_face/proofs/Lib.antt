@@ -2,6 +2,7 @@ pub mod AnsweringLemmas
 pub mod FrontLineLemmas
 pub mod GoingOnLemmas
 pub mod ReadLemmas
+pub mod ShownLemmas
 pub mod SpellingLemmas
 pub mod TalkLemmas
 pub mod TranscriptLemmas

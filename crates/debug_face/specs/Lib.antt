@@ -5,6 +5,7 @@ pub mod Endings
 pub mod FrontLines
 pub mod GoingOn
 pub mod Options
+pub mod Shown
 pub mod Spelling
 pub mod Talking
 pub mod Transcript

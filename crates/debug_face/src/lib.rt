@@ -15,6 +15,7 @@ mod options;
 mod process;
 mod prompted;
 mod refusal;
+mod shown;
 mod spelling;
 mod talk;
 mod transcript;

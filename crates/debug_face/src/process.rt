@@ -11,6 +11,7 @@ use crate::going_on::talk_behind_script;
 use crate::options::WantedForm;
 use crate::prompted::PromptedLines;
 use crate::refusal::DebugRefusal;
+use crate::shown::ShownAnswers;
 use crate::talk::{hand_on, talk};
 use crate::transcript::show_transcript;
 use crate::words::{WantedSession, read_words};
@@ -123,7 +124,8 @@ where
     let Ok(buffered) = BufWriter::new(alloc, io::writer(rt)) else {
         return Err(DebugRefusal::Memory);
     };
-    let mut writer = Device::new(buffered);
+    let shows_answers = is_terminal && wanted.form == WantedForm::Lines(ReportForm::Answers);
+    let mut writer = Device::new(ShownAnswers::new(buffered, shows_answers));
     match wanted.form {
         WantedForm::Lines(form) => answer_lines(
             alloc,
@@ -182,6 +184,7 @@ where
     let Ok(buffered) = BufWriter::new(alloc, io::writer(rt)) else {
         return Err(DebugRefusal::Memory);
     };
+    let shows_answers = is_terminal && form == ReportForm::Answers;
     let mut input = PromptedLines::new(Device::new(rt.reader()), is_terminal);
     answer_both(
         alloc,
@@ -189,7 +192,7 @@ where
         &mut images,
         Device::new(script),
         &mut input,
-        &mut Device::new(buffered),
+        &mut Device::new(ShownAnswers::new(buffered, shows_answers)),
         errors,
         is_terminal,
     )

@@ -37,8 +37,8 @@ impl<S: Source> Source for WholeLines<S> {
     }
 }
 
-// Whether a line is open behind a piece, by whether one was open before it.
-fn is_open_behind(was_open: bool, piece: &[u8]) -> bool
+/// Whether a line is open behind a piece, by whether one was open before it.
+pub(crate) fn is_open_behind(was_open: bool, piece: &[u8]) -> bool
     ensures { result ≡ is_open_behind was_open piece.now }
 {
     let mut is_open = was_open;
