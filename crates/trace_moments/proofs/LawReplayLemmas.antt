@@ -1,1 +1,2 @@
 pub mod PrefixLemmas
+pub mod StepLemmas

@@ -1,4 +1,6 @@
 pub mod LawReplayLemmas
+pub mod FlexLemmas
+pub mod FrameLemmas
 pub mod ItemLemmas
 pub mod WalkLemmas
 pub mod LawTraceLemmas

@@ -1,0 +1,9 @@
+-- What is said of a value that may differ from what it was: the new one, where it differs, and nothing
+-- else.
+use Rattle.std.specs.Prelude.{◌≡◌, ◌≢◌, Option, unwrap_or, IfSome}
+
+-- Whoever has the old value, and puts what is said in its place, has the new one; and what is said isn't
+-- the old one.
+pub record IsDifference {X : Type 0} (old new : X) (told : Option X) : Type 0 where
+  pub replays : unwrap_or told old ≡ new
+  pub differs : IfSome told (λ x. old ≢ x)
