@@ -13,6 +13,7 @@ use trace_effects::record_text::RecordText;
 use trace_effects::store_words::StoreCopy;
 use trace_effects::told_registers::{WrittenRegisters, told_registers};
 use trace_effects::told_words::changed_words;
+use trace_moments::{ShownAreas, changed_areas, changed_modules, shown_areas};
 
 /// What is kept of a machine, to tell later what differs.
 #[derive(Drop)]
@@ -20,8 +21,7 @@ pub struct MachineCopy {
     pub(crate) cpu: Cpu,
     pub(crate) frames: usize,
     store: StoreCopy,
-    areas: RecordText,
-    modules: RecordText,
+    areas: ShownAreas,
 }
 
 impl MachineCopy {
@@ -35,22 +35,9 @@ impl MachineCopy {
             cpu: *machine.cpu(),
             frames: machine.frames(),
             store: StoreCopy::of(alloc, machine)?,
-            areas: areas_of(alloc, machine)?,
-            modules: modules_of(alloc, machine)?,
+            areas: shown_areas(machine.areas(), machine.memory()),
         })
     }
-}
-
-fn areas_of(alloc: Global, machine: &Machine) -> Result<RecordText, AllocError> {
-    let mut text = RecordText::new(alloc);
-    push_areas(&mut text, machine.areas().list(), machine.memory())?;
-    Ok(text)
-}
-
-fn modules_of(alloc: Global, machine: &Machine) -> Result<RecordText, AllocError> {
-    let mut text = RecordText::new(alloc);
-    push_modules(&mut text, machine.instances())?;
-    Ok(text)
 }
 
 /// Writes what a core differs in from one before it, and registers that were written; and under a name
@@ -93,22 +80,24 @@ pub(crate) fn push_store_changes(
 ) -> Result<(), AllocError> {
     let old = &before.store;
     push_changed_heaps(alloc, text, old.memory(), machine.memory(), fate)?;
-    push_flex_changes(text, old, machine)?;
-    if areas_of(alloc, machine)?.bytes() != before.areas.bytes() {
-        push_areas(text, machine.areas().list(), machine.memory())?;
+    push_flex_changes(alloc, text, old, machine)?;
+    if let Some(areas) = changed_areas(&before.areas, machine.areas(), machine.memory()) {
+        push_areas(text, &areas)?;
     }
-    if modules_of(alloc, machine)?.bytes() != before.modules.bytes() {
-        push_modules(text, machine.instances())?;
+    match changed_modules(old.instances(), machine.instances()) {
+        Some(modules) => push_modules(text, modules.as_slice()),
+        None => Ok(()),
     }
-    Ok(())
 }
 
 fn push_flex_changes(
+    alloc: Global,
     text: &mut RecordText,
     before: &StoreCopy,
     machine: &Machine,
 ) -> Result<(), AllocError> {
     push_changed_flex(
+        alloc,
         text,
         before.memory(),
         before.flex(),

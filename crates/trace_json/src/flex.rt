@@ -4,29 +4,30 @@ ghost use Rattle.flex_store.specs.State.{IsFlex};
 
 use address_map::AddressMap;
 use flex_store::{Flex, FlexBlock};
-use std::alloc::AllocError;
+use std::alloc::{AllocError, Global};
 use trace_effects::record_text::{Bracket, RecordText};
-use trace_store_text::flex::{find_block, is_same_block};
+use trace_moments::{FlexChange, FlexRange, changed_blocks, changed_range};
 
 /// Writes where the flex store is, `null` where there is none.
 pub(crate) fn push_store(
     text: &mut RecordText,
     name: &[u8],
-    range: Option<(u32, u32, u32)>,
+    range: Option<FlexRange>,
 ) -> Result<(), AllocError> {
     text.name(name)?;
-    let Some((start, end, used)) = range else {
+    let Some(range) = range else {
         return text.word(b"null");
     };
     text.open(Bracket::Object)?;
-    text.number_field(b"start", u64::from(start))?;
-    text.number_field(b"end", u64::from(end))?;
-    text.number_field(b"used", u64::from(used))?;
+    text.number_field(b"start", u64::from(range.start))?;
+    text.number_field(b"end", u64::from(range.end))?;
+    text.number_field(b"used", u64::from(range.used))?;
     text.close(Bracket::Object)
 }
 
 /// Writes the blocks that are gone, new or elsewhere, and where the store is if that differs.
 pub(crate) fn push_changed_flex(
+    alloc: Global,
     text: &mut RecordText,
     before: &AddressMap,
     old: &Flex,
@@ -36,69 +37,45 @@ pub(crate) fn push_changed_flex(
     requires old { IsFlex before.now old.now }
     requires new { IsFlex after.now new.now }
 {
-    let mut is_open = false;
-    for block in old.blocks(before) {
-        if find_block(new.blocks(after), block.anchor).is_none() {
-            open_once(text, &mut is_open)?;
-            push_gone(text, &block)?;
-        }
+    let changes = changed_blocks(alloc, before, old, after, new)?;
+    push_blocks(text, changes.as_slice())?;
+    match changed_range(old, new) {
+        Some(range) => push_store(text, b"flex_store", range),
+        None => Ok(()),
     }
-    for block in new.blocks(after) {
-        match find_block(old.blocks(before), block.anchor) {
-            None => {
-                open_once(text, &mut is_open)?;
-                push_new(text, &block)?;
-            }
-            Some(was) => {
-                if !is_same_block(&was, &block) {
-                    open_once(text, &mut is_open)?;
-                    push_other(text, &was, &block)?;
-                }
-            }
-        }
+}
+
+fn push_blocks(text: &mut RecordText, changes: &[FlexChange]) -> Result<(), AllocError> {
+    if changes.is_empty() {
+        return Ok(());
     }
-    if is_open {
+    text.open_field(b"flex", Bracket::List)?;
+    for change in changes {
+        text.open(Bracket::List)?;
+        push_change(text, change)?;
         text.close(Bracket::List)?;
     }
-    if old.range() == new.range() {
-        return Ok(());
-    }
-    push_store(text, b"flex_store", new.range())
-}
-
-fn open_once(text: &mut RecordText, is_open: &mut bool) -> Result<(), AllocError> {
-    if *is_open {
-        return Ok(());
-    }
-    *is_open = true;
-    text.open_field(b"flex", Bracket::List)
-}
-
-fn push_gone(text: &mut RecordText, block: &FlexBlock) -> Result<(), AllocError> {
-    text.open(Bracket::List)?;
-    text.string(b"-")?;
-    text.number(u64::from(block.anchor))?;
     text.close(Bracket::List)
 }
 
-fn push_new(text: &mut RecordText, block: &FlexBlock) -> Result<(), AllocError> {
-    text.open(Bracket::List)?;
-    text.string(b"+")?;
-    push_place(text, block)?;
-    text.close(Bracket::List)
+fn push_change(text: &mut RecordText, change: &FlexChange) -> Result<(), AllocError> {
+    match (change.was, change.is) {
+        (Some(was), Some(is)) => {
+            push_place(text, b"=", &is)?;
+            text.number(u64::from(was.at))?;
+            text.number(u64::from(was.size))
+        }
+        (None, Some(is)) => push_place(text, b"+", &is),
+        (_, None) => {
+            text.string(b"-")?;
+            text.number(u64::from(change.anchor))
+        }
+    }
 }
 
-fn push_place(text: &mut RecordText, block: &FlexBlock) -> Result<(), AllocError> {
+fn push_place(text: &mut RecordText, sign: &[u8], block: &FlexBlock) -> Result<(), AllocError> {
+    text.string(sign)?;
     text.number(u64::from(block.anchor))?;
     text.number(u64::from(block.at))?;
     text.number(u64::from(block.size))
-}
-
-fn push_other(text: &mut RecordText, was: &FlexBlock, is: &FlexBlock) -> Result<(), AllocError> {
-    text.open(Bracket::List)?;
-    text.string(b"=")?;
-    push_place(text, is)?;
-    text.number(u64::from(was.at))?;
-    text.number(u64::from(was.size))?;
-    text.close(Bracket::List)
 }

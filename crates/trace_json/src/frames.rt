@@ -4,8 +4,9 @@ use crate::names::mode_name;
 use arm_core::{Cpu, Mode};
 use instances::Instances;
 use std::alloc::AllocError;
-use swi_dispatch::{CodeKind, Frame, FrameKind, Machine};
+use swi_dispatch::{CodeKind, FrameKind, Machine};
 use trace_effects::record_text::{Bracket, RecordText};
+use trace_moments::{ShownFrame, changed_frames};
 use trace_store_text::modules::marks_of;
 
 /// Writes which frames a step has left and which one it entered, where so many were kept open of so
@@ -17,27 +18,24 @@ pub(crate) fn push_frames(
     machine: &Machine,
     caller: Option<u32>,
 ) -> Result<(), AllocError> {
-    if kept < count {
+    let changes = changed_frames(count, kept, machine.open_frames());
+    if let Some(kept) = changes.kept {
         text.number_field(b"leaves", (kept as u64).saturating_add(1))?;
     }
-    let frames = machine.open_frames();
-    if kept < frames.len() {
-        if let Some(frame) = frames.last() {
-            return push_entered(text, frame, frames.len(), machine, caller);
-        }
+    match changes.entered {
+        Some(frame) => push_entered(text, frame, machine, caller),
+        None => Ok(()),
     }
-    Ok(())
 }
 
 fn push_entered(
     text: &mut RecordText,
-    frame: &Frame,
-    number: usize,
+    frame: ShownFrame,
     machine: &Machine,
     caller: Option<u32>,
 ) -> Result<(), AllocError> {
     text.open_field(b"enters", Bracket::Object)?;
-    text.number_field(b"frame", number as u64)?;
+    text.number_field(b"frame", machine.frames() as u64)?;
     push_kind(text, frame.kind)?;
     push_instance(text, machine.instances(), frame.slot)?;
     text.name(b"caller")?;

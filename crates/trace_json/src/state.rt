@@ -8,6 +8,8 @@ use crate::words::push_memory;
 use std::alloc::AllocError;
 use swi_dispatch::Machine;
 use trace_effects::record_text::RecordText;
+use trace_moments::{flex_range_of, shown_areas};
+use trace_store_text::modules::marks_of;
 
 /// Writes all that stands in a machine: its core, its memory, its heaps, areas and modules, and where
 /// its flex store is.
@@ -19,7 +21,7 @@ pub fn push_state(text: &mut RecordText, machine: &Machine) -> Result<(), AllocE
     push_core(text, machine.cpu())?;
     push_memory(text, machine.memory())?;
     push_all_heaps(text, machine.memory())?;
-    push_areas(text, machine.areas().list(), machine.memory())?;
-    push_store(text, b"flex", machine.flex().range())?;
-    push_modules(text, machine.instances())
+    push_areas(text, &shown_areas(machine.areas(), machine.memory()))?;
+    push_store(text, b"flex", flex_range_of(machine.flex()))?;
+    push_modules(text, marks_of(machine.instances()).as_slice())
 }
