@@ -54,9 +54,9 @@ def parser_of(program: str) -> Parser:
                     description="assembles an old source, for ObjAsm or in BBC BASIC; it writes a block")
     parser.add_argument("-h", "--help", action="store_true", help=argparse.SUPPRESS)
     parser.add_argument("--name", help="the image's name: program")
-    parser.add_argument("--origin", help="where the program stands: &8000; a module has 0")
+    parser.add_argument("--origin", help="the program's address: &8000; a module has 0")
     parser.add_argument("--bind", action="append", default=[], metavar="NAME=VALUE",
-                        help="a name's value, or %%N for a room of N bytes behind the program")
+                        help="a name's value, or %%N for N bytes after the program")
     parser.add_argument("--basic", action="store_true", help="the first FILE is a listing in BASIC")
     parser.add_argument("--output", choices=["block", "binary", "listing", "elf"], default="block")
     parser.add_argument("-o", dest="to", metavar="FILE", help="where the output goes")
@@ -109,12 +109,18 @@ def is_basic(path: str, data: bytes) -> bool:
 
 
 def looks_like_basic(data: bytes) -> bool:
-    """Whether a text that isn't said to be a listing looks like one: numbers, or BASIC's own words."""
+    """Whether a text that isn't said to be a listing is one: most of its lines have numbers, or several
+    have words that no source for ObjAsm has."""
     lines = [line for line in lines_of(data)[:200] if line.strip()]
     numbered = sum(bool(re.match(r" *[0-9]{1,5} ?[A-Z*.\[(]", line)) for line in lines)
-    own = re.compile(r"\[ *OPT|\bP%=|\bDIM [a-z]+%|\bDEFPROC|\bDEFFN|\bENDPROC")
-    words = sum(bool(own.search(line)) for line in lines)
+    own = re.compile(r"\[ *OPT|\bP%=|\bDIM [a-z]+%")
+    words = sum(bool(own.search(line.partition(";")[0])) for line in lines)
     return bool(lines) and (numbered > len(lines) // 2 or words > 1)
+
+
+def is_no_text(data: bytes) -> bool:
+    """Whether a file has bytes that no source has, as those of a program or a module."""
+    return sum(byte < 32 and byte not in b"\t\n\r\f\x1A" for byte in data[:1000]) > 20
 
 
 def image_name(name: str | None, origin: str | None) -> tuple[str, int | None]:
@@ -131,16 +137,24 @@ def assemble(words: argparse.Namespace) -> tuple[list[Program], MessageList]:
     if origin is not None and (origin % 4 or origin >= 1 << 26):
         raise CommandError("--origin is a multiple of 4 below &4000000")
     values, rooms = parse_bindings(words.bind)
-    if words.basic or is_basic(words.files[0], read_bytes(words.files[0])):
+    data = read_bytes(words.files[0])
+    if words.basic or is_basic(words.files[0], data):
         return run_listing(words, name, origin, values)
     if words.heap or words.time:
         raise CommandError("--heap and --time are for listings in BASIC")
+    if is_no_text(data):
+        messages = MessageList()
+        messages.error(Position(words.files[0], 1), "this is no text; a module or a program without "
+                       "its source is an image, which rosm_debug FILE takes as it is")
+        return [], messages
     options = Options(words.files, name, origin, values, rooms, linked=not words.source_order,
                       bars=words.bars)
     program = assemble_files(options)
-    if program.messages.errors() and looks_like_basic(read_bytes(words.files[0])):
-        program.messages.note(Position(words.files[0], 0),
-                              "this looks like a listing in BASIC: --basic runs it")
+    if program.messages.errors() and looks_like_basic(data):
+        # errors of each of its lines would only hide this one
+        program.messages = MessageList()
+        program.messages.error(Position(words.files[0], 1), "this is a listing in BASIC: --basic runs it")
+        return [], program.messages
     return ([program] if program.data else []), program.messages
 
 
@@ -150,7 +164,7 @@ def run_listing(words: argparse.Namespace, name: str, origin: int | None,
     if values or words.bind or words.source_order or words.bars:
         raise CommandError("--bind, --source-order and --bars are for sources for ObjAsm")
     if origin is not None:
-        raise CommandError("--origin isn't for listings in BASIC: P% says where the program stands")
+        raise CommandError("--origin isn't for listings in BASIC: P% sets the address")
     from .basic import Options as BasicOptions
     from .basic import assemble as run
     messages = MessageList()

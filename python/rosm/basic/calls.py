@@ -162,7 +162,7 @@ def do_proc(basic: Basic) -> None:
 def do_endproc(basic: Basic) -> bool:
     frame = basic.frames[-1]
     if frame.kind != "PROC":
-        raise BasicError("this stands in no PROC that was called", "ENDPROC")
+        raise BasicError("this is in no PROC that was called", "ENDPROC")
     frame.done = True
     return JUMPED
 
@@ -171,7 +171,7 @@ def do_result(basic: Basic) -> bool:
     """`=value` ends an FN."""
     frame = basic.frames[-1]
     if frame.kind != "FN":
-        raise BasicError("this stands in no FN that was called", "=")
+        raise BasicError("this is in no FN that was called", "=")
     value = basic.evaluate()
     if isinstance(value, Array):
         raise BasicError("an FN has no array for its value", "=")
@@ -191,7 +191,7 @@ def do_local(basic: Basic) -> None:
         frame.hidden.append((None, DataPlace(), basic.data))
         return
     if basic.frames[-1].kind == "main":
-        raise BasicError("this stands in no PROC or FN", "LOCAL")
+        raise BasicError("this is in no PROC or FN", "LOCAL")
     while True:
         basic.blank()
         scan = Scan(basic.text, basic.at)

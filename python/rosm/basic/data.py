@@ -99,7 +99,7 @@ def restore_data(basic: Basic) -> None:
         if isinstance(hidden[place][1], DataPlace):
             basic.data = hidden.pop(place)[2]
             return
-    raise BasicError("no LOCAL DATA stands before this in its PROC or FN", "RESTORE DATA")
+    raise BasicError("no LOCAL DATA comes before this in its PROC or FN", "RESTORE DATA")
 
 
 def do_data(basic: Basic) -> bool:

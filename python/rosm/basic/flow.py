@@ -126,7 +126,7 @@ def do_case(basic: Basic) -> bool:
     value = basic.evaluate()
     basic.need(T["OF"])
     if basic.blank() != END:
-        raise BasicError("OF stands last on its line", basic.word())
+        raise BasicError("OF comes last on its line", basic.word())
     while True:
         ends = (T["WHEN"], T["OTHERWISE"], T["ENDCASE"])
         found = skip_block(basic, ends, T["OF"], T["ENDCASE"], "CASE")

@@ -329,9 +329,9 @@ class Assembler:
         if line.label:
             self.define_label(line.label)
         if reason is None:
-            reason = "this is no instruction, no directive, and no macro that stands before this line"
+            reason = "this is no instruction, no directive, and no macro defined before this line"
             if not line.label and not line.operands:
-                reason += "; a label stands in the first column"
+                reason += "; a label begins in the first column"
         raise SourceError(reason, name)
 
     def define_label(self, label: str) -> None:
@@ -384,7 +384,7 @@ class Assembler:
             raise SourceError(f"macros and files are more than {DEEPEST_CALLS} deep", macro.name)
         parameters = bind_parameters(macro, line.label, condition, line.operands)
         if line.label and not macro.label:
-            self.warn("the macro takes no label; it stands for the place of the call", line.label)
+            self.warn("the macro takes no label; it is the address of the call", line.label)
             self.define_label(line.label)
         elif line.label and not any("$" + macro.label in text for _, text in macro.lines):
             self.warn("the macro doesn't use its label, so nothing has this name", line.label)

@@ -166,7 +166,7 @@ def align(assembler: "Assembler", line: Line) -> None:
         raise SourceError("ALIGN wants a power of two, 65536 at most", line.operands)
     missing = assembler.align(step, offset=offset)
     if line.label and missing:
-        assembler.warn("the label stands behind the zero bytes", line.label)
+        assembler.warn("the label comes after the zero bytes", line.label)
     assembler.define_label(line.label)
 
 

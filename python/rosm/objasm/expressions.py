@@ -191,7 +191,7 @@ class Expressions:
             return self.part_of_distance(name)
         work = UNARY.get(name)
         if work is None:
-            raise SourceError("this is no operator that stands before a value", name)
+            raise SourceError("no operator of this name comes before a value", name)
         try:
             return work(self.unary())
         except Undefined:

@@ -90,7 +90,7 @@ def wrong_label(text: str) -> str:
         return "a label has no colon behind it"
     if text[0] == "$":
         return "this stands for nothing"
-    return "no label begins or ends so; what isn't a label stands behind a space"
+    return "no label begins or ends so; anything but a label needs a space before it"
 
 
 @lru_cache(maxsize=200_000)
