@@ -72,7 +72,7 @@ class Library:
         best = max((score for score, _ in scores), default=0)
         fitting = [path for score, path in scores if score == best]
         if best == 0:
-            raise SourceError("no file on the command line has this name", name)
+            raise SourceError("none of the files given with the source has this name", name)
         if len(fitting) > 1:
             raise SourceError(f"several files have this name: {', '.join(fitting)}", name)
         return fitting[0]

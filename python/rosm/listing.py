@@ -36,7 +36,8 @@ def listing_of(program: Program) -> str:
     covered = program.origin
     for row in program.sorted_rows():
         if row.address > covered:
-            lines.append(f"{covered:08X} {row.address - covered} bytes that no line made")
+            count = row.address - covered
+            lines.append(f"{covered:08X} {count} byte{'s' if count > 1 else ''} that no line made")
         data = program.bytes_at(row.address, row.length)
         shown = list(units(row.address, data))
         if len(shown) > 2 * WIDTH and not any(data):

@@ -68,7 +68,13 @@ class Message:
         if place.text.strip():
             lines.append("    " + place.text.strip("\r\n").expandtabs(8).strip())
         lines += ["    " + call.text() for call in place.calls]
-        return "\n".join(lines)
+        return "\n".join(map(printable, lines))
+
+
+def printable(text: str) -> str:
+    """A line for a terminal: signs that would steer it are shown by their numbers."""
+    return "".join(f"\\x{ord(sign):02X}" if sign < " " or "\x7F" <= sign < "\xA0" else sign
+                   for sign in text)
 
 
 class SourceError(Exception):

@@ -12,6 +12,7 @@ import re
 from dataclasses import dataclass, field
 from typing import Any, Iterator
 
+from ..hints import hint_of
 from ..native import Engine, Settings, bytes_of
 from .history import History, Record
 
@@ -21,9 +22,11 @@ STEPPING = re.compile(r"\s*((TRACE|REPEAT\s+\S+)\s+)*(RUN|STEP|CALL|LOAD|FINISH|
                       re.IGNORECASE)
 # those of which a part can be taken again
 PLAIN_STEPS = re.compile(r"\s*(RUN|STEP\s+\S+)\s*", re.IGNORECASE)
-NAMED_LINE = re.compile(r"\bline (\d+): \w+$", re.MULTILINE)
+NAMED_LINE = re.compile(r"\bline (\d+): (\w+)$", re.MULTILINE)
 # so many signs of a source's line stand in an error
 MOST_SOURCE = 80
+# an error in the list of all errors of a block: the assembler can't read the line
+SYNTAX = re.compile(r"^line (\d+): .*(?=\(Syntax\)$)", re.MULTILINE)
 QUIT = re.compile(r"\s*((TRACE|REPEAT\s+\S+)\s+)*QUIT\b", re.IGNORECASE)
 FAILED_LINE = re.compile(r"^fail line \d+: ", re.MULTILINE)
 # an error of a block's line, by the number of the line in the script
@@ -213,13 +216,20 @@ def text_in_block(record: Record) -> str:
 
 
 def with_texts(text: str, lines: list[str]) -> str:
-    """What an assembler says, with the text of each line that it names by number and one word."""
-    def told(found: re.Match[str]) -> str:
-        number = int(found[1])
-        source = lines[number - 1].strip()[:MOST_SOURCE] if 1 <= number <= len(lines) else ""
-        return f"{found[0]}: {source}" if source else found[0]
+    """What an assembler says, with the text of each line that it names by number and one word, and hints."""
+    def line_of(found: re.Match[str]) -> str:
+        return lines[int(found[1]) - 1] if 1 <= int(found[1]) <= len(lines) else ""
 
-    return NAMED_LINE.sub(told, text)
+    def with_source(found: re.Match[str]) -> str:
+        source = line_of(found).strip()[:MOST_SOURCE]
+        hint = hint_of(line_of(found)) if found[2] == "Syntax" else ""
+        return f"{found[0]}: {source}" + (f" ({hint})" if hint else "") if source else found[0]
+
+    def with_hint(found: re.Match[str]) -> str:
+        hint = hint_of(line_of(found))
+        return f"{found[0]}({hint}) " if hint else found[0]
+
+    return NAMED_LINE.sub(with_source, SYNTAX.sub(with_hint, text))
 
 
 def answered_of(records: list[Record]) -> Answered:

@@ -13,7 +13,7 @@ from ..native import LibraryMissing, library_path
 from .cases import CasesError, Exercise, read_exercise
 from .feedback import feedback_page
 from .grading import Mark
-from .reports import classroom, gradescope, summary, table
+from .reports import class_summary, classroom, gradescope, summary, table
 from .submission import Refused, read_submission
 from .whole_class import mark_all
 
@@ -123,6 +123,8 @@ def mark_files(program: str, words: argparse.Namespace) -> int:
     for mark in mark_all(exercise, words.files, words.jobs):
         print(summary(mark), flush=True)
         marks.append(mark)
+    if len(marks) > 1:
+        print("\n".join(class_summary(marks)))
     write_reports(words, exercise, marks)
     is_short = any(mark.passed < len(mark.cases) for mark in marks)
     return NOT_ALL_POINTS if words.strict and is_short else OK

@@ -37,7 +37,7 @@ PAGE = """<!doctype html>
 {body}
 </html>
 """
-LINE = re.compile(r"\bline (\d+)\b")
+LINE = re.compile(r"(?:^|: )line (\d+)\b", re.MULTILINE)
 
 
 def escaped(text: str) -> str:
@@ -48,14 +48,19 @@ def escaped(text: str) -> str:
 
 def feedback_page(exercise: Exercise, mark: Mark, source: bytes | None) -> str:
     """The page. Of hidden cases it has the points alone."""
-    parts = [f"<section class=failed><h2>Nothing was run</h2><p>{escaped(mark.refused)}</p></section>"] \
-        if mark.refused else case_parts(mark.cases)
+    parts = [refused_part(mark.refused)] if mark.refused else case_parts(mark.cases)
     if source is not None:
         parts.append(f"<h2>What was handed in</h2>\n{source_part(source, mark.refused)}")
     digest = base64.b64encode(hashlib.sha256(STYLE.encode()).digest()).decode()
     return PAGE.format(digest=digest, style=STYLE, title=escaped(exercise.title), name=escaped(Path(mark.path).name),
                        earned=mark.earned, points=mark.points, passed=mark.passed, count=len(mark.cases),
                        body="\n".join(parts))
+
+
+def refused_part(reasons: str) -> str:
+    """Why nothing was run, a paragraph for each reason."""
+    lines = "".join(f"<p>{escaped(reason)}</p>" for reason in reasons.split("\n"))
+    return f"<section class=failed><h2>Nothing was run</h2>{lines}</section>"
 
 
 def case_parts(cases: list[CaseMark]) -> list[str]:
@@ -94,11 +99,10 @@ def case_part(case: CaseMark) -> str:
 
 
 def source_part(source: bytes, reason: str) -> str:
-    """The lines that were handed in, by numbers; the one that a reason names stands out."""
-    found = LINE.search(reason)
-    named = int(found[1]) if found else 0
+    """The lines that were handed in, by numbers; those that reasons name are marked."""
+    named = {int(number) for number in LINE.findall(reason)}
     rows = []
     for number, line in enumerate(source.decode("utf-8", "replace").splitlines(), 1):
-        mark = " class=named" if number == named else ""
+        mark = " class=named" if number in named else ""
         rows.append(f"<li{mark}>{escaped(line)}</li>")
     return f"<ol class=source>{''.join(rows)}</ol>"

@@ -40,7 +40,7 @@ class CaseMark:
 
 @dataclass(frozen=True)
 class Mark:
-    """What came of a submission. `refused` is why nothing of it was run."""
+    """What came of a submission. `refused` is why nothing of it was run, in lines."""
 
     path: str
     refused: str = ""
@@ -157,8 +157,9 @@ class CaseRun:
         found = self.ending_problems()
         for name, wanted in case.expect_registers.items():
             found += self.register_problem(name, wanted)
-        found += [problem for name, wanted in self.kept.items() if name not in case.expect_registers
-                  for problem in self.register_problem(name, wanted, " as it was before")]
+        found += [f"{name} isn't as it was before: it is {number_text(value)}, and was &{wanted:X}"
+                  for name, wanted in self.kept.items() if name not in case.expect_registers
+                  and (value := self.register(name)) != wanted]
         for letter in case.flags:
             value = self.history.flags[letter.upper()].at(self.after)
             if bool(value) != letter.isupper():
@@ -172,12 +173,16 @@ class CaseRun:
             found.append(f"it takes {self.answered.steps} steps, and may take {case.steps}")
         return found
 
-    def register_problem(self, name: str, wanted: int, how: str = "") -> list[str]:
+    def register(self, name: str) -> int:
+        """A register's value at the end."""
         cell = self.history.registers.get(name)
-        value = cell.at(self.after) if cell else self.history.register(int(name[1:]), self.after)
+        return cell.at(self.after) if cell else self.history.register(int(name[1:]), self.after)
+
+    def register_problem(self, name: str, wanted: int) -> list[str]:
+        value = self.register(name)
         if value == wanted:
             return []
-        return [f"{name} is {number_text(value)}, and should be {number_text(wanted)}{how}"]
+        return [f"{name} is {number_text(value)}, and should be {number_text(wanted)}"]
 
     def ending_problems(self) -> list[str]:
         """Whether it came back, or ended, as it should, in which mode, and with which error."""
@@ -190,7 +195,7 @@ class CaseRun:
         if wanted == "Break":
             at = self.history.register(15, self.after)
             if answered.stop != "Break" or at != self.trap:
-                found.append(f"it doesn't go back to where R14 leads: {ending_text(ending, exercise.steps)}")
+                found.append(f"it doesn't return to the address in R14: {ending_text(ending, exercise.steps)}")
         elif answered.stop != wanted:
             found.append(f"it should end by {wanted}: {ending_text(ending, exercise.steps)}")
         mode = self.history.mode.at(self.after)
@@ -249,10 +254,18 @@ def memory_problem(at: str, content: bytes, found: bytes) -> list[str]:
 def given_text(case: Case) -> str:
     """What a case sets, in words."""
     words = [f"{name} = {number_text(value)}" for name, value in case.registers.items()]
-    words += [f"at {at}: {content.hex(' ')[:SHOWN_BYTES]}" for at, content in case.memory.items()]
+    words += [f"at {at}: {given_bytes(content)}" for at, content in case.memory.items()]
     if case.call is not None:
         words.append(f"the SWI &{case.call:X} is called")
     return ", ".join(words)
+
+
+def given_bytes(content: bytes) -> str:
+    """Bytes that a case sets, as a text where they are one that ends in 0."""
+    digits, text = content.hex(" ")[:SHOWN_BYTES], content.removesuffix(b"\0")
+    if len(text) < len(content) and text and all(32 <= byte < 127 for byte in text):
+        return f"{quoted(content.decode('latin-1'))} ({digits})"
+    return digits
 
 
 def ending_text(ending: str, steps: int) -> str:

@@ -4,10 +4,16 @@ from __future__ import annotations
 
 import csv
 import io
+import re
+from collections import Counter
 from typing import Any
 
 from .cases import Exercise
 from .grading import CaseMark, Mark
+
+# how many cases that failed are named for the whole class
+MOST_CASES = 3
+NUMBERED = re.compile(r" \d+$")
 
 
 def case_text(case: CaseMark) -> str:
@@ -51,7 +57,7 @@ def table(exercise: Exercise, marks: list[Mark]) -> str:
     writer.writerow(["file", "points", "of", *(cell(case.name) for case in exercise.cases), "remark"])
     for mark in marks:
         writer.writerow([cell(mark.path), f"{mark.earned:g}", f"{mark.points:g}",
-                         *(f"{case.earned:g}" for case in mark.cases), cell(mark.refused)])
+                         *(f"{case.earned:g}" for case in mark.cases), cell(mark.refused.replace("\n", " / "))])
     return out.getvalue()
 
 
@@ -65,10 +71,32 @@ def summary(mark: Mark) -> str:
     text = f"{mark.path}: {mark.earned:g} of {mark.points:g} points, {mark.passed} of {len(mark.cases)} cases"
     failed = next((case for case in mark.cases if case.problems), None)
     if mark.refused:
-        text += f"; nothing was run: {mark.refused}"
+        first, *more = mark.refused.split("\n")
+        text += f"; nothing was run: {first}" + (f" (and {len(more)} more)" if more else "")
     elif failed:
         text += f"; {failed.name}: {failed.problems[0]}"
     return printable(text)
+
+
+def class_summary(marks: list[Mark]) -> list[str]:
+    """Lines on all files together: how many have all points, and which cases failed most often."""
+    whole = sum(mark.passed == len(mark.cases) for mark in marks)
+    refused = sum(bool(mark.refused) for mark in marks)
+    average = sum(mark.earned for mark in marks) / len(marks)
+    lines = [f"{len(marks)} files: {whole} with all points, {refused} that weren't run;"
+             f" {average:.3g} of {marks[0].points:g} points on average"]
+    failed = Counter(name for mark in marks if not mark.refused for name in failed_names(mark))
+    if failed:
+        names = [f"{printable(name)} ({count})" for name, count in failed.most_common(MOST_CASES)]
+        lines.append(f"failed in most files: {'; '.join(names)}")
+    return lines
+
+
+def failed_names(mark: Mark) -> list[str]:
+    """The names of the cases that failed, each once. Random ones, `by chance 1` and so on, are one."""
+    stems = [NUMBERED.sub("", case.name) for case in mark.cases]
+    names = [stem if stems.count(stem) > 1 else case.name for stem, case in zip(stems, mark.cases)]
+    return list(dict.fromkeys(name for name, case in zip(names, mark.cases) if case.problems))
 
 
 def printable(text: str) -> str:

@@ -16,12 +16,15 @@ WHERE_BYTES_ARE_READ = 0x8000
 MOST_AT_ONCE = 4096
 SCRIPT_LINE = re.compile(r"\s*(ASM|HEX|OBJASM|BASIC)\s+\S+", re.IGNORECASE)
 OBJASM_LINE = re.compile(r"\s+(AREA|END|ENTRY|EXPORT|IMPORT|GET)\b|[A-Za-z_]\w*\s+(EQU|RN)\b", re.IGNORECASE)
+LISTED = re.compile(r"^line (\d+): .* \((\w+)\)$", re.MULTILINE)
+# how many errors of a source are given as reasons
+MOST_ERRORS = 5
 # what a text may have beside printing characters: a tab, line ends, a form feed
 CONTROLS = {9, 10, 12, 13}
 
 
 class Refused(Exception):
-    """Why nothing of a submission is run."""
+    """Why nothing of a submission is run: a line for each reason."""
 
 
 @dataclass(frozen=True)
@@ -117,7 +120,7 @@ def objasm_image(exercise: Exercise, lines: list[str]) -> Image:
         wrong = [" ".join(message.text().replace(f"{path}:", "line ").replace(": error: ", ": ", 1).split())
                  for message in program.messages.items if message.severity == "error"]
     if wrong:
-        raise Refused("; ".join(wrong[:5]))
+        raise Refused("\n".join(wrong[:MOST_ERRORS]))
     check_size(exercise, len(program.data))
     return Image(program.data, {label.name: label.address for label in program.labels})
 
@@ -128,12 +131,14 @@ def end_reason(lines: list[str], number: int) -> str:
         return f"line {number}: END: it is a whole script; only the lines between ASM and END are wanted"
     if any(OBJASM_LINE.match(line) for line in lines):
         return f'line {number}: END: it looks like a source for ObjAsm, which language = "objasm" takes'
-    return f"line {number}: END stands alone on a line"
+    return f"line {number}: END alone on a line isn't allowed"
 
 
 def assembly_reason(name: str, text: str, lines: list[str]) -> str:
-    """What the assembler says, with the text of the line that it names."""
-    text = with_texts(text.partition("\n")[0].removeprefix(f"asm {name}: "), lines)
+    """What the assembler says, a line for each error, with the text of the line that it names."""
+    first, _, listed = text.partition("\n")
+    found = [f"line {number}: {error}" for number, error in LISTED.findall(listed)[:MOST_ERRORS]]
+    text = with_texts("\n".join(found or [first.removeprefix(f"asm {name}: ")]), lines)
     if any(OBJASM_LINE.match(line) for line in lines):
         text += ' (it looks like a source for ObjAsm, which language = "objasm" takes)'
     return text

@@ -13,7 +13,8 @@ OPERATIONS = ("AND EOR SUB RSB ADD ADC SBC RSC TST TEQ CMP CMN ORR MOV BIC MVN M
               " DCD DCB SPACE ALIGN").split()
 REGISTERS = [f"R{number}" for number in range(16)] + ["SP", "LR", "PC"]
 TAKE_IMAGES = ("BOOT", "LOAD", "PUT", "FORGET", "COUNTS")
-TAKE_PLACES = ("BREAK", "UNBREAK", "MEM", "CODE", "HEAP", "POKE", "WORDS", "GOSUB", "WATCH", "UNWATCH", "STEP")
+TAKE_PLACES = ("BREAK", "UNBREAK", "MEM", "DUMP", "CODE", "HEAP", "POKE", "FILL", "FIND", "WORDS", "GOSUB", "WATCH",
+               "UNWATCH", "STEP")
 LABEL = re.compile(r"[A-Za-z_]\w*")
 
 
