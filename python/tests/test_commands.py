@@ -70,7 +70,7 @@ def test_listing(tmp_path: Path) -> None:
     text = rosm("--output", "listing", small(tmp_path)).stdout.decode().splitlines()
     assert text[0] == "00008000 E3A00001        1  start MOV r0,#1"
     assert text[1] == "00008004 61 62 00        2   DCB \"ab\",0"
-    assert text[2:] == ["00008007 1 bytes that no line made",
+    assert text[2:] == ["00008007 1 byte that no line made",
                         "00008008 00008000        4  last DCD start", "",
                         "Words that hold an address of the program itself, right at this origin alone",
                         "00008008", "", "Labels", "00008000 start", "00008008 last"]
@@ -178,11 +178,30 @@ LISTINGS = ["   10 DIM code% 100\n   20 P%=code%\n   30 [OPT 2\n   40 MOV R0,#1\
 def test_a_listing_that_isnt_said_to_be_one(text: str, tmp_path: Path) -> None:
     (tmp_path / "s").write_text(text)
     done = rosm(str(tmp_path / "s"))
-    assert done.returncode == 1 and b"this looks like a listing in BASIC: --basic runs it" in done.stderr
+    assert done.returncode == 1 and done.stdout == b""
+    assert done.stderr.decode() == f"{tmp_path}/s:1: error: this is a listing in BASIC: --basic runs it\n"
 
 
-def test_a_wrong_source_doesnt_look_like_a_listing() -> None:
+# macros of these names, and what stands in a comment, make no listing of a source
+MACROS = " MACRO\n DEFPROC\n MEND\n DEFPROC\n ENDPROC ; P%=code%\n ENDPROC ; [OPT 2\n"
+
+
+def test_a_wrong_source_doesnt_look_like_a_listing(tmp_path: Path) -> None:
     assert b"--basic" not in rosm(str(ROOT / "examples/old/wrong.s")).stderr
+    (tmp_path / "s").write_text(MACROS)
+    assert b"ENDPROC: this is no instruction" in rosm(str(tmp_path / "s")).stderr
+
+
+def test_what_is_no_text(tmp_path: Path) -> None:
+    (tmp_path / "m,ffa").write_bytes(bytes(range(256)))
+    done = rosm(str(tmp_path / "m,ffa"))
+    assert done.returncode == 1 and done.stderr.decode().startswith(f"{tmp_path}/m,ffa:1: error: this is no text; ")
+    assert done.stderr.count(b"\n") == 1
+
+
+def test_a_message_steers_no_terminal(tmp_path: Path) -> None:
+    (tmp_path / "s").write_bytes(b" FOO \x1b[2J\x07\x9b\n")
+    assert rosm(str(tmp_path / "s")).stderr.decode().splitlines()[1] == r"    FOO \x1B[2J\x07\x9B"
 
 
 def test_paths_of_any_bytes(tmp_path: Path) -> None:

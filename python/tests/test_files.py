@@ -31,7 +31,7 @@ def test_name_fits(name: str, path: str) -> None:
 
 
 @pytest.mark.parametrize("name, reason", [
-    ("h.Nothing", "no file on the command line"), ("ListOptsX", "no file on the command line"),
+    ("h.Nothing", "none of the files given"), ("ListOptsX", "none of the files given"),
     ("h.Twice", "several files have this name: one/Twice.h, two/Twice.h"), ("^", "this names no file"),
     ("h.same", "several files have this name: x/h/same, y/same.h")])
 def test_name_is_refused(name: str, reason: str) -> None:

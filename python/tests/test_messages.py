@@ -6,7 +6,7 @@ from pathlib import Path
 
 from rosm.objasm import Options, assemble_files
 
-UNKNOWN = "this is no instruction, no directive, and no macro that stands before this line"
+UNKNOWN = "this is no instruction, no directive, and no macro defined before this line"
 
 
 def messages_of(folder: Path, **files: str) -> list[str]:
@@ -41,7 +41,7 @@ def test_all_errors_in_their_order(tmp_path: Path) -> None:
     assert [text.split("\n")[0] for text in found] == [
         "main:1: error: no instruction has the number &101: it is no byte rotated by an even number of bits",
         "main:2: error: x: nothing has this name", "main:2: error: y: nothing has this name",
-        f"main:3: error: FOO: {UNKNOWN}; a label stands in the first column",
+        f"main:3: error: FOO: {UNKNOWN}; a label begins in the first column",
         "main:4: error: nowhere: nothing has this name"]
 
 
@@ -85,7 +85,7 @@ def test_columns_are_hinted_at(tmp_path: Path) -> None:
     assert [text.split("\n")[0] for text in found] == [
         "main:1: error: r0,#1: a space is wanted behind the operation; MOV, in the first column, is read "
         "as a label",
-        f"main:2: error: loop: {UNKNOWN}; a label stands in the first column",
+        f"main:2: error: loop: {UNKNOWN}; a label begins in the first column",
         f"main:3: error: FOO: {UNKNOWN}"]
 
 

@@ -41,6 +41,6 @@ def seconds(place: Path, count: int) -> float:
 
 
 def test_ten_thousand_lines(tmp_path: Path) -> None:
-    """About two seconds where nothing else runs. Ten times the lines may take twenty times the time on a busy machine, not a hundred times."""
+    """About two seconds where nothing else runs. Ten times the lines may take fifty times the time on a busy machine, not a hundred times."""
     long = seconds(tmp_path / "s", 10_000)
-    assert long < 2 or long < 20 * seconds(tmp_path / "s", 1_000)
+    assert long < 2 or long < 50 * seconds(tmp_path / "s", 1_000)

@@ -122,8 +122,8 @@ def test_a_library_is_named_in_messages(given: Options, tmp_path: Path) -> None:
 
 
 WRONG = [
-    ('f%=OPENIN"none"', "1: none: no file on the command line"),
-    ("*LOAD none 8000", "1: none: no file"),
+    ('f%=OPENIN"none"', "1: none: none of the files given"),
+    ("*LOAD none 8000", "1: none: none of the files given"),
     ("BPUT#5,1", "1: #5: no file is open"),
     ("*SAVE x 8F00", "1: *SAVE: a name, the start"),
     ("*SAVE x 8G00 9000", "1: *SAVE: `8G00` is no hexadecimal"),

@@ -25,6 +25,6 @@ def seconds(count: int) -> float:
 
 
 def test_ten_thousand_lines() -> None:
-    """About two seconds where nothing else runs. Ten times the lines may take twenty times the time on a busy machine, not a hundred times."""
+    """About two seconds where nothing else runs. Ten times the lines may take fifty times the time on a busy machine, not a hundred times."""
     long = seconds(10_000)
-    assert long < 2 or long < 20 * seconds(1_000)
+    assert long < 2 or long < 50 * seconds(1_000)

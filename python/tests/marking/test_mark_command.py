@@ -47,12 +47,15 @@ def test_a_class_of_every_kind(folder: Path) -> None:
     done = rosm(str(folder / "cases.toml"), *(str(folder / f"{name}.s") for name in names))
     assert done.returncode == 0 and done.stderr == b""
     lines = dict(zip(names, done.stdout.decode().splitlines()))
-    assert len(done.stdout.splitlines()) == len(names)
+    assert len(done.stdout.splitlines()) == len(names) + 2
+    assert done.stdout.decode().splitlines()[-2:] == [
+        "15 files: 1 with all points, 11 that weren't run; 1.13 of 10 points on average",
+        "failed in most files: 15 by 5 (3); 17 by 5 (2); the largest, which nobody is shown (2)"]
     assert lines["anna"] == f"{folder}/anna.s: 10 of 10 points, 3 of 3 cases"
     assert lines["ben"] == f"{folder}/ben.s: 7 of 10 points, 2 of 3 cases; 15 by 5: R2 is 2, and should be 3"
     for name, reason in (("empty", "it is empty"), ("bytes", "it is no text: line 1 has a byte 0"),
                          ("huge", "it has more than 65536 bytes"), ("utf16", "UTF-16"),
-                         ("end", "line 2: END stands alone on a line"), ("folder", "it is no file"), ("pipe", "it is no file"),
+                         ("end", "line 2: END alone on a line isn't allowed"), ("folder", "it is no file"), ("pipe", "it is no file"),
                          ("loops", "there is no such file"), ("absent", "there is no such file"),
                          ("zero", "it is no text: line 1 has a byte 0"), ("carl", "line 1: "), ("loop", "isn't done after")):
         assert "0 of 10 points" in lines[name] and reason in lines[name], lines[name]
@@ -77,7 +80,7 @@ def test_the_page_shows_what_is_printed(tmp_path: Path) -> None:
     page = (ROOT / "docs/MARKING.md").read_text()
     for line in done.stdout.decode().splitlines():
         assert "    " + line.removeprefix(f"{tmp_path}/") + "\n" in page
-    assert len(done.stdout.splitlines()) == 3
+    assert len(done.stdout.splitlines()) == 5
 
 
 def test_a_solution_that_fails(folder: Path) -> None:
@@ -103,6 +106,20 @@ def test_results_for_github_classroom(folder: Path) -> None:
     assert (anna["version"], anna["status"], ben["status"], carl["status"], ben["max_score"]) == (1, "pass", "fail", "error", 10)
     assert [test["score"] for test in ben["tests"]] == [2, 0, 5]
     assert "nobody is shown" not in json.dumps(ben) and "7FFFFFFF" not in json.dumps(ben)
+
+
+def test_all_errors_of_a_source(folder: Path) -> None:
+    """The first stands on the terminal, all on the page, where their lines are marked, and in the table on one line."""
+    (folder / "dora.s").write_text("divide: MOV R2,#0\n MOVE R0,R1 ; line 1\n MOV PC,R14\n B nowhere\n")
+    words = ["--html", str(folder / "pages"), "--csv", str(folder / "marks.csv"), str(folder / "cases.toml")]
+    done = rosm(*words, str(folder / "dora.s"))
+    first = "line 1: Syntax: divide: MOV R2,#0 (a label has no colon)"
+    assert done.stdout.decode() == f"{folder}/dora.s: 0 of 10 points, 0 of 3 cases; nothing was run: {first} (and 2 more)\n"
+    page = (folder / "pages/dora.html").read_text()
+    second, third = "line 2: Syntax: MOVE R0,R1 ; line 1 (no instruction MOVE; MOV?)", "line 4: UnknownLabel: B nowhere"
+    assert all(f"<p>{reason}</p>" in page for reason in (first, second, third))
+    assert page.count("<li class=named>") == 3 and "<li class=named> B nowhere" in page
+    assert f'"{first} / {second} / {third}"\n' in (folder / "marks.csv").read_text()
 
 
 def test_a_table_of_the_class(folder: Path) -> None:
@@ -174,7 +191,7 @@ def test_the_whole_class_side_by_side(folder: Path) -> None:
         (folder / f"s{number}.s").write_text(RIGHT if number % 2 else WRONG)
         words.append(str(folder / f"s{number}.s"))
     done = rosm("--jobs", "4", str(folder / "cases.toml"), *words)
-    assert [line.split(": ")[1].split(" ")[0] for line in done.stdout.decode().splitlines()] == ["7", "10"] * 6
+    assert [line.split(": ")[1].split(" ")[0] for line in done.stdout.decode().splitlines()[:-2]] == ["7", "10"] * 6
 
 
 @pytest.mark.parametrize("words, status, text", [

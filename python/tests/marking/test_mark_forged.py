@@ -35,7 +35,7 @@ def test_what_a_guest_prints_is_no_answer(text: str, tmp_path: Path) -> None:
     mark = marked(tmp_path, printing(text))
     assert mark.earned == 0
     # it came neither back, nor did it print nothing
-    assert mark.cases[0].problems[0] == "it doesn't go back to where R14 leads: stop Exit"
+    assert mark.cases[0].problems[0] == "it doesn't return to the address in R14: stop Exit"
     assert any(problem.startswith("it prints ") for problem in mark.cases[0].problems)
 
 

@@ -9,6 +9,9 @@ import pytest
 from library import needs_library
 from marking_cases import CASES, RIGHT, exercise_of, marked
 
+from rosm.marking.cases import Case
+from rosm.marking.grading import given_text
+
 pytestmark = needs_library
 
 PROGRAM = """
@@ -94,9 +97,16 @@ def test_what_is_wrong_has_a_reason(tmp_path: Path) -> None:
     assert "CMP R0,R1" in mark.cases[1].trace and mark.cases[1].given == "R0 = 15 (&F), R1 = 5"
 
 
+@pytest.mark.parametrize("content, shown", [
+    (b"a b\0", 'at &9000: "a b\\x00" (61 20 62 00)'), (b"a b", "at &9000: 61 20 62"), (b"\0", "at &9000: 00"),
+    (b"\x01\0", "at &9000: 01 00"), (b'"\0', 'at &9000: "\\"\\x00" (22 00)')])
+def test_memory_that_is_given(content: bytes, shown: str) -> None:
+    assert given_text(Case("x", memory={"&9000": content})) == shown
+
+
 def test_a_register_that_must_stay(tmp_path: Path) -> None:
     found = problems(tmp_path, "        MOV     R4,#0\n" + RIGHT)
-    assert len(found[0]) == 1 and re.fullmatch(r"R4 is 0, and should be -?\d+ \(&[0-9A-F]+\) as it was before", found[0][0])
+    assert len(found[0]) == 1 and re.fullmatch(r"R4 isn't as it was before: it is 0, and was &[0-9A-F]+", found[0][0])
 
 
 def test_a_limit_of_steps(tmp_path: Path) -> None:
@@ -106,14 +116,14 @@ def test_a_limit_of_steps(tmp_path: Path) -> None:
 
 def test_a_routine_without_end(tmp_path: Path) -> None:
     found = problems(tmp_path, "loop B loop\n")
-    assert found[0][0] == "it doesn't go back to where R14 leads: it isn't done after 5000 steps"
+    assert found[0][0] == "it doesn't return to the address in R14: it isn't done after 5000 steps"
 
 
 @pytest.mark.parametrize("source, reason", [
-    (" SWI OS_Exit\n", "it doesn't go back to where R14 leads: stop Exit"),
-    (" LDR R0,[R1]\n", "it doesn't go back to where R14 leads: stop DataUnmapped &8000"),
+    (" SWI OS_Exit\n", "it doesn't return to the address in R14: stop Exit"),
+    (" LDR R0,[R1]\n", "it doesn't return to the address in R14: stop DataUnmapped &8000"),
     (" MOV R3,R14\n SWI OS_EnterOS\n MOV PC,R3\n", "the mode is SVC, and should be USR"),
-    (" ADD R14,R14,#4\n MOV PC,R14\n", "it doesn't go back to where R14 leads: stop ")])
+    (" ADD R14,R14,#4\n MOV PC,R14\n", "it doesn't return to the address in R14: stop ")])
 def test_a_routine_that_ends_elsewhere(source: str, reason: str, tmp_path: Path) -> None:
     assert problems(tmp_path, source)[0][0].startswith(reason)
 
@@ -192,7 +202,7 @@ def test_a_source_for_objasm_reads_no_other_file(line: str, tmp_path: Path) -> N
     (tmp_path / "other").write_text(" MOV R0,#1\n")
     text = CASES.replace('name = "divide"', 'name = "divide"\nlanguage = "objasm"')
     mark = marked(tmp_path, f"{line}\n{RIGHT}", text)
-    assert mark.earned == 0 and "no file on the command line has this name" in mark.refused
+    assert mark.earned == 0 and "none of the files given with the source has this name" in mark.refused
 
 
 def test_each_has_the_same_cases(tmp_path: Path) -> None:
