@@ -5,6 +5,7 @@ import { readFragment, writeFragment } from "../src/fragment.js";
 import { Player } from "../src/player.js";
 import { Trace } from "../src/replay.js";
 import { startTheme } from "../src/theme.js";
+import { saveText, textOfFile } from "./files.js";
 import { Runner } from "./runner.js";
 import { packScript, unpackScript } from "./share.js";
 import { Writing } from "./writing.js";
@@ -27,6 +28,10 @@ class Editor {
     this.examples = examples;
     this.runner = runner;
     this.player = null;
+    // what was typed or opened last, which an example takes the place of, and whether it would be lost
+    this.own = { text: "", file: "" };
+    this.file = "";
+    this.isUnsaved = false;
     this.writing = new Writing({ area: find("text"), numbers: find("numbers"), mark: find("mark") });
     this.listExamples();
     this.listen();
@@ -49,9 +54,25 @@ class Editor {
     find("run").addEventListener("click", () => this.run());
     find("stop").addEventListener("click", () => this.runner.stop());
     find("share").addEventListener("click", () => this.share());
+    find("open").addEventListener("click", () => find("opened").click());
+    find("opened").addEventListener("change", () => this.openFile(find("opened").files[0]));
+    find("save").addEventListener("click", () => this.save());
     find("examples").addEventListener("change", () => {
       const example = this.examples.find((each) => each.name === find("examples").value);
-      if (example) { this.open(example); this.run(); }
+      if (example) this.open(example);
+      else this.openOwn(this.own.text, this.own.file);
+      this.run();
+    });
+    this.listenToText();
+    addEventListener("beforeunload", (event) => { if (this.isUnsaved) event.preventDefault(); });
+  }
+
+  listenToText() {
+    find("write").addEventListener("dragover", (event) => event.preventDefault());
+    find("write").addEventListener("drop", (event) => {
+      if (!event.dataTransfer.files.length) return;
+      event.preventDefault();
+      this.openFile(event.dataTransfer.files[0]);
     });
     find("fold").addEventListener("click", () => {
       const isFolded = document.body.classList.toggle("folded");
@@ -66,17 +87,52 @@ class Editor {
   }
 
   open(example) {
+    if (this.example === null) {
+      this.own = { text: this.writing.text, file: this.file };
+      find("own").hidden = false;
+    }
     this.example = example;
+    this.file = example.file;
     this.writing.text = example.script;
     find("examples").value = example.name;
     find("about").textContent = example.about;
     this.name({ example: example.name });
   }
 
+  /* Shows a script of one's own. */
+  openOwn(text, file) {
+    this.example = null;
+    this.file = file;
+    this.writing.text = text;
+    find("examples").value = "";
+    find("about").textContent = "";
+    this.name({});
+  }
+
+  async openFile(file) {
+    find("opened").value = "";
+    if (!file) return;
+    try {
+      this.openOwn(await textOfFile(file), file.name);
+    } catch (error) {
+      this.say(error.message, true);
+      return;
+    }
+    this.isUnsaved = false;
+    this.run();
+  }
+
+  save() {
+    saveText(this.writing.text, this.file || "mine.script");
+    this.isUnsaved = false;
+  }
+
   /* What is edited is no example any more, nor what the page's address holds. */
   edited() {
+    this.isUnsaved = true;
     if (this.example === null) return;
     this.example = null;
+    this.file = "";
     find("examples").value = "";
     find("about").textContent = "";
     this.name({});
@@ -97,7 +153,7 @@ class Editor {
     const text = this.writing.text, begin = performance.now();
     this.say("running …");
     const timer = setTimeout(() => { find("stop").hidden = false; }, LONG_RUN);
-    const result = await this.runner.run(new TextEncoder().encode(text), this.example ? this.example.file : "");
+    const result = await this.runner.run(new TextEncoder().encode(text), this.file);
     clearTimeout(timer);
     if (this.runner.isRunning) return;
     find("stop").hidden = true;
@@ -145,6 +201,7 @@ class Editor {
 
   async share() {
     this.name({ script: await packScript(this.writing.text) });
+    this.isUnsaved = false;
     if (this.player) this.player.writeAddress();
     try {
       await navigator.clipboard.writeText(location.href);
@@ -164,9 +221,7 @@ class Editor {
     }
     const moment = ["step", "line"].filter((name) => parts.has(name)).map((name) => [name, parts.get(name)]);
     if (shared !== null) {
-      this.example = null;
-      this.writing.text = shared;
-      find("examples").value = "";
+      this.openOwn(shared, "");
       this.name({ script: parts.get("script"), ...Object.fromEntries(moment) });
       return true;
     }

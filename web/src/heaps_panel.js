@@ -14,7 +14,10 @@ export class HeapsPanel {
     const box = player.find("heaps");
     if (this.trace.areas.changes()) box.append(this.pagesSection());
     const heaps = this.trace.heapList().filter((heap) => heap.blocks.length || heap.address !== MODULE_AREA);
-    heaps.sort((a, b) => b.blocks.length - a.blocks.length);
+    // by their addresses; after them those with few blocks beside the others, as the module area often has
+    const most = Math.max(0, ...heaps.map((heap) => heap.blocks.length));
+    const isSmall = (heap) => heap.blocks.length * 2 < most;
+    heaps.sort((a, b) => isSmall(a) - isSmall(b) || a.address - b.address);
     this.views = heaps.map((heap) => new HeapView(player, heap));
     box.append(...this.views.map((view) => view.element));
     const isEmpty = !box.children.length;

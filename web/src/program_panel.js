@@ -66,7 +66,8 @@ export class ProgramPanel {
     const name = make("div", "blockname");
     this.box.append(name);
     this.blocks.push({ image, name });
-    const withCode = new Set(image.lines.map((part) => part.line)), texts = line.block.map(readable);
+    const withCode = new Set(image.lines.map((part) => part.line)),
+      texts = line.block.map((_, i) => readable(this.trace.sources.get(line.line + 1 + i)));
     const columns = columnsOf(texts.map(sourceParts));
     texts.forEach((text, i) => {
       const number = line.line + 1 + i, isEnd = i === texts.length - 1 && /^\s*END\s*$/i.test(text);

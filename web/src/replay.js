@@ -10,6 +10,7 @@ import { History, Timeline, lastAtMost } from "./histories.js";
 import { imageOf, nameIn, sourceIn } from "./images.js";
 import { KIND, MODES, REGISTERS, REGISTER_INDEX, bankedName, packFlags, unpackFlags } from "./names.js";
 import { recordsOf } from "./records.js";
+import { sourceLines } from "./sources.js";
 
 /* A record that writes more words than this loads or clears memory: its words aren't worth a row each. */
 const FEW_WORDS = 64;
@@ -94,7 +95,7 @@ export class Trace {
       repeat: record.repeat || 0, first: -1, last: -1, answer: "", remark: false, expect: null, steps: 0,
       refused: false, stop: null };
     this.lines.push(line);
-    if (record.block) record.block.forEach((text, i) => this.sources.set(record.line + 1 + i, text));
+    if (record.block) sourceLines(record.block).forEach((text, i) => this.sources.set(record.line + 1 + i, text));
     return line;
   }
 

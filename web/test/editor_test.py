@@ -157,6 +157,47 @@ class RecordedTest(unittest.TestCase):
         self.open("#script=%%%", ready="return document.getElementById('state').textContent !== ''")
         self.assertIn("no script", self.state())
 
+    def test_a_script_is_opened_and_saved_as_a_file(self) -> None:
+        browser, script = self.open(), (HERE / "data/churn.script").read_text(encoding="latin-1")
+        path = Path(self.folder.name) / "churn.script"
+        path.write_bytes(script.replace("\n", "\r\n").encode("latin-1"))
+        browser.one("#opened").send_keys(str(path))
+        self.assertTrue(browser.until(lambda: self.script() == script))
+        self.assertTrue(browser.until(lambda: "743" in self.state()))
+        # the browser saves by a link to the text, which is clicked
+        saved = browser.driver.execute_async_script("""
+            const done = arguments[0];
+            HTMLAnchorElement.prototype.click = function () {
+              texts.at(-1).text().then((text) => done([this.download, this.href.startsWith("blob:"), text]));
+            };
+            const texts = [], { createObjectURL } = URL;
+            URL.createObjectURL = (blob) => { texts.push(blob); return createObjectURL.call(URL, blob); };
+            document.getElementById("save").click();""")
+        self.assertEqual(saved, ["churn.script", True, script])
+        for content, said in ((b"A\0B", "is no script"), (b"\n" * (1 << 20) + b"\n", "more than 1,048,576 bytes")):
+            path.write_bytes(content)
+            browser.one("#opened").send_keys(str(path))
+            self.assertTrue(browser.until(lambda: said in self.state()), self.state())
+            self.assertEqual(self.script(), script)
+
+    def test_a_script_of_ones_own_is_not_lost(self) -> None:
+        """An example doesn't take its place for good, and the page isn't left without a question."""
+        leave = "const e = new Event('beforeunload', { cancelable: true }); dispatchEvent(e); return e.defaultPrevented"
+        choose = ("const s = document.getElementById('examples'); s.value = arguments[0];"
+                  "s.dispatchEvent(new Event('change'))")
+        browser = self.open()
+        self.assertFalse(browser.js(leave))
+        self.write("MINE\n")
+        self.assertTrue(browser.js(leave))
+        browser.js(choose, "lessons-tidy")
+        self.assertTrue(browser.until(lambda: "Keep" in self.script()))
+        browser.js(choose, "")
+        self.assertTrue(browser.until(lambda: self.script() == "MINE\n"))
+        self.assertTrue(browser.js(leave))
+        browser.one("#share").click()
+        self.assertTrue(browser.until(lambda: "#script=" in browser.driver.current_url))
+        self.assertFalse(browser.js(leave))
+
     def test_the_address_names_the_moment(self) -> None:
         browser = self.open(BUG + "&step=63")
         self.assertEqual(browser.step(), 63)
@@ -233,7 +274,7 @@ class RecordedTest(unittest.TestCase):
             seen.append(browser.js("const e = document.activeElement; return e.id || e.className.split(' ')[0] || e.tagName"))
         first = seen.index("examples")
         again = seen.index("examples", first + 1) if seen.count("examples") > 1 else len(seen)
-        for part in ("examples", "run", "share", "fold", "text", "slider", "play", "row", "line", "reg", "words", "block"):
+        for part in ("examples", "run", "open", "save", "share", "fold", "text", "slider", "play", "row", "line", "reg", "words", "block"):
             self.assertEqual(seen[first:again].count(part), 1, f"{part} of {' '.join(seen[first:again])}")
 
     def test_contrast_in_both_themes(self) -> None:

@@ -98,6 +98,11 @@ class PageTest(unittest.TestCase):
         self.assertEqual(names[0], "play-use-after-free")
         self.assertIn("lessons-tidy", names)
         self.assertEqual(len(names), len(set(names)))
+        self.assertEqual(len(names), len(list((ROOT / "examples").rglob("*.script"))))
+        titles = [each["title"] for each in json.loads(found[1])]
+        lessons = ["1 carved", "2 first fit", "3 module heap", "4 tidy", "5 flex", "6 areas", "7 module swi", "8 largest wrong",
+                   "9 sum", "10 best fit"]
+        self.assertEqual(titles[:11], ["use after free (lesson 11)", *lessons])
         packed = re.search(r'id="wasm">(.*?)</script>', page)
         assert packed is not None
         self.assertEqual(gzip.decompress(base64.b64decode(packed[1])), b"\0asm\1\0\0\0")
