@@ -131,25 +131,51 @@ def linked_page(data: bytes) -> str:
 
 EDITOR = WEB / "editor"
 EXAMPLES = WEB.parent / "examples"
-# Where the editor's examples lie, and what each of these folders is called.
-GROUPS = [("play", "To play with"), ("lessons", "Lessons"), ("", "Examples"), ("debug", "Debugging")]
+LESSONS = WEB.parent / "docs/lessons"
+LESSON_SCRIPT = re.compile(r"\bexamples/[\w/-]+\.script\b")
+# Where the editor's examples lie, and what each of these folders is called. Scripts of lessons come by their lessons.
+OF_LESSONS = "Lessons"
+GROUPS = [("play", "To play with"), ("lessons", OF_LESSONS), ("", "Examples"), ("debug", "Debugging")]
 ABOUT = re.compile(r"^\| `([\w./-]+\.script)` \| (.*?) \|$", re.MULTILINE)
 
 
+def lesson_pages() -> list[Path]:
+    """The pages of the lessons, by their numbers."""
+    return sorted(LESSONS.glob("[0-9]*.md"), key=lambda page: int(page.stem.partition("_")[0]))
+
+
+def script_of_lesson(page: Path) -> str:
+    """The script that a lesson names first, by its path."""
+    named = LESSON_SCRIPT.search(page.read_text(encoding="utf-8"))
+    if named is None:
+        raise PageError(f"{page.name} names no script of examples/")
+    return named[0]
+
+
+def example(path: Path, group: str, number: str, about: dict[str, str]) -> dict[str, str]:
+    """A script for the editor. The number is that of its lesson, if it has one."""
+    key = path.relative_to(EXAMPLES).as_posix()
+    if key not in about:
+        raise PageError(f"examples/README.md says nothing of {key}")
+    title = path.stem.replace("-", " ")
+    if number:
+        title = f"{number} {title}" if group == OF_LESSONS else f"{title} (lesson {number})"
+    return {"name": key[: -len(".script")].replace("/", "-"), "group": group, "title": title, "about": about[key],
+            "file": path.name, "script": path.read_text(encoding="utf-8")}
+
+
 def examples() -> list[dict[str, str]]:
-    """The scripts of examples/, with what its README says of each."""
+    """The scripts of examples/, with what its README says of each: one to play with, the lessons, and all others."""
     about = dict(ABOUT.findall((EXAMPLES / "README.md").read_text(encoding="utf-8")))
+    numbers = {WEB.parent / script_of_lesson(page): page.stem.partition("_")[0] for page in lesson_pages()}
     found = []
     for folder, group in GROUPS:
-        for path in sorted((EXAMPLES / folder).glob("*.script")):
-            key = path.relative_to(EXAMPLES).as_posix()
-            if key not in about:
-                raise PageError(f"examples/README.md says nothing of {key}")
-            name = key[: -len(".script")].replace("/", "-")
-            title = path.stem.replace("-", " ")
-            script = path.read_text(encoding="utf-8")
-            about_it = {"title": title, "about": about[key], "file": path.name}
-            found.append({"name": name, "group": group, "script": script, **about_it})
+        paths = sorted((EXAMPLES / folder).glob("*.script"))
+        if group == OF_LESSONS:
+            paths = [path for path in numbers if path.parent.name != "play"]
+        elif folder != "play":
+            paths = [path for path in paths if path not in numbers]
+        found += [example(path, group, numbers.get(path, ""), about) for path in paths]
     return found
 
 

@@ -1474,7 +1474,10 @@ class HeapsPanel {
     const box = player.find("heaps");
     if (this.trace.areas.changes()) box.append(this.pagesSection());
     const heaps = this.trace.heapList().filter((heap) => heap.blocks.length || heap.address !== MODULE_AREA);
-    heaps.sort((a, b) => b.blocks.length - a.blocks.length);
+    // by their addresses; after them those with few blocks beside the others, as the module area often has
+    const most = Math.max(0, ...heaps.map((heap) => heap.blocks.length));
+    const isSmall = (heap) => heap.blocks.length * 2 < most;
+    heaps.sort((a, b) => isSmall(a) - isSmall(b) || a.address - b.address);
     this.views = heaps.map((heap) => new HeapView(player, heap));
     box.append(...this.views.map((view) => view.element));
     const isEmpty = !box.children.length;
@@ -2107,7 +2110,8 @@ class ProgramPanel {
     const name = make("div", "blockname");
     this.box.append(name);
     this.blocks.push({ image, name });
-    const withCode = new Set(image.lines.map((part) => part.line)), texts = line.block.map(readable);
+    const withCode = new Set(image.lines.map((part) => part.line)),
+      texts = line.block.map((_, i) => readable(this.trace.sources.get(line.line + 1 + i)));
     const columns = columnsOf(texts.map(sourceParts));
     texts.forEach((text, i) => {
       const number = line.line + 1 + i, isEnd = i === texts.length - 1 && /^\s*END\s*$/i.test(text);
@@ -3170,12 +3174,44 @@ function* recordsOf(text) {
 return { BadRecords, recordsOf };
 })();
 
+const module_src_sources = (() => {
+/* Lines of blocks. Those that rosm_source has made of an old source are words, bytes and labels, each with the
+   source's line as a comment; that line is shown in their place. Pure. */
+
+const DATA = /^ DC[DB] &[0-9A-F]+(?:,&[0-9A-F]+)*(?: ; (.*))?$/;
+const LABEL = /^(\w+)(?: ; .*)?$/;
+const NOTE = /^ ; /;
+const END = /^\s*END\s*$/i;
+
+/* Whether rosm_source has made a block: it has nothing but these lines, and a source's line among them. */
+const isMade = (texts) => texts.some((text) => DATA.exec(text)?.[1]) &&
+  texts.every((text) => DATA.test(text) || LABEL.test(text) || NOTE.test(text) || END.test(text));
+
+/* The lines of a block as their source has them. Of a macro's line, with its parameters, only a comment is known. */
+function sourceLines(texts) {
+  if (!isMade(texts)) return texts;
+  let label = "";
+  return texts.map((text) => {
+    const source = DATA.exec(text)?.[1];
+    if (!source) {
+      label = LABEL.exec(text)?.[1] ?? label;
+      return text;
+    }
+    if (/\$\w/.test(source)) return " ; " + source;
+    const first = source.split(/\s/, 1)[0];
+    return first === label || /^[\d.]/.test(first) ? source : " " + source;
+  });
+}
+return { sourceLines };
+})();
+
 const module_src_replay = (() => {
 const { Heaps } = module_src_heaps;
 const { History, Timeline, lastAtMost } = module_src_histories;
 const { imageOf, nameIn, sourceIn } = module_src_images;
 const { KIND, MODES, REGISTERS, REGISTER_INDEX, bankedName, packFlags, unpackFlags } = module_src_names;
 const { recordsOf } = module_src_records;
+const { sourceLines } = module_src_sources;
 /* Records to a trace that can be asked for the machine at any moment. Pure.
 
    A *moment* is a record that can have changed something: the start, each step, and the answer to each line of
@@ -3267,7 +3303,7 @@ class Trace {
       repeat: record.repeat || 0, first: -1, last: -1, answer: "", remark: false, expect: null, steps: 0,
       refused: false, stop: null };
     this.lines.push(line);
-    if (record.block) record.block.forEach((text, i) => this.sources.set(record.line + 1 + i, text));
+    if (record.block) sourceLines(record.block).forEach((text, i) => this.sources.set(record.line + 1 + i, text));
     return line;
   }
 
