@@ -10,7 +10,7 @@ use Rattle.address_map.specs.declared.region.Region.{Region}
 use Rattle.address_map.specs.Records.{are_same, is_record, with_len}
 use Rattle.address_map.proofs.Removing.{IsSearched}
 
--- kinds that are told to be the same one are
+-- kinds that are shown to be the same one are
 same_kinds : (k other : Kind) → are_same k other ≡ true → k ≡ other
 same_kinds kind.Heap kind.Heap same = refl
 same_kinds kind.Rma kind.Rma same = refl

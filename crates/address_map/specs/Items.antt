@@ -52,7 +52,7 @@ items_from (suc most) w at free base = if nat_le base at then [] else
     item_and_rest (item_at w at free) (λ item. items_from most w (at + total_of item)
     (free_after w at free item) base)
 
--- the items of the heap whose descriptor is at `start`; `w` tells the word at each address
+-- the items of the heap whose descriptor is at `start`; `w` shows the word at each address
 unfoldable pub items_in : (ℕ → ℕ) → ℕ → List Item
 items_in w start = items_from (w (start + 8)) w (start + 16) (link_target start (w (start + 4)))
     (start + w (start + 8))

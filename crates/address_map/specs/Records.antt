@@ -102,7 +102,7 @@ starts_heap at len region = is_guest_heap region.kind && in_range at len region.
 abbrev pub without_heaps : ℕ → ℕ → List Region → List Region
 without_heaps at len regions = filter (λ region. not (starts_heap at len region)) regions
 
--- Is one of the `len` bytes from `at` on an anchor's? `anchor` tells of each byte whether it is.
+-- Is one of the `len` bytes from `at` on an anchor's? `anchor` says of each byte whether it is.
 unfoldable pub anchor_among : (ℕ → Bool) → ℕ → ℕ → Bool
 anchor_among anchor at zero = false
 anchor_among anchor at (suc n) = anchor at || anchor_among anchor (at + 1) n

@@ -9,14 +9,14 @@ use arrayvec::ArrayVec;
 
 /// A block that was moved: the addresses of its first byte before and after.
 #[derive(Clone, Copy, Debug, Default, PartialEq, Eq)]
-pub struct Move {
+pub struct BlockMove {
     pub from: u32,
     pub to: u32,
 }
 
 /// Where the block at an address is after some moves, or the address itself, where no block was
 /// moved from there.
-pub fn moved_to(moves: &[Move], block: u32) -> u32
+pub fn moved_to(moves: &[BlockMove], block: u32) -> u32
     ensures { result ≡ moved_to moves.now block }
 {
     for moved in moves {
@@ -29,7 +29,7 @@ pub fn moved_to(moves: &[Move], block: u32) -> u32
 
 impl Region {
     /// The record after some moves: that of an image follows the block that it is of.
-    fn after(&self, moves: &[Move]) -> Region
+    fn after(&self, moves: &[BlockMove]) -> Region
         ensures { result ≡ moved_region moves.now self.now }
     {
         let at = match self.kind {
@@ -46,7 +46,7 @@ impl AddressMap {
     /// The records of module images follow the blocks that were moved, which went to lower
     /// addresses of whole words. No byte is changed, and the records keep their order.
     #[tactic(auto, unfolding(crate::specs::Memory::regions, crate::specs::Memory::place, crate::specs::Memory::byte_at, crate::specs::Memory::free_pages, crate::specs::Memory::class_of))]
-    pub fn follow(&mut self, moves: &[Move])
+    pub fn follow(&mut self, moves: &[BlockMove])
         requires { AreDown moves.now }
         ensures regions { regions self.new ≡ moved_regions moves.now (regions self.old) }
         ensures mapping { mapping self.new ≡ mapping self.old }

@@ -23,7 +23,7 @@ impl AddressMap {
         Some(self.store.lend(place, len as usize))
     }
 
-    /// The word at an address whose place in the store is known, as `translate` tells it.
+    /// The word at an address whose place in the store is known, as `translate` shows it.
     #[tactic(auto, using(crate::proofs::Loads::place_fits_word, crate::proofs::Loads::word_known))]
     #[inline(always)]
     pub fn word_at(&self, addr: u32, at: usize) -> u32
@@ -35,7 +35,7 @@ impl AddressMap {
     }
 
     /// Writes a word, owned or not, at an address whose place in the store is known, as `translate`
-    /// tells it. The words of a page lie one after another there too.
+    /// shows it. The words of a page lie one after another there too.
     #[inline(always)]
     pub fn put_word_at(&mut self, addr: u32, at: usize, word: u32)
         requires aligned { addr % 4 ≡ 0 }

@@ -22,7 +22,7 @@ mod table;
 pub mod view;
 
 pub use class::Class;
-pub use follow::{Move, moved_to};
+pub use follow::{BlockMove, moved_to};
 pub use item::Item;
 pub use laws::pages_are_counted;
 pub use map::AddressMap;

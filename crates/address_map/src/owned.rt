@@ -71,7 +71,7 @@ impl AddressMap {
     }
 
     /// Whether the words of some bytes of a page must be looked at one by one. Mostly not: their
-    /// marks, four to a byte, tell that none is an anchor's.
+    /// marks, four to a byte, say that none is an anchor's.
     #[inline(always)]
     fn may_hold_anchor(&self, addr: u32, len: u32) -> bool
         requires page { addr % 4096 + len ≤ 4096 }

@@ -8,7 +8,7 @@ PullsOnce old new = IfSome old (λ n. new ≡ Some (n + 1))
 -- at most so many more than n
 pub record IsPulledFrom (n most : ℕ) (new : Option ℕ) : Type 0 where
   pub count : ℕ
-  pub tells : new ≡ Some count
+  pub shows : new ≡ Some count
   pub no_fewer : n ≤ count
   pub in_limit : count ≤ n + most
 

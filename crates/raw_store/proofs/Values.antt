@@ -1,4 +1,4 @@
--- The machine values of the block's parts: what is owned tells them, and is made of nothing.
+-- The machine values of the block's parts: what is owned shows them, and is made of nothing.
 -- Assumes `Logic`.
 use Rattle.std.proofs.Common.{◌≡◌, List, [], ◌∷◌, ◌++◌, refl, ◌∙◌}
 use seplogic.Ra.Ura.{Ura}
@@ -25,8 +25,8 @@ base_val p = vstruct (vcons (ptr_val p) vnil)
 abbrev pub base_own : Ptr → List Val → Fml
 base_own p = (plainly (RawPtr ∷ [])).own_val (p, tt)
 
-pub base_told : (p : Ptr) (vs : List Val) → shadow (base_own p vs) → vs ≡ base_val p ∷ []
-base_told p vs s = s.1.0 ∙ (λ i. vstruct (of_list (s.1.1.0 i ++ [])) ∷ [])
+pub base_shown : (p : Ptr) (vs : List Val) → shadow (base_own p vs) → vs ≡ base_val p ∷ []
+base_shown p vs s = s.1.0 ∙ (λ i. vstruct (of_list (s.1.1.0 i ++ [])) ∷ [])
 
 abbrev pub none_val : Val
 none_val = vstruct vnil
@@ -34,8 +34,8 @@ none_val = vstruct vnil
 abbrev pub none_own : List Val → Fml
 none_own = (plainly []).own_val tt
 
-pub none_told : (vs : List Val) → shadow (none_own vs) → vs ≡ none_val ∷ []
-none_told vs s = s.1.0
+pub none_shown : (vs : List Val) → shadow (none_own vs) → vs ≡ none_val ∷ []
+none_shown vs s = s.1.0
 
 pub none_made : {M : Type 1} {𝓤 : Ura M} (𝓛 : Logic 𝓤) → ent 𝓤 (emp 𝓤) (sem 𝓛 (none_own (none_val ∷ [])))
 none_made 𝓛 = makes_shadow 𝓛 (none_own (none_val ∷ [])) (λ _. (tt, tt)) (tt, (refl, tt))
@@ -46,8 +46,8 @@ mark_val = vstruct (vcons (vstruct vnil) vnil)
 abbrev pub mark_own : List Val → Fml
 mark_own = (plainly (plainly [] ∷ [])).own_val (tt, tt)
 
-pub mark_told : (vs : List Val) → shadow (mark_own vs) → vs ≡ mark_val ∷ []
-mark_told vs s = s.1.0 ∙ (λ i. vstruct (of_list (s.1.1.0.1.0 i ++ [])) ∷ [])
+pub mark_shown : (vs : List Val) → shadow (mark_own vs) → vs ≡ mark_val ∷ []
+mark_shown vs s = s.1.0 ∙ (λ i. vstruct (of_list (s.1.1.0.1.0 i ++ [])) ∷ [])
 
 pub mark_made : {M : Type 1} {𝓤 : Ura M} (𝓛 : Logic 𝓤) → ent 𝓤 (emp 𝓤) (sem 𝓛 (mark_own (mark_val ∷ [])))
 mark_made 𝓛 = makes_shadow 𝓛 (mark_own (mark_val ∷ [])) (λ _. (tt, ((λ _. (tt, tt)), tt))) ((vstruct vnil ∷ [], tt), (refl, ((tt, (refl, tt)), tt)))

@@ -93,7 +93,8 @@ fn allocate_block<A: Allocator>(
     len: usize,
 ) -> Result<(Base, Bytes, Right<A>), AllocError>
     requires { len < 2 ^ 63 }
-    ensures { IfOk result (λ r. (r.1.at ≡ r.0.ptr) × (r.1.items ≡ []) × (r.1.spare ≡ len) × (r.2.at ≡ r.0.ptr)
+    ensures { IfOk result (λ r. (r.1.at ≡ r.0.ptr) × (r.1.items ≡ []) × (r.1.spare ≡ len) ×
+        (r.2.at ≡ r.0.ptr)
         × (r.2.len ≡ len) × (r.2.alloc ≡ alloc.now)) }
 {
     match alloc.allocate(len, 1) {

@@ -83,13 +83,13 @@ allocate_block_spec 𝓤 𝓛 𝓜 𝓡 wired A L g d dd met md =
     returns ! (look_at ! 0 refl) $ free_all ! refl $
     -- [the room; the token; the lifetimes' tokens]
     let base : Base.Denot = record { ptr = p } in let bytes : Bytes.Denot = record { at = p; items = []; spare = n } in let right : Right.Denot = record { by = record {}; at = p; len = n; alloc = h } in
-    let Told : Type 0 = (p ≡ p) × (bytes.items ≡ []) × (n ≡ n) × (p ≡ p) × (n ≡ n) × (h ≡ h) in
+    let Reported : Type 0 = (p ≡ p) × (bytes.items ≡ []) × (n ≡ n) × (p ≡ p) × (n ≡ n) × (h ≡ h) in
     move ! (1 ∷ []) $ use0 𝓛 (‵ (mark_own (mark_val ∷ []))) (mark_made 𝓛) $ fjoin ! $ move ! (1 ∷ []) $
     rewrite ! 0 (λ (k : ℕ). ‵ (froom τ b k)) {x = length bytes.items + o} (omega arith) refl $ nothing ! $ fjoin ! $ flt_i ! (length bytes.items + n) (2 ^ 63) (omega (arith, small)) $ fjoin ! $
     use0 𝓛 (‵ (none_own (none_val ∷ []))) (none_made 𝓛) $ fjoin ! $ use0 𝓛 (‵ (base_own p (base_val p ∷ []))) (base_made 𝓛 p) $
     use3 𝓛 (‵ (Three.own_val (base, bytes, right) (made ∷ []))) (three_of 𝓛 Base Bytes Right base bytes right (base_val p) none_val mark_val) $
     use1 𝓛 (‵ (Out.own_val (Ok (base, bytes, right)) (live 0 (vcons made vnil) ∷ []))) (ok_of 𝓛 Three AE.the_row (base, bytes, right) made) $
-    use0 𝓛 (raw (fact 𝓤 Told)) (fact_i 𝓤 Told (emp 𝓤) (refl, refl, refl, refl, refl, refl)) $ nothing ! $ nothing ! $ fjoin ! $ nothing ! $ fjoin ! $ move ! (3 ∷ 0 ∷ 2 ∷ 1 ∷ []) $
+    use0 𝓛 (raw (fact 𝓤 Reported)) (fact_i 𝓤 Reported (emp 𝓤) (refl, refl, refl, refl, refl, refl)) $ nothing ! $ nothing ! $ fjoin ! $ nothing ! $ fjoin ! $ move ! (3 ∷ 0 ∷ 2 ∷ 1 ∷ []) $
     by ! (leaves 𝓛 En₀ stays c z (live 0 (vcons made vnil)) (Ok (base, bytes, right)) (tt, (tt, tt)) (tt, (tt, tt))))
     (λ e. join ! $ lands_as ! e refl (Answer-typed false 0 0) $
     let Refusal : RattleType = Struct (Declared.shape AE.the_type) in let none : Val = live 1 (vcons (vstruct vnil) vnil) in

@@ -29,7 +29,7 @@ use denote.Triple.Table.{framed}
 use denote.Triple.Walked.{Stays, stay_dropped, walk_of, Goes-dropped}
 use Rattle.raw_store.specs.Ownership.{bytes_type, block_owns, right_owns}
 use Rattle.raw_store.proofs.Memory.{to_room}
-use Rattle.raw_store.proofs.Values.{base_val, base_told, none_val, none_told, mark_val, mark_told}
+use Rattle.raw_store.proofs.Values.{base_val, base_shown, none_val, none_shown, mark_val, mark_shown}
 use Rattle.raw_store.proofs.Walks.{slot_at, then_runs, out_of_block}
 use Rattle.raw_store.specs.contracts.block.deallocate_block.{ended, clauses}
 use Rattle.raw_store.specs.contracts.block.deallocate_block.Key.{name as #self}
@@ -70,7 +70,7 @@ deallocate_block_spec 𝓤 𝓛 𝓜 𝓡 wired A L g d dd met md =
     move ! (1 ∷ []) $ fsplit ! $ drop ! $ rewrite ! 0 (λ (u : A.Denot × Ptr × ℕ). ‵ (right_owns (g.dealloc_token u.0) u.1 u.2)) (λ j. (asked.4 j, (asked.2 ∙ sym asked.0 ∙ e) j, asked.3 j)) refl $
     -- [the right; the room; nothing; the `&`; the tokens]
     move ! (4 ∷ []) $ use1 𝓛 (‵ (flft κ q) ⊛ ‵ (flft z.0.0.1.0 z.0.1.1.0) ⊛ ‵ ftrue) (id⊢ 𝓤 _) $ split ! $ move ! (3 ∷ 2 ∷ 5 ∷ 0 ∷ 1 ∷ []) $
-    regoal ! (λ (us : List Val). prop (WpFn 𝓤 H C Λ fn us Post)) (λ i. are.0.0 i ++ ((base_told base.ptr vss.1.0 are.1.0 ∙ ap (λ (p : Ptr). base_val p ∷ []) (sym asked.0 ∙ e)) i ++ (are.1.1.0.0 i ++ (none_told vss.1.1.1.0 are.1.1.1.0.0 i ++ (mark_told vss.1.1.1.1.0 are.1.1.1.1.0.0 i ++ []))))) refl $
+    regoal ! (λ (us : List Val). prop (WpFn 𝓤 H C Λ fn us Post)) (λ i. are.0.0 i ++ ((base_shown base.ptr vss.1.0 are.1.0 ∙ ap (λ (p : Ptr). base_val p ∷ []) (sym asked.0 ∙ e)) i ++ (are.1.1.0.0 i ++ (none_shown vss.1.1.1.0 are.1.1.1.0.0 i ++ (mark_shown vss.1.1.1.1.0 are.1.1.1.1.0.0 i ++ []))))) refl $
     enter ! C Λ fn (vptr handle.0 handle.1 ∷ base_val (block_ptr b o) ∷ vint w64 n ∷ none_val ∷ mark_val ∷ []) Post $
     alloc_all ! (λ l. pass_all ! refl ((tt, tt), ((tt, (tt, tt)), ((tt, record { fits = fits }), ((tt, tt), ((tt, (tt, tt)), tt))))) $ let En : Env 𝓤 H = env fn.locals l in
     let y = at_gives Y 𝓛 𝓜.mem 𝓡.returns κ q handle h b o n 1 τ in

@@ -24,7 +24,7 @@ use denote.Triple.Entry.{alive}
 use denote.Triple.Walked.{Stays, stay_dropped, walk_of, Goes-dropped}
 use Rattle.raw_store.specs.Ownership.{block_lent}
 use Rattle.raw_store.proofs.Memory.{run_seen}
-use Rattle.raw_store.proofs.Values.{base_val, base_told}
+use Rattle.raw_store.proofs.Values.{base_val, base_shown}
 use Rattle.raw_store.proofs.Walks.{slot_at}
 use Rattle.raw_store.specs.contracts.block.Bytes.lend.{ended, clauses}
 use Rattle.raw_store.specs.contracts.block.Bytes.lend.Key.{name as #self}
@@ -51,7 +51,7 @@ lend_spec 𝓤 𝓛 𝓜 𝓡 wired =
     fsplit ! $ fsplit ! $ drop ! $ unhide ! $ fsplit ! $ drop ! $ in_a_block ! d.at (λ p. block_lent p xs d.spare κ) (id⊢ 𝓤 (never 𝓤)) (λ b o e. fsplit ! $ flt_l ! (λ small. keep ! (0 ∷ 2 ∷ []) $
     let long : length run ≡ n = omega (arith, asked.1, length-take n (drop_l i xs), length-drop i xs) in
     let size : n ≡ i + n - i = omega arith in let at : ℕ × ℕ = (b, i + o) in
-    regoal ! (λ (us : List Val). prop (WpFn 𝓤 H C Λ fn us Post)) (λ j. are.0.0 j ++ ((base_told base.ptr vss.1.0 are.1.0 ∙ ap (λ (p : Ptr). base_val p ∷ []) (asked.0 ∙ e)) j ++ (are.1.1.0.0 j ++ (are.1.1.1.0.0 j ++ [])))) refl $
+    regoal ! (λ (us : List Val). prop (WpFn 𝓤 H C Λ fn us Post)) (λ j. are.0.0 j ++ ((base_shown base.ptr vss.1.0 are.1.0 ∙ ap (λ (p : Ptr). base_val p ∷ []) (asked.0 ∙ e)) j ++ (are.1.1.0.0 j ++ (are.1.1.1.0.0 j ++ [])))) refl $
     enter ! C Λ fn (vptr ref.0 ref.1 ∷ base_val (block_ptr b o) ∷ vint w64 i ∷ vint w64 n ∷ []) Post $
     alloc_all ! (λ l. pass_all ! refl ((tt, tt), ((tt, (tt, tt)), ((tt, record { fits = fits }), ((tt, record { fits = fits_n }), tt)))) $ let En : Env 𝓤 H = env fn.locals l in
     first ! $ blocks ! $

@@ -36,7 +36,7 @@ use Rattle.raw_store.specs.Lends.{bytes_with_items}
 use Rattle.raw_store.specs.Ownership.{bytes_type, owns_bytes_at, block_owns}
 use Rattle.raw_store.specs.Region.{bytes_after_write}
 use Rattle.raw_store.proofs.Memory.{Around, run_out, run_in, to_cells, of_cells}
-use Rattle.raw_store.proofs.Values.{base_val, base_told, none_own}
+use Rattle.raw_store.proofs.Values.{base_val, base_shown, none_own}
 use Rattle.raw_store.proofs.Walks.{slot_at}
 use Rattle.raw_store.proofs.Written.{length-written}
 use Rattle.raw_store.specs.contracts.block.Base.{the_row as Base}
@@ -89,7 +89,7 @@ lend_mut_spec 𝓤 𝓛 𝓜 𝓡 wired =
     fsplit ! $ fsplit3 ! $ drop ! $ keep ! (0 ∷ 1 ∷ 3 ∷ []) $
     let long : length run ≡ n = omega (arith, asked.1, length-take n (drop_l i xs), length-drop i xs) in
     let size : n ≡ i + n - i = omega arith in let is : run ≡ slice_range xs i (i + n) = ap (λ k. take k (drop_l i xs)) size in
-    regoal ! (λ (us : List Val). prop (WpFn 𝓤 H C Λ fn us Post)) (λ j. are.0.0 j ++ (base_told base.ptr vss.1.0 are.1.0 j ++ (are.1.1.0.0 j ++ (are.1.1.1.0.0 j ++ [])))) refl $
+    regoal ! (λ (us : List Val). prop (WpFn 𝓤 H C Λ fn us Post)) (λ j. are.0.0 j ++ (base_shown base.ptr vss.1.0 are.1.0 j ++ (are.1.1.0.0 j ++ (are.1.1.1.0.0 j ++ [])))) refl $
     enter ! C Λ fn (vptr rb ro ∷ base_val base.ptr ∷ vint w64 i ∷ vint w64 n ∷ []) Post $
     alloc_all ! (λ l. pass_all ! refl ((tt, tt), (word-Good [] base.ptr, ((tt, record { fits = fits }), ((tt, record { fits = fits_n }), tt)))) $ let En : Env 𝓤 H = env fn.locals l in
     opens ! tt R {h = d} rb ro (λ vs. move ! (1 ∷ []) $ fsplit ! $ move ! (1 ∷ []) $ in_a_block ! d.at (λ p. block_owns p xs d.spare) (id⊢ 𝓤 (never 𝓤)) (λ b o e. fsplit ! $ flt_l ! (λ small. fsplit ! $

@@ -25,7 +25,7 @@ use denote.Triple.Entry.{alive}
 use denote.Triple.Walked.{Stays, stay_dropped, walk_of, Goes-dropped}
 use Rattle.raw_store.specs.Ownership.{block_lent}
 use Rattle.raw_store.proofs.Memory.{byte_seen}
-use Rattle.raw_store.proofs.Values.{base_val, base_told}
+use Rattle.raw_store.proofs.Values.{base_val, base_shown}
 use Rattle.raw_store.proofs.Walks.{slot_at}
 use Rattle.raw_store.specs.contracts.block.Bytes.read.{ended, clauses}
 use Rattle.raw_store.specs.contracts.block.Bytes.read.Key.{name as #self}
@@ -49,7 +49,7 @@ read_spec 𝓤 𝓛 𝓜 𝓡 wired =
     qed 𝓛 ((raw (alive 𝓛 ended.signature z.0.0 z.0.1) ⊛ ‵ (owns (types_at S z.0.0) a vss)) ∷ raw (fact 𝓤 Asked) ∷ []) ∵
     move ! (1 ∷ []) $ heard ! Asked (λ asked. split ! $ use1 𝓛 (‵ (flft κ q) ⊛ ‵ ftrue) (id⊢ 𝓤 _) $ split ! $ move ! (2 ∷ []) $
     fsplit ! $ fsplit ! $ drop ! $ unhide ! $ fsplit ! $ drop ! $ in_a_block ! d.at (λ p. block_lent p d.items d.spare κ) (id⊢ 𝓤 (never 𝓤)) (λ b o e. fsplit ! $ drop ! $ keep ! (0 ∷ 2 ∷ []) $
-    regoal ! (λ (us : List Val). prop (WpFn 𝓤 H C Λ fn us Post)) (λ j. are.0.0 j ++ ((base_told base.ptr vss.1.0 are.1.0 ∙ ap (λ (p : Ptr). base_val p ∷ []) (asked.0 ∙ e)) j ++ (are.1.1.0.0 j ++ []))) refl $
+    regoal ! (λ (us : List Val). prop (WpFn 𝓤 H C Λ fn us Post)) (λ j. are.0.0 j ++ ((base_shown base.ptr vss.1.0 are.1.0 ∙ ap (λ (p : Ptr). base_val p ∷ []) (asked.0 ∙ e)) j ++ (are.1.1.0.0 j ++ []))) refl $
     enter ! C Λ fn (vptr ref.0 ref.1 ∷ base_val (block_ptr b o) ∷ vint w64 i ∷ []) Post $
     alloc_all ! (λ l. pass_all ! refl ((tt, tt), ((tt, (tt, tt)), ((tt, record { fits = fits }), tt))) $ let En : Env 𝓤 H = env fn.locals l in
     first ! $ blocks ! $

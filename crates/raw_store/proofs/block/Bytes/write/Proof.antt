@@ -27,7 +27,7 @@ use denote.Triple.Entry.{alive}
 use denote.Triple.Walked.{Stays, stay_dropped, stay_ref, walk_of, Goes-dropped, Goes-ref}
 use Rattle.raw_store.specs.Ownership.{bytes_type, owns_bytes_at, block_owns}
 use Rattle.raw_store.proofs.Memory.{Besides, byte_out, byte_in}
-use Rattle.raw_store.proofs.Values.{base_val, base_told}
+use Rattle.raw_store.proofs.Values.{base_val, base_shown}
 use Rattle.raw_store.proofs.Walks.{slot_at}
 use Rattle.raw_store.specs.contracts.block.Base.{the_row as Base}
 use Rattle.raw_store.specs.contracts.block.Bytes.{the_row as R}
@@ -53,7 +53,7 @@ write_spec 𝓤 𝓛 𝓜 𝓡 wired =
     qed 𝓛 ((raw (alive 𝓛 ended.signature z.0.0 z.0.1) ⊛ ‵ (owns (types_at S z.0.0) a vss)) ∷ raw (fact 𝓤 Asked) ∷ []) ∵
     move ! (1 ∷ []) $ heard ! Asked (λ asked. split ! $ use1 𝓛 (‵ (flft κ q) ⊛ ‵ ftrue) (id⊢ 𝓤 _) $ split ! $ move ! (2 ∷ []) $
     fsplit ! $ fsplit3 ! $ drop ! $ keep ! (0 ∷ 1 ∷ 3 ∷ []) $
-    regoal ! (λ (us : List Val). prop (WpFn 𝓤 H C Λ fn us Post)) (λ j. are.0.0 j ++ (base_told base.ptr vss.1.0 are.1.0 j ++ (are.1.1.0.0 j ++ (are.1.1.1.0.0 j ++ [])))) refl $
+    regoal ! (λ (us : List Val). prop (WpFn 𝓤 H C Λ fn us Post)) (λ j. are.0.0 j ++ (base_shown base.ptr vss.1.0 are.1.0 j ++ (are.1.1.0.0 j ++ (are.1.1.1.0.0 j ++ [])))) refl $
     enter ! C Λ fn (vptr rb ro ∷ base_val base.ptr ∷ vint w64 i ∷ vint w8 x ∷ []) Post $
     alloc_all ! (λ l. pass_all ! refl ((tt, tt), (word-Good [] base.ptr, ((tt, record { fits = fits }), ((tt, record { fits = good }), tt)))) $ let En : Env 𝓤 H = env fn.locals l in
     opens ! tt R {h = d} rb ro (λ vs. move ! (1 ∷ []) $ fsplit ! $ move ! (1 ∷ []) $ in_a_block ! d.at (λ p. block_owns p xs d.spare) (id⊢ 𝓤 (never 𝓤)) (λ b o e. fsplit ! $ flt_l ! (λ small. fsplit ! $

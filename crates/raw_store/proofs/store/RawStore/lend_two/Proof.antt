@@ -40,7 +40,7 @@ use Rattle.raw_store.specs.Ownership.{bytes_type, owns_bytes_at, block_owns}
 use Rattle.raw_store.specs.Region.{AreApartOrEmpty, Region, bytes_after_write, region_with_items as with_written}
 use Rattle.raw_store.proofs.Memory.{to_cells, of_cells}
 use Rattle.raw_store.proofs.Two.{Others, two_out, two_in}
-use Rattle.raw_store.proofs.Values.{base_val, base_told, none_own, two_val, two_of}
+use Rattle.raw_store.proofs.Values.{base_val, base_shown, none_own, two_val, two_of}
 use Rattle.raw_store.proofs.Walks.{slot_at}
 use Rattle.raw_store.proofs.Written.{length-written}
 use Rattle.raw_store.specs.declared.store.RawStore.TheInside.{Inside}
@@ -149,11 +149,11 @@ lend_two_spec 𝓤 𝓛 𝓜 𝓡 wired =
     enter ! C Λ fn (vptr rb ro ∷ vint w64 i ∷ vint w64 n ∷ vint w64 k ∷ vint w64 m ∷ []) Post $
     alloc_all ! (λ l. pass_all ! refl ((tt, tt), ((tt, record { fits = fits }), ((tt, record { fits = fits_n }), ((tt, record { fits = fits_k }), ((tt, record { fits = fits_m }), tt))))) $ let En : Env 𝓤 H = env fn.locals l in
     opens ! tt R {h = xs} rb ro (λ vs. move ! (1 ∷ []) $ fpick ! (λ hidden. let s : Inside = hidden.0 in let view_is = hidden.1.0 in let holds = hidden.1.1 in
-    fsplit ! $ move ! (1 ∷ []) $ drop ! $ fpick ! (λ us. fsplit ! $ feq_l ! (λ spelt. fsplit ! $ peeks ! Base (Is Base) (shows 𝓛 Base) s.base us.0 (λ told.
+    fsplit ! $ move ! (1 ∷ []) $ drop ! $ fpick ! (λ us. fsplit ! $ feq_l ! (λ spelt. fsplit ! $ peeks ! Base (Is Base) (shows 𝓛 Base) s.base us.0 (λ reported.
     move ! (1 ∷ []) $ fsplit ! $ move ! (1 ∷ []) $ fsplit ! $ fsplit ! $ move ! (1 ∷ []) $ in_a_block ! s.bytes.at (λ p. block_owns p s.bytes.items s.bytes.spare) (id⊢ 𝓤 (never 𝓤)) (λ b o e. fsplit ! $ flt_l ! (λ small. fsplit ! $
     -- [the bytes; the room; the owner's fields; the deed and the room; the length; the base; the
     -- store's cell; the open borrow, in three entries]
-    let spelt_out : vs ≡ vstruct (of_list (base_val (block_ptr b o) ∷ others_of us)) ∷ [] = spelt ∙ (λ j. vstruct (of_list ((base_told s.base.ptr us.0 told ∙ ap (λ (p : Ptr). base_val p ∷ []) (holds.0 ∙ e)) j ++ others_of us)) ∷ []) in
+    let spelt_out : vs ≡ vstruct (of_list (base_val (block_ptr b o) ∷ others_of us)) ∷ [] = spelt ∙ (λ j. vstruct (of_list ((base_shown s.base.ptr us.0 reported ∙ ap (λ (p : Ptr). base_val p ∷ []) (holds.0 ∙ e)) j ++ others_of us)) ∷ []) in
     let ys = s.bytes.items in let items_are : ys ≡ xs.items = ap (λ (r : Region). r.items) view_is in let in_n : i + n ≤ length ys = omega (arith, within_n, ap length items_are) in let in_m : k + m ≤ length ys = omega (arith, within_m, ap length items_are) in
     let one = take n (drop_l i ys) in let two = take m (drop_l k ys) in
     let long : length one ≡ n = omega (arith, in_n, length-take n (drop_l i ys), length-drop i ys) in let long_m : length two ≡ m = omega (arith, in_m, length-take m (drop_l k ys), length-drop k ys) in
