@@ -1,4 +1,4 @@
--- Conditions in pairs, and what they tell after CMP.
+-- Conditions in pairs, and what they show after CMP.
 use Rattle.std.proofs.Common.{◌≡◌, ℕ, zero, suc, ◌<◌, ◌^◌, Bool, true, false, not, ◌&&◌, ◌||◌, nat_eq, refl, sym, subst, arith, rules}
 use Rattle.std.proofs.lemmas.Grind.{common_steps}
 use Rattle.arm_decode.specs.Sums.{difference_of}
@@ -12,7 +12,7 @@ use Rattle.arm_core.specs.Effect.{plain_operand}
 use Rattle.arm_core.specs.Operand.{operand_of, words_ahead}
 use Rattle.arm_core.proofs.OperandWords.{plain_word, operand_word}
 use Rattle.arm_core.specs.Operate.{state_after_operate}
-use Rattle.arm_core.specs.Laws.{PairsDiffer, TellsOrder, CompareTells}
+use Rattle.arm_core.specs.Laws.{PairsDiffer, ShowsOrder, CompareShows}
 
 not_not : (b : Bool) → b ≡ not (not b)
 not_not true = refl
@@ -44,7 +44,7 @@ with_flags_of p r = record p { negative = bit_of r.value 31; zero = nat_eq r.val
 abbrev compared : Psr → ℕ → ℕ → Psr
 compared p x y = with_flags_of p (difference_of x y true)
 
-order : (p : Psr) (x y : ℕ) → x < 2 ^ 32 → y < 2 ^ 32 → TellsOrder (compared p x y) x y
+order : (p : Psr) (x y : ℕ) → x < 2 ^ 32 → y < 2 ^ 32 → ShowsOrder (compared p x y) x y
 order p x y h g = first_of (search rules, grind (arith, common_steps))
 
 compares : (s : State) (o : Operate) → o.operation ≡ operation.Compare → nat_eq o.rd 15 ≡ false
@@ -52,9 +52,9 @@ compares : (s : State) (o : Operate) → o.operation ≡ operation.Compare → n
 unfolding state_after_operate
 compares s o e h = rw (e, h) refl
 
-pub compare_tells : CompareTells
-compare_tells s o i f e h =
+pub compare_shows : CompareShows
+compare_shows s o i f e h =
     let x = plain_operand s o.rn (words_ahead o.operand) in
     let y = (operand_of s o.operand).value in
-    subst (λ (p : Psr). TellsOrder p (plain_operand s o.rn (words_ahead o.operand)) (operand_of s o.operand).value) (sym (compares s o e h))
+    subst (λ (p : Psr). ShowsOrder p (plain_operand s o.rn (words_ahead o.operand)) (operand_of s o.operand).value) (sym (compares s o e h))
     (order s.psr x y (plain_word s o.rn (words_ahead o.operand) i) (operand_word s o.operand i f))

@@ -22,7 +22,7 @@ PairsDiffer = (k : ℕ) (p : Psr) → k < 8 → condition_holds (condition_of (2
     ≡ not (condition_holds (condition_of (2 * k + 1)) p)
 
 -- What the conditions say of two words that were compared, first as numbers, then as signed numbers.
-pub record TellsOrder (p : Psr) (x y : ℕ) : Type 0 where
+pub record ShowsOrder (p : Psr) (x y : ℕ) : Type 0 where
   pub equal : IsTrue (condition_holds condition.Equal p) ↔ (x ≡ y)
   pub at_least : IsTrue (condition_holds condition.CarrySet p) ↔ (y ≤ x)
   pub below : IsTrue (condition_holds condition.CarryClear p) ↔ (x < y)
@@ -36,11 +36,11 @@ pub record TellsOrder (p : Psr) (x y : ℕ) : Type 0 where
   pub signed_at_most : IsTrue (condition_holds condition.LessOrEqual p) ↔
       (signed_value_of x ≤ℤ signed_value_of y)
 
--- After CMP that is not of the form P the conditions tell the order of its two operands.
-abbrev pub CompareTells : Type 0
-CompareTells = (s : State) (o : Operate) → IsCore s → FitsOperand o.operand →
+-- After CMP that is not of the form P the conditions show the order of its two operands.
+abbrev pub CompareShows : Type 0
+CompareShows = (s : State) (o : Operate) → IsCore s → FitsOperand o.operand →
     o.operation ≡ operation.Compare → o.rd == 15 ≡ false →
-    TellsOrder (state_after_operate s o).psr (plain_operand s o.rn (words_ahead o.operand))
+    ShowsOrder (state_after_operate s o).psr (plain_operand s o.rn (words_ahead o.operand))
     (operand_of s o.operand).value
 
 -- SUB is ADC with the second operand complemented and C set, SBC with C as it is: results and flags.

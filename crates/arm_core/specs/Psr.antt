@@ -21,7 +21,8 @@ mode_of word = mode_numbered (word % 4)
 
 -- The status as a word: every bit of the program counter is 0.
 abbrev pub psr_bits : Psr → ℕ
-psr_bits p = from_bool p.negative * 2 ^ 31 + from_bool p.zero * 2 ^ 30 + from_bool p.carry * 2 ^ 29 + from_bool p.overflow * 2 ^ 28
+psr_bits p = from_bool p.negative * 2 ^ 31 + from_bool p.zero * 2 ^ 30 + from_bool p.carry * 2 ^ 29 +
+    from_bool p.overflow * 2 ^ 28
     + from_bool p.interrupts_off * 2 ^ 27 + from_bool p.fast_interrupts_off * 2 ^ 26 + mode_number p.mode
 
 -- The status that a word holds.

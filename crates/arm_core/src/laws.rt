@@ -1,6 +1,6 @@
 //! Laws over the definitions of the core, each the contract of a function that does nothing.
 
-ghost use Rattle.arm_core.specs.Laws.{PairsDiffer, CompareTells, SubtractsByAdding, SubtractsCarryByAdding, RotatesByShifting, TurnsRound};
+ghost use Rattle.arm_core.specs.Laws.{PairsDiffer, CompareShows, SubtractsByAdding, SubtractsCarryByAdding, RotatesByShifting, TurnsRound};
 
 /// Of the conditions 2k and 2k + 1 exactly one holds.
 #[tactic(auto, using(crate::proofs::Comparing::pairs))]
@@ -8,9 +8,9 @@ pub fn conditions_in_pairs()
     ensures { PairsDiffer }
 {}
 
-/// After CMP the conditions tell the order of its operands, as numbers and as signed numbers.
-pub fn compare_tells_order()
-    ensures { CompareTells }
+/// After CMP the conditions show the order of its operands, as numbers and as signed numbers.
+pub fn compare_shows_order()
+    ensures { CompareShows }
 {}
 
 /// SUB and SBC are ADC with the second operand complemented.

@@ -19,4 +19,4 @@ pub mod turn;
 
 pub use cpu::Cpu;
 pub use psr::{Mode, Psr};
-pub use turn::Turn;
+pub use turn::StepEnd;

@@ -6,7 +6,7 @@ use arm_decode::Fault;
 
 /// How a step ended. On every answer but `Done` the core and the memory are as they were.
 #[derive(Clone, Copy, Debug, PartialEq, Eq)]
-pub enum Turn {
+pub enum StepEnd {
     /// One instruction was carried out.
     Done,
     /// The instruction is a software interrupt, with the number in its bits 23 to 0. The program
@@ -18,13 +18,13 @@ pub enum Turn {
     Fault(Fault),
 }
 
-impl From<Fault> for Turn {
-    ghost use Rattle.arm_core.specs.declared.turn.Turn.TheVariants.{Fault};
+impl From<Fault> for StepEnd {
+    ghost use Rattle.arm_core.specs.declared.turn.StepEnd.TheVariants.{Fault};
 
     ghost from_gives = { λ fault turn. turn ≡ Fault fault };
 
     #[inline(always)]
-    fn from(fault: Fault) -> Turn {
-        Turn::Fault(fault)
+    fn from(fault: Fault) -> StepEnd {
+        StepEnd::Fault(fault)
     }
 }

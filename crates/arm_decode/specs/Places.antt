@@ -16,13 +16,16 @@ use Rattle.arm_decode.specs.declared.operand.Operand.TheVariants as operand
 -- AND to MVN
 abbrev pub operate_sum : Condition → Operate → Operand → ℕ
 operate_sum c o (operand.Shifted s) =
-    condition_code c * 2 ^ 28 + 0 * 2 ^ 25 + operation_code o.operation * 2 ^ 21 + from_bool o.sets_flags * 2 ^ 20
+    condition_code c * 2 ^ 28 + 0 * 2 ^ 25 + operation_code o.operation * 2 ^ 21 + from_bool o.sets_flags *
+    2 ^ 20
     + o.rn * 2 ^ 16 + o.rd * 2 ^ 12 + s.amount * 2 ^ 7 + shift_code s.shift * 2 ^ 5 + 0 * 2 ^ 4 + s.rm
 operate_sum c o (operand.ShiftedByRegister rm shift rs) =
-    condition_code c * 2 ^ 28 + 0 * 2 ^ 25 + operation_code o.operation * 2 ^ 21 + from_bool o.sets_flags * 2 ^ 20
+    condition_code c * 2 ^ 28 + 0 * 2 ^ 25 + operation_code o.operation * 2 ^ 21 + from_bool o.sets_flags *
+    2 ^ 20
     + o.rn * 2 ^ 16 + o.rd * 2 ^ 12 + rs * 2 ^ 8 + 0 * 2 ^ 7 + shift_code shift * 2 ^ 5 + 1 * 2 ^ 4 + rm
 operate_sum c o (operand.Immediate rotation byte) =
-    condition_code c * 2 ^ 28 + 1 * 2 ^ 25 + operation_code o.operation * 2 ^ 21 + from_bool o.sets_flags * 2 ^ 20
+    condition_code c * 2 ^ 28 + 1 * 2 ^ 25 + operation_code o.operation * 2 ^ 21 + from_bool o.sets_flags *
+    2 ^ 20
     + o.rn * 2 ^ 16 + o.rd * 2 ^ 12 + rotation * 2 ^ 8 + byte
 
 -- LDR, STR
@@ -41,11 +44,13 @@ transfer_sum c t (offset.Shifted s) =
 abbrev pub sum_of_fields : Condition → Action → ℕ
 sum_of_fields c (action.Operate o) = operate_sum c o o.operand
 sum_of_fields c (action.Multiply m) =
-    condition_code c * 2 ^ 28 + 0 * 2 ^ 22 + from_bool m.accumulates * 2 ^ 21 + from_bool m.sets_flags * 2 ^ 20
+    condition_code c * 2 ^ 28 + 0 * 2 ^ 22 + from_bool m.accumulates * 2 ^ 21 + from_bool m.sets_flags * 2 ^
+    20
     + m.rd * 2 ^ 16 + m.rn * 2 ^ 12 + m.rs * 2 ^ 8 + 9 * 2 ^ 4 + m.rm
 sum_of_fields c (action.Transfer t) = transfer_sum c t t.address.offset
 sum_of_fields c (action.BlockTransfer b) =
-    condition_code c * 2 ^ 28 + 4 * 2 ^ 25 + block_mode_code b.mode * 2 ^ 23 + from_bool b.psr_or_user * 2 ^ 22
+    condition_code c * 2 ^ 28 + 4 * 2 ^ 25 + block_mode_code b.mode * 2 ^ 23 + from_bool b.psr_or_user * 2 ^
+    22
     + from_bool b.writes_back * 2 ^ 21 + from_bool b.loads * 2 ^ 20 + b.rn * 2 ^ 16 + b.list
 sum_of_fields c (action.Branch links distance) =
     condition_code c * 2 ^ 28 + 5 * 2 ^ 25 + from_bool links * 2 ^ 24 + distance

@@ -19,8 +19,8 @@ use Rattle.arm_core.specs.Listed.{listed_below, registers_of_list}
 use Rattle.arm_core.specs.State.{State, register_in, with_register}
 use Rattle.arm_core.specs.declared.psr.Mode.{Mode}
 use Rattle.arm_core.specs.declared.psr.Mode.TheVariants.{User}
-use Rattle.arm_core.specs.declared.turn.Turn.{Turn}
-use Rattle.arm_core.specs.declared.turn.Turn.TheVariants as turn
+use Rattle.arm_core.specs.declared.turn.StepEnd.{StepEnd}
+use Rattle.arm_core.specs.declared.turn.StepEnd.TheVariants as turn
 use Rattle.arm_core.proofs.Listing.{few_of_all}
 use Rattle.arm_core.proofs.Lowest.{low_list}
 use Rattle.arm_step.specs.Blocks.{lowest, stepped_base, transferred_count, block_start, block_base, loads_status, bank_of, with_block_base, with_loaded, with_block_status, with_status_if, block_loaded, stores_new_base, block_value, block_values, block_stored, result_of_block_transfer}
@@ -29,8 +29,8 @@ use Rattle.arm_step.specs.PageWords.{words_in}
 use Rattle.arm_step.specs.Turns.{Turns}
 use Rattle.arm_step.specs.Words.{with_words, words_loaded, words_store_fault}
 use Rattle.arm_step.proofs.PageBlocks.{block_done}
-use Rattle.arm_ready.specs.Kinds.{goes_up, gap_below, MovesBlock}
-use Rattle.arm_ready.specs.ReadyWord.{ReadyWord}
+use Rattle.arm_predecode.specs.Kinds.{goes_up, gap_below, MovesBlock}
+use Rattle.arm_predecode.specs.OpValue.{OpValue}
 use Rattle.arm_run.specs.Blocked.{block_base_after, lower_base, first_word, block_first, with_block_base_after, IsBlockLoaded, IsBlockStored}
 use Rattle.arm_run.specs.Moved.{with_base_if}
 use Rattle.arm_run.specs.Standing.{core_at, IsFetched}
@@ -39,17 +39,17 @@ use Rattle.arm_run.proofs.OperandsRead.{first_read, other_below, status_read}
 use Rattle.arm_run.proofs.Positions.{next_position}
 use Rattle.arm_run.proofs.Transferred.{based_by}
 
--- the parts of a ready word as numbers
-pub counted : (l u w p : Bool) (r : ReadyWord) (n : ℕ) → MovesBlock l u w p r → n ≡ r.rs / 4 → n ≡ length (registers_of_list r.value)
+-- the parts of an op as numbers
+pub counted : (l u w p : Bool) (r : OpValue) (n : ℕ) → MovesBlock l u w p r → n ≡ r.rs / 4 → n ≡ length (registers_of_list r.value)
 counted l u w p r n h e = omega (arith, h.size)
 
-pub few : (l u w p : Bool) (r : ReadyWord) (n : ℕ) → MovesBlock l u w p r → n ≡ r.rs / 4 → n ≤ 16
+pub few : (l u w p : Bool) (r : OpValue) (n : ℕ) → MovesBlock l u w p r → n ≡ r.rs / 4 → n ≤ 16
 few l u w p r n h e = omega (arith, h.size, few_of_all r.value)
 
-pub list_value : (l u w p : Bool) (r : ReadyWord) → MovesBlock l u w p r → r.value < 2 ^ 16
+pub list_value : (l u w p : Bool) (r : OpValue) → MovesBlock l u w p r → r.value < 2 ^ 16
 list_value l u w p r h = omega (arith, h.list)
 
-pub low_value : (l u w : Bool) (r : ReadyWord) → MovesBlock l u w false r → r.value < 2 ^ 15
+pub low_value : (l u w : Bool) (r : OpValue) → MovesBlock l u w false r → r.value < 2 ^ 15
 low_value l u w r h = low_list r.value (list_value l u w false r h) h.pc
 
 -- where the words lie, and what is written back
@@ -65,14 +65,14 @@ stepped_by IncrementBefore base n = refl
 stepped_by DecrementAfter base n = refl
 stepped_by DecrementBefore base n = refl
 
-base_is : (s : State) (at : ℕ) (l u w p : Bool) (r : ReadyWord) → MovesBlock l u w p r → plain_operand (core_at s at) (field r.word 16 4) 2 ≡ register_in s.psr.mode s r.rn
+base_is : (s : State) (at : ℕ) (l u w p : Bool) (r : OpValue) → MovesBlock l u w p r → plain_operand (core_at s at) (field r.word 16 4) 2 ≡ register_in s.psr.mode s r.rn
 base_is s at l u w p r h =
     first_read s at (field r.word 16 4) 2 (subst (λ (k : ℕ). k < 15) h.rn h.rn_below) ∙ ap (λ (k : ℕ). register_in s.psr.mode s k) (sym h.rn)
 
-count_is : (l u w p : Bool) (r : ReadyWord) → MovesBlock l u w p r → transferred_count (block_transfer_in r.word) ≡ length (registers_of_list r.value)
+count_is : (l u w p : Bool) (r : OpValue) → MovesBlock l u w p r → transferred_count (block_transfer_in r.word) ≡ length (registers_of_list r.value)
 count_is l u w p r h = ap (λ (x : ℕ). length (registers_of_list x)) (sym h.list)
 
-start_is : (s : State) (at : ℕ) (l u w p : Bool) (r : ReadyWord) → MovesBlock l u w p r → register_in s.psr.mode s r.rn < 2 ^ 32
+start_is : (s : State) (at : ℕ) (l u w p : Bool) (r : OpValue) → MovesBlock l u w p r → register_in s.psr.mode s r.rn < 2 ^ 32
     → block_first u s r ≡ block_start (core_at s at) (block_transfer_in r.word)
 start_is s at l u w p r h small =
     let mode : BlockMode = block_mode_of (field r.word 23 2) in
@@ -86,7 +86,7 @@ start_is s at l u w p r h small =
     ∙ ap (λ (k : ℕ). word_start ((lower_base u base k + gap_below mode) % 2 ^ 32)) (sym h.size)
     ∙ ap (λ (k : ℕ). first_word u base r.rs k) (sym h.gap))
 
-after_is : (s : State) (at : ℕ) (l u w p : Bool) (r : ReadyWord) → MovesBlock l u w p r
+after_is : (s : State) (at : ℕ) (l u w p : Bool) (r : OpValue) → MovesBlock l u w p r
     → block_base_after u (register_in s.psr.mode s r.rn) r.rs ≡ block_base (core_at s at) (block_transfer_in r.word)
 after_is s at l u w p r h =
     let mode : BlockMode = block_mode_of (field r.word 23 2) in
@@ -100,7 +100,7 @@ after_is s at l u w p r h =
     ∙ ap (λ (k : ℕ). block_base_after u base k) (sym h.size))
 
 -- the base written back, at the next word
-based_after : (s : State) (at : ℕ) (l u w p : Bool) (r : ReadyWord) → MovesBlock l u w p r
+based_after : (s : State) (at : ℕ) (l u w p : Bool) (r : OpValue) → MovesBlock l u w p r
     → with_block_base (with_next_pc (core_at s at)) (block_transfer_in r.word) (block_base_after u (register_in s.psr.mode s r.rn) r.rs) ≡ core_at (with_block_base_after u w s r) (at + 1)
 based_after s at l u w p r h =
     let base : ℕ = block_base_after u (register_in s.psr.mode s r.rn) r.rs in
@@ -111,34 +111,34 @@ based_after s at l u w p r h =
     ∙ ap (λ (k : ℕ). core_at (with_base_if w s k base) (at + 1)) (sym h.rn)
 
 -- a load by its words
-pub is_block_loaded : (b : Bytes) (s s' : State) (at next : ℕ) (u w : Bool) (r : ReadyWord) (ws : List ℕ) → register_in s.psr.mode s r.rn < 2 ^ 32
+pub is_block_loaded : (b : Bytes) (s s' : State) (at next : ℕ) (u w : Bool) (r : OpValue) (ws : List ℕ) → register_in s.psr.mode s r.rn < 2 ^ 32
     → words_loaded b (block_first u s r) (length (registers_of_list r.value)) ≡ Ok ws
     → core_at s' next ≡ with_loaded s.psr.mode (core_at (with_block_base_after u w s r) (at + 1)) (registers_of_list r.value) ws → IsBlockLoaded b s at u w r s' next
 is_block_loaded b s s' at next u w r ws small there core = record { small = small; words = ws; there = there; core = core }
 
 -- the base where it is written back, and where not
-pub base_written : (s t : State) (u w : Bool) (r : ReadyWord) (base : ℕ) → w ≡ true → base ≡ block_base_after u (register_in s.psr.mode s r.rn) r.rs → t ≡ with_register s r.rn base
+pub base_written : (s t : State) (u w : Bool) (r : OpValue) (base : ℕ) → w ≡ true → base ≡ block_base_after u (register_in s.psr.mode s r.rn) r.rs → t ≡ with_register s r.rn base
     → t ≡ with_block_base_after u w s r
 base_written s t u w r base writes is set =
     set ∙ ap (λ (x : ℕ). with_register s r.rn x) is ∙ ap (λ (b : Bool). with_base_if b s r.rn (block_base_after u (register_in s.psr.mode s r.rn) r.rs)) (sym writes)
 
-pub base_left : (s t : State) (u w : Bool) (r : ReadyWord) → w ≡ false → t ≡ s → t ≡ with_block_base_after u w s r
+pub base_left : (s t : State) (u w : Bool) (r : OpValue) → w ≡ false → t ≡ s → t ≡ with_block_base_after u w s r
 base_left s t u w r writes same = same ∙ ap (λ (b : Bool). with_base_if b s r.rn (block_base_after u (register_in s.psr.mode s r.rn) r.rs)) (sym writes)
 
-pub base_written_at : (s t : State) (p : ℕ) (u w : Bool) (r : ReadyWord) (base : ℕ) → w ≡ true → base ≡ block_base_after u (register_in s.psr.mode s r.rn) r.rs
+pub base_written_at : (s t : State) (p : ℕ) (u w : Bool) (r : OpValue) (base : ℕ) → w ≡ true → base ≡ block_base_after u (register_in s.psr.mode s r.rn) r.rs
     → t ≡ with_register (core_at s p) r.rn base → t ≡ core_at (with_block_base_after u w s r) p
 base_written_at s t p u w r base writes is set =
     set ∙ ap (λ (x : State). core_at x p) (base_written s (with_register s r.rn base) u w r base writes is refl)
 
-pub base_left_at : (s t : State) (p : ℕ) (u w : Bool) (r : ReadyWord) → w ≡ false → t ≡ core_at s p → t ≡ core_at (with_block_base_after u w s r) p
+pub base_left_at : (s t : State) (p : ℕ) (u w : Bool) (r : OpValue) → w ≡ false → t ≡ core_at s p → t ≡ core_at (with_block_base_after u w s r) p
 base_left_at s t p u w r writes same = same ∙ ap (λ (x : State). core_at x p) (base_left s s u w r writes refl)
 
 mode_kept : (w : Bool) (s : State) (rn v : ℕ) → (with_base_if w s rn v).psr.mode ≡ s.psr.mode
 mode_kept true s rn v = refl
 mode_kept false s rn v = refl
 
--- the words of some bytes in the registers of a ready word's list
-pub each_so : (s s' t : State) (p : ℕ) (u w : Bool) (r : ReadyWord) (list n : ℕ) (bytes : List ℕ) → t ≡ core_at (with_block_base_after u w s r) p → list ≡ r.value
+-- the words of some bytes in the registers of an op's list
+pub each_so : (s s' t : State) (p : ℕ) (u w : Bool) (r : OpValue) (list n : ℕ) (bytes : List ℕ) → t ≡ core_at (with_block_base_after u w s r) p → list ≡ r.value
     → n ≡ length (registers_of_list r.value) → s' ≡ with_loaded t.psr.mode t (registers_of_list list) (words_in bytes 0 (length (registers_of_list list)))
     → s' ≡ with_loaded s.psr.mode (core_at (with_block_base_after u w s r) p) (registers_of_list r.value) (words_in bytes 0 n)
 each_so s s' t p u w r list n bytes based same count h =
@@ -149,25 +149,25 @@ each_so s s' t p u w r list n bytes based same count h =
     ∙ ap (λ (l : ℕ). with_loaded s.psr.mode b (registers_of_list l) (words_in bytes 0 (length (registers_of_list l)))) same
     ∙ ap (λ (k : ℕ). with_loaded s.psr.mode b (registers_of_list r.value) (words_in bytes 0 k)) (sym count)
 
-pub placed_so : (s s' t : State) (p : ℕ) (u w : Bool) (r : ReadyWord) (list n : ℕ) (bytes : List ℕ) → t ≡ with_block_base_after u w s r → list ≡ r.value
+pub placed_so : (s s' t : State) (p : ℕ) (u w : Bool) (r : OpValue) (list n : ℕ) (bytes : List ℕ) → t ≡ with_block_base_after u w s r → list ≡ r.value
     → n ≡ length (registers_of_list r.value) → core_at s' p ≡ with_loaded t.psr.mode (core_at t p) (registers_of_list list) (words_in bytes 0 (length (registers_of_list list)))
     → core_at s' p ≡ with_loaded s.psr.mode (core_at (with_block_base_after u w s r) p) (registers_of_list r.value) (words_in bytes 0 n)
 placed_so s s' t p u w r list n bytes based same count h =
     each_so s (core_at s' p) (core_at t p) p u w r list n bytes (ap (λ (x : State). core_at x p) based) same count h
 
 -- the registers are those of the present mode, and no status is loaded
-bank_is : (s : State) (l u w p : Bool) (r : ReadyWord) → MovesBlock l u w p r → bank_of s (block_transfer_in r.word) ≡ s.psr.mode
+bank_is : (s : State) (l u w p : Bool) (r : OpValue) → MovesBlock l u w p r → bank_of s (block_transfer_in r.word) ≡ s.psr.mode
 bank_is s l u w p r h =
     let t : BlockTransfer = block_transfer_in r.word in
     ap (λ (b : Bool). if b && not (b && (t.loads && bit_of t.list 15)) then User else s.psr.mode) h.plain
 
-no_status : (s : State) (l u w p : Bool) (r : ReadyWord) (ws : List ℕ) → MovesBlock l u w p r → with_block_status s (block_transfer_in r.word) ws ≡ s
+no_status : (s : State) (l u w p : Bool) (r : OpValue) (ws : List ℕ) → MovesBlock l u w p r → with_block_status s (block_transfer_in r.word) ws ≡ s
 no_status s l u w p r ws h =
     let t : BlockTransfer = block_transfer_in r.word in
     let none : loads_status t ≡ false = ap (λ (b : Bool). b && (t.loads && bit_of t.list 15)) h.plain in
     ap (λ (b : Bool). if b then with_status_if s (slice_get ws (length ws - 1)) else s) none
 
-loaded_so : (s s' : State) (at next : ℕ) (b : Bytes) (u w p : Bool) (r : ReadyWord) (h : MovesBlock true u w p r) (l : IsBlockLoaded b s at u w r s' next)
+loaded_so : (s s' : State) (at next : ℕ) (b : Bytes) (u w p : Bool) (r : OpValue) (h : MovesBlock true u w p r) (l : IsBlockLoaded b s at u w r s' next)
     → with_block_status (with_loaded (bank_of (core_at s at) (block_transfer_in r.word))
     (with_block_base (with_next_pc (core_at s at)) (block_transfer_in r.word) (block_base (core_at s at) (block_transfer_in r.word))) (registers_of_list (field r.word 0 16)) l.words)
     (block_transfer_in r.word) l.words ≡ core_at s' next
@@ -182,7 +182,7 @@ loaded_so s s' at next b u w p r h l =
     ∙ ap (λ (x : ℕ). with_loaded s.psr.mode (core_at (with_block_base_after u w s r) (at + 1)) (registers_of_list x) l.words) (sym h.list)
     ∙ sym l.core
 
-loads : (owned : ℕ → Bool) (s s' : State) (at next : ℕ) (b : Bytes) (u w p : Bool) (r : ReadyWord) → MovesBlock true u w p r → IsBlockLoaded b s at u w r s' next
+loads : (owned : ℕ → Bool) (s s' : State) (at next : ℕ) (b : Bytes) (u w p : Bool) (r : OpValue) → MovesBlock true u w p r → IsBlockLoaded b s at u w r s' next
     → result_of_word owned (core_at s at) b r.word ≡ Ok (core_at s' next, b)
 unfolding result_of_action result_of_block_transfer
 loads owned s s' at next b u w p r h l =
@@ -192,14 +192,14 @@ loads owned s s' at next b u w p r h l =
     ap (λ (x : ℕ). words_loaded b x (transferred_count tr)) (sym (start_is s at true u w p r h l.small))
     ∙ ap (λ (n : ℕ). words_loaded b (block_first u s r) n) (count_is true u w p r h) ∙ l.there in
     carried owned t b condition.Always (action.BlockTransfer tr) r h.does refl
-    ∙ ap (λ (f : Bool). let o : Result (State × Bytes) Turn = or_fault (if f then block_loaded t b tr else block_stored owned t b tr) in o) h.loads
-    ∙ ap (λ (x : Result (List ℕ) Fault). let o : Result (State × Bytes) Turn = or_fault (bind x (λ ws. let v : Result (State × Bytes) Fault = Ok (
+    ∙ ap (λ (f : Bool). let o : Result (State × Bytes) StepEnd = or_fault (if f then block_loaded t b tr else block_stored owned t b tr) in o) h.loads
+    ∙ ap (λ (x : Result (List ℕ) Fault). let o : Result (State × Bytes) StepEnd = or_fault (bind x (λ ws. let v : Result (State × Bytes) Fault = Ok (
       with_block_status (with_loaded (bank_of t tr) (with_block_base (with_next_pc t) tr (block_base t tr)) (registers_of_list tr.list) ws) tr ws,
       b,
     ) in v)) in o) there
-    ∙ ap (λ (x : State). let o : Result (State × Bytes) Turn = Ok (x, b) in o) (loaded_so s s' at next b u w p r h l)
+    ∙ ap (λ (x : State). let o : Result (State × Bytes) StepEnd = Ok (x, b) in o) (loaded_so s s' at next b u w p r h l)
 
-pub loads_block : (owned : ℕ → Bool) (s s' : State) (at next : ℕ) (b : Bytes) (u w p : Bool) (r : ReadyWord) → MovesBlock true u w p r → IsFetched b at r.word
+pub loads_block : (owned : ℕ → Bool) (s s' : State) (at next : ℕ) (b : Bytes) (u w p : Bool) (r : OpValue) → MovesBlock true u w p r → IsFetched b at r.word
     → IsBlockLoaded b s at u w r s' next → Turns (core_at s at, b) (result_of_step owned (core_at s at) b) turn.Done (core_at s' next, b)
 loads_block owned s s' at next b u w p r h fetched l =
     turns_by _ (core_at s at, b) (core_at s' next, b) (fetched owned s ∙ loads owned s s' at next b u w p r h l)
@@ -238,7 +238,7 @@ below_pc list k h low listed = elim (cases_lt k 15) [
       absurd (cc)
 ]
 
-value_is : (s : State) (at : ℕ) (u w : Bool) (r : ReadyWord) (k : ℕ) → MovesBlock false u w false r → k < 16 → bit_of r.value k ≡ true
+value_is : (s : State) (at : ℕ) (u w : Bool) (r : OpValue) (k : ℕ) → MovesBlock false u w false r → k < 16 → bit_of r.value k ≡ true
     → block_value (core_at s at) (block_transfer_in r.word) k ≡ register_in s.psr.mode s k
 value_is s at u w r k h below listed =
     let t : State = core_at s at in
@@ -252,7 +252,7 @@ value_is s at u w r k h below listed =
     ∙ ap (λ (m : Mode). status_operand m t k 3) (bank_is t false u w false r h)
     ∙ status_read s at k 3 low
 
-values_are : (s : State) (at : ℕ) (u w : Bool) (r : ReadyWord) → MovesBlock false u w false r
+values_are : (s : State) (at : ℕ) (u w : Bool) (r : OpValue) → MovesBlock false u w false r
     → block_values (core_at s at) (block_transfer_in r.word) ≡ map (register_in s.psr.mode s) (registers_of_list r.value)
 unfolding registers_of_list
 values_are s at u w r h =
@@ -260,7 +260,7 @@ values_are s at u w r h =
     ap (λ (x : ℕ). map f (listed_below 16 x)) (sym h.list)
     ∙ same_values f (register_in s.psr.mode s) r.value 16 (λ k below listed. value_is s at u w r k h below listed)
 
-stores : (owned : ℕ → Bool) (s s' : State) (at : ℕ) (b b' : Bytes) (u w : Bool) (r : ReadyWord) → MovesBlock false u w false r → IsBlockStored owned b s u w r s' b'
+stores : (owned : ℕ → Bool) (s s' : State) (at : ℕ) (b b' : Bytes) (u w : Bool) (r : OpValue) → MovesBlock false u w false r → IsBlockStored owned b s u w r s' b'
     → result_of_word owned (core_at s at) b r.word ≡ Ok (core_at s' (at + 1), b')
 unfolding result_of_action result_of_block_transfer
 stores owned s s' at b b' u w r h l =
@@ -275,13 +275,13 @@ stores owned s s' at b b' u w r h l =
     let bytes : with_words b first (block_values t tr) ≡ b' =
     ap (λ (vs : List ℕ). with_words b first vs) (values_are s at u w r h) ∙ sym l.bytes in
     carried owned t b condition.Always (action.BlockTransfer tr) r h.does refl
-    ∙ ap (λ (f : Bool). let o : Result (State × Bytes) Turn = or_fault (if f then block_loaded t b tr else block_stored owned t b tr) in o) h.loads
-    ∙ ap (λ (x : Result (State × Bytes) Fault). let o : Result (State × Bytes) Turn = or_fault x in o)
+    ∙ ap (λ (f : Bool). let o : Result (State × Bytes) StepEnd = or_fault (if f then block_loaded t b tr else block_stored owned t b tr) in o) h.loads
+    ∙ ap (λ (x : Result (State × Bytes) Fault). let o : Result (State × Bytes) StepEnd = or_fault x in o)
     (block_done owned t b tr first base (start_is s at false u w false r h l.small) (after_is s at false u w false r h) free)
-    ∙ ap (λ (x : State). let o : Result (State × Bytes) Turn = Ok (x, with_words b first (block_values t tr)) in o) core
-    ∙ ap (λ (x : Bytes). let o : Result (State × Bytes) Turn = Ok (core_at s' (at + 1), x) in o) bytes
+    ∙ ap (λ (x : State). let o : Result (State × Bytes) StepEnd = Ok (x, with_words b first (block_values t tr)) in o) core
+    ∙ ap (λ (x : Bytes). let o : Result (State × Bytes) StepEnd = Ok (core_at s' (at + 1), x) in o) bytes
 
-pub stores_block : (owned : ℕ → Bool) (s s' : State) (at : ℕ) (b b' : Bytes) (u w : Bool) (r : ReadyWord) → MovesBlock false u w false r → IsFetched b at r.word
+pub stores_block : (owned : ℕ → Bool) (s s' : State) (at : ℕ) (b b' : Bytes) (u w : Bool) (r : OpValue) → MovesBlock false u w false r → IsFetched b at r.word
     → IsBlockStored owned b s u w r s' b' → Turns (core_at s at, b) (result_of_step owned (core_at s at) b) turn.Done (core_at s' (at + 1), b')
 stores_block owned s s' at b b' u w r h fetched l =
     turns_by _ (core_at s at, b) (core_at s' (at + 1), b') (fetched owned s ∙ stores owned s s' at b b' u w r h l)

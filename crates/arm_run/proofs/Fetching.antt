@@ -4,8 +4,8 @@ use Rattle.std.proofs.lemmas.Bool.Decides.{nat_tests}
 use Rattle.profile.specs.declared.fault.Fault.{Fault}
 use Rattle.address_map.specs.Bytes.{Bytes, word_loaded}
 use Rattle.arm_core.specs.State.{State}
-use Rattle.arm_core.specs.declared.turn.Turn.{Turn}
-use Rattle.arm_core.specs.declared.turn.Turn.TheVariants as turn
+use Rattle.arm_core.specs.declared.turn.StepEnd.{StepEnd}
+use Rattle.arm_core.specs.declared.turn.StepEnd.TheVariants as turn
 use Rattle.arm_step.specs.Step.{executed_if_fetched, result_of_step}
 use Rattle.arm_run.specs.Standing.{core_at, IsFetched}
 
@@ -15,7 +15,7 @@ counter at h = omega arith
 no_gate : (at : ℕ) → at < 2 ^ 24 → at * 4 ≢ 0x03800000 → nat_eq (at % 2 ^ 24 * 4) 0x03800000 ≡ false
 no_gate at h e = grind (arith, nat_tests)
 
-abbrev at_gate : (ℕ → Bool) → State → Bytes → Bool → Result (State × Bytes) Turn
+abbrev at_gate : (ℕ → Bool) → State → Bytes → Bool → Result (State × Bytes) StepEnd
 at_gate owned t b gate = if gate then Err turn.Gate else executed_if_fetched owned t b (word_loaded b t.pc)
 
 loaded_there : (b : Bytes) (at : ℕ) (r : Result ℕ Fault) → at < 2 ^ 24 → r ≡ word_loaded b (at * 4) → word_loaded b (at % 2 ^ 24 * 4) ≡ r

@@ -15,10 +15,10 @@ use Rattle.arm_core.specs.Effect.{plain_operand, with_status}
 use Rattle.arm_core.specs.Operand.{operand_of, words_ahead}
 use Rattle.arm_core.specs.Operate.{sum_of_operation, state_after_result, state_after_operate}
 use Rattle.arm_core.specs.State.{State, register_in, with_pc}
-use Rattle.arm_core.specs.declared.turn.Turn.{Turn}
+use Rattle.arm_core.specs.declared.turn.StepEnd.{StepEnd}
 use Rattle.arm_step.specs.Step.{result_of_action}
-use Rattle.arm_ready.specs.Kinds.{MovesToPc}
-use Rattle.arm_ready.specs.ReadyWord.{ReadyWord}
+use Rattle.arm_predecode.specs.Kinds.{MovesToPc}
+use Rattle.arm_predecode.specs.OpValue.{OpValue}
 use Rattle.arm_run.specs.Standing.{core_at, LeadsTo}
 use Rattle.arm_run.proofs.Carried.{carried}
 use Rattle.arm_run.proofs.OperandsRead.{whole_read}
@@ -42,7 +42,7 @@ jumped_to : (s : State) (p v next : ℕ) (f : Bool) → next ≡ v / 4 % 2 ^ 24 
 jumped_to s p v next true e = with_counter (with_status s v) _ _ (lands v next e)
 jumped_to s p v next false e = with_counter s _ _ (lands v next e)
 
-jumps : (s : State) (at v next : ℕ) (f : Bool) (r : ReadyWord) → MovesToPc f r → v ≡ register_in s.psr.mode s r.rm → next ≡ v / 4 % 2 ^ 24
+jumps : (s : State) (at v next : ℕ) (f : Bool) (r : OpValue) → MovesToPc f r → v ≡ register_in s.psr.mode s r.rm → next ≡ v / 4 % 2 ^ 24
     → state_after_operate (core_at s at) (operate_in (operand.Shifted (shifted_in r.word)) r.word) ≡ core_at (with_status_if f s v) next
 unfolding state_after_operate
 jumps s at v next f r h from there =
@@ -59,15 +59,15 @@ jumps s at v next f r h from there =
     ∙ ap (λ (k : ℕ). jumped (core_at s (at + 1)) f k) value
     ∙ jumped_to s (at + 1) v next f there
 
-leads : (s : State) (at v next : ℕ) (f : Bool) (r : ReadyWord) → MovesToPc f r → v ≡ register_in s.psr.mode s r.rm → next ≡ v / 4 % 2 ^ 24 → LeadsTo s at r.word (with_status_if f s v) next
+leads : (s : State) (at v next : ℕ) (f : Bool) (r : OpValue) → MovesToPc f r → v ≡ register_in s.psr.mode s r.rm → next ≡ v / 4 % 2 ^ 24 → LeadsTo s at r.word (with_status_if f s v) next
 unfolding result_of_action
 leads s at v next f r h from there owned b =
     carried owned (core_at s at) b condition.Always (action.Operate (operate_in (operand.Shifted (shifted_in r.word)) r.word)) r h.does refl
-    ∙ ap (λ (t : State). let o : Result (State × Bytes) Turn = Ok (t, b) in o) (jumps s at v next f r h from there)
+    ∙ ap (λ (t : State). let o : Result (State × Bytes) StepEnd = Ok (t, b) in o) (jumps s at v next f r h from there)
 
-pub moves_to : (s : State) (at v next : ℕ) (r : ReadyWord) → MovesToPc false r → v ≡ register_in s.psr.mode s r.rm → next ≡ v / 4 % 2 ^ 24 → LeadsTo s at r.word s next
+pub moves_to : (s : State) (at v next : ℕ) (r : OpValue) → MovesToPc false r → v ≡ register_in s.psr.mode s r.rm → next ≡ v / 4 % 2 ^ 24 → LeadsTo s at r.word s next
 moves_to s at v next r h from there = leads s at v next false r h from there
 
-pub moves_with_status : (s s' : State) (at v next : ℕ) (r : ReadyWord) → MovesToPc true r → v ≡ register_in s.psr.mode s r.rm → s' ≡ with_status s v → next ≡ v / 4 % 2 ^ 24
+pub moves_with_status : (s s' : State) (at v next : ℕ) (r : OpValue) → MovesToPc true r → v ≡ register_in s.psr.mode s r.rm → s' ≡ with_status s v → next ≡ v / 4 % 2 ^ 24
     → LeadsTo s at r.word s' next
 moves_with_status s s' at v next r h from set there = subst (λ (x : State). LeadsTo s at r.word x next) (sym set) (leads s at v next true r h from there)

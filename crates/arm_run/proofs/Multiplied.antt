@@ -9,10 +9,10 @@ use Rattle.arm_decode.specs.declared.condition.Condition.TheVariants as conditio
 use Rattle.arm_core.specs.Effect.{plain_operand, with_next_pc, with_result}
 use Rattle.arm_core.specs.Operate.{product, state_after_multiply, with_sign}
 use Rattle.arm_core.specs.State.{State, register_in, with_register}
-use Rattle.arm_core.specs.declared.turn.Turn.{Turn}
+use Rattle.arm_core.specs.declared.turn.StepEnd.{StepEnd}
 use Rattle.arm_step.specs.Step.{result_of_action}
-use Rattle.arm_ready.specs.Kinds.{MultipliesPlainly}
-use Rattle.arm_ready.specs.ReadyWord.{ReadyWord}
+use Rattle.arm_predecode.specs.Kinds.{MultipliesPlainly}
+use Rattle.arm_predecode.specs.OpValue.{OpValue}
 use Rattle.arm_run.specs.Operated.{product_of}
 use Rattle.arm_run.specs.Standing.{core_at, LeadsOn}
 use Rattle.arm_run.proofs.Carried.{carried}
@@ -26,7 +26,7 @@ then_added x a = omega arith
 factor : (s : State) (at n k : ℕ) → k ≡ n → k < 15 → plain_operand (core_at s at) n 2 ≡ register_in s.psr.mode s k
 factor s at n k e below = first_read s at n 2 (subst (λ (x : ℕ). x < 15) e below) ∙ ap (λ (x : ℕ). register_in s.psr.mode s x) (sym e)
 
-product_is : (s : State) (at : ℕ) (adds : Bool) (r : ReadyWord) → MultipliesPlainly adds r
+product_is : (s : State) (at : ℕ) (adds : Bool) (r : OpValue) → MultipliesPlainly adds r
     → product (core_at s at) (multiply_in r.word) ≡ product_of adds (register_in s.psr.mode s r.rm) (register_in s.psr.mode s r.rs) (register_in s.psr.mode s r.rd)
 product_is s at adds r h =
     let t : State = core_at s at in
@@ -38,7 +38,7 @@ product_is s at adds r h =
     ∙ ap (λ (v : ℕ). product_of adds (register_in s.psr.mode s r.rm) v z) (factor s at (field r.word 8 4) r.rs h.rs h.rs_below)
     ∙ ap (λ (v : ℕ). product_of adds (register_in s.psr.mode s r.rm) (register_in s.psr.mode s r.rs) v) (factor s at (field r.word 12 4) r.rd h.rd h.rd_below)
 
-multiplied : (s : State) (at : ℕ) (adds : Bool) (value : ℕ) (r : ReadyWord) → MultipliesPlainly adds r → product (core_at s at) (multiply_in r.word) ≡ value
+multiplied : (s : State) (at : ℕ) (adds : Bool) (value : ℕ) (r : OpValue) → MultipliesPlainly adds r → product (core_at s at) (multiply_in r.word) ≡ value
     → state_after_multiply (core_at s at) (multiply_in r.word) ≡ core_at (with_register s r.rn value) (at + 1)
 multiplied s at adds value r h is =
     let t : State = core_at s at in
@@ -50,10 +50,10 @@ multiplied s at adds value r h is =
     ∙ loaded_by s (at + 1) m.rd value (other_below m.rd 15 rd)
     ∙ ap (λ (k : ℕ). core_at (with_register s k value) (at + 1)) (sym h.rn)
 
-pub product_leads : (s s' : State) (adds : Bool) (value : ℕ) (r : ReadyWord) → MultipliesPlainly adds r
+pub product_leads : (s s' : State) (adds : Bool) (value : ℕ) (r : OpValue) → MultipliesPlainly adds r
     → value ≡ product_of adds (register_in s.psr.mode s r.rm) (register_in s.psr.mode s r.rs) (register_in s.psr.mode s r.rd) → s' ≡ with_register s r.rn value → LeadsOn s r.word s'
 unfolding result_of_action
 product_leads s s' adds value r h is set at owned b =
     carried owned (core_at s at) b condition.Always (action.Multiply (multiply_in r.word)) r h.does refl
-    ∙ ap (λ (t : State). let o : Result (State × Bytes) Turn = Ok (t, b) in o)
+    ∙ ap (λ (t : State). let o : Result (State × Bytes) StepEnd = Ok (t, b) in o)
     (multiplied s at adds value r h (product_is s at adds r h ∙ sym is) ∙ ap (λ (x : State). core_at x (at + 1)) (sym set))

@@ -1,4 +1,4 @@
--- Second operands as ready words give them.
+-- Second operands as ops give them.
 use Rattle.std.proofs.Common.{◌≡◌, ◌<◌, ◌*◌, ℕ, Bool, true, false, not, nat_eq, refl, sym, ◌∙◌, ap, subst, arith, if◌then◌else◌}
 use Rattle.std.proofs.lemmas.Bool.Decides.{nat_tests}
 use Rattle.profile.specs.Shift.{rotated_right, rotation_of}
@@ -13,8 +13,8 @@ use Rattle.arm_decode.specs.declared.shift.Shift.TheVariants as shift
 use Rattle.arm_core.specs.Effect.{plain_operand, status_operand}
 use Rattle.arm_core.specs.Operand.{operand_of, rotated_immediate, unshifted_value, shifted_by_number, shifted_by_zero, shifted_value}
 use Rattle.arm_core.specs.State.{State, register_in}
-use Rattle.arm_ready.specs.Kinds.{OperatesByRegister, OperatesByShift}
-use Rattle.arm_ready.specs.ReadyWord.{ReadyWord}
+use Rattle.arm_predecode.specs.Kinds.{OperatesByRegister, OperatesByShift}
+use Rattle.arm_predecode.specs.OpValue.{OpValue}
 use Rattle.arm_run.specs.Standing.{core_at}
 
 pub other_below : (n m : ℕ) → n < m → nat_eq n m ≡ false
@@ -60,7 +60,7 @@ pub first_read : (s : State) (at n k : ℕ) → n < 15 → plain_operand (core_a
 first_read s at n k h = rw (other_below n 15 h) refl
 
 -- a register as it is
-pub whole_read : (s : State) (at : ℕ) (r : ReadyWord) (x : ℕ) → r.rm ≡ field r.word 0 4 → r.rm < 15 → field r.word 7 5 ≡ 0 → shift_of (field r.word 5 2) ≡ shift.LogicalLeft
+pub whole_read : (s : State) (at : ℕ) (r : OpValue) (x : ℕ) → r.rm ≡ field r.word 0 4 → r.rm < 15 → field r.word 7 5 ≡ 0 → shift_of (field r.word 5 2) ≡ shift.LogicalLeft
     → x ≡ register_in s.psr.mode s r.rm → operand_of (core_at s at) (operand.Shifted (shifted_in r.word)) ≡ unshifted_value x s.psr.carry
 whole_read s at r x rm rm_below amount whole e =
     let n : ℕ = field r.word 0 4 in
@@ -70,7 +70,7 @@ whole_read s at r x rm rm_below amount whole e =
     ∙ ap (λ (k : Shift). shifted_by_zero k (status_operand s.psr.mode (core_at s at) n 2) s.psr.carry) whole
     ∙ ap (λ (v : ℕ). unshifted_value v s.psr.carry) (status_read s at n 2 below ∙ ap (λ (k : ℕ). register_in s.psr.mode s k) (sym rm) ∙ sym e)
 
-pub register_read : (s : State) (at : ℕ) (op : Operation) (f : Bool) (r : ReadyWord) (x : ℕ) → OperatesByRegister op f r → x ≡ register_in s.psr.mode s r.rm
+pub register_read : (s : State) (at : ℕ) (op : Operation) (f : Bool) (r : OpValue) (x : ℕ) → OperatesByRegister op f r → x ≡ register_in s.psr.mode s r.rm
     → operand_of (core_at s at) (operand.Shifted (shifted_in r.word)) ≡ unshifted_value x s.psr.carry
 register_read s at op f r x h e = whole_read s at r x h.rm h.rm_below h.amount h.shift e
 
@@ -78,7 +78,7 @@ some_by : (n : ℕ) → 0 < n → nat_eq n 0 ≡ false
 some_by n h = grind (arith, nat_tests)
 
 -- a register shifted by some amount
-pub shift_read : (s : State) (at : ℕ) (op : Operation) (f : Bool) (r : ReadyWord) (x : ℕ) → OperatesByShift op f r → x ≡ register_in s.psr.mode s r.rm
+pub shift_read : (s : State) (at : ℕ) (op : Operation) (f : Bool) (r : OpValue) (x : ℕ) → OperatesByShift op f r → x ≡ register_in s.psr.mode s r.rm
     → operand_of (core_at s at) (operand.Shifted (shifted_in r.word)) ≡ shifted_value r.shift x r.value
 shift_read s at op f r x h e =
     let n : ℕ = field r.word 0 4 in

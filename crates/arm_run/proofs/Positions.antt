@@ -3,8 +3,8 @@ use Rattle.std.proofs.Common.{◌≡◌, ◌≢◌, ◌<◌, ◌+◌, ◌*◌, �
 use Rattle.address_map.specs.Bytes.{Bytes}
 use Rattle.arm_core.specs.State.{State, with_pc}
 use Rattle.arm_core.specs.Effect.{with_next_pc}
-use Rattle.arm_core.specs.declared.turn.Turn.{Turn}
-use Rattle.arm_core.specs.declared.turn.Turn.TheVariants as turn
+use Rattle.arm_core.specs.declared.turn.StepEnd.{StepEnd}
+use Rattle.arm_core.specs.declared.turn.StepEnd.TheVariants as turn
 use Rattle.arm_step.specs.Step.{result_of_step}
 use Rattle.arm_step.specs.Turns.{Turns}
 use Rattle.arm_run.specs.Standing.{core_at, Refuses}
@@ -21,18 +21,18 @@ stands_there s pc e below aligned = let same : pc / 4 % 2 ^ 24 * 4 ≡ s.pc = om
 pub next_position : (s : State) (at : ℕ) → with_next_pc (core_at s at) ≡ core_at s (at + 1)
 next_position s at = with_counter s _ _ (omega arith)
 
-pub done_slowly : (owned : ℕ → Bool) (s t s' : State) (at next : ℕ) (b b' : Bytes) (u : Turn) → t ≡ core_at s at → u ≡ turn.Done → core_at s' next ≡ s'
-    → Turns (t, b) (result_of_step owned t b) u (s', b') → (let d : Turn = turn.Done in Turns (core_at s at, b) (result_of_step owned (core_at s at) b) d (core_at s' next, b'))
+pub done_slowly : (owned : ℕ → Bool) (s t s' : State) (at next : ℕ) (b b' : Bytes) (u : StepEnd) → t ≡ core_at s at → u ≡ turn.Done → core_at s' next ≡ s'
+    → Turns (t, b) (result_of_step owned t b) u (s', b') → (let d : StepEnd = turn.Done in Turns (core_at s at, b) (result_of_step owned (core_at s at) b) d (core_at s' next, b'))
 done_slowly owned s t s' at next b b' u stood is there h =
     subst (λ (x : State). Turns (core_at s at, b) (result_of_step owned (core_at s at) b) turn.Done (x, b')) (sym there)
-    (subst (λ (x : Turn). Turns (core_at s at, b) (result_of_step owned (core_at s at) b) x (s', b')) is
+    (subst (λ (x : StepEnd). Turns (core_at s at, b) (result_of_step owned (core_at s at) b) x (s', b')) is
     (subst (λ (x : State). Turns (x, b) (result_of_step owned x b) u (s', b')) stood h))
 
-stays_by : (r : Result (State × Bytes) Turn) (old new : State × Bytes) (u : Turn) → u ≢ turn.Done → Turns old r u new → new ≡ old
+stays_by : (r : Result (State × Bytes) StepEnd) (old new : State × Bytes) (u : StepEnd) → u ≢ turn.Done → Turns old r u new → new ≡ old
 stays_by (Ok v) old new u other h = absurd (other h.0)
 stays_by (Err e) old new u other h = h.1
 
-pub other_slowly : (owned : ℕ → Bool) (s t s' : State) (at : ℕ) (b b' : Bytes) (u : Turn) → t ≡ core_at s at → u ≢ turn.Done
+pub other_slowly : (owned : ℕ → Bool) (s t s' : State) (at : ℕ) (b b' : Bytes) (u : StepEnd) → t ≡ core_at s at → u ≢ turn.Done
     → Turns (t, b) (result_of_step owned t b) u (s', b') → (core_at s' at ≡ core_at s at) × (b' ≡ b) × Refuses owned (core_at s at) b
 other_slowly owned s t s' at b b' u stood other h =
     let same : (s', b') ≡ (t, b) = stays_by (result_of_step owned t b) (t, b) (s', b') u other h in

@@ -2,8 +2,8 @@
 use Rattle.std.proofs.Common.{◌≡◌, ◌⊎◌, ◌+◌, ℕ, Bool, false, List, [], sym, ◌∙◌, ap, subst, add-one}
 use Rattle.address_map.specs.Bytes.{Bytes}
 use Rattle.arm_core.specs.State.{State}
-use Rattle.arm_core.specs.declared.turn.Turn.{Turn}
-use Rattle.arm_core.specs.declared.turn.Turn.TheVariants as turn
+use Rattle.arm_core.specs.declared.turn.StepEnd.{StepEnd}
+use Rattle.arm_core.specs.declared.turn.StepEnd.TheVariants as turn
 use Rattle.arm_step.specs.Step.{result_of_step}
 use Rattle.arm_step.specs.Turns.{Turns}
 use Rattle.arm_core.specs.breaks.Breaks.{is_among}
@@ -27,7 +27,7 @@ same_count owned breaks n m old new new' e f h =
 pub same_pair : (s t : State) (b c : Bytes) → s ≡ t → b ≡ c → (let w : State × Bytes = (s, b) in let v : State × Bytes = (t, c) in w ≡ v)
 same_pair s t b c e f = λ i. (e i, f i)
 
-pub turns_so : (owned owned' : ℕ → Bool) (w v : State × Bytes) (u : Turn) → owned ≡ owned' → Turns w (result_of_step owned w.0 w.1) u v → Turns w (result_of_step owned' w.0 w.1) u v
+pub turns_so : (owned owned' : ℕ → Bool) (w v : State × Bytes) (u : StepEnd) → owned ≡ owned' → Turns w (result_of_step owned w.0 w.1) u v → Turns w (result_of_step owned' w.0 w.1) u v
 turns_so owned owned' w v u e h = subst (λ (o : ℕ → Bool). Turns w (result_of_step o w.0 w.1) u v) e h
 
 pub refuses_so : (owned owned' : ℕ → Bool) (s s' : State) (b b' : Bytes) → owned' ≡ owned → s' ≡ s → b' ≡ b → Refuses owned s b → Refuses owned' s' b'

@@ -16,10 +16,10 @@ use Rattle.arm_core.specs.Effect.{plain_operand}
 use Rattle.arm_core.specs.Operand.{operand_of, words_ahead, rotated_immediate, unshifted_value, shifted_value}
 use Rattle.arm_core.specs.Operate.{sum_of_operation, state_after_result, state_after_operate}
 use Rattle.arm_core.specs.State.{State, register_in}
-use Rattle.arm_core.specs.declared.turn.Turn.{Turn}
+use Rattle.arm_core.specs.declared.turn.StepEnd.{StepEnd}
 use Rattle.arm_step.specs.Step.{result_of_action}
-use Rattle.arm_ready.specs.Kinds.{OperatesPlainly, OperatesByImmediate, OperatesByRegister, OperatesByShift}
-use Rattle.arm_ready.specs.ReadyWord.{ReadyWord}
+use Rattle.arm_predecode.specs.Kinds.{OperatesPlainly, OperatesByImmediate, OperatesByRegister, OperatesByShift}
+use Rattle.arm_predecode.specs.OpValue.{OpValue}
 use Rattle.arm_run.specs.Operated.{with_destination, with_flags_if, with_sum, sum_by, state_after_operation}
 use Rattle.arm_run.specs.Standing.{core_at, LeadsOn}
 use Rattle.arm_run.proofs.Carried.{carried}
@@ -34,7 +34,7 @@ stands_by s p o q true false pc test flags places = absurd (cc)
 stands_by s p o q false true pc test flags places = rw (test, flags, pc) refl
 stands_by s p o q false false pc test flags places = rw (test, flags, pc) refl
 
-operates_at : (s : State) (at : ℕ) (op : Operation) (sets : Bool) (second : Shifted) (x : Operand) (r : ReadyWord) → OperatesPlainly op sets x r → operand_of (core_at s at) x ≡ second
+operates_at : (s : State) (at : ℕ) (op : Operation) (sets : Bool) (second : Shifted) (x : Operand) (r : OpValue) → OperatesPlainly op sets x r → operand_of (core_at s at) x ≡ second
     → state_after_operate (core_at s at) (operate_in x r.word) ≡ core_at (state_after_operation s op sets r second) (at + 1)
 unfolding state_after_operate state_after_operation
 operates_at s at op sets second x r h read =
@@ -51,25 +51,25 @@ operates_at s at op sets second x r h read =
     ∙ ap (λ (k : ℕ). core_at (with_flags_if sets (with_destination (is_test op) s k sum.value) sum) (at + 1)) (sym h.rd)
     ∙ ap (λ (q : Sum). core_at (with_sum s op sets r.rd q) (at + 1)) same
 
-leads : (s : State) (op : Operation) (sets : Bool) (second : Shifted) (x : Operand) (r : ReadyWord) → OperatesPlainly op sets x r → ((at : ℕ) → operand_of (core_at s at) x ≡ second)
+leads : (s : State) (op : Operation) (sets : Bool) (second : Shifted) (x : Operand) (r : OpValue) → OperatesPlainly op sets x r → ((at : ℕ) → operand_of (core_at s at) x ≡ second)
     → LeadsOn s r.word (state_after_operation s op sets r second)
 unfolding result_of_action
 leads s op sets second x r h read at owned b =
     carried owned (core_at s at) b condition.Always (action.Operate (operate_in x r.word)) r h.does refl
-    ∙ ap (λ (t : State). let o : Result (State × Bytes) Turn = Ok (t, b) in o) (operates_at s at op sets second x r h (read at))
+    ∙ ap (λ (t : State). let o : Result (State × Bytes) StepEnd = Ok (t, b) in o) (operates_at s at op sets second x r h (read at))
 
-pub immediate_leads : (s s' : State) (op : Operation) (sets : Bool) (second : Shifted) (r : ReadyWord) → OperatesByImmediate op sets r
+pub immediate_leads : (s s' : State) (op : Operation) (sets : Bool) (second : Shifted) (r : OpValue) → OperatesByImmediate op sets r
     → second ≡ rotated_immediate (field r.word 8 4) (field r.word 0 8) s.psr.carry → s' ≡ state_after_operation s op sets r second → LeadsOn s r.word s'
 immediate_leads s s' op sets second r h is done =
     subst (λ (t : State). LeadsOn s r.word t) (sym done) (leads s op sets second (immediate_in r.word) r h.operates (λ at. sym is))
 
-pub register_leads : (s s' : State) (op : Operation) (sets : Bool) (x : ℕ) (second : Shifted) (r : ReadyWord) → OperatesByRegister op sets r
+pub register_leads : (s s' : State) (op : Operation) (sets : Bool) (x : ℕ) (second : Shifted) (r : OpValue) → OperatesByRegister op sets r
     → x ≡ register_in s.psr.mode s r.rm → second ≡ unshifted_value x s.psr.carry → s' ≡ state_after_operation s op sets r second → LeadsOn s r.word s'
 register_leads s s' op sets x second r h from is done =
     subst (λ (t : State). LeadsOn s r.word t) (sym done)
     (leads s op sets second (operand.Shifted (shifted_in r.word)) r h.operates (λ at. register_read s at op sets r x h from ∙ sym is))
 
-pub shift_leads : (s s' : State) (op : Operation) (sets : Bool) (x : ℕ) (second : Shifted) (r : ReadyWord) → OperatesByShift op sets r
+pub shift_leads : (s s' : State) (op : Operation) (sets : Bool) (x : ℕ) (second : Shifted) (r : OpValue) → OperatesByShift op sets r
     → x ≡ register_in s.psr.mode s r.rm → second ≡ shifted_value r.shift x r.value → s' ≡ state_after_operation s op sets r second → LeadsOn s r.word s'
 shift_leads s s' op sets x second r h from is done =
     subst (λ (t : State). LeadsOn s r.word t) (sym done)

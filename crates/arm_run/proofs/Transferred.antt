@@ -20,13 +20,13 @@ use Rattle.arm_decode.specs.declared.shift.Shift.TheVariants as shift
 use Rattle.arm_core.specs.Effect.{plain_operand, status_operand, with_result, with_next_pc}
 use Rattle.arm_core.specs.Operand.{shifted_by_number}
 use Rattle.arm_core.specs.State.{State, register_in, with_register}
-use Rattle.arm_core.specs.declared.turn.Turn.{Turn}
-use Rattle.arm_core.specs.declared.turn.Turn.TheVariants as turn
+use Rattle.arm_core.specs.declared.turn.StepEnd.{StepEnd}
+use Rattle.arm_core.specs.declared.turn.StepEnd.TheVariants as turn
 use Rattle.arm_step.specs.Step.{or_fault, result_of_action, result_of_step, result_of_word}
 use Rattle.arm_step.specs.Transfers.{address_by, moved_base, moved_by, result_of_load, result_of_store, result_of_transfer, transfer_address, value_loaded, value_stored, with_base}
 use Rattle.arm_step.specs.Turns.{Turns}
-use Rattle.arm_ready.specs.Kinds.{Transfers, TransfersByNumber, TransfersByRegister}
-use Rattle.arm_ready.specs.ReadyWord.{ReadyWord}
+use Rattle.arm_predecode.specs.Kinds.{Transfers, TransfersByNumber, TransfersByRegister}
+use Rattle.arm_predecode.specs.OpValue.{OpValue}
 use Rattle.arm_run.specs.Moved.{base_moved, address_reached, with_base_if, with_moved_base, IsLoaded, IsStored}
 use Rattle.arm_run.specs.Standing.{core_at, IsFetched, Acts}
 use Rattle.arm_run.proofs.Carried.{carried, turns_by}
@@ -34,19 +34,19 @@ use Rattle.arm_run.proofs.OperandsRead.{first_read, other_below, status_read}
 use Rattle.arm_run.proofs.Positions.{next_position}
 
 -- a load by its value
-pub is_loaded : (b : Bytes) (s s' : State) (is_byte : Bool) (way : Indexing) (added v : ℕ) (r : ReadyWord) → value_loaded b is_byte (address_reached way s r added) ≡ Ok v
+pub is_loaded : (b : Bytes) (s s' : State) (is_byte : Bool) (way : Indexing) (added v : ℕ) (r : OpValue) → value_loaded b is_byte (address_reached way s r added) ≡ Ok v
     → s' ≡ with_register (with_moved_base way s r added) r.rd v → IsLoaded b s is_byte way added r s'
 is_loaded b s s' is_byte way added v r there core = record { value = v; there = there; core = core }
 
 -- what is added moves the base as the offset does
-abbrev pub Adds : State → Offset → ℕ → ReadyWord → Type 0
+abbrev pub Adds : State → Offset → ℕ → OpValue → Type 0
 Adds s by added r = (at : ℕ) → moved_base (core_at s at) (address_in by r.word) ≡ base_moved s r added
 
 pub number_moves : (up : Bool) (base n v : ℕ) → n < 2 ^ 12 → v ≡ (if up then n else (2 ^ 32 - n) % 2 ^ 32) → moved_by (direction_of up) base n ≡ (base + v) % 2 ^ 32
 number_moves true base n v h e = ap (λ (x : ℕ). (base + x) % 2 ^ 32) (sym e)
 number_moves false base n v h e = omega arith
 
-adds_number : (s : State) (loads is_byte : Bool) (way : Indexing) (r : ReadyWord) → TransfersByNumber loads is_byte way r → Adds s (offset.Immediate (field r.word 0 12)) r.value r
+adds_number : (s : State) (loads is_byte : Bool) (way : Indexing) (r : OpValue) → TransfersByNumber loads is_byte way r → Adds s (offset.Immediate (field r.word 0 12)) r.value r
 adds_number s loads is_byte way r h at =
     let rn : field r.word 16 4 < 15 = subst (λ (k : ℕ). k < 15) h.transfers.rn h.transfers.rn_below in
     let small : field r.word 0 12 < 2 ^ 12 = omega arith in
@@ -63,7 +63,7 @@ left_by x n c false h e = rw e refl
 pub left_shifted : (x n : ℕ) (c : Bool) → x < 2 ^ 32 → x * 2 ^ n % 2 ^ 32 ≡ (shifted_by_number shift.LogicalLeft x n c).value
 left_shifted x n c h = left_by x n c (nat_eq n 0) h refl
 
-adds_register : (s : State) (loads is_byte : Bool) (way : Indexing) (r : ReadyWord) (added : ℕ) → TransfersByRegister loads is_byte way r
+adds_register : (s : State) (loads is_byte : Bool) (way : Indexing) (r : OpValue) (added : ℕ) → TransfersByRegister loads is_byte way r
     → added ≡ (shifted_by_number shift.LogicalLeft (register_in s.psr.mode s r.rm) r.value s.psr.carry).value → Adds s (offset.Shifted (shifted_in r.word)) added r
 adds_register s loads is_byte way r added h e at =
     let rn : field r.word 16 4 < 15 = subst (λ (k : ℕ). k < 15) h.transfers.rn h.transfers.rn_below in
@@ -85,7 +85,7 @@ based_by s p rn moved false e = refl
 pub loaded_by : (s : State) (p rd v : ℕ) → nat_eq rd 15 ≡ false → with_result (core_at s p) rd v ≡ core_at (with_register s rd v) p
 loaded_by s p rd v e = rw e refl
 
-based : (s : State) (at added : ℕ) (loads is_byte : Bool) (way : Indexing) (by : Offset) (r : ReadyWord) → Transfers loads is_byte way by r → Adds s by added r
+based : (s : State) (at added : ℕ) (loads is_byte : Bool) (way : Indexing) (by : Offset) (r : OpValue) → Transfers loads is_byte way by r → Adds s by added r
     → with_base (with_next_pc (core_at s at)) (address_in by r.word) (moved_base (core_at s at) (address_in by r.word)) ≡ core_at (with_moved_base way s r added) (at + 1)
 based s at added loads is_byte way by r h adds =
     let a : Address = address_in by r.word in
@@ -96,7 +96,7 @@ based s at added loads is_byte way by r h adds =
     ∙ based_by s (at + 1) (field r.word 16 4) (base_moved s r added) (writes_base way) (other_below (field r.word 16 4) 15 rn)
     ∙ ap (λ (k : ℕ). core_at (with_base_if (writes_base way) s k (base_moved s r added)) (at + 1)) (sym h.rn)
 
-addressed : (s : State) (at added : ℕ) (loads is_byte : Bool) (way : Indexing) (by : Offset) (r : ReadyWord) → Transfers loads is_byte way by r → Adds s by added r
+addressed : (s : State) (at added : ℕ) (loads is_byte : Bool) (way : Indexing) (by : Offset) (r : OpValue) → Transfers loads is_byte way by r → Adds s by added r
     → transfer_address (core_at s at) (address_in by r.word) ≡ address_reached way s r added
 addressed s at added loads is_byte way by r h adds =
     let rn : field r.word 16 4 < 15 = subst (λ (k : ℕ). k < 15) h.rn h.rn_below in
@@ -105,7 +105,7 @@ addressed s at added loads is_byte way by r h adds =
     ∙ ap (λ (x : ℕ). address_by way x moved) (first_read s at (field r.word 16 4) 2 rn ∙ ap (λ (k : ℕ). register_in s.psr.mode s k) (sym h.rn))
     ∙ ap (λ (x : ℕ). address_by way (register_in s.psr.mode s r.rn) x) (adds at)
 
-loads : (owned : ℕ → Bool) (s s' : State) (at added : ℕ) (b : Bytes) (is_byte : Bool) (way : Indexing) (by : Offset) (r : ReadyWord) → Transfers true is_byte way by r → Adds s by added r
+loads : (owned : ℕ → Bool) (s s' : State) (at added : ℕ) (b : Bytes) (is_byte : Bool) (way : Indexing) (by : Offset) (r : OpValue) → Transfers true is_byte way by r → Adds s by added r
     → IsLoaded b s is_byte way added r s' → result_of_word owned (core_at s at) b r.word ≡ Ok (core_at s' (at + 1), b)
 unfolding result_of_action result_of_transfer
 loads owned s s' at added b is_byte way by r h adds l =
@@ -121,11 +121,11 @@ loads owned s s' at added b is_byte way by r h adds l =
     ∙ ap (λ (k : ℕ). core_at (with_register (with_moved_base way s r added) k l.value) (at + 1)) (sym h.rd)
     ∙ ap (λ (x : State). core_at x (at + 1)) (sym l.core) in
     carried owned t b condition.Always (action.Transfer tr) r h.does refl
-    ∙ ap (λ (f : Bool). let o : Result (State × Bytes) Turn = or_fault (if f then result_of_load t b tr else result_of_store owned t b tr) in o) h.loads
-    ∙ ap (λ (x : Result ℕ Fault). let o : Result (State × Bytes) Turn = or_fault (bind x (λ v. let w : Result (State × Bytes) Fault = Ok (with_result (with_base (with_next_pc t) a (moved_base t a)) (field r.word 12 4) v, b) in w)) in o) value
-    ∙ ap (λ (x : State). let o : Result (State × Bytes) Turn = Ok (x, b) in o) core
+    ∙ ap (λ (f : Bool). let o : Result (State × Bytes) StepEnd = or_fault (if f then result_of_load t b tr else result_of_store owned t b tr) in o) h.loads
+    ∙ ap (λ (x : Result ℕ Fault). let o : Result (State × Bytes) StepEnd = or_fault (bind x (λ v. let w : Result (State × Bytes) Fault = Ok (with_result (with_base (with_next_pc t) a (moved_base t a)) (field r.word 12 4) v, b) in w)) in o) value
+    ∙ ap (λ (x : State). let o : Result (State × Bytes) StepEnd = Ok (x, b) in o) core
 
-stores : (owned : ℕ → Bool) (s s' : State) (at added : ℕ) (b b' : Bytes) (is_byte : Bool) (way : Indexing) (by : Offset) (r : ReadyWord) → Transfers false is_byte way by r → Adds s by added r
+stores : (owned : ℕ → Bool) (s s' : State) (at added : ℕ) (b b' : Bytes) (is_byte : Bool) (way : Indexing) (by : Offset) (r : OpValue) → Transfers false is_byte way by r → Adds s by added r
     → IsStored owned b s is_byte way added r s' b' → result_of_word owned (core_at s at) b r.word ≡ Ok (core_at s' (at + 1), b')
 unfolding result_of_action result_of_transfer
 stores owned s s' at added b b' is_byte way by r h adds l =
@@ -141,30 +141,30 @@ stores owned s s' at added b b' is_byte way by r h adds l =
     let core : with_base (with_next_pc t) a (moved_base t a) ≡ core_at s' (at + 1) =
     based s at added false is_byte way by r h adds ∙ ap (λ (x : State). core_at x (at + 1)) (sym l.core) in
     carried owned t b condition.Always (action.Transfer tr) r h.does refl
-    ∙ ap (λ (f : Bool). let o : Result (State × Bytes) Turn = or_fault (if f then result_of_load t b tr else result_of_store owned t b tr) in o) h.loads
-    ∙ ap (λ (x : Result Bytes Fault). let o : Result (State × Bytes) Turn = or_fault (bind x (λ c. let w : Result (State × Bytes) Fault = Ok (with_base (with_next_pc t) a (moved_base t a), c) in w)) in o) bytes
-    ∙ ap (λ (x : State). let o : Result (State × Bytes) Turn = Ok (x, b') in o) core
+    ∙ ap (λ (f : Bool). let o : Result (State × Bytes) StepEnd = or_fault (if f then result_of_load t b tr else result_of_store owned t b tr) in o) h.loads
+    ∙ ap (λ (x : Result Bytes Fault). let o : Result (State × Bytes) StepEnd = or_fault (bind x (λ c. let w : Result (State × Bytes) Fault = Ok (with_base (with_next_pc t) a (moved_base t a), c) in w)) in o) bytes
+    ∙ ap (λ (x : State). let o : Result (State × Bytes) StepEnd = Ok (x, b') in o) core
 
-pub loads_by_number : (owned : ℕ → Bool) (s s' : State) (at : ℕ) (b : Bytes) (is_byte : Bool) (way : Indexing) (r : ReadyWord) → TransfersByNumber true is_byte way r → IsFetched b at r.word
+pub loads_by_number : (owned : ℕ → Bool) (s s' : State) (at : ℕ) (b : Bytes) (is_byte : Bool) (way : Indexing) (r : OpValue) → TransfersByNumber true is_byte way r → IsFetched b at r.word
     → IsLoaded b s is_byte way r.value r s' → Turns (core_at s at, b) (result_of_step owned (core_at s at) b) turn.Done (core_at s' (at + 1), b)
 loads_by_number owned s s' at b is_byte way r h fetched l =
     turns_by _ (core_at s at, b) (core_at s' (at + 1), b)
     (fetched owned s ∙ loads owned s s' at r.value b is_byte way (offset.Immediate (field r.word 0 12)) r h.transfers (adds_number s true is_byte way r h) l)
 
-pub stores_by_number : (owned : ℕ → Bool) (s s' : State) (at : ℕ) (b b' : Bytes) (is_byte : Bool) (way : Indexing) (r : ReadyWord) → TransfersByNumber false is_byte way r → IsFetched b at r.word
+pub stores_by_number : (owned : ℕ → Bool) (s s' : State) (at : ℕ) (b b' : Bytes) (is_byte : Bool) (way : Indexing) (r : OpValue) → TransfersByNumber false is_byte way r → IsFetched b at r.word
     → IsStored owned b s is_byte way r.value r s' b' → Turns (core_at s at, b) (result_of_step owned (core_at s at) b) turn.Done (core_at s' (at + 1), b')
 stores_by_number owned s s' at b b' is_byte way r h fetched l =
     turns_by _ (core_at s at, b) (core_at s' (at + 1), b')
     (fetched owned s ∙ stores owned s s' at r.value b b' is_byte way (offset.Immediate (field r.word 0 12)) r h.transfers (adds_number s false is_byte way r h) l)
 
-pub loads_by_register : (owned : ℕ → Bool) (s s' : State) (at added : ℕ) (b : Bytes) (is_byte : Bool) (way : Indexing) (r : ReadyWord) → TransfersByRegister true is_byte way r → IsFetched b at r.word
+pub loads_by_register : (owned : ℕ → Bool) (s s' : State) (at added : ℕ) (b : Bytes) (is_byte : Bool) (way : Indexing) (r : OpValue) → TransfersByRegister true is_byte way r → IsFetched b at r.word
     → added ≡ (shifted_by_number shift.LogicalLeft (register_in s.psr.mode s r.rm) r.value s.psr.carry).value
     → IsLoaded b s is_byte way added r s' → Turns (core_at s at, b) (result_of_step owned (core_at s at) b) turn.Done (core_at s' (at + 1), b)
 loads_by_register owned s s' at added b is_byte way r h fetched e l =
     turns_by _ (core_at s at, b) (core_at s' (at + 1), b)
     (fetched owned s ∙ loads owned s s' at added b is_byte way (offset.Shifted (shifted_in r.word)) r h.transfers (adds_register s true is_byte way r added h e) l)
 
-pub stores_by_register : (owned : ℕ → Bool) (s s' : State) (at added : ℕ) (b b' : Bytes) (is_byte : Bool) (way : Indexing) (r : ReadyWord) → TransfersByRegister false is_byte way r → IsFetched b at r.word
+pub stores_by_register : (owned : ℕ → Bool) (s s' : State) (at added : ℕ) (b b' : Bytes) (is_byte : Bool) (way : Indexing) (r : OpValue) → TransfersByRegister false is_byte way r → IsFetched b at r.word
     → added ≡ (shifted_by_number shift.LogicalLeft (register_in s.psr.mode s r.rm) r.value s.psr.carry).value
     → IsStored owned b s is_byte way added r s' b' → Turns (core_at s at, b) (result_of_step owned (core_at s at) b) turn.Done (core_at s' (at + 1), b')
 stores_by_register owned s s' at added b b' is_byte way r h fetched e l =

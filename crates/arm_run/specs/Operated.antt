@@ -7,7 +7,7 @@ use Rattle.arm_decode.specs.declared.operation.Operation.{Operation}
 use Rattle.arm_core.specs.Effect.{with_result_flags}
 use Rattle.arm_core.specs.Operate.{sum_of_operation}
 use Rattle.arm_core.specs.State.{State, register_in, with_register}
-use Rattle.arm_ready.specs.ReadyWord.{ReadyWord}
+use Rattle.arm_predecode.specs.OpValue.{OpValue}
 
 -- a test has no destination
 abbrev pub with_destination : Bool → State → ℕ → ℕ → State
@@ -28,5 +28,5 @@ sum_by s op rn second = sum_of_operation op (register_in s.psr.mode s rn) second
 abbrev pub product_of : Bool → ℕ → ℕ → ℕ → ℕ
 product_of adds left right added = if adds then (left * right + added) % 2 ^ 32 else left * right % 2 ^ 32
 
-unfoldable pub state_after_operation : State → Operation → Bool → ReadyWord → Shifted → State
+unfoldable pub state_after_operation : State → Operation → Bool → OpValue → Shifted → State
 state_after_operation s op sets r second = with_sum s op sets r.rd (sum_by s op r.rn second)

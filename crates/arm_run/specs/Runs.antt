@@ -2,10 +2,10 @@
 use Rattle.std.specs.Prelude.{◌≡◌, ◌<◌, ◌⊎◌, ℕ, zero, suc, Bool, true, false, List, Result, Ok, Err}
 use Rattle.profile.specs.declared.stop.Stop.{Stop}
 use Rattle.profile.specs.declared.stop.Stop.TheVariants as stop
-use Rattle.arm_core.specs.declared.turn.Turn.{Turn}
+use Rattle.arm_core.specs.declared.turn.StepEnd.{StepEnd}
 use Rattle.address_map.specs.Bytes.{Bytes}
 use Rattle.arm_core.specs.State.{State}
-use Rattle.arm_core.specs.declared.turn.Turn.TheVariants.{Done}
+use Rattle.arm_core.specs.declared.turn.StepEnd.TheVariants.{Done}
 use Rattle.arm_step.specs.Step.{result_of_step}
 use Rattle.arm_step.specs.Turns.{Turns}
 use Rattle.arm_core.specs.breaks.Breaks.{is_among}
@@ -21,7 +21,7 @@ AreDone owned breaks (suc n) old new =
     (middle : State × Bytes) × (AreDone owned breaks n old middle × IsOneMore owned breaks n middle new)
 
 -- Why so many steps ended at a program counter: it is a break, or else it is none, unless there was no step.
-abbrev pub StopsBy : List ℕ → ℕ → ℕ → Result Turn Stop → Type 0
+abbrev pub StopsBy : List ℕ → ℕ → ℕ → Result StepEnd Stop → Type 0
 StopsBy breaks n pc (Ok turn) = (n ≡ 0) ⊎ (is_among breaks pc ≡ false)
 StopsBy breaks n pc (Err stop.Budget) = (n ≡ 0) ⊎ (is_among breaks pc ≡ false)
 StopsBy breaks n pc (Err (stop.Break at)) = (0 < n) × (at ≡ pc) × (is_among breaks pc ≡ true)

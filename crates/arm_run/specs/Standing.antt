@@ -2,8 +2,8 @@
 use Rattle.std.specs.Prelude.{◌≡◌, ◌≢◌, ◌+◌, ◌*◌, ◌%◌, ◌^◌, ℕ, Bool, Option, Some, None, Ok}
 use Rattle.address_map.specs.Bytes.{Bytes}
 use Rattle.arm_core.specs.State.{State}
-use Rattle.arm_core.specs.declared.turn.Turn.{Turn}
-use Rattle.arm_core.specs.declared.turn.Turn.TheVariants.{Done}
+use Rattle.arm_core.specs.declared.turn.StepEnd.{StepEnd}
+use Rattle.arm_core.specs.declared.turn.StepEnd.TheVariants.{Done}
 use Rattle.arm_step.specs.Step.{result_of_word, result_of_step}
 use Rattle.arm_step.specs.Turns.{Turns}
 
@@ -27,7 +27,7 @@ IsFetched b at w = (owned : ℕ → Bool) (s : State) →
 
 -- another turn than that of an instruction that is done comes next
 pub record Refuses (owned : ℕ → Bool) (s : State) (b : Bytes) : Type 0 where
-  pub turn : Turn
+  pub turn : StepEnd
   pub other : turn ≢ Done
   pub comes : Turns (s, b) (result_of_step owned s b) turn (s, b)
 

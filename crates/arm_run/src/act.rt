@@ -1,8 +1,8 @@
-//! One step by a ready word.
+//! One step by an op.
 
 ghost use Rattle.std.specs.Prelude.{◌≡◌, ◌≤◌, ◌<◌, ◌^◌, IfSome};
 ghost use Rattle.address_map.specs.Memory.{bytes_of, is_owned, layout, class_of};
-ghost use Rattle.arm_ready.specs.Kinds.{KindMeans};
+ghost use Rattle.arm_predecode.specs.Kinds.{KindMeans};
 ghost use Rattle.arm_run.specs.Standing.{Acts, IsFetched};
 
 use crate::blocks::{load_block, load_block_with_pc, store_block, store_block_keeping_base};
@@ -17,7 +17,7 @@ use address_map::AddressMap;
 use arm_core::Cpu;
 use arm_core::condition::is_met;
 use arm_decode::{Condition, Indexing, Operation};
-use arm_ready::{Ready, ReadyKind};
+use arm_predecode::{Op, OpKind};
 
 /// At the changed base, which isn't written back.
 const PRE: Indexing = Indexing::Pre { writes_back: false };
@@ -34,12 +34,12 @@ pub(crate) fn act(
     cpu: &mut Cpu,
     at: usize,
     memory: &mut AddressMap,
-    kind: ReadyKind,
-    ready: &Ready,
+    kind: OpKind,
+    op: &Op,
 ) -> Option<usize>
-    requires known { KindMeans kind ready.now }
+    requires known { KindMeans kind op.now }
     requires at { at < 2 ^ 24 }
-    requires fetched { IsFetched (bytes_of memory.old) at ready.now.word }
+    requires fetched { IsFetched (bytes_of memory.old) at op.now.word }
     ensures state { Acts (is_owned memory.old) cpu.old at (bytes_of memory.old)
         result cpu.new (bytes_of memory.new) }
     ensures within { IfSome result (λ next. next ≤ 2 ^ 24) }
@@ -47,389 +47,289 @@ pub(crate) fn act(
     ensures marks { class_of memory.new ≡ class_of memory.old }
 {
     match kind {
-        ReadyKind::Slow => return slowly(cpu, at, memory),
-        ReadyKind::Conditional => {
-            if is_met(Condition::in_word(ready.word), cpu.psr()) {
+        OpKind::Slow => return slowly(cpu, at, memory),
+        OpKind::Conditional => {
+            if is_met(Condition::in_word(op.word), cpu.psr()) {
                 return slowly(cpu, at, memory);
             }
         }
-        ReadyKind::Interrupt => return None,
-        ReadyKind::Branch => return Some(target(cpu, at, ready)),
-        ReadyKind::Link => return Some(link(cpu, at, ready)),
-        ReadyKind::BranchIfEqual => return Some(branch_if(cpu, Condition::Equal, at, ready)),
-        ReadyKind::BranchIfNotEqual => return Some(branch_if(cpu, Condition::NotEqual, at, ready)),
-        ReadyKind::BranchIfCarrySet => return Some(branch_if(cpu, Condition::CarrySet, at, ready)),
-        ReadyKind::BranchIfCarryClear => return Some(branch_if(
-            cpu,
-            Condition::CarryClear,
-            at,
-            ready,
-        )),
-        ReadyKind::BranchIfMinus => return Some(branch_if(cpu, Condition::Minus, at, ready)),
-        ReadyKind::BranchIfPlus => return Some(branch_if(cpu, Condition::Plus, at, ready)),
-        ReadyKind::BranchIfOverflowSet => return Some(branch_if(
-            cpu,
-            Condition::OverflowSet,
-            at,
-            ready,
-        )),
-        ReadyKind::BranchIfOverflowClear => return Some(branch_if(
+        OpKind::Interrupt => return None,
+        OpKind::Branch => return Some(target(cpu, at, op)),
+        OpKind::Link => return Some(link(cpu, at, op)),
+        OpKind::BranchIfEqual => return Some(branch_if(cpu, Condition::Equal, at, op)),
+        OpKind::BranchIfNotEqual => return Some(branch_if(cpu, Condition::NotEqual, at, op)),
+        OpKind::BranchIfCarrySet => return Some(branch_if(cpu, Condition::CarrySet, at, op)),
+        OpKind::BranchIfCarryClear => return Some(branch_if(cpu, Condition::CarryClear, at, op)),
+        OpKind::BranchIfMinus => return Some(branch_if(cpu, Condition::Minus, at, op)),
+        OpKind::BranchIfPlus => return Some(branch_if(cpu, Condition::Plus, at, op)),
+        OpKind::BranchIfOverflowSet => return Some(branch_if(cpu, Condition::OverflowSet, at, op)),
+        OpKind::BranchIfOverflowClear => return Some(branch_if(
             cpu,
             Condition::OverflowClear,
             at,
-            ready,
+            op,
         )),
-        ReadyKind::BranchIfHigher => return Some(branch_if(cpu, Condition::Higher, at, ready)),
-        ReadyKind::BranchIfLowerOrSame => return Some(branch_if(
-            cpu,
-            Condition::LowerOrSame,
-            at,
-            ready,
-        )),
-        ReadyKind::BranchIfGreaterOrEqual => return Some(branch_if(
+        OpKind::BranchIfHigher => return Some(branch_if(cpu, Condition::Higher, at, op)),
+        OpKind::BranchIfLowerOrSame => return Some(branch_if(cpu, Condition::LowerOrSame, at, op)),
+        OpKind::BranchIfGreaterOrEqual => return Some(branch_if(
             cpu,
             Condition::GreaterOrEqual,
             at,
-            ready,
+            op,
         )),
-        ReadyKind::BranchIfLessThan => return Some(branch_if(cpu, Condition::LessThan, at, ready)),
-        ReadyKind::BranchIfGreaterThan => return Some(branch_if(
-            cpu,
-            Condition::GreaterThan,
-            at,
-            ready,
-        )),
-        ReadyKind::BranchIfLessOrEqual => return Some(branch_if(
-            cpu,
-            Condition::LessOrEqual,
-            at,
-            ready,
-        )),
-        ReadyKind::MoveToPc => return Some(move_to_pc(cpu, at, ready)),
-        ReadyKind::MoveToPcS => return Some(move_to_pc_s(cpu, at, ready)),
-        ReadyKind::Multiply => multiply(cpu, false, ready),
-        ReadyKind::MultiplyAdd => multiply(cpu, true, ready),
-        ReadyKind::ImmediateAnd => operate_immediate(cpu, Operation::And, false, ready),
-        ReadyKind::ImmediateAndS => operate_immediate(cpu, Operation::And, true, ready),
-        ReadyKind::ImmediateExclusiveOr => operate_immediate(
-            cpu,
-            Operation::ExclusiveOr,
-            false,
-            ready,
-        ),
-        ReadyKind::ImmediateExclusiveOrS => operate_immediate(
-            cpu,
-            Operation::ExclusiveOr,
-            true,
-            ready,
-        ),
-        ReadyKind::ImmediateSubtract => operate_immediate(cpu, Operation::Subtract, false, ready),
-        ReadyKind::ImmediateSubtractS => operate_immediate(cpu, Operation::Subtract, true, ready),
-        ReadyKind::ImmediateReverseSubtract => operate_immediate(
+        OpKind::BranchIfLessThan => return Some(branch_if(cpu, Condition::LessThan, at, op)),
+        OpKind::BranchIfGreaterThan => return Some(branch_if(cpu, Condition::GreaterThan, at, op)),
+        OpKind::BranchIfLessOrEqual => return Some(branch_if(cpu, Condition::LessOrEqual, at, op)),
+        OpKind::MoveToPc => return Some(move_to_pc(cpu, at, op)),
+        OpKind::MoveToPcS => return Some(move_to_pc_s(cpu, at, op)),
+        OpKind::Multiply => multiply(cpu, false, op),
+        OpKind::MultiplyAdd => multiply(cpu, true, op),
+        OpKind::ImmediateAnd => operate_immediate(cpu, Operation::And, false, op),
+        OpKind::ImmediateAndS => operate_immediate(cpu, Operation::And, true, op),
+        OpKind::ImmediateExclusiveOr => operate_immediate(cpu, Operation::ExclusiveOr, false, op),
+        OpKind::ImmediateExclusiveOrS => operate_immediate(cpu, Operation::ExclusiveOr, true, op),
+        OpKind::ImmediateSubtract => operate_immediate(cpu, Operation::Subtract, false, op),
+        OpKind::ImmediateSubtractS => operate_immediate(cpu, Operation::Subtract, true, op),
+        OpKind::ImmediateReverseSubtract => operate_immediate(
             cpu,
             Operation::ReverseSubtract,
             false,
-            ready,
+            op,
         ),
-        ReadyKind::ImmediateReverseSubtractS => operate_immediate(
+        OpKind::ImmediateReverseSubtractS => operate_immediate(
             cpu,
             Operation::ReverseSubtract,
             true,
-            ready,
+            op,
         ),
-        ReadyKind::ImmediateAdd => operate_immediate(cpu, Operation::Add, false, ready),
-        ReadyKind::ImmediateAddS => operate_immediate(cpu, Operation::Add, true, ready),
-        ReadyKind::ImmediateAddWithCarry => operate_immediate(
-            cpu,
-            Operation::AddWithCarry,
-            false,
-            ready,
-        ),
-        ReadyKind::ImmediateAddWithCarryS => operate_immediate(
-            cpu,
-            Operation::AddWithCarry,
-            true,
-            ready,
-        ),
-        ReadyKind::ImmediateSubtractWithCarry => operate_immediate(
+        OpKind::ImmediateAdd => operate_immediate(cpu, Operation::Add, false, op),
+        OpKind::ImmediateAddS => operate_immediate(cpu, Operation::Add, true, op),
+        OpKind::ImmediateAddWithCarry => operate_immediate(cpu, Operation::AddWithCarry, false, op),
+        OpKind::ImmediateAddWithCarryS => operate_immediate(cpu, Operation::AddWithCarry, true, op),
+        OpKind::ImmediateSubtractWithCarry => operate_immediate(
             cpu,
             Operation::SubtractWithCarry,
             false,
-            ready,
+            op,
         ),
-        ReadyKind::ImmediateSubtractWithCarryS => operate_immediate(
+        OpKind::ImmediateSubtractWithCarryS => operate_immediate(
             cpu,
             Operation::SubtractWithCarry,
             true,
-            ready,
+            op,
         ),
-        ReadyKind::ImmediateReverseSubtractWithCarry => operate_immediate(
+        OpKind::ImmediateReverseSubtractWithCarry => operate_immediate(
             cpu,
             Operation::ReverseSubtractWithCarry,
             false,
-            ready,
+            op,
         ),
-        ReadyKind::ImmediateReverseSubtractWithCarryS => operate_immediate(
+        OpKind::ImmediateReverseSubtractWithCarryS => operate_immediate(
             cpu,
             Operation::ReverseSubtractWithCarry,
             true,
-            ready,
+            op,
         ),
-        ReadyKind::ImmediateTestS => operate_immediate(cpu, Operation::Test, true, ready),
-        ReadyKind::ImmediateTestEquivalenceS => operate_immediate(
+        OpKind::ImmediateTestS => operate_immediate(cpu, Operation::Test, true, op),
+        OpKind::ImmediateTestEquivalenceS => operate_immediate(
             cpu,
             Operation::TestEquivalence,
             true,
-            ready,
+            op,
         ),
-        ReadyKind::ImmediateCompareS => operate_immediate(cpu, Operation::Compare, true, ready),
-        ReadyKind::ImmediateCompareNegatedS => operate_immediate(
+        OpKind::ImmediateCompareS => operate_immediate(cpu, Operation::Compare, true, op),
+        OpKind::ImmediateCompareNegatedS => operate_immediate(
             cpu,
             Operation::CompareNegated,
             true,
-            ready,
+            op,
         ),
-        ReadyKind::ImmediateOr => operate_immediate(cpu, Operation::Or, false, ready),
-        ReadyKind::ImmediateOrS => operate_immediate(cpu, Operation::Or, true, ready),
-        ReadyKind::ImmediateMove => operate_immediate(cpu, Operation::Move, false, ready),
-        ReadyKind::ImmediateMoveS => operate_immediate(cpu, Operation::Move, true, ready),
-        ReadyKind::ImmediateBitClear => operate_immediate(cpu, Operation::BitClear, false, ready),
-        ReadyKind::ImmediateBitClearS => operate_immediate(cpu, Operation::BitClear, true, ready),
-        ReadyKind::ImmediateMoveNot => operate_immediate(cpu, Operation::MoveNot, false, ready),
-        ReadyKind::ImmediateMoveNotS => operate_immediate(cpu, Operation::MoveNot, true, ready),
-        ReadyKind::RegisterAnd => operate_register(cpu, Operation::And, false, ready),
-        ReadyKind::RegisterAndS => operate_register(cpu, Operation::And, true, ready),
-        ReadyKind::RegisterExclusiveOr => operate_register(
-            cpu,
-            Operation::ExclusiveOr,
-            false,
-            ready,
-        ),
-        ReadyKind::RegisterExclusiveOrS => operate_register(
-            cpu,
-            Operation::ExclusiveOr,
-            true,
-            ready,
-        ),
-        ReadyKind::RegisterSubtract => operate_register(cpu, Operation::Subtract, false, ready),
-        ReadyKind::RegisterSubtractS => operate_register(cpu, Operation::Subtract, true, ready),
-        ReadyKind::RegisterReverseSubtract => operate_register(
+        OpKind::ImmediateOr => operate_immediate(cpu, Operation::Or, false, op),
+        OpKind::ImmediateOrS => operate_immediate(cpu, Operation::Or, true, op),
+        OpKind::ImmediateMove => operate_immediate(cpu, Operation::Move, false, op),
+        OpKind::ImmediateMoveS => operate_immediate(cpu, Operation::Move, true, op),
+        OpKind::ImmediateBitClear => operate_immediate(cpu, Operation::BitClear, false, op),
+        OpKind::ImmediateBitClearS => operate_immediate(cpu, Operation::BitClear, true, op),
+        OpKind::ImmediateMoveNot => operate_immediate(cpu, Operation::MoveNot, false, op),
+        OpKind::ImmediateMoveNotS => operate_immediate(cpu, Operation::MoveNot, true, op),
+        OpKind::RegisterAnd => operate_register(cpu, Operation::And, false, op),
+        OpKind::RegisterAndS => operate_register(cpu, Operation::And, true, op),
+        OpKind::RegisterExclusiveOr => operate_register(cpu, Operation::ExclusiveOr, false, op),
+        OpKind::RegisterExclusiveOrS => operate_register(cpu, Operation::ExclusiveOr, true, op),
+        OpKind::RegisterSubtract => operate_register(cpu, Operation::Subtract, false, op),
+        OpKind::RegisterSubtractS => operate_register(cpu, Operation::Subtract, true, op),
+        OpKind::RegisterReverseSubtract => operate_register(
             cpu,
             Operation::ReverseSubtract,
             false,
-            ready,
+            op,
         ),
-        ReadyKind::RegisterReverseSubtractS => operate_register(
+        OpKind::RegisterReverseSubtractS => operate_register(
             cpu,
             Operation::ReverseSubtract,
             true,
-            ready,
+            op,
         ),
-        ReadyKind::RegisterAdd => operate_register(cpu, Operation::Add, false, ready),
-        ReadyKind::RegisterAddS => operate_register(cpu, Operation::Add, true, ready),
-        ReadyKind::RegisterAddWithCarry => operate_register(
-            cpu,
-            Operation::AddWithCarry,
-            false,
-            ready,
-        ),
-        ReadyKind::RegisterAddWithCarryS => operate_register(
-            cpu,
-            Operation::AddWithCarry,
-            true,
-            ready,
-        ),
-        ReadyKind::RegisterSubtractWithCarry => operate_register(
+        OpKind::RegisterAdd => operate_register(cpu, Operation::Add, false, op),
+        OpKind::RegisterAddS => operate_register(cpu, Operation::Add, true, op),
+        OpKind::RegisterAddWithCarry => operate_register(cpu, Operation::AddWithCarry, false, op),
+        OpKind::RegisterAddWithCarryS => operate_register(cpu, Operation::AddWithCarry, true, op),
+        OpKind::RegisterSubtractWithCarry => operate_register(
             cpu,
             Operation::SubtractWithCarry,
             false,
-            ready,
+            op,
         ),
-        ReadyKind::RegisterSubtractWithCarryS => operate_register(
+        OpKind::RegisterSubtractWithCarryS => operate_register(
             cpu,
             Operation::SubtractWithCarry,
             true,
-            ready,
+            op,
         ),
-        ReadyKind::RegisterReverseSubtractWithCarry => operate_register(
+        OpKind::RegisterReverseSubtractWithCarry => operate_register(
             cpu,
             Operation::ReverseSubtractWithCarry,
             false,
-            ready,
+            op,
         ),
-        ReadyKind::RegisterReverseSubtractWithCarryS => operate_register(
+        OpKind::RegisterReverseSubtractWithCarryS => operate_register(
             cpu,
             Operation::ReverseSubtractWithCarry,
             true,
-            ready,
+            op,
         ),
-        ReadyKind::RegisterTestS => operate_register(cpu, Operation::Test, true, ready),
-        ReadyKind::RegisterTestEquivalenceS => operate_register(
+        OpKind::RegisterTestS => operate_register(cpu, Operation::Test, true, op),
+        OpKind::RegisterTestEquivalenceS => operate_register(
             cpu,
             Operation::TestEquivalence,
             true,
-            ready,
+            op,
         ),
-        ReadyKind::RegisterCompareS => operate_register(cpu, Operation::Compare, true, ready),
-        ReadyKind::RegisterCompareNegatedS => operate_register(
+        OpKind::RegisterCompareS => operate_register(cpu, Operation::Compare, true, op),
+        OpKind::RegisterCompareNegatedS => operate_register(
             cpu,
             Operation::CompareNegated,
             true,
-            ready,
+            op,
         ),
-        ReadyKind::RegisterOr => operate_register(cpu, Operation::Or, false, ready),
-        ReadyKind::RegisterOrS => operate_register(cpu, Operation::Or, true, ready),
-        ReadyKind::RegisterMove => operate_register(cpu, Operation::Move, false, ready),
-        ReadyKind::RegisterMoveS => operate_register(cpu, Operation::Move, true, ready),
-        ReadyKind::RegisterBitClear => operate_register(cpu, Operation::BitClear, false, ready),
-        ReadyKind::RegisterBitClearS => operate_register(cpu, Operation::BitClear, true, ready),
-        ReadyKind::RegisterMoveNot => operate_register(cpu, Operation::MoveNot, false, ready),
-        ReadyKind::RegisterMoveNotS => operate_register(cpu, Operation::MoveNot, true, ready),
-        ReadyKind::ShiftedAnd => operate_shifted(cpu, Operation::And, false, ready),
-        ReadyKind::ShiftedAndS => operate_shifted(cpu, Operation::And, true, ready),
-        ReadyKind::ShiftedExclusiveOr => operate_shifted(cpu, Operation::ExclusiveOr, false, ready),
-        ReadyKind::ShiftedExclusiveOrS => operate_shifted(cpu, Operation::ExclusiveOr, true, ready),
-        ReadyKind::ShiftedSubtract => operate_shifted(cpu, Operation::Subtract, false, ready),
-        ReadyKind::ShiftedSubtractS => operate_shifted(cpu, Operation::Subtract, true, ready),
-        ReadyKind::ShiftedReverseSubtract => operate_shifted(
+        OpKind::RegisterOr => operate_register(cpu, Operation::Or, false, op),
+        OpKind::RegisterOrS => operate_register(cpu, Operation::Or, true, op),
+        OpKind::RegisterMove => operate_register(cpu, Operation::Move, false, op),
+        OpKind::RegisterMoveS => operate_register(cpu, Operation::Move, true, op),
+        OpKind::RegisterBitClear => operate_register(cpu, Operation::BitClear, false, op),
+        OpKind::RegisterBitClearS => operate_register(cpu, Operation::BitClear, true, op),
+        OpKind::RegisterMoveNot => operate_register(cpu, Operation::MoveNot, false, op),
+        OpKind::RegisterMoveNotS => operate_register(cpu, Operation::MoveNot, true, op),
+        OpKind::ShiftedAnd => operate_shifted(cpu, Operation::And, false, op),
+        OpKind::ShiftedAndS => operate_shifted(cpu, Operation::And, true, op),
+        OpKind::ShiftedExclusiveOr => operate_shifted(cpu, Operation::ExclusiveOr, false, op),
+        OpKind::ShiftedExclusiveOrS => operate_shifted(cpu, Operation::ExclusiveOr, true, op),
+        OpKind::ShiftedSubtract => operate_shifted(cpu, Operation::Subtract, false, op),
+        OpKind::ShiftedSubtractS => operate_shifted(cpu, Operation::Subtract, true, op),
+        OpKind::ShiftedReverseSubtract => operate_shifted(
             cpu,
             Operation::ReverseSubtract,
             false,
-            ready,
+            op,
         ),
-        ReadyKind::ShiftedReverseSubtractS => operate_shifted(
+        OpKind::ShiftedReverseSubtractS => operate_shifted(
             cpu,
             Operation::ReverseSubtract,
             true,
-            ready,
+            op,
         ),
-        ReadyKind::ShiftedAdd => operate_shifted(cpu, Operation::Add, false, ready),
-        ReadyKind::ShiftedAddS => operate_shifted(cpu, Operation::Add, true, ready),
-        ReadyKind::ShiftedAddWithCarry => operate_shifted(
-            cpu,
-            Operation::AddWithCarry,
-            false,
-            ready,
-        ),
-        ReadyKind::ShiftedAddWithCarryS => operate_shifted(
-            cpu,
-            Operation::AddWithCarry,
-            true,
-            ready,
-        ),
-        ReadyKind::ShiftedSubtractWithCarry => operate_shifted(
+        OpKind::ShiftedAdd => operate_shifted(cpu, Operation::Add, false, op),
+        OpKind::ShiftedAddS => operate_shifted(cpu, Operation::Add, true, op),
+        OpKind::ShiftedAddWithCarry => operate_shifted(cpu, Operation::AddWithCarry, false, op),
+        OpKind::ShiftedAddWithCarryS => operate_shifted(cpu, Operation::AddWithCarry, true, op),
+        OpKind::ShiftedSubtractWithCarry => operate_shifted(
             cpu,
             Operation::SubtractWithCarry,
             false,
-            ready,
+            op,
         ),
-        ReadyKind::ShiftedSubtractWithCarryS => operate_shifted(
+        OpKind::ShiftedSubtractWithCarryS => operate_shifted(
             cpu,
             Operation::SubtractWithCarry,
             true,
-            ready,
+            op,
         ),
-        ReadyKind::ShiftedReverseSubtractWithCarry => operate_shifted(
+        OpKind::ShiftedReverseSubtractWithCarry => operate_shifted(
             cpu,
             Operation::ReverseSubtractWithCarry,
             false,
-            ready,
+            op,
         ),
-        ReadyKind::ShiftedReverseSubtractWithCarryS => operate_shifted(
+        OpKind::ShiftedReverseSubtractWithCarryS => operate_shifted(
             cpu,
             Operation::ReverseSubtractWithCarry,
             true,
-            ready,
+            op,
         ),
-        ReadyKind::ShiftedTestS => operate_shifted(cpu, Operation::Test, true, ready),
-        ReadyKind::ShiftedTestEquivalenceS => operate_shifted(
+        OpKind::ShiftedTestS => operate_shifted(cpu, Operation::Test, true, op),
+        OpKind::ShiftedTestEquivalenceS => operate_shifted(
             cpu,
             Operation::TestEquivalence,
             true,
-            ready,
+            op,
         ),
-        ReadyKind::ShiftedCompareS => operate_shifted(cpu, Operation::Compare, true, ready),
-        ReadyKind::ShiftedCompareNegatedS => operate_shifted(
-            cpu,
-            Operation::CompareNegated,
-            true,
-            ready,
+        OpKind::ShiftedCompareS => operate_shifted(cpu, Operation::Compare, true, op),
+        OpKind::ShiftedCompareNegatedS => operate_shifted(cpu, Operation::CompareNegated, true, op),
+        OpKind::ShiftedOr => operate_shifted(cpu, Operation::Or, false, op),
+        OpKind::ShiftedOrS => operate_shifted(cpu, Operation::Or, true, op),
+        OpKind::ShiftedMove => operate_shifted(cpu, Operation::Move, false, op),
+        OpKind::ShiftedMoveS => operate_shifted(cpu, Operation::Move, true, op),
+        OpKind::ShiftedBitClear => operate_shifted(cpu, Operation::BitClear, false, op),
+        OpKind::ShiftedBitClearS => operate_shifted(cpu, Operation::BitClear, true, op),
+        OpKind::ShiftedMoveNot => operate_shifted(cpu, Operation::MoveNot, false, op),
+        OpKind::ShiftedMoveNotS => operate_shifted(cpu, Operation::MoveNot, true, op),
+        OpKind::StoreWordPreBy => return store_by_number(cpu, at, memory, false, PRE, op),
+        OpKind::StoreBytePreBy => return store_by_number(cpu, at, memory, true, PRE, op),
+        OpKind::LoadWordPreBy => return load_by_number(cpu, at, memory, false, PRE, op),
+        OpKind::LoadBytePreBy => return load_by_number(cpu, at, memory, true, PRE, op),
+        OpKind::StoreWordPreBackBy => return store_by_number(cpu, at, memory, false, PRE_BACK, op),
+        OpKind::StoreBytePreBackBy => return store_by_number(cpu, at, memory, true, PRE_BACK, op),
+        OpKind::LoadWordPreBackBy => return load_by_number(cpu, at, memory, false, PRE_BACK, op),
+        OpKind::LoadBytePreBackBy => return load_by_number(cpu, at, memory, true, PRE_BACK, op),
+        OpKind::StoreWordPostBy => return store_by_number(cpu, at, memory, false, POST, op),
+        OpKind::StoreBytePostBy => return store_by_number(cpu, at, memory, true, POST, op),
+        OpKind::LoadWordPostBy => return load_by_number(cpu, at, memory, false, POST, op),
+        OpKind::LoadBytePostBy => return load_by_number(cpu, at, memory, true, POST, op),
+        OpKind::StoreWordPreByRegister => return store_by_register(cpu, at, memory, false, PRE, op),
+        OpKind::StoreBytePreByRegister => return store_by_register(cpu, at, memory, true, PRE, op),
+        OpKind::LoadWordPreByRegister => return load_by_register(cpu, at, memory, false, PRE, op),
+        OpKind::LoadBytePreByRegister => return load_by_register(cpu, at, memory, true, PRE, op),
+        OpKind::StoreWordPreBackByRegister => return store_by_register(
+            cpu, at, memory, false, PRE_BACK, op,
         ),
-        ReadyKind::ShiftedOr => operate_shifted(cpu, Operation::Or, false, ready),
-        ReadyKind::ShiftedOrS => operate_shifted(cpu, Operation::Or, true, ready),
-        ReadyKind::ShiftedMove => operate_shifted(cpu, Operation::Move, false, ready),
-        ReadyKind::ShiftedMoveS => operate_shifted(cpu, Operation::Move, true, ready),
-        ReadyKind::ShiftedBitClear => operate_shifted(cpu, Operation::BitClear, false, ready),
-        ReadyKind::ShiftedBitClearS => operate_shifted(cpu, Operation::BitClear, true, ready),
-        ReadyKind::ShiftedMoveNot => operate_shifted(cpu, Operation::MoveNot, false, ready),
-        ReadyKind::ShiftedMoveNotS => operate_shifted(cpu, Operation::MoveNot, true, ready),
-        ReadyKind::StoreWordPreBy => return store_by_number(cpu, at, memory, false, PRE, ready),
-        ReadyKind::StoreBytePreBy => return store_by_number(cpu, at, memory, true, PRE, ready),
-        ReadyKind::LoadWordPreBy => return load_by_number(cpu, at, memory, false, PRE, ready),
-        ReadyKind::LoadBytePreBy => return load_by_number(cpu, at, memory, true, PRE, ready),
-        ReadyKind::StoreWordPreBackBy => return store_by_number(
-            cpu, at, memory, false, PRE_BACK, ready,
+        OpKind::StoreBytePreBackByRegister => return store_by_register(
+            cpu, at, memory, true, PRE_BACK, op,
         ),
-        ReadyKind::StoreBytePreBackBy => return store_by_number(
-            cpu, at, memory, true, PRE_BACK, ready,
+        OpKind::LoadWordPreBackByRegister => return load_by_register(
+            cpu, at, memory, false, PRE_BACK, op,
         ),
-        ReadyKind::LoadWordPreBackBy => return load_by_number(
-            cpu, at, memory, false, PRE_BACK, ready,
+        OpKind::LoadBytePreBackByRegister => return load_by_register(
+            cpu, at, memory, true, PRE_BACK, op,
         ),
-        ReadyKind::LoadBytePreBackBy => return load_by_number(
-            cpu, at, memory, true, PRE_BACK, ready,
+        OpKind::StoreWordPostByRegister => return store_by_register(
+            cpu, at, memory, false, POST, op,
         ),
-        ReadyKind::StoreWordPostBy => return store_by_number(cpu, at, memory, false, POST, ready),
-        ReadyKind::StoreBytePostBy => return store_by_number(cpu, at, memory, true, POST, ready),
-        ReadyKind::LoadWordPostBy => return load_by_number(cpu, at, memory, false, POST, ready),
-        ReadyKind::LoadBytePostBy => return load_by_number(cpu, at, memory, true, POST, ready),
-        ReadyKind::StoreWordPreByRegister => return store_by_register(
-            cpu, at, memory, false, PRE, ready,
+        OpKind::StoreBytePostByRegister => return store_by_register(
+            cpu, at, memory, true, POST, op,
         ),
-        ReadyKind::StoreBytePreByRegister => return store_by_register(
-            cpu, at, memory, true, PRE, ready,
-        ),
-        ReadyKind::LoadWordPreByRegister => return load_by_register(
-            cpu, at, memory, false, PRE, ready,
-        ),
-        ReadyKind::LoadBytePreByRegister => return load_by_register(
-            cpu, at, memory, true, PRE, ready,
-        ),
-        ReadyKind::StoreWordPreBackByRegister => return store_by_register(
-            cpu, at, memory, false, PRE_BACK, ready,
-        ),
-        ReadyKind::StoreBytePreBackByRegister => return store_by_register(
-            cpu, at, memory, true, PRE_BACK, ready,
-        ),
-        ReadyKind::LoadWordPreBackByRegister => return load_by_register(
-            cpu, at, memory, false, PRE_BACK, ready,
-        ),
-        ReadyKind::LoadBytePreBackByRegister => return load_by_register(
-            cpu, at, memory, true, PRE_BACK, ready,
-        ),
-        ReadyKind::StoreWordPostByRegister => return store_by_register(
-            cpu, at, memory, false, POST, ready,
-        ),
-        ReadyKind::StoreBytePostByRegister => return store_by_register(
-            cpu, at, memory, true, POST, ready,
-        ),
-        ReadyKind::LoadWordPostByRegister => return load_by_register(
-            cpu, at, memory, false, POST, ready,
-        ),
-        ReadyKind::LoadBytePostByRegister => return load_by_register(
-            cpu, at, memory, true, POST, ready,
-        ),
-        ReadyKind::LoadBeside => return load_beside(cpu, at, memory, ready),
-        ReadyKind::StoreDown => return store_block_keeping_base(cpu, at, memory, false, ready),
-        ReadyKind::StoreDownBack => return store_block(cpu, at, memory, false, true, ready),
-        ReadyKind::StoreUp => return store_block_keeping_base(cpu, at, memory, true, ready),
-        ReadyKind::StoreUpBack => return store_block(cpu, at, memory, true, true, ready),
-        ReadyKind::LoadDown => return load_block(cpu, at, memory, false, false, ready),
-        ReadyKind::LoadDownBack => return load_block(cpu, at, memory, false, true, ready),
-        ReadyKind::LoadUp => return load_block(cpu, at, memory, true, false, ready),
-        ReadyKind::LoadUpBack => return load_block(cpu, at, memory, true, true, ready),
-        ReadyKind::LoadUpWithPc => return load_block_with_pc(cpu, at, memory, false, ready),
-        ReadyKind::LoadUpBackWithPc => return load_block_with_pc(cpu, at, memory, true, ready),
+        OpKind::LoadWordPostByRegister => return load_by_register(cpu, at, memory, false, POST, op),
+        OpKind::LoadBytePostByRegister => return load_by_register(cpu, at, memory, true, POST, op),
+        OpKind::LoadBeside => return load_beside(cpu, at, memory, op),
+        OpKind::StoreDown => return store_block_keeping_base(cpu, at, memory, false, op),
+        OpKind::StoreDownBack => return store_block(cpu, at, memory, false, true, op),
+        OpKind::StoreUp => return store_block_keeping_base(cpu, at, memory, true, op),
+        OpKind::StoreUpBack => return store_block(cpu, at, memory, true, true, op),
+        OpKind::LoadDown => return load_block(cpu, at, memory, false, false, op),
+        OpKind::LoadDownBack => return load_block(cpu, at, memory, false, true, op),
+        OpKind::LoadUp => return load_block(cpu, at, memory, true, false, op),
+        OpKind::LoadUpBack => return load_block(cpu, at, memory, true, true, op),
+        OpKind::LoadUpWithPc => return load_block_with_pc(cpu, at, memory, false, op),
+        OpKind::LoadUpBackWithPc => return load_block_with_pc(cpu, at, memory, true, op),
     }
     Some(at + 1)
 }

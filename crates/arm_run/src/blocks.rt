@@ -1,11 +1,11 @@
-//! LDM and STM by words made ready, of words that lie in one page.
+//! LDM and STM by predecoded words, of words that lie in one page.
 
 ghost use Rattle.std.specs.Prelude.{◌≡◌, ◌<◌, ◌≤◌, ◌+◌, ◌*◌, ◌%◌, ◌^◌, ℕ, ⊤, Ok, Some, None, IfSome, MatchOption, true, false, length, map, slice_index};
 ghost use Rattle.address_map.specs.Bytes.{word_at};
 ghost use Rattle.address_map.specs.Memory.{bytes_of, is_owned, layout, class_of, place};
 ghost use Rattle.arm_core.specs.Listed.{registers_of_list};
 ghost use Rattle.arm_core.specs.State.{register_in};
-ghost use Rattle.arm_ready.specs.Kinds.{MovesBlock};
+ghost use Rattle.arm_predecode.specs.Kinds.{MovesBlock};
 ghost use Rattle.arm_run.specs.Blocked.{block_base_after, first_word, IsBlockLoaded, IsBlockStored};
 ghost use Rattle.arm_run.specs.Standing.{core_at, Acts, IsFetched};
 ghost use Rattle.arm_step.specs.Blocks.{with_loaded};
@@ -16,43 +16,43 @@ use crate::standing::{current, position, set_current, slowly, stand};
 use address_map::AddressMap;
 use arm_core::Cpu;
 use arm_core::registers::split_lowest;
-use arm_ready::Ready;
+use arm_predecode::Op;
 use byteorder::{ByteOrder, LittleEndian};
 use profile::memory_map::PAGE_SIZE;
 
 /// Where the words of a block begin, and the base after it.
 #[inline(always)]
-fn reach(cpu: &Cpu, is_up: bool, ready: &Ready) -> (u32, u32)
-    requires { ready.now.rn < 15 }
-    ensures small { register_in cpu.now.psr.mode cpu.now ready.now.rn < 2 ^ 32 }
+fn reach(cpu: &Cpu, is_up: bool, op: &Op) -> (u32, u32)
+    requires { op.now.rn < 15 }
+    ensures small { register_in cpu.now.psr.mode cpu.now op.now.rn < 2 ^ 32 }
     ensures first { result.0 ≡ first_word is_up
-        (register_in cpu.now.psr.mode cpu.now ready.now.rn) ready.now.rs ready.now.rm }
+        (register_in cpu.now.psr.mode cpu.now op.now.rn) op.now.rs op.now.rm }
     ensures aligned { result.0 % 4 ≡ 0 }
     ensures base { result.1 ≡ block_base_after is_up
-        (register_in cpu.now.psr.mode cpu.now ready.now.rn) ready.now.rs }
+        (register_in cpu.now.psr.mode cpu.now op.now.rn) op.now.rs }
 {
-    let base = current(cpu, ready.rn);
-    let size = u32::from(ready.rs);
+    let base = current(cpu, op.rn);
+    let size = u32::from(op.rs);
     let end = if is_up {
         base.wrapping_add(size)
     } else {
         base.wrapping_sub(size)
     };
     let lower = if is_up { base } else { end };
-    let first = lower.wrapping_add(u32::from(ready.rm));
+    let first = lower.wrapping_add(u32::from(op.rm));
     (first - first % 4, end)
 }
 
 /// How many words a block has.
 #[tactic(auto, using(crate::proofs::Blocked::counted, crate::proofs::Blocked::few))]
 #[inline(always)]
-fn count_of(loads: bool, is_up: bool, writes_back: bool, has_pc: bool, ready: &Ready) -> u32
-    requires { MovesBlock loads is_up writes_back has_pc ready.now }
-    ensures count { result ≡ length (registers_of_list ready.now.value) }
+fn count_of(loads: bool, is_up: bool, writes_back: bool, has_pc: bool, op: &Op) -> u32
+    requires { MovesBlock loads is_up writes_back has_pc op.now }
+    ensures count { result ≡ length (registers_of_list op.now.value) }
     ensures few { result ≤ 16 }
 {
     let _known = (loads, is_up, writes_back, has_pc);
-    u32::from(ready.rs) / 4
+    u32::from(op.rs) / 4
 }
 
 /// Whether some words lie in one page, and are at least one.
@@ -188,22 +188,22 @@ fn load_registers(
     memory: &AddressMap,
     is_up: bool,
     writes_back: bool,
-    ready: &Ready,
+    op: &Op,
 ) -> bool
-    requires { MovesBlock true is_up writes_back false ready.now }
+    requires { MovesBlock true is_up writes_back false op.now }
     ensures done { result ≡ true →
-        IsBlockLoaded (bytes_of memory.now) cpu.old at is_up writes_back ready.now cpu.new (at + 1) }
+        IsBlockLoaded (bytes_of memory.now) cpu.old at is_up writes_back op.now cpu.new (at + 1) }
     ensures kept { result ≡ false → cpu.new ≡ cpu.old }
 {
     let _at = at;
-    let (first, end) = reach(cpu, is_up, ready);
-    let count = count_of(true, is_up, writes_back, false, ready);
+    let (first, end) = reach(cpu, is_up, op);
+    let count = count_of(true, is_up, writes_back, false, op);
     match lend_words(memory, first, count) {
         Some(bytes) => {
             if writes_back {
-                set_current(cpu, ready.rn, end);
+                set_current(cpu, op.rn, end);
             }
-            place_words(cpu, ready.value, bytes);
+            place_words(cpu, op.value, bytes);
             true
         }
         None => false,
@@ -218,23 +218,23 @@ fn load_registers_with_pc(
     at: usize,
     memory: &AddressMap,
     writes_back: bool,
-    ready: &Ready,
+    op: &Op,
 ) -> Option<usize>
-    requires known { MovesBlock true true writes_back true ready.now }
+    requires known { MovesBlock true true writes_back true op.now }
     requires at { at < 2 ^ 24 }
     ensures done { MatchOption result (cpu.new ≡ cpu.old) (λ next.
-        IsBlockLoaded (bytes_of memory.now) cpu.old at true writes_back ready.now cpu.new next) }
+        IsBlockLoaded (bytes_of memory.now) cpu.old at true writes_back op.now cpu.new next) }
     ensures within { IfSome result (λ next. next ≤ 2 ^ 24) }
 {
-    let (first, end) = reach(cpu, true, ready);
-    let count = count_of(true, true, writes_back, true, ready);
+    let (first, end) = reach(cpu, true, op);
+    let count = count_of(true, true, writes_back, true, op);
     match lend_words(memory, first, count) {
         Some(bytes) => {
             stand(cpu, at + 1);
             if writes_back {
-                set_current(cpu, ready.rn, end);
+                set_current(cpu, op.rn, end);
             }
-            place_each(cpu, ready.value, bytes);
+            place_each(cpu, op.value, bytes);
             Some(position(cpu))
         }
         None => None,
@@ -249,24 +249,24 @@ fn store_registers(
     memory: &mut AddressMap,
     is_up: bool,
     writes_back: bool,
-    ready: &Ready,
+    op: &Op,
 ) -> bool
-    requires { MovesBlock false is_up writes_back false ready.now }
+    requires { MovesBlock false is_up writes_back false op.now }
     ensures done { result ≡ true →
-        IsBlockStored (is_owned memory.old) (bytes_of memory.old) cpu.old is_up writes_back ready.now
+        IsBlockStored (is_owned memory.old) (bytes_of memory.old) cpu.old is_up writes_back op.now
         cpu.new (bytes_of memory.new) }
     ensures core { result ≡ false → cpu.new ≡ cpu.old }
     ensures bytes { result ≡ false → bytes_of memory.new ≡ bytes_of memory.old }
     ensures layout { layout memory.new ≡ layout memory.old }
     ensures marks { class_of memory.new ≡ class_of memory.old }
 {
-    let (first, end) = reach(cpu, is_up, ready);
-    let count = count_of(false, is_up, writes_back, false, ready);
+    let (first, end) = reach(cpu, is_up, op);
+    let count = count_of(false, is_up, writes_back, false, op);
     match free_place(memory, first, count) {
         Some(place) => {
-            put_words(cpu, memory, ready.value, first, place);
+            put_words(cpu, memory, op.value, first, place);
             if writes_back {
-                set_current(cpu, ready.rn, end);
+                set_current(cpu, op.rn, end);
             }
             true
         }
@@ -282,18 +282,18 @@ pub(crate) fn load_block(
     memory: &mut AddressMap,
     is_up: bool,
     writes_back: bool,
-    ready: &Ready,
+    op: &Op,
 ) -> Option<usize>
-    requires known { MovesBlock true is_up writes_back false ready.now }
+    requires known { MovesBlock true is_up writes_back false op.now }
     requires at { at < 2 ^ 24 }
-    requires fetched { IsFetched (bytes_of memory.old) at ready.now.word }
+    requires fetched { IsFetched (bytes_of memory.old) at op.now.word }
     ensures state { Acts (is_owned memory.old) cpu.old at (bytes_of memory.old)
         result cpu.new (bytes_of memory.new) }
     ensures within { IfSome result (λ next. next ≤ 2 ^ 24) }
     ensures layout { layout memory.new ≡ layout memory.old }
     ensures marks { class_of memory.new ≡ class_of memory.old }
 {
-    if load_registers(cpu, at, memory, is_up, writes_back, ready) {
+    if load_registers(cpu, at, memory, is_up, writes_back, op) {
         return Some(at + 1);
     }
     slowly(cpu, at, memory)
@@ -307,18 +307,18 @@ pub(crate) fn load_block_with_pc(
     at: usize,
     memory: &mut AddressMap,
     writes_back: bool,
-    ready: &Ready,
+    op: &Op,
 ) -> Option<usize>
-    requires known { MovesBlock true true writes_back true ready.now }
+    requires known { MovesBlock true true writes_back true op.now }
     requires at { at < 2 ^ 24 }
-    requires fetched { IsFetched (bytes_of memory.old) at ready.now.word }
+    requires fetched { IsFetched (bytes_of memory.old) at op.now.word }
     ensures state { Acts (is_owned memory.old) cpu.old at (bytes_of memory.old)
         result cpu.new (bytes_of memory.new) }
     ensures within { IfSome result (λ next. next ≤ 2 ^ 24) }
     ensures layout { layout memory.new ≡ layout memory.old }
     ensures marks { class_of memory.new ≡ class_of memory.old }
 {
-    if let Some(next) = load_registers_with_pc(cpu, at, memory, writes_back, ready) {
+    if let Some(next) = load_registers_with_pc(cpu, at, memory, writes_back, op) {
         return Some(next);
     }
     slowly(cpu, at, memory)
@@ -333,18 +333,18 @@ pub(crate) fn store_block(
     memory: &mut AddressMap,
     is_up: bool,
     writes_back: bool,
-    ready: &Ready,
+    op: &Op,
 ) -> Option<usize>
-    requires known { MovesBlock false is_up writes_back false ready.now }
+    requires known { MovesBlock false is_up writes_back false op.now }
     requires at { at < 2 ^ 24 }
-    requires fetched { IsFetched (bytes_of memory.old) at ready.now.word }
+    requires fetched { IsFetched (bytes_of memory.old) at op.now.word }
     ensures state { Acts (is_owned memory.old) cpu.old at (bytes_of memory.old)
         result cpu.new (bytes_of memory.new) }
     ensures within { IfSome result (λ next. next ≤ 2 ^ 24) }
     ensures layout { layout memory.new ≡ layout memory.old }
     ensures marks { class_of memory.new ≡ class_of memory.old }
 {
-    if store_registers(cpu, memory, is_up, writes_back, ready) {
+    if store_registers(cpu, memory, is_up, writes_back, op) {
         return Some(at + 1);
     }
     slowly(cpu, at, memory)
@@ -357,16 +357,16 @@ pub(crate) fn store_block_keeping_base(
     at: usize,
     memory: &mut AddressMap,
     is_up: bool,
-    ready: &Ready,
+    op: &Op,
 ) -> Option<usize>
-    requires known { MovesBlock false is_up false false ready.now }
+    requires known { MovesBlock false is_up false false op.now }
     requires at { at < 2 ^ 24 }
-    requires fetched { IsFetched (bytes_of memory.old) at ready.now.word }
+    requires fetched { IsFetched (bytes_of memory.old) at op.now.word }
     ensures state { Acts (is_owned memory.old) cpu.old at (bytes_of memory.old)
         result cpu.new (bytes_of memory.new) }
     ensures within { IfSome result (λ next. next ≤ 2 ^ 24) }
     ensures layout { layout memory.new ≡ layout memory.old }
     ensures marks { class_of memory.new ≡ class_of memory.old }
 {
-    store_block(cpu, at, memory, is_up, false, ready)
+    store_block(cpu, at, memory, is_up, false, op)
 }

@@ -2,14 +2,14 @@
 
 ghost use Rattle.std.specs.Prelude.{◌≡◌, ◌<◌, ◌≤◌, ◌+◌, ◌/◌, ◌%◌, ◌^◌, false, true};
 ghost use Rattle.arm_decode.specs.declared.condition.Condition.{Condition};
-ghost use Rattle.arm_ready.specs.Kinds.{Branches, MovesToPc};
+ghost use Rattle.arm_predecode.specs.Kinds.{Branches, MovesToPc};
 ghost use Rattle.arm_run.specs.Standing.{LeadsTo};
 
 use crate::standing::{POSITIONS, current, set_current};
 use arm_core::Cpu;
 use arm_core::condition::is_met;
 use arm_decode::Condition;
-use arm_ready::Ready;
+use arm_predecode::Op;
 
 /// The position some words ahead.
 #[inline(always)]
@@ -24,26 +24,26 @@ pub(crate) fn ahead(at: usize, words: u32) -> usize
 /// B: where it goes.
 #[tactic(auto, using(crate::proofs::Carried::branches_always))]
 #[inline(always)]
-pub(crate) fn target(cpu: &Cpu, at: usize, ready: &Ready) -> usize
-    requires branch { Branches Condition.Always false ready.now }
+pub(crate) fn target(cpu: &Cpu, at: usize, op: &Op) -> usize
+    requires branch { Branches Condition.Always false op.now }
     requires at { at ≤ 2 ^ 24 }
-    ensures leads { LeadsTo cpu.now at ready.now.word cpu.now result }
+    ensures leads { LeadsTo cpu.now at op.now.word cpu.now result }
     ensures within { result ≤ 2 ^ 24 }
 {
     let _cpu = cpu;
-    ahead(at, ready.value)
+    ahead(at, op.value)
 }
 
 /// B with a condition: where it goes.
 #[tactic(auto, using(crate::proofs::Carried::branches_to, crate::proofs::Carried::passes_to))]
-pub(crate) fn branch_if(cpu: &Cpu, condition: Condition, at: usize, ready: &Ready) -> usize
-    requires branch { Branches condition false ready.now }
+pub(crate) fn branch_if(cpu: &Cpu, condition: Condition, at: usize, op: &Op) -> usize
+    requires branch { Branches condition false op.now }
     requires at { at < 2 ^ 24 }
-    ensures leads { LeadsTo cpu.now at ready.now.word cpu.now result }
+    ensures leads { LeadsTo cpu.now at op.now.word cpu.now result }
     ensures within { result ≤ 2 ^ 24 }
 {
     if is_met(condition, cpu.psr()) {
-        ahead(at, ready.value)
+        ahead(at, op.value)
     } else {
         at + 1
     }
@@ -51,15 +51,15 @@ pub(crate) fn branch_if(cpu: &Cpu, condition: Condition, at: usize, ready: &Read
 
 /// BL: where it goes.
 #[tactic(auto, using(crate::proofs::Carried::links_to))]
-pub(crate) fn link(cpu: &mut Cpu, at: usize, ready: &Ready) -> usize
-    requires branch { Branches Condition.Always true ready.now }
+pub(crate) fn link(cpu: &mut Cpu, at: usize, op: &Op) -> usize
+    requires branch { Branches Condition.Always true op.now }
     requires at { at ≤ 2 ^ 24 }
-    ensures leads { LeadsTo cpu.old at ready.now.word cpu.new result }
+    ensures leads { LeadsTo cpu.old at op.now.word cpu.new result }
     ensures within { result ≤ 2 ^ 24 }
 {
     let next = ahead(at, 1) as u32 * 4;
     set_current(cpu, 14, cpu.psr().bits() + next);
-    ahead(at, ready.value)
+    ahead(at, op.value)
 }
 
 /// The position of an address.
@@ -73,25 +73,25 @@ fn position_of(address: u32) -> usize
 /// MOV of a register to R15: where it goes.
 #[tactic(auto, using(crate::proofs::Jumped::moves_to))]
 #[inline(always)]
-pub(crate) fn move_to_pc(cpu: &Cpu, at: usize, ready: &Ready) -> usize
-    requires { MovesToPc false ready.now }
-    ensures leads { LeadsTo cpu.now at ready.now.word cpu.now result }
+pub(crate) fn move_to_pc(cpu: &Cpu, at: usize, op: &Op) -> usize
+    requires { MovesToPc false op.now }
+    ensures leads { LeadsTo cpu.now at op.now.word cpu.now result }
     ensures within { result ≤ 2 ^ 24 }
 {
     let _at = at;
-    position_of(current(cpu, ready.rm))
+    position_of(current(cpu, op.rm))
 }
 
 /// MOV of a register to R15 with the status: where it goes.
 #[tactic(auto, using(crate::proofs::Jumped::moves_with_status))]
 #[inline(never)]
-pub(crate) fn move_to_pc_s(cpu: &mut Cpu, at: usize, ready: &Ready) -> usize
-    requires { MovesToPc true ready.now }
-    ensures leads { LeadsTo cpu.old at ready.now.word cpu.new result }
+pub(crate) fn move_to_pc_s(cpu: &mut Cpu, at: usize, op: &Op) -> usize
+    requires { MovesToPc true op.now }
+    ensures leads { LeadsTo cpu.old at op.now.word cpu.new result }
     ensures within { result ≤ 2 ^ 24 }
 {
     let _at = at;
-    let value = current(cpu, ready.rm);
+    let value = current(cpu, op.rm);
     cpu.set_status(value);
     position_of(value)
 }

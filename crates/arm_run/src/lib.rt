@@ -1,4 +1,4 @@
-//! Steps of the core one after another, by words made ready.
+//! Steps of the core one after another, by predecoded words.
 //!
 //! Promise: a run is so many steps of `arm_step`, none of the positions between them a break, and
 //! what comes next.
@@ -14,5 +14,5 @@ mod standing;
 mod transferring;
 
 pub use arm_core::breaks::{BreakError, Breaks};
-pub use arm_ready::ReadyWords;
+pub use arm_predecode::DecodeCache;
 pub use running::run;

@@ -1,46 +1,41 @@
-//! Data processing by words made ready.
+//! Data processing by predecoded words.
 
 ghost use Rattle.std.specs.Prelude.{◌≡◌, ◌<◌, ◌≤◌, ◌&&◌, false, not};
 ghost use Rattle.profile.specs.Word.{field};
 ghost use Rattle.arm_decode.specs.Refusals.{is_test};
 ghost use Rattle.arm_core.specs.Operand.{rotated_immediate, shifted_value};
 ghost use Rattle.arm_core.specs.Operate.{sum_of_operation};
-ghost use Rattle.arm_ready.specs.Kinds.{OperatesByImmediate, OperatesByRegister, OperatesByShift};
+ghost use Rattle.arm_predecode.specs.Kinds.{OperatesByImmediate, OperatesByRegister, OperatesByShift};
 ghost use Rattle.arm_run.specs.Operated.{state_after_operation};
 ghost use Rattle.arm_run.specs.Standing.{LeadsOn};
 
 use crate::standing::{current, set_current};
 use arm_core::{Cpu, Psr};
 use arm_decode::{Operation, Shift};
-use arm_ready::Ready;
+use arm_predecode::Op;
 use profile::shift::{Shifted, rotate, shift_left, shift_right, shift_signed};
 use profile::word::{Sum, add, is_bit_set, subtract};
 
 /// Data processing with an immediate operand.
 #[tactic(auto, using(crate::proofs::SumsLed::immediate_leads))]
-pub(crate) fn operate_immediate(
-    cpu: &mut Cpu,
-    operation: Operation,
-    sets_flags: bool,
-    ready: &Ready,
-)
-    requires { OperatesByImmediate operation sets_flags ready.now }
-    ensures { LeadsOn cpu.old ready.now.word cpu.new }
+pub(crate) fn operate_immediate(cpu: &mut Cpu, operation: Operation, sets_flags: bool, op: &Op)
+    requires { OperatesByImmediate operation sets_flags op.now }
+    ensures { LeadsOn cpu.old op.now.word cpu.new }
 {
-    let second = immediate(operation, sets_flags, ready, cpu.psr().carry);
-    operate(cpu, operation, sets_flags, second, ready);
+    let second = immediate(operation, sets_flags, op, cpu.psr().carry);
+    operate(cpu, operation, sets_flags, second, op);
 }
 
 /// The immediate operand, with the carry of the shifter.
 #[tactic(auto, using(crate::proofs::OperandsRead::rotated, crate::proofs::OperandsRead::unrotated))]
 #[inline(always)]
-fn immediate(operation: Operation, sets_flags: bool, ready: &Ready, carry: bool) -> Shifted
-    requires { OperatesByImmediate operation sets_flags ready.now }
-    ensures { result ≡ rotated_immediate (field ready.now.word 8 4) (field ready.now.word 0 8) carry }
+fn immediate(operation: Operation, sets_flags: bool, op: &Op, carry: bool) -> Shifted
+    requires { OperatesByImmediate operation sets_flags op.now }
+    ensures { result ≡ rotated_immediate (field op.now.word 8 4) (field op.now.word 0 8) carry }
 {
     let _known = (operation, sets_flags);
-    let value = ready.value;
-    if ready.is_rotated {
+    let value = op.value;
+    if op.is_rotated {
         return Shifted {
             value,
             carry: is_bit_set(value, 31),
@@ -51,25 +46,25 @@ fn immediate(operation: Operation, sets_flags: bool, ready: &Ready, carry: bool)
 
 /// Data processing with a register as it is.
 #[tactic(auto, using(crate::proofs::SumsLed::register_leads))]
-pub(crate) fn operate_register(cpu: &mut Cpu, operation: Operation, sets_flags: bool, ready: &Ready)
-    requires { OperatesByRegister operation sets_flags ready.now }
-    ensures { LeadsOn cpu.old ready.now.word cpu.new }
+pub(crate) fn operate_register(cpu: &mut Cpu, operation: Operation, sets_flags: bool, op: &Op)
+    requires { OperatesByRegister operation sets_flags op.now }
+    ensures { LeadsOn cpu.old op.now.word cpu.new }
 {
     let second = Shifted {
-        value: current(cpu, ready.rm),
+        value: current(cpu, op.rm),
         carry: cpu.psr().carry,
     };
-    operate(cpu, operation, sets_flags, second, ready);
+    operate(cpu, operation, sets_flags, second, op);
 }
 
 /// Data processing with a register shifted by 1 to 31.
 #[tactic(auto, using(crate::proofs::SumsLed::shift_leads))]
-pub(crate) fn operate_shifted(cpu: &mut Cpu, operation: Operation, sets_flags: bool, ready: &Ready)
-    requires { OperatesByShift operation sets_flags ready.now }
-    ensures { LeadsOn cpu.old ready.now.word cpu.new }
+pub(crate) fn operate_shifted(cpu: &mut Cpu, operation: Operation, sets_flags: bool, op: &Op)
+    requires { OperatesByShift operation sets_flags op.now }
+    ensures { LeadsOn cpu.old op.now.word cpu.new }
 {
-    let second = shift_by(ready.shift, current(cpu, ready.rm), ready.value);
-    operate(cpu, operation, sets_flags, second, ready);
+    let second = shift_by(op.shift, current(cpu, op.rm), op.value);
+    operate(cpu, operation, sets_flags, second, op);
 }
 
 /// A shift by an amount of at least 1.
@@ -89,15 +84,15 @@ fn shift_by(kind: Shift, word: u32, amount: u32) -> Shifted
 /// Data processing with a second operand.
 #[tactic(auto, unfolding(crate::specs::Operated::state_after_operation))]
 #[inline(always)]
-fn operate(cpu: &mut Cpu, operation: Operation, sets_flags: bool, second: Shifted, ready: &Ready)
-    requires rd { ready.now.rd < 15 }
-    requires rn { ready.now.rn < 15 }
+fn operate(cpu: &mut Cpu, operation: Operation, sets_flags: bool, second: Shifted, op: &Op)
+    requires rd { op.now.rd < 15 }
+    requires rn { op.now.rn < 15 }
     requires places { (is_test operation && not sets_flags) ≡ false }
-    ensures { cpu.new ≡ state_after_operation cpu.old operation sets_flags ready.now second }
+    ensures { cpu.new ≡ state_after_operation cpu.old operation sets_flags op.now second }
 {
-    let sum = result_of(operation, current(cpu, ready.rn), second, cpu.psr());
+    let sum = result_of(operation, current(cpu, op.rn), second, cpu.psr());
     if !operation.is_test() {
-        set_current(cpu, ready.rd, sum.value);
+        set_current(cpu, op.rd, sum.value);
     }
     if sets_flags {
         cpu.set_flags_of(sum);

@@ -2,20 +2,20 @@
 
 ghost use Rattle.std.specs.Prelude.{◌≡◌, ◌≢◌, ◌<◌, ◌≤◌, ◌^◌, Err, IfOk, OnOk, IfSome};
 ghost use Rattle.address_map.specs.Memory.{bytes_of, is_owned, layout, place, class_of};
-ghost use Rattle.arm_core.specs.declared.turn.Turn.TheVariants.{Done};
+ghost use Rattle.arm_core.specs.declared.turn.StepEnd.TheVariants.{Done};
 ghost use Rattle.arm_run.specs.Standing.{Acts};
 ghost use Rattle.arm_run.specs.Runs.{AreDone, StopsBy};
-ghost use Rattle.arm_step.specs.window.Windows.{IsOpen};
+ghost use Rattle.arm_step.specs.fetch_page.FetchPages.{IsOpen};
 ghost use Rattle.arm_step.specs.Step.{result_of_step};
 ghost use Rattle.arm_step.specs.Turns.{Turns};
 
 use crate::act::act;
-use crate::standing::{fetch, position, slowly, stand, turn_at};
+use crate::standing::{end_at, fetch, position, slowly, stand};
 use address_map::AddressMap;
 use arm_core::breaks::Breaks;
-use arm_core::{Cpu, Turn};
-use arm_ready::ReadyWords;
-use arm_step::window::Window;
+use arm_core::{Cpu, StepEnd};
+use arm_predecode::DecodeCache;
+use arm_step::fetch_page::FetchPage;
 use profile::Stop;
 
 /// Takes up to so many steps, as long as each is an instruction that is done, and no further than
@@ -25,10 +25,10 @@ use profile::Stop;
 pub fn run(
     cpu: &mut Cpu,
     memory: &mut AddressMap,
-    ready: &mut ReadyWords,
+    op: &mut DecodeCache,
     breaks: &Breaks,
     most: u64,
-) -> (u64, Result<Turn, Stop>)
+) -> (u64, Result<StepEnd, Stop>)
     requires some { 0 < most }
     ensures done { AreDone (is_owned memory.old) breaks.now result.0
         (cpu.old, bytes_of memory.old) (cpu.new, bytes_of memory.new) }
@@ -47,13 +47,13 @@ pub fn run(
     let mut rest = most;
     let mut left = stride;
     let mut at = position(cpu);
-    let mut window = Window::closed();
+    let mut fetch_page = FetchPage::closed();
     loop {
-        match step_at(cpu, at, memory, ready, &mut window) {
+        match step_at(cpu, at, memory, op, &mut fetch_page) {
             Some(next) => at = next,
             None => return (
                 most - rest + (stride - left),
-                Ok(turn_at(cpu, at, memory, ready, &window)),
+                Ok(end_at(cpu, at, memory, op, &fetch_page)),
             ),
         }
         left -= 1;
@@ -74,33 +74,33 @@ pub fn run(
 
 /// A step at a position. Answers where the program goes on, or `None` where another turn comes than
 /// that of an instruction that is done; nothing is changed then.
-#[tactic(auto, using(arm_step::proofs::WindowLemmas::Opened::stays_open))]
+#[tactic(auto, using(arm_step::proofs::FetchPageLemmas::Opened::stays_open))]
 #[inline(always)]
 fn step_at(
     cpu: &mut Cpu,
     at: usize,
     memory: &mut AddressMap,
-    ready: &mut ReadyWords,
-    window: &mut Window,
+    op: &mut DecodeCache,
+    fetch_page: &mut FetchPage,
 ) -> Option<usize>
     requires at { at ≤ 2 ^ 24 }
-    requires window { IsOpen (place memory.old) window.old }
+    requires fetch_page { IsOpen (place memory.old) fetch_page.old }
     ensures state { Acts (is_owned memory.old) cpu.old at (bytes_of memory.old)
         result cpu.new (bytes_of memory.new) }
     ensures within { IfSome result (λ next. next ≤ 2 ^ 24) }
-    ensures window { IsOpen (place memory.new) window.new }
+    ensures fetch_page { IsOpen (place memory.new) fetch_page.new }
     ensures layout { layout memory.new ≡ layout memory.old }
     ensures marks { class_of memory.new ≡ class_of memory.old }
 {
     // Made anew: of an answer handed on as it is the compiler would ask at each step what it was.
-    if !window.reach(memory, at) {
+    if !fetch_page.reach(memory, at) {
         let next = slowly(cpu, at, memory)?;
         return Some(next);
     }
-    let word = fetch(memory, window, at);
-    let place = window.entry(at);
-    ready.prepare(place, word);
-    let entry = ready.at(place);
+    let word = fetch(memory, fetch_page, at);
+    let place = fetch_page.entry(at);
+    op.prepare(place, word);
+    let entry = op.at(place);
     entry.known();
     act(cpu, at, memory, entry.kind, entry)
 }

@@ -4,18 +4,18 @@
 ghost use Rattle.std.specs.Prelude.{◌≡◌, ◌≢◌, ◌<◌, ◌≤◌, ◌+◌, ◌%◌, ◌^◌, ℕ, Bool, ⊤, Err, IfSome, MatchOption};
 ghost use Rattle.address_map.specs.Memory.{bytes_of, is_owned, layout, place, class_of};
 ghost use Rattle.arm_core.specs.State.{State, register_in, with_register};
-ghost use Rattle.arm_core.specs.declared.turn.Turn.{Turn};
-ghost use Rattle.arm_core.specs.declared.turn.Turn.TheVariants.{Done};
+ghost use Rattle.arm_core.specs.declared.turn.StepEnd.{StepEnd};
+ghost use Rattle.arm_core.specs.declared.turn.StepEnd.TheVariants.{Done};
 ghost use Rattle.arm_run.specs.Standing.{core_at, Acts, IsFetched, Refuses};
-ghost use Rattle.arm_step.specs.window.Windows.{IsIn, IsOpen};
+ghost use Rattle.arm_step.specs.fetch_page.FetchPages.{IsIn, IsOpen};
 ghost use Rattle.arm_step.specs.Step.{result_of_step};
 ghost use Rattle.arm_step.specs.Turns.{Turns};
 
 use address_map::AddressMap;
-use arm_core::{Cpu, Turn};
-use arm_ready::{ReadyKind, ReadyWords};
+use arm_core::{Cpu, StepEnd};
+use arm_predecode::{DecodeCache, OpKind};
+use arm_step::fetch_page::FetchPage;
 use arm_step::step;
-use arm_step::window::Window;
 
 /// How many words the address space has.
 pub(crate) const POSITIONS: usize = 1 << 24;
@@ -71,39 +71,44 @@ pub(crate) fn slowly(cpu: &mut Cpu, at: usize, memory: &mut AddressMap) -> Optio
 {
     stand(cpu, at);
     match step(cpu, memory) {
-        Turn::Done => Some(position(cpu)),
+        StepEnd::Done => Some(position(cpu)),
         _ => None,
     }
 }
 
-/// The word at a position in a window.
+/// The word at a position in a fetch page.
 #[tactic(auto, using(crate::proofs::Fetching::fetched_by))]
 #[inline(always)]
-pub(crate) fn fetch(memory: &AddressMap, window: &Window, at: usize) -> u32
-    requires window { IsOpen (place memory.now) window.now }
-    requires there { IsIn window.now at }
+pub(crate) fn fetch(memory: &AddressMap, fetch_page: &FetchPage, at: usize) -> u32
+    requires fetch_page { IsOpen (place memory.now) fetch_page.now }
+    requires there { IsIn fetch_page.now at }
     requires below { at < 2 ^ 24 }
     ensures { IsFetched (bytes_of memory.now) at result }
 {
-    window.word(memory, at)
+    fetch_page.word(memory, at)
 }
 
-/// The number of the SWI at a position, if its word is made ready as one.
-#[tactic(auto, using(arm_step::proofs::WindowLemmas::Opened::in_limit, crate::proofs::Carried::interrupt_comes))]
+/// The number of the SWI at a position, if its word is predecoded as one.
+#[tactic(auto, using(arm_step::proofs::FetchPageLemmas::Opened::in_limit, crate::proofs::Carried::interrupt_comes))]
 #[inline(always)]
-fn interrupt_at(memory: &AddressMap, ready: &ReadyWords, window: &Window, at: usize) -> Option<u32>
-    requires window { IsOpen (place memory.now) window.now }
+fn interrupt_at(
+    memory: &AddressMap,
+    op: &DecodeCache,
+    fetch_page: &FetchPage,
+    at: usize,
+) -> Option<u32>
+    requires fetch_page { IsOpen (place memory.now) fetch_page.now }
     requires at { at ≤ 2 ^ 24 }
     ensures { MatchOption result ⊤ (λ number. (owned : ℕ → Bool) (s : State) →
-        result_of_step owned (core_at s at) (bytes_of memory.now) ≡ Err (Turn.Swi number)) }
+        result_of_step owned (core_at s at) (bytes_of memory.now) ≡ Err (StepEnd.Swi number)) }
 {
-    if !window.holds(at) {
+    if !fetch_page.holds(at) {
         return None;
     }
-    let word = fetch(memory, window, at);
-    let entry = ready.at(window.entry(at));
+    let word = fetch(memory, fetch_page, at);
+    let entry = op.at(fetch_page.entry(at));
     entry.known();
-    if entry.word != word || !matches!(entry.kind, ReadyKind::Interrupt) {
+    if entry.word != word || !matches!(entry.kind, OpKind::Interrupt) {
         return None;
     }
     Some(word % (1 << 24))
@@ -113,15 +118,15 @@ fn interrupt_at(memory: &AddressMap, ready: &ReadyWords, window: &Window, at: us
 #[tactic(auto, using(crate::proofs::Carried::swis))]
 #[cold]
 #[inline(never)]
-pub(crate) fn turn_at(
+pub(crate) fn end_at(
     cpu: &mut Cpu,
     at: usize,
     memory: &mut AddressMap,
-    ready: &ReadyWords,
-    window: &Window,
-) -> Turn
+    op: &DecodeCache,
+    fetch_page: &FetchPage,
+) -> StepEnd
     requires refuses { Refuses (is_owned memory.old) (core_at cpu.old at) (bytes_of memory.old) }
-    requires window { IsOpen (place memory.old) window.now }
+    requires fetch_page { IsOpen (place memory.old) fetch_page.now }
     requires at { at ≤ 2 ^ 24 }
     ensures core { cpu.new ≡ core_at cpu.old at }
     ensures bytes { bytes_of memory.new ≡ bytes_of memory.old }
@@ -133,8 +138,8 @@ pub(crate) fn turn_at(
     ensures marks { class_of memory.new ≡ class_of memory.old }
 {
     stand(cpu, at);
-    if let Some(number) = interrupt_at(memory, ready, window, at) {
-        return Turn::Swi(number);
+    if let Some(number) = interrupt_at(memory, op, fetch_page, at) {
+        return StepEnd::Swi(number);
     }
     step(cpu, memory)
 }

@@ -1,4 +1,4 @@
-//! LDR and STR by words made ready. What they can't do, as a transfer that is a fault, is left to
+//! LDR and STR by predecoded words. What they can't do, as a transfer that is a fault, is left to
 //! the way that is right for every word.
 
 ghost use Rattle.std.specs.Prelude.{◌≡◌, ◌<◌, ◌≤◌, ◌^◌, true, false, IfSome, Ok, MatchOption, ⊤};
@@ -6,7 +6,7 @@ ghost use Rattle.address_map.specs.Memory.{bytes_of, is_owned, layout, class_of}
 ghost use Rattle.arm_core.specs.Operand.{shifted_by_number};
 ghost use Rattle.arm_core.specs.State.{register_in};
 ghost use Rattle.arm_decode.specs.declared.shift.Shift.{Shift};
-ghost use Rattle.arm_ready.specs.Kinds.{LoadsBeside, TransfersByNumber, TransfersByRegister};
+ghost use Rattle.arm_predecode.specs.Kinds.{LoadsBeside, TransfersByNumber, TransfersByRegister};
 ghost use Rattle.arm_run.specs.Moved.{IsLoaded, IsStored, base_moved, address_reached, with_moved_base};
 ghost use Rattle.arm_run.specs.Standing.{Acts, IsFetched};
 ghost use Rattle.arm_step.specs.Transfers.{value_loaded, value_stored};
@@ -16,7 +16,7 @@ use crate::standing::{current, set_current, slowly};
 use address_map::AddressMap;
 use arm_core::Cpu;
 use arm_decode::Indexing;
-use arm_ready::Ready;
+use arm_predecode::Op;
 use profile::shift::rotate_right;
 
 /// The byte at an address, or the word there, rotated so that the byte at the address is lowest.
@@ -56,34 +56,34 @@ fn store_value(memory: &mut AddressMap, is_byte: bool, address: u32, value: u32)
 
 /// The base after a transfer.
 #[inline(always)]
-fn base_moved(cpu: &Cpu, ready: &Ready, added: u32) -> u32
-    requires { ready.now.rn < 15 }
-    ensures { result ≡ base_moved cpu.now ready.now added }
+fn base_moved(cpu: &Cpu, op: &Op, added: u32) -> u32
+    requires { op.now.rn < 15 }
+    ensures { result ≡ base_moved cpu.now op.now added }
 {
-    current(cpu, ready.rn).wrapping_add(added)
+    current(cpu, op.rn).wrapping_add(added)
 }
 
 /// Where a transfer reads or writes.
 #[inline(always)]
-fn address_reached(cpu: &Cpu, indexing: Indexing, ready: &Ready, added: u32) -> u32
-    requires { ready.now.rn < 15 }
-    ensures { result ≡ address_reached indexing cpu.now ready.now added }
+fn address_reached(cpu: &Cpu, indexing: Indexing, op: &Op, added: u32) -> u32
+    requires { op.now.rn < 15 }
+    ensures { result ≡ address_reached indexing cpu.now op.now added }
 {
     match indexing {
-        Indexing::Pre { .. } => base_moved(cpu, ready, added),
-        Indexing::Post { .. } => current(cpu, ready.rn),
+        Indexing::Pre { .. } => base_moved(cpu, op, added),
+        Indexing::Post { .. } => current(cpu, op.rn),
     }
 }
 
 /// Writes the changed base back where the transfer does that.
 #[inline(always)]
-fn move_base(cpu: &mut Cpu, indexing: Indexing, ready: &Ready, added: u32)
-    requires { ready.now.rn < 15 }
-    ensures { cpu.new ≡ with_moved_base indexing cpu.old ready.now added }
+fn move_base(cpu: &mut Cpu, indexing: Indexing, op: &Op, added: u32)
+    requires { op.now.rn < 15 }
+    ensures { cpu.new ≡ with_moved_base indexing cpu.old op.now added }
 {
     if indexing.writes_base() {
-        let moved = base_moved(cpu, ready, added);
-        set_current(cpu, ready.rn, moved);
+        let moved = base_moved(cpu, op, added);
+        set_current(cpu, op.rn, moved);
     }
 }
 
@@ -96,19 +96,19 @@ fn load(
     is_byte: bool,
     indexing: Indexing,
     added: u32,
-    ready: &Ready,
+    op: &Op,
 ) -> bool
-    requires rd { ready.now.rd < 15 }
-    requires rn { ready.now.rn < 15 }
+    requires rd { op.now.rd < 15 }
+    requires rn { op.now.rn < 15 }
     ensures done { result ≡ true →
-        IsLoaded (bytes_of memory.now) cpu.old is_byte indexing added ready.now cpu.new }
+        IsLoaded (bytes_of memory.now) cpu.old is_byte indexing added op.now cpu.new }
     ensures kept { result ≡ false → cpu.new ≡ cpu.old }
 {
-    let address = address_reached(cpu, indexing, ready, added);
+    let address = address_reached(cpu, indexing, op, added);
     match load_value(memory, is_byte, address) {
         Some(value) => {
-            move_base(cpu, indexing, ready, added);
-            set_current(cpu, ready.rd, value);
+            move_base(cpu, indexing, op, added);
+            set_current(cpu, op.rd, value);
             true
         }
         None => false,
@@ -123,37 +123,37 @@ fn store(
     is_byte: bool,
     indexing: Indexing,
     added: u32,
-    ready: &Ready,
+    op: &Op,
 ) -> bool
-    requires rd { ready.now.rd < 15 }
-    requires rn { ready.now.rn < 15 }
+    requires rd { op.now.rd < 15 }
+    requires rn { op.now.rn < 15 }
     ensures done { result ≡ true →
-        IsStored (is_owned memory.old) (bytes_of memory.old) cpu.old is_byte indexing added ready.now
+        IsStored (is_owned memory.old) (bytes_of memory.old) cpu.old is_byte indexing added op.now
         cpu.new (bytes_of memory.new) }
     ensures core { result ≡ false → cpu.new ≡ cpu.old }
     ensures bytes { result ≡ false → bytes_of memory.new ≡ bytes_of memory.old }
     ensures layout { layout memory.new ≡ layout memory.old }
     ensures marks { class_of memory.new ≡ class_of memory.old }
 {
-    let address = address_reached(cpu, indexing, ready, added);
-    let value = current(cpu, ready.rd);
+    let address = address_reached(cpu, indexing, op, added);
+    let value = current(cpu, op.rd);
     if !store_value(memory, is_byte, address, value) {
         return false;
     }
-    move_base(cpu, indexing, ready, added);
+    move_base(cpu, indexing, op, added);
     true
 }
 
 /// What is added to the base for a register as offset.
 #[tactic(auto, using(crate::proofs::Transferred::left_shifted))]
 #[inline(always)]
-fn offset(cpu: &Cpu, ready: &Ready) -> u32
-    requires rm { ready.now.rm < 15 }
-    requires amount { ready.now.value < 32 }
+fn offset(cpu: &Cpu, op: &Op) -> u32
+    requires rm { op.now.rm < 15 }
+    requires amount { op.now.value < 32 }
     ensures { result ≡ (shifted_by_number Shift.LogicalLeft
-        (register_in cpu.now.psr.mode cpu.now ready.now.rm) ready.now.value cpu.now.psr.carry).value }
+        (register_in cpu.now.psr.mode cpu.now op.now.rm) op.now.value cpu.now.psr.carry).value }
 {
-    current(cpu, ready.rm) << ready.value
+    current(cpu, op.rm) << op.value
 }
 
 /// LDR with a number as offset: where the program goes on, or `None` where another turn comes.
@@ -164,19 +164,19 @@ pub(crate) fn load_by_number(
     memory: &mut AddressMap,
     is_byte: bool,
     indexing: Indexing,
-    ready: &Ready,
+    op: &Op,
 ) -> Option<usize>
-    requires known { TransfersByNumber true is_byte indexing ready.now }
+    requires known { TransfersByNumber true is_byte indexing op.now }
     requires at { at < 2 ^ 24 }
-    requires fetched { IsFetched (bytes_of memory.old) at ready.now.word }
+    requires fetched { IsFetched (bytes_of memory.old) at op.now.word }
     ensures state { Acts (is_owned memory.old) cpu.old at (bytes_of memory.old)
         result cpu.new (bytes_of memory.new) }
     ensures within { IfSome result (λ next. next ≤ 2 ^ 24) }
     ensures layout { layout memory.new ≡ layout memory.old }
     ensures marks { class_of memory.new ≡ class_of memory.old }
 {
-    let added = ready.value;
-    if load(cpu, memory, is_byte, indexing, added, ready) {
+    let added = op.value;
+    if load(cpu, memory, is_byte, indexing, added, op) {
         return Some(at + 1);
     }
     slowly(cpu, at, memory)
@@ -190,19 +190,19 @@ pub(crate) fn store_by_number(
     memory: &mut AddressMap,
     is_byte: bool,
     indexing: Indexing,
-    ready: &Ready,
+    op: &Op,
 ) -> Option<usize>
-    requires known { TransfersByNumber false is_byte indexing ready.now }
+    requires known { TransfersByNumber false is_byte indexing op.now }
     requires at { at < 2 ^ 24 }
-    requires fetched { IsFetched (bytes_of memory.old) at ready.now.word }
+    requires fetched { IsFetched (bytes_of memory.old) at op.now.word }
     ensures state { Acts (is_owned memory.old) cpu.old at (bytes_of memory.old)
         result cpu.new (bytes_of memory.new) }
     ensures within { IfSome result (λ next. next ≤ 2 ^ 24) }
     ensures layout { layout memory.new ≡ layout memory.old }
     ensures marks { class_of memory.new ≡ class_of memory.old }
 {
-    let added = ready.value;
-    if store(cpu, memory, is_byte, indexing, added, ready) {
+    let added = op.value;
+    if store(cpu, memory, is_byte, indexing, added, op) {
         return Some(at + 1);
     }
     slowly(cpu, at, memory)
@@ -216,19 +216,19 @@ pub(crate) fn load_by_register(
     memory: &mut AddressMap,
     is_byte: bool,
     indexing: Indexing,
-    ready: &Ready,
+    op: &Op,
 ) -> Option<usize>
-    requires known { TransfersByRegister true is_byte indexing ready.now }
+    requires known { TransfersByRegister true is_byte indexing op.now }
     requires at { at < 2 ^ 24 }
-    requires fetched { IsFetched (bytes_of memory.old) at ready.now.word }
+    requires fetched { IsFetched (bytes_of memory.old) at op.now.word }
     ensures state { Acts (is_owned memory.old) cpu.old at (bytes_of memory.old)
         result cpu.new (bytes_of memory.new) }
     ensures within { IfSome result (λ next. next ≤ 2 ^ 24) }
     ensures layout { layout memory.new ≡ layout memory.old }
     ensures marks { class_of memory.new ≡ class_of memory.old }
 {
-    let added = offset(cpu, ready);
-    if load(cpu, memory, is_byte, indexing, added, ready) {
+    let added = offset(cpu, op);
+    if load(cpu, memory, is_byte, indexing, added, op) {
         return Some(at + 1);
     }
     slowly(cpu, at, memory)
@@ -242,19 +242,19 @@ pub(crate) fn store_by_register(
     memory: &mut AddressMap,
     is_byte: bool,
     indexing: Indexing,
-    ready: &Ready,
+    op: &Op,
 ) -> Option<usize>
-    requires known { TransfersByRegister false is_byte indexing ready.now }
+    requires known { TransfersByRegister false is_byte indexing op.now }
     requires at { at < 2 ^ 24 }
-    requires fetched { IsFetched (bytes_of memory.old) at ready.now.word }
+    requires fetched { IsFetched (bytes_of memory.old) at op.now.word }
     ensures state { Acts (is_owned memory.old) cpu.old at (bytes_of memory.old)
         result cpu.new (bytes_of memory.new) }
     ensures within { IfSome result (λ next. next ≤ 2 ^ 24) }
     ensures layout { layout memory.new ≡ layout memory.old }
     ensures marks { class_of memory.new ≡ class_of memory.old }
 {
-    let added = offset(cpu, ready);
-    if store(cpu, memory, is_byte, indexing, added, ready) {
+    let added = offset(cpu, op);
+    if store(cpu, memory, is_byte, indexing, added, op) {
         return Some(at + 1);
     }
     slowly(cpu, at, memory)
@@ -266,21 +266,21 @@ pub(crate) fn load_beside(
     cpu: &mut Cpu,
     at: usize,
     memory: &mut AddressMap,
-    ready: &Ready,
+    op: &Op,
 ) -> Option<usize>
-    requires known { LoadsBeside ready.now }
+    requires known { LoadsBeside op.now }
     requires at { at < 2 ^ 24 }
-    requires fetched { IsFetched (bytes_of memory.old) at ready.now.word }
+    requires fetched { IsFetched (bytes_of memory.old) at op.now.word }
     ensures state { Acts (is_owned memory.old) cpu.old at (bytes_of memory.old)
         result cpu.new (bytes_of memory.new) }
     ensures within { IfSome result (λ next. next ≤ 2 ^ 24) }
     ensures layout { layout memory.new ≡ layout memory.old }
     ensures marks { class_of memory.new ≡ class_of memory.old }
 {
-    let address = (ahead(at, 2) as u32 * 4).wrapping_add(ready.value);
+    let address = (ahead(at, 2) as u32 * 4).wrapping_add(op.value);
     match load_value(memory, false, address) {
         Some(value) => {
-            set_current(cpu, ready.rd, value);
+            set_current(cpu, op.rd, value);
             Some(at + 1)
         }
         None => slowly(cpu, at, memory),

@@ -12,7 +12,7 @@ use Rattle.arm_decode.specs.declared.action.Action.TheVariants as action
 use Rattle.arm_decode.specs.declared.action.Transfer.{Transfer}
 use Rattle.arm_decode.specs.declared.action.BlockTransfer.{BlockTransfer}
 use Rattle.arm_decode.specs.declared.condition.Condition.{Condition}
-use Rattle.arm_core.specs.declared.turn.Turn.{Turn}
+use Rattle.arm_core.specs.declared.turn.StepEnd.{StepEnd}
 use Rattle.arm_core.specs.Conditions.{condition_holds}
 use Rattle.arm_core.specs.State.{State}
 use Rattle.arm_core.specs.Effect.{with_next_pc}
@@ -148,11 +148,11 @@ fetched_kept : (owned : ℕ → Bool) (s : State) (b : Bytes) (r : Result ℕ Fa
 fetched_kept owned s b (Ok w) h = met_kept owned s b w (condition_holds (condition_in w) s.psr) h
 fetched_kept owned s b (Err f) h = tt
 
-at_kept : (owned : ℕ → Bool) (s : State) (b : Bytes) (gate : Bool) → IsByWords owned → KeptWith owned b (cond gate (Err Turn.Gate) (executed_if_fetched owned s b (word_loaded b s.pc)))
+at_kept : (owned : ℕ → Bool) (s : State) (b : Bytes) (gate : Bool) → IsByWords owned → KeptWith owned b (cond gate (Err StepEnd.Gate) (executed_if_fetched owned s b (word_loaded b s.pc)))
 at_kept owned s b true h = tt
 at_kept owned s b false h = fetched_kept owned s b (word_loaded b s.pc) h
 
-of_ok : (owned : ℕ → Bool) (b : Bytes) (r : Result (State × Bytes) Turn) (t : State) (c : Bytes) → KeptWith owned b r → r ≡ Ok (t, c) → KeepsOwnedBytes owned b c
+of_ok : (owned : ℕ → Bool) (b : Bytes) (r : Result (State × Bytes) StepEnd) (t : State) (c : Bytes) → KeptWith owned b r → r ≡ Ok (t, c) → KeepsOwnedBytes owned b c
 of_ok owned b (Ok w) t c h e = let same_bytes : w.1 ≡ c = cc in subst (λ (d : Bytes). KeepsOwnedBytes owned b d) same_bytes h
 of_ok owned b (Err f) t c h e = absurd (cc)
 

@@ -6,4 +6,4 @@ pub mod PageWords
 pub mod Placing
 pub mod Restoring
 pub mod SeveralWords
-pub mod WindowLemmas
+pub mod FetchPageLemmas

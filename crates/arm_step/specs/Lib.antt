@@ -12,4 +12,4 @@ pub mod StoredBase
 pub mod Transfers
 pub mod Turns
 pub mod Words
-pub mod window
+pub mod fetch_page

@@ -12,8 +12,8 @@ use Rattle.arm_decode.specs.declared.action.Multiply.{Multiply}
 use Rattle.arm_decode.specs.declared.action.Operate.{Operate}
 use Rattle.arm_decode.specs.declared.address.Address.{Address}
 use Rattle.arm_decode.specs.declared.condition.Condition.{Condition}
-use Rattle.arm_core.specs.declared.turn.Turn.{Turn}
-use Rattle.arm_core.specs.declared.turn.Turn.TheVariants as turn
+use Rattle.arm_core.specs.declared.turn.StepEnd.{StepEnd}
+use Rattle.arm_core.specs.declared.turn.StepEnd.TheVariants as turn
 use Rattle.arm_core.specs.Conditions.{condition_holds}
 use Rattle.arm_core.specs.State.{State}
 use Rattle.arm_core.specs.Effect.{with_next_pc}
@@ -22,11 +22,11 @@ use Rattle.arm_step.specs.Transfers.{result_of_transfer}
 use Rattle.arm_step.specs.Blocks.{result_of_block_transfer}
 
 -- a fault of memory ends the step
-abbrev pub or_fault : {A : Type 0} → Result A Fault → Result A Turn
+abbrev pub or_fault : {A : Type 0} → Result A Fault → Result A StepEnd
 or_fault (Ok a) = Ok a
 or_fault (Err f) = Err (turn.Fault f)
 
-unfoldable pub result_of_action : (ℕ → Bool) → State → Bytes → Action → Result (State × Bytes) Turn
+unfoldable pub result_of_action : (ℕ → Bool) → State → Bytes → Action → Result (State × Bytes) StepEnd
 result_of_action owned s b (action.Operate o) = Ok (state_after_operate s o, b)
 result_of_action owned s b (action.Multiply m) = Ok (state_after_multiply s m, b)
 result_of_action owned s b (action.Transfer t) = or_fault (result_of_transfer owned s b t)
@@ -35,7 +35,7 @@ result_of_action owned s b (action.Branch links distance) = Ok (state_after_bran
 result_of_action owned s b (action.SoftwareInterrupt n) = Err (turn.Swi n)
 
 abbrev pub acted_if_decoded : (ℕ → Bool) → State → Bytes → Result (Condition × Action) Fault →
-    Result (State × Bytes) Turn
+    Result (State × Bytes) StepEnd
 acted_if_decoded owned s b (Ok i) = result_of_action owned s b i.1
 acted_if_decoded owned s b (Err f) = Err (turn.Fault f)
 
@@ -50,25 +50,25 @@ Multiplies old m (Ok u) new = (refusal (action.Multiply m) ≡ None) × (new ≡
 Multiplies old m (Err f) new = (refusal (action.Multiply m) ≡ Some f) × (new ≡ old)
 
 -- the LDR or STR of a word whose address is this
-abbrev pub acted_at : (ℕ → Bool) → State → Bytes → Address → ℕ → Result (State × Bytes) Turn
+abbrev pub acted_at : (ℕ → Bool) → State → Bytes → Address → ℕ → Result (State × Bytes) StepEnd
 acted_at owned s b place w = acted_if_decoded owned s b
     (instruction_unless_refused (condition_in w, action.Transfer (transfer_of_word place w)))
 
 -- the LDM or STM of a word
-abbrev pub acted_on_block : (ℕ → Bool) → State → Bytes → ℕ → Result (State × Bytes) Turn
+abbrev pub acted_on_block : (ℕ → Bool) → State → Bytes → ℕ → Result (State × Bytes) StepEnd
 acted_on_block owned s b w = acted_if_decoded owned s b
     (instruction_unless_refused (condition_in w, action.BlockTransfer (block_transfer_in w)))
 
 -- Where the condition fails the instruction does nothing, whatever its other bits are.
-abbrev pub result_of_word : (ℕ → Bool) → State → Bytes → ℕ → Result (State × Bytes) Turn
+abbrev pub result_of_word : (ℕ → Bool) → State → Bytes → ℕ → Result (State × Bytes) StepEnd
 result_of_word owned s b w = if condition_holds (condition_in w) s.psr then
     acted_if_decoded owned s b (instruction_of_word w) else Ok (with_next_pc s, b)
 
-abbrev pub executed_if_fetched : (ℕ → Bool) → State → Bytes → Result ℕ Fault → Result (State × Bytes) Turn
+abbrev pub executed_if_fetched : (ℕ → Bool) → State → Bytes → Result ℕ Fault → Result (State × Bytes) StepEnd
 executed_if_fetched owned s b (Ok w) = result_of_word owned s b w
 executed_if_fetched owned s b (Err f) = Err (turn.Fault FetchUnmapped)
 
 -- Module code returns to an address where nothing is mapped.
-unfoldable pub result_of_step : (ℕ → Bool) → State → Bytes → Result (State × Bytes) Turn
+unfoldable pub result_of_step : (ℕ → Bool) → State → Bytes → Result (State × Bytes) StepEnd
 result_of_step owned s b = if s.pc == 0x03800000 then Err turn.Gate
     else executed_if_fetched owned s b (word_loaded b s.pc)

@@ -12,7 +12,7 @@ use crate::block::transfer_block;
 use crate::transfer::transfer_one;
 use address_map::AddressMap;
 use arm_core::condition::is_met;
-use arm_core::{Cpu, Turn};
+use arm_core::{Cpu, StepEnd};
 use arm_decode::{
     Address, Bits, BlockTransfer, Condition, Form, Multiply, Offset, Operand, Operate,
     ShiftedRegister, Transfer, row_of,
@@ -29,28 +29,28 @@ use profile::word::is_bit_set;
 /// `Done` leave core and memory as they were.
 #[tactic(auto, unfolding(crate::specs::Step::result_of_step))]
 #[inline(always)]
-pub fn step(cpu: &mut Cpu, memory: &mut AddressMap) -> Turn
+pub fn step(cpu: &mut Cpu, memory: &mut AddressMap) -> StepEnd
     ensures turn { Turns (cpu.old, bytes_of memory.old)
         (result_of_step (is_owned memory.old) cpu.old (bytes_of memory.old)) result
         (cpu.new, bytes_of memory.new) }
     ensures layout { layout memory.new ≡ layout memory.old }
     ensures marks { class_of memory.new ≡ class_of memory.old }
-    ensures unchanged { result ≢ Turn.Done →
+    ensures unchanged { result ≢ StepEnd.Done →
         (cpu.new ≡ cpu.old) × (bytes_of memory.new ≡ bytes_of memory.old) }
 {
     let pc = cpu.pc();
     if pc == RETURN_GATE {
-        return Turn::Gate;
+        return StepEnd::Gate;
     }
     match memory.fetch_word(pc) {
         Ok(word) => execute(cpu, memory, word),
-        Err(_) => Turn::Fault(Fault::FetchUnmapped),
+        Err(_) => StepEnd::Fault(Fault::FetchUnmapped),
     }
 }
 
 /// Carries out a word where its condition holds, and else goes on to the next.
 #[inline(always)]
-fn execute(cpu: &mut Cpu, memory: &mut AddressMap, word: u32) -> Turn
+fn execute(cpu: &mut Cpu, memory: &mut AddressMap, word: u32) -> StepEnd
     ensures turn { let executed = result_of_word (is_owned memory.old) cpu.old (bytes_of memory.old) word in
         Turns (cpu.old, bytes_of memory.old) executed result (cpu.new, bytes_of memory.new) }
     ensures layout { layout memory.new ≡ layout memory.old }
@@ -58,10 +58,10 @@ fn execute(cpu: &mut Cpu, memory: &mut AddressMap, word: u32) -> Turn
 {
     if !is_met(Condition::in_word(word), cpu.psr()) {
         cpu.advance();
-        return Turn::Done;
+        return StepEnd::Done;
     }
     match execute_always(cpu, memory, word) {
-        Ok(()) => Turn::Done,
+        Ok(()) => StepEnd::Done,
         Err(turn) => turn,
     }
 }
@@ -70,7 +70,7 @@ fn execute(cpu: &mut Cpu, memory: &mut AddressMap, word: u32) -> Turn
 /// the word; no instruction is built and copied.
 #[tactic(auto, unfolding(crate::specs::Step::result_of_action, arm_decode::specs::Decoded::instruction_of_word))]
 #[inline(always)]
-fn execute_always(cpu: &mut Cpu, memory: &mut AddressMap, word: u32) -> Result<(), Turn>
+fn execute_always(cpu: &mut Cpu, memory: &mut AddressMap, word: u32) -> Result<(), StepEnd>
     ensures state { let acted = acted_if_decoded (is_owned memory.old) cpu.old (bytes_of memory.old)
         (instruction_of_word word) in
         Leaves (cpu.old, bytes_of memory.old) acted result (cpu.new, bytes_of memory.new) }
@@ -100,7 +100,7 @@ fn execute_always(cpu: &mut Cpu, memory: &mut AddressMap, word: u32) -> Result<(
         }
         Form::SoftwareInterrupt => {
             let number: Bits<24> = Bits::in_word(word, 0);
-            return Err(Turn::Swi(number.number()));
+            return Err(StepEnd::Swi(number.number()));
         }
     }
     Ok(())

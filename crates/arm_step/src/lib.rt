@@ -8,12 +8,12 @@
 pub mod block;
 pub mod block_fields;
 pub mod execute;
+pub mod fetch_page;
 pub mod laws;
 pub mod page_block;
 pub mod page_words;
 pub mod transfer;
-pub mod window;
 pub mod words;
 
-pub use arm_core::{Cpu, Mode, Psr, Turn};
+pub use arm_core::{Cpu, Mode, Psr, StepEnd, StepEnd as Turn};
 pub use execute::step;

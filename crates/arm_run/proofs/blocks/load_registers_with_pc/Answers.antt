@@ -2,7 +2,7 @@ use Rattle.std.proofs.Common.{◌≡◌, ◌+◌, ◌∙◌, ℕ, sym, ap, lengt
 use Rattle.address_map.specs.Memory.{bytes_of}
 use Rattle.arm_core.specs.Listed.{registers_of_list}
 use Rattle.arm_core.specs.State.{State, with_register}
-use Rattle.arm_ready.specs.ReadyWord.{ReadyWord}
+use Rattle.arm_predecode.specs.OpValue.{OpValue}
 use Rattle.arm_step.specs.PageWords.{words_in}
 use Rattle.arm_step.specs.Words.{words_loaded}
 use Rattle.arm_run.specs.Blocked.{with_block_base_after}
@@ -14,18 +14,18 @@ use Rattle.arm_run.proofs.blocks.load_registers_with_pc.Goals.{then-writes_back,
 pub returns-after-writes_back-clause-done : goal.returns-after-writes_back-clause-done
 returns-after-writes_back-clause-done c =
     let s = c.args.cpu.now in
-    let r = c.args.ready.now in
+    let r = c.args.op.now in
     let n = c.count_of-count.result in
     let next = c.args.at + 1 in
     let based : c.if-writes_back.cpu ≡ core_at (with_block_base_after true c.args.writes_back s r) next = elim c.if-writes_back.branch [
       | then-writes_back w ↦ base_written_at s c.if-writes_back.cpu next true c.args.writes_back r c.reach-first.result.1 w.if-writes_back.true c.reach-first.ensures.base
-          (w.cpu-is ∙ w.set_current.ensures ∙ ap (λ (x : State). with_register x c.ready.inside.rn c.reach-first.result.1) c.stand.ensures
-          ∙ ap (λ (x : ReadyWord). with_register (core_at s next) x.rn c.reach-first.result.1) c.ready.view_is)
+          (w.cpu-is ∙ w.set_current.ensures ∙ ap (λ (x : State). with_register x c.op.inside.rn c.reach-first.result.1) c.stand.ensures
+          ∙ ap (λ (x : OpValue). with_register (core_at s next) x.rn c.reach-first.result.1) c.op.view_is)
       | else-writes_back w ↦ base_left_at s c.if-writes_back.cpu next true c.args.writes_back r w.if-writes_back.false (w.cpu-is ∙ c.stand.ensures)
     ] in
     is_block_loaded (bytes_of c.args.memory.now) s c.place_each.new.cpu c.args.at c.position.result true c.args.writes_back r (words_in c.in-Some.bytes.now 0 n)
     c.reach-first.ensures.small
     (ap (λ (x : ℕ). words_loaded (bytes_of c.args.memory.now) x (length (registers_of_list r.value))) (sym c.reach-first.ensures.first)
     ∙ ap (λ (k : ℕ). words_loaded (bytes_of c.args.memory.now) c.reach-first.result.0 k) (sym c.count_of-count.ensures.count) ∙ c.in-Some.ensures.0)
-    (c.position.ensures.there ∙ each_so s c.place_each.new.cpu c.if-writes_back.cpu next true c.args.writes_back r c.ready.inside.value n c.in-Some.bytes.now based
-    (ap (λ (x : ReadyWord). x.value) c.ready.view_is) c.count_of-count.ensures.count c.place_each.ensures)
+    (c.position.ensures.there ∙ each_so s c.place_each.new.cpu c.if-writes_back.cpu next true c.args.writes_back r c.op.inside.value n c.in-Some.bytes.now based
+    (ap (λ (x : OpValue). x.value) c.op.view_is) c.count_of-count.ensures.count c.place_each.ensures)

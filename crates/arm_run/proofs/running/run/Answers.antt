@@ -2,7 +2,7 @@ use Rattle.std.proofs.Common.{◌≡◌, ◌<◌, ◌≤◌, ◌⊎◌, ◌+◌,
 use Rattle.address_map.specs.Memory.{bytes_of, is_owned}
 use Rattle.address_map.proofs.Words.{is_owned-same}
 use Rattle.arm_core.specs.State.{State}
-use Rattle.arm_core.specs.declared.turn.Turn.TheVariants as turn
+use Rattle.arm_core.specs.declared.turn.StepEnd.TheVariants as turn
 use Rattle.arm_core.specs.breaks.Breaks.{is_among}
 use Rattle.arm_run.specs.Standing.{core_at}
 use Rattle.arm_run.proofs.StepByStep.{none_done, one_more_done, same_count, same_pair, none_among, refuses_so, turns_so}
@@ -29,17 +29,17 @@ loop-next-init c =
       within = some.1;
       rest = omega arith;
       position = omega (arith, c.position-at.ensures.within);
-      window = c.closed-window.ensures c.args.memory.now;
+      fetch_page = c.closed-fetch_page.ensures c.args.memory.now;
       layout = refl;
       marks = refl;
     }
 
-pub turn_at-requires : goal.turn_at-requires
-turn_at-requires c =
+pub end_at-requires : goal.end_at-requires
+end_at-requires c =
     let acts = c.in-None.ensures.state in
     record {
       refuses = refuses_so _ _ _ _ _ _ (is_owned-same _ _ c.step_at.ensures.marks) acts.0 acts.1 acts.2;
-      window = c.step_at.ensures.window;
+      fetch_page = c.step_at.ensures.fetch_page;
       at = c.loop-next.invariant.position;
     }
 
@@ -47,21 +47,21 @@ pub returns-in-None : goal.returns-in-None
 returns-in-None c =
     let so_far = c.loop-next.invariant in
     let acts = c.in-None.ensures.state in
-    let core : c.turn_at.new.cpu ≡ core_at c.loop-next.cpu c.loop-next.at = c.turn_at.ensures.core ∙ acts.0 in
-    let bytes : bytes_of c.turn_at.new.memory ≡ bytes_of c.loop-next.memory = c.turn_at.ensures.bytes ∙ acts.1 in
+    let core : c.end_at.new.cpu ≡ core_at c.loop-next.cpu c.loop-next.at = c.end_at.ensures.core ∙ acts.0 in
+    let bytes : bytes_of c.end_at.new.memory ≡ bytes_of c.loop-next.memory = c.end_at.ensures.bytes ∙ acts.1 in
     let taken : ℕ = c.args.most - c.loop-next.rest + (c.if-is_empty.stride - c.loop-next.left) in
     let fewer : taken < c.args.most = omega (arith, so_far.some, so_far.left, so_far.within, so_far.rest) in
     let owned : is_owned c.step_at.new.memory ≡ is_owned c.args.memory.now = is_owned-same _ _ (c.step_at.ensures.marks ∙ so_far.marks) in
     record {
       done = same_count _ _ _ _ _ _ _ refl (same_pair _ _ _ _ core bytes) so_far.done;
       ends = subst (λ (s : State). (taken ≡ 0) ⊎ (is_among c.args.breaks.now s.pc ≡ false)) (sym core) so_far.clear;
-      next = turns_so _ _ (c.turn_at.new.cpu, bytes_of c.turn_at.new.memory) (c.turn_at.new.cpu, bytes_of c.turn_at.new.memory) c.turn_at.result owned c.turn_at.ensures.turn;
-      other = c.turn_at.ensures.other;
+      next = turns_so _ _ (c.end_at.new.cpu, bytes_of c.end_at.new.memory) (c.end_at.new.cpu, bytes_of c.end_at.new.memory) c.end_at.result owned c.end_at.ensures.turn;
+      other = c.end_at.ensures.other;
       fewer = fewer;
       all = λ is. cc;
       most = omega (arith, fewer);
-      layout = c.turn_at.ensures.layout ∙ c.step_at.ensures.layout ∙ so_far.layout;
-      marks = c.turn_at.ensures.marks ∙ c.step_at.ensures.marks ∙ so_far.marks;
+      layout = c.end_at.ensures.layout ∙ c.step_at.ensures.layout ∙ so_far.layout;
+      marks = c.end_at.ensures.marks ∙ c.step_at.ensures.marks ∙ so_far.marks;
     }
 
 pub returns-then-has : goal.returns-then-has
@@ -126,7 +126,7 @@ loop-next-preserved-then-left-eq0 c =
       within = omega (arith, one, more);
       rest = omega (arith, so_far.rest);
       position = c.in-Some.ensures.within;
-      window = c.step_at.ensures.window;
+      fetch_page = c.step_at.ensures.fetch_page;
       layout = c.step_at.ensures.layout ∙ so_far.layout;
       marks = c.step_at.ensures.marks ∙ so_far.marks;
     }
@@ -150,10 +150,10 @@ loop-next-preserved c =
       within = so_far.within;
       rest = so_far.rest;
       position = c.in-Some.ensures.within;
-      window = c.step_at.ensures.window;
+      fetch_page = c.step_at.ensures.fetch_page;
       layout = c.step_at.ensures.layout ∙ so_far.layout;
       marks = c.step_at.ensures.marks ∙ so_far.marks;
     }
 
 pub step_at-requires : goal.step_at-requires
-step_at-requires c = record { at = c.loop-next.invariant.position; window = c.loop-next.invariant.window }
+step_at-requires c = record { at = c.loop-next.invariant.position; fetch_page = c.loop-next.invariant.fetch_page }

@@ -3,7 +3,7 @@ use Rattle.address_map.specs.Memory.{bytes_of, class_of, is_owned, layout, place
 use Rattle.arm_core.specs.breaks.Breaks.{is_among}
 use Rattle.arm_run.specs.Runs.{AreDone}
 use Rattle.arm_run.specs.Standing.{core_at}
-use Rattle.arm_step.specs.window.Windows.{IsOpen}
+use Rattle.arm_step.specs.fetch_page.FetchPages.{IsOpen}
 use Rattle.arm_run.proofs.running.run.Given as goal
 
 -- so far each step was an instruction that was done, and none led to a break
@@ -17,7 +17,7 @@ invariant-loop-next l = record {
   within : l.stride ≤ l.rest;
   rest : l.rest ≤ l.most;
   position : l.at ≤ 2 ^ 24;
-  window : IsOpen (place l.memory) l.window;
+  fetch_page : IsOpen (place l.memory) l.fetch_page;
   layout : layout l.memory ≡ layout l.fn.memory;
   marks : class_of l.memory ≡ class_of l.fn.memory;
 }

@@ -1,6 +1,0 @@
-use Rattle.std.proofs.Common.{◌≡◌, ap, refl, ◌∙◌, sym}
-use Rattle.arm_ready.proofs.Known.{branches}
-use Rattle.arm_ready.proofs.ready.Ready.link.Goals as goal
-
-pub invariant_of-result : goal.invariant_of-result
-invariant_of-result c = c.link_kind-kind.ensures _ (branches _ _ _ c.requires.form c.requires.condition c.requires.links c.distance_in-value.ensures)

@@ -1,0 +1,2 @@
+-- Where the words of a page lie in the store.
+pub mod FetchPages

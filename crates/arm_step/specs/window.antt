@@ -1,2 +1,0 @@
--- Where the words of a page lie in the store.
-pub mod Windows

@@ -1,7 +1,0 @@
-//! The page that the core is in: where its words lie in the store, so that a word is fetched without
-//! a look-up of its page.
-#![tactic(auto)]
-
-mod window;
-
-pub use window::Window;
