@@ -12,12 +12,12 @@ use Rattle.os_heap.proofs.RangeTests.{or_middle, range_high, range_low}
 use Rattle.os_heap.specs.Store.{Store, IsClearOfHeaps}
 use Rattle.os_heap.proofs.Stores.{clear_both_ways}
 use Rattle.dynamic_areas.specs.declared.area.Area.{Area}
-use Rattle.dynamic_areas.specs.Areas.{Land, find_area, with_pages, with_areas, area_with_pages, pages_of}
+use Rattle.dynamic_areas.specs.Areas.{AreaTable, find_area, with_pages, with_areas, area_with_pages, pages_of}
 use Rattle.dynamic_areas.specs.Changing.{AreRangesClear}
 use Rattle.dynamic_areas.specs.Ground.{is_fixed, is_in_area, IsGround, AreRangesMapped}
 use Rattle.dynamic_areas.specs.Remapped.{with_pages_at, without_pages_at}
 use Rattle.dynamic_areas.specs.Rooms.{IsAreaRoom}
-use Rattle.dynamic_areas.proofs.LandLemmas.{land_grown, held_alone, pages_same, pages_counted, rooms_paged, some_paged, fixed_outside, lies_apart}
+use Rattle.dynamic_areas.proofs.AreaTableLemmas.{area_table_grown, held_alone, pages_same, pages_counted, rooms_paged, some_paged, fixed_outside, lies_apart}
 use Rattle.dynamic_areas.proofs.Remapped.{sound_grown, sound_shrunk}
 use Rattle.dynamic_areas.proofs.RoomLemmas.{found_room, pages_none, room_small}
 
@@ -26,7 +26,7 @@ or_true true = refl
 or_true false = refl
 
 -- below its top an area holds its pages alone, and above it nothing is mapped up to its maximum
-pub unmapped_above : (s : Store) (free : ℕ) (l : Land) (number : ℕ) (a : Area) (count : ℕ) → IsGround s free l → find_area number l.areas ≡ Some a
+pub unmapped_above : (s : Store) (free : ℕ) (l : AreaTable) (number : ℕ) (a : Area) (count : ℕ) → IsGround s free l → find_area number l.areas ≡ Some a
     → 4096 * (a.pages + count) ≤ a.maximum → AreUnmapped s.bytes.mapped (a.base + 4096 * a.pages) (4096 * count)
 unmapped_above s free l number a count ground e fits x low high =
     let room : IsAreaRoom a = found_room number l.areas a ground.table.rooms e in
@@ -35,7 +35,7 @@ unmapped_above s free l number a count ground e fits x low high =
     held_alone number l.areas a a.pages x ground.table.rooms e inside in
     let none : list_any (is_in_area x) l.areas ≡ false =
     ap (λ (xs : List Area). list_any (is_in_area x) xs) (sym (pages_same number l.areas a e)) ∙ (alone ∙ range_past a.base (4096 * a.pages) x low) in
-    ground.land x ∙ rw (fixed_outside l.sizes a x ground.sizes room inside, none) refl
+    ground.area_table x ∙ rw (fixed_outside l.sizes a x ground.sizes room inside, none) refl
 
 ranges_more : (s : Store) (at len : ℕ) (rs : List Region) → AreRangesMapped s.bytes.mapped rs
     → AreRangesMapped (λ a. in_range at len a || s.bytes.mapped a) rs
@@ -45,7 +45,7 @@ ranges_more s at len (r ∷ rs) mapped = (
   ranges_more s at len rs mapped.1,
 )
 
-pub ground_grown : (s : Store) (free : ℕ) (l : Land) (number : ℕ) (a : Area) (count : ℕ) → IsGround s free l → find_area number l.areas ≡ Some a
+pub ground_grown : (s : Store) (free : ℕ) (l : AreaTable) (number : ℕ) (a : Area) (count : ℕ) → IsGround s free l → find_area number l.areas ≡ Some a
     → 4096 * (a.pages + count) ≤ a.maximum → count ≤ free
     → IsGround (with_pages_at s (a.base + 4096 * a.pages) (4096 * count)) (free - count) (with_areas l (with_pages number (a.pages + count) l.areas))
 ground_grown s free l number a count ground e fits pool =
@@ -59,7 +59,7 @@ ground_grown s free l number a count ground e fits pool =
         rooms = rooms_paged number l.areas a (a.pages + count) ground.table.rooms e fits;
         first = some_paged number (a.pages + count) 1 l.areas ∙ ground.table.first;
       };
-      land = λ x. rw (ground.land x, land_grown number l.areas a count x e)
+      area_table = λ x. rw (ground.area_table x, area_table_grown number l.areas a count x e)
           (or_middle (in_range (a.base + 4096 * a.pages) (4096 * count) x) (is_fixed l.sizes x) (list_any (is_in_area x) l.areas));
       pages = omega arith;
       ranges = ranges_more s (a.base + 4096 * a.pages) (4096 * count) s.others ground.ranges;
@@ -95,18 +95,18 @@ ranges_less s at len (r ∷ rs) mapped clear = (
   ranges_less s at len rs mapped.1 clear.1,
 )
 
--- the land without the pages at the top
-land_less : (f t k : Bool) → (t ≡ true → (f ≡ false) × (k ≡ false)) → ((f || (t || k)) && not t) ≡ (f || k)
-land_less f true k none = let both = none refl in rw (both.0, both.1) refl
-land_less f false k none = and-true (f || k)
+-- the area table without the pages at the top
+area_table_less : (f t k : Bool) → (t ≡ true → (f ≡ false) × (k ≡ false)) → ((f || (t || k)) && not t) ≡ (f || k)
+area_table_less f true k none = let both = none refl in rw (both.0, both.1) refl
+area_table_less f false k none = and-true (f || k)
 
-module _ (s : Store) (free : ℕ) (l : Land) (number : ℕ) (a : Area) (count : ℕ) (ground : IsGround s free l) (e : find_area number l.areas ≡ Some a)
+module _ (s : Store) (free : ℕ) (l : AreaTable) (number : ℕ) (a : Area) (count : ℕ) (ground : IsGround s free l) (e : find_area number l.areas ≡ Some a)
     (fits : count ≤ a.pages) where
-  shrunk_land : (x : ℕ) → list_any (is_in_area x) l.areas
+  shrunk_area_table : (x : ℕ) → list_any (is_in_area x) l.areas
       ≡ (in_range (a.base + 4096 * (a.pages - count)) (4096 * count) x || list_any (is_in_area x) (with_pages number (a.pages - count) l.areas))
-  shrunk_land x =
+  shrunk_area_table x =
       let sum : a.pages - count + count ≡ a.pages = omega arith in
-      let grown = land_grown number (with_pages number (a.pages - count) l.areas) (area_with_pages (a.pages - count) a) count x
+      let grown = area_table_grown number (with_pages number (a.pages - count) l.areas) (area_with_pages (a.pages - count) a) count x
       (find_paged number (a.pages - count) l.areas a e) in
       let back : with_pages number (a.pages - count + count) (with_pages number (a.pages - count) l.areas) ≡ l.areas =
       paged_twice number (a.pages - count) (a.pages - count + count) l.areas ∙ (ap (λ (n : ℕ). with_pages number n l.areas) sum ∙ pages_same number l.areas a e) in
@@ -129,7 +129,7 @@ module _ (s : Store) (free : ℕ) (l : Land) (number : ℕ) (a : Area) (count : 
           rooms = rooms_paged number l.areas a (a.pages - count) ground.table.rooms e (omega arith);
           first = some_paged number (a.pages - count) 1 l.areas ∙ ground.table.first;
         };
-        land = λ x. rw (ground.land x, shrunk_land x) (land_less (is_fixed l.sizes x) (in_range (a.base + 4096 * (a.pages - count)) (4096 * count) x)
+        area_table = λ x. rw (ground.area_table x, shrunk_area_table x) (area_table_less (is_fixed l.sizes x) (in_range (a.base + 4096 * (a.pages - count)) (4096 * count) x)
             (list_any (is_in_area x) (with_pages number (a.pages - count) l.areas)) (λ there.
             let low : a.base + 4096 * (a.pages - count) ≤ x = range_low (a.base + 4096 * (a.pages - count)) (4096 * count) x there in
             let high : x < a.base + 4096 * (a.pages - count) + 4096 * count = range_high (a.base + 4096 * (a.pages - count)) (4096 * count) x there in
@@ -142,7 +142,7 @@ module _ (s : Store) (free : ℕ) (l : Land) (number : ℕ) (a : Area) (count : 
         sound = sound_shrunk s (a.base + 4096 * (a.pages - count)) (4096 * count) ground.sound heaps anchors;
       }
 
-pub mapped_held : (s : Store) (free : ℕ) (l : Land) (number : ℕ) (a : Area) → IsGround s free l → find_area number l.areas ≡ Some a
+pub mapped_held : (s : Store) (free : ℕ) (l : AreaTable) (number : ℕ) (a : Area) → IsGround s free l → find_area number l.areas ≡ Some a
     → (x : ℕ) → a.base ≤ x → x < a.base + 4096 * a.pages → s.bytes.mapped x ≡ true
 mapped_held s free l number a ground e x low high =
     let room : IsAreaRoom a = found_room number l.areas a ground.table.rooms e in
@@ -152,7 +152,7 @@ mapped_held s free l number a ground e x low high =
     held_alone number l.areas a a.pages x ground.table.rooms e inside in
     let held : list_any (is_in_area x) l.areas ≡ true =
     ap (λ (xs : List Area). list_any (is_in_area x) xs) (sym (pages_same number l.areas a e)) ∙ (alone ∙ range_inside a.base (4096 * a.pages) x low high) in
-    ground.land x ∙ rw held (or_true (is_fixed l.sizes x))
+    ground.area_table x ∙ rw held (or_true (is_fixed l.sizes x))
 
 -- pages of an area's room lie in the address space
 pub record FitsWindow (a : Area) (pages count : ℕ) : Type 0 where
@@ -167,6 +167,6 @@ fits_window a pages count room fits =
     let low : module_area_start ≤ a.base = (lies_apart a room).low in
     record { aligned = omega arith; below = omega arith; sum = omega (arith, room_small a room) }
 
--- where no area has the number, the land is as it was
-pub land_none : (l : Land) (number pages : ℕ) → find_area number l.areas ≡ None → l ≡ with_areas l (with_pages number pages l.areas)
-land_none l number pages none = sym (ap (λ (xs : List Area). with_areas l xs) (pages_none number pages l.areas none))
+-- where no area has the number, the area table is as it was
+pub area_table_none : (l : AreaTable) (number pages : ℕ) → find_area number l.areas ≡ None → l ≡ with_areas l (with_pages number pages l.areas)
+area_table_none l number pages none = sym (ap (λ (xs : List Area). with_areas l xs) (pages_none number pages l.areas none))

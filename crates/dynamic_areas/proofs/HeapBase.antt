@@ -1,4 +1,4 @@
--- The base of the module area's heap, as its descriptor tells it.
+-- The base of the module area's heap, as its descriptor shows it.
 use Rattle.profile.specs.MemoryMap.{module_area_start}
 use Rattle.std.proofs.Common.{◌≡◌, ℕ, ◌+◌, ◌≤◌, ◌^◌, true, refl, ap, Some, None, Ok, arith}
 use Rattle.std.specs.Prelude.{is_some, Option}

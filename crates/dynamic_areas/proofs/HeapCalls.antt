@@ -25,7 +25,7 @@ use Rattle.os_heap.specs.Forgetting.{store_after_forget, holds_heap, lowest_lost
 use Rattle.os_heap.proofs.Found.{found_start}
 use Rattle.os_heap.proofs.Nesting.{listed}
 use Rattle.dynamic_areas.specs.declared.area.Area.{Area}
-use Rattle.dynamic_areas.specs.Areas.{Land, pages_of}
+use Rattle.dynamic_areas.specs.Areas.{AreaTable, pages_of}
 use Rattle.dynamic_areas.specs.Ground.{AreAreas, EndsWithArea, pool_of}
 use Rattle.dynamic_areas.proofs.GroundLemmas.{or_true}
 
@@ -33,13 +33,13 @@ use Rattle.dynamic_areas.proofs.GroundLemmas.{or_true}
 abbrev pub KeepsEnd : List HeapList → List HeapList → Type 0
 KeepsEnd old new = (area : Option Area) → EndsWithArea (find_heap module_area_start old) area → EndsWithArea (find_heap module_area_start new) area
 
-pub areas_kept : (s t : Store) (free : ℕ) (l : Land) → AreAreas s free l → IsSound t → t.bytes.mapped ≡ s.bytes.mapped → t.others ≡ s.others
+pub areas_kept : (s t : Store) (free : ℕ) (l : AreaTable) → AreAreas s free l → IsSound t → t.bytes.mapped ≡ s.bytes.mapped → t.others ≡ s.others
     → KeepsEnd s.heaps t.heaps → AreAreas t free l
 areas_kept s t free l areas sound mapped others kept = record {
   ground = record {
     sizes = areas.ground.sizes;
     table = areas.ground.table;
-    land = λ x. ap (λ (f : ℕ → Bool). f x) mapped ∙ areas.ground.land x;
+    area_table = λ x. ap (λ (f : ℕ → Bool). f x) mapped ∙ areas.ground.area_table x;
     pages = areas.ground.pages;
     ranges = rw (mapped, others) areas.ground.ranges;
     sound = sound;
@@ -51,7 +51,7 @@ pub same_end : (g h : HeapList) (area : Option Area) → h.kind ≡ g.kind → h
 same_end g h None kind end ends = ends
 same_end g h (Some a) kind end ends = (kind ∙ ends.0, end ∙ ends.1)
 
--- the records alone tell which heaps there are, and where they end
+-- the records alone say which heaps there are, and where they end
 records_end : (b c : Bytes) (rs : List Region) → KeepsEnd (heaps_in b rs) (heaps_in c rs)
 records_end b c [] area ends = ends
 records_end b c (r ∷ rs) area ends =
@@ -70,7 +70,7 @@ layout_end m n same =
     rw records (records_end (bytes_of m) (bytes_of n) (regions m))
 
 -- calls that keep all records, as claims and releases of blocks, and writes
-pub areas_written : (m n : AddressMap) (l : Land) → AreAreas (store_of m) (free_pages m) l → IsSound (store_of n) → layout n ≡ layout m
+pub areas_written : (m n : AddressMap) (l : AreaTable) → AreAreas (store_of m) (free_pages m) l → IsSound (store_of n) → layout n ≡ layout m
     → AreAreas (store_of n) (free_pages n) l
 unfolding store_of
 areas_written m n l areas sound same =
@@ -261,7 +261,7 @@ resized_keeps s heap block change =
     ]))
 
 -- OS_Heap's calls that change a record
-module _ (m n : AddressMap) (l : Land) (areas : AreAreas (store_of m) (free_pages m) l) (sound : IsSound (store_of n))
+module _ (m n : AddressMap) (l : AreaTable) (areas : AreAreas (store_of m) (free_pages m) l) (sound : IsSound (store_of n))
     (others : (store_of n).others ≡ (store_of m).others) (same : mapping n ≡ mapping m) where
   areas_mapped : KeepsEnd (store_of m).heaps (store_of n).heaps → AreAreas (store_of n) (free_pages n) l
   unfolding store_of
@@ -292,15 +292,15 @@ module _ (m n : AddressMap) (l : Land) (areas : AreAreas (store_of m) (free_page
       areas_mapped (keeps_given (store_of m) (store_of n) (store_after_resize (store_of m) heap block change) answer (resized_keeps (store_of m) heap block change) given)
 
 -- the system pages are mapped
-pub system_mapped : (s : Store) (free : ℕ) (l : Land) → AreAreas s free l → (a : ℕ) → in_range system_start 0x3000 a ≡ true → s.bytes.mapped a ≡ true
+pub system_mapped : (s : Store) (free : ℕ) (l : AreaTable) → AreAreas s free l → (a : ℕ) → in_range system_start 0x3000 a ≡ true → s.bytes.mapped a ≡ true
 system_mapped s free l areas a inside =
-    areas.ground.land a ∙ rw (inside, or_true (in_range application_start (4096 * l.sizes.app) a)) refl
+    areas.ground.area_table a ∙ rw (inside, or_true (in_range application_start (4096 * l.sizes.app) a)) refl
 
-pub system_room : (s : Store) (free : ℕ) (l : Land) → AreAreas s free l → AreMapped s.bytes.mapped error_block_start 256
+pub system_room : (s : Store) (free : ℕ) (l : AreaTable) → AreAreas s free l → AreMapped s.bytes.mapped error_block_start 256
 system_room s free l areas a low high =
     system_mapped s free l areas a (range_inside system_start 0x3000 a (omega arith) (omega arith))
 
-pub pool_is : (s : Store) (free : ℕ) (l : Land) → AreAreas s free l → free ≡ pool_of l
+pub pool_is : (s : Store) (free : ℕ) (l : AreaTable) → AreAreas s free l → free ≡ pool_of l
 pool_is s free l areas =
     let sum : pages_of l.areas + (l.sizes.app + 3) + free ≡ l.sizes.pages = areas.ground.pages in
     omega arith

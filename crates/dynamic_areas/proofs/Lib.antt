@@ -26,7 +26,7 @@ pub mod ClassLemmas
 pub mod GroundLemmas
 pub mod HeapBase
 pub mod HeapCalls
-pub mod LandLemmas
+pub mod AreaTableLemmas
 pub mod LooseLemmas
 pub mod Loosened
 pub mod ModuleArea

@@ -17,7 +17,7 @@ use Rattle.os_heap.specs.Calls.{with_end}
 use Rattle.os_heap.specs.Nesting.{StandsApart}
 use Rattle.os_heap.proofs.Stores.{AreOthers, are_others, clear_both_ways, placed_by}
 use Rattle.dynamic_areas.specs.declared.area.Area.{Area}
-use Rattle.dynamic_areas.specs.Areas.{Land, find_area}
+use Rattle.dynamic_areas.specs.Areas.{AreaTable, find_area}
 use Rattle.dynamic_areas.specs.Changing.{AreLoose, AreRangesClear, loose_pages}
 use Rattle.dynamic_areas.specs.Ground.{AreAreas}
 use Rattle.dynamic_areas.proofs.ModuleArea.{IsModuleArea, heap_below}
@@ -92,7 +92,7 @@ anchors_behind s h top len sound found start spelled low high =
     ]))
 
 -- `t` is the store after the heap got the end of the pages that are left
-pub loose_ended : (s t : Store) (free : ℕ) (l : Land) (a : Area) (count : ℕ) (m : IsModuleArea s a) → AreAreas s free l → find_area 1 l.areas ≡ Some a
+pub loose_ended : (s t : Store) (free : ℕ) (l : AreaTable) (a : Area) (count : ℕ) (m : IsModuleArea s a) → AreAreas s free l → find_area 1 l.areas ≡ Some a
     → count ≤ loose_pages s a → t.heaps ≡ with_end m.heap.start (4096 * (a.pages - count)) s.heaps → t.others ≡ s.others
     → t.anchor ≡ s.anchor
     → AreLoose t a count

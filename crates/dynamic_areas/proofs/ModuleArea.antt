@@ -19,7 +19,7 @@ use Rattle.os_heap.proofs.Beside.{area_alone, grown_alone}
 use Rattle.os_heap.proofs.Found.{found_heap, found_start}
 use Rattle.os_heap.proofs.Stores.{AreOthers, are_others}
 use Rattle.dynamic_areas.specs.declared.area.Area.{Area}
-use Rattle.dynamic_areas.specs.Areas.{Land, find_area, with_areas, with_pages, area_with_pages}
+use Rattle.dynamic_areas.specs.Areas.{AreaTable, find_area, with_areas, with_pages, area_with_pages}
 use Rattle.dynamic_areas.specs.Changing.{AreRangesClear, heap_base, must_stay, loose_pages, store_after_end}
 use Rattle.dynamic_areas.specs.Ground.{IsGround, AreAreas, EndsWithArea, AreRangesMapped}
 use Rattle.dynamic_areas.specs.Remapped.{with_pages_at}
@@ -55,7 +55,7 @@ ends_there s a (Some h) sound base maximum e ends = record {
   maximum = maximum;
 }
 
-pub module_area_known : (s : Store) (free : ℕ) (l : Land) (a : Area) → AreAreas s free l → find_area 1 l.areas ≡ Some a → IsModuleArea s a
+pub module_area_known : (s : Store) (free : ℕ) (l : AreaTable) (a : Area) → AreAreas s free l → find_area 1 l.areas ≡ Some a → IsModuleArea s a
 module_area_known s free l a areas e =
     let room : IsAreaRoom a = found_room 1 l.areas a areas.ground.table.rooms e in
     let number : a.number ≡ 1 = found_number 1 l.areas a e in
@@ -99,7 +99,7 @@ pub region_known : (b : Bytes) (at size : ℕ) → at % 4 ≡ 0 → size % 4 ≡
 region_known b at size aligned whole low high mapped = sym (region_tested b at size true aligned whole low high ((λ _. mapped), (λ _. refl)))
 
 -- after the area got more pages its heap may have their end
-pub may_grow_heap : (s : Store) (free : ℕ) (l : Land) (a : Area) (count : ℕ) → AreAreas s free l → find_area 1 l.areas ≡ Some a
+pub may_grow_heap : (s : Store) (free : ℕ) (l : AreaTable) (a : Area) (count : ℕ) → AreAreas s free l → find_area 1 l.areas ≡ Some a
     → 4096 * (a.pages + count) ≤ a.maximum → count ≤ free
     → MayEndArea (with_pages_at s (a.base + 4096 * a.pages) (4096 * count)) (4096 * (a.pages + count))
 may_grow_heap s free l a count areas e fits pool =
@@ -134,7 +134,7 @@ may_grow_heap s free l a count areas e fits pool =
     rw m.found may
 
 -- before it loses pages that can go, the heap may have the end of those that are left
-pub heap_below : (s : Store) (free : ℕ) (l : Land) (a : Area) (count : ℕ) (m : IsModuleArea s a) → a.number ≡ 1 → count ≤ loose_pages s a
+pub heap_below : (s : Store) (free : ℕ) (l : AreaTable) (a : Area) (count : ℕ) (m : IsModuleArea s a) → a.number ≡ 1 → count ≤ loose_pages s a
     → 16 + size_of m.heap.items ≤ 4096 * (a.pages - count)
 unfolding must_stay
 heap_below s free l a count m number loose =
@@ -152,7 +152,7 @@ heap_below s free l a count m number loose =
           omega arith
     ]
 
-pub may_shrink_heap : (s : Store) (free : ℕ) (l : Land) (a : Area) (count : ℕ) → AreAreas s free l → find_area 1 l.areas ≡ Some a
+pub may_shrink_heap : (s : Store) (free : ℕ) (l : AreaTable) (a : Area) (count : ℕ) → AreAreas s free l → find_area 1 l.areas ≡ Some a
     → count ≤ loose_pages s a → MayEndArea s (4096 * (a.pages - count))
 may_shrink_heap s free l a count areas e loose =
     let m : IsModuleArea s a = module_area_known s free l a areas e in
@@ -193,11 +193,11 @@ find_ended (g ∷ hs) h start end e =
           rw (test, other) (find_ended hs h start end (rw other at e))
     ]
 
-pub ground_ended : (s : Store) (free : ℕ) (l : Land) (h : HeapList) (end : ℕ) → IsGround s free l → IsSound (ending s h end) → IsGround (ending s h end) free l
+pub ground_ended : (s : Store) (free : ℕ) (l : AreaTable) (h : HeapList) (end : ℕ) → IsGround s free l → IsSound (ending s h end) → IsGround (ending s h end) free l
 ground_ended s free l h end ground sound = record {
   sizes = ground.sizes;
   table = ground.table;
-  land = ground.land;
+  area_table = ground.area_table;
   pages = ground.pages;
   ranges = ground.ranges;
   sound = sound;

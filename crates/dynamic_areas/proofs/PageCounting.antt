@@ -12,11 +12,11 @@ use Rattle.address_map.specs.declared.map.AddressMap.{AddressMap}
 use Rattle.address_map.proofs.Counting.{counted_same, pages_counted}
 use Rattle.profile.specs.Sizes.{Sizes, AreGood}
 use Rattle.os_heap.specs.Store.{store_of}
-use Rattle.dynamic_areas.specs.Areas.{Land, pages_of}
-use Rattle.dynamic_areas.specs.Ground.{AreAreas, is_fixed, is_in_area, is_land}
+use Rattle.dynamic_areas.specs.Areas.{AreaTable, pages_of}
+use Rattle.dynamic_areas.specs.Ground.{AreAreas, is_fixed, is_in_area, is_area_table}
 use Rattle.dynamic_areas.specs.Rooms.{AreRooms, IsBefore, IsAreaRoom}
 use Rattle.dynamic_areas.specs.declared.area.Area.{Area}
-use Rattle.dynamic_areas.proofs.LandLemmas.{fixed_outside, lies_apart}
+use Rattle.dynamic_areas.proofs.AreaTableLemmas.{fixed_outside, lies_apart}
 use Rattle.dynamic_areas.proofs.PageRanges.{counted_either, counted_range, page_in_range}
 
 -- a range of whole pages
@@ -82,12 +82,12 @@ fixed_alone sizes [] x good rooms fixed = refl
 fixed_alone sizes (a ∷ others) x good rooms fixed =
     rw (unheld sizes a x good rooms.0 fixed) (fixed_alone sizes others x good rooms.1.1 fixed)
 
-pub areas_count_pages : (m : AddressMap) (l : Land) → AreAreas (store_of m) (free_pages m) l → page_total m ≡ l.sizes.pages
+pub areas_count_pages : (m : AddressMap) (l : AreaTable) → AreAreas (store_of m) (free_pages m) l → page_total m ≡ l.sizes.pages
 unfolding store_of
 areas_count_pages m l areas =
     let ground = areas.ground in
     let total = pages_counted m in
-    let same = counted_same (λ page. is_mapped m (4096 * page)) (λ page. is_land l (4096 * page)) 16384 (λ page below. ground.land (4096 * page)) in
+    let same = counted_same (λ page. is_mapped m (4096 * page)) (λ page. is_area_table l (4096 * page)) 16384 (λ page below. ground.area_table (4096 * page)) in
     let both = counted_either (λ page. is_fixed l.sizes (4096 * page)) (λ page. list_any (is_in_area (4096 * page)) l.areas) 16384
     (λ page below fixed. fixed_alone l.sizes l.areas (4096 * page) ground.sizes ground.table.rooms fixed) in
     let fixed = fixed_counted l.sizes ground.sizes in

@@ -6,7 +6,7 @@ use Rattle.std.specs.List.{list_any}
 use Rattle.std.proofs.lemmas.Bool.{cases_Bool, cases_lt, cases_eq, ne_eqb, eq-eqb, lt-ltb, le-ltb, lt-leb, and_right}
 use Rattle.os_heap.specs.Store.{Store, find_heap}
 use Rattle.dynamic_areas.specs.declared.area.Area.{Area}
-use Rattle.dynamic_areas.specs.Areas.{Land, find_area, with_area, without_area, with_pages, with_areas, area_with_pages, pages_of}
+use Rattle.dynamic_areas.specs.Areas.{AreaTable, find_area, with_area, without_area, with_pages, with_areas, area_with_pages, pages_of}
 use Rattle.dynamic_areas.specs.Ground.{is_in_area, IsGround, AreAreas, EndsWithArea}
 use Rattle.dynamic_areas.specs.Rooms.{IsAreaRoom, meets_area}
 use Rattle.dynamic_areas.proofs.GroundLemmas.{find_paged}
@@ -97,7 +97,7 @@ without_paged number pages (g ∷ others) =
       | inr other ↦ rw (other, other) (ap (λ (xs : List Area). g ∷ xs) (without_paged number pages others))
     ]
 
-pub ground_put : (s : Store) (free : ℕ) (l : Land) (area : Area) → IsGround s free l → IsAreaRoom area → area.pages ≡ 0 → area.number ≢ 1
+pub ground_put : (s : Store) (free : ℕ) (l : AreaTable) (area : Area) → IsGround s free l → IsAreaRoom area → area.pages ≡ 0 → area.number ≢ 1
     → find_area area.number l.areas ≡ None → meets_area area.base area.maximum l.areas ≡ false → IsGround s free (with_areas l (with_area area l.areas))
 ground_put s free l area ground room none other new clear =
     let sum : pages_of l.areas + (l.sizes.app + 3) + free ≡ l.sizes.pages = ground.pages in
@@ -108,13 +108,13 @@ ground_put s free l area ground room none other new clear =
         rooms = rooms_with area l.areas room new clear ground.table.rooms;
         first = ap is_some (find_with_other area 1 l.areas other) ∙ ground.table.first;
       };
-      land = λ x. rw (held_with area l.areas x none) (ground.land x);
+      area_table = λ x. rw (held_with area l.areas x none) (ground.area_table x);
       pages = omega arith;
       ranges = ground.ranges;
       sound = ground.sound;
     }
 
-pub ground_taken : (s : Store) (free : ℕ) (l : Land) (number : ℕ) (a : Area) → IsGround s free l → find_area number l.areas ≡ Some a → a.pages ≡ 0
+pub ground_taken : (s : Store) (free : ℕ) (l : AreaTable) (number : ℕ) (a : Area) → IsGround s free l → find_area number l.areas ≡ Some a → a.pages ≡ 0
     → number ≢ 1 → IsGround s free (with_areas l (without_area number l.areas))
 ground_taken s free l number a ground e none other =
     let sum : pages_of l.areas + (l.sizes.app + 3) + free ≡ l.sizes.pages = ground.pages in
@@ -125,7 +125,7 @@ ground_taken s free l number a ground e none other =
         rooms = rooms_without number l.areas ground.table.rooms;
         first = ap is_some (find_without_other number 1 l.areas other) ∙ ground.table.first;
       };
-      land = λ x. rw (held_without number l.areas a x e none) (ground.land x);
+      area_table = λ x. rw (held_without number l.areas a x e none) (ground.area_table x);
       pages = omega arith;
       ranges = ground.ranges;
       sound = ground.sound;
@@ -145,7 +145,7 @@ find_paged_other number pages other (g ∷ others) differ =
     ]
 
 -- what holds after an area was emptied and taken out
-pub areas_removed : (s t : Store) (now : ℕ) (l : Land) (number : ℕ) (a : Area) → find_area number l.areas ≡ Some a → number ≢ 1
+pub areas_removed : (s t : Store) (now : ℕ) (l : AreaTable) (number : ℕ) (a : Area) → find_area number l.areas ≡ Some a → number ≢ 1
     → IsGround t now (with_areas l (with_pages number (a.pages - a.pages) l.areas)) → t.heaps ≡ s.heaps
     → EndsWithArea (find_heap module_area_start s.heaps) (find_area 1 l.areas) → AreAreas t now (with_areas l (without_area number l.areas))
 areas_removed s t now l number a e other ground heaps ends =

@@ -9,7 +9,7 @@ use Rattle.profile.specs.declared.error.ErrorNumber.TheVariants.{AreaUnknown, Ar
 use Rattle.os_heap.proofs.RangeTests.{or_middle}
 use Rattle.os_heap.specs.Store.{Store}
 use Rattle.dynamic_areas.specs.declared.area.Area.{Area}
-use Rattle.dynamic_areas.specs.Areas.{Land, find_area, with_area, without_area, with_areas, with_number, pages_of, is_created, areas_after_renumber}
+use Rattle.dynamic_areas.specs.Areas.{AreaTable, find_area, with_area, without_area, with_areas, with_number, pages_of, is_created, areas_after_renumber}
 use Rattle.dynamic_areas.specs.Ground.{is_fixed, is_in_area, AreAreas}
 use Rattle.dynamic_areas.specs.Rooms.{IsAreaTable}
 use Rattle.dynamic_areas.proofs.PutLemmas.{pages_with, pages_without}
@@ -37,7 +37,7 @@ held_take number (g ∷ others) a x e =
           rw other (or_middle (is_in_area x a) (is_in_area x g) (list_any (is_in_area x) (without_area number others)) ∙ ap (λ (t : Bool). is_in_area x g || t) rest)
     ]
 
-moved : (l : Land) (areas : List Area) (old new : ℕ) (a : Area) → find_area old l.areas ≡ Some a
+moved : (l : AreaTable) (areas : List Area) (old new : ℕ) (a : Area) → find_area old l.areas ≡ Some a
     → areas ≡ with_area (with_number new a) (without_area old l.areas) → old ≢ 1 → new ≢ 1 → IsAreaTable areas → (s : Store) (free : ℕ)
     → AreAreas s free l → AreAreas s free (with_areas l areas)
 moved l areas old new a e is old_other new_other table s free before =
@@ -49,10 +49,10 @@ moved l areas old new a e is old_other new_other table s free before =
       ground = record {
         sizes = before.ground.sizes;
         table = table;
-        land = λ x.
+        area_table = λ x.
             let same : list_any (is_in_area x) areas ≡ list_any (is_in_area x) l.areas =
             ap (λ (xs : List Area). list_any (is_in_area x) xs) is ∙ held_put (with_number new a) (without_area old l.areas) x ∙ held_take old l.areas a x e in
-            before.ground.land x ∙ ap (λ (t : Bool). is_fixed l.sizes x || t) (sym same);
+            before.ground.area_table x ∙ ap (λ (t : Bool). is_fixed l.sizes x || t) (sym same);
         pages = rw count before.ground.pages;
         ranges = before.ground.ranges;
         sound = before.ground.sound;
@@ -80,24 +80,24 @@ tested areas old new found =
     if is_some (find_area new areas) then Err AreaTaken else
     Ok (with_area (with_number new a) (without_area old areas))))
 
-same_land : (l : Land) (areas : List Area) (s : Store) (free : ℕ) → areas ≡ l.areas → AreAreas s free l → AreAreas s free (with_areas l areas)
-same_land l areas s free same before = subst (λ (xs : List Area). AreAreas s free (with_areas l xs)) (sym same) before
+same_area_table : (l : AreaTable) (areas : List Area) (s : Store) (free : ℕ) → areas ≡ l.areas → AreAreas s free l → AreAreas s free (with_areas l areas)
+same_area_table l areas s free same before = subst (λ (xs : List Area). AreAreas s free (with_areas l xs)) (sym same) before
 
-kept : (l : Land) (areas : List Area) (old new : ℕ) (found : Option Area) (r : Result (Unit {0}) ErrorNumber) → find_area old l.areas ≡ found
+kept : (l : AreaTable) (areas : List Area) (old new : ℕ) (found : Option Area) (r : Result (Unit {0}) ErrorNumber) → find_area old l.areas ≡ found
     → Leaves l.areas (tested l.areas old new found) r areas → IsAreaTable areas → (s : Store) (free : ℕ)
     → AreAreas s free l → AreAreas s free (with_areas l areas)
 unfolding tested
-kept l areas old new None r e leaves table s free before = same_land l areas s free (err_leaves l.areas areas AreaUnknown r leaves) before
+kept l areas old new None r e leaves table s free before = same_area_table l areas s free (err_leaves l.areas areas AreaUnknown r leaves) before
 kept l areas old new (Some a) r e leaves table s free before =
     elim (cases_Bool (old == 1 || not (is_created new))) [
-      | inl bad ↦ same_land l areas s free (err_leaves l.areas areas AreaBad r (rw bad at leaves)) before
+      | inl bad ↦ same_area_table l areas s free (err_leaves l.areas areas AreaBad r (rw bad at leaves)) before
       | inr good ↦
           let leaves' = rw good at leaves in
           let parts = or_parts (old == 1) (not (is_created new)) good in
           let created : is_created new ≡ true = not_false (is_created new) parts.1 in
           let low : 256 ≤ new = leb-true 256 new (and_parts (leb 256 new) (leb new 0x7FFFFFFF) created).0 in
           elim (cases_Bool (is_some (find_area new l.areas))) [
-            | inl taken ↦ same_land l areas s free (err_leaves l.areas areas AreaTaken r (rw taken at leaves')) before
+            | inl taken ↦ same_area_table l areas s free (err_leaves l.areas areas AreaTaken r (rw taken at leaves')) before
             | inr new_one ↦ moved l areas old new a e (ok_leaves l.areas areas (with_area (with_number new a) (without_area old l.areas)) r (rw new_one at leaves'))
                 (λ is. false≢true (sym parts.0 ∙ eq-eqb old 1 is)) (λ is. absurd (omega arith)) table s free before
           ]
@@ -106,11 +106,11 @@ kept l areas old new (Some a) r e leaves table s free before =
       not_false true h = refl
       not_false false h = sym h
 
-pub areas_renumbered : (l m : Land) (old new : ℕ) (r : Result (Unit {0}) ErrorNumber) → Leaves l.areas (areas_after_renumber l.areas old new) r m.areas
+pub areas_renumbered : (l m : AreaTable) (old new : ℕ) (r : Result (Unit {0}) ErrorNumber) → Leaves l.areas (areas_after_renumber l.areas old new) r m.areas
     → m.sizes ≡ l.sizes → IsAreaTable m.areas → (s : Store) (free : ℕ) → AreAreas s free l → AreAreas s free m
 unfolding areas_after_renumber tested
 areas_renumbered l m old new r leaves sizes table s free before =
     let is : with_areas l m.areas ≡ m = λ i. record { sizes = sizes_back i; areas = m.areas } in
-    subst (λ (k : Land). AreAreas s free k) is (kept l m.areas old new (find_area old l.areas) r refl leaves table s free before) where
+    subst (λ (k : AreaTable). AreAreas s free k) is (kept l m.areas old new (find_area old l.areas) r refl leaves table s free before) where
       sizes_back : l.sizes ≡ m.sizes
       sizes_back = sym sizes

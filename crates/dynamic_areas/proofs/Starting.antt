@@ -21,8 +21,8 @@ use Rattle.os_heap.proofs.Limits.{records_room}
 use Rattle.os_heap.proofs.Frame.{classes_same}
 use Rattle.os_heap.proofs.RangeTests.{range_low}
 use Rattle.os_heap.proofs.Recorded.{store_recorded, recorded_sound}
-use Rattle.dynamic_areas.specs.Areas.{start_land}
-use Rattle.dynamic_areas.specs.Ground.{AreAreas, is_fixed, is_land, system_pages_range}
+use Rattle.dynamic_areas.specs.Areas.{start_area_table}
+use Rattle.dynamic_areas.specs.Ground.{AreAreas, is_fixed, is_area_table, system_pages_range}
 use Rattle.dynamic_areas.proofs.GroundLemmas.{or_true}
 use Rattle.dynamic_areas.proofs.ModuleArea.{region_known}
 use Rattle.dynamic_areas.specs.Start.{bare_store, start_store}
@@ -38,7 +38,7 @@ no_others m none = rw none refl
 plain_among : (m : AddressMap) (at len : ℕ) → ((x : ℕ) → class_of m x ≡ class.Plain) → anchor_among (anchor_of m) at len ≡ false
 plain_among m at len plain = among_none (anchor_of m) at len (λ a low high. ap is_anchor (plain a))
 
-pub may_begin_area : (m : AddressMap) (s : Sizes) → AreGood s → regions m ≡ [] → ((x : ℕ) → is_mapped m x ≡ is_land (start_land s) x)
+pub may_begin_area : (m : AddressMap) (s : Sizes) → AreGood s → regions m ≡ [] → ((x : ℕ) → is_mapped m x ≡ is_area_table (start_area_table s) x)
     → ((x : ℕ) → class_of m x ≡ class.Plain) → MayBegin Rma (store_of m) module_area_start (4096 * s.rma)
 unfolding store_of
 may_begin_area m s good none mapped plain =
@@ -55,10 +55,10 @@ may_begin_area m s good none mapped plain =
 abbrev start_heap : Sizes → HeapList
 start_heap s = record { kind = Rma; start = module_area_start; end = 4096 * s.rma; items = [] }
 
-pub start_areas : (m n o : AddressMap) (s : Sizes) → AreGood s → regions m ≡ [] → ((x : ℕ) → is_mapped m x ≡ is_land (start_land s) x)
+pub start_areas : (m n o : AddressMap) (s : Sizes) → AreGood s → regions m ≡ [] → ((x : ℕ) → is_mapped m x ≡ is_area_table (start_area_table s) x)
     → free_pages m + (s.app + s.rma + 3) ≡ s.pages → store_of n ≡ store_with_new_heap Rma (store_of m) module_area_start (4096 * s.rma) → IsSound (store_of n)
     → mapping n ≡ mapping m → regions o ≡ regions n ++ system_pages_range ∷ [] → mapping o ≡ mapping n → byte_at o ≡ byte_at n
-    → ((x : ℕ) → class_of o x ≡ class_of n x) → AreAreas (store_of o) (free_pages o) (start_land s)
+    → ((x : ℕ) → class_of o x ≡ class_of n x) → AreAreas (store_of o) (free_pages o) (start_area_table s)
 unfolding store_of
 start_areas m n o s good none mapped pool begun sound map_n records map_o bytes marks =
     let some : 1 ≤ s.rma = good.has_rma in
@@ -72,7 +72,7 @@ start_areas m n o s good none mapped pool begun sound map_n records map_o bytes 
     let apart : AreClear system_start 0x3000 module_area_start (4096 * s.rma) = λ x inside.
     let low : system_start ≤ x = range_low system_start 0x3000 x inside in
     rw (le-ltb x (module_area_start + 4096 * s.rma) (omega arith)) (and_right (leb module_area_start x) false refl) in
-    let there : (x : ℕ) → is_mapped n x ≡ is_land (start_land s) x = λ x. ap (λ (q : Mapping). is_some (q.place x)) map_n ∙ mapped x in
+    let there : (x : ℕ) → is_mapped n x ≡ is_area_table (start_area_table s) x = λ x. ap (λ (q : Mapping). is_some (q.place x)) map_n ∙ mapped x in
     let free_n : free_pages n ≡ free_pages m = ap (λ (q : Mapping). q.free_pages) map_n in
     let free_o : free_pages o ≡ free_pages n = ap (λ (q : Mapping). q.free_pages) map_o in
     let kept = recorded_sound (store_of n) system_pages_range sound (rw heaps (apart, tt)) (rw others tt) (rw others (omega arith)) in
@@ -83,7 +83,7 @@ start_areas m n o s good none mapped pool begun sound map_n records map_o bytes 
           rooms = (record { page = refl; whole = refl; within = omega arith; place = refl; named = refl }, (tt, tt));
           first = refl;
         };
-        land = there;
+        area_table = there;
         pages = omega arith;
         ranges = rw others (
           (λ x low high. there x ∙ rw (range_inside system_start 0x3000 x low high, or_true (in_range application_start (4096 * s.app) x)) refl),
@@ -110,7 +110,7 @@ start_classes n o classes records map_o bytes marks =
     classes_same n o (ap (λ (t : Store). t.heaps) store) marks classes
 
 -- the memory of a machine before anything is recorded
-bare : (m : AddressMap) (s : Sizes) → ((a : ℕ) → is_mapped m a ≡ is_land (start_land s) a) → ((a : ℕ) → byte_at m a ≡ 0) → regions m ≡ []
+bare : (m : AddressMap) (s : Sizes) → ((a : ℕ) → is_mapped m a ≡ is_area_table (start_area_table s) a) → ((a : ℕ) → byte_at m a ≡ 0) → regions m ≡ []
     → ((a : ℕ) → class_of m a ≡ class.Plain) → store_of m ≡ record (bare_store s) { others = [] }
 unfolding store_of
 bare m s mapped bytes none plain =
@@ -124,7 +124,7 @@ bare m s mapped bytes none plain =
     }
 
 -- and after it made the module area a heap, and recorded the system pages
-pub started : (m n o : AddressMap) (s : Sizes) → ((a : ℕ) → is_mapped m a ≡ is_land (start_land s) a) → ((a : ℕ) → byte_at m a ≡ 0) → regions m ≡ []
+pub started : (m n o : AddressMap) (s : Sizes) → ((a : ℕ) → is_mapped m a ≡ is_area_table (start_area_table s) a) → ((a : ℕ) → byte_at m a ≡ 0) → regions m ≡ []
     → ((a : ℕ) → class_of m a ≡ class.Plain) → store_of n ≡ store_with_new_heap Rma (store_of m) module_area_start (4096 * s.rma) → regions o ≡ regions n ++ system_pages_range ∷ [] → mapping o ≡ mapping n
     → byte_at o ≡ byte_at n → ((a : ℕ) → class_of o a ≡ class_of n a) → store_of o ≡ start_store s
 unfolding store_of

@@ -9,18 +9,18 @@ use Rattle.os_heap.proofs.RangeTests.{range_high, range_low}
 use Rattle.os_heap.specs.lists.Heap.{HeapList}
 use Rattle.os_heap.specs.Store.{Store, find_heap}
 use Rattle.dynamic_areas.specs.declared.area.Area.{Area}
-use Rattle.dynamic_areas.specs.Areas.{Land, find_area}
+use Rattle.dynamic_areas.specs.Areas.{AreaTable, find_area}
 use Rattle.dynamic_areas.specs.Changing.{change_answer, store_after_end, is_growth, store_changed, store_extended, store_reduced, with_heap_end}
 use Rattle.dynamic_areas.specs.Ground.{AreAreas}
 use Rattle.dynamic_areas.specs.Remapped.{with_pages_at}
 use Rattle.dynamic_areas.specs.Rooms.{IsAreaRoom}
 use Rattle.dynamic_areas.proofs.GroundLemmas.{or_true}
 use Rattle.dynamic_areas.proofs.HeapCalls.{system_mapped}
-use Rattle.dynamic_areas.proofs.LandLemmas.{fixed_outside}
+use Rattle.dynamic_areas.proofs.AreaTableLemmas.{fixed_outside}
 use Rattle.dynamic_areas.proofs.RoomLemmas.{found_room}
 
 -- no page of an area is a system page
-outside : (s : Store) (free : ℕ) (l : Land) (number : ℕ) (a : Area) (count x : ℕ) → AreAreas s free l → find_area number l.areas ≡ Some a
+outside : (s : Store) (free : ℕ) (l : AreaTable) (number : ℕ) (a : Area) (count x : ℕ) → AreAreas s free l → find_area number l.areas ≡ Some a
     → count ≤ a.pages → in_range system_start 0x3000 x ≡ true → in_range (a.base + 4096 * (a.pages - count)) (4096 * count) x ≡ false
 outside s free l number a count x areas e fits system = false_from_ne_true _ (λ there.
     let room : IsAreaRoom a = found_room number l.areas a areas.ground.table.rooms e in
@@ -57,7 +57,7 @@ less_mapped s number count a x there out =
       | inr other ↦ rw (other, there, out) refl
     ]
 
-changed_mapped : (s : Store) (free : ℕ) (l : Land) (number amount bytes : ℕ) (a : Area) (x : ℕ) → AreAreas s free l → find_area number l.areas ≡ Some a
+changed_mapped : (s : Store) (free : ℕ) (l : AreaTable) (number amount bytes : ℕ) (a : Area) (x : ℕ) → AreAreas s free l → find_area number l.areas ≡ Some a
     → in_range system_start 0x3000 x ≡ true → (is_growth amount ≡ false → bytes / 4096 ≤ a.pages)
     → (store_changed s l.areas number amount bytes).bytes.mapped x ≡ true
 changed_mapped s free l number amount bytes a x areas e system fits =
@@ -68,12 +68,12 @@ changed_mapped s free l number amount bytes a x areas e system fits =
           (outside s free l number a (bytes / 4096) x areas e (fits shrinks) system))
     ]
 
-change_fits : (s : Store) (free : ℕ) (l : Land) (number amount : ℕ) (a : Area) → find_area number l.areas ≡ Some a → is_growth amount ≡ false
+change_fits : (s : Store) (free : ℕ) (l : AreaTable) (number amount : ℕ) (a : Area) → find_area number l.areas ≡ Some a → is_growth amount ≡ false
     → (change_answer l.areas s free number amount).bytes / 4096 ≤ a.pages
 unfolding change_answer
 change_fits s free l number amount a e shrinks = rw (e, shrinks) (omega arith)
 
-pub change_keeps_system : (s : Store) (free : ℕ) (l : Land) (number amount : ℕ) (a : Area) (x : ℕ) → AreAreas s free l → find_area number l.areas ≡ Some a
+pub change_keeps_system : (s : Store) (free : ℕ) (l : AreaTable) (number amount : ℕ) (a : Area) (x : ℕ) → AreAreas s free l → find_area number l.areas ≡ Some a
     → in_range system_start 0x3000 x ≡ true
     → (store_changed s l.areas number amount (change_answer l.areas s free number amount).bytes).bytes.mapped x ≡ true
 change_keeps_system s free l number amount a x areas e system =

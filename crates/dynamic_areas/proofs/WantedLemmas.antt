@@ -9,7 +9,7 @@ use Rattle.profile.specs.Sizes.{Sizes}
 use Rattle.profile.specs.declared.error.ErrorNumber.TheVariants.{AreaTaken, AreaTableFull, AreaNoPages}
 use Rattle.dynamic_areas.specs.declared.area.Area.{Area}
 use Rattle.dynamic_areas.specs.declared.area.Wanted.{Wanted}
-use Rattle.dynamic_areas.specs.Areas.{Land, minus_one, find_area, area_with_pages, is_created}
+use Rattle.dynamic_areas.specs.Areas.{AreaTable, minus_one, find_area, area_with_pages, is_created}
 use Rattle.dynamic_areas.specs.Creating.{pages_for, least_number, lowest_from, lowest_gap, gap_count, wanted_maximum, wanted_number, wanted_base, are_good_sizes, is_good_number, is_good_base, is_good, new_area, area_wanted}
 use Rattle.dynamic_areas.specs.Laws.{IsGap}
 use Rattle.dynamic_areas.specs.Rooms.{IsAreaRoom, AreRooms, can_name_area, is_in_window, meets_area}
@@ -81,7 +81,7 @@ whole_pages sizes word =
       multiple : (n : ℕ) → (4096 * n) % 4096 ≡ 0
       multiple n = omega arith
 
-pub record IsWanted (l : Land) (free : ℕ) (w : Wanted) (a : Area) : Type 0 where
+pub record IsWanted (l : AreaTable) (free : ℕ) (w : Wanted) (a : Area) : Type 0 where
   pub room : IsAreaRoom (area_with_pages 0 a)
   pub other : a.number ≢ 1
   pub new : find_area a.number l.areas ≡ None
@@ -92,7 +92,7 @@ pub record IsWanted (l : Land) (free : ℕ) (w : Wanted) (a : Area) : Type 0 whe
   pub pages : a.pages ≡ pages_for w.size
 
 -- what is left of the tests once a base is found
-made : (l : Land) (free : ℕ) (w : Wanted) (name : List ℕ) (number maximum base : ℕ) (a : Area) → AreRooms l.areas → is_good maximum w name ≡ true
+made : (l : AreaTable) (free : ℕ) (w : Wanted) (name : List ℕ) (number maximum base : ℕ) (a : Area) → AreRooms l.areas → is_good maximum w name ≡ true
     → maximum % 4096 ≡ 0 → find_area number l.areas ≡ None → number ≡ wanted_number l.areas w.number → wanted_base l.areas w.base maximum ≡ Some base
     → length l.areas < 32 → pages_for w.size ≤ free → new_area number base maximum w name ≡ a → IsWanted l free w a
 made l free w name number maximum base a rooms good whole new is_number e few pool same =
@@ -119,7 +119,7 @@ made l free w name number maximum base a rooms good whole new is_number e few po
     })
 
 -- the tests that follow the base
-after_base : (l : Land) (free : ℕ) (w : Wanted) (name : List ℕ) (number maximum : ℕ) (found : Option ℕ) (a : Area)
+after_base : (l : AreaTable) (free : ℕ) (w : Wanted) (name : List ℕ) (number maximum : ℕ) (found : Option ℕ) (a : Area)
     → bind (ok_or found AreaTaken) (λ base.
     if leb 32 (length l.areas) then Err AreaTableFull else (
     if ltb free (pages_for w.size) then Err AreaNoPages else
@@ -140,7 +140,7 @@ after_base l free w name number maximum (Some base) a e =
           ]
     ]
 
-pub wanted_area : (l : Land) (free : ℕ) (w : Wanted) (name : List ℕ) (a : Area) → AreRooms l.areas → area_wanted l free w name ≡ Ok a → IsWanted l free w a
+pub wanted_area : (l : AreaTable) (free : ℕ) (w : Wanted) (name : List ℕ) (a : Area) → AreRooms l.areas → area_wanted l free w name ≡ Ok a → IsWanted l free w a
 unfolding area_wanted
 wanted_area l free w name a rooms e =
     elim (cases_Bool (is_good (wanted_maximum l.sizes w.maximum) w name)) [

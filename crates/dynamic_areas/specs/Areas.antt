@@ -10,8 +10,8 @@ use Rattle.profile.specs.declared.error.ErrorNumber.TheVariants.{AreaUnknown, Ar
 use Rattle.dynamic_areas.specs.declared.area.Area.{Area}
 use Rattle.dynamic_areas.specs.declared.area.Extent.{Extent}
 
--- The land: the sizes of the machine, and its areas in the order of their numbers.
-pub record Land : Type 0 where
+-- The area table: the sizes of the machine, and its areas in the order of their numbers.
+pub record AreaTable : Type 0 where
   pub sizes : Sizes
   pub areas : List Area
 
@@ -32,8 +32,8 @@ module_area pages = record {
 }
 
 -- the start: the module area alone
-abbrev pub start_land : Sizes → Land
-start_land sizes = record { sizes = sizes; areas = module_area sizes.rma ∷ [] }
+abbrev pub start_area_table : Sizes → AreaTable
+start_area_table sizes = record { sizes = sizes; areas = module_area sizes.rma ∷ [] }
 
 -- the area of a number
 abbrev pub find_area : ℕ → List Area → Option Area
@@ -71,7 +71,7 @@ abbrev pub without_area : ℕ → List Area → List Area
 without_area number [] = []
 without_area number (a ∷ others) = if a.number == number then others else a ∷ without_area number others
 
-abbrev pub with_areas : Land → List Area → Land
+abbrev pub with_areas : AreaTable → List Area → AreaTable
 with_areas l areas = record { sizes = l.sizes; areas = areas }
 
 -- all pages of the areas

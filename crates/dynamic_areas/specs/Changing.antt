@@ -15,7 +15,7 @@ use Rattle.os_heap.specs.Calls.{ending}
 use Rattle.os_heap.specs.Ranges.{meets_any}
 use Rattle.dynamic_areas.specs.declared.area.Area.{Area}
 use Rattle.dynamic_areas.specs.declared.area.Changed.{Changed}
-use Rattle.dynamic_areas.specs.Areas.{Land, area_in, find_area, with_areas, with_pages, without_area}
+use Rattle.dynamic_areas.specs.Areas.{AreaTable, area_in, find_area, with_areas, with_pages, without_area}
 use Rattle.dynamic_areas.specs.Creating.{pages_for}
 use Rattle.dynamic_areas.specs.Remapped.{with_pages_at, without_pages_at}
 
@@ -43,7 +43,7 @@ abbrev pub held_from : (ℕ → Bool) → ℕ → ℕ → ℕ
 held_from stays base zero = zero
 held_from stays base (suc n) = if stays (base + 4096 * n) then suc n else held_from stays base n
 
--- as many of the pages asked for as can move; where these are fewer, the error tells why
+-- as many of the pages asked for as can move; where these are fewer, the error shows why
 abbrev pub moving : ℕ → ℕ → ErrorNumber → Changed
 moving asked room error = record {
   bytes = 4096 * min asked room;
@@ -67,18 +67,18 @@ change_of s free amount (Some a) =
 unfoldable pub change_answer : List Area → Store → ℕ → ℕ → ℕ → Changed
 change_answer areas s free number amount = change_of s free amount (find_area number areas)
 
--- the land, and the store, after an area got `count` pages more after those that it had, or lost as
+-- the area table, and the store, after an area got `count` pages more after those that it had, or lost as
 -- many at its top
 abbrev pub pages_had : Option Area → ℕ
 pages_had None = 0
 pages_had (Some a) = a.pages
 
-abbrev pub land_more : Land → ℕ → ℕ → Land
-land_more l number count = with_areas l (with_pages number
+abbrev pub area_table_more : AreaTable → ℕ → ℕ → AreaTable
+area_table_more l number count = with_areas l (with_pages number
     (pages_had (find_area number l.areas) + count) l.areas)
 
-abbrev pub land_less : Land → ℕ → ℕ → Land
-land_less l number count = with_areas l (with_pages number
+abbrev pub area_table_less : AreaTable → ℕ → ℕ → AreaTable
+area_table_less l number count = with_areas l (with_pages number
     (pages_had (find_area number l.areas) - count) l.areas)
 
 abbrev pub store_more : Store → ℕ → Option Area → Store
@@ -107,8 +107,8 @@ abbrev pub store_emptied : Store → Option Area → Store
 store_emptied s None = s
 store_emptied s (Some a) = without_pages_at s a.base (4096 * a.pages)
 
-unfoldable pub land_after_remove : Land → Store → ℕ → Result Land ErrorNumber
-land_after_remove l s number =
+unfoldable pub area_table_after_remove : AreaTable → Store → ℕ → Result AreaTable ErrorNumber
+area_table_after_remove l s number =
     bind (area_in l.areas number) (λ a.
     if number == 1 || nat_lt (loose_pages s a) a.pages then Err AreaInUse else
     Ok (with_areas l (without_area number l.areas)))
@@ -133,10 +133,11 @@ store_reduced s number count found =
     if number == 1 then store_less (with_heap_end s (4096 * (pages_had found - count))) count found
     else store_less s count found
 
--- land and store after a change of so many bytes
-abbrev pub land_changed : Land → ℕ → ℕ → ℕ → Land
-land_changed l number amount bytes =
-    if is_growth amount then land_more l number (bytes / 4096) else land_less l number (bytes / 4096)
+-- area table and store after a change of so many bytes
+abbrev pub area_table_changed : AreaTable → ℕ → ℕ → ℕ → AreaTable
+area_table_changed l number amount bytes =
+    if is_growth amount then area_table_more l number (bytes / 4096) else area_table_less l number
+    (bytes / 4096)
 
 abbrev pub store_changed : Store → List Area → ℕ → ℕ → ℕ → Store
 store_changed s areas number amount bytes =

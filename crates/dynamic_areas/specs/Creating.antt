@@ -10,7 +10,7 @@ use Rattle.profile.specs.declared.error.ErrorNumber.TheVariants.{AreaBad, AreaTa
 use Rattle.dynamic_areas.specs.declared.area.Area.{Area}
 use Rattle.dynamic_areas.specs.declared.area.Wanted.{Wanted}
 use Rattle.dynamic_areas.specs.declared.area.Created.{Created}
-use Rattle.dynamic_areas.specs.Areas.{Land, minus_one, find_area, with_area, with_areas, is_created}
+use Rattle.dynamic_areas.specs.Areas.{AreaTable, minus_one, find_area, with_area, with_areas, is_created}
 use Rattle.dynamic_areas.specs.Rooms.{can_name_area, is_in_window, meets_area}
 
 -- bytes rounded up to pages
@@ -80,7 +80,7 @@ new_area number base maximum w name = record {
 }
 
 -- the area that the words ask for, where it is allowed; `free` is the pool
-unfoldable pub area_wanted : Land → ℕ → Wanted → List ℕ → Result Area ErrorNumber
+unfoldable pub area_wanted : AreaTable → ℕ → Wanted → List ℕ → Result Area ErrorNumber
 area_wanted l free w name =
     let maximum : ℕ = wanted_maximum l.sizes w.maximum in
     let number : ℕ = wanted_number l.areas w.number in
@@ -94,6 +94,7 @@ area_wanted l free w name =
 abbrev pub created_of : Area → Created
 created_of a = record { number = a.number; base = a.base; maximum = a.maximum }
 
-unfoldable pub land_after_create : Land → ℕ → Wanted → List ℕ → Result (Land × Created) ErrorNumber
-land_after_create l free w name =
+unfoldable pub area_table_after_create : AreaTable → ℕ → Wanted → List ℕ → Result (AreaTable × Created)
+    ErrorNumber
+area_table_after_create l free w name =
     bind (area_wanted l free w name) (λ a. Ok (with_areas l (with_area a l.areas), created_of a))

@@ -13,7 +13,7 @@ use Rattle.address_map.specs.Bytes.{in_range, AreMapped}
 use Rattle.os_heap.specs.lists.Heap.{HeapList}
 use Rattle.os_heap.specs.Store.{Store, IsSound, find_heap, store_of}
 use Rattle.dynamic_areas.specs.declared.area.Area.{Area}
-use Rattle.dynamic_areas.specs.Areas.{Land, find_area, pages_of}
+use Rattle.dynamic_areas.specs.Areas.{AreaTable, find_area, pages_of}
 use Rattle.dynamic_areas.specs.Rooms.{IsAreaTable}
 
 -- the application space and the system pages
@@ -32,24 +32,24 @@ IsRecorded r (q ∷ rs) = (q ≡ r) ⊎ IsRecorded r rs
 abbrev pub is_in_area : ℕ → Area → Bool
 is_in_area x a = in_range a.base (4096 * a.pages) x
 
-abbrev pub is_land : Land → ℕ → Bool
-is_land l x = is_fixed l.sizes x || list_any (is_in_area x) l.areas
+abbrev pub is_area_table : AreaTable → ℕ → Bool
+is_area_table l x = is_fixed l.sizes x || list_any (is_in_area x) l.areas
 
 abbrev pub AreRangesMapped : (ℕ → Bool) → List Region → Type 0
 AreRangesMapped mapped [] = Unit {0}
 AreRangesMapped mapped (r ∷ rs) = AreMapped mapped r.at r.len × AreRangesMapped mapped rs
 
 -- a store that is sound, with `free` pages in the pool, on which the areas stand
-pub record IsGround (s : Store) (free : ℕ) (l : Land) : Type 0 where
+pub record IsGround (s : Store) (free : ℕ) (l : AreaTable) : Type 0 where
   pub sizes : AreGood l.sizes
   pub table : IsAreaTable l.areas
-  pub land : (x : ℕ) → s.bytes.mapped x ≡ is_land l x
+  pub area_table : (x : ℕ) → s.bytes.mapped x ≡ is_area_table l x
   pub pages : pages_of l.areas + (l.sizes.app + 3) + free ≡ l.sizes.pages
   pub ranges : AreRangesMapped s.bytes.mapped s.others
   pub sound : IsSound s
 
 -- the pages that are neither an area's nor fixed
-abbrev pub pool_of : Land → ℕ
+abbrev pub pool_of : AreaTable → ℕ
 pool_of l = l.sizes.pages - (pages_of l.areas + (l.sizes.app + 3))
 
 -- the module area's heap is no guest's, and ends where the module area does
@@ -59,19 +59,19 @@ EndsWithArea (Some h) None = ⊥
 EndsWithArea None area = ⊥
 
 -- What holds between all calls.
-pub record AreAreas (s : Store) (free : ℕ) (l : Land) : Type 0 where
+pub record AreAreas (s : Store) (free : ℕ) (l : AreaTable) : Type 0 where
   pub ground : IsGround s free l
   pub heap : EndsWithArea (find_heap module_area_start s.heaps) (find_area 1 l.areas)
 
 -- All that calls on memory act on: the store, how many pages are in the pool, and the areas.
-pub record Estate : Type 0 where
+pub record AreaStore : Type 0 where
   pub store : Store
   pub pool : ℕ
-  pub land : Land
+  pub area_table : AreaTable
 
-abbrev pub IsEstate : Estate → Type 0
-IsEstate e = AreAreas e.store e.pool e.land
+abbrev pub IsAreaStore : AreaStore → Type 0
+IsAreaStore e = AreAreas e.store e.pool e.area_table
 
--- the estate that a map stands for, together with its areas
-abbrev pub estate_of : AddressMap → Land → Estate
-estate_of m l = record { store = store_of m; pool = free_pages m; land = l }
+-- the area store that a map stands for, together with its areas
+abbrev pub area_store_of : AddressMap → AreaTable → AreaStore
+area_store_of m l = record { store = store_of m; pool = free_pages m; area_table = l }

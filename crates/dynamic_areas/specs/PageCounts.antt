@@ -1,12 +1,12 @@
--- The areas of a machine tell how many pages its memory has (this project's own).
+-- The areas of a machine say how many pages its memory has (this project's own).
 use Rattle.std.specs.Prelude.{◌≡◌}
 use Rattle.address_map.specs.declared.map.AddressMap.{AddressMap}
 use Rattle.address_map.specs.Memory.{free_pages, page_total}
-use Rattle.dynamic_areas.specs.Areas.{Land}
+use Rattle.dynamic_areas.specs.Areas.{AreaTable}
 use Rattle.dynamic_areas.specs.Ground.{AreAreas}
 use Rattle.os_heap.specs.Store.{store_of}
 
 -- where areas stand on a memory, it has as many pages as the machine that they are of
 abbrev pub AreasCountPages : Type 0
-AreasCountPages = (m : AddressMap) (l : Land) → AreAreas (store_of m) (free_pages m) l →
+AreasCountPages = (m : AddressMap) (l : AreaTable) → AreAreas (store_of m) (free_pages m) l →
     page_total m ≡ l.sizes.pages

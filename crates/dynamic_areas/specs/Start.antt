@@ -5,15 +5,15 @@ use Rattle.profile.specs.Sizes.{Sizes}
 use Rattle.address_map.specs.declared.region.Kind.TheVariants.{Rma}
 use Rattle.os_heap.specs.Calls.{store_with_new_heap}
 use Rattle.os_heap.specs.Store.{Store}
-use Rattle.dynamic_areas.specs.Areas.{start_land}
-use Rattle.dynamic_areas.specs.Ground.{is_land, system_pages_range}
+use Rattle.dynamic_areas.specs.Areas.{start_area_table}
+use Rattle.dynamic_areas.specs.Ground.{is_area_table, system_pages_range}
 
 -- The start. Mapped are the application space, the first pages of the module area and the three
 -- system pages, which are recorded; each mapped byte is 0 but for the module area's descriptor,
 -- since the machine makes an empty heap there. All other pages are in the pool.
 abbrev pub bare_store : Sizes → Store
 bare_store s = record {
-  bytes = record { mapped = is_land (start_land s); at = λ _. 0 };
+  bytes = record { mapped = is_area_table (start_area_table s); at = λ _. 0 };
   heaps = [];
   others = system_pages_range ∷ [];
   anchor = λ _. false;

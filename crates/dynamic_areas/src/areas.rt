@@ -4,7 +4,7 @@ ghost use Rattle.std.specs.Prelude.{ℕ, ◌≡◌, ◌≤◌, ◌<◌, length, 
 ghost use Rattle.profile.specs.Outcome.{Leaves};
 ghost use Rattle.address_map.specs.Memory.{free_pages};
 ghost use Rattle.os_heap.specs.Store.{Store};
-ghost use Rattle.dynamic_areas.specs.Areas.{area_in, asked_number, extent_of, extent_asked, next_number, module_area, start_land, areas_after_renumber, with_area, with_areas, with_pages, without_area};
+ghost use Rattle.dynamic_areas.specs.Areas.{area_in, asked_number, extent_of, extent_asked, next_number, module_area, start_area_table, areas_after_renumber, with_area, with_areas, with_pages, without_area};
 ghost use Rattle.dynamic_areas.specs.Ground.{AreAreas};
 ghost use Rattle.dynamic_areas.specs.Rooms.{IsAreaTable};
 
@@ -27,9 +27,9 @@ pub struct Areas {
 }
 
 impl Model for Areas {
-    ghost use Rattle.dynamic_areas.specs.Areas.{Land};
+    ghost use Rattle.dynamic_areas.specs.Areas.{AreaTable};
 
-    ghost Value = { Land };
+    ghost Value = { AreaTable };
 
     ghost view = { λ a. record { sizes = a.sizes; areas = a.list.items } };
 }
@@ -37,7 +37,7 @@ impl Model for Areas {
 impl Areas {
     /// The areas of a machine at its start: the module area, with the pages that the sizes give it.
     pub fn new(sizes: Config) -> Areas
-        ensures land { result ≡ start_land sizes }
+        ensures area_table { result ≡ start_area_table sizes }
         ensures table { IsAreaTable result.areas }
     {
         let mut list = ArrayVec::new();
@@ -53,7 +53,7 @@ impl Areas {
         self.list.as_slice()
     }
 
-    /// The area of a number, as OS_DynamicArea, reason 2, tells it.
+    /// The area of a number, as OS_DynamicArea, reason 2, shows it.
     ///
     /// # Errors
     ///
@@ -68,7 +68,7 @@ impl Areas {
         find(self.list(), number).ok_or(ErrorNumber::AreaUnknown)
     }
 
-    /// Where an area lies, in bytes, as OS_ReadDynamicArea tells it: from 128 to 255 a number means
+    /// Where an area lies, in bytes, as OS_ReadDynamicArea shows it: from 128 to 255 a number means
     /// the area that is 128 less; from 128 on the answer has the maximum too.
     ///
     /// # Errors

@@ -6,7 +6,7 @@ ghost use Rattle.os_heap.specs.Order.{KeepsOrder};
 ghost use Rattle.os_heap.specs.Store.{store_of, AreClasses};
 ghost use Rattle.dynamic_areas.specs.declared.area.Area.{Area};
 ghost use Rattle.dynamic_areas.specs.Areas.{find_area};
-ghost use Rattle.dynamic_areas.specs.Changing.{change_answer, land_changed, land_more, land_less, loose_pages, store_changed, store_extended, store_more, store_less, store_reduced, AreLoose};
+ghost use Rattle.dynamic_areas.specs.Changing.{change_answer, area_table_changed, area_table_more, area_table_less, loose_pages, store_changed, store_extended, store_more, store_less, store_reduced, AreLoose};
 ghost use Rattle.dynamic_areas.specs.Ground.{AreAreas, IsGround};
 
 use crate::area::Changed;
@@ -33,7 +33,7 @@ impl Areas {
         requires classes { AreClasses map.old }
         ensures answer { result
             ≡ change_answer self.old.areas (store_of map.old) (free_pages map.old) number amount }
-        ensures land { self.new ≡ land_changed self.old number amount result.bytes }
+        ensures area_table { self.new ≡ area_table_changed self.old number amount result.bytes }
         ensures store { store_of map.new
             ≡ store_changed (store_of map.old) self.old.areas number amount result.bytes }
         ensures areas { AreAreas (store_of map.new) (free_pages map.new) self.new }
@@ -60,7 +60,7 @@ impl Areas {
             → 4096 * (a.pages + count) ≤ a.maximum }
         requires pool { (a : Area) → find_area number self.old.areas ≡ Some a → count ≤ free_pages map.old }
         requires classes { AreClasses map.old }
-        ensures land { self.new ≡ land_more self.old number count }
+        ensures area_table { self.new ≡ area_table_more self.old number count }
         ensures store { store_of map.new
             ≡ store_extended (store_of map.old) number count (find_area number self.old.areas) }
         ensures areas { AreAreas (store_of map.new) (free_pages map.new) self.new }
@@ -85,7 +85,7 @@ impl Areas {
         requires loose { (a : Area) → find_area number self.old.areas ≡ Some a
             → count ≤ loose_pages (store_of map.old) a }
         requires classes { AreClasses map.old }
-        ensures land { self.new ≡ land_less self.old number count }
+        ensures area_table { self.new ≡ area_table_less self.old number count }
         ensures store { store_of map.new
             ≡ store_reduced (store_of map.old) number count (find_area number self.old.areas) }
         ensures areas { AreAreas (store_of map.new) (free_pages map.new) self.new }
@@ -110,7 +110,7 @@ impl Areas {
             → 4096 * (a.pages + count) ≤ a.maximum }
         requires pool { count ≤ free_pages map.old }
         requires classes { AreClasses map.old }
-        ensures land { self.new ≡ land_more self.old number count }
+        ensures area_table { self.new ≡ area_table_more self.old number count }
         ensures store { store_of map.new
             ≡ store_more (store_of map.old) count (find_area number self.old.areas) }
         ensures ground { IsGround (store_of map.new) (free_pages map.new) self.new }
@@ -133,7 +133,7 @@ impl Areas {
         requires loose { (a : Area) → find_area number self.old.areas ≡ Some a
             → AreLoose (store_of map.old) a count }
         requires classes { AreClasses map.old }
-        ensures land { self.new ≡ land_less self.old number count }
+        ensures area_table { self.new ≡ area_table_less self.old number count }
         ensures store { store_of map.new
             ≡ store_less (store_of map.old) count (find_area number self.old.areas) }
         ensures ground { IsGround (store_of map.new) (free_pages map.new) self.new }

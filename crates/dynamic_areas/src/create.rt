@@ -4,7 +4,7 @@ ghost use Rattle.std.specs.Prelude.{◌≡◌, ◌≤◌, ◌*◌, length, Match
 ghost use Rattle.profile.specs.Outcome.{Gives};
 ghost use Rattle.address_map.specs.Memory.{free_pages, regions, StaysInPlace};
 ghost use Rattle.os_heap.specs.Store.{store_of, AreClasses};
-ghost use Rattle.dynamic_areas.specs.Creating.{are_good_sizes, area_wanted, land_after_create, is_good, is_good_base, is_good_number, pages_for, wanted_base, wanted_maximum, wanted_number};
+ghost use Rattle.dynamic_areas.specs.Creating.{are_good_sizes, area_wanted, area_table_after_create, is_good, is_good_base, is_good_number, pages_for, wanted_base, wanted_maximum, wanted_number};
 ghost use Rattle.dynamic_areas.specs.Ground.{AreAreas};
 ghost use Rattle.dynamic_areas.specs.Remapped.{with_pages_at};
 
@@ -41,8 +41,8 @@ impl Areas {
     ) -> Result<Created, ErrorNumber>
         requires areas { AreAreas (store_of map.old) (free_pages map.old) self.old }
         requires classes { AreClasses map.old }
-        ensures land { Gives self.old
-            (land_after_create self.old (free_pages map.old) wanted.now name.now) result self.new }
+        ensures area_table { Gives self.old
+            (area_table_after_create self.old (free_pages map.old) wanted.now name.now) result self.new }
         ensures store { MatchResult result
             (λ made. store_of map.new
             ≡ with_pages_at (store_of map.old) made.base (4096 * pages_for wanted.now.size))

@@ -5,7 +5,7 @@ ghost use Rattle.profile.specs.Outcome.{Leaves};
 ghost use Rattle.address_map.specs.Memory.{free_pages, regions, StaysInPlace};
 ghost use Rattle.os_heap.specs.Store.{store_of, AreClasses};
 ghost use Rattle.dynamic_areas.specs.Areas.{find_area};
-ghost use Rattle.dynamic_areas.specs.Changing.{land_after_remove, store_emptied};
+ghost use Rattle.dynamic_areas.specs.Changing.{area_table_after_remove, store_emptied};
 ghost use Rattle.dynamic_areas.specs.Ground.{AreAreas};
 
 use crate::areas::Areas;
@@ -26,7 +26,8 @@ impl Areas {
     pub fn remove(&mut self, map: &mut AddressMap, number: u32) -> Result<(), ErrorNumber>
         requires areas { AreAreas (store_of map.old) (free_pages map.old) self.old }
         requires classes { AreClasses map.old }
-        ensures land { Leaves self.old (land_after_remove self.old (store_of map.old) number) result
+        ensures area_table { Leaves self.old (area_table_after_remove self.old (store_of map.old) number)
+            result
             self.new }
         ensures store { MatchResult result
             (λ _. store_of map.new ≡ store_emptied (store_of map.old) (find_area number self.old.areas))

@@ -5,8 +5,8 @@ ghost use Rattle.profile.specs.Sizes.{AreGood};
 ghost use Rattle.address_map.specs.Memory.{byte_at, class_of, free_pages, is_mapped, regions};
 ghost use Rattle.address_map.specs.declared.class.Class.TheVariants.{Plain};
 ghost use Rattle.os_heap.specs.Store.{store_of, AreClasses};
-ghost use Rattle.dynamic_areas.specs.Areas.{start_land};
-ghost use Rattle.dynamic_areas.specs.Ground.{AreAreas, is_land};
+ghost use Rattle.dynamic_areas.specs.Areas.{start_area_table};
+ghost use Rattle.dynamic_areas.specs.Ground.{AreAreas, is_area_table};
 ghost use Rattle.dynamic_areas.specs.Start.{start_store};
 
 use address_map::{AddressMap, Kind};
@@ -19,7 +19,7 @@ use std::alloc::{AllocError, Global};
 /// without items, and the record of the system pages.
 pub fn start_memory(alloc: Global, config: Config) -> Result<AddressMap, AllocError>
     ensures store { IfOk result (λ m. store_of m ≡ start_store config) }
-    ensures areas { IfOk result (λ m. AreAreas (store_of m) (free_pages m) (start_land config)) }
+    ensures areas { IfOk result (λ m. AreAreas (store_of m) (free_pages m) (start_area_table config)) }
     ensures classes { IfOk result AreClasses }
 {
     let mut memory = bare_memory(alloc, config)?;
@@ -30,7 +30,7 @@ pub fn start_memory(alloc: Global, config: Config) -> Result<AddressMap, AllocEr
 
 /// The fixed ranges, without any record.
 fn bare_memory(alloc: Global, config: Config) -> Result<AddressMap, AllocError>
-    ensures mapping { IfOk result (λ m. (a : ℕ) → is_mapped m a ≡ is_land (start_land config) a) }
+    ensures mapping { IfOk result (λ m. (a : ℕ) → is_mapped m a ≡ is_area_table (start_area_table config) a) }
     ensures bytes { IfOk result (λ m. (a : ℕ) → byte_at m a ≡ 0) }
     ensures regions { IfOk result (λ m. regions m ≡ []) }
     ensures marks { IfOk result (λ m. (a : ℕ) → class_of m a ≡ Plain) }

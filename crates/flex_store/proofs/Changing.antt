@@ -1,4 +1,4 @@
--- The store after the blocks from a place on were laid out anew, as calls tell it.
+-- The store after the blocks from a place on were laid out anew, as calls show it.
 use Rattle.std.proofs.Common.{◌≡◌, ℕ, Bool, ◌+◌, ◌<◌, ◌≤◌, true, false, List, ◌++◌, length, Some, arith, refl, sym, ◌∙◌, ap, inl, inr, ◌⊎◌, subst}
 use Rattle.std.proofs.lemmas.Bool.{cases_lt, false_from_ne_true, or_cases, or_right, true≢false, false≢true}
 use Rattle.address_map.specs.Bytes.{with_bytes_at, word_start}

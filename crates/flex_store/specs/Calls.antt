@@ -138,7 +138,7 @@ flex_block_size t anchor =
     Ok b.size))
 
 -- Would a change of the contents at `c` take a byte of an anchor away, put bytes inside one, or
--- move one by other than whole words? `anchor` tells of each byte whether it is one of an anchor's.
+-- move one by other than whole words? `anchor` says of each byte whether it is one of an anchor's.
 abbrev pub breaks_anchor : (ℕ → Bool) → ℕ → ℕ → ℕ → ℕ → ℕ → Bool
 breaks_anchor anchor c size place cut more =
     anchor_among anchor (c + place - cut) cut

@@ -153,7 +153,7 @@ stand_ended g h end (k ∷ hs) own beside stand =
       | inr apart ↦ rw (ne_eqb k.start h.start apart.0) (stand.0, rest)
     ]
 
--- of a heap that lies in no other, only what it grows by tells
+-- of a heap that lies in no other, only what it grows by shows
 pub grown_alone : (at len new more : ℕ) (hs : List HeapList) → is_in_heap at hs ≡ false
     → list_any (is_in_way at len new more) hs ≡ list_any (λ h. shares_address new more h.start h.end) hs
 grown_alone at len new more [] alone = refl

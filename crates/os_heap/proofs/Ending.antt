@@ -1,4 +1,4 @@
--- A heap that gets another end: the word that tells it is written, and the length of its record changed.
+-- A heap that gets another end: the word that shows it is written, and the length of its record changed.
 use Rattle.std.proofs.Common.{◌≡◌, arith, ◌≤◌, ℕ, Bool, List, ◌∙◌, inr, ◌-◌, inl, ◌+◌, ap, refl, sym, ◌<◌, [], ◌∷◌, true, subst, ◌==◌, ◌||◌, false, Some}
 use Rattle.std.proofs.lemmas.Bool.{le-leb, false≢true, lt-ltb, cases_Bool, cases_lt, ne_eqb, both_ways, eq-eqb, or_left, or_parts, ltb-false, false_from_ne_true}
 use Rattle.std.specs.List.{list_any}

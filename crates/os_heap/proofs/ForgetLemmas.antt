@@ -246,15 +246,15 @@ at_block_still m n block total from heap c f here = record {
   block = subst (λ (g : ℕ → ℕ). IsBlock heap (items_in (word_at g) heap) block c.from c.at c.free c.gap) (sym f.bytes) here.block;
 }
 
--- what the loops over the records tell
-pub told_low : (m : AddressMap) (rs : List Region) (block len from low : ℕ) → rs ≡ regions m
+-- what the loops over the records show
+pub shown_low : (m : AddressMap) (rs : List Region) (block len from low : ℕ) → rs ≡ regions m
     → ((b : Bytes) → lowest_lost block len from (heaps_in b rs) ≡ low) → low ≡ lowest_lost block len from (store_of m).heaps
 unfolding store_of
-told_low m rs block len from low same told =
-    sym (subst (λ (qs : List Region). lowest_lost block len from (heaps_in (bytes_of m) qs) ≡ low) same (told (bytes_of m)))
+shown_low m rs block len from low same reported =
+    sym (subst (λ (qs : List Region). lowest_lost block len from (heaps_in (bytes_of m) qs) ≡ low) same (reported (bytes_of m)))
 
-pub told_held : (m : AddressMap) (rs : List Region) (at len : ℕ) (held : Bool) → rs ≡ regions m
+pub shown_held : (m : AddressMap) (rs : List Region) (at len : ℕ) (held : Bool) → rs ≡ regions m
     → ((b : Bytes) → holds_heap (heaps_in b rs) at len ≡ held) → held ≡ holds_heap (store_of m).heaps at len
 unfolding store_of
-told_held m rs at len held same told =
-    sym (subst (λ (qs : List Region). holds_heap (heaps_in (bytes_of m) qs) at len ≡ held) same (told (bytes_of m)))
+shown_held m rs at len held same reported =
+    sym (subst (λ (qs : List Region). holds_heap (heaps_in (bytes_of m) qs) at len ≡ held) same (reported (bytes_of m)))

@@ -1,4 +1,4 @@
--- Of heaps that lie round each other the one that starts last tells for all.
+-- Of heaps that lie round each other the one that starts last shows for all.
 use Rattle.std.proofs.Common.{List, ℕ, [], ◌∷◌, ◌≡◌, ◌≢◌, ◌+◌, ◌-◌, ◌≤◌, ◌<◌, ◌⊎◌, ◌==◌, ◌&&◌, ◌||◌, ◌∙◌, Bool, Option, Some, None, option_map, not, true, false, leb, ltb, refl, sym, ap, subst, inl, inr, arith}
 use Rattle.std.proofs.lemmas.Bool.{false≢true, both_ways, cases_Bool, cases_lt, and_parts, or_parts, le-leb, lt-ltb, le-ltb, leb-true, ltb-true, eqb-true}
 use Rattle.std.specs.List.{list_any}
@@ -51,11 +51,11 @@ last_among test bad g (h ∷ hs) k e nested = elim (cases_Bool (test h)) [
   ]
 ]
 
-pub last_tells : (test bad : HeapList → Bool) (hs : List HeapList) → AreNested test bad hs
+pub last_shows : (test bad : HeapList → Bool) (hs : List HeapList) → AreNested test bad hs
     → list_any (λ h. test h && bad h) hs ≡ passes_if_there bad (last_of test hs)
-last_tells test bad [] nested = refl
-last_tells test bad (h ∷ hs) nested =
-    let rest : list_any (λ g. test g && bad g) hs ≡ passes_if_there bad (last_of test hs) = last_tells test bad hs nested.1 in
+last_shows test bad [] nested = refl
+last_shows test bad (h ∷ hs) nested =
+    let rest : list_any (λ g. test g && bad g) hs ≡ passes_if_there bad (last_of test hs) = last_shows test bad hs nested.1 in
     elim (cases_Bool (test h)) [
       | inr fails ↦ rw fails rest
       | inl passes ↦ rw passes (step passes (last_of test hs) refl rest)
@@ -256,14 +256,14 @@ all_crossed_round at len (h ∷ hs) some none =
     let parts = or_parts (shares_address at len h.start h.end && not (is_round at len h)) (list_any (λ g. shares_address at len g.start g.end && not (is_round at len g)) hs) none in
     rw (crossed_round at len h some parts.0, all_crossed_round at len hs some parts.1) refl
 
-pub innermost_tells : (s : Store) → IsSound s
+pub innermost_shows : (s : Store) → IsSound s
     → ((a : ℕ) → is_other (payload_of s.heaps a) ≡ passes_if_there (λ h. is_other (payload_in h a)) (last_of (λ h. in_range h.start h.end a) s.heaps))
     × ((at len : ℕ) → 0 < len → list_any (λ h. shares_address at len h.start h.end && not (is_round at len h)) s.heaps ≡ false
     → list_any (is_crossed at len) s.heaps ≡ passes_if_there (λ h. not (holds_range (h.start + 16) h.items at len)) (innermost_heap at len s.heaps))
-innermost_tells s sound = (
-  λ a. others_any s.heaps a ∙ last_tells (λ h. in_range h.start h.end a) (λ h. is_other (payload_in h a)) s.heaps (bytes_nested s.bytes a s.heaps sound.heaps),
+innermost_shows s sound = (
+  λ a. others_any s.heaps a ∙ last_shows (λ h. in_range h.start h.end a) (λ h. is_other (payload_in h a)) s.heaps (bytes_nested s.bytes a s.heaps sound.heaps),
   λ at len some none. all_crossed_round at len s.heaps some none
-      ∙ last_tells (is_round at len) (λ h. not (holds_range (h.start + 16) h.items at len)) s.heaps (ranges_nested s.bytes at len s.heaps some sound.heaps),
+      ∙ last_shows (is_round at len) (λ h. not (holds_range (h.start + 16) h.items at len)) s.heaps (ranges_nested s.bytes at len s.heaps some sound.heaps),
 )
 
 pub ruleset rounds = (later_none, round_next, round_passed)

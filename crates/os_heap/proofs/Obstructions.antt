@@ -10,7 +10,7 @@ use Rattle.address_map.specs.declared.region.Region.{Region}
 use Rattle.os_heap_words.specs.lists.Heap.{HeapList, IsHeapIn}
 use Rattle.os_heap.proofs.RangeTests.{or_middle, or_next, or_none}
 use Rattle.os_heap.proofs.Holding.{range_bounds}
-use Rattle.os_heap.proofs.Innermost.{IsRound, round_so, so_round, last_tells, ranges_nested}
+use Rattle.os_heap.proofs.Innermost.{IsRound, round_so, so_round, last_shows, ranges_nested}
 use Rattle.os_heap.specs.Bars.{bars, bars_record}
 use Rattle.os_heap.specs.Laws.{passes_if_there}
 use Rattle.os_heap.specs.Nesting.{holds_range, innermost_heap, is_crossed, is_round}
@@ -51,10 +51,10 @@ in_way_round at len new more h some none = elim (cases_Bool (has_before at h)) [
       rw (after, out, none') refl
 ]
 
-pub in_way_told : (b : Bytes) (at len new more : ℕ) (hs : List HeapList) → 0 < len → AreHeapsIn b hs → list_any (bars at len new more) hs ≡ false
+pub in_way_shown : (b : Bytes) (at len new more : ℕ) (hs : List HeapList) → 0 < len → AreHeapsIn b hs → list_any (bars at len new more) hs ≡ false
     → list_any (is_in_way at len new more) hs ≡ passes_if_there (λ h. not (holds_range (h.start + 16) h.items at len)) (innermost_heap at len hs)
-in_way_told b at len new more hs some parts none =
-    all hs none ∙ last_tells (is_round at len) (λ h. not (holds_range (h.start + 16) h.items at len)) hs (ranges_nested b at len hs some parts) where
+in_way_shown b at len new more hs some parts none =
+    all hs none ∙ last_shows (is_round at len) (λ h. not (holds_range (h.start + 16) h.items at len)) hs (ranges_nested b at len hs some parts) where
       all : (gs : List HeapList) → list_any (bars at len new more) gs ≡ false
           → list_any (is_in_way at len new more) gs ≡ list_any (λ h. is_round at len h && not (holds_range (h.start + 16) h.items at len)) gs
       all [] none = refl
@@ -140,20 +140,20 @@ obstructed_barred m at len new more sound is =
           ]
     ]
 
-pub obstructed_told : (m : AddressMap) (at len new more : ℕ) → IsSound (store_of m) → 0 < len → list_any (bars_record at len new more) (regions m) ≡ false
+pub obstructed_shown : (m : AddressMap) (at len new more : ℕ) → IsSound (store_of m) → 0 < len → list_any (bars_record at len new more) (regions m) ≡ false
     → anchor_among (anchor_of m) new more ≡ false
     → is_obstructed at len new more (store_of m) ≡ passes_if_there (λ h. not (holds_range (h.start + 16) h.items at len)) (innermost_heap at len (heaps_in (bytes_of m) (regions m)))
 unfolding store_of
-obstructed_told m at len new more sound some barred unanchored =
+obstructed_shown m at len new more sound some barred unanchored =
     let hs : List HeapList = heaps_in (bytes_of m) (regions m) in
     let others : Bool = list_any (λ r. shares_address new more r.at r.len) (others_in (regions m)) in
     let anchors : Bool = anchor_among (anchor_of m) new more in
     let none = or_parts (list_any (bars at len new more) hs) others (sym (bars_split at len new more (bytes_of m) (regions m)) ∙ barred) in
-    let told : Bool = passes_if_there (λ h. not (holds_range (h.start + 16) h.items at len)) (innermost_heap at len hs) in
+    let reported : Bool = passes_if_there (λ h. not (holds_range (h.start + 16) h.items at len)) (innermost_heap at len hs) in
     let clear : others ≡ false = none.1 in
     let free : anchors ≡ false = unanchored in
-    ap (λ (t : Bool). (t || others) || anchors) (in_way_told (bytes_of m) at len new more hs some sound.heaps none.0)
-    ∙ ap (λ (t : Bool). (told || t) || anchors) clear ∙ ap (λ (t : Bool). (told || false) || t) free ∙ or_none (told || false) ∙ or_none told
+    ap (λ (t : Bool). (t || others) || anchors) (in_way_shown (bytes_of m) at len new more hs some sound.heaps none.0)
+    ∙ ap (λ (t : Bool). (reported || t) || anchors) clear ∙ ap (λ (t : Bool). (reported || false) || t) free ∙ or_none (reported || false) ∙ or_none reported
 
 -- a heap that is made: nothing is in its way just where its range overlaps nothing
 pub obstructed_over : (s : Store) (at len : ℕ) → 0 < len → IsSound s → is_obstructed at len at len s ≡ overlaps at len s

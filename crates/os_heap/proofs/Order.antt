@@ -1,4 +1,4 @@
--- The order of records, where one comes, and where one gets another length; with the two lists of a store it tells the records.
+-- The order of records, where one comes, and where one gets another length; with the two lists of a store it shows the records.
 use Rattle.std.proofs.Common.{◌≡◌, ◌∙◌, ℕ, true, false, List, [], ◌∷◌, ◌++◌, ap, refl, inl, inr, map}
 use Rattle.std.proofs.lemmas.Bool.{cases_Bool}
 use Rattle.std.specs.List.{filter}
@@ -10,7 +10,7 @@ use Rattle.address_map.specs.declared.region.Kind.{Kind}
 use Rattle.address_map.specs.declared.region.Region.{Region}
 use Rattle.os_heap_words.specs.lists.Heap.{HeapList}
 use Rattle.os_heap.proofs.Frame.{layout-regions}
-use Rattle.os_heap.specs.Laws.{RecordsAreTold}
+use Rattle.os_heap.specs.Laws.{RecordsAreShown}
 use Rattle.os_heap.specs.Order.{kind_and_start, stays, stays_at, AddsRecord, KeepsOrder, LosesHeaps, LosesInOrder}
 use Rattle.os_heap.specs.Store.{heap_in, heaps_in, others_in, store_of}
 
@@ -54,11 +54,11 @@ order_lost m k n kept lost =
 same_record : (q r : Region) → q.kind ≡ r.kind → q.at ≡ r.at → q.len ≡ r.len → q ≡ r
 same_record q r kind at len = λ i. record { kind = kind i; at = at i; len = len i }
 
-told : (b c : Bytes) (rs qs : List Region) → map kind_and_start qs ≡ map kind_and_start rs → heaps_in c qs ≡ heaps_in b rs → others_in qs ≡ others_in rs → qs ≡ rs
-told b c [] [] order heaps others = refl
-told b c [] (q ∷ qs) order heaps others = absurd (let no : kind_and_start q ∷ map kind_and_start qs ≡ [] = order in cc)
-told b c (r ∷ rs) [] order heaps others = absurd (let no : [] ≡ kind_and_start r ∷ map kind_and_start rs = order in cc)
-told b c (r ∷ rs) (q ∷ qs) order heaps others =
+reported : (b c : Bytes) (rs qs : List Region) → map kind_and_start qs ≡ map kind_and_start rs → heaps_in c qs ≡ heaps_in b rs → others_in qs ≡ others_in rs → qs ≡ rs
+reported b c [] [] order heaps others = refl
+reported b c [] (q ∷ qs) order heaps others = absurd (let no : kind_and_start q ∷ map kind_and_start qs ≡ [] = order in cc)
+reported b c (r ∷ rs) [] order heaps others = absurd (let no : [] ≡ kind_and_start r ∷ map kind_and_start rs = order in cc)
+reported b c (r ∷ rs) (q ∷ qs) order heaps others =
     let order' : kind_and_start q ∷ map kind_and_start qs ≡ kind_and_start r ∷ map kind_and_start rs = order in
     let start : kind_and_start q ≡ kind_and_start r = cc in
     let rest : map kind_and_start qs ≡ map kind_and_start rs = cc in
@@ -73,7 +73,7 @@ told b c (r ∷ rs) (q ∷ qs) order heaps others =
           let left : heaps_in c qs ≡ heaps_in b rs = cc in
           let len : q.len ≡ r.len = ap (λ (h : HeapList). h.end) first in
           let here : q ≡ r = same_record q r kind at len in
-          let behind : qs ≡ rs = told b c rs qs rest left others' in
+          let behind : qs ≡ rs = reported b c rs qs rest left others' in
           cc
       | inr plain ↦
           let own : is_heap_kind q.kind ≡ false = ap is_heap_kind kind ∙ plain in
@@ -81,10 +81,10 @@ told b c (r ∷ rs) (q ∷ qs) order heaps others =
           let others' : q ∷ others_in qs ≡ r ∷ others_in rs = rw (own, plain) at others in
           let here : q ≡ r = cc in
           let left : others_in qs ≡ others_in rs = cc in
-          let behind : qs ≡ rs = told b c rs qs rest heaps' left in
+          let behind : qs ≡ rs = reported b c rs qs rest heaps' left in
           cc
     ]
 
-pub records_told : RecordsAreTold
+pub records_shown : RecordsAreShown
 unfolding store_of
-records_told m n heaps others order = told (bytes_of m) (bytes_of n) (regions m) (regions n) order heaps others
+records_shown m n heaps others order = reported (bytes_of m) (bytes_of n) (regions m) (regions n) order heaps others

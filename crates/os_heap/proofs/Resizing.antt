@@ -104,7 +104,7 @@ probes_by_total m heap block change t total e =
     rw (t.found, image_recorded m block)
     (ap (λ (o : Option ℕ). begun_below block (heap + 16) (items_at m heap) + probes_after_walk (store_of m) (part_at t.kind m heap t.end) block change o) e)
 
--- what a walk to the block tells
+-- what a walk to the block shows
 pub record IsHere (m : AddressMap) (heap block at : ℕ) : Type 0 where
   pub own : has_image block (regions m) ≡ false
   pub whole : at % 4 ≡ 0
@@ -250,12 +250,12 @@ larger_where_none block end new at total (Live t ∷ xs) live none = elim (cases
 larger_where_none block end new at total (Free t ∷ xs) live none =
     larger_where_none block end new (at + t) total xs live (map_none (λ ys. Free t ∷ ys) (resized_in_place block end new (at + t) xs) none)
 
-pub in_place_told : (m k n : AddressMap) (heap block total needed : ℕ) (done : Bool) → live_total block (heap + 16) (items_at m heap) ≡ Some total
+pub in_place_shown : (m k n : AddressMap) (heap block total needed : ℕ) (done : Bool) → live_total block (heap + 16) (items_at m heap) ≡ Some total
     → Forgets m k block total (block - 4 + needed) → (total ≤ needed → k ≡ m) → RefitsBlock k n heap block needed done
     → ResizesInPlace m n heap block needed done
-in_place_told m k n heap block total needed true live f same refits =
+in_place_shown m k n heap block total needed true live f same refits =
     record { between = k; own = total; live = live; forgets = f; refits = refits }
-in_place_told m k n heap block total needed false live f same refits =
+in_place_shown m k n heap block total needed false live f same refits =
     let un = unrefitted k n heap (end_at k heap) _ refits in
     let none : resized_in_place block (heap + end_at m heap) needed (heap + 16) (items_at m heap) ≡ None =
     subst (λ (g : ℕ → ℕ). resized_in_place block (heap + word_at g (heap + 12)) needed (heap + 16) (items_in (word_at g) heap) ≡ None) f.bytes un.0 in
@@ -287,16 +287,16 @@ resize_moved m n heap block change total more answer sound is own live large non
           ∙ sym (rw (test, none', free) at (probes_by_total m heap block change t (Some total) (asked_live m heap block total own live)));
     }
 
--- what the tests for anchors tell
-pub anchor_told : (m : AddressMap) (heap block total : ℕ) (answer t : Bool) → live_total block (heap + 16) (items_at m heap) ≡ Some total
+-- what the tests for anchors show
+pub anchor_shown : (m : AddressMap) (heap block total : ℕ) (answer t : Bool) → live_total block (heap + 16) (items_at m heap) ≡ Some total
     → answer ≡ has_anchor_in m heap block → answer ≡ t → holds_anchor (store_of m).anchor block (Some total) ≡ t
 unfolding store_of
-anchor_told m heap block total answer t live e is = ap (λ (o : Option ℕ). holds_anchor (anchor_of m) block o) (sym live) ∙ sym e ∙ is
+anchor_shown m heap block total answer t live e is = ap (λ (o : Option ℕ). holds_anchor (anchor_of m) block o) (sym live) ∙ sym e ∙ is
 
-pub cut_told : (m : AddressMap) (at len : ℕ) (answer t : Bool) → answer ≡ anchor_among (anchor_of m) at len → answer ≡ t
+pub cut_shown : (m : AddressMap) (at len : ℕ) (answer t : Bool) → answer ≡ anchor_among (anchor_of m) at len → answer ≡ t
     → anchor_among (store_of m).anchor at len ≡ t
 unfolding store_of
-cut_told m at len answer t e is = sym e ∙ is
+cut_shown m at len answer t e is = sym e ∙ is
 
 pub below_all : (m : AddressMap) (heap block total : ℕ) → IsHeapIn (bytes_of m) heap (end_at m heap) (items_at m heap)
     → live_total block (heap + 16) (items_at m heap) ≡ Some total → block + total < 2 ^ 32

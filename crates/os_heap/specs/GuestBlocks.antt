@@ -41,7 +41,7 @@ pub record IsResizedInPlace (old new : AddressMap) (start block total : ℕ) : T
   pub forgets : Forgets old between block own (block - 4 + total)
   pub refits : RefitsBlock between new start block total true
 
--- That was done, as `done` tells, or nothing is changed.
+-- That was done, as `done` shows, or nothing is changed.
 abbrev pub ResizesInPlace : AddressMap → AddressMap → ℕ → ℕ → ℕ → Bool → Type 0
 ResizesInPlace old new start block total true = IsResizedInPlace old new start block total
 ResizesInPlace old new start block total false =

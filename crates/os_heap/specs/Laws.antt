@@ -79,11 +79,11 @@ abbrev pub passes_if_there : (HeapList → Bool) → Option HeapList → Bool
 passes_if_there test None = false
 passes_if_there test (Some h) = test h
 
--- Of heaps that lie round each other the innermost tells for all. Whether a byte lies in a heap, but not in what live blocks hold, is told by the heap
--- with that byte that starts last. Whether a range meets a heap otherwise than by lying in a block is told by the heap round it that starts last,
+-- Of heaps that lie round each other the innermost shows for all. Whether a byte lies in a heap, but not in what live blocks hold, is shown by the heap
+-- with that byte that starts last. Whether a range meets a heap otherwise than by lying in a block is shown by the heap round it that starts last,
 -- unless it meets a heap that does not lie round it.
-abbrev pub InnermostTells : Type 0
-InnermostTells = (s : Store) → IsSound s
+abbrev pub InnermostShows : Type 0
+InnermostShows = (s : Store) → IsSound s
     → ((a : ℕ) → is_other (payload_of s.heaps a) ≡ passes_if_there (λ h. is_other (payload_in h a))
     (last_of (λ h. in_range h.start h.end a) s.heaps))
     × ((at len : ℕ) → 0 < len → list_any (λ h. shares_address at len h.start h.end
@@ -91,7 +91,7 @@ InnermostTells = (s : Store) → IsSound s
     → list_any (is_crossed at len) s.heaps ≡ passes_if_there
     (λ h. not (holds_range (h.start + 16) h.items at len)) (innermost_heap at len s.heaps))
 
--- The heaps of a store, its other ranges, and the order tell all records: where a call leaves these three, it leaves the record as it was.
-abbrev pub RecordsAreTold : Type 0
-RecordsAreTold = (m n : AddressMap) → (store_of n).heaps ≡ (store_of m).heaps →
+-- The heaps of a store, its other ranges, and the order show all records: where a call leaves these three, it leaves the record as it was.
+abbrev pub RecordsAreShown : Type 0
+RecordsAreShown = (m n : AddressMap) → (store_of n).heaps ≡ (store_of m).heaps →
     (store_of n).others ≡ (store_of m).others → KeepsOrder m n → regions n ≡ regions m

@@ -1,4 +1,4 @@
--- The order in which ranges are recorded. A store has heaps and other ranges as two lists; this tells how they stand among each other.
+-- The order in which ranges are recorded. A store has heaps and other ranges as two lists; this says how they stand among each other.
 use Rattle.std.specs.Prelude.{ℕ, ◌≡◌, Bool, not, ◌||◌, is_some, List, [], ◌∷◌, ◌++◌, map}
 use Rattle.std.specs.List.{filter}
 use Rattle.address_map.specs.declared.map.AddressMap.{AddressMap}

@@ -34,7 +34,7 @@ payload_by (Some h) a = if in_range h.start h.end a then payload_in h a else Out
 abbrev pub area_payload : Store → ℕ → Payload
 area_payload s a = payload_by (find_heap module_area_start s.heaps) a
 
--- Where heaps lie round each other, all of them must hold the byte in a live block; the last of these is told.
+-- Where heaps lie round each other, all of them must hold the byte in a live block; the last of these is shown.
 abbrev pub payload_or : Payload → Payload → Payload
 payload_or Other inner = Other
 payload_or Outside inner = inner

@@ -60,7 +60,7 @@ impl Heaps {
         ensures mapping { mapping map.new ≡ mapping map.old }
         ensures order { KeepsOrder map.old map.new }
 
-        // No byte but those of the word that tells the end is changed.
+        // No byte but those of the word that shows the end is changed.
         ensures bytes { (a : ℕ) → AreApart a 1 0x0180000C 4 → byte_at map.new a ≡ byte_at map.old a }
     {
         if let Some(region) = find(map, RMA_START) {

@@ -38,7 +38,7 @@ pub(crate) fn forget(map: &mut AddressMap, block: u32, total: u32, from: u32)
     }
 }
 
-/// Forgets the heaps in a block that is given up. Mostly there is none, which one look at the records tells.
+/// Forgets the heaps in a block that is given up. Mostly there is none, which one look at the records shows.
 pub(crate) fn forget_inner(map: &mut AddressMap, block: u32, total: u32)
     requires state { IsSoundMap map.old }
     requires block { HasBlock map.old block total }

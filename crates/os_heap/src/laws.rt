@@ -1,7 +1,7 @@
 //! Laws of live blocks, of forgotten heaps, and of heaps that lie in others. Each is the contract
 //! of a function that does nothing.
 
-ghost use Rattle.os_heap.specs.Laws.{CallsKeepPayloads, ForgettingKeeps, ForgottenAreLost, InnermostTells, LiveBlocksAreApart, RecordsAreTold};
+ghost use Rattle.os_heap.specs.Laws.{CallsKeepPayloads, ForgettingKeeps, ForgottenAreLost, InnermostShows, LiveBlocksAreApart, RecordsAreShown};
 
 /// No byte belongs to two live blocks, unless one lies, with its heap, in what the other holds.
 #[tactic(auto, using(crate::proofs::Apart::blocks_apart))]
@@ -27,14 +27,14 @@ pub fn forgotten_heaps_are_lost()
     ensures { ForgottenAreLost }
 {}
 
-/// Of heaps that lie round each other the innermost tells for all of them.
-#[tactic(auto, using(crate::proofs::Innermost::innermost_tells))]
-pub fn innermost_heaps_tell()
-    ensures { InnermostTells }
+/// Of heaps that lie round each other the innermost shows for all of them.
+#[tactic(auto, using(crate::proofs::Innermost::innermost_shows))]
+pub fn innermost_heaps_print()
+    ensures { InnermostShows }
 {}
 
-/// The heaps of a store, its other ranges, and the order in which all are recorded tell the record.
-#[tactic(auto, using(crate::proofs::Order::records_told))]
-pub fn records_are_told()
-    ensures { RecordsAreTold }
+/// The heaps of a store, its other ranges, and the order in which all are recorded show the record.
+#[tactic(auto, using(crate::proofs::Order::records_shown))]
+pub fn records_are_shown()
+    ensures { RecordsAreShown }
 {}

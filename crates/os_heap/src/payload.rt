@@ -36,7 +36,7 @@ impl Payload {
         matches!(self, Payload::Other)
     }
 
-    /// The same in a heap that lies round another, of which `inner` tells.
+    /// The same in a heap that lies round another, of which `inner` shows.
     fn or(self, inner: Payload) -> Payload
         ensures { result ≡ payload_or self inner }
     {
@@ -50,7 +50,7 @@ impl Payload {
 
 impl Heaps {
     /// Where the byte at an address lies among the heaps. In a live block's payload it is only where each heap that has the address has it there; the
-    /// last of these is told.
+    /// last of these is shown.
     ///
     /// RISC OS 3 Programmer's Reference Manual, "OS_Heap", the internal format.
     #[tactic(auto, unfolding(crate::specs::Store::store_of), using(crate::proofs::PayloadLemmas::rounds))]

@@ -112,7 +112,7 @@ fn resize_block(map: &mut AddressMap, heap: u32, block: u32, change: u32) -> Cou
     }
 }
 
-/// Gives a block another total where it stands, if it can, and tells whether it did. The heaps that go with what is cut
+/// Gives a block another total where it stands, if it can, and says whether it did. The heaps that go with what is cut
 /// off are forgotten.
 fn resize_in_place(
     map: &mut AddressMap,

@@ -30,7 +30,7 @@ pub record IsNewTotal (n : ℕ) : Type 0 where
   pub total : is_total n ≡ true
   pub small : n < 2 ^ 34
 
--- The block got another total where it stands, as `done` tells; else nothing is changed.
+-- The block got another total where it stands, as `done` shows; else nothing is changed.
 abbrev pub RefitsBlock : AddressMap → AddressMap → ℕ → ℕ → ℕ → Bool → Type 0
 RefitsBlock old new start block total done = Refits old new start (end_at old start) done
     (resized_in_place block (start + end_at old start) total (start + 16) (items_at old start))

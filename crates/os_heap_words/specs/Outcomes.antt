@@ -12,14 +12,14 @@ use Rattle.os_heap_words.specs.lists.Marks.{AreMarked, Remarks}
 use Rattle.os_heap_words.specs.lists.Lists.{Claim}
 use Rattle.os_heap_words.specs.lists.Words.{IsOutside, AreApart}
 
--- memory spells a heap at `start`, whose items are those that its words tell
+-- memory spells a heap at `start`, whose items are those that its words show
 abbrev pub items_at : AddressMap → ℕ → List Item
 items_at m start = items_in (word_at (byte_at m)) start
 
 abbrev pub IsHeapAt : AddressMap → ℕ → ℕ → Type 0
 IsHeapAt m start end = IsHeapIn (bytes_of m) start end (items_at m start)
 
--- and its end is that which its last word tells
+-- and its end is that which its last word shows
 abbrev pub end_at : AddressMap → ℕ → ℕ
 end_at m start = word_at (byte_at m) (start + 12)
 

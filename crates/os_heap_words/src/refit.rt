@@ -15,7 +15,7 @@ use crate::walk::{Cursor, last_link};
 use crate::words::{BASE, END, put, put_free, put_link, word};
 use address_map::{AddressMap, Item};
 
-/// Gives a block another total where it stands, if it can, and tells whether it did.
+/// Gives a block another total where it stands, if it can, and says whether it did.
 pub fn refit(map: &mut AddressMap, heap: u32, block: u32, cursor: &Cursor, needed: u64) -> bool
     requires place { IsAtBlock map.old heap block cursor.now }
     requires needed { IsNewTotal needed }

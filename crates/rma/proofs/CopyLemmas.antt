@@ -15,7 +15,7 @@ use Rattle.dynamic_areas.specs.Store.{find_heap}
 use Rattle.dynamic_areas.specs.Payload.TheVariants.{Inside, Other}
 use Rattle.dynamic_areas.proofs.Apart.{range_parts}
 use Rattle.dynamic_areas.specs.Changing.{pages_had}
-use Rattle.dynamic_areas.specs.Ground.{Estate, IsEstate}
+use Rattle.dynamic_areas.specs.Ground.{AreaStore, IsAreaStore}
 use Rattle.dynamic_areas.specs.declared.area.Area.{Area}
 use Rattle.rma.specs.Calls.{area_pages}
 use Rattle.rma.specs.Copies.{has_bare, is_bare}
@@ -50,19 +50,19 @@ first_payload at t xs a least inside =
 
 is_payload : (at : ℕ) (items : List Item) (a block held : ℕ) → AreTotals items → payload_from at items a ≡ Inside block held
     → IsPayload at items a block held
-is_payload at [] a block held totals told = absurd (let no : Other ≡ Inside block held = told in cc)
-is_payload at (Free t ∷ xs) a block held totals told =
-    let rest : IsPayload (at + t) xs a block held = is_payload (at + t) xs a block held totals.1 told in
+is_payload at [] a block held totals reported = absurd (let no : Other ≡ Inside block held = reported in cc)
+is_payload at (Free t ∷ xs) a block held totals reported =
+    let rest : IsPayload (at + t) xs a block held = is_payload (at + t) xs a block held totals.1 reported in
     record { low = omega (arith, rest.low); here = rest.here; below = rest.below; same = rest.same; behind = rest.behind }
-is_payload at (Live t ∷ xs) a block held totals told = elim (cases_Bool (in_range (at + 4) (t - 4) a)) [
+is_payload at (Live t ∷ xs) a block held totals reported = elim (cases_Bool (in_range (at + 4) (t - 4) a)) [
   | inl own ↦
-      let told' : Inside (at + 4) (t - 4) ≡ Inside block held = rw own at told in
+      let reported' : Inside (at + 4) (t - 4) ≡ Inside block held = rw own at reported in
       let first : at + 4 ≡ block = cc in
       let size : t - 4 ≡ held = cc in
       rw (← first, ← size) (first_payload at t xs a (total_facts t totals.0).0 own)
   | inr later ↦
-      let told' : payload_from (at + t) xs a ≡ Inside block held = rw later at told in
-      let rest : IsPayload (at + t) xs a block held = is_payload (at + t) xs a block held totals.1 told' in
+      let reported' : payload_from (at + t) xs a ≡ Inside block held = rw later at reported in
+      let rest : IsPayload (at + t) xs a block held = is_payload (at + t) xs a block held totals.1 reported' in
       record {
         low = omega (arith, rest.low);
         here = rest.here;
@@ -72,13 +72,13 @@ is_payload at (Live t ∷ xs) a block held totals told = elim (cases_Bool (in_ra
       }
 ]
 
--- no item tells that a byte is outside
-told_cases : (at : ℕ) (items : List Item) (a : ℕ) → (payload_from at items a ≡ Other) ⊎ ((block : ℕ) × (held : ℕ) × (payload_from at items a ≡ Inside block held))
-told_cases at [] a = inl refl
-told_cases at (Free t ∷ xs) a = told_cases (at + t) xs a
-told_cases at (Live t ∷ xs) a = elim (cases_Bool (in_range (at + 4) (t - 4) a)) [
+-- no item says that a byte is outside
+shown_cases : (at : ℕ) (items : List Item) (a : ℕ) → (payload_from at items a ≡ Other) ⊎ ((block : ℕ) × (held : ℕ) × (payload_from at items a ≡ Inside block held))
+shown_cases at [] a = inl refl
+shown_cases at (Free t ∷ xs) a = shown_cases (at + t) xs a
+shown_cases at (Live t ∷ xs) a = elim (cases_Bool (in_range (at + 4) (t - 4) a)) [
   | inl own ↦ rw own (inr (at + 4, t - 4, refl))
-  | inr later ↦ rw later (told_cases (at + t) xs a)
+  | inr later ↦ rw later (shown_cases (at + t) xs a)
 ]
 
 -- a byte of a range, or none
@@ -97,13 +97,13 @@ none_in test at (suc n) none =
     rw (none at (omega arith) (omega arith)) (none_in test (at + 1) n (λ a low high. none a (omega arith) (omega arith)))
 
 -- the module area's heap
-record IsArea (e : Estate) (h : HeapList) : Type 0 where
+record IsArea (e : AreaStore) (h : HeapList) : Type 0 where
   pub found : find_heap module_area_start e.store.heaps ≡ Some h
   pub totals : AreTotals h.items
   pub start : h.start ≡ module_area_start
   pub end : h.end ≡ 4096 * area_pages e
 
-is_area : (e : Estate) (good : IsEstate e) → IsArea e (area_there e good).known.heap
+is_area : (e : AreaStore) (good : IsAreaStore e) → IsArea e (area_there e good).known.heap
 is_area e good =
     let area : HasArea e = area_there e good in
     record {
@@ -113,46 +113,46 @@ is_area e good =
       end = area.known.end ∙ sym (ap (λ (x : Option Area). 4096 * pages_had x) area.found);
     }
 
-bare_in : (e : Estate) (h : HeapList) (a : ℕ) → IsArea e h → in_range module_area_start (4096 * area_pages e) a ≡ true
+bare_in : (e : AreaStore) (h : HeapList) (a : ℕ) → IsArea e h → in_range module_area_start (4096 * area_pages e) a ≡ true
     → is_bare e a ≡ is_other (payload_in h a)
 bare_in e h a area inside =
     let inside' : in_range h.start h.end a ≡ true = rw (area.start, area.end) inside in
     rw (inside, area.found, inside') refl
 
 -- the part of a range that lies in the area: from its first byte there up to its end there
-pub record IsPart (e : Estate) (at len from to : ℕ) : Type 0 where
+pub record IsPart (e : AreaStore) (at len from to : ℕ) : Type 0 where
   pub first : from ≡ max at module_area_start
   pub end : to ≡ min (at + len) (module_area_start + 4096 * area_pages e)
 
-outside_part : (e : Estate) (at len from to a : ℕ) → IsPart e at len from to → at ≤ a → a < at + len → (a < from) ⊎ (to ≤ a) → is_bare e a ≡ false
+outside_part : (e : AreaStore) (at len from to a : ℕ) → IsPart e at len from to → at ≤ a → a < at + len → (a < from) ⊎ (to ≤ a) → is_bare e a ≡ false
 outside_part e at len from to a part low high (inl before) =
     rw (range_before module_area_start (4096 * area_pages e) a (omega (arith, part.first, before, low))) refl
 outside_part e at len from to a part low high (inr behind) =
     rw (range_past module_area_start (4096 * area_pages e) a (omega (arith, part.end, behind, high))) refl
 
-pub none_met : (e : Estate) (at len from to : ℕ) → IsPart e at len from to → to ≤ from → has_bare e at len ≡ false
+pub none_met : (e : AreaStore) (at len from to : ℕ) → IsPart e at len from to → to ≤ from → has_bare e at len ≡ false
 none_met e at len from to part empty = none_in (is_bare e) at len (λ a low high. outside_part e at len from to a part low high (elim (cases_lt a from) [
   | inl before ↦ inl before
   | inr later ↦ inr (omega arith)
 ]))
 
-in_area : (e : Estate) (at len from to a : ℕ) → IsPart e at len from to → from ≤ a → a < to → in_range module_area_start (4096 * area_pages e) a ≡ true
+in_area : (e : AreaStore) (at len from to a : ℕ) → IsPart e at len from to → from ≤ a → a < to → in_range module_area_start (4096 * area_pages e) a ≡ true
 in_area e at len from to a part low high =
     range_inside module_area_start (4096 * area_pages e) a (omega (arith, part.first, low)) (omega (arith, part.end, high))
 
-first_told : (e : Estate) (h : HeapList) (at len from to : ℕ) → IsArea e h → IsPart e at len from to → from < to
+first_shown : (e : AreaStore) (h : HeapList) (at len from to : ℕ) → IsArea e h → IsPart e at len from to → from < to
     → area_payload e.store from ≡ payload_in h from
-first_told e h at len from to area part some =
+first_shown e h at len from to area part some =
     let inside : in_range h.start h.end from ≡ true = rw (area.start, area.end) (in_area e at len from to from part (omega arith) some) in
     rw (area.found, inside) refl
 
-pub told_inside : (e : Estate) (at len from to block held : ℕ) → IsEstate e → IsPart e at len from to → from < to
+pub shown_inside : (e : AreaStore) (at len from to block held : ℕ) → IsAreaStore e → IsPart e at len from to → from < to
     → area_payload e.store from ≡ Inside block held → nat_lt (block + held) to ≡ has_bare e at len
-told_inside e at len from to block held good part some told =
+shown_inside e at len from to block held good part some reported =
     let h : HeapList = (area_there e good).known.heap in
     let area : IsArea e h = is_area e good in
-    let told' : payload_from (h.start + 16) h.items from ≡ Inside block held = sym (first_told e h at len from to area part some) ∙ told in
-    let place : IsPayload (h.start + 16) h.items from block held = is_payload (h.start + 16) h.items from block held area.totals told' in
+    let reported' : payload_from (h.start + 16) h.items from ≡ Inside block held = sym (first_shown e h at len from to area part some) ∙ reported in
+    let place : IsPayload (h.start + 16) h.items from block held = is_payload (h.start + 16) h.items from block held area.totals reported' in
     elim (cases_lt (block + held) to) [
       | inl past ↦ rw (lt-ltb (block + held) to past) (sym (some_in (is_bare e) at len (block + held)
           (omega (arith, part.first, place.below)) (omega (arith, part.end, past))
@@ -168,14 +168,14 @@ told_inside e at len from to block held good part some told =
       ])))
     ]
 
-pub told_other : (e : Estate) (at len from to : ℕ) → IsEstate e → IsPart e at len from to → from < to
+pub shown_other : (e : AreaStore) (at len from to : ℕ) → IsAreaStore e → IsPart e at len from to → from < to
     → ((block held : ℕ) → area_payload e.store from ≢ Inside block held) → has_bare e at len ≡ true
-told_other e at len from to good part some other =
+shown_other e at len from to good part some other =
     let h : HeapList = (area_there e good).known.heap in
     let area : IsArea e h = is_area e good in
-    let told : area_payload e.store from ≡ payload_in h from = first_told e h at len from to area part some in
-    elim (told_cases (h.start + 16) h.items from) [
+    let reported : area_payload e.store from ≡ payload_in h from = first_shown e h at len from to area part some in
+    elim (shown_cases (h.start + 16) h.items from) [
       | inl bare ↦ some_in (is_bare e) at len from (omega (arith, part.first)) (omega (arith, part.end, some))
           (bare_in e h from area (in_area e at len from to from part (omega arith) some) ∙ ap is_other bare)
-      | inr held ↦ absurd (other held.0 held.1 (told ∙ held.2))
+      | inr held ↦ absurd (other held.0 held.1 (reported ∙ held.2))
     ]

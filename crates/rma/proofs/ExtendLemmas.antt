@@ -19,9 +19,9 @@ use Rattle.dynamic_areas.specs.Store.{Store, IsSound, find_heap, has_image, stor
 use Rattle.dynamic_areas.proofs.Found.{found_heap, found_start}
 use Rattle.os_heap_words.proofs.Replace.{heap_below}
 use Rattle.dynamic_areas.specs.Changing.{pages_had}
-use Rattle.dynamic_areas.specs.Ground.{Estate, IsEstate}
+use Rattle.dynamic_areas.specs.Ground.{AreaStore, IsAreaStore}
 use Rattle.rma.specs.Calls.{area_pages, block_holds, end_if_moved, end_in_place, grown_in_place, grown_to, in_area, in_grown_area, is_full, or_as_before, rma_base, total_changed}
-use Rattle.rma.proofs.Estates.{not_full}
+use Rattle.rma.proofs.AreaStores.{not_full}
 use Rattle.rma.proofs.GrowthLemmas.{HasArea, IsGrown, area_there, grown_less, grown_not, growth_error, is_grown}
 use Rattle.rma.proofs.ResizeLemmas.{IsGuests, IsMoving, full_free, full_moves, got_fits, in_place_stays, last_fits, resized_fits, resized_holds}
 
@@ -85,14 +85,14 @@ lies_below m block size sound e = go (find_heap module_area_start (store_of m).h
   go (Some h) found = lies_in m h block size sound found e
 
 -- a claim in the grown area
-pub claim_done : (e g : Estate) (size end : ℕ) → IsGrown e g end → end ≡ rma_base e.store + total_for size → is_ok (store_after_get g.store module_area_start size) ≡ true
+pub claim_done : (e g : AreaStore) (size end : ℕ) → IsGrown e g end → end ≡ rma_base e.store + total_for size → is_ok (store_after_get g.store module_area_start size) ≡ true
 claim_done e g size end grown is =
     let h : HeapList = grown.heap in
     got_fits g.store module_area_start size (record { kind = h.kind; start = h.start; end = grown.limit; items = h.items }) grown.there
     (omega (arith, grown.reaches, is, base_is e.store module_area_start h grown.found))
 
 -- a change in the grown area, for which that has room
-resize_done : (e g : Estate) (block total change end : ℕ) (grown : IsGrown e g end) → IsGuests e.store grown.heap block total
+resize_done : (e g : AreaStore) (block total change end : ℕ) (grown : IsGrown e g end) → IsGuests e.store grown.heap block total
     → ((is_some (resized_in_place block (grown.heap.start + grown.limit) (round_up_8 (changed_by total change)) (grown.heap.start + 16) grown.heap.items) ≡ true)
     × (total < round_up_8 (changed_by total change)))
     ⊎ ((holds_anchor g.store.anchor block (Some total) ≡ false)
@@ -114,7 +114,7 @@ live_least : (s : Store) (h : HeapList) (block total : ℕ) → AreTotals h.item
 live_least s h block total totals own = law_live_bytes block total (h.start + 16) h.items totals own.live
 
 -- the last block, in its place
-last_done : (e g : Estate) (block change size : ℕ) → block_sized e.store module_area_start block ≡ Ok size → block + size ≡ module_area_start + rma_base e.store
+last_done : (e g : AreaStore) (block change size : ℕ) → block_sized e.store module_area_start block ≡ Ok size → block + size ≡ module_area_start + rma_base e.store
     → size + 4 < total_changed size change → IsGrown e g ((rma_base e.store + total_changed size change) - (size + 4)) → is_ok (store_after_resize g.store module_area_start block change) ≡ true
 last_done e g block change size sized last more grown =
     let h : HeapList = grown.heap in
@@ -131,16 +131,16 @@ last_done e g block change size sized last more grown =
     ))
 
 -- the heap's base lies within the area
-base_below : (e : Estate) → IsEstate e → rma_base e.store ≤ 4096 * area_pages e
+base_below : (e : AreaStore) → IsAreaStore e → rma_base e.store ≤ 4096 * area_pages e
 base_below e good =
     let h : HasArea e = area_there e good in
     let size : area_pages e ≡ h.area.pages = ap pages_had h.found in
     omega (arith, base_is e.store module_area_start h.known.heap h.known.found, h.known.spelled.inside, h.known.end, size)
 
-pub in_place_done : (e : Estate) (block change : ℕ) → IsEstate e
+pub in_place_done : (e : AreaStore) (block change : ℕ) → IsAreaStore e
     → (is_ok (store_after_resize (grown_in_place e block change).store module_area_start block change) ≡ true) ⊎ (grown_in_place e block change ≡ e)
 in_place_done e block change good = sized (block_sized e.store module_area_start block) refl where
-  tried : (size : ℕ) → block_sized e.store module_area_start block ≡ Ok size → block + size ≡ module_area_start + rma_base e.store → (r : Result Estate ErrorNumber)
+  tried : (size : ℕ) → block_sized e.store module_area_start block ≡ Ok size → block + size ≡ module_area_start + rma_base e.store → (r : Result AreaStore ErrorNumber)
       → grown_to e ((rma_base e.store + total_changed size change) - (size + 4)) ≡ r
       → (is_ok (store_after_resize (or_as_before e r).store module_area_start block change) ≡ true) ⊎ (or_as_before e r ≡ e)
   tried size is last (Err f) done = inr refl
@@ -154,7 +154,7 @@ in_place_done e block change good = sized (block_sized e.store module_area_start
       ]
 
   sized : (r : Result ℕ ErrorNumber) → block_sized e.store module_area_start block ≡ r
-      → (let g : Estate = or_as_before e (grown_to e (end_in_place (rma_base e.store) block change r)) in
+      → (let g : AreaStore = or_as_before e (grown_to e (end_in_place (rma_base e.store) block change r)) in
       (is_ok (store_after_resize g.store module_area_start block change) ≡ true) ⊎ (g ≡ e))
   sized (Err f) is = rw (grown_not e 0 (omega arith)) (inr refl)
   sized (Ok size) is = elim (cases_Bool (block + size == module_area_start + rma_base e.store)) [
@@ -175,7 +175,7 @@ not_a_block s heap h block change found full = go (guests_total s.others h.start
     refused false None e = let same : HeapNotABlock ≡ f = cc in let t = rw (found, is, ← same) at full in let no : false ≡ true = t in cc
     refused false (Some t) e = let no : Ok t ≡ Err f = e in cc
 
-pub move_done : (e g : Estate) (block change : ℕ) → IsEstate e → is_full (store_after_resize e.store module_area_start block change) ≡ true
+pub move_done : (e g : AreaStore) (block change : ℕ) → IsAreaStore e → is_full (store_after_resize e.store module_area_start block change) ≡ true
     → block_holds e.store block (block_sized e.store module_area_start block) ≡ false
     → grown_to e (end_if_moved (rma_base e.store) change (block_sized e.store module_area_start block)) ≡ Ok g
     → is_ok (store_after_resize g.store module_area_start block change) ≡ true
@@ -202,7 +202,7 @@ move_done e g block change good full empty done =
           (inr (none', (empty', omega (arith, grown.reaches, new, base_is e.store module_area_start k grown.found))))
 
 -- an area that is large enough as it is
-own_reach : (e : Estate) (h : HeapList) (end : ℕ) → find_heap module_area_start e.store.heaps ≡ Some h → IsGrown e e end → end ≤ h.end
+own_reach : (e : AreaStore) (h : HeapList) (end : ℕ) → find_heap module_area_start e.store.heaps ≡ Some h → IsGrown e e end → end ≤ h.end
 own_reach e h end found own =
     let k : HeapList = record { kind = own.heap.kind; start = own.heap.start; end = own.limit; items = own.heap.items } in
     let both : Some h ≡ Some k = sym found ∙ own.there in
@@ -211,7 +211,7 @@ own_reach e h end found own =
     omega (arith, own.reaches, limit)
 
 -- the last block that would not grow in its place, though the area could grow for it
-not_last : (e g : Estate) (block change size : ℕ) (grown : IsGrown e g (rma_base e.store + total_changed size change)) → IsEstate e
+not_last : (e g : AreaStore) (block change size : ℕ) (grown : IsGrown e g (rma_base e.store + total_changed size change)) → IsAreaStore e
     → (one : IsSized e.store grown.heap block size) → block_sized e.store module_area_start block ≡ Ok size → grown_in_place e block change ≡ e
     → grown_to e (rma_base e.store + total_changed size change) ≡ Ok g → IsMoving grown.heap block one.total change
     → block + one.total ≢ grown.heap.start + 16 + size_of grown.heap.items + 4
@@ -225,7 +225,7 @@ not_last e g block change size grown good one is tried done moving last =
     let less = grown_less e g end (rma_base e.store + total_changed size change) (omega arith) done in
     let tried' = rw (is, eq-eqb (block + size) (module_area_start + rma_base e.store) ends, less.1) at tried in
     let same : less.0 ≡ e = tried' in
-    let own : IsGrown e e end = subst (λ (x : Estate). IsGrown e x end) same (is_grown e less.0 end good less.1) in
+    let own : IsGrown e e end = subst (λ (x : AreaStore). IsGrown e x end) same (is_grown e less.0 end good less.1) in
     let reach : end ≤ k.end = own_reach e k end grown.found own in
     let some : is_some (resized_in_place block (k.start + k.end) (round_up_8 (changed_by one.total change)) (k.start + 16) k.items) ≡ true =
     last_fits block (k.start + k.end) (round_up_8 (changed_by one.total change)) (k.start + 16) one.total k.items grown.totals one.guests.live
@@ -233,7 +233,7 @@ not_last e g block change size grown good one is tried done moving last =
     both_ways (is_some (resized_in_place block (k.start + k.end) (round_up_8 (changed_by one.total change)) (k.start + 16) k.items)) (ap is_some moving.none) some
 
 -- a block in which a heap lies is not moved in the grown area
-move_refused : (e g : Estate) (block change size : ℕ) → IsEstate e → is_full (store_after_resize e.store module_area_start block change) ≡ true
+move_refused : (e g : AreaStore) (block change size : ℕ) → IsAreaStore e → is_full (store_after_resize e.store module_area_start block change) ≡ true
     → grown_in_place e block change ≡ e → block_sized e.store module_area_start block ≡ Ok size → holds_heap e.store.heaps block size ≡ true
     → grown_to e (rma_base e.store + total_changed size change) ≡ Ok g → store_after_resize g.store module_area_start block change ≡ Err BlockHoldsHeap
 move_refused e g block change size good full tried is holds done =
@@ -262,19 +262,19 @@ move_refused e g block change size good full tried is holds done =
     (omega (arith, grown.reaches, new, base_is e.store module_area_start h grown.found)))
 
 -- so the refusal is known before anything is done
-pub why_refused : (e : Estate) (block change : ℕ) → IsEstate e → is_full (store_after_resize e.store module_area_start block change) ≡ true
+pub why_refused : (e : AreaStore) (block change : ℕ) → IsAreaStore e → is_full (store_after_resize e.store module_area_start block change) ≡ true
     → grown_in_place e block change ≡ e → block_holds e.store block (block_sized e.store module_area_start block) ≡ true
     → (let end : ℕ = end_if_moved (rma_base e.store) change (block_sized e.store module_area_start block) in
     let why : Result ℕ ErrorNumber = Err (if is_ok (grown_to e end) then RmaBlockHoldsHeap else RmaNoRoom) in
     Gives e (in_grown_area e end (λ s. store_after_resize s module_area_start block change)) why e)
 why_refused e block change good full tried holds = sized (block_sized e.store module_area_start block) refl holds where
-  told : (end size : ℕ) → block_sized e.store module_area_start block ≡ Ok size → holds_heap e.store.heaps block size ≡ true
-      → end ≡ rma_base e.store + total_changed size change → (r : Result Estate ErrorNumber) → grown_to e end ≡ r
+  reported : (end size : ℕ) → block_sized e.store module_area_start block ≡ Ok size → holds_heap e.store.heaps block size ≡ true
+      → end ≡ rma_base e.store + total_changed size change → (r : Result AreaStore ErrorNumber) → grown_to e end ≡ r
       → (let why : Result ℕ ErrorNumber = Err (if is_ok r then RmaBlockHoldsHeap else RmaNoRoom) in
       Gives e (bind r (λ g. in_area g (store_after_resize g.store module_area_start block change))) why e)
-  told end size is held there (Ok g) done =
+  reported end size is held there (Ok g) done =
       rw (move_refused e g block change size good full tried is held (ap (grown_to e) (sym there) ∙ done)) (refl, refl)
-  told end size is held there (Err f) done = (growth_error e end f done, refl)
+  reported end size is held there (Err f) done = (growth_error e end f done, refl)
 
   sized : (r : Result ℕ ErrorNumber) → block_sized e.store module_area_start block ≡ r → block_holds e.store block r ≡ true
       → (let end : ℕ = end_if_moved (rma_base e.store) change r in
@@ -282,20 +282,20 @@ why_refused e block change good full tried holds = sized (block_sized e.store mo
       Gives e (in_grown_area e end (λ s. store_after_resize s module_area_start block change)) why e)
   sized (Err f) is held = absurd (let no : false ≡ true = held in cc)
   sized (Ok size) is held =
-      told (rma_base e.store + total_changed size change) size is held refl (grown_to e (rma_base e.store + total_changed size change)) refl
+      reported (rma_base e.store + total_changed size change) size is held refl (grown_to e (rma_base e.store + total_changed size change)) refl
 
--- where the call is full after the area could grow in place, it did not grow: g is the estate then,
+-- where the call is full after the area could grow in place, it did not grow: g is the area store then,
 -- and f that after the call that was refused
-pub record IsTried (e g f : Estate) (block change : ℕ) : Type 0 where
+pub record IsTried (e g f : AreaStore) (block change : ℕ) : Type 0 where
   pub none : grown_in_place e block change ≡ e
   pub again : grown_in_place f block change ≡ f
 
-pub is_tried : (e g f : Estate) (block change : ℕ) → IsEstate e → g ≡ grown_in_place e block change → f ≡ g
+pub is_tried : (e g f : AreaStore) (block change : ℕ) → IsAreaStore e → g ≡ grown_in_place e block change → f ≡ g
     → is_full (store_after_resize g.store module_area_start block change) ≡ true → IsTried e g f block change
 is_tried e g f block change good grown same full = elim (in_place_done e block change good) [
   | inl ok ↦ absurd (not_full (store_after_resize g.store module_area_start block change)
-      (subst (λ (x : Estate). is_ok (store_after_resize x.store module_area_start block change) ≡ true) (sym grown) ok) full)
+      (subst (λ (x : AreaStore). is_ok (store_after_resize x.store module_area_start block change) ≡ true) (sym grown) ok) full)
   | inr none ↦
       let all : f ≡ e = same ∙ grown ∙ none in
-      record { none = none; again = ap (λ (x : Estate). grown_in_place x block change) all ∙ none ∙ sym all }
+      record { none = none; again = ap (λ (x : AreaStore). grown_in_place x block change) all ∙ none ∙ sym all }
 ]

@@ -12,9 +12,9 @@ use Rattle.dynamic_areas.specs.Calls.{OfHeap, block_sized, store_after_copy}
 use Rattle.dynamic_areas.specs.Forgetting.{holds_heap}
 use Rattle.dynamic_areas.specs.Store.{IsSound, Store, find_heap, has_image, store_of}
 use Rattle.dynamic_areas.specs.declared.area.Changed.{Changed}
-use Rattle.dynamic_areas.specs.Areas.{Land}
+use Rattle.dynamic_areas.specs.Areas.{AreaTable}
 use Rattle.dynamic_areas.specs.Changing.{change_answer, store_changed}
-use Rattle.dynamic_areas.specs.Ground.{IsEstate, estate_of}
+use Rattle.dynamic_areas.specs.Ground.{IsAreaStore, area_store_of}
 use Rattle.rma.specs.flex_frame.Keeping.{RangeHasNoAnchor, KeepsFlex}
 use Rattle.rma.proofs.FlexFrameLemmas.Areas.{area_changed_keeps}
 use Rattle.rma.proofs.FlexFrameLemmas.Keeping.{keeps_then}
@@ -22,11 +22,11 @@ use Rattle.rma.proofs.FlexFrameLemmas.Writes.{block_keeps}
 use Rattle.rma.specs.NewImages.{IsLiveBlock, store_with_image_bytes}
 use Rattle.rma.proofs.NewImageLemmas.{IsLiveIn, live_in, outside, shorter, unmoved}
 
-pub growth_keeps : (m n : AddressMap) (l k : Land) (amount : ℕ) (made : Changed) → IsEstate (estate_of m l) → IsEstate (estate_of n k)
+pub growth_keeps : (m n : AddressMap) (l k : AreaTable) (amount : ℕ) (made : Changed) → IsAreaStore (area_store_of m l) → IsAreaStore (area_store_of n k)
     → made ≡ change_answer l.areas (store_of m) (free_pages m) 1 amount → store_of n ≡ store_changed (store_of m) l.areas 1 amount made.bytes
     → KeepsFlex (store_of m) (store_of n)
 growth_keeps m n l k amount made good after answer store =
-    area_changed_keeps (estate_of m l) (estate_of n k) 1 amount good after
+    area_changed_keeps (area_store_of m l) (area_store_of n k) 1 amount good after
     (store ∙ ap (λ (x : Changed). store_changed (store_of m) l.areas 1 amount x.bytes) answer)
 
 -- what is written into a live block that no anchor lies in

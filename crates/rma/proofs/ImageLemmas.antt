@@ -23,14 +23,14 @@ use Rattle.dynamic_areas.proofs.Recorded.{IsClearOfAll, apart_other, in_more}
 use Rattle.dynamic_areas.proofs.ImageBlocks.{image_placed}
 use Rattle.dynamic_areas.proofs.Stores.{are_others, placed_by}
 use Rattle.dynamic_areas.specs.Forgetting.{holds_heap}
-use Rattle.dynamic_areas.specs.Areas.{Land}
-use Rattle.dynamic_areas.specs.Ground.{AreAreas, AreRangesMapped, Estate, IsEstate}
+use Rattle.dynamic_areas.specs.Areas.{AreaTable}
+use Rattle.dynamic_areas.specs.Ground.{AreAreas, AreRangesMapped, AreaStore, IsAreaStore}
 use Rattle.rma.specs.Images.{CanRecord}
 use Rattle.rma.proofs.ExtendLemmas.{IsSized, sized_by}
 use Rattle.rma.proofs.GrowthLemmas.{HasArea, area_there}
 
--- the module area's heap of an estate is that area's
-pub area_kind : (e : Estate) → IsEstate e → OfHeap (λ h. is_module_area h.kind ≡ true) (find_heap module_area_start e.store.heaps)
+-- the module area's heap of an area store is that area's
+pub area_kind : (e : AreaStore) → IsAreaStore e → OfHeap (λ h. is_module_area h.kind ≡ true) (find_heap module_area_start e.store.heaps)
 area_kind e good =
     let h : HasArea e = area_there e good in
     rw h.known.found (ap is_module_area h.known.kind)
@@ -121,14 +121,14 @@ is_recorded s at len sound can sized = go (find_heap module_area_start s.heaps) 
   go None none = absurd (area_none s can.area none)
   go (Some h) found = recorded_in s h at len sound can found sized
 
--- the estate with other records of the same memory
-pub areas_others : (s : Store) (free : ℕ) (l : Land) (rs : List Region) → AreAreas s free l → IsSound (record s { others = rs })
+-- the area store with other records of the same memory
+pub areas_others : (s : Store) (free : ℕ) (l : AreaTable) (rs : List Region) → AreAreas s free l → IsSound (record s { others = rs })
     → AreRangesMapped s.bytes.mapped rs → AreAreas (record s { others = rs }) free l
 areas_others s free l rs areas sound mapped = record {
   ground = record {
     sizes = areas.ground.sizes;
     table = areas.ground.table;
-    land = areas.ground.land;
+    area_table = areas.ground.area_table;
     pages = areas.ground.pages;
     ranges = mapped;
     sound = sound;
@@ -136,7 +136,7 @@ areas_others s free l rs areas sound mapped = record {
   heap = areas.heap;
 }
 
-pub areas_recorded : (s : Store) (free : ℕ) (l : Land) (r : Region) → AreAreas s free l → IsRecorded s r
+pub areas_recorded : (s : Store) (free : ℕ) (l : AreaTable) (r : Region) → AreAreas s free l → IsRecorded s r
     → AreAreas (record s { others = s.others ++ r ∷ [] }) free l
 areas_recorded s free l r areas is =
     areas_others s free l (s.others ++ r ∷ []) areas is.sound (mapped_more s.bytes.mapped s.others r areas.ground.ranges is.mapped)
@@ -244,7 +244,7 @@ sound_less s at sound = record {
   headers = λ a is. flex_less at s.others a (sound.headers a is);
 }
 
-pub areas_less : (s : Store) (free : ℕ) (l : Land) (at : ℕ) → AreAreas s free l
+pub areas_less : (s : Store) (free : ℕ) (l : AreaTable) (at : ℕ) → AreAreas s free l
     → AreAreas (record s { others = without_region s.others kind.Image at }) free l
 areas_less s free l at areas =
     areas_others s free l (without_region s.others kind.Image at) areas (sound_less s at areas.ground.sound)

@@ -4,7 +4,7 @@ pub use Rattle.os_heap_words.proofs.ListsLemmas.Reading
 pub use Rattle.os_heap_words.proofs.ListsLemmas.Words
 pub use Rattle.os_heap_words.proofs.Writing
 mod CopyLemmas
-mod Estates
+mod AreaStores
 mod ExtendLemmas
 mod FlexLemmas
 mod GrowthLemmas

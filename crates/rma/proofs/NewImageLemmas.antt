@@ -30,7 +30,7 @@ use Rattle.dynamic_areas.specs.Calls.{OfHeap, block_sized, store_after_copy, sto
 use Rattle.dynamic_areas.specs.Forgetting.{holds_heap}
 use Rattle.dynamic_areas.specs.Order.{AddsRecord, KeepsOrder}
 use Rattle.dynamic_areas.specs.Store.{IsSound, Store, find_heap, has_image, store_of}
-use Rattle.dynamic_areas.specs.Ground.{Estate, IsEstate}
+use Rattle.dynamic_areas.specs.Ground.{AreaStore, IsAreaStore}
 use Rattle.rma.specs.Calls.{grown_to, rma_base, rma_claimed}
 use Rattle.rma.specs.Images.{image_recorded}
 use Rattle.rma.specs.NewImages.{IsLiveBlock, store_with_image_bytes}
@@ -56,7 +56,7 @@ live_whole s block total sound is =
     (law_live_bytes block total (l.heap.start + 16) l.heap.items heap.totals l.live).whole (omega (arith, heap.aligned))
 
 -- and lies in the module area
-pub live_inside : (e : Estate) (block total : ℕ) → IsEstate e → IsLiveBlock e.store block total → in_range module_area_start module_area_maximum block ≡ true
+pub live_inside : (e : AreaStore) (block total : ℕ) → IsAreaStore e → IsLiveBlock e.store block total → in_range module_area_start module_area_maximum block ≡ true
 live_inside e block total good is =
     let h : HasArea e = area_there e good in
     let g : HeapList = h.known.heap in
@@ -175,7 +175,7 @@ block_made s t size block answer sound is given =
     (given_done s t (store_after_get s module_area_start size) block (subst (λ (r : Result ℕ ErrorNumber). Gives s (store_after_get s module_area_start size) r t) is given))
 
 -- no block is as large as the module area can be
-unclaimed : (e : Estate) (h : HasArea e) (size : ℕ) → IsEstate e → 4194304 < size
+unclaimed : (e : AreaStore) (h : HasArea e) (size : ℕ) → IsAreaStore e → 4194304 < size
     → claim_in_items (total_for size) (h.known.heap.end - 16) h.known.heap.items ≡ None
 unclaimed e h size good far = go (claim_in_items (total_for size) (h.known.heap.end - 16) h.known.heap.items) refl where
   go : (o : Option Claim) → claim_in_items (total_for size) (h.known.heap.end - 16) h.known.heap.items ≡ o → o ≡ None
@@ -188,7 +188,7 @@ unclaimed e h size good far = go (claim_in_items (total_for size) (h.known.heap.
       law_live_bytes (g.start + 16 + c.offset + 4) (total_for size) (g.start + 16) c.items claim.totals claim.fresh in
       absurd (omega (arith, far, place.high, claim.inside, h.known.end, h.room.within, h.known.maximum))
 
-pub claim_refused : (e : Estate) (size : ℕ) → IsEstate e → 4194304 < size → rma_claimed e size ≡ Err RmaNoRoom
+pub claim_refused : (e : AreaStore) (size : ℕ) → IsAreaStore e → 4194304 < size → rma_claimed e size ≡ Err RmaNoRoom
 unfolding rma_claimed store_after_get
 claim_refused e size good far =
     let h : HasArea e = area_there e good in

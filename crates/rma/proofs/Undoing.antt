@@ -21,13 +21,13 @@ use Rattle.dynamic_areas.specs.Store.{IsSound, Store, find_heap, has_image}
 use Rattle.dynamic_areas.proofs.Anchored.{place_in}
 use Rattle.dynamic_areas.proofs.KeptPayloads.{own_there}
 use Rattle.dynamic_areas.proofs.Moving.{found_held}
-use Rattle.dynamic_areas.specs.Ground.{Estate, IsEstate}
+use Rattle.dynamic_areas.specs.Ground.{AreaStore, IsAreaStore}
 use Rattle.rma.specs.Calls.{is_full, or_grown, rma_base, rma_claimed, rma_freed, with_store}
 use Rattle.rma.specs.Laws.{FreeUndoesClaim, IsUndone}
 use Rattle.rma.proofs.GrowthLemmas.{HasArea, area_there}
 
--- what is said of an answer that has an estate and a block
-abbrev IsUndoneBy : Estate → Result (Estate × ℕ) ErrorNumber → Type 0
+-- what is said of an answer that has an area store and a block
+abbrev IsUndoneBy : AreaStore → Result (AreaStore × ℕ) ErrorNumber → Type 0
 IsUndoneBy e (Ok r) = has_image r.1 e.store.others ≡ false → IsUndone e (rma_freed r.0 r.1)
 IsUndoneBy e (Err f) = Unit {0}
 
@@ -60,7 +60,7 @@ claim_unanchored s h n c sound total found heap made =
           ]
     ])))
 
-undone : (e : Estate) (h : HeapList) (size : ℕ) (c : Claim) → h.start ≡ module_area_start → find_heap module_area_start e.store.heaps ≡ Some h
+undone : (e : AreaStore) (h : HeapList) (size : ℕ) (c : Claim) → h.start ≡ module_area_start → find_heap module_area_start e.store.heaps ≡ Some h
     → items_after_release (h.start + 16 + c.offset + 4) (h.start + 16) c.items ≡ Some h.items → has_image (h.start + 16 + c.offset + 4) e.store.others ≡ false
     → holds_anchor e.store.anchor (h.start + 16 + c.offset + 4) (live_total (h.start + 16 + c.offset + 4) (h.start + 16) c.items) ≡ false
     → AreTotals c.items → IsUndone e (rma_freed (with_store e (store_holding e.store h c.items)) (h.start + 16 + c.offset + 4))
@@ -82,7 +82,7 @@ undone e h size c start found back own free totals =
     ≡ Some (record { kind = h.kind; start = h.start; end = h.end; items = h.items })) (sym start) (found_held module_area_start h.items v.heaps k left) in
     rw (there, own, back, free, last, found) (refl, (refl, refl))
 
-claim_undone : (e : Estate) (h : HeapList) (size end : ℕ) (call : Store → Result (Store × ℕ) ErrorNumber) → h.start ≡ module_area_start
+claim_undone : (e : AreaStore) (h : HeapList) (size end : ℕ) (call : Store → Result (Store × ℕ) ErrorNumber) → h.start ≡ module_area_start
     → find_heap module_area_start e.store.heaps ≡ Some h → AreTotals h.items → AreSpaced h.items → IsSound e.store
     → IsHeapIn e.store.bytes h.start h.end h.items → (o : Option Claim)
     → claim_in_items (total_for size) (h.end - 16) h.items ≡ o
@@ -96,7 +96,7 @@ claim_undone e h size end call start found totals spaced sound heap (Some c) mad
     (claim_unanchored e.store h (total_for size) c sound total there heap made)
     (subst HasTotals made (claim_totals (total_for size) (h.end - 16) h.items total totals))
 
-claim_by : (e : Estate) (size : ℕ) → IsEstate e → is_full (store_after_get e.store module_area_start size) ≡ false → IsUndoneBy e (rma_claimed e size)
+claim_by : (e : AreaStore) (size : ℕ) → IsAreaStore e → is_full (store_after_get e.store module_area_start size) ≡ false → IsUndoneBy e (rma_claimed e size)
 unfolding rma_claimed store_after_get
 claim_by e size good roomy =
     let a : HasArea e = area_there e good in

@@ -12,7 +12,7 @@ use Rattle.os_heap_words.specs.lists.Lists.{live_total, total_for}
 use Rattle.dynamic_areas.specs.Calls.{OfHeap, store_after_copy}
 use Rattle.dynamic_areas.specs.Ranges.{are_bytes_mapped, meets_any}
 use Rattle.dynamic_areas.specs.Store.{Store, find_heap}
-use Rattle.dynamic_areas.specs.Ground.{Estate}
+use Rattle.dynamic_areas.specs.Ground.{AreaStore}
 use Rattle.rma.specs.Calls.{rma_claimed, with_store}
 use Rattle.rma.specs.Images.{image_recorded}
 
@@ -21,12 +21,12 @@ abbrev pub store_with_image_bytes : Store → ℕ → List ℕ → Store
 store_with_image_bytes s at image = record s { bytes = with_bytes s.bytes at image }
 
 -- an image whose bytes are given, and one whose bytes stand in memory
-unfoldable pub image_made : Estate → List ℕ → Result (Estate × ℕ) ErrorNumber
+unfoldable pub image_made : AreaStore → List ℕ → Result (AreaStore × ℕ) ErrorNumber
 image_made e image =
     bind (rma_claimed e (length image)) (λ c.
     Ok (with_store c.0 (image_recorded (store_with_image_bytes c.0.store c.1 image) c.1), c.1))
 
-unfoldable pub image_copied : Estate → ℕ → ℕ → Result (Estate × ℕ) ErrorNumber
+unfoldable pub image_copied : AreaStore → ℕ → ℕ → Result (AreaStore × ℕ) ErrorNumber
 image_copied e from len =
     bind (rma_claimed e len) (λ c.
     Ok (with_store c.0 (image_recorded (store_after_copy c.0.store from c.1 len) c.1), c.1))

@@ -10,7 +10,7 @@ ghost use Rattle.dynamic_areas.specs.Calls.{store_after_get};
 ghost use Rattle.dynamic_areas.specs.Forgetting.{holds_heap};
 ghost use Rattle.dynamic_areas.specs.Order.{KeepsOrder};
 ghost use Rattle.dynamic_areas.specs.Store.{store_of, AreClasses};
-ghost use Rattle.dynamic_areas.specs.Ground.{estate_of, IsEstate};
+ghost use Rattle.dynamic_areas.specs.Ground.{area_store_of, IsAreaStore};
 ghost use Rattle.rma.specs.flex_frame.Keeping.{is_in_record, RangeHasNoAnchor, KeepsFlex};
 ghost use Rattle.rma.specs.Calls.{in_grown_area, rma_base, rma_claimed};
 ghost use Rattle.rma.specs.NewImages.{IsLiveBlock};
@@ -41,12 +41,12 @@ impl Rma {
         areas: &mut Areas,
         size: u32,
     ) -> Result<u32, ErrorNumber>
-        requires estate { IsEstate (estate_of map.old areas.old) }
+        requires area_store { IsAreaStore (area_store_of map.old areas.old) }
         requires classes { AreClasses map.old }
-        ensures claimed { Gives (estate_of map.old areas.old)
-            (rma_claimed (estate_of map.old areas.old) size) result
-            (estate_of map.new areas.new) }
-        ensures estate { IsEstate (estate_of map.new areas.new) }
+        ensures claimed { Gives (area_store_of map.old areas.old)
+            (rma_claimed (area_store_of map.old areas.old) size) result
+            (area_store_of map.new areas.new) }
+        ensures area_store { IsAreaStore (area_store_of map.new areas.new) }
         ensures classes { AreClasses map.new }
         ensures others { (store_of map.new).others ≡ (store_of map.old).others }
         ensures order { KeepsOrder map.old map.new }
@@ -72,12 +72,12 @@ impl Rma {
 
 /// Claims a block where no room is left, once the area is grown.
 fn claim_grown(map: &mut AddressMap, areas: &mut Areas, size: u32) -> Result<u32, ErrorNumber>
-    requires estate { IsEstate (estate_of map.old areas.old) }
+    requires area_store { IsAreaStore (area_store_of map.old areas.old) }
     requires classes { AreClasses map.old }
-    ensures claimed { Gives (estate_of map.old areas.old)
-        (in_grown_area (estate_of map.old areas.old) (rma_base (store_of map.old) + total_for size)
-        (λ s. store_after_get s module_area_start size)) result (estate_of map.new areas.new) }
-    ensures estate { IsEstate (estate_of map.new areas.new) }
+    ensures claimed { Gives (area_store_of map.old areas.old)
+        (in_grown_area (area_store_of map.old areas.old) (rma_base (store_of map.old) + total_for size)
+        (λ s. store_after_get s module_area_start size)) result (area_store_of map.new areas.new) }
+    ensures area_store { IsAreaStore (area_store_of map.new areas.new) }
     ensures classes { AreClasses map.new }
     ensures others { (store_of map.new).others ≡ (store_of map.old).others }
     ensures order { KeepsOrder map.old map.new }

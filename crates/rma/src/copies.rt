@@ -1,7 +1,7 @@
 //! Whether a range of memory may be copied into the module area as an image.
 
 ghost use Rattle.std.specs.Prelude.{◌≡◌};
-ghost use Rattle.dynamic_areas.specs.Ground.{estate_of, IsEstate};
+ghost use Rattle.dynamic_areas.specs.Ground.{area_store_of, IsAreaStore};
 ghost use Rattle.rma.specs.Copies.{has_bare, may_be_copied};
 
 use crate::area::Rma;
@@ -18,8 +18,8 @@ impl Rma {
     /// RISC OS 3 Programmer's Reference Manual, "OS_Module", reason 11; the part about the module
     /// area is this project's own.
     pub fn may_be_copied(&self, map: &AddressMap, areas: &Areas, at: u32, len: u32) -> bool
-        requires { IsEstate (estate_of map.now areas.now) }
-        ensures { result ≡ may_be_copied (estate_of map.now areas.now) at len }
+        requires { IsAreaStore (area_store_of map.now areas.now) }
+        ensures { result ≡ may_be_copied (area_store_of map.now areas.now) at len }
     {
         are_mapped(map, at, len) && !has_bare(map, areas, at, len)
     }
@@ -29,8 +29,8 @@ impl Rma {
 /// live block holds. A length word stands between any two blocks, so those of the bytes that are in
 /// the area must all lie in one block.
 fn has_bare(map: &AddressMap, areas: &Areas, at: u32, len: u32) -> bool
-    requires { IsEstate (estate_of map.now areas.now) }
-    ensures { result ≡ has_bare (estate_of map.now areas.now) at len }
+    requires { IsAreaStore (area_store_of map.now areas.now) }
+    ensures { result ≡ has_bare (area_store_of map.now areas.now) at len }
 {
     let first = at.max(RMA_START);
     let end = u64::from(RMA_START) + u64::from(area_size(areas));

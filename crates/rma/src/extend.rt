@@ -8,7 +8,7 @@ ghost use Rattle.address_map.specs.Memory.{StaysInPlace};
 ghost use Rattle.dynamic_areas.specs.Calls.{block_sized, store_after_resize};
 ghost use Rattle.dynamic_areas.specs.Order.{KeepsOrder, LosesInOrder};
 ghost use Rattle.dynamic_areas.specs.Store.{store_of, AreClasses, IsSound};
-ghost use Rattle.dynamic_areas.specs.Ground.{estate_of, IsEstate};
+ghost use Rattle.dynamic_areas.specs.Ground.{area_store_of, IsAreaStore};
 ghost use Rattle.rma.specs.flex_frame.Keeping.{KeepsFlex};
 ghost use Rattle.rma.specs.Calls.{block_holds, end_if_moved, end_in_place, grown_in_place, grown_to, in_grown_area, is_full, rma_base, rma_extended, total_changed};
 ghost use Rattle.rma.specs.Places.{KeepsPlaces};
@@ -45,11 +45,12 @@ impl Rma {
         block: u32,
         change: u32,
     ) -> Result<u32, ErrorNumber>
-        requires estate { IsEstate (estate_of map.old areas.old) }
+        requires area_store { IsAreaStore (area_store_of map.old areas.old) }
         requires classes { AreClasses map.old }
-        ensures extended { Gives (estate_of map.old areas.old)
-            (rma_extended (estate_of map.old areas.old) block change) result (estate_of map.new areas.new) }
-        ensures estate { IsEstate (estate_of map.new areas.new) }
+        ensures extended { Gives (area_store_of map.old areas.old)
+            (rma_extended (area_store_of map.old areas.old) block change) result
+            (area_store_of map.new areas.new) }
+        ensures area_store { IsAreaStore (area_store_of map.new areas.new) }
         ensures classes { AreClasses map.new }
         ensures others { (store_of map.new).others ≡ (store_of map.old).others }
         ensures records { LosesInOrder map.old map.new }
@@ -68,10 +69,11 @@ impl Rma {
 
 /// Grows the area for a change of its last block, where that needs it and can have it.
 fn grow_in_place(map: &mut AddressMap, areas: &mut Areas, block: u32, change: u32)
-    requires estate { IsEstate (estate_of map.old areas.old) }
+    requires area_store { IsAreaStore (area_store_of map.old areas.old) }
     requires classes { AreClasses map.old }
-    ensures grown { estate_of map.new areas.new ≡ grown_in_place (estate_of map.old areas.old) block change }
-    ensures estate { IsEstate (estate_of map.new areas.new) }
+    ensures grown { area_store_of map.new areas.new ≡ grown_in_place (area_store_of map.old areas.old) block
+        change }
+    ensures area_store { IsAreaStore (area_store_of map.new areas.new) }
     ensures classes { AreClasses map.new }
     ensures others { (store_of map.new).others ≡ (store_of map.old).others }
     ensures order { KeepsOrder map.old map.new }
@@ -91,16 +93,17 @@ fn move_grown(
     block: u32,
     change: u32,
 ) -> Result<u32, ErrorNumber>
-    requires estate { IsEstate (estate_of map.old areas.old) }
+    requires area_store { IsAreaStore (area_store_of map.old areas.old) }
     requires classes { AreClasses map.old }
     requires full { is_full (store_after_resize (store_of map.old) module_area_start block change) ≡ true }
-    requires tried { grown_in_place (estate_of map.old areas.old) block change ≡ estate_of map.old areas.old }
-    ensures moved { Gives (estate_of map.old areas.old)
-        (in_grown_area (estate_of map.old areas.old)
+    requires tried { grown_in_place (area_store_of map.old areas.old) block change ≡ area_store_of map.old
+        areas.old }
+    ensures moved { Gives (area_store_of map.old areas.old)
+        (in_grown_area (area_store_of map.old areas.old)
         (end_if_moved (rma_base (store_of map.old)) change
         (block_sized (store_of map.old) module_area_start block))
-        (λ s. store_after_resize s module_area_start block change)) result (estate_of map.new areas.new) }
-    ensures estate { IsEstate (estate_of map.new areas.new) }
+        (λ s. store_after_resize s module_area_start block change)) result (area_store_of map.new areas.new) }
+    ensures area_store { IsAreaStore (area_store_of map.new areas.new) }
     ensures classes { AreClasses map.new }
     ensures others { (store_of map.new).others ≡ (store_of map.old).others }
     ensures records { LosesInOrder map.old map.new }
@@ -135,9 +138,9 @@ fn holds_heap(map: &AddressMap, block: u32) -> bool
 /// Why a block in which a heap lies is not moved: because of that heap, where the area could grow
 /// for it.
 fn why_unmoved(map: &AddressMap, areas: &Areas, end: u64) -> ErrorNumber
-    requires { IsEstate (estate_of map.now areas.now) }
+    requires { IsAreaStore (area_store_of map.now areas.now) }
     ensures { result
-        ≡ (if is_ok (grown_to (estate_of map.now areas.now) end) then RmaBlockHoldsHeap else RmaNoRoom) }
+        ≡ (if is_ok (grown_to (area_store_of map.now areas.now) end) then RmaBlockHoldsHeap else RmaNoRoom) }
 {
     if can_grow_to(map, areas, end) {
         ErrorNumber::RmaBlockHoldsHeap

@@ -4,8 +4,8 @@ ghost use Rattle.std.specs.Prelude.{◌≡◌};
 ghost use Rattle.profile.specs.Outcome.{Gives};
 ghost use Rattle.address_map.specs.Memory.{mapping};
 ghost use Rattle.dynamic_areas.specs.Store.{AreClasses, store_of, IsSound};
-ghost use Rattle.dynamic_areas.specs.Areas.{Land};
-ghost use Rattle.dynamic_areas.specs.Ground.{estate_of, IsEstate};
+ghost use Rattle.dynamic_areas.specs.Areas.{AreaTable};
+ghost use Rattle.dynamic_areas.specs.Ground.{area_store_of, IsAreaStore};
 ghost use Rattle.dynamic_areas.specs.Order.{LosesHeaps};
 ghost use Rattle.rma.specs.flex_frame.Keeping.{KeepsFlex};
 ghost use Rattle.rma.specs.Calls.{rma_freed};
@@ -31,11 +31,12 @@ impl Rma {
     pub fn free(&self, map: &mut AddressMap, block: u32) -> Result<(), ErrorNumber>
         requires sound { IsSound (store_of map.old) }
         requires classes { AreClasses map.old }
-        ensures freed { (l : Land)
-            → Gives (estate_of map.old l) (rma_freed (estate_of map.old l) block) result
-            (estate_of map.new l) }
+        ensures freed { (l : AreaTable)
+            → Gives (area_store_of map.old l) (rma_freed (area_store_of map.old l) block) result
+            (area_store_of map.new l) }
         ensures sound { IsSound (store_of map.new) }
-        ensures estate { (l : Land) → IsEstate (estate_of map.old l) → IsEstate (estate_of map.new l) }
+        ensures area_store { (l : AreaTable) → IsAreaStore (area_store_of map.old l) → IsAreaStore
+            (area_store_of map.new l) }
         ensures classes { AreClasses map.new }
         ensures others { (store_of map.new).others ≡ (store_of map.old).others }
         ensures mapping { mapping map.new ≡ mapping map.old }

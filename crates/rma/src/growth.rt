@@ -6,7 +6,7 @@ ghost use Rattle.dynamic_areas.specs.Order.{KeepsOrder};
 ghost use Rattle.dynamic_areas.specs.Store.{store_of, AreClasses};
 ghost use Rattle.dynamic_areas.specs.Areas.{find_area};
 ghost use Rattle.dynamic_areas.specs.Changing.{pages_had};
-ghost use Rattle.dynamic_areas.specs.Ground.{estate_of, IsEstate};
+ghost use Rattle.dynamic_areas.specs.Ground.{area_store_of, IsAreaStore};
 ghost use Rattle.dynamic_areas.specs.Rooms.{IsAreaTable};
 ghost use Rattle.rma.specs.flex_frame.Keeping.{KeepsFlex};
 ghost use Rattle.rma.specs.Calls.{grown_to};
@@ -24,11 +24,12 @@ use profile::memory_map::{PAGE_SIZE, RMA_MAXIMUM};
 ///
 /// `RmaNoRoom` where the pool or the maximum does not allow so much. Nothing is changed then.
 pub(crate) fn grow_to(map: &mut AddressMap, areas: &mut Areas, end: u64) -> Result<(), ErrorNumber>
-    requires estate { IsEstate (estate_of map.old areas.old) }
+    requires area_store { IsAreaStore (area_store_of map.old areas.old) }
     requires classes { AreClasses map.old }
-    ensures grown { Leaves (estate_of map.old areas.old) (grown_to (estate_of map.old areas.old) end) result
-        (estate_of map.new areas.new) }
-    ensures estate { IsEstate (estate_of map.new areas.new) }
+    ensures grown { Leaves (area_store_of map.old areas.old)
+        (grown_to (area_store_of map.old areas.old) end) result
+        (area_store_of map.new areas.new) }
+    ensures area_store { IsAreaStore (area_store_of map.new areas.new) }
     ensures classes { AreClasses map.new }
     ensures others { (store_of map.new).others ≡ (store_of map.old).others }
     ensures order { KeepsOrder map.old map.new }
@@ -48,8 +49,8 @@ pub(crate) fn grow_to(map: &mut AddressMap, areas: &mut Areas, end: u64) -> Resu
 
 /// Whether the module area can grow so that its heap reaches to `end`, or has that size.
 pub(crate) fn can_grow_to(map: &AddressMap, areas: &Areas, end: u64) -> bool
-    requires { IsEstate (estate_of map.now areas.now) }
-    ensures { result ≡ is_ok (grown_to (estate_of map.now areas.now) end) }
+    requires { IsAreaStore (area_store_of map.now areas.now) }
+    ensures { result ≡ is_ok (grown_to (area_store_of map.now areas.now) end) }
 {
     let size = area_size(areas);
     if end <= u64::from(size) {

@@ -9,8 +9,8 @@ ghost use Rattle.address_map.specs.declared.region.Kind.TheVariants.{Image};
 ghost use Rattle.dynamic_areas.specs.Calls.{block_sized};
 ghost use Rattle.dynamic_areas.specs.Order.{stays, AddsRecord, KeepsOrder};
 ghost use Rattle.dynamic_areas.specs.Store.{store_of, AreClasses, IsSound};
-ghost use Rattle.dynamic_areas.specs.Areas.{Land};
-ghost use Rattle.dynamic_areas.specs.Ground.{estate_of, IsEstate};
+ghost use Rattle.dynamic_areas.specs.Areas.{AreaTable};
+ghost use Rattle.dynamic_areas.specs.Ground.{area_store_of, IsAreaStore};
 ghost use Rattle.rma.specs.flex_frame.Keeping.{RangeHasNoAnchor, KeepsFlex};
 ghost use Rattle.rma.specs.Images.{image_dropped, image_freed, image_recorded, CanRecord};
 
@@ -28,7 +28,8 @@ impl Rma {
         requires may { CanRecord (store_of map.old) at }
         ensures store { store_of map.new ≡ image_recorded (store_of map.old) at }
         ensures sound { IsSound (store_of map.new) }
-        ensures estate { (l : Land) → IsEstate (estate_of map.old l) → IsEstate (estate_of map.new l) }
+        ensures area_store { (l : AreaTable) → IsAreaStore (area_store_of map.old l) → IsAreaStore
+            (area_store_of map.new l) }
         ensures classes { AreClasses map.old → AreClasses map.new }
         ensures mapping { mapping map.new ≡ mapping map.old }
         ensures order { MatchResult (block_sized (store_of map.old) module_area_start at)
@@ -49,7 +50,8 @@ impl Rma {
         requires { IsSound (store_of map.old) }
         ensures store { store_of map.new ≡ image_dropped (store_of map.old) at }
         ensures sound { IsSound (store_of map.new) }
-        ensures estate { (l : Land) → IsEstate (estate_of map.old l) → IsEstate (estate_of map.new l) }
+        ensures area_store { (l : AreaTable) → IsAreaStore (area_store_of map.old l) → IsAreaStore
+            (area_store_of map.new l) }
         ensures classes { AreClasses map.old → AreClasses map.new }
         ensures mapping { mapping map.new ≡ mapping map.old }
         ensures regions { regions map.new ≡ without_region (regions map.old) Image at }
@@ -66,7 +68,8 @@ impl Rma {
         requires classes { AreClasses map.old }
         ensures store { store_of map.new ≡ image_freed (store_of map.old) at }
         ensures sound { IsSound (store_of map.new) }
-        ensures estate { (l : Land) → IsEstate (estate_of map.old l) → IsEstate (estate_of map.new l) }
+        ensures area_store { (l : AreaTable) → IsAreaStore (area_store_of map.old l) → IsAreaStore
+            (area_store_of map.new l) }
         ensures classes { AreClasses map.new }
         ensures mapping { mapping map.new ≡ mapping map.old }
         ensures records { regions map.new ≡ filter (stays (store_of map.new).heaps)

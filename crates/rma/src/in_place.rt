@@ -6,8 +6,8 @@ ghost use Rattle.address_map.specs.declared.region.Kind.TheVariants.{Image};
 ghost use Rattle.dynamic_areas.specs.Order.{AddsRecord};
 ghost use Rattle.dynamic_areas.specs.Ranges.{are_bytes_mapped, meets_any};
 ghost use Rattle.dynamic_areas.specs.Store.{store_of, AreClasses, IsSound};
-ghost use Rattle.dynamic_areas.specs.Areas.{Land};
-ghost use Rattle.dynamic_areas.specs.Ground.{estate_of, IsEstate};
+ghost use Rattle.dynamic_areas.specs.Areas.{AreaTable};
+ghost use Rattle.dynamic_areas.specs.Ground.{area_store_of, IsAreaStore};
 ghost use Rattle.rma.specs.flex_frame.Keeping.{KeepsFlex};
 ghost use Rattle.rma.specs.Calls.{with_store};
 ghost use Rattle.rma.specs.NewImages.{may_be_in_place, with_image_in_place};
@@ -33,11 +33,12 @@ impl Rma {
         requires may { may_be_in_place (store_of map.old) at len ≡ true }
         requires some { 0 < len }
         requires room { length (store_of map.old).others < 68 }
-        ensures placed { (l : Land)
-            → estate_of map.new l ≡ with_store (estate_of map.old l)
+        ensures placed { (l : AreaTable)
+            → area_store_of map.new l ≡ with_store (area_store_of map.old l)
             (with_image_in_place (store_of map.old) at len) }
         ensures sound { IsSound (store_of map.new) }
-        ensures estate { (l : Land) → IsEstate (estate_of map.old l) → IsEstate (estate_of map.new l) }
+        ensures area_store { (l : AreaTable) → IsAreaStore (area_store_of map.old l) → IsAreaStore
+            (area_store_of map.new l) }
         ensures classes { AreClasses map.old → AreClasses map.new }
         ensures mapping { mapping map.new ≡ mapping map.old }
         ensures order { AddsRecord map.old map.new Image at }

@@ -19,5 +19,5 @@ pub mod laws;
 pub mod new_images;
 pub mod slide;
 
-pub use crate::heap_slide::{Move, Moves};
+pub use crate::heap_slide::{BlockMove, Moves};
 pub use area::Rma;

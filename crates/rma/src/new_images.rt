@@ -11,8 +11,8 @@ ghost use Rattle.dynamic_areas.specs.Forgetting.{holds_heap};
 ghost use Rattle.address_map.specs.declared.region.Kind.TheVariants.{Image};
 ghost use Rattle.dynamic_areas.specs.Order.{AddsRecord, KeepsOrder};
 ghost use Rattle.dynamic_areas.specs.Store.{store_of, AreClasses, IsSound, has_image};
-ghost use Rattle.dynamic_areas.specs.Areas.{Land};
-ghost use Rattle.dynamic_areas.specs.Ground.{estate_of, IsEstate};
+ghost use Rattle.dynamic_areas.specs.Areas.{AreaTable};
+ghost use Rattle.dynamic_areas.specs.Ground.{area_store_of, IsAreaStore};
 ghost use Rattle.rma.specs.flex_frame.Keeping.{is_in_record, RangeHasNoAnchor, KeepsFlex};
 ghost use Rattle.rma.specs.NewImages.{store_with_image_bytes, image_copied, image_made, image_record, IsLiveBlock};
 ghost use Rattle.rma.specs.Places.{KeepsPlaces};
@@ -39,13 +39,13 @@ impl Rma {
         areas: &mut Areas,
         image: &[u8],
     ) -> Result<u32, ErrorNumber>
-        requires estate { IsEstate (estate_of map.old areas.old) }
+        requires area_store { IsAreaStore (area_store_of map.old areas.old) }
         requires classes { AreClasses map.old }
         requires room { length (store_of map.old).others < 68 }
-        ensures made { Gives (estate_of map.old areas.old)
-            (image_made (estate_of map.old areas.old) image.now) result
-            (estate_of map.new areas.new) }
-        ensures estate { IsEstate (estate_of map.new areas.new) }
+        ensures made { Gives (area_store_of map.old areas.old)
+            (image_made (area_store_of map.old areas.old) image.now) result
+            (area_store_of map.new areas.new) }
+        ensures area_store { IsAreaStore (area_store_of map.new areas.new) }
         ensures classes { AreClasses map.new }
         ensures flex { KeepsFlex (store_of map.old) (store_of map.new) }
         ensures whole { IfOk result (λ block. block % 4 ≡ 0) }
@@ -87,14 +87,14 @@ impl Rma {
         from: u32,
         len: u32,
     ) -> Result<u32, ErrorNumber>
-        requires estate { IsEstate (estate_of map.old areas.old) }
+        requires area_store { IsAreaStore (area_store_of map.old areas.old) }
         requires classes { AreClasses map.old }
         requires room { length (store_of map.old).others < 68 }
         requires source { AreMapped (is_mapped map.old) from len }
-        ensures made { Gives (estate_of map.old areas.old)
-            (image_copied (estate_of map.old areas.old) from len) result
-            (estate_of map.new areas.new) }
-        ensures estate { IsEstate (estate_of map.new areas.new) }
+        ensures made { Gives (area_store_of map.old areas.old)
+            (image_copied (area_store_of map.old areas.old) from len) result
+            (area_store_of map.new areas.new) }
+        ensures area_store { IsAreaStore (area_store_of map.new areas.new) }
         ensures classes { AreClasses map.new }
         ensures flex { KeepsFlex (store_of map.old) (store_of map.new) }
         ensures whole { IfOk result (λ block. block % 4 ≡ 0) }
@@ -124,7 +124,8 @@ fn fill(map: &mut AddressMap, block: u32, bytes: &[u8])
     requires unanchored { RangeHasNoAnchor (store_of map.old) block (total_for (length bytes.now) - 4) }
     ensures store { store_of map.new ≡ store_with_image_bytes (store_of map.old) block bytes.now }
     ensures sound { IsSound (store_of map.new) }
-    ensures estate { (l : Land) → IsEstate (estate_of map.old l) → IsEstate (estate_of map.new l) }
+    ensures area_store { (l : AreaTable) → IsAreaStore (area_store_of map.old l) → IsAreaStore
+        (area_store_of map.new l) }
     ensures classes { AreClasses map.old → AreClasses map.new }
     ensures layout { layout map.new ≡ layout map.old }
     ensures flex { KeepsFlex (store_of map.old) (store_of map.new) }
@@ -142,7 +143,8 @@ fn fill_from(map: &mut AddressMap, block: u32, from: u32, len: u32)
     requires source { AreMapped (is_mapped map.old) from len }
     ensures store { store_of map.new ≡ store_after_copy (store_of map.old) from block len }
     ensures sound { IsSound (store_of map.new) }
-    ensures estate { (l : Land) → IsEstate (estate_of map.old l) → IsEstate (estate_of map.new l) }
+    ensures area_store { (l : AreaTable) → IsAreaStore (area_store_of map.old l) → IsAreaStore
+        (area_store_of map.new l) }
     ensures classes { AreClasses map.old → AreClasses map.new }
     ensures layout { layout map.new ≡ layout map.old }
     ensures flex { KeepsFlex (store_of map.old) (store_of map.new) }

@@ -99,7 +99,7 @@ remarked c d at before olds news rest totals still change marks a =
     (λ f. (false_from_ne_true given (below f), marks a (old ∙ or_left first (given || last) f)))
     (λ f. (false_from_ne_true given (past f), marks a (old ∙ or_right first (given || last) (or_right given last f)))))
 
--- the same of a list that is told to be two
+-- the same of a list that is shown to be two
 pub remarked_as : (c d : ℕ → Class) (at : ℕ) (before old olds news rest : List Item) → old ≡ olds ++ rest → AreTotals (before ++ old)
     → HeadsAreStill (at + size_of before) olds news rest → Remarks c d (at + size_of before) olds news → AreMarked c at (before ++ old)
     → Remarks c d at (before ++ old) (before ++ (news ++ rest))

@@ -8,7 +8,7 @@ use Rattle.address_map.specs.declared.item.Item.{Item}
 use Rattle.address_map.specs.declared.item.Item.TheVariants.{Free, Live}
 use Rattle.address_map.specs.declared.region.Kind.{Kind}
 
--- a heap as a list: its kind tells whether a guest made it or it is the module area, and `end`
+-- a heap as a list: its kind says whether a guest made it or it is the module area, and `end`
 -- counts from its start, as its items do from 16 on
 pub record HeapList : Type 0 where
   pub kind : Kind

@@ -10,7 +10,7 @@ use Rattle.os_heap_words.specs.lists.Lists.{Claim, first_fit, left_free, items_a
 
 -- The walk stands at the free item at `at`, or at the end, where that is 0. It has passed `count`
 -- free items of `total` bytes, the largest of them of `largest`; the others are in the items from
--- `place` on. The heap has `items` and ends at `end`; `w` tells the word at each address.
+-- `place` on. The heap has `items` and ends at `end`; `w` shows the word at each address.
 pub record IsTallied (w : ℕ → ℕ) (start end : ℕ) (items : List Item)
     (at count total largest : ℕ) : Type 0 where
   pub place : ℕ

@@ -21,10 +21,10 @@ use Rattle.dynamic_areas.proofs.RoomLemmas.{found_number}
 use Rattle.dynamic_areas.specs.declared.area.Area.{Area}
 use Rattle.dynamic_areas.specs.declared.area.Created.{Created}
 use Rattle.dynamic_areas.specs.declared.area.Wanted.{Wanted}
-use Rattle.dynamic_areas.specs.Areas.{Land, find_area, with_areas, without_area}
-use Rattle.dynamic_areas.specs.Changing.{AreLoose, AreRangesClear, change_answer, change_of, store_after_end, is_growth, loose_pages, pages_asked, pages_had, land_after_remove, store_changed, store_emptied, store_extended, store_less, store_more, store_reduced, with_heap_end}
-use Rattle.dynamic_areas.specs.Creating.{land_after_create, pages_for}
-use Rattle.dynamic_areas.specs.Ground.{Estate, IsEstate}
+use Rattle.dynamic_areas.specs.Areas.{AreaTable, find_area, with_areas, without_area}
+use Rattle.dynamic_areas.specs.Changing.{AreLoose, AreRangesClear, change_answer, change_of, store_after_end, is_growth, loose_pages, pages_asked, pages_had, area_table_after_remove, store_changed, store_emptied, store_extended, store_less, store_more, store_reduced, with_heap_end}
+use Rattle.dynamic_areas.specs.Creating.{area_table_after_create, pages_for}
+use Rattle.dynamic_areas.specs.Ground.{AreaStore, IsAreaStore}
 use Rattle.dynamic_areas.specs.Remapped.{with_pages_at, without_pages_at}
 use Rattle.rma.proofs.FlexFrameLemmas.Heaps.{ended_keeps, writes_keep}
 use Rattle.rma.proofs.FlexFrameLemmas.Keeping.{keeps_same, keeps_then}
@@ -63,39 +63,39 @@ loose_keeps s area count loose =
     writes_keep s (without_pages_at s (area.base + 4096 * (area.pages - count)) (4096 * count)).bytes s.heaps
     (λ a is. rw (loose_outside s area count a loose is) refl)
 
-pub created_keeps : (d e : Estate) (w : Wanted) (name : List ℕ) (made : Created) → IsEstate d → IsEstate e
-    → land_after_create d.land d.pool w name ≡ Ok (e.land, made) → e.store ≡ with_pages_at d.store made.base (4096 * pages_for w.size)
+pub created_keeps : (d e : AreaStore) (w : Wanted) (name : List ℕ) (made : Created) → IsAreaStore d → IsAreaStore e
+    → area_table_after_create d.area_table d.pool w name ≡ Ok (e.area_table, made) → e.store ≡ with_pages_at d.store made.base (4096 * pages_for w.size)
     → KeepsFlex d.store e.store
-created_keeps d e w name made estate estate' done store =
+created_keeps d e w name made area_store area_store' done store =
     subst (λ (t : Store). KeepsFlex d.store t) (sym store) (mapped_keeps d.store made.base (4096 * pages_for w.size))
 
 -- an area that went is not the module area, and all its pages could go
-emptied_keeps : (s : Store) (number : ℕ) (land : Land) (a : Area) → find_area number land.areas ≡ Some a
+emptied_keeps : (s : Store) (number : ℕ) (area_table : AreaTable) (a : Area) → find_area number area_table.areas ≡ Some a
     → (number == 1 || nat_lt (loose_pages s a) a.pages) ≡ false → KeepsFlex s (without_pages_at s a.base (4096 * a.pages))
-emptied_keeps s number land a found passed =
+emptied_keeps s number area_table a found passed =
     let parts = or_parts (number == 1) (nat_lt (loose_pages s a) a.pages) passed in
-    let own : a.number ≡ number = found_number number land.areas a found in
+    let own : a.number ≡ number = found_number number area_table.areas a found in
     let other : a.number ≢ 1 = λ is. eqb-false number 1 parts.0 (sym own ∙ is) in
     let loose : AreLoose s a a.pages = loose_created s a a.pages other (ltb-false (loose_pages s a) a.pages parts.1) in
     let first : a.base + 4096 * (a.pages - a.pages) ≡ a.base = omega arith in
     subst (λ (at : ℕ). KeepsFlex s (without_pages_at s at (4096 * a.pages))) first (loose_keeps s a a.pages loose)
 
-removed_by : (s : Store) (number : ℕ) (land left : Land) (o : Option Area) → find_area number land.areas ≡ o
+removed_by : (s : Store) (number : ℕ) (area_table left : AreaTable) (o : Option Area) → find_area number area_table.areas ≡ o
     → bind (ok_or o AreaUnknown) (λ a.
-    if number == 1 || nat_lt (loose_pages s a) a.pages then Err AreaInUse else Ok (with_areas land (without_area number land.areas))) ≡ Ok left
+    if number == 1 || nat_lt (loose_pages s a) a.pages then Err AreaInUse else Ok (with_areas area_table (without_area number area_table.areas))) ≡ Ok left
     → KeepsFlex s (store_emptied s o)
-removed_by s number land left None found done = keeps_same s
-removed_by s number land left (Some a) found done = elim (cases_Bool (number == 1 || nat_lt (loose_pages s a) a.pages)) [
+removed_by s number area_table left None found done = keeps_same s
+removed_by s number area_table left (Some a) found done = elim (cases_Bool (number == 1 || nat_lt (loose_pages s a) a.pages)) [
   | inl refused ↦ absurd (let no : Err AreaInUse ≡ Ok left = (let no = rw refused at done in no) in cc)
-  | inr passed ↦ emptied_keeps s number land a found passed
+  | inr passed ↦ emptied_keeps s number area_table a found passed
 ]
 
-pub removed_keeps : (d e : Estate) (number : ℕ) → IsEstate d → IsEstate e → land_after_remove d.land d.store number ≡ Ok e.land
-    → e.store ≡ store_emptied d.store (find_area number d.land.areas) → KeepsFlex d.store e.store
-unfolding land_after_remove
-removed_keeps d e number estate estate' done store =
+pub removed_keeps : (d e : AreaStore) (number : ℕ) → IsAreaStore d → IsAreaStore e → area_table_after_remove d.area_table d.store number ≡ Ok e.area_table
+    → e.store ≡ store_emptied d.store (find_area number d.area_table.areas) → KeepsFlex d.store e.store
+unfolding area_table_after_remove
+removed_keeps d e number area_store area_store' done store =
     subst (λ (t : Store). KeepsFlex d.store t) (sym store)
-    (removed_by d.store number d.land e.land (find_area number d.land.areas) refl done)
+    (removed_by d.store number d.area_table e.area_table (find_area number d.area_table.areas) refl done)
 
 -- the module area's heap gets another end
 end_keeps : (s : Store) (end : ℕ) → IsSound s → KeepsFlex s (with_heap_end s end)
@@ -126,27 +126,27 @@ extended_keeps s number count o sound = elim (cases_Bool (number == 1)) [
 ]
 
 -- pages of the module area go once its heap ends below them
-module_reduced : (d : Estate) (count : ℕ) (a : Area) → IsEstate d → find_area 1 d.land.areas ≡ Some a → count ≤ loose_pages d.store a
+module_reduced : (d : AreaStore) (count : ℕ) (a : Area) → IsAreaStore d → find_area 1 d.area_table.areas ≡ Some a → count ≤ loose_pages d.store a
     → KeepsFlex d.store (store_less (with_heap_end d.store (4096 * (a.pages - count))) count (Some a))
-module_reduced d count a estate found fits =
+module_reduced d count a area_store found fits =
     let s : Store = d.store in
     let end : ℕ = 4096 * (a.pages - count) in
-    let m : IsModuleArea s a = module_area_known s d.pool d.land a estate found in
+    let m : IsModuleArea s a = module_area_known s d.pool d.area_table a area_store found in
     let t : Store = ending s m.heap end in
     let is : with_heap_end s end ≡ t = ap (λ (o : Option HeapList). store_after_end s end o) m.found in
-    let loose : AreLoose t a count = loose_ended s t d.pool d.land a count m estate found fits refl refl refl in
+    let loose : AreLoose t a count = loose_ended s t d.pool d.area_table a count m area_store found fits refl refl refl in
     subst (λ (u : Store). KeepsFlex s (store_less u count (Some a))) (sym is)
-    (keeps_then s t (store_less t count (Some a)) (subst (λ (u : Store). KeepsFlex s u) is (end_keeps s end estate.ground.sound)) (loose_keeps t a count loose))
+    (keeps_then s t (store_less t count (Some a)) (subst (λ (u : Store). KeepsFlex s u) is (end_keeps s end area_store.ground.sound)) (loose_keeps t a count loose))
 
-reduced_keeps : (d : Estate) (number count : ℕ) (a : Area) → IsEstate d → find_area number d.land.areas ≡ Some a → count ≤ loose_pages d.store a
+reduced_keeps : (d : AreaStore) (number count : ℕ) (a : Area) → IsAreaStore d → find_area number d.area_table.areas ≡ Some a → count ≤ loose_pages d.store a
     → KeepsFlex d.store (store_reduced d.store number count (Some a))
-reduced_keeps d number count a estate found fits = elim (cases_Bool (number == 1)) [
+reduced_keeps d number count a area_store found fits = elim (cases_Bool (number == 1)) [
   | inr other ↦
-      let own : a.number ≡ number = found_number number d.land.areas a found in
+      let own : a.number ≡ number = found_number number d.area_table.areas a found in
       rw other (loose_keeps d.store a count (loose_created d.store a count (λ is. eqb-false number 1 other (sym own ∙ is)) fits))
   | inl area ↦
-      let first : find_area 1 d.land.areas ≡ Some a = subst (λ (n : ℕ). find_area n d.land.areas ≡ Some a) (eqb-true number 1 area) found in
-      rw area (module_reduced d count a estate first fits)
+      let first : find_area 1 d.area_table.areas ≡ Some a = subst (λ (n : ℕ). find_area n d.area_table.areas ≡ Some a) (eqb-true number 1 area) found in
+      rw area (module_reduced d count a area_store first fits)
 ]
 
 -- no area has the number: no page goes
@@ -156,31 +156,31 @@ none_reduced s number count sound = elim (cases_Bool (number == 1)) [
   | inl area ↦ rw area (end_keeps s (4096 * (0 - count)) sound)
 ]
 
-changed_by_found : (d : Estate) (number amount : ℕ) (o : Option Area) → IsEstate d → find_area number d.land.areas ≡ o
+changed_by_found : (d : AreaStore) (number amount : ℕ) (o : Option Area) → IsAreaStore d → find_area number d.area_table.areas ≡ o
     → is_growth amount ≡ false → KeepsFlex d.store (store_reduced d.store number ((change_of d.store d.pool amount o).bytes / 4096) o)
-changed_by_found d number amount None estate found shrinks =
-    none_reduced d.store number ((change_of d.store d.pool amount None).bytes / 4096) estate.ground.sound
-changed_by_found d number amount (Some a) estate found shrinks =
+changed_by_found d number amount None area_store found shrinks =
+    none_reduced d.store number ((change_of d.store d.pool amount None).bytes / 4096) area_store.ground.sound
+changed_by_found d number amount (Some a) area_store found shrinks =
     let count : ℕ = min (pages_asked amount) (loose_pages d.store a) in
     let gone : (change_of d.store d.pool amount (Some a)).bytes ≡ 4096 * count = rw shrinks refl in
     let whole : 4096 * count / 4096 ≡ count = omega arith in
     subst (λ (n : ℕ). KeepsFlex d.store (store_reduced d.store number n (Some a))) (sym (ap (λ (b : ℕ). b / 4096) gone ∙ whole))
-    (reduced_keeps d number count a estate found (min-le_right (pages_asked amount) (loose_pages d.store a)))
+    (reduced_keeps d number count a area_store found (min-le_right (pages_asked amount) (loose_pages d.store a)))
 
-pub area_changed_keeps : (d e : Estate) (number amount : ℕ) → IsEstate d → IsEstate e
-    → e.store ≡ store_changed d.store d.land.areas number amount (change_answer d.land.areas d.store d.pool number amount).bytes
+pub area_changed_keeps : (d e : AreaStore) (number amount : ℕ) → IsAreaStore d → IsAreaStore e
+    → e.store ≡ store_changed d.store d.area_table.areas number amount (change_answer d.area_table.areas d.store d.pool number amount).bytes
     → KeepsFlex d.store e.store
 unfolding change_answer
-area_changed_keeps d e number amount estate estate' store =
-    let found : Option Area = find_area number d.land.areas in
+area_changed_keeps d e number amount area_store area_store' store =
+    let found : Option Area = find_area number d.area_table.areas in
     subst (λ (t : Store). KeepsFlex d.store t) (sym store) (elim (cases_Bool (is_growth amount)) [
-      | inl grows ↦ rw grows (extended_keeps d.store number ((change_of d.store d.pool amount found).bytes / 4096) found estate.ground.sound)
-      | inr shrinks ↦ rw shrinks (changed_by_found d number amount found estate refl shrinks)
+      | inl grows ↦ rw grows (extended_keeps d.store number ((change_of d.store d.pool amount found).bytes / 4096) found area_store.ground.sound)
+      | inr shrinks ↦ rw shrinks (changed_by_found d number amount found area_store refl shrinks)
     ])
 
 pub area_calls_keep : AreaCallsKeepFlex
-area_calls_keep d e estate estate' = record {
-  create = λ w name made done store. created_keeps d e w name made estate estate' done store;
-  remove = λ number done store. removed_keeps d e number estate estate' done store;
-  change = λ number amount store. area_changed_keeps d e number amount estate estate' store;
+area_calls_keep d e area_store area_store' = record {
+  create = λ w name made done store. created_keeps d e w name made area_store area_store' done store;
+  remove = λ number done store. removed_keeps d e number area_store area_store' done store;
+  change = λ number amount store. area_changed_keeps d e number amount area_store area_store' store;
 }

@@ -9,7 +9,7 @@ use Rattle.address_map.specs.Bytes.{Bytes, in_range, word_start}
 use Rattle.address_map.specs.Items.{is_heap_word}
 use Rattle.address_map.specs.Moves.{moved_place, moved_regions, moved_to}
 use Rattle.address_map.specs.Records.{anchor_among}
-use Rattle.address_map.specs.declared.follow.Move.{Move}
+use Rattle.address_map.specs.declared.follow.BlockMove.{BlockMove}
 use Rattle.address_map.specs.declared.region.Kind.{Kind}
 use Rattle.address_map.specs.declared.region.Kind.TheVariants as kind
 use Rattle.address_map.specs.declared.region.Region.{Region}
@@ -96,7 +96,7 @@ bytes_kept s h movable a k is = elim (or_cases (is_in_flex_store s.others a) (s.
 ]
 
 -- the records beside those of images stay
-other_place : (moves : List Move) (k : Kind) (a : ℕ) → is_image k ≡ false → moved_place moves k a ≡ a
+other_place : (moves : List BlockMove) (k : Kind) (a : ℕ) → is_image k ≡ false → moved_place moves k a ≡ a
 other_place moves kind.Image a other = absurd (false≢true (sym other))
 other_place moves kind.Heap a other = refl
 other_place moves kind.Rma a other = refl
@@ -106,7 +106,7 @@ other_place moves kind.Anchor a other = refl
 other_place moves kind.HeadWord a other = refl
 other_place moves kind.SystemPage a other = refl
 
-beside_moved : (moves : List Move) (rs : List Region) → beside_images (moved_regions moves rs) ≡ beside_images rs
+beside_moved : (moves : List BlockMove) (rs : List Region) → beside_images (moved_regions moves rs) ≡ beside_images rs
 beside_moved moves [] = refl
 beside_moved moves (r ∷ rs) = elim (cases_Bool (is_image r.kind)) [
   | inl image ↦ rw image (beside_moved moves rs)
@@ -219,7 +219,7 @@ may_slide_here s heap h movable sound sound' free found =
       };
     }
 
-slide_keeps : (s t : Store) (heap : ℕ) (movable : List ℕ) (moves : List Move) → IsSound s → IsSound t → MaySlide s heap movable
+slide_keeps : (s t : Store) (heap : ℕ) (movable : List ℕ) (moves : List BlockMove) → IsSound s → IsSound t → MaySlide s heap movable
     → IsHeapSlid s heap movable t moves → KeepsFlex s t
 slide_keeps s t heap movable moves sound sound' may is_slid = of_heap (find_heap heap s.heaps) refl may is_slid where
   of_heap : (o : Option HeapList) → find_heap heap s.heaps ≡ o

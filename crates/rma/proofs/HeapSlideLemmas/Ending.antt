@@ -14,7 +14,7 @@ use Rattle.address_map.specs.declared.region.Kind.{Kind}
 use Rattle.address_map.specs.declared.region.Kind.TheVariants as kind
 use Rattle.os_heap_words.specs.lists.Lists.{live_total}
 use Rattle.address_map.specs.declared.class.Class.{Class}
-use Rattle.address_map.specs.declared.follow.Move.{Move}
+use Rattle.address_map.specs.declared.follow.BlockMove.{BlockMove}
 use Rattle.address_map.specs.declared.item.Item.{Item}
 use Rattle.address_map.specs.declared.map.AddressMap.{AddressMap}
 use Rattle.address_map.specs.declared.region.Region.{Region}
@@ -79,14 +79,14 @@ blocks_here m heap movable k =
     subst (λ (q : ℕ). AreBlocks (q + 16) (items_at m q) movable) k.start
     (subst (λ (ys : List Item). AreBlocks (k.h.start + 16) ys movable) (sym k.is.list) k.blocks)
 
-pub down_here : (m n : AddressMap) (heap : ℕ) (movable : List ℕ) (moves : List Move) → Here m heap movable → IsAllSlid m n heap movable moves → AreDown moves
+pub down_here : (m n : AddressMap) (heap : ℕ) (movable : List ℕ) (moves : List BlockMove) → Here m heap movable → IsAllSlid m n heap movable moves → AreDown moves
 down_here m n heap movable moves k a =
     let stands : HasHeapAt m heap = heap_here m heap movable k in
     subst AreDown (sym a.moved)
     (moves_down (is_listed movable) (heap + 16) (heap + 16) (items_at m heap) (omega arith) (omega (arith, stands.aligned)) (omega (arith, stands.aligned)) stands.totals)
 
 -- what the slide, and the records that followed, left
-pub record IsDone (m n q : AddressMap) (moves : List Move) : Type 0 where
+pub record IsDone (m n q : AddressMap) (moves : List BlockMove) : Type 0 where
   pub records : regions q ≡ moved_regions moves (regions n)
   pub places : mapping q ≡ mapping n
   pub bytes : byte_at q ≡ byte_at n
@@ -101,7 +101,7 @@ pub record IsListSlid (m n q : AddressMap) (h : HeapList) (movable : List ℕ) :
   pub marks : Remarks (class_of m) (class_of n) (h.start + 16) h.items (slid_in h movable)
   pub records : regions q ≡ moved_regions (moves_in h movable) (regions m)
 
-list_slid : (m n q : AddressMap) (h : HeapList) (movable : List ℕ) (moves : List Move) → IsRead m h.start h.end h.items
+list_slid : (m n q : AddressMap) (h : HeapList) (movable : List ℕ) (moves : List BlockMove) → IsRead m h.start h.end h.items
     → IsAllSlid m n h.start movable moves → IsDone m n q moves → IsListSlid m n q h movable
 list_slid m n q h movable moves is a d =
     let mv : ℕ → Bool = is_listed movable in
@@ -120,7 +120,7 @@ list_slid m n q h movable moves is a d =
       mapped = mapped ∙ is_mapped-layout m n a.same;
       others = λ x head out. ap (λ (f : ℕ → ℕ). f x) d.bytes ∙ others x head out;
       marks = subst (λ (ys : List Item). Remarks (class_of m) (class_of n) first ys (slid mv first first ys)) is.list a.marks;
-      records = d.records ∙ ap (λ (ms : List Move). moved_regions ms (regions n)) moved
+      records = d.records ∙ ap (λ (ms : List BlockMove). moved_regions ms (regions n)) moved
           ∙ ap (λ (rs : List Region). moved_regions (moves_in h movable) rs) (layout-regions m n a.same);
     }
 
@@ -169,7 +169,7 @@ slide_keeps anchor mv at xs totals free a anchored held = elim (cases_Bool (mv h
       }
 ]
 
-pub moved_flex : (moves : List Move) (rs : List Region) (a : ℕ) → is_in_flex_store rs a ≡ true → is_in_flex_store (moved_regions moves rs) a ≡ true
+pub moved_flex : (moves : List BlockMove) (rs : List Region) (a : ℕ) → is_in_flex_store rs a ≡ true → is_in_flex_store (moved_regions moves rs) a ≡ true
 moved_flex moves [] a is = is
 moved_flex moves (r ∷ rs) a is = elim (cases_Bool (is_flex_store r.kind && in_range r.at r.len a)) [
   | inl here ↦
@@ -178,7 +178,7 @@ moved_flex moves (r ∷ rs) a is = elim (cases_Bool (is_flex_store r.kind && in_
       or_left _ (is_in_flex_store (moved_regions moves rs) a) (rw (place, parts.0, parts.1) refl)
   | inr other ↦ or_right _ (is_in_flex_store (moved_regions moves rs) a) (moved_flex moves rs a (rw other at is))
 ] where
-  flex_place : (moves : List Move) (k : Kind) (at : ℕ) → is_flex_store k ≡ true → moved_place moves k at ≡ at
+  flex_place : (moves : List BlockMove) (k : Kind) (at : ℕ) → is_flex_store k ≡ true → moved_place moves k at ≡ at
   flex_place moves kind.FlexStore at is = refl
   flex_place moves kind.Heap at is = refl
   flex_place moves kind.Rma at is = refl
@@ -188,7 +188,7 @@ moved_flex moves (r ∷ rs) a is = elim (cases_Bool (is_flex_store r.kind && in_
   flex_place moves kind.Image at is = absurd (false≢true is)
   flex_place moves kind.SystemPage at is = refl
 
-pub slid_store : (m n q : AddressMap) (h : HeapList) (movable : List ℕ) (moves : List Move) → IsSound (store_of m) → AreClasses m → find_heap h.start (store_of m).heaps ≡ Some h
+pub slid_store : (m n q : AddressMap) (h : HeapList) (movable : List ℕ) (moves : List BlockMove) → IsSound (store_of m) → AreClasses m → find_heap h.start (store_of m).heaps ≡ Some h
     → IsHeapIn (bytes_of m) h.start h.end h.items → IsRead m h.start h.end h.items → HoldNoAnchor (store_of m) h movable
     → HoldNoHeap (store_of m).heaps h movable → IsAllSlid m n h.start movable moves → IsDone m n q moves → IsSlidStore m q h movable
 unfolding store_of
@@ -248,13 +248,13 @@ slid_store m n q h movable moves sound classes found old is free empty a d =
     }
 
 -- the same of the heap at its address
-pub done_here : (m n q : AddressMap) (heap : ℕ) (movable : List ℕ) (moves : List Move) → IsSound (store_of m) → AreClasses m → (k : Here m heap movable)
+pub done_here : (m n q : AddressMap) (heap : ℕ) (movable : List ℕ) (moves : List BlockMove) → IsSound (store_of m) → AreClasses m → (k : Here m heap movable)
     → IsAllSlid m n heap movable moves → IsDone m n q moves → IsSlidStore m q k.h movable
 done_here m n q heap movable moves sound classes k a d =
     slid_store m n q k.h movable moves sound classes (subst (λ (x : ℕ). find_heap x (store_of m).heaps ≡ Some k.h) (sym k.start) k.found) k.spelled k.is k.free k.empty
     (subst (λ (x : ℕ). IsAllSlid m n x movable moves) (sym k.start) a) d
 
-pub slid_here : (m n q : AddressMap) (heap : ℕ) (movable : List ℕ) (moves : List Move) → IsSound (store_of m) → AreClasses m → Here m heap movable
+pub slid_here : (m n q : AddressMap) (heap : ℕ) (movable : List ℕ) (moves : List BlockMove) → IsSound (store_of m) → AreClasses m → Here m heap movable
     → IsAllSlid m n heap movable moves → IsDone m n q moves → IsHeapSlid (store_of m) heap movable (store_of q) moves
 slid_here m n q heap movable moves sound classes k a d =
     let mv : ℕ → Bool = is_listed movable in

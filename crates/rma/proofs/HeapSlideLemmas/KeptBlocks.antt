@@ -2,7 +2,7 @@
 use Rattle.std.proofs.Common.{List, ℕ, Bool, [], ◌∷◌, ◌++◌, ◌≡◌, ◌≢◌, ◌≤◌, ◌<◌, ◌+◌, ◌-◌, ◌%◌, ◌==◌, ◌∙◌, true, false, refl, sym, ap, inl, inr, Some, None, arith}
 use Rattle.std.proofs.lemmas.Bool.{cases_Bool, eqb-true, eq-eqb}
 use Rattle.address_map.specs.Moves.{moved_to}
-use Rattle.address_map.specs.declared.follow.Move.{Move}
+use Rattle.address_map.specs.declared.follow.BlockMove.{BlockMove}
 use Rattle.address_map.specs.declared.item.Item.{Item}
 use Rattle.address_map.specs.declared.item.Item.TheVariants.{Free, Live}
 use Rattle.os_heap_words.proofs.ListsLemmas.Payloads.{heap_beside, payload_unspelled}
@@ -25,7 +25,7 @@ kept_block mv top at (Live u ∷ xs) old new b t k low totals kept live less =
     let place : ℕ = item_place_after (mv (at + 4)) top at in
     let bounds : (top ≤ place) × (place ≤ at) = between (mv (at + 4)) top at low in
     let least = total_facts u totals.0 in
-    let ms : List Move = moves_of mv (place + u) (at + u) xs in
+    let ms : List BlockMove = moves_of mv (place + u) (at + u) xs in
     elim (cases_Bool (at + 4 == b)) [
       | inl here ↦
           let e : at + 4 ≡ b = eqb-true (at + 4) b here in

@@ -1,8 +1,8 @@
--- The addresses of blocks that can be moved, told in order.
+-- The addresses of blocks that can be moved, shown in order.
 use Rattle.std.proofs.Common.{List, ℕ, [], ◌∷◌, ◌++◌, ◌≡◌, ◌≢◌, ◌≤◌, ◌<◌, ◌+◌, ◌==◌, ◌∙◌, false, refl, sym, inl, inr, arith, length}
 use Rattle.std.proofs.lemmas.List.{length-append}
 use Rattle.std.proofs.lemmas.Bool.{cases_Bool, eqb-true, eq-eqb, ne_eqb}
-use Rattle.address_map.specs.declared.follow.Move.{Move}
+use Rattle.address_map.specs.declared.follow.BlockMove.{BlockMove}
 use Rattle.address_map.specs.declared.item.Item.{Item}
 use Rattle.address_map.specs.declared.item.Item.TheVariants.{Free, Live}
 use Rattle.os_heap_words.proofs.ListsLemmas.Reading.{total_facts}
@@ -49,7 +49,7 @@ one_move at to = elim (cases_Bool (to == at)) [
 no_move : (at to : ℕ) → to ≡ at → length (move_of at to) ≡ 0
 no_move at to e = rw (eq-eqb to at e) refl
 
-pub more_moves : (at top block : ℕ) (left : List ℕ) (moves : List Move) (to : ℕ) → to ≡ item_place_after (begins block left) top at
+pub more_moves : (at top block : ℕ) (left : List ℕ) (moves : List BlockMove) (to : ℕ) → to ≡ item_place_after (begins block left) top at
     → length moves + length left ≤ 128 → length (moves ++ move_of at to) + length (without_first_block block left) ≤ 128
 more_moves at top block [] moves to e few = omega (arith, length-append moves (move_of at to), no_move at to e)
 more_moves at top block (m ∷ left) moves to e few = elim (cases_Bool (m == block)) [
@@ -60,7 +60,7 @@ more_moves at top block (m ∷ left) moves to e few = elim (cases_Bool (m == blo
 ]
 
 -- and before it, where the block moves
-pub room_for_move : (at top block : ℕ) (left : List ℕ) (moves : List Move) (to : ℕ) → to ≡ item_place_after (begins block left) top at
+pub room_for_move : (at top block : ℕ) (left : List ℕ) (moves : List BlockMove) (to : ℕ) → to ≡ item_place_after (begins block left) top at
     → length moves + length left ≤ 128 → to ≢ at → length moves < 128
 room_for_move at top block [] moves to e few other = absurd (other e)
 room_for_move at top block (m ∷ left) moves to e few other = omega (arith, few)

@@ -5,7 +5,7 @@ use Rattle.std.proofs.lemmas.Bool.{cases_Bool, cases_eq, cases_lt, eqb-true, eq-
 use Rattle.address_map.specs.Bytes.{with_moved_at}
 use Rattle.address_map.specs.Items.{size_of}
 use Rattle.address_map.specs.Moves.{AreDown, moved_to}
-use Rattle.address_map.specs.declared.follow.Move.{Move}
+use Rattle.address_map.specs.declared.follow.BlockMove.{BlockMove}
 use Rattle.address_map.specs.declared.item.Item.{Item}
 use Rattle.address_map.specs.declared.item.Item.TheVariants.{Free, Live}
 use Rattle.os_heap_words.proofs.ListsLemmas.LinkWalk.{live_low}
@@ -25,13 +25,13 @@ eighths true top at one two = one
 eighths false top at one two = two
 
 -- the first of some moves
-pub one_moved : (at place : ℕ) (ms : List Move) (b : ℕ) → at + 4 ≢ b → moved_to (move_of at place ++ ms) b ≡ moved_to ms b
+pub one_moved : (at place : ℕ) (ms : List BlockMove) (b : ℕ) → at + 4 ≢ b → moved_to (move_of at place ++ ms) b ≡ moved_to ms b
 one_moved at place ms b other = elim (cases_Bool (place == at)) [
   | inl here ↦ rw here refl
   | inr moves ↦ rw (moves, ne_eqb (at + 4) b other) refl
 ]
 
-pub first_moved : (at place : ℕ) (ms : List Move) → moved_to ms (at + 4) ≡ at + 4 → moved_to (move_of at place ++ ms) (at + 4) ≡ place + 4
+pub first_moved : (at place : ℕ) (ms : List BlockMove) → moved_to ms (at + 4) ≡ at + 4 → moved_to (move_of at place ++ ms) (at + 4) ≡ place + 4
 first_moved at place ms rest = elim (cases_Bool (place == at)) [
   | inl here ↦ let e : place ≡ at = eqb-true place at here in rw (here, e) rest
   | inr moves ↦ rw (moves, eq-eqb (at + 4) (at + 4) refl) refl
@@ -124,7 +124,7 @@ moved_stays mv top at (Live u ∷ xs) b fixed =
           let own : mv (at + 4) ≡ false = ap mv here ∙ fixed in
           let stays : place ≡ at = rw own refl in
           let none : move_of at place ≡ [] = rw (eq-eqb place at stays) refl in
-          ap (λ (ms : List Move). moved_to (ms ++ moves_of mv (place + u) (at + u) xs) b) none ∙ rest
+          ap (λ (ms : List BlockMove). moved_to (ms ++ moves_of mv (place + u) (at + u) xs) b) none ∙ rest
     ]
 
 -- blocks keep their order
@@ -136,7 +136,7 @@ in_order mv top at (Live v ∷ xs) b t c u low totals first second less =
     let place : ℕ = item_place_after (mv (at + 4)) top at in
     let bounds : (top ≤ place) × (place ≤ at) = between (mv (at + 4)) top at low in
     let least = total_facts v totals.0 in
-    let ms : List Move = moves_of mv (place + v) (at + v) xs in
+    let ms : List BlockMove = moves_of mv (place + v) (at + v) xs in
     let above : at + 4 ≤ b = some_low b at t (Live v ∷ xs) first in
     let ne : at + 4 ≢ c = λ (e : at + 4 ≡ c). omega (arith, above) in
     let second' : live_total c (at + v) xs ≡ Some u = rw (ne_eqb (at + 4) c ne) at second in
@@ -165,7 +165,7 @@ stay_distinct mv top at xs b t c u low totals first second other same = elim (ca
 ]
 
 -- the moves go to lower addresses of whole words
-down_join : (at place : ℕ) (ms : List Move) → place ≤ at → place % 4 ≡ 0 → AreDown ms → AreDown (move_of at place ++ ms)
+down_join : (at place : ℕ) (ms : List BlockMove) → place ≤ at → place % 4 ≡ 0 → AreDown ms → AreDown (move_of at place ++ ms)
 down_join at place ms low whole down = elim (cases_Bool (place == at)) [
   | inl here ↦ rw here down
   | inr moves ↦ rw moves ((omega arith, omega arith), down)

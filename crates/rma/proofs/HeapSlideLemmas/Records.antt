@@ -7,7 +7,7 @@ use Rattle.address_map.specs.Bytes.{Bytes, in_range}
 use Rattle.address_map.specs.Items.{size_of}
 use Rattle.address_map.specs.Moves.{moved_place, moved_region, moved_regions, moved_to}
 use Rattle.address_map.specs.Records.{is_heap_kind}
-use Rattle.address_map.specs.declared.follow.Move.{Move}
+use Rattle.address_map.specs.declared.follow.BlockMove.{BlockMove}
 use Rattle.address_map.specs.declared.item.Item.{Item}
 use Rattle.address_map.specs.declared.region.Kind.{Kind}
 use Rattle.address_map.specs.declared.region.Kind.TheVariants as kind
@@ -26,7 +26,7 @@ use Rattle.rma.proofs.HeapSlideLemmas.Places.{low_still, moved_live, moved_stays
 use Rattle.rma.specs.heap_slide.Slide.{HoldNoHeap, is_listed, moves_of, slid}
 
 -- kinds whose records stay, and the one whose records follow
-pub image_place : (moves : List Move) (k : Kind) (a : ℕ) → is_image k ≡ true → moved_place moves k a ≡ moved_to moves a
+pub image_place : (moves : List BlockMove) (k : Kind) (a : ℕ) → is_image k ≡ true → moved_place moves k a ≡ moved_to moves a
 image_place moves kind.Image a is = refl
 image_place moves kind.Heap a is = absurd (false≢true is)
 image_place moves kind.Rma a is = absurd (false≢true is)
@@ -36,7 +36,7 @@ image_place moves kind.Anchor a is = absurd (false≢true is)
 image_place moves kind.HeadWord a is = absurd (false≢true is)
 image_place moves kind.SystemPage a is = absurd (false≢true is)
 
-pub still_place : (moves : List Move) (k : Kind) (a : ℕ) → moved_to moves a ≡ a → moved_place moves k a ≡ a
+pub still_place : (moves : List BlockMove) (k : Kind) (a : ℕ) → moved_to moves a ≡ a → moved_place moves k a ≡ a
 still_place moves kind.Image a still = still
 still_place moves kind.Heap a still = refl
 still_place moves kind.Rma a still = refl
@@ -46,7 +46,7 @@ still_place moves kind.Anchor a still = refl
 still_place moves kind.HeadWord a still = refl
 still_place moves kind.SystemPage a still = refl
 
-heap_place : (moves : List Move) (k : Kind) (a : ℕ) → is_heap_kind k ≡ true → moved_place moves k a ≡ a
+heap_place : (moves : List BlockMove) (k : Kind) (a : ℕ) → is_heap_kind k ≡ true → moved_place moves k a ≡ a
 heap_place moves kind.Heap a is = refl
 heap_place moves kind.Rma a is = refl
 heap_place moves kind.Image a is = absurd (false≢true is)
@@ -57,14 +57,14 @@ heap_place moves kind.HeadWord a is = refl
 heap_place moves kind.SystemPage a is = refl
 
 -- the heaps are recorded where they were, and the others are those that follow
-pub heaps_moved : (b : Bytes) (moves : List Move) (rs : List Region) → heaps_in b (moved_regions moves rs) ≡ heaps_in b rs
+pub heaps_moved : (b : Bytes) (moves : List BlockMove) (rs : List Region) → heaps_in b (moved_regions moves rs) ≡ heaps_in b rs
 heaps_moved b moves [] = refl
 heaps_moved b moves (r ∷ rs) = elim (cases_Bool (is_heap_kind r.kind)) [
   | inl heap ↦ rw (heap, heap_place moves r.kind r.at heap, heaps_moved b moves rs) refl
   | inr other ↦ rw (other, heaps_moved b moves rs) refl
 ]
 
-pub others_moved : (moves : List Move) (rs : List Region) → others_in (moved_regions moves rs) ≡ moved_regions moves (others_in rs)
+pub others_moved : (moves : List BlockMove) (rs : List Region) → others_in (moved_regions moves rs) ≡ moved_regions moves (others_in rs)
 others_moved moves [] = refl
 others_moved moves (r ∷ rs) = elim (cases_Bool (is_heap_kind r.kind)) [
   | inl heap ↦ rw heap (others_moved moves rs)
@@ -99,11 +99,11 @@ within_clear at len b other c size low high clear a inside =
 
 -- What a record is to the heap that slides: empty, clear of it and unmoved, or that of an image in
 -- it.
-pub record IsStill (h : HeapList) (moves : List Move) (r : Region) : Type 0 where
+pub record IsStill (h : HeapList) (moves : List BlockMove) (r : Region) : Type 0 where
   pub place : moved_place moves r.kind r.at ≡ r.at
   pub clear : AreClear h.start h.end r.at r.len
 
-abbrev pub IsKnown : HeapList → List Move → Region → Type 0
+abbrev pub IsKnown : HeapList → List BlockMove → Region → Type 0
 IsKnown h moves r = (r.len ≡ 0) ⊎ (IsStill h moves r ⊎ IsImageBlock h r)
 
 -- what the slide is of
@@ -111,7 +111,7 @@ pub record IsSlide (b c : Bytes) (h : HeapList) (movable : List ℕ) : Type 0 wh
   pub old : IsHeapIn b h.start h.end h.items
   pub new : IsHeapIn c h.start h.end (slid (is_listed movable) (h.start + 16) (h.start + 16) h.items)
 
-abbrev pub moves_in : HeapList → List ℕ → List Move
+abbrev pub moves_in : HeapList → List ℕ → List BlockMove
 moves_in h movable = moves_of (is_listed movable) (h.start + 16) (h.start + 16) h.items
 
 abbrev pub slid_in : HeapList → List ℕ → List Item
@@ -173,7 +173,7 @@ both_images : (b c : Bytes) (h : HeapList) (movable : List ℕ) (r q : Region) �
     → AreClear (moved_place (moves_in h movable) r.kind r.at) r.len (moved_place (moves_in h movable) q.kind q.at) q.len
 both_images b c h movable r q s one two clear =
     let mv : ℕ → Bool = is_listed movable in
-    let moves : List Move = moves_in h movable in
+    let moves : List BlockMove = moves_in h movable in
     let range : (h.start ≤ r.at) × ((r.at + r.len ≤ h.start + h.end) × (4 ≤ r.len)) = image_range b h r s.old one in
     let range' : (h.start ≤ q.at) × ((q.at + q.len ≤ h.start + h.end) × (4 ≤ q.len)) = image_range b h q s.old two in
     let other : r.at ≢ q.at = λ (e : r.at ≡ q.at).
@@ -211,7 +211,7 @@ pair_apart b c h movable r q s (inr (inr one)) (inr (inl two)) clear =
     rw two.place (within_clear _ r.len h.start h.end q.at q.len range.0 range.1 two.clear)
 pair_apart b c h movable r q s (inr (inr one)) (inr (inr two)) clear = both_images b c h movable r q s one two clear
 
-abbrev AreKnown : HeapList → List Move → List Region → Type 0
+abbrev AreKnown : HeapList → List BlockMove → List Region → Type 0
 AreKnown h moves [] = Unit {0}
 AreKnown h moves (r ∷ rs) = IsKnown h moves r × AreKnown h moves rs
 
@@ -261,7 +261,7 @@ image_aside b c h g movable r s heap image fixed (inr (inr within)) placed = abs
 image_aside b c h g movable r s heap image fixed (inr (inl within)) placed =
     let mv : ℕ → Bool = is_listed movable in
     let first : ℕ = h.start + 16 in
-    let moves : List Move = moves_in h movable in
+    let moves : List BlockMove = moves_in h movable in
     let new : ℕ = moved_place moves r.kind r.at in
     let stays : moved_to moves within.block ≡ within.block = moved_stays mv first first h.items within.block (fixed within) in
     let live : live_total within.block first (slid_in h movable) ≡ Some within.total =

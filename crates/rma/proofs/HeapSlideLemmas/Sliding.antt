@@ -7,7 +7,7 @@ use Rattle.address_map.specs.Bytes.{Bytes, with_moved_at, word_at, word_start}
 use Rattle.address_map.specs.Items.{is_head, is_head_of, is_total, items_in, link_target, size_of}
 use Rattle.address_map.specs.Memory.{byte_at, bytes_of, class_of, layout}
 use Rattle.address_map.specs.declared.class.Class.{Class}
-use Rattle.address_map.specs.declared.follow.Move.{Move}
+use Rattle.address_map.specs.declared.follow.BlockMove.{BlockMove}
 use Rattle.address_map.specs.declared.item.Item.{Item}
 use Rattle.address_map.specs.declared.item.Item.TheVariants.{Free, Live}
 use Rattle.address_map.specs.declared.map.AddressMap.{AddressMap}
@@ -55,7 +55,7 @@ pub record IsPlaced (m n : AddressMap) (start at free : ℕ) : Type 0 where
   pub same : layout n ≡ layout m
   pub behind : (a : ℕ) → at ≤ a → byte_at n a ≡ byte_at m a
 
-placed : (m n : AddressMap) (start : ℕ) (movable left : List ℕ) (moves : List Move) (from top at free : ℕ)
+placed : (m n : AddressMap) (start : ℕ) (movable left : List ℕ) (moves : List BlockMove) (from top at free : ℕ)
     → IsSliding m n start movable left moves from top at free → IsPlaced m n start at free
 placed m n start movable left moves from top at free s =
     record { passed = s.passed; rest = s.rest; split = s.split; place = s.place; next = s.next; same = s.same; behind = s.behind }
@@ -101,7 +101,7 @@ free_at m n start at free s heap below here = by_rest s.rest refl where
         };
       }
 
-pub at_free : (m n : AddressMap) (start : ℕ) (movable left : List ℕ) (moves : List Move) (from top at free : ℕ)
+pub at_free : (m n : AddressMap) (start : ℕ) (movable left : List ℕ) (moves : List BlockMove) (from top at free : ℕ)
     → (s : IsSliding m n start movable left moves from top at free) → HasHeapAt m start → at < start + word_at (byte_at m) (start + 8) → at ≡ free
     → AtFree m n start at s.rest
 unfolding placed
@@ -133,7 +133,7 @@ live_at m n start at free s heap below other = by_rest s.rest refl where
         word = word_behind (byte_at m) (byte_at n) at at s.behind (omega arith) ∙ facts.total_word;
       }
 
-pub at_live : (m n : AddressMap) (start : ℕ) (movable left : List ℕ) (moves : List Move) (from top at free : ℕ)
+pub at_live : (m n : AddressMap) (start : ℕ) (movable left : List ℕ) (moves : List BlockMove) (from top at free : ℕ)
     → (s : IsSliding m n start movable left moves from top at free) → HasHeapAt m start → at < start + word_at (byte_at m) (start + 8) → at ≢ free
     → AtLive m n start at s.rest
 unfolding placed
@@ -170,7 +170,7 @@ remarks_step c d e first top at passed before news item place end low totals own
     omega (arith, here.0, under.1)))
 
 -- A free item is passed.
-pub free_passed : (m n p : AddressMap) (start : ℕ) (movable left : List ℕ) (moves : List Move) (from top at free : ℕ)
+pub free_passed : (m n p : AddressMap) (start : ℕ) (movable left : List ℕ) (moves : List BlockMove) (from top at free : ℕ)
     → (s : IsSliding m n start movable left moves from top at free) → (w : AtFree m n start at s.rest)
     → byte_at p ≡ byte_at n → layout p ≡ layout n
     → ((a : ℕ) → class_of p a ≡ with_item_marked at (Free w.total) (head_class false) (class_of n) a)
@@ -246,7 +246,7 @@ place_eighths : (moves : Bool) (top at to : ℕ) → to ≡ item_place_after mov
 place_eighths true top at to e whole = let none : to - top ≡ 0 = omega arith in rw none refl
 place_eighths false top at to e whole = rw e whole
 
-pub live_passed : (m n p : AddressMap) (start : ℕ) (movable left : List ℕ) (moves : List Move) (from top at free to new_from : ℕ)
+pub live_passed : (m n p : AddressMap) (start : ℕ) (movable left : List ℕ) (moves : List BlockMove) (from top at free to new_from : ℕ)
     → (s : IsSliding m n start movable left moves from top at free) → (w : AtLive m n start at s.rest)
     → to ≡ item_place_after (begins (at + 4) left) top at → new_from ≡ cond (to == top) from top → IsLaid n p start top at to w.total
     → IsSliding m p start movable (without_first_block (at + 4) left) (moves ++ move_of at to) new_from (to + w.total) (at + w.total) free
@@ -313,7 +313,7 @@ none_left start at [] totals size = refl
 none_left start at (Live t ∷ xs) totals size = absurd (omega (arith, total_facts t totals.0))
 none_left start at (Free t ∷ xs) totals size = absurd (omega (arith, total_facts t totals.0))
 
-pub all_slid : (m n : AddressMap) (start : ℕ) (movable left : List ℕ) (moves : List Move) (from top at free : ℕ)
+pub all_slid : (m n : AddressMap) (start : ℕ) (movable left : List ℕ) (moves : List BlockMove) (from top at free : ℕ)
     → (s : IsSliding m n start movable left moves from top at free) → HasHeapAt m start → start + word_at (byte_at m) (start + 8) ≤ at
     → IsAllSlid m n start movable moves
 all_slid m n start movable left moves from top at free s heap past =
@@ -334,7 +334,7 @@ all_slid m n start movable left moves from top at free s heap past =
     }
 
 -- The same, as the steps of the code say it.
-pub free_went : (m n p : AddressMap) (start : ℕ) (movable left : List ℕ) (moves : List Move) (from top at free new_from new_top new_at new_free : ℕ)
+pub free_went : (m n p : AddressMap) (start : ℕ) (movable left : List ℕ) (moves : List BlockMove) (from top at free new_from new_top new_at new_free : ℕ)
     → (s : IsSliding m n start movable left moves from top at free) → (w : AtFree m n start at s.rest)
     → new_from ≡ from → new_top ≡ top → new_at ≡ at + word_at (byte_at n) (at + 4) → new_free ≡ link_target at (word_at (byte_at n) at)
     → byte_at p ≡ byte_at n → layout p ≡ layout n
@@ -346,7 +346,7 @@ free_went m n p start movable left moves from top at free new_from new_top new_a
     subst (λ (q : ℕ). (a : ℕ) → class_of p a ≡ with_item_marked at (Free q) (head_class false) (class_of n) a) w.word marks in
     rw (e1, e2, e3', e4 ∙ w.onward) (free_passed m n p start movable left moves from top at free s w bytes same marks')
 
-pub live_went : (m n p : AddressMap) (start : ℕ) (movable left new_left : List ℕ) (moves new_moves : List Move)
+pub live_went : (m n p : AddressMap) (start : ℕ) (movable left new_left : List ℕ) (moves new_moves : List BlockMove)
     (from top at free to total new_from new_top new_at new_free : ℕ)
     → (s : IsSliding m n start movable left moves from top at free) → (w : AtLive m n start at s.rest) → total ≡ w.total
     → to ≡ item_place_after (begins (at + 4) left) top at → new_left ≡ without_first_block (at + 4) left → new_moves ≡ moves ++ move_of at to
@@ -357,12 +357,12 @@ live_went m n p start movable left new_left moves new_moves from top at free to 
     (live_passed m n p start movable left moves from top at free to new_from s w goes e3 (subst (λ (q : ℕ). IsLaid n p start top at to q) size now))
 
 -- the room for a live item, and for the move
-pub record LiveRoom (n : AddressMap) (start from top at to total : ℕ) (begun : List Move) : Type 0 where
+pub record LiveRoom (n : AddressMap) (start from top at to total : ℕ) (begun : List BlockMove) : Type 0 where
   pub room : IsRoomForBlock n start from top to total (at + total)
   pub high : to ≤ at
   pub moves : to ≢ at → length begun < 128
 
-pub live_room : (m n : AddressMap) (start : ℕ) (movable left : List ℕ) (moves : List Move) (from top at free to total : ℕ)
+pub live_room : (m n : AddressMap) (start : ℕ) (movable left : List ℕ) (moves : List BlockMove) (from top at free to total : ℕ)
     → (s : IsSliding m n start movable left moves from top at free) → (w : AtLive m n start at s.rest) → HasHeapAt m start → total ≡ w.total
     → to ≡ item_place_after (begins (at + 4) left) top at → LiveRoom n start from top at to total moves
 live_room m n start movable left moves from top at free to total s w heap size goes =

@@ -6,7 +6,7 @@ use Rattle.profile.specs.Outcome.{Gives}
 use Rattle.profile.specs.declared.error.ErrorNumber.{ErrorNumber}
 use Rattle.address_map.specs.Bytes.{Bytes, in_range}
 use Rattle.address_map.specs.Records.{anchor_among, without_region}
-use Rattle.address_map.specs.declared.follow.Move.{Move}
+use Rattle.address_map.specs.declared.follow.BlockMove.{BlockMove}
 use Rattle.address_map.specs.declared.region.Kind.TheVariants as kind
 use Rattle.os_heap_words.specs.lists.Lists.{live_total}
 use Rattle.dynamic_areas.specs.Calls.{OfHeap, store_after_init, store_after_change, gave_back, store_after_get, store_after_resize}
@@ -15,9 +15,9 @@ use Rattle.rma.specs.heap_slide.Slide.{IsHeapSlid, MaySlide}
 use Rattle.dynamic_areas.specs.declared.area.Created.{Created}
 use Rattle.dynamic_areas.specs.declared.area.Wanted.{Wanted}
 use Rattle.dynamic_areas.specs.Areas.{find_area}
-use Rattle.dynamic_areas.specs.Changing.{change_answer, land_after_remove, store_changed, store_emptied}
-use Rattle.dynamic_areas.specs.Creating.{land_after_create, pages_for}
-use Rattle.dynamic_areas.specs.Ground.{Estate, IsEstate, IsRecorded, system_pages_range}
+use Rattle.dynamic_areas.specs.Changing.{change_answer, area_table_after_remove, store_changed, store_emptied}
+use Rattle.dynamic_areas.specs.Creating.{area_table_after_create, pages_for}
+use Rattle.dynamic_areas.specs.Ground.{AreaStore, IsAreaStore, IsRecorded, system_pages_range}
 use Rattle.dynamic_areas.specs.Remapped.{with_pages_at}
 use Rattle.rma.specs.flex_frame.Keeping.{RangeHasNoAnchor, KeepsFlex}
 
@@ -35,20 +35,20 @@ pub record HeapCallKeeps (s t : Store) (heap : ℕ) : Type 0 where
 abbrev pub HeapCallsKeepFlex : Type 0
 HeapCallsKeepFlex = (s t : Store) (heap : ℕ) → IsSound s → IsSound t → HeapCallKeeps s t heap
 
-pub record AreaCallKeeps (d e : Estate) : Type 0 where
+pub record AreaCallKeeps (d e : AreaStore) : Type 0 where
   pub create : (w : Wanted) (name : List ℕ) (made : Created) →
-      land_after_create d.land d.pool w name ≡ Ok (e.land, made)
+      area_table_after_create d.area_table d.pool w name ≡ Ok (e.area_table, made)
       → e.store ≡ with_pages_at d.store made.base (4096 * pages_for w.size) → KeepsFlex d.store e.store
-  pub remove : (number : ℕ) → land_after_remove d.land d.store number ≡ Ok e.land →
-      e.store ≡ store_emptied d.store (find_area number d.land.areas)
+  pub remove : (number : ℕ) → area_table_after_remove d.area_table d.store number ≡ Ok e.area_table →
+      e.store ≡ store_emptied d.store (find_area number d.area_table.areas)
       → KeepsFlex d.store e.store
   pub change : (number amount : ℕ)
-      → e.store ≡ store_changed d.store d.land.areas number amount
-      (change_answer d.land.areas d.store d.pool number amount).bytes
+      → e.store ≡ store_changed d.store d.area_table.areas number amount
+      (change_answer d.area_table.areas d.store d.pool number amount).bytes
       → KeepsFlex d.store e.store
 
 abbrev pub AreaCallsKeepFlex : Type 0
-AreaCallsKeepFlex = (d e : Estate) → IsEstate d → IsEstate e → AreaCallKeeps d e
+AreaCallsKeepFlex = (d e : AreaStore) → IsAreaStore d → IsAreaStore e → AreaCallKeeps d e
 
 pub record WriteKeeps (s : Store) : Type 0 where
   pub system : (c : Bytes) → IsSound s → IsRecorded system_pages_range s.others
@@ -70,6 +70,6 @@ abbrev pub WritesKeepFlex : Type 0
 WritesKeepFlex = (s : Store) → WriteKeeps s
 
 abbrev pub SlidesKeepFlex : Type 0
-SlidesKeepFlex = (s t : Store) (movable : List ℕ) (moves : List Move) → IsSound s → IsSound t →
+SlidesKeepFlex = (s t : Store) (movable : List ℕ) (moves : List BlockMove) → IsSound s → IsSound t →
     MaySlide s module_area_start movable
     → IsHeapSlid s module_area_start movable t moves → KeepsFlex s t

@@ -7,7 +7,7 @@ use Rattle.std.specs.Prelude.{ℕ, ◌≡◌, ◌≤◌, Bool, true, false, ◌+
 use Rattle.std.specs.List.{list_any}
 use Rattle.address_map.specs.Bytes.{with_moved_at}
 use Rattle.address_map.specs.Moves.{moved_regions}
-use Rattle.address_map.specs.declared.follow.Move.{Move}
+use Rattle.address_map.specs.declared.follow.BlockMove.{BlockMove}
 use Rattle.address_map.specs.declared.item.Item.{Item}
 use Rattle.address_map.specs.declared.item.Item.TheVariants.{Free, Live}
 use Rattle.os_heap_words.specs.lists.Heap.{HeapList, with_heap}
@@ -42,10 +42,10 @@ slid_bytes movable top at (Live t ∷ xs) bytes =
 slid_bytes movable top at (Free t ∷ xs) bytes = slid_bytes movable top (at + t) xs bytes
 
 -- the old and the new address of each block that moved
-abbrev pub move_of : ℕ → ℕ → List Move
+abbrev pub move_of : ℕ → ℕ → List BlockMove
 move_of at place = if place == at then [] else (record { from = at + 4; to = place + 4 } ∷ [])
 
-abbrev pub moves_of : (ℕ → Bool) → ℕ → ℕ → List Item → List Move
+abbrev pub moves_of : (ℕ → Bool) → ℕ → ℕ → List Item → List BlockMove
 moves_of movable top at [] = []
 moves_of movable top at (Live t ∷ xs) =
     let place : ℕ = item_place_after (movable (at + 4)) top at in
@@ -100,7 +100,7 @@ MaySlide s heap movable = OfHeap (λ h.
     (HoldNoAnchor s h movable × HoldNoHeap s.heaps h movable))) (find_heap heap s.heaps)
 
 -- the store after the slide of a heap, and the blocks that moved
-abbrev pub IsHeapSlid : Store → ℕ → List ℕ → Store → List Move → Type 0
+abbrev pub IsHeapSlid : Store → ℕ → List ℕ → Store → List BlockMove → Type 0
 IsHeapSlid s heap movable t moves = OfHeap (λ h.
     (t ≡ with_slid s h movable) × (moves ≡ moves_of (is_listed movable) (h.start + 16)
     (h.start + 16) h.items)) (find_heap heap s.heaps)

@@ -4,7 +4,7 @@ use Rattle.std.specs.Prelude.{ℕ, ◌≡◌, ◌≤◌, true, ◌+◌, ◌-◌,
 use Rattle.address_map.specs.Bytes.{word_at, with_moved_at, word_start}
 use Rattle.address_map.specs.Items.{is_head, is_head_of, is_total, link_target, size_of}
 use Rattle.address_map.specs.Memory.{byte_at, bytes_of, class_of, layout}
-use Rattle.address_map.specs.declared.follow.Move.{Move}
+use Rattle.address_map.specs.declared.follow.BlockMove.{BlockMove}
 use Rattle.address_map.specs.declared.item.Item.{Item}
 use Rattle.address_map.specs.declared.item.Item.TheVariants.{Free, Live}
 use Rattle.address_map.specs.declared.map.AddressMap.{AddressMap}
@@ -63,7 +63,7 @@ pub record IsFreeHere (m : AddressMap) (start at : ℕ) : Type 0 where
 -- free one from there on is at `free`. The items passed have their new places in `n`, up to `top`,
 -- the last free one of them at `from`; `moves` are those that moved, and `left` the addresses of
 -- `movable` that come next.
-pub record IsSliding (m n : AddressMap) (start : ℕ) (movable left : List ℕ) (moves : List Move)
+pub record IsSliding (m n : AddressMap) (start : ℕ) (movable left : List ℕ) (moves : List BlockMove)
     (from top at free : ℕ) : Type 0 where
   pub passed : List Item
   pub rest : List Item
@@ -91,7 +91,7 @@ pub record IsSliding (m n : AddressMap) (start : ℕ) (movable left : List ℕ) 
   pub few : length moves + length left ≤ 128
 
 -- All items of the heap, as it was in `m`, have their new places. The records are the same.
-pub record IsAllSlid (m n : AddressMap) (start : ℕ) (movable : List ℕ) (moves : List Move) : Type 0 where
+pub record IsAllSlid (m n : AddressMap) (start : ℕ) (movable : List ℕ) (moves : List BlockMove) : Type 0 where
   pub heap : IsHeapIn (bytes_of n) start (end_at m start)
       (slid (is_listed movable) (start + 16) (start + 16) (items_at m start))
   pub same : layout n ≡ layout m

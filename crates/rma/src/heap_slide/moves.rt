@@ -7,14 +7,14 @@ ghost use Rattle.dynamic_areas.specs.Store.{store_of, AreClasses, IsSound};
 ghost use Rattle.rma.specs.heap_slide.Slide.{MaySlide, IsHeapSlid};
 
 use crate::heap_slide::steps::slide_items;
-use address_map::{AddressMap, Move};
+use address_map::{AddressMap, BlockMove};
 use arrayvec::ArrayVec;
 
 /// The most blocks that a slide can move.
 pub const MOST_MOVES: usize = 128;
 
 /// The blocks that a slide moved.
-pub type Moves = ArrayVec<Move, MOST_MOVES>;
+pub type Moves = ArrayVec<BlockMove, MOST_MOVES>;
 
 /// Slides blocks of the heap that starts at `heap` towards its start. `movable` has the addresses
 /// of those that can be moved, in order, at most 128, none of which holds an anchor of the flex

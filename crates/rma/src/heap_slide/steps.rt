@@ -9,7 +9,7 @@ ghost use Rattle.rma.specs.heap_slide.Steps.{IsAllSlid, IsSliding};
 
 use crate::heap_slide::items::{Cursor, lay, pass_free};
 use crate::heap_slide::moves::Moves;
-use address_map::{AddressMap, Move};
+use address_map::{AddressMap, BlockMove};
 use os_heap_words::words::{BASE, follow, put, put_link, word};
 use profile::memory_map::HEAP_DESCRIPTOR;
 
@@ -78,7 +78,7 @@ fn add_move(moves: &mut Moves, at: u32, to: u32)
     ensures { moves.new.items ≡ moves.old.items ++ move_of at to }
 {
     if to != at {
-        moves.push(Move {
+        moves.push(BlockMove {
             from: at + 4,
             to: to + 4,
         });

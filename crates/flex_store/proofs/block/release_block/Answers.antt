@@ -10,7 +10,7 @@ use Rattle.flex_store.proofs.block.release_block.Goals as goal
 
 holds_by : (m : AddressMap) (header size : ℕ) (holds t : Bool) → holds ≡ anchor_among (anchor_of m) (header + 8) size → size ≡ (first_at m header).size → holds ≡ t
     → anchor_among (anchor_of m) (header + 8) (first_at m header).size ≡ t
-holds_by m header size holds t is size_is told = ap (λ (n : ℕ). anchor_among (anchor_of m) (header + 8) n) (sym size_is) ∙ (sym is ∙ told)
+holds_by m header size holds t is size_is reported = ap (λ (n : ℕ). anchor_among (anchor_of m) (header + 8) n) (sym size_is) ∙ (sym is ∙ reported)
 
 pub overflow_add-header : goal.overflow_add-header
 overflow_add-header c = omega (arith, (header_word c.args.map.now c.args.extent.now c.args.anchor c.in-Some.header c.requires c.in-Some.ensures).low)

@@ -13,7 +13,7 @@ use Rattle.flex_store.proofs.block.splice_block.Goals as goal
 
 breaks_by : (m : AddressMap) (header size : ℕ) (s : Splice) (breaks t : Bool) → breaks ≡ breaks_anchor (anchor_of m) (header + 8) size s.at s.cut s.more
     → size ≡ (first_at m header).size → breaks ≡ t → breaks_anchor (anchor_of m) (header + 8) (first_at m header).size s.at s.cut s.more ≡ t
-breaks_by m header size s breaks t is size_is told = ap (λ (n : ℕ). breaks_anchor (anchor_of m) (header + 8) n s.at s.cut s.more) (sym size_is) ∙ (sym is ∙ told)
+breaks_by m header size s breaks t is size_is reported = ap (λ (n : ℕ). breaks_anchor (anchor_of m) (header + 8) n s.at s.cut s.more) (sym size_is) ∙ (sym is ∙ reported)
 
 pub overflow_add-header : goal.overflow_add-header
 overflow_add-header c = omega (arith, (header_word c.args.map.now c.args.extent.now c.args.anchor c.args.header c.requires.store c.requires.place).low)

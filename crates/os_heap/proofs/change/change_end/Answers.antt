@@ -52,8 +52,8 @@ returns-in_default-answer-clause-store c =
     let h : HeapList = heap_in (bytes_of c.args.map.now) c.in-Some.region in
     let own : has_own_size h.kind ≡ true = cc in
     let is : store_after_change s c.args.heap c.args.change ≡ end_changed s h c.args.change (changed_by h.end c.args.change) = changed_own s c.args.heap c.args.change h c.in-Some.ensures.1 own in
-    let told = rw c.in_default-answer.is at c.may_end-tested.ensures.answer in
-    let refused = told c.args.change c.if-change-ne0.false in
+    let reported = rw c.in_default-answer.is at c.may_end-tested.ensures.answer in
+    let refused = reported c.args.change c.if-change-ne0.false in
     let there = rw c.changed_by-end.ensures at refused in
     rw (c.in_default-answer.is, is, there) (refl, refl)
 

@@ -1,5 +1,5 @@
 use Rattle.std.proofs.Common.{◌-◌, ◌∙◌, sym, arith}
-use Rattle.os_heap.proofs.ForgetLemmas.{forgets_unheld, lies_at, told_held}
+use Rattle.os_heap.proofs.ForgetLemmas.{forgets_unheld, lies_at, shown_held}
 use Rattle.os_heap.proofs.forget.forget_inner.Goals as goal
 
 pub overflow_sub-total : goal.overflow_sub-total
@@ -10,5 +10,5 @@ forget-requires-clause-aligned c = (lies_at c.args.map.now c.args.block c.args.t
 
 pub returns-else-holds_heap : goal.returns-else-holds_heap
 returns-else-holds_heap c =
-    let held = told_held c.args.map.now _ c.args.block (c.args.total - 4) c.holds_heap.result c.regions.ensures c.holds_heap.ensures in
+    let held = shown_held c.args.map.now _ c.args.block (c.args.total - 4) c.holds_heap.result c.regions.ensures c.holds_heap.ensures in
     forgets_unheld c.args.map.now c.args.block c.args.total c.requires.state c.requires.block (sym held ∙ c.if-holds_heap.false)

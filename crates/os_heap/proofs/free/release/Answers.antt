@@ -3,7 +3,7 @@ use Rattle.address_map.specs.Bytes.{word_at}
 use Rattle.address_map.specs.Memory.{byte_at}
 use Rattle.os_heap.specs.Store.{store_of}
 use Rattle.os_heap.proofs.Calls.{free_counted, free_unfound, image_recorded, part_at}
-use Rattle.os_heap.proofs.Resizing.{anchor_told, block_here, held_released, is_there, there_heap}
+use Rattle.os_heap.proofs.Resizing.{anchor_shown, block_here, held_released, is_there, there_heap}
 use Rattle.os_heap.proofs.LostRecords.{rest_kept}
 use Rattle.os_heap.proofs.free.release.Goals as goal
 
@@ -33,7 +33,7 @@ returns-then-holds_anchor-clause-store c =
     let here = block_here m c.args.heap c.args.block _ c.in-Some.cursor.at _ _ c.requires.state.sound c.requires.found
     (rw c.in-Some.is at c.find_guest_block-walk.ensures.block) in
     let t = is_there m c.args.heap c.requires.found in
-    let held = anchor_told m c.args.heap c.args.block (word_at (byte_at m) c.in-Some.cursor.at) c.holds_anchor.result true here.live c.holds_anchor.ensures
+    let held = anchor_shown m c.args.heap c.args.block (word_at (byte_at m) c.in-Some.cursor.at) c.holds_anchor.result true here.live c.holds_anchor.ensures
     c.if-holds_anchor.true in
     rw (
       c.refused-then-holds_anchor.ensures,

@@ -4,7 +4,7 @@ use Rattle.std.specs.List.{list_any}
 use Rattle.address_map.specs.Memory.{anchor_of, bytes_of, regions}
 use Rattle.address_map.specs.Records.{anchor_among}
 use Rattle.os_heap.proofs.Innermost.{last_spelled}
-use Rattle.os_heap.proofs.Obstructions.{barred_probes, obstructed_barred, obstructed_told, walk_probes_of}
+use Rattle.os_heap.proofs.Obstructions.{barred_probes, obstructed_barred, obstructed_shown, walk_probes_of}
 use Rattle.os_heap.specs.Bars.{bars_record}
 use Rattle.os_heap.specs.Laws.{passes_if_there}
 use Rattle.os_heap.specs.Nesting.{holds_range, is_round}
@@ -31,9 +31,9 @@ pub returns-in_default-round-clause-yes : goal.returns-in_default-round-clause-y
 returns-in_default-round-clause-yes c =
     let m = c.args.map.now in
     let found = rw c.in_default-round.is at (rw c.regions.ensures at c.in-Ok.ensures) in
-    let told = obstructed_told m c.args.at c.args.len c.args.new c.args.more c.requires.sound.sound c.requires.some found.free
+    let reported = obstructed_shown m c.args.at c.args.len c.args.new c.args.more c.requires.sound.sound c.requires.some found.free
     (sym c.anchor_in.ensures ∙ c.if-anchor_in.false) in
-    sym (told ∙ ap (passes_if_there (λ h. not (holds_range (h.start + 16) h.items c.args.at c.args.len))) (found.last (bytes_of m)))
+    sym (reported ∙ ap (passes_if_there (λ h. not (holds_range (h.start + 16) h.items c.args.at c.args.len))) (found.last (bytes_of m)))
 
 pub holds_range-held-requires-clause-heap : goal.holds_range-held-requires-clause-heap
 unfolding store_of
@@ -47,10 +47,10 @@ pub returns-clause-yes : goal.returns-clause-yes
 returns-clause-yes c =
     let m = c.args.map.now in
     let found = rw c.in-Some.is at (rw c.regions.ensures at c.in-Ok.ensures) in
-    let told = obstructed_told m c.args.at c.args.len c.args.new c.args.more c.requires.sound.sound c.requires.some found.free
+    let reported = obstructed_shown m c.args.at c.args.len c.args.new c.args.more c.requires.sound.sound c.requires.some found.free
     (sym c.anchor_in.ensures ∙ c.if-anchor_in.false) in
     ap not c.holds_range-held.ensures.yes
-    ∙ sym (told ∙ ap (passes_if_there (λ h. not (holds_range (h.start + 16) h.items c.args.at c.args.len))) (found.last (bytes_of m)))
+    ∙ sym (reported ∙ ap (passes_if_there (λ h. not (holds_range (h.start + 16) h.items c.args.at c.args.len))) (found.last (bytes_of m)))
 
 pub returns-in_default-clause-probes : goal.returns-in_default-clause-probes
 returns-in_default-clause-probes c =

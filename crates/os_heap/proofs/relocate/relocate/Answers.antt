@@ -1,7 +1,7 @@
 use Rattle.std.proofs.Common.{◌≡◌, ◌-◌, ◌∙◌, false, sym, arith}
 use Rattle.os_heap.specs.Forgetting.{holds_heap}
 use Rattle.os_heap.specs.Store.{store_of}
-use Rattle.os_heap.proofs.ForgetLemmas.{lies_at, told_held}
+use Rattle.os_heap.proofs.ForgetLemmas.{lies_at, shown_held}
 use Rattle.os_heap.proofs.Frame.{layout-regions}
 use Rattle.os_heap.proofs.MoveRefusals.{is_held_back, is_refused, refused_kept}
 use Rattle.os_heap.proofs.Moving.{part_there, is_claimed, are_inside, is_copied, is_moved, moved_probes, probes_fit}
@@ -61,8 +61,8 @@ overflow_add-result c =
 
 pub returns : goal.returns
 returns c =
-    let told = told_held c.args.map.now _ c.args.block (c.args.total - 4) c.holds_heap.result c.regions.ensures c.holds_heap.ensures in
-    let empty : holds_heap (store_of c.args.map.now).heaps c.args.block (c.args.total - 4) ≡ false = sym told ∙ c.if-holds_heap.false in
+    let reported = shown_held c.args.map.now _ c.args.block (c.args.total - 4) c.holds_heap.result c.regions.ensures c.holds_heap.ensures in
+    let empty : holds_heap (store_of c.args.map.now).heaps c.args.block (c.args.total - 4) ≡ false = sym reported ∙ c.if-holds_heap.false in
     let part = part_there c.args.heap (store_of c.args.map.now).heaps c.requires.may.found in
     let claim = is_claimed c.args.map.now c.claim_total-claim.new.map c.args.heap c.args.block c.args.total c.args.needed c.in-Ok.new _ part c.requires.state.sound c.requires.state.classes c.requires.may.live
     c.claim_total-claim.ensures.claim c.in-Ok.is in
@@ -80,16 +80,16 @@ returns c =
 pub returns-then-holds_heap-clause-store : goal.returns-then-holds_heap-clause-store
 returns-then-holds_heap-clause-store c h found =
     let m = c.args.map.now in
-    let told = told_held m _ c.args.block (c.args.total - 4) c.holds_heap.result c.regions.ensures c.holds_heap.ensures in
-    let back = is_held_back m c.args.heap c.args.block c.args.total c.args.needed h c.requires.state.sound found (sym told ∙ c.if-holds_heap.true) in
+    let reported = shown_held m _ c.args.block (c.args.total - 4) c.holds_heap.result c.regions.ensures c.holds_heap.ensures in
+    let back = is_held_back m c.args.heap c.args.block c.args.total c.args.needed h c.requires.state.sound found (sym reported ∙ c.if-holds_heap.true) in
     let answer = rw c.find_room-room.ensures.answer at c.and-answer.ensures in
     rw answer back.0
 
 pub returns-then-holds_heap-clause-probes : goal.returns-then-holds_heap-clause-probes
 returns-then-holds_heap-clause-probes c h found =
     let m = c.args.map.now in
-    let told = told_held m _ c.args.block (c.args.total - 4) c.holds_heap.result c.regions.ensures c.holds_heap.ensures in
-    let back = is_held_back m c.args.heap c.args.block c.args.total c.args.needed h c.requires.state.sound found (sym told ∙ c.if-holds_heap.true) in
+    let reported = shown_held m _ c.args.block (c.args.total - 4) c.holds_heap.result c.regions.ensures c.holds_heap.ensures in
+    let back = is_held_back m c.args.heap c.args.block c.args.total c.args.needed h c.requires.state.sound found (sym reported ∙ c.if-holds_heap.true) in
     c.find_room-room.ensures.probes ∙ back.1
 
 pub returns-in_default-clause-kept : goal.returns-in_default-clause-kept

@@ -1,7 +1,7 @@
 use Rattle.std.proofs.Common.{true, false, ◌≡◌, ◌+◌, Some, refl, sym, ◌∙◌, ap, arith}
 use Rattle.os_heap_words.specs.Outcomes.{items_at, end_at}
 use Rattle.os_heap_words.specs.lists.Lists.{round_up_8, changed_by, live_total}
-use Rattle.os_heap.proofs.Resizing.{there_heap, block_here, resize_refused, resize_freed, resize_refitted, larger_where_none, resize_moved, move_few, anchor_told, cut_told, below_all, held_freed, held_cut, held_moved}
+use Rattle.os_heap.proofs.Resizing.{there_heap, block_here, resize_refused, resize_freed, resize_refitted, larger_where_none, resize_moved, move_few, anchor_shown, cut_shown, below_all, held_freed, held_cut, held_moved}
 use Rattle.address_map.specs.Memory.{regions}
 use Rattle.os_heap.proofs.Sized.{unheld}
 use Rattle.os_heap_words.proofs.Walking.{begun_few}
@@ -58,7 +58,7 @@ returns-then-resize_in_place c =
     let size : c.changed_by-size.result ≡ changed_by c.word-total.result c.args.change = c.changed_by-size.ensures in
     let needed : c.round_up_8-needed.result ≡ round_up_8 (changed_by c.word-total.result c.args.change) = c.round_up_8-needed.ensures ∙ ap round_up_8 size in
     let cut = rw needed at c.cut_holds_anchor.ensures in
-    let uncut = cut_told m _ _ c.cut_holds_anchor.result false cut c.if-cut_holds_anchor.false in
+    let uncut = cut_shown m _ _ c.cut_holds_anchor.result false cut c.if-cut_holds_anchor.false in
     let done = resize_refitted m r.between c.resize_in_place.new.map c.args.heap c.args.block c.args.change c.word-total.result c.requires.state c.requires.found
     here.own live (omega (arith, size, c.if-size-le4.false)) uncut (rw (own, needed) at r.forgets) (rw needed at r.refits) in
     record {
@@ -77,13 +77,13 @@ relocate-moved-requires-clause-may c =
     let here = block_here c.args.map.now c.args.heap c.args.block _ c.in-Some.cursor.at _ _ c.requires.state.sound c.requires.found (rw c.in-Some.is at c.find_guest_block-walk.ensures.block) in
     let live : live_total c.args.block (c.args.heap + 16) (items_at c.args.map.now c.args.heap) ≡ Some c.word-total.result = here.live ∙ ap (λ n. Some n) (sym c.word-total.ensures) in
     let un = rw c.if-resize_in_place.false at c.resize_in_place.ensures in
-    let told = rw un.1 at c.holds_anchor-2.ensures in
+    let reported = rw un.1 at c.holds_anchor-2.ensures in
     rw un.1 (record {
       heap = there_heap c.args.map.now c.args.heap c.requires.state.sound c.requires.found;
       found = c.requires.found;
       own = (rw c.in-Some.is at c.find_guest_block-walk.ensures.block).own;
       live = live;
-      unheld = anchor_told c.args.map.now c.args.heap c.args.block c.word-total.result c.holds_anchor-2.result false live told c.if-holds_anchor-2.false;
+      unheld = anchor_shown c.args.map.now c.args.heap c.args.block c.word-total.result c.holds_anchor-2.result false live reported c.if-holds_anchor-2.false;
     })
 
 pub relocate-moved-requires-clause-larger : goal.relocate-moved-requires-clause-larger
@@ -108,8 +108,8 @@ returns c =
     let size : c.changed_by-size.result ≡ changed_by c.word-total.result c.args.change = c.changed_by-size.ensures in
     let needed : c.round_up_8-needed.result ≡ round_up_8 (changed_by c.word-total.result c.args.change) = c.round_up_8-needed.ensures ∙ ap round_up_8 size in
     let un = rw c.if-resize_in_place.false at c.resize_in_place.ensures in
-    let told = rw un.1 at c.holds_anchor-2.ensures in
-    let free = anchor_told c.args.map.now c.args.heap c.args.block c.word-total.result c.holds_anchor-2.result false live told c.if-holds_anchor-2.false in
+    let reported = rw un.1 at c.holds_anchor-2.ensures in
+    let free = anchor_shown c.args.map.now c.args.heap c.args.block c.word-total.result c.holds_anchor-2.result false live reported c.if-holds_anchor-2.false in
     let done = resize_moved c.args.map.now c.relocate-moved.new.map c.args.heap c.args.block c.args.change c.word-total.result c.relocate-moved.result.probes _ c.requires.state.sound c.requires.found here.own live
     (omega (arith, size, c.if-size-le4.false)) (rw needed at un.0) free (rw (un.1, needed) at c.relocate-moved.ensures.store) (rw un.1 at c.relocate-moved.ensures.kept)
     (rw (un.1, needed) at c.relocate-moved.ensures.probes) in
@@ -131,7 +131,7 @@ returns-then-holds_anchor-clause-store c =
     let live : live_total c.args.block (c.args.heap + 16) (items_at c.args.map.now c.args.heap) ≡ Some c.word-total.result = here.live ∙ ap (λ n. Some n) (sym c.word-total.ensures) in
     let refused = held_freed c.args.map.now c.args.heap c.args.block c.args.change c.word-total.result c.requires.found here.own live
     (omega (arith, c.changed_by-size.ensures, c.if-size-le4.true))
-    (anchor_told c.args.map.now c.args.heap c.args.block c.word-total.result c.holds_anchor.result true live c.holds_anchor.ensures c.if-holds_anchor.true) in
+    (anchor_shown c.args.map.now c.args.heap c.args.block c.word-total.result c.holds_anchor.result true live c.holds_anchor.ensures c.if-holds_anchor.true) in
     rw (c.refused-then-holds_anchor.ensures, refused.0) (refl, refl)
 
 pub returns-then-holds_anchor-clause-probes : goal.returns-then-holds_anchor-clause-probes
@@ -140,7 +140,7 @@ returns-then-holds_anchor-clause-probes c =
     let live : live_total c.args.block (c.args.heap + 16) (items_at c.args.map.now c.args.heap) ≡ Some c.word-total.result = here.live ∙ ap (λ n. Some n) (sym c.word-total.ensures) in
     let refused = held_freed c.args.map.now c.args.heap c.args.block c.args.change c.word-total.result c.requires.found here.own live
     (omega (arith, c.changed_by-size.ensures, c.if-size-le4.true))
-    (anchor_told c.args.map.now c.args.heap c.args.block c.word-total.result c.holds_anchor.result true live c.holds_anchor.ensures c.if-holds_anchor.true) in
+    (anchor_shown c.args.map.now c.args.heap c.args.block c.word-total.result c.holds_anchor.result true live c.holds_anchor.ensures c.if-holds_anchor.true) in
     rw c.refused-then-holds_anchor.ensures (c.find_guest_block-walk.ensures.probes ∙ sym refused.1)
 
 pub cut_holds_anchor-requires-clause-below : goal.cut_holds_anchor-requires-clause-below
@@ -158,7 +158,7 @@ returns-then-cut_holds_anchor-clause-store c =
     let cut = rw needed at c.cut_holds_anchor.ensures in
     let refused = held_cut c.args.map.now c.args.heap c.args.block c.args.change c.word-total.result c.requires.found here.own live
     (omega (arith, size, c.if-size-le4.false))
-    (cut_told c.args.map.now _ _ c.cut_holds_anchor.result true cut c.if-cut_holds_anchor.true) in
+    (cut_shown c.args.map.now _ _ c.cut_holds_anchor.result true cut c.if-cut_holds_anchor.true) in
     rw (c.refused-then-cut_holds_anchor.ensures, refused.0) (refl, refl)
 
 pub returns-then-cut_holds_anchor-clause-probes : goal.returns-then-cut_holds_anchor-clause-probes
@@ -170,7 +170,7 @@ returns-then-cut_holds_anchor-clause-probes c =
     let cut = rw needed at c.cut_holds_anchor.ensures in
     let refused = held_cut c.args.map.now c.args.heap c.args.block c.args.change c.word-total.result c.requires.found here.own live
     (omega (arith, size, c.if-size-le4.false))
-    (cut_told c.args.map.now _ _ c.cut_holds_anchor.result true cut c.if-cut_holds_anchor.true) in
+    (cut_shown c.args.map.now _ _ c.cut_holds_anchor.result true cut c.if-cut_holds_anchor.true) in
     rw c.refused-then-cut_holds_anchor.ensures (c.find_guest_block-walk.ensures.probes ∙ sym refused.1)
 
 pub holds_anchor-requires-2 : goal.holds_anchor-requires-2
@@ -188,10 +188,10 @@ returns-then-holds_anchor-2-clause-store c =
     let size : c.changed_by-size.result ≡ changed_by c.word-total.result c.args.change = c.changed_by-size.ensures in
     let needed : c.round_up_8-needed.result ≡ round_up_8 (changed_by c.word-total.result c.args.change) = c.round_up_8-needed.ensures ∙ ap round_up_8 size in
     let un = rw c.if-resize_in_place.false at c.resize_in_place.ensures in
-    let told = rw un.1 at c.holds_anchor-2.ensures in
+    let reported = rw un.1 at c.holds_anchor-2.ensures in
     let refused = held_moved c.args.map.now c.args.heap c.args.block c.args.change c.word-total.result c.requires.state.sound c.requires.found here.own live
     (omega (arith, size, c.if-size-le4.false)) (rw needed at un.0)
-    (anchor_told c.args.map.now c.args.heap c.args.block c.word-total.result c.holds_anchor-2.result true live told c.if-holds_anchor-2.true) in
+    (anchor_shown c.args.map.now c.args.heap c.args.block c.word-total.result c.holds_anchor-2.result true live reported c.if-holds_anchor-2.true) in
     rw (un.1, c.refused-then-holds_anchor-2.ensures, refused.0) (refl, refl)
 
 pub returns-then-holds_anchor-2-clause-probes : goal.returns-then-holds_anchor-2-clause-probes
@@ -201,10 +201,10 @@ returns-then-holds_anchor-2-clause-probes c =
     let size : c.changed_by-size.result ≡ changed_by c.word-total.result c.args.change = c.changed_by-size.ensures in
     let needed : c.round_up_8-needed.result ≡ round_up_8 (changed_by c.word-total.result c.args.change) = c.round_up_8-needed.ensures ∙ ap round_up_8 size in
     let un = rw c.if-resize_in_place.false at c.resize_in_place.ensures in
-    let told = rw un.1 at c.holds_anchor-2.ensures in
+    let reported = rw un.1 at c.holds_anchor-2.ensures in
     let refused = held_moved c.args.map.now c.args.heap c.args.block c.args.change c.word-total.result c.requires.state.sound c.requires.found here.own live
     (omega (arith, size, c.if-size-le4.false)) (rw needed at un.0)
-    (anchor_told c.args.map.now c.args.heap c.args.block c.word-total.result c.holds_anchor-2.result true live told c.if-holds_anchor-2.true) in
+    (anchor_shown c.args.map.now c.args.heap c.args.block c.word-total.result c.holds_anchor-2.result true live reported c.if-holds_anchor-2.true) in
     rw c.refused-then-holds_anchor-2.ensures (c.find_guest_block-walk.ensures.probes ∙ sym refused.1)
 
 pub returns-then-holds_anchor-clause-kept : goal.returns-then-holds_anchor-clause-kept

@@ -3,7 +3,7 @@ use Rattle.os_heap_words.specs.Outcomes.{items_at}
 use Rattle.os_heap_words.proofs.ListsLemmas.Reading.{total_facts}
 use Rattle.os_heap_words.specs.lists.Lists.{live_total}
 use Rattle.os_heap.proofs.ForgetLemmas.{at_block_still}
-use Rattle.os_heap.proofs.Resizing.{block_here, has_block, in_place_told, there_heap}
+use Rattle.os_heap.proofs.Resizing.{block_here, has_block, in_place_shown, there_heap}
 use Rattle.os_heap.proofs.resize.resize_in_place.Goals as goal
 
 pub own_total-total-requires : goal.own_total-total-requires
@@ -37,5 +37,5 @@ returns c =
     let here = block_here m c.args.heap c.args.block _ c.args.cursor.now.at _ _ c.requires.state.sound c.requires.found c.requires.block in
     let live : live_total c.args.block (c.args.heap + 16) (items_at m c.args.heap) ≡ Some c.own_total-total.result =
     here.live ∙ ap (λ n. Some n) (sym c.own_total-total.ensures.word) in
-    in_place_told m c.forget_cut.new.map c.refit.new.map c.args.heap c.args.block c.own_total-total.result c.args.needed c.refit.result live
+    in_place_shown m c.forget_cut.new.map c.refit.new.map c.args.heap c.args.block c.own_total-total.result c.args.needed c.refit.result live
     c.forget_cut.ensures.forgets c.forget_cut.ensures.same c.refit.ensures

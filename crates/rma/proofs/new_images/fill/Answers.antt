@@ -26,8 +26,8 @@ returns-clause-sound c =
     (is_filled c.args.map.now c.put_bytes.new.self c.args.block (total_for (length c.args.bytes.now)) c.args.bytes.now c.put_bytes.ensures.layout
     c.put_bytes.ensures.marks c.requires.sound c.requires.live c.requires.unheaped (omega arith) c.put_bytes.ensures.bytes).kept.sound
 
-pub returns-clause-estate : goal.returns-clause-estate
-returns-clause-estate c l areas =
+pub returns-clause-area_store : goal.returns-clause-area_store
+returns-clause-area_store c l areas =
     areas_written c.args.map.now c.put_bytes.new.self l areas
     (is_filled c.args.map.now c.put_bytes.new.self c.args.block (total_for (length c.args.bytes.now)) c.args.bytes.now c.put_bytes.ensures.layout
     c.put_bytes.ensures.marks c.requires.sound c.requires.live c.requires.unheaped (omega arith) c.put_bytes.ensures.bytes).kept.sound c.put_bytes.ensures.layout

@@ -26,8 +26,8 @@ returns-clause-sound c =
     (is_copied c.args.map.now c.move_bytes.new.self c.args.block (total_for c.args.len) c.args.from c.args.len c.move_bytes.ensures.layout
     c.move_bytes.ensures.marks c.requires.sound c.requires.live c.requires.unheaped (omega arith) c.move_bytes.ensures.bytes).kept.sound
 
-pub returns-clause-estate : goal.returns-clause-estate
-returns-clause-estate c l areas =
+pub returns-clause-area_store : goal.returns-clause-area_store
+returns-clause-area_store c l areas =
     areas_written c.args.map.now c.move_bytes.new.self l areas
     (is_copied c.args.map.now c.move_bytes.new.self c.args.block (total_for c.args.len) c.args.from c.args.len c.move_bytes.ensures.layout
     c.move_bytes.ensures.marks c.requires.sound c.requires.live c.requires.unheaped (omega arith) c.move_bytes.ensures.bytes).kept.sound c.move_bytes.ensures.layout

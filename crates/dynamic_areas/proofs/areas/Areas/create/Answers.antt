@@ -3,7 +3,7 @@ use Rattle.address_map.specs.Memory.{free_pages}
 use Rattle.os_heap.specs.Store.{Store, store_of}
 use Rattle.dynamic_areas.specs.declared.area.Area.{Area}
 use Rattle.dynamic_areas.specs.Areas.{find_area, area_with_pages, with_area, with_areas}
-use Rattle.dynamic_areas.specs.Creating.{land_after_create}
+use Rattle.dynamic_areas.specs.Creating.{area_table_after_create}
 use Rattle.dynamic_areas.proofs.PutLemmas.{find_with, ground_put, paged_with}
 use Rattle.dynamic_areas.proofs.RoomLemmas.{find_with_other}
 use Rattle.dynamic_areas.proofs.WantedLemmas.{IsWanted, wanted_area}
@@ -48,17 +48,17 @@ returns-clause-store c =
     let store = rw (c.put_area.ensures, find, base, w.pages) at c.grow.ensures.store in
     store
 
-pub returns-clause-land : goal.returns-clause-land
-unfolding land_after_create
-returns-clause-land c =
+pub returns-clause-area_table : goal.returns-clause-area_table
+unfolding area_table_after_create
+returns-clause-area_table c =
     let e = rw c.free_pages.ensures at c.in_ok-area.ensures in
     let a = c.in_ok-area.area in
     let w : IsWanted c.args.self.now (free_pages c.args.map.now) c.args.wanted.now a =
     wanted_area c.args.self.now (free_pages c.args.map.now) c.args.wanted.now c.args.name.now a c.requires.areas.ground.table.rooms (sym e) in
     let find : find_area a.number (with_area (area_with_pages 0 a) c.args.self.now.areas) ≡ Some (area_with_pages 0 a) = find_with (area_with_pages 0 a) c.args.self.now.areas w.new in
-    let land = rw (c.put_area.ensures, find) at c.grow.ensures.land in
+    let area_table = rw (c.put_area.ensures, find) at c.grow.ensures.area_table in
     rw (← e) (
-      land ∙ ap (λ (xs : List Area). with_areas c.args.self.now xs) (paged_with (area_with_pages 0 a) (0 + a.pages) c.args.self.now.areas w.new
+      area_table ∙ ap (λ (xs : List Area). with_areas c.args.self.now xs) (paged_with (area_with_pages 0 a) (0 + a.pages) c.args.self.now.areas w.new
           ∙ ap (λ (n : ℕ). with_area (area_with_pages n a) c.args.self.now.areas) (zero-add a.pages)),
       refl,
     )
@@ -70,9 +70,9 @@ returns-clause-areas c =
     let w : IsWanted c.args.self.now (free_pages c.args.map.now) c.args.wanted.now a =
     wanted_area c.args.self.now (free_pages c.args.map.now) c.args.wanted.now c.args.name.now a c.requires.areas.ground.table.rooms (sym e) in
     let find : find_area a.number (with_area (area_with_pages 0 a) c.args.self.now.areas) ≡ Some (area_with_pages 0 a) = find_with (area_with_pages 0 a) c.args.self.now.areas w.new in
-    let land = rw (c.put_area.ensures, find) at c.grow.ensures.land in
+    let area_table = rw (c.put_area.ensures, find) at c.grow.ensures.area_table in
     let after : c.grow.new.self ≡ with_areas c.args.self.now (with_area a c.args.self.now.areas) =
-    land ∙ ap (λ (xs : List Area). with_areas c.args.self.now xs) (paged_with (area_with_pages 0 a) (0 + a.pages) c.args.self.now.areas w.new
+    area_table ∙ ap (λ (xs : List Area). with_areas c.args.self.now xs) (paged_with (area_with_pages 0 a) (0 + a.pages) c.args.self.now.areas w.new
     ∙ ap (λ (n : ℕ). with_area (area_with_pages n a) c.args.self.now.areas) (zero-add a.pages)) in
     let heaps : (store_of c.grow.new.map).heaps ≡ (store_of c.args.map.now).heaps = ap (λ (s : Store). s.heaps) (returns-clause-store c) in
     record {
@@ -80,6 +80,6 @@ returns-clause-areas c =
       heap = rw (heaps, after, find_with_other a 1 c.args.self.now.areas w.other) c.requires.areas.heap;
     }
 
-pub returns-in_err-area-clause-land : goal.returns-in_err-area-clause-land
-unfolding land_after_create
-returns-in_err-area-clause-land c = search rules
+pub returns-in_err-area-clause-area_table : goal.returns-in_err-area-clause-area_table
+unfolding area_table_after_create
+returns-in_err-area-clause-area_table c = search rules

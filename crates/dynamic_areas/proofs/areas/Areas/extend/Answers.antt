@@ -6,16 +6,16 @@ use Rattle.os_heap.proofs.Order.{order_kept}
 use Rattle.os_heap.specs.Store.{Store, store_of, find_heap, IsSound}
 use Rattle.dynamic_areas.specs.Areas.{find_area, area_with_pages, with_pages}
 use Rattle.dynamic_areas.specs.Rooms.{IsAreaRoom}
-use Rattle.dynamic_areas.proofs.GroundLemmas.{FitsWindow, fits_window, find_paged, land_none}
+use Rattle.dynamic_areas.proofs.GroundLemmas.{FitsWindow, fits_window, find_paged, area_table_none}
 use Rattle.dynamic_areas.proofs.ModuleArea.{IsModuleArea, module_area_known, may_grow_heap, find_ended, ground_ended}
 use Rattle.dynamic_areas.proofs.PutLemmas.{find_paged_other}
 use Rattle.dynamic_areas.proofs.RoomLemmas.{found_room, room_small}
 use Rattle.dynamic_areas.proofs.areas.Areas.extend.Goals as goal
 
-pub returns-in_default-clause-land : goal.returns-in_default-clause-land
-returns-in_default-clause-land c =
+pub returns-in_default-clause-area_table : goal.returns-in_default-clause-area_table
+returns-in_default-clause-area_table c =
     let e = rw (c.list.ensures.value, c.in_default.is) at c.find.ensures in
-    land_none c.args.self.now c.args.number _ (sym e)
+    area_table_none c.args.self.now c.args.number _ (sym e)
 
 pub overflow_add-pages : goal.overflow_add-pages
 overflow_add-pages c =
@@ -59,7 +59,7 @@ returns-then-number-eq-MODULE_AREA-clause-areas c =
     (let s = rw is at c.set_module_area_end.ensures.sound in s) in
     let free : free_pages c.set_module_area_end.new.map ≡ free_pages c.grow.new.map =
     ap (λ (x : Mapping). x.free_pages) c.set_module_area_end.ensures.mapping in
-    let land = rw (← e) at c.grow.ensures.land in
+    let area_table = rw (← e) at c.grow.ensures.area_table in
     let there : find_area 1 (with_pages c.args.number (a.pages + c.args.count) c.args.self.now.areas) ≡ Some (area_with_pages (a.pages + c.args.count) a) =
     subst (λ (n : ℕ). find_area n (with_pages c.args.number (a.pages + c.args.count) c.args.self.now.areas) ≡ Some (area_with_pages (a.pages + c.args.count) a))
     c.if-number-eq-MODULE_AREA.true (find_paged c.args.number (a.pages + c.args.count) c.args.self.now.areas a (sym e)) in
@@ -67,7 +67,7 @@ returns-then-number-eq-MODULE_AREA-clause-areas c =
     record {
       ground = rw (is, free) (ground_ended (store_of c.grow.new.map) (free_pages c.grow.new.map) c.grow.new.self m.heap (4096 * (a.pages + c.args.count))
           c.grow.ensures.ground sound);
-      heap = rw (is, ended, land, there) (m.kind, refl);
+      heap = rw (is, ended, area_table, there) (m.kind, refl);
     }
 
 pub returns-else-number-eq-MODULE_AREA-clause-areas : goal.returns-else-number-eq-MODULE_AREA-clause-areas
@@ -76,10 +76,10 @@ returns-else-number-eq-MODULE_AREA-clause-areas c =
     let a = c.in-Some.area.now in
     let heaps : (store_of c.grow.new.map).heaps ≡ (store_of c.args.map.now).heaps =
     (let store = rw (← e) at c.grow.ensures.store in ap (λ (s : Store). s.heaps) store) in
-    let land = rw (← e) at c.grow.ensures.land in
+    let area_table = rw (← e) at c.grow.ensures.area_table in
     record {
       ground = c.grow.ensures.ground;
-      heap = rw (heaps, land, find_paged_other c.args.number (a.pages + c.args.count) 1 c.args.self.now.areas c.if-number-eq-MODULE_AREA.false)
+      heap = rw (heaps, area_table, find_paged_other c.args.number (a.pages + c.args.count) 1 c.args.self.now.areas c.if-number-eq-MODULE_AREA.false)
           c.requires.areas.heap;
     }
 

@@ -4,15 +4,15 @@ use Rattle.os_heap.specs.Store.{Store, store_of}
 use Rattle.os_heap.proofs.Frame.{classes_same}
 use Rattle.dynamic_areas.specs.Remapped.{with_pages_at}
 use Rattle.dynamic_areas.specs.Rooms.{IsAreaRoom}
-use Rattle.dynamic_areas.proofs.GroundLemmas.{ground_grown, unmapped_above, FitsWindow, fits_window, land_none}
+use Rattle.dynamic_areas.proofs.GroundLemmas.{ground_grown, unmapped_above, FitsWindow, fits_window, area_table_none}
 use Rattle.dynamic_areas.proofs.Remapped.{store_grown}
 use Rattle.dynamic_areas.proofs.RoomLemmas.{found_room, room_small}
 use Rattle.dynamic_areas.proofs.areas.Areas.grow.Goals as goal
 
-pub returns-in_default-clause-land : goal.returns-in_default-clause-land
-returns-in_default-clause-land c =
+pub returns-in_default-clause-area_table : goal.returns-in_default-clause-area_table
+returns-in_default-clause-area_table c =
     let e = rw (c.list.ensures.value, c.in_default.is) at c.find.ensures in
-    land_none c.args.self.now c.args.number _ (sym e)
+    area_table_none c.args.self.now c.args.number _ (sym e)
 
 pub overflow_mul-pages : goal.overflow_mul-pages
 overflow_mul-pages c =

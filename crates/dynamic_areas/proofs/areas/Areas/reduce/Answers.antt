@@ -9,7 +9,7 @@ use Rattle.dynamic_areas.specs.declared.area.Area.{Area}
 use Rattle.dynamic_areas.specs.Areas.{find_area, area_with_pages, with_pages}
 use Rattle.dynamic_areas.specs.Changing.{AreLoose, loose_pages}
 use Rattle.dynamic_areas.specs.Rooms.{IsAreaRoom}
-use Rattle.dynamic_areas.proofs.GroundLemmas.{find_paged, land_none}
+use Rattle.dynamic_areas.proofs.GroundLemmas.{find_paged, area_table_none}
 use Rattle.dynamic_areas.proofs.LooseLemmas.{loose_created}
 use Rattle.dynamic_areas.proofs.Loosened.{loose_ended}
 use Rattle.dynamic_areas.proofs.ModuleArea.{IsModuleArea, module_area_known, may_shrink_heap, find_ended}
@@ -18,10 +18,10 @@ use Rattle.dynamic_areas.proofs.RoomLemmas.{found_number, found_room, room_small
 use Rattle.dynamic_areas.proofs.areas.Areas.reduce.Goals as goal
 use Rattle.dynamic_areas.proofs.areas.Areas.reduce.Goals.{then-number-eq-MODULE_AREA, else-number-eq-MODULE_AREA}
 
-pub returns-in_default-clause-land : goal.returns-in_default-clause-land
-returns-in_default-clause-land c =
+pub returns-in_default-clause-area_table : goal.returns-in_default-clause-area_table
+returns-in_default-clause-area_table c =
     let e = rw (c.list.ensures.value, c.in_default.is) at c.find.ensures in
-    land_none c.args.self.now c.args.number _ (sym e)
+    area_table_none c.args.self.now c.args.number _ (sym e)
 
 pub overflow_sub-area : goal.overflow_sub-area
 overflow_sub-area c =
@@ -74,7 +74,7 @@ returns-clause-areas c =
     let a = c.in-Some.area.now in
     let heaps : (store_of c.shrink.new.map).heaps ≡ (store_of c.if-number-eq-MODULE_AREA.map).heaps =
     (let store = rw (← e) at c.shrink.ensures.store in ap (λ (s : Store). s.heaps) store) in
-    let land = rw (← e) at c.shrink.ensures.land in
+    let area_table = rw (← e) at c.shrink.ensures.area_table in
     record {
       ground = c.shrink.ensures.ground;
       heap = elim c.if-number-eq-MODULE_AREA.branch [
@@ -89,9 +89,9 @@ returns-clause-areas c =
             subst (λ (n : ℕ). find_area n (with_pages c.args.number (a.pages - c.args.count) c.args.self.now.areas) ≡ Some (area_with_pages (a.pages - c.args.count) a))
             w.if-number-eq-MODULE_AREA.true (find_paged c.args.number (a.pages - c.args.count) c.args.self.now.areas a (sym e)) in
             let ended = find_ended (store_of c.args.map.now).heaps m.heap module_area_start (4096 * (a.pages - c.args.count)) m.found in
-            rw (heaps, w.map-is, is, ended, land, there) (m.kind, refl)
+            rw (heaps, w.map-is, is, ended, area_table, there) (m.kind, refl)
         | else-number-eq-MODULE_AREA w ↦
-            rw (heaps, w.map-is, land, find_paged_other c.args.number (a.pages - c.args.count) 1 c.args.self.now.areas w.if-number-eq-MODULE_AREA.false)
+            rw (heaps, w.map-is, area_table, find_paged_other c.args.number (a.pages - c.args.count) 1 c.args.self.now.areas w.if-number-eq-MODULE_AREA.false)
             c.requires.areas.heap
       ];
     }

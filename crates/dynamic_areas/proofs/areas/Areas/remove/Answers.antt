@@ -4,7 +4,7 @@ use Rattle.address_map.specs.Memory.{free_pages}
 use Rattle.os_heap.specs.Store.{Store, store_of}
 use Rattle.dynamic_areas.specs.declared.area.Area.{Area}
 use Rattle.dynamic_areas.specs.Areas.{with_areas, with_pages, without_area}
-use Rattle.dynamic_areas.specs.Changing.{AreLoose, loose_pages, land_after_remove}
+use Rattle.dynamic_areas.specs.Changing.{AreLoose, loose_pages, area_table_after_remove}
 use Rattle.dynamic_areas.specs.Ground.{IsGround}
 use Rattle.dynamic_areas.proofs.LooseLemmas.{loose_created}
 use Rattle.dynamic_areas.proofs.PutLemmas.{areas_removed, without_paged}
@@ -28,37 +28,37 @@ shrink-requires-clause-loose c a found =
     (loose_created (store_of c.args.map.now) c.in-Some.area.now c.in-Some.area.now.pages
     (λ is. c.if-number-eq-MODULE_AREA.false (sym number ∙ is)) fits)
 
-pub returns-clause-land : goal.returns-clause-land
-unfolding land_after_remove
-returns-clause-land c =
+pub returns-clause-area_table : goal.returns-clause-area_table
+unfolding area_table_after_remove
+returns-clause-area_table c =
     let e = rw c.list.ensures.value at c.in-Some.ensures in
     let fits : c.in-Some.area.now.pages ≤ loose_pages (store_of c.args.map.now) c.in-Some.area.now =
     omega (arith, c.loose_pages.ensures, c.if-loose_pages-pages.false) in
     rw (← e, ne_eqb c.args.number 1 c.if-number-eq-MODULE_AREA.false, le-ltb (loose_pages (store_of c.args.map.now) c.in-Some.area.now) c.in-Some.area.now.pages fits)
-    (rw (c.drop_area.ensures, c.shrink.ensures.land) (ap (λ (xs : List Area). with_areas c.args.self.now xs) (without_paged c.args.number _ c.args.self.now.areas)))
+    (rw (c.drop_area.ensures, c.shrink.ensures.area_table) (ap (λ (xs : List Area). with_areas c.args.self.now xs) (without_paged c.args.number _ c.args.self.now.areas)))
 
 pub returns-clause-areas : goal.returns-clause-areas
 returns-clause-areas c =
     let e = rw c.list.ensures.value at c.in-Some.ensures in
     let a = c.in-Some.area.now in
     let after : c.drop_area.new.self ≡ with_areas c.args.self.now (without_area c.args.number c.args.self.now.areas) =
-    rw (c.drop_area.ensures, c.shrink.ensures.land) (ap (λ (xs : List Area). with_areas c.args.self.now xs) (without_paged c.args.number _ c.args.self.now.areas)) in
+    rw (c.drop_area.ensures, c.shrink.ensures.area_table) (ap (λ (xs : List Area). with_areas c.args.self.now xs) (without_paged c.args.number _ c.args.self.now.areas)) in
     let ground : IsGround (store_of c.shrink.new.map) (free_pages c.shrink.new.map)
     (with_areas c.args.self.now (with_pages c.args.number (a.pages - a.pages) c.args.self.now.areas)) =
-    (let g = rw (c.shrink.ensures.land, ← e) at c.shrink.ensures.ground in g) in
+    (let g = rw (c.shrink.ensures.area_table, ← e) at c.shrink.ensures.ground in g) in
     let heaps : (store_of c.shrink.new.map).heaps ≡ (store_of c.args.map.now).heaps =
     (let store = rw (← e) at c.shrink.ensures.store in ap (λ (s : Store). s.heaps) store) in
     rw after (areas_removed (store_of c.args.map.now) (store_of c.shrink.new.map) (free_pages c.shrink.new.map) c.args.self.now c.args.number a (sym e)
     c.if-number-eq-MODULE_AREA.false ground heaps c.requires.areas.heap)
 
-pub returns-in_default-clause-land : goal.returns-in_default-clause-land
-unfolding land_after_remove
-returns-in_default-clause-land c = search rules
+pub returns-in_default-clause-area_table : goal.returns-in_default-clause-area_table
+unfolding area_table_after_remove
+returns-in_default-clause-area_table c = search rules
 
-pub returns-then-number-eq-MODULE_AREA-clause-land : goal.returns-then-number-eq-MODULE_AREA-clause-land
-unfolding land_after_remove
-returns-then-number-eq-MODULE_AREA-clause-land c = search rules
+pub returns-then-number-eq-MODULE_AREA-clause-area_table : goal.returns-then-number-eq-MODULE_AREA-clause-area_table
+unfolding area_table_after_remove
+returns-then-number-eq-MODULE_AREA-clause-area_table c = search rules
 
-pub returns-then-loose_pages-pages-clause-land : goal.returns-then-loose_pages-pages-clause-land
-unfolding land_after_remove
-returns-then-loose_pages-pages-clause-land c = search rules
+pub returns-then-loose_pages-pages-clause-area_table : goal.returns-then-loose_pages-pages-clause-area_table
+unfolding area_table_after_remove
+returns-then-loose_pages-pages-clause-area_table c = search rules

@@ -5,16 +5,16 @@ use Rattle.dynamic_areas.specs.Changing.{AreLoose}
 use Rattle.dynamic_areas.specs.Remapped.{without_pages_at}
 use Rattle.dynamic_areas.specs.Rooms.{IsAreaRoom}
 use Rattle.dynamic_areas.proofs.ClassLemmas.{no_anchor, classes_unmapped}
-use Rattle.dynamic_areas.proofs.GroundLemmas.{ground_shrunk, mapped_held, FitsWindow, fits_window, land_none}
+use Rattle.dynamic_areas.proofs.GroundLemmas.{ground_shrunk, mapped_held, FitsWindow, fits_window, area_table_none}
 use Rattle.dynamic_areas.proofs.RecordLemmas.{unmet_records}
 use Rattle.dynamic_areas.proofs.Remapped.{store_shrunk}
 use Rattle.dynamic_areas.proofs.RoomLemmas.{found_room, room_small}
 use Rattle.dynamic_areas.proofs.areas.Areas.shrink.Goals as goal
 
-pub returns-in_default-clause-land : goal.returns-in_default-clause-land
-returns-in_default-clause-land c =
+pub returns-in_default-clause-area_table : goal.returns-in_default-clause-area_table
+returns-in_default-clause-area_table c =
     let e = rw (c.list.ensures.value, c.in_default.is) at c.find.ensures in
-    land_none c.args.self.now c.args.number _ (sym e)
+    area_table_none c.args.self.now c.args.number _ (sym e)
 
 pub overflow_sub-pages : goal.overflow_sub-pages
 overflow_sub-pages c =

@@ -6,12 +6,12 @@ use Rattle.dynamic_areas.specs.Calls.{store_after_get}
 use Rattle.dynamic_areas.specs.Store.{Store, store_of}
 use Rattle.dynamic_areas.proofs.Frame.{layout-others}
 use Rattle.dynamic_areas.proofs.Order.{order_laid}
-use Rattle.dynamic_areas.specs.Ground.{Estate, estate_of}
+use Rattle.dynamic_areas.specs.Ground.{AreaStore, area_store_of}
 use Rattle.dynamic_areas.proofs.HeapCalls.{areas_written}
 use Rattle.rma.proofs.FlexFrameLemmas.Heaps.{got_keeps, got_unanchored}
 use Rattle.rma.proofs.FlexFrameLemmas.Keeping.{keeps_then}
 use Rattle.rma.specs.Calls.{in_grown_area, is_no_room, rma_base, rma_claimed}
-use Rattle.rma.proofs.Estates.{estate_same, full_where, or_done, or_refused, store_kept}
+use Rattle.rma.proofs.AreaStores.{area_store_same, full_where, or_done, or_refused, store_kept}
 use Rattle.rma.proofs.NewImageLemmas.{block_made, live_inside}
 use Rattle.address_map.proofs.Stores.{layout-mapping}
 use Rattle.rma.proofs.area.Rma.claim.Goals as goal
@@ -23,9 +23,9 @@ returns-in-Ok-clause-claimed c =
     or_done c.args.map.now c.get.new.map c.args.areas.now (rma_base s + total_for c.args.size) (λ t. store_after_get t module_area_start c.args.size)
     (store_after_get s module_area_start c.args.size) c.in-Ok.block (layout-mapping c.args.map.now c.get.new.map c.get.ensures.layout) (let given = rw c.in-Ok.is at c.get.ensures.store in given)
 
-pub returns-in-Ok-clause-estate : goal.returns-in-Ok-clause-estate
-returns-in-Ok-clause-estate c =
-    areas_written c.args.map.now c.get.new.map c.args.areas.now c.requires.estate c.get.ensures.sound c.get.ensures.layout
+pub returns-in-Ok-clause-area_store : goal.returns-in-Ok-clause-area_store
+returns-in-Ok-clause-area_store c =
+    areas_written c.args.map.now c.get.new.map c.args.areas.now c.requires.area_store c.get.ensures.sound c.get.ensures.layout
 
 pub returns-in-Err-clause-claimed : goal.returns-in-Err-clause-claimed
 unfolding rma_claimed
@@ -34,10 +34,10 @@ returns-in-Err-clause-claimed c =
     let given = rw c.in-Err.is at c.get.ensures.store in
     let full = full_where s (store_of c.get.new.map) (store_after_get s module_area_start c.args.size) c.in-Err.error (sym c.is_no_room.ensures ∙ c.if-is_no_room.true) given in
     let kept : store_of c.get.new.map ≡ s = store_kept s (store_of c.get.new.map) (store_after_get s module_area_start c.args.size) c.in-Err.error given in
-    let same : estate_of c.get.new.map c.args.areas.now ≡ estate_of c.args.map.now c.args.areas.now =
-    estate_same c.args.map.now c.get.new.map c.args.areas.now s (layout-mapping c.args.map.now c.get.new.map c.get.ensures.layout) kept in
-    rw full (subst (λ (x : Estate). Gives x (in_grown_area x (rma_base x.store + total_for c.args.size) (λ t. store_after_get t module_area_start c.args.size))
-    c.claim_grown.result (estate_of c.claim_grown.new.map c.claim_grown.new.areas)) same c.claim_grown.ensures.claimed)
+    let same : area_store_of c.get.new.map c.args.areas.now ≡ area_store_of c.args.map.now c.args.areas.now =
+    area_store_same c.args.map.now c.get.new.map c.args.areas.now s (layout-mapping c.args.map.now c.get.new.map c.get.ensures.layout) kept in
+    rw full (subst (λ (x : AreaStore). Gives x (in_grown_area x (rma_base x.store + total_for c.args.size) (λ t. store_after_get t module_area_start c.args.size))
+    c.claim_grown.result (area_store_of c.claim_grown.new.map c.claim_grown.new.areas)) same c.claim_grown.ensures.claimed)
 
 pub returns-in-Err-2-clause-claimed : goal.returns-in-Err-2-clause-claimed
 unfolding rma_claimed
@@ -61,37 +61,37 @@ returns-in-Err-2-clause-others c = layout-others c.args.map.now c.get.new.map c.
 
 pub returns-in-Ok-clause-live : goal.returns-in-Ok-clause-live
 returns-in-Ok-clause-live c =
-    (block_made (store_of c.args.map.now) (store_of c.get.new.map) c.args.size c.in-Ok.block c.get.result.answer c.requires.estate.ground.sound c.in-Ok.is
+    (block_made (store_of c.args.map.now) (store_of c.get.new.map) c.args.size c.in-Ok.block c.get.result.answer c.requires.area_store.ground.sound c.in-Ok.is
     c.get.ensures.store).live
 
 pub returns-in-Ok-clause-unheaped : goal.returns-in-Ok-clause-unheaped
 returns-in-Ok-clause-unheaped c =
-    (block_made (store_of c.args.map.now) (store_of c.get.new.map) c.args.size c.in-Ok.block c.get.result.answer c.requires.estate.ground.sound c.in-Ok.is
+    (block_made (store_of c.args.map.now) (store_of c.get.new.map) c.args.size c.in-Ok.block c.get.result.answer c.requires.area_store.ground.sound c.in-Ok.is
     c.get.ensures.store).unheaped
 
 pub returns-in-Ok-clause-alone : goal.returns-in-Ok-clause-alone
 returns-in-Ok-clause-alone c =
-    (block_made (store_of c.args.map.now) (store_of c.get.new.map) c.args.size c.in-Ok.block c.get.result.answer c.requires.estate.ground.sound c.in-Ok.is
+    (block_made (store_of c.args.map.now) (store_of c.get.new.map) c.args.size c.in-Ok.block c.get.result.answer c.requires.area_store.ground.sound c.in-Ok.is
     c.get.ensures.store).alone
 
 pub returns-in-Ok-clause-flex : goal.returns-in-Ok-clause-flex
 returns-in-Ok-clause-flex c =
-    got_keeps (store_of c.args.map.now) (store_of c.get.new.map) module_area_start c.args.size c.get.result.answer c.requires.estate.ground.sound c.get.ensures.sound c.get.ensures.store
+    got_keeps (store_of c.args.map.now) (store_of c.get.new.map) module_area_start c.args.size c.get.result.answer c.requires.area_store.ground.sound c.get.ensures.sound c.get.ensures.store
 
 pub returns-in-Err-clause-flex : goal.returns-in-Err-clause-flex
 returns-in-Err-clause-flex c =
     keeps_then (store_of c.args.map.now) (store_of c.get.new.map) (store_of c.claim_grown.new.map)
-    (got_keeps (store_of c.args.map.now) (store_of c.get.new.map) module_area_start c.args.size c.get.result.answer c.requires.estate.ground.sound
+    (got_keeps (store_of c.args.map.now) (store_of c.get.new.map) module_area_start c.args.size c.get.result.answer c.requires.area_store.ground.sound
     c.get.ensures.sound c.get.ensures.store) c.claim_grown.ensures.flex
 
 pub returns-in-Err-2-clause-flex : goal.returns-in-Err-2-clause-flex
 returns-in-Err-2-clause-flex c =
-    got_keeps (store_of c.args.map.now) (store_of c.get.new.map) module_area_start c.args.size c.get.result.answer c.requires.estate.ground.sound c.get.ensures.sound c.get.ensures.store
+    got_keeps (store_of c.args.map.now) (store_of c.get.new.map) module_area_start c.args.size c.get.result.answer c.requires.area_store.ground.sound c.get.ensures.sound c.get.ensures.store
 
 pub returns-in-Ok-clause-unanchored : goal.returns-in-Ok-clause-unanchored
 returns-in-Ok-clause-unanchored c =
     let given = rw c.in-Ok.is at c.get.ensures.store in
-    got_unanchored (store_of c.args.map.now) (store_of c.get.new.map) module_area_start c.args.size (Ok c.in-Ok.block) c.requires.estate.ground.sound given
+    got_unanchored (store_of c.args.map.now) (store_of c.get.new.map) module_area_start c.args.size (Ok c.in-Ok.block) c.requires.area_store.ground.sound given
 
 pub returns-in-Ok-clause-order : goal.returns-in-Ok-clause-order
 returns-in-Ok-clause-order c = order_laid c.args.map.now c.get.new.map c.get.ensures.layout
@@ -104,4 +104,4 @@ returns-in-Err-2-clause-order c = order_laid c.args.map.now c.get.new.map c.get.
 
 pub returns-in-Ok-clause-inside : goal.returns-in-Ok-clause-inside
 returns-in-Ok-clause-inside c =
-    live_inside (estate_of c.get.new.map c.args.areas.now) c.in-Ok.block (total_for c.args.size) (returns-in-Ok-clause-estate c) (returns-in-Ok-clause-live c)
+    live_inside (area_store_of c.get.new.map c.args.areas.now) c.in-Ok.block (total_for c.args.size) (returns-in-Ok-clause-area_store c) (returns-in-Ok-clause-live c)

@@ -1,7 +1,7 @@
 use Rattle.std.proofs.Common.{ap, ◌∙◌}
 use Rattle.os_heap_words.specs.lists.Lists.{total_for}
 use Rattle.dynamic_areas.specs.Store.{Store, store_of}
-use Rattle.dynamic_areas.specs.Ground.{estate_of}
+use Rattle.dynamic_areas.specs.Ground.{area_store_of}
 use Rattle.rma.proofs.FlexLemmas.{made_keeps, sized_unheaped}
 use Rattle.rma.proofs.ImageLemmas.{area_kind}
 use Rattle.rma.proofs.NewImageLemmas.{live_whole, made_order, made_others}
@@ -21,7 +21,7 @@ returns-clause-flex c =
 
 pub returns-clause-whole : goal.returns-clause-whole
 returns-clause-whole c =
-    live_whole (store_of c.claim.new.map) c.in_ok-block.block (total_for c.args.len) c.claim.ensures.estate.ground.sound c.in_ok-block.ensures.live
+    live_whole (store_of c.claim.new.map) c.in_ok-block.block (total_for c.args.len) c.claim.ensures.area_store.ground.sound c.in_ok-block.ensures.live
 
 pub returns-clause-order : goal.returns-clause-order
 returns-clause-order c =
@@ -31,7 +31,7 @@ returns-clause-order c =
 
 pub record_image-requires-clause-may : goal.record_image-requires-clause-may
 record_image-requires-clause-may c = record {
-  area = area_kind (estate_of c.fill_from.new.map c.claim.new.areas) (c.fill_from.ensures.estate c.claim.new.areas c.claim.ensures.estate);
+  area = area_kind (area_store_of c.fill_from.new.map c.claim.new.areas) (c.fill_from.ensures.area_store c.claim.new.areas c.claim.ensures.area_store);
   room = rw (ap (λ (s : Store). s.others) c.fill_from.ensures.store ∙ c.claim.ensures.others) c.requires.room;
   empty = sized_unheaped (store_of c.claim.new.map) (store_of c.fill_from.new.map) c.in_ok-block.block (total_for c.args.len) c.in_ok-block.ensures.live
       (ap (λ (s : Store). s.heaps) c.fill_from.ensures.store) c.in_ok-block.ensures.unheaped;

@@ -21,8 +21,8 @@ returns-clause-sound c =
     (same_bytes_of c.args.map.now c.disown.new.self c.disown.ensures.mapping c.disown.ensures.bytes) c.disown.ensures.marks in
     subst IsSound (sym store) (sound_less (store_of c.args.map.now) c.args.at c.requires)
 
-pub returns-clause-estate : goal.returns-clause-estate
-returns-clause-estate c l areas =
+pub returns-clause-area_store : goal.returns-clause-area_store
+returns-clause-area_store c l areas =
     let store = store_less c.args.map.now c.disown.new.self c.args.at c.disown.ensures.regions
     (same_bytes_of c.args.map.now c.disown.new.self c.disown.ensures.mapping c.disown.ensures.bytes) c.disown.ensures.marks in
     let pool = same_pool c.args.map.now c.disown.new.self c.disown.ensures.mapping in

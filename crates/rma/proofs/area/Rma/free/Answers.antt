@@ -4,7 +4,7 @@ use Rattle.dynamic_areas.specs.Store.{store_of}
 use Rattle.dynamic_areas.proofs.HeapCalls.{areas_freed}
 use Rattle.rma.proofs.FlexFrameLemmas.Heaps.{freed_keeps}
 use Rattle.rma.specs.Calls.{rma_freed}
-use Rattle.rma.proofs.Estates.{area_done, area_refused}
+use Rattle.rma.proofs.AreaStores.{area_done, area_refused}
 use Rattle.rma.proofs.area.Rma.free.Goals as goal
 
 pub returns-in-Ok-clause-freed : goal.returns-in-Ok-clause-freed
@@ -13,13 +13,13 @@ returns-in-Ok-clause-freed c l =
     area_done c.args.map.now c.free.new.map l (gave_back (store_of c.args.map.now) module_area_start c.args.block) tt c.free.ensures.mapping
     (let given = rw c.in-Ok.is at c.free.ensures.store in given)
 
-pub returns-in-Ok-clause-estate : goal.returns-in-Ok-clause-estate
-returns-in-Ok-clause-estate c l good =
+pub returns-in-Ok-clause-area_store : goal.returns-in-Ok-clause-area_store
+returns-in-Ok-clause-area_store c l good =
     areas_freed c.args.map.now c.free.new.map l good c.free.ensures.sound c.free.ensures.others c.free.ensures.mapping module_area_start c.args.block
     c.free.result.answer c.free.ensures.store
 
-pub returns-in-Err-clause-estate : goal.returns-in-Err-clause-estate
-returns-in-Err-clause-estate c l good =
+pub returns-in-Err-clause-area_store : goal.returns-in-Err-clause-area_store
+returns-in-Err-clause-area_store c l good =
     areas_freed c.args.map.now c.free.new.map l good c.free.ensures.sound c.free.ensures.others c.free.ensures.mapping module_area_start c.args.block
     c.free.result.answer c.free.ensures.store
 

@@ -9,7 +9,7 @@ use Rattle.dynamic_areas.proofs.HeapCalls.{areas_freed}
 use Rattle.rma.proofs.FlexFrameLemmas.Heaps.{freed_keeps}
 use Rattle.rma.proofs.FlexFrameLemmas.Keeping.{keeps_then}
 use Rattle.rma.specs.Images.{image_freed, or_kept}
-use Rattle.rma.proofs.Estates.{kept_by}
+use Rattle.rma.proofs.AreaStores.{kept_by}
 use Rattle.rma.proofs.area.Rma.free_image.Goals as goal
 
 pub returns-clause-store : goal.returns-clause-store
@@ -20,9 +20,9 @@ returns-clause-store c =
     kept_by s (store_of c.free.new.map) (gave_back s module_area_start c.args.at) c.free.result.answer c.free.ensures.store in
     subst (λ (t : Store). store_of c.free.new.map ≡ or_kept t (gave_back t module_area_start c.args.at)) c.drop_image.ensures.store after
 
-pub returns-clause-estate : goal.returns-clause-estate
-returns-clause-estate c l areas =
-    areas_freed c.drop_image.new.map c.free.new.map l (c.drop_image.ensures.estate l areas) c.free.ensures.sound c.free.ensures.others c.free.ensures.mapping
+pub returns-clause-area_store : goal.returns-clause-area_store
+returns-clause-area_store c l areas =
+    areas_freed c.drop_image.new.map c.free.new.map l (c.drop_image.ensures.area_store l areas) c.free.ensures.sound c.free.ensures.others c.free.ensures.mapping
     module_area_start c.args.at c.free.result.answer c.free.ensures.store
 
 pub returns-clause-flex : goal.returns-clause-flex

@@ -1,7 +1,7 @@
 use Rattle.std.proofs.Common.{length, refl, ap, arith, ◌∙◌}
 use Rattle.os_heap_words.specs.lists.Lists.{total_for}
 use Rattle.dynamic_areas.specs.Store.{Store, store_of}
-use Rattle.dynamic_areas.specs.Ground.{estate_of}
+use Rattle.dynamic_areas.specs.Ground.{area_store_of}
 use Rattle.rma.specs.NewImages.{image_made}
 use Rattle.rma.proofs.FlexFrameLemmas.Keeping.{keeps_same}
 use Rattle.rma.proofs.FlexLemmas.{made_keeps, sized_unheaped}
@@ -12,7 +12,7 @@ use Rattle.rma.proofs.area.Rma.make_image.Goals as goal
 pub returns-then-image-clause-made : goal.returns-then-image-clause-made
 unfolding image_made
 returns-then-image-clause-made c =
-    rw (claim_refused (estate_of c.args.map.now c.args.areas.now) (length c.args.image.now) c.requires.estate (omega arith)) (refl, refl)
+    rw (claim_refused (area_store_of c.args.map.now c.args.areas.now) (length c.args.image.now) c.requires.area_store (omega arith)) (refl, refl)
 
 pub returns-clause-others : goal.returns-clause-others
 returns-clause-others c =
@@ -31,7 +31,7 @@ returns-then-image-clause-flex c = keeps_same (store_of c.args.map.now)
 
 pub returns-clause-whole : goal.returns-clause-whole
 returns-clause-whole c =
-    live_whole (store_of c.claim.new.map) c.in_ok-block.block (total_for (length c.args.image.now)) c.claim.ensures.estate.ground.sound c.in_ok-block.ensures.live
+    live_whole (store_of c.claim.new.map) c.in_ok-block.block (total_for (length c.args.image.now)) c.claim.ensures.area_store.ground.sound c.in_ok-block.ensures.live
 
 pub returns-clause-order : goal.returns-clause-order
 returns-clause-order c =
@@ -41,7 +41,7 @@ returns-clause-order c =
 
 pub record_image-requires-clause-may : goal.record_image-requires-clause-may
 record_image-requires-clause-may c = record {
-  area = area_kind (estate_of c.fill.new.map c.claim.new.areas) (c.fill.ensures.estate c.claim.new.areas c.claim.ensures.estate);
+  area = area_kind (area_store_of c.fill.new.map c.claim.new.areas) (c.fill.ensures.area_store c.claim.new.areas c.claim.ensures.area_store);
   room = rw (ap (λ (s : Store). s.others) c.fill.ensures.store ∙ c.claim.ensures.others) c.requires.room;
   empty = sized_unheaped (store_of c.claim.new.map) (store_of c.fill.new.map) c.in_ok-block.block (total_for (length c.args.image.now)) c.in_ok-block.ensures.live
       (ap (λ (s : Store). s.heaps) c.fill.ensures.store) c.in_ok-block.ensures.unheaped;

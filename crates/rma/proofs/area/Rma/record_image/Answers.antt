@@ -47,8 +47,8 @@ returns-in-Ok-clause-sound c =
     (same_bytes_of c.args.map.now c.own.new.self c.own.ensures.mapping c.own.ensures.bytes) c.own.ensures.marks in
     subst IsSound (sym store) (is_recorded s c.args.at c.in-Ok.len c.requires.sound c.requires.may sized).sound
 
-pub returns-in-Ok-clause-estate : goal.returns-in-Ok-clause-estate
-returns-in-Ok-clause-estate c l areas =
+pub returns-in-Ok-clause-area_store : goal.returns-in-Ok-clause-area_store
+returns-in-Ok-clause-area_store c l areas =
     let s : Store = store_of c.args.map.now in
     let sized : block_sized s module_area_start c.args.at ≡ Ok c.in-Ok.len = sym c.block_size.ensures.answer ∙ c.in-Ok.is in
     let r : Region = record { kind = kind.Image; at = c.args.at; len = c.in-Ok.len } in

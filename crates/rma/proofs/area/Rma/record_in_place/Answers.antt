@@ -26,7 +26,7 @@ returns-clause-placed c l =
     let store = store_recorded c.args.map.now c.own.new.self r refl c.own.ensures.regions
     (same_bytes_of c.args.map.now c.own.new.self c.own.ensures.mapping c.own.ensures.bytes) c.own.ensures.marks in
     let pool = same_pool c.args.map.now c.own.new.self c.own.ensures.mapping in
-    λ i. record { store = store i; pool = pool i; land = l }
+    λ i. record { store = store i; pool = pool i; area_table = l }
 
 pub returns-clause-sound : goal.returns-clause-sound
 returns-clause-sound c =
@@ -35,8 +35,8 @@ returns-clause-sound c =
     (same_bytes_of c.args.map.now c.own.new.self c.own.ensures.mapping c.own.ensures.bytes) c.own.ensures.marks in
     subst IsSound (sym store) (placed (store_of c.args.map.now) c.args.at c.args.len c.requires.sound c.requires.may c.requires.some c.requires.room).sound
 
-pub returns-clause-estate : goal.returns-clause-estate
-returns-clause-estate c l areas =
+pub returns-clause-area_store : goal.returns-clause-area_store
+returns-clause-area_store c l areas =
     let s : Store = store_of c.args.map.now in
     let r : Region = record { kind = kind.Image; at = c.args.at; len = c.args.len } in
     let store = store_recorded c.args.map.now c.own.new.self r refl c.own.ensures.regions

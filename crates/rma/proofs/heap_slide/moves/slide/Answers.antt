@@ -1,7 +1,7 @@
 use Rattle.std.proofs.Common.{List, ◌∙◌, ap, sym, subst}
 use Rattle.address_map.specs.Memory.{regions}
 use Rattle.address_map.specs.Moves.{AreDown, moved_regions}
-use Rattle.address_map.specs.declared.follow.Move.{Move}
+use Rattle.address_map.specs.declared.follow.BlockMove.{BlockMove}
 use Rattle.dynamic_areas.proofs.Frame.{layout-regions}
 use Rattle.rma.proofs.HeapSlideLemmas.Ending.{blocks_here, done_here, down_here, heap_here, here, slid_here}
 use Rattle.rma.proofs.heap_slide.moves.slide.Goals as goal
@@ -28,7 +28,7 @@ returns-clause-slid c =
     slid_here c.args.map.now c.slide_items-moves.new.map c.follow.new.self c.args.heap c.args.movable.now c.slide_items-moves.result.items c.requires.sound c.requires.classes
     (here c.args.map.now c.args.heap c.args.movable.now c.requires.sound c.requires.movable) c.slide_items-moves.ensures
     (record {
-      records = c.follow.ensures.regions ∙ ap (λ (ms : List Move). moved_regions ms (regions c.slide_items-moves.new.map)) c.as_slice.ensures.value;
+      records = c.follow.ensures.regions ∙ ap (λ (ms : List BlockMove). moved_regions ms (regions c.slide_items-moves.new.map)) c.as_slice.ensures.value;
       places = c.follow.ensures.mapping;
       bytes = c.follow.ensures.bytes;
       marks = c.follow.ensures.marks;
@@ -39,7 +39,7 @@ returns-clause-sound c =
     (done_here c.args.map.now c.slide_items-moves.new.map c.follow.new.self c.args.heap c.args.movable.now c.slide_items-moves.result.items c.requires.sound c.requires.classes
     (here c.args.map.now c.args.heap c.args.movable.now c.requires.sound c.requires.movable) c.slide_items-moves.ensures
     (record {
-      records = c.follow.ensures.regions ∙ ap (λ (ms : List Move). moved_regions ms (regions c.slide_items-moves.new.map)) c.as_slice.ensures.value;
+      records = c.follow.ensures.regions ∙ ap (λ (ms : List BlockMove). moved_regions ms (regions c.slide_items-moves.new.map)) c.as_slice.ensures.value;
       places = c.follow.ensures.mapping;
       bytes = c.follow.ensures.bytes;
       marks = c.follow.ensures.marks;
@@ -50,7 +50,7 @@ returns-clause-classes c =
     (done_here c.args.map.now c.slide_items-moves.new.map c.follow.new.self c.args.heap c.args.movable.now c.slide_items-moves.result.items c.requires.sound c.requires.classes
     (here c.args.map.now c.args.heap c.args.movable.now c.requires.sound c.requires.movable) c.slide_items-moves.ensures
     (record {
-      records = c.follow.ensures.regions ∙ ap (λ (ms : List Move). moved_regions ms (regions c.slide_items-moves.new.map)) c.as_slice.ensures.value;
+      records = c.follow.ensures.regions ∙ ap (λ (ms : List BlockMove). moved_regions ms (regions c.slide_items-moves.new.map)) c.as_slice.ensures.value;
       places = c.follow.ensures.mapping;
       bytes = c.follow.ensures.bytes;
       marks = c.follow.ensures.marks;
@@ -58,5 +58,5 @@ returns-clause-classes c =
 
 pub returns-clause-regions : goal.returns-clause-regions
 returns-clause-regions c =
-    c.follow.ensures.regions ∙ ap (λ (ms : List Move). moved_regions ms (regions c.slide_items-moves.new.map)) c.as_slice.ensures.value
+    c.follow.ensures.regions ∙ ap (λ (ms : List BlockMove). moved_regions ms (regions c.slide_items-moves.new.map)) c.as_slice.ensures.value
     ∙ ap (moved_regions c.slide_items-moves.result.items) (layout-regions _ _ c.slide_items-moves.ensures.same)

@@ -40,11 +40,11 @@ held_split base p c x =
     ]
 
 -- more pages
-pub land_grown : (number : ℕ) (areas : List Area) (a : Area) (count x : ℕ) → find_area number areas ≡ Some a
+pub area_table_grown : (number : ℕ) (areas : List Area) (a : Area) (count x : ℕ) → find_area number areas ≡ Some a
     → list_any (is_in_area x) (with_pages number (a.pages + count) areas)
     ≡ (in_range (a.base + 4096 * a.pages) (4096 * count) x || list_any (is_in_area x) areas)
-land_grown number [] a count x e = absurd (let none : None ≡ Some a = e in cc)
-land_grown number (g ∷ others) a count x e =
+area_table_grown number [] a count x e = absurd (let none : None ≡ Some a = e in cc)
+area_table_grown number (g ∷ others) a count x e =
     elim (cases_Bool (g.number == number)) [
       | inl this ↦
           let e' = rw this at e in
@@ -54,7 +54,7 @@ land_grown number (g ∷ others) a count x e =
           (rw (this, held_split g.base g.pages count x)
           (or_assoc (in_range (g.base + 4096 * g.pages) (4096 * count) x) (is_in_area x g) (list_any (is_in_area x) others)))
       | inr other ↦
-          let rest = land_grown number others a count x (rw other at e) in
+          let rest = area_table_grown number others a count x (rw other at e) in
           rw (other, rest) (or_middle (is_in_area x g) (in_range (a.base + 4096 * a.pages) (4096 * count) x) (list_any (is_in_area x) others))
     ]
 
