@@ -1,5 +1,5 @@
 pub mod CallsReady
-pub mod Estates
+pub mod AreaStores
 pub mod NewImages
 pub mod Placed
 pub mod Readying

@@ -1,4 +1,4 @@
--- Calls that add a module: what they read is mapped, and what they leave is a world whose new image
+-- Calls that add a module: what they read is mapped, and what they leave is a module state whose new image
 -- is pending.
 use Rattle.std.proofs.Common.{◌≡◌, ◌%◌, ◌∙◌, ℕ, ◌+◌, ◌-◌, ◌==◌, sym, ap, ◌&&◌, ◌<◌, ◌≤◌, true, false, List, [], ◌∷◌, ◌++◌, length, refl, Ok, Err, inl, inr, arith}
 use Rattle.std.specs.Prelude.{IfOk, Result, nat_lt, not}
@@ -15,17 +15,17 @@ use Rattle.rma.specs.lists.Lists.{total_for}
 use Rattle.dynamic_areas.proofs.RangeTests.{are_mapped_all, clear_of_heaps}
 use Rattle.dynamic_areas.specs.Ranges.{are_bytes_mapped}
 use Rattle.dynamic_areas.specs.Store.{Store, has_image, is_image}
-use Rattle.dynamic_areas.specs.Ground.{Estate, IsEstate}
+use Rattle.dynamic_areas.specs.Ground.{AreaStore, IsAreaStore}
 use Rattle.rma.specs.Copies.{has_bare, may_be_copied}
 use Rattle.rma.specs.flex_frame.Keeping.{is_in_record}
 use Rattle.rma.specs.NewImages.{image_record, may_be_in_place, with_image_in_place}
 use Rattle.rma.proofs.InPlaceLemmas.{MayBe, may_be}
 use Rattle.instances_table.specs.ModuleArea.{is_in_module_area}
 use Rattle.instances_table.specs.declared.parts.Image.{Image}
-use Rattle.instances.specs.world.Sound.{AreSolid, IsWorld, range_of, recorded_len}
-use Rattle.instances.specs.world.World.{World}
-use Rattle.instances.proofs.WorldLemmas.AreaLemmas.{stays_outside}
-use Rattle.instances.proofs.WorldLemmas.Worlds.{world_more}
+use Rattle.instances.specs.module_state.Sound.{AreSolid, IsModuleState, range_of, recorded_len}
+use Rattle.instances.specs.module_state.ModuleState.{ModuleState}
+use Rattle.instances.proofs.ModuleStateLemmas.AreaLemmas.{stays_outside}
+use Rattle.instances.proofs.ModuleStateLemmas.ModuleStates.{module_state_more}
 use Rattle.instances.specs.Adding.{good_header}
 
 -- where no record lies no image begins, since none is empty
@@ -46,29 +46,29 @@ abbrev pub placed_at : ℕ → ℕ → Image
 placed_at block len = record { at = block; len = len }
 
 -- the image of a block that was claimed is pending
-pub world_with_block : (v w : World) (block len : ℕ) → IsWorld v [] → w.modules ≡ v.modules → block % 4 ≡ 0 → is_in_module_area block ≡ true → is_in_record v.estate.store.others block ≡ false
-    → (has_image block v.estate.store.others ≡ false → w.estate.store.others ≡ v.estate.store.others ++ image_record block len ∷ [])
-    → IsEstate w.estate → IsWorld w (placed_at block len ∷ [])
-world_with_block v w block len world modules whole inside alone others estate =
+pub module_state_with_block : (v w : ModuleState) (block len : ℕ) → IsModuleState v [] → w.modules ≡ v.modules → block % 4 ≡ 0 → is_in_module_area block ≡ true → is_in_record v.area_store.store.others block ≡ false
+    → (has_image block v.area_store.store.others ≡ false → w.area_store.store.others ≡ v.area_store.store.others ++ image_record block len ∷ [])
+    → IsAreaStore w.area_store → IsModuleState w (placed_at block len ∷ [])
+module_state_with_block v w block len module_state modules whole inside alone others area_store =
     let len_is : recorded_len (placed_at block len) ≡ total_for len - 4 = rw inside refl in
     let range_is : range_of (placed_at block len) ≡ image_record block len = λ i. record { kind = kind.Image; at = block; len = len_is i } in
-    world_more v w (placed_at block len) [] world modules
-    (others (no_image block v.estate.store.others world.solid alone) ∙ ap (λ (r : Region). v.estate.store.others ++ r ∷ []) (sym range_is))
-    (omega (arith, len_is)) whole estate
+    module_state_more v w (placed_at block len) [] module_state modules
+    (others (no_image block v.area_store.store.others module_state.solid alone) ∙ ap (λ (r : Region). v.area_store.store.others ++ r ∷ []) (sym range_is))
+    (omega (arith, len_is)) whole area_store
 
 -- and so is an image in place, which lies outside the module area
-pub world_in_place : (v w : World) (at len : ℕ) → IsWorld v [] → w.modules ≡ v.modules → may_be_in_place v.estate.store at len ≡ true → 0 < len
-    → w.estate.store ≡ with_image_in_place v.estate.store at len → IsEstate w.estate → IsWorld w (placed_at at len ∷ [])
-world_in_place v w at len world modules may some store estate =
+pub module_state_in_place : (v w : ModuleState) (at len : ℕ) → IsModuleState v [] → w.modules ≡ v.modules → may_be_in_place v.area_store.store at len ≡ true → 0 < len
+    → w.area_store.store ≡ with_image_in_place v.area_store.store at len → IsAreaStore w.area_store → IsModuleState w (placed_at at len ∷ [])
+module_state_in_place v w at len module_state modules may some store area_store =
     let r : Region = record { kind = kind.Image; at = at; len = len } in
-    let is : MayBe v.estate.store at len = may_be v.estate.store at len may in
+    let is : MayBe v.area_store.store at len = may_be v.area_store.store at len may in
     let outside : is_in_module_area at ≡ false =
-    stays_outside v.estate r world.estate some is.mapped (clear_of_heaps at len v.estate.store.heaps is.heaps) in
+    stays_outside v.area_store r module_state.area_store some is.mapped (clear_of_heaps at len v.area_store.store.heaps is.heaps) in
     let len_is : recorded_len (placed_at at len) ≡ len = rw outside refl in
     let range_is : range_of (placed_at at len) ≡ r = λ i. record { kind = kind.Image; at = at; len = len_is i } in
-    world_more v w (placed_at at len) [] world modules
-    (ap (λ (s : Store). s.others) store ∙ ap (λ (q : Region). v.estate.store.others ++ q ∷ []) (sym range_is))
-    (omega (arith, len_is, some)) is.aligned estate
+    module_state_more v w (placed_at at len) [] module_state modules
+    (ap (λ (s : Store). s.others) store ∙ ap (λ (q : Region). v.area_store.store.others ++ q ∷ []) (sym range_is))
+    (omega (arith, len_is, some)) is.aligned area_store
 
 -- an image with a good header isn't empty
 pub header_long : (image : List ℕ) (header : Header) → header_of image ≡ Ok header → 28 ≤ length image
@@ -88,6 +88,6 @@ header_good (Ok header) = refl
 header_good (Err fault) = tt
 
 -- a range that may be copied is mapped
-pub copied_mapped : (e : Estate) (at len : ℕ) → may_be_copied e at len ≡ true → AreMapped e.store.bytes.mapped at len
+pub copied_mapped : (e : AreaStore) (at len : ℕ) → may_be_copied e at len ≡ true → AreMapped e.store.bytes.mapped at len
 copied_mapped e at len may =
     are_mapped_all e.store.bytes.mapped at len (and_parts (are_bytes_mapped e.store.bytes.mapped at len) (not (has_bare e at len)) may).0

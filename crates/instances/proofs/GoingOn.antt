@@ -8,7 +8,7 @@ use Rattle.profile.specs.Outcome.{Leaves, bind}
 use Rattle.profile.specs.declared.error.ErrorNumber.{ErrorNumber}
 use Rattle.profile.specs.declared.error.ErrorNumber.TheVariants.{InstanceExists}
 use Rattle.instances_table.specs.plans.Header.{Header}
-use Rattle.dynamic_areas.specs.Ground.{Estate, IsEstate}
+use Rattle.dynamic_areas.specs.Ground.{AreaStore, IsAreaStore}
 use Rattle.instances_table.specs.declared.plans.action.PlanAction.{PlanAction}
 use Rattle.instances_table.specs.declared.plans.action.PlanAction.TheVariants.{Finalise, Remove, FreePrivate, Insert, Instantiate, GiveUp, Slide, Initialise}
 use Rattle.instances_table.specs.declared.plans.given.Given.{Given}
@@ -19,9 +19,9 @@ use Rattle.instances_table.specs.Changes.{is_named, modules_with_names, preferri
 use Rattle.instances_table.specs.Lookup.{place_meant, slot_at}
 use Rattle.instances_table.specs.Modules.{Instance, Module, changed_at, slots_of}
 use Rattle.instances_table.specs.Names.{name_given, new_name, full_name_parts}
-use Rattle.instances.specs.world.Sound.{IsWorld, images_of}
-use Rattle.instances.specs.world.World.{World}
-use Rattle.instances.proofs.WorldLemmas.Worlds.{world_kept, world_renewed}
+use Rattle.instances.specs.module_state.Sound.{IsModuleState, images_of}
+use Rattle.instances.specs.module_state.ModuleState.{ModuleState}
+use Rattle.instances.proofs.ModuleStateLemmas.ModuleStates.{module_state_kept, module_state_renewed}
 use Rattle.instances.specs.actions.Pending.{IsSettledOnce, pending_of, slots_titled}
 use Rattle.instances.specs.actions.Ready.{CanNameFirst, IsReady, instantiates}
 use Rattle.instances.proofs.ActionsLemmas.Slots.{slots_in}
@@ -140,34 +140,34 @@ ready_kept old new p keeps calls ready = record {
   instead = ready.instead;
 }
 
-world_alike : (v w : World) (pending : List Image) → w.estate ≡ v.estate → KeepsSlots v.modules w.modules → IsWorld v pending → IsWorld w pending
-world_alike v w pending same keeps world =
-    world_renewed v w pending pending world (ap (λ (xs : List Image). xs ++ pending) keeps.images) (ap (λ (e : Estate). e.store.others) same)
-    (subst IsEstate (sym same) world.estate)
+module_state_alike : (v w : ModuleState) (pending : List Image) → w.area_store ≡ v.area_store → KeepsSlots v.modules w.modules → IsModuleState v pending → IsModuleState w pending
+module_state_alike v w pending same keeps module_state =
+    module_state_renewed v w pending pending module_state (ap (λ (xs : List Image). xs ++ pending) keeps.images) (ap (λ (e : AreaStore). e.store.others) same)
+    (subst IsAreaStore (sym same) module_state.area_store)
 
-going_alike : (v w : World) (plan : Option Plan) → w.estate ≡ v.estate → KeepsSlots v.modules w.modules → MayGoOn v plan → MayGoOn w plan
-going_alike v w None same keeps world = world_alike v w [] same keeps world
+going_alike : (v w : ModuleState) (plan : Option Plan) → w.area_store ≡ v.area_store → KeepsSlots v.modules w.modules → MayGoOn v plan → MayGoOn w plan
+going_alike v w None same keeps module_state = module_state_alike v w [] same keeps module_state
 going_alike v w (Some p) same keeps going = (
   going.0,
   record {
-    world = world_alike v w (pending_of p) same keeps going.1.world;
+    module_state = module_state_alike v w (pending_of p) same keeps going.1.module_state;
     ready = ready_kept v.modules w.modules p keeps (going.1.code going.0) going.1.ready;
     code = going.1.code;
   },
 )
 
 -- a call on the modules that leaves each title, image and slot
-goes_on_alike : (old new : List Module) → KeepsSlots old new → (e : Estate) (plan : Option Plan) → MayGoOn (record { estate = e; modules = old }) plan
-    → MayGoOn (record { estate = e; modules = new }) plan
+goes_on_alike : (old new : List Module) → KeepsSlots old new → (e : AreaStore) (plan : Option Plan) → MayGoOn (record { area_store = e; modules = old }) plan
+    → MayGoOn (record { area_store = e; modules = new }) plan
 goes_on_alike old new keeps e plan going =
-    going_alike (record { estate = e; modules = old }) (record { estate = e; modules = new }) plan refl keeps going
+    going_alike (record { area_store = e; modules = old }) (record { area_store = e; modules = new }) plan refl keeps going
 
 pub rename_goes_on : (old new : List Module) (full name : List ℕ) (r : Result (Unit {0}) ErrorNumber) → Leaves old (modules_after_rename old full name) r new
-    → (e : Estate) (plan : Option Plan) → MayGoOn (record { estate = e; modules = old }) plan → MayGoOn (record { estate = e; modules = new }) plan
+    → (e : AreaStore) (plan : Option Plan) → MayGoOn (record { area_store = e; modules = old }) plan → MayGoOn (record { area_store = e; modules = new }) plan
 rename_goes_on old new full name r left = goes_on_alike old new (left_alike old new (modules_after_rename old full name) r (renamed_alike old full name) left)
 
 pub prefer_goes_on : (old new : List Module) (full : List ℕ) (r : Result (Unit {0}) ErrorNumber) → Leaves old (preferring old full) r new
-    → (e : Estate) (plan : Option Plan) → MayGoOn (record { estate = e; modules = old }) plan → MayGoOn (record { estate = e; modules = new }) plan
+    → (e : AreaStore) (plan : Option Plan) → MayGoOn (record { area_store = e; modules = old }) plan → MayGoOn (record { area_store = e; modules = new }) plan
 prefer_goes_on old new full r left = goes_on_alike old new (left_alike old new (preferring old full) r (preferring_alike old full) left)
 
 -- and keeps the slots
@@ -180,15 +180,15 @@ pub prefer_keeps_slots : (old new : List Module) (full : List ℕ) (r : Result (
 prefer_keeps_slots old new full r left = (left_alike old new (preferring old full) r (preferring_alike old full) left).slots
 
 -- a call on memory that leaves the records and the modules
-under_way_kept : (w v : World) (p : Plan) → IsEstate v.estate → v.estate.store.others ≡ w.estate.store.others → v.modules ≡ w.modules → IsUnderWay w p
+under_way_kept : (w v : ModuleState) (p : Plan) → IsAreaStore v.area_store → v.area_store.store.others ≡ w.area_store.store.others → v.modules ≡ w.modules → IsUnderWay w p
     → IsUnderWay v p
-under_way_kept w v p estate others modules going = record {
-  world = world_kept w v (pending_of p) going.world modules others estate;
+under_way_kept w v p area_store others modules going = record {
+  module_state = module_state_kept w v (pending_of p) going.module_state modules others area_store;
   ready = subst (λ (ms : List Module). IsReady ms p) (sym modules) going.ready;
   code = going.code;
 }
 
-pub may_go_on_kept : (w v : World) (plan : Option Plan) → IsEstate v.estate → v.estate.store.others ≡ w.estate.store.others → v.modules ≡ w.modules
+pub may_go_on_kept : (w v : ModuleState) (plan : Option Plan) → IsAreaStore v.area_store → v.area_store.store.others ≡ w.area_store.store.others → v.modules ≡ w.modules
     → MayGoOn w plan → MayGoOn v plan
-may_go_on_kept w v None estate others modules world = world_kept w v [] world modules others estate
-may_go_on_kept w v (Some p) estate others modules going = (going.0, under_way_kept w v p estate others modules going.1)
+may_go_on_kept w v None area_store others modules module_state = module_state_kept w v [] module_state modules others area_store
+may_go_on_kept w v (Some p) area_store others modules going = (going.0, under_way_kept w v p area_store others modules going.1)

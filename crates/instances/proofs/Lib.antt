@@ -15,6 +15,6 @@ pub mod Naming
 pub mod NextCode
 pub mod ReadyLemmas
 pub mod Turning
-pub mod WorldLemmas
+pub mod ModuleStateLemmas
 pub mod ActionsLemmas
 pub mod TidyingLemmas

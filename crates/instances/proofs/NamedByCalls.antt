@@ -23,7 +23,7 @@ use Rattle.instances_table.specs.declared.parts.Place.{Place}
 use Rattle.instances_table.specs.Changes.{instance_room, modules_of_title}
 use Rattle.instances_table.specs.Lookup.{looked_up, module_at, slot_at}
 use Rattle.instances_table.specs.Modules.{Module, slots_of}
-use Rattle.instances.specs.world.World.{World}
+use Rattle.instances.specs.module_state.ModuleState.{ModuleState}
 use Rattle.instances.specs.actions.Ready.{IsReady}
 use Rattle.instances.proofs.ActionsLemmas.Used.{others_stay}
 use Rattle.instances.specs.Adding.{adding_plan, copying, good_header, inserting, instantiation, loading, slot_for}
@@ -81,59 +81,59 @@ unless P true e r all = tt
 unless P false e r all = all
 
 -- reasons 1, 10 and 11, by the header of the image
-abbrev pub ReadyTitled : List Module → Result Header HeaderFault → World × Plan → Type 0
+abbrev pub ReadyTitled : List Module → Result Header HeaderFault → ModuleState × Plan → Type 0
 ReadyTitled ms h r = IsReady ms r.1 → NamesTitled ms r.1 h
 
-pub loading_names : (w : World) (image text : List ℕ) → IfOk (loading w image text) (ReadyTitled w.modules (header_of image))
+pub loading_names : (w : ModuleState) (image text : List ℕ) → IfOk (loading w image text) (ReadyTitled w.modules (header_of image))
 unfolding loading
 loading_names w image text =
     unless (ReadyTitled w.modules (header_of image)) (is_text_too_long text) BadString _ (by (header_of image)) where
       by : (h : Result Header HeaderFault) → IfOk (bind (good_header h) (λ header.
           bind (slot_for w.modules header) (λ slot.
-          bind (image_made w.estate image) (λ made.
+          bind (image_made w.area_store image) (λ made.
           let placed : Image = record { at = made.1; len = length image } in
-          let r : Result (World × Plan) ErrorNumber = Ok (record w { estate = made.0 }, adding_plan w.modules header placed text slot) in r)))) (ReadyTitled w.modules h)
+          let r : Result (ModuleState × Plan) ErrorNumber = Ok (record w { area_store = made.0 }, adding_plan w.modules header placed text slot) in r)))) (ReadyTitled w.modules h)
       by (Err fault) = tt
       by (Ok header) =
           bound (ReadyTitled w.modules (Ok header)) (slot_for w.modules header) _ (λ slot.
-          bound (ReadyTitled w.modules (Ok header)) (image_made w.estate image) _ (λ made ready.
+          bound (ReadyTitled w.modules (Ok header)) (image_made w.area_store image) _ (λ made ready.
           adding_names w.modules header (record { at = made.1; len = length image }) text slot ready.doable))
 
 -- so of the plan that such a call gives
-pub named_given : (ms : List Module) (h : Result Header HeaderFault) (old new : World) (r : Result (World × Plan) ErrorNumber) (p : Plan)
+pub named_given : (ms : List Module) (h : Result Header HeaderFault) (old new : ModuleState) (r : Result (ModuleState × Plan) ErrorNumber) (p : Plan)
     → IfOk r (ReadyTitled ms h) → Gives old r (Ok p) new → IsReady ms p → NamesTitled ms p h
 named_given ms h old new (Ok r) p names gives ready =
     subst (λ (q : Plan). NamesTitled ms q h) (sym gives.1) (names (subst (IsReady ms) gives.1 ready))
 named_given ms h old new (Err e) p names gives ready = absurd gives
 
-pub copying_names : (w : World) (at len : ℕ) → IfOk (copying w at len) (ReadyTitled w.modules (header_of (bytes_between w.estate.store.bytes.at at len)))
+pub copying_names : (w : ModuleState) (at len : ℕ) → IfOk (copying w at len) (ReadyTitled w.modules (header_of (bytes_between w.area_store.store.bytes.at at len)))
 unfolding copying
 copying_names w at len =
-    unless (ReadyTitled w.modules (header_of (bytes_between w.estate.store.bytes.at at len))) (not (may_be_copied w.estate at len)) BadPointer _
-    (by (header_of (bytes_between w.estate.store.bytes.at at len)))
+    unless (ReadyTitled w.modules (header_of (bytes_between w.area_store.store.bytes.at at len))) (not (may_be_copied w.area_store at len)) BadPointer _
+    (by (header_of (bytes_between w.area_store.store.bytes.at at len)))
   where
     by : (h : Result Header HeaderFault) → IfOk (bind (good_header h) (λ header.
         bind (slot_for w.modules header) (λ slot.
-        bind (image_copied w.estate at len) (λ made.
+        bind (image_copied w.area_store at len) (λ made.
         let placed : Image = record { at = made.1; len = len } in
-        let r : Result (World × Plan) ErrorNumber = Ok (record w { estate = made.0 }, adding_plan w.modules header placed [] slot) in r)))) (ReadyTitled w.modules h)
+        let r : Result (ModuleState × Plan) ErrorNumber = Ok (record w { area_store = made.0 }, adding_plan w.modules header placed [] slot) in r)))) (ReadyTitled w.modules h)
     by (Err fault) = tt
     by (Ok header) =
         bound (ReadyTitled w.modules (Ok header)) (slot_for w.modules header) _ (λ slot.
-        bound (ReadyTitled w.modules (Ok header)) (image_copied w.estate at len) _ (λ made ready.
+        bound (ReadyTitled w.modules (Ok header)) (image_copied w.area_store at len) _ (λ made ready.
         adding_names w.modules header (record { at = made.1; len = len }) [] slot ready.doable))
 
-pub inserting_names : (w : World) (at len : ℕ) → IfOk (inserting w at len) (ReadyTitled w.modules (header_of (bytes_between w.estate.store.bytes.at at len)))
+pub inserting_names : (w : ModuleState) (at len : ℕ) → IfOk (inserting w at len) (ReadyTitled w.modules (header_of (bytes_between w.area_store.store.bytes.at at len)))
 unfolding inserting
 inserting_names w at len =
-    unless (ReadyTitled w.modules (header_of (bytes_between w.estate.store.bytes.at at len))) (not (may_be_in_place w.estate.store at len)) BadPointer _
-    (by (header_of (bytes_between w.estate.store.bytes.at at len)))
+    unless (ReadyTitled w.modules (header_of (bytes_between w.area_store.store.bytes.at at len))) (not (may_be_in_place w.area_store.store at len)) BadPointer _
+    (by (header_of (bytes_between w.area_store.store.bytes.at at len)))
   where
     by : (h : Result Header HeaderFault) → IfOk (bind (good_header h) (λ header.
         bind (slot_for w.modules header) (λ slot.
         let placed : Image = record { at = at; len = len } in
-        let r : Result (World × Plan) ErrorNumber =
-        Ok (record w { estate = with_store w.estate (with_image_in_place w.estate.store at len) }, adding_plan w.modules header placed [] slot) in r)))
+        let r : Result (ModuleState × Plan) ErrorNumber =
+        Ok (record w { area_store = with_store w.area_store (with_image_in_place w.area_store.store at len) }, adding_plan w.modules header placed [] slot) in r)))
         (ReadyTitled w.modules h)
     by (Err fault) = tt
     by (Ok header) =

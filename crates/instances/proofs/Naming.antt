@@ -25,13 +25,13 @@ use Rattle.instances_table.specs.Additions.{added_to}
 use Rattle.instances_table.specs.Changes.{is_slot_held, is_new, new_module, still, with_instance, with_module, without_first_passing, without_instance}
 use Rattle.instances_table.specs.Lookup.{number_of_title, place_of_slot}
 use Rattle.instances_table.specs.Modules.{Instance, Module, changed_at, has_instance, has_slot, slots_of}
-use Rattle.instances.specs.world.World.{World, world_after_remove}
+use Rattle.instances.specs.module_state.ModuleState.{ModuleState, module_state_after_remove}
 use Rattle.instances.proofs.ActionsLemmas.Readying.{slots_outlined}
-use Rattle.instances.specs.actions.Actions.{world_after_action, image_given, with_another, with_new}
+use Rattle.instances.specs.actions.Actions.{module_state_after_action, image_given, with_another, with_new}
 use Rattle.instances.specs.actions.Codes.{code_among, code_at, code_to_enter, entered_at, entered_in, entry_offset, fatal_word}
 use Rattle.instances.specs.actions.Ready.{HaveSameOutlines}
 use Rattle.instances.proofs.ActionsLemmas.Slots.{used_append, used_slots}
-use Rattle.instances.specs.tidying.Slid.{world_slid}
+use Rattle.instances.specs.tidying.Slid.{module_state_slid}
 use Rattle.instances.specs.Naming.{KeepsOtherInstances, slot_of_action, slots_of_actions, slots_of_plan}
 use Rattle.instances.specs.Turns.{IsUnderWay, module_doing}
 use Rattle.instances.proofs.Turning.{after_slide}
@@ -167,12 +167,12 @@ used_by_held s old new same = used_slots s new ∙ same ∙ sym (used_slots s ol
 pub apart_from : (s slot : ℕ) → is_used s (slot ∷ []) ≡ false → (slot == s) ≡ false
 apart_from s slot none = (or_parts (slot == s) false none).0
 
-used_removed : (s slot : ℕ) (w : World) → (slot == s) ≡ false → is_used s (slots_of (world_after_remove w slot).modules) ≡ is_used s (slots_of w.modules)
-unfolding world_after_remove
+used_removed : (s slot : ℕ) (w : ModuleState) → (slot == s) ≡ false → is_used s (slots_of (module_state_after_remove w slot).modules) ≡ is_used s (slots_of w.modules)
+unfolding module_state_after_remove
 used_removed s slot w apart = used_by_held s w.modules (without_instance slot w.modules) (held_less s slot w.modules apart)
 
-used_acted : (s : ℕ) (g : Given) (w : World) (a : PlanAction) → is_used s (slot_of_action a) ≡ false
-    → is_used s (slots_of (world_after_action world_slid g w a).modules) ≡ is_used s (slots_of w.modules)
+used_acted : (s : ℕ) (g : Given) (w : ModuleState) (a : PlanAction) → is_used s (slot_of_action a) ≡ false
+    → is_used s (slots_of (module_state_after_action module_state_slid g w a).modules) ≡ is_used s (slots_of w.modules)
 used_acted s g w (Finalise slot fatal) none = refl
 used_acted s g w (Remove slot) none = used_removed s slot w (apart_from s slot none)
 used_acted s g w (FreePrivate slot) none = refl
@@ -181,34 +181,34 @@ used_acted s g w (Instantiate slot) none =
     used_by_held s w.modules (with_another g slot w.modules)
     (held_added s slot (number_of_title g.header.title.items w.modules) g.name.items w.modules (apart_from s slot none))
 used_acted s g w GiveUp none = refl
-used_acted s g w Slide none = ap (is_used s) (slots_slid w.modules (world_slid g.return_address w).modules (after_slide g.return_address w))
+used_acted s g w Slide none = ap (is_used s) (slots_slid w.modules (module_state_slid g.return_address w).modules (after_slide g.return_address w))
 used_acted s g w (Initialise slot) none = refl
 
 -- so does a call that is carried on
-record Spares (s : ℕ) (w : World) (c : Carried World) : Type 0 where
+record Spares (s : ℕ) (w : ModuleState) (c : Carried ModuleState) : Type 0 where
   pub aside : IsAside s c.rest
-  pub used : is_used s (slots_of c.world.modules) ≡ is_used s (slots_of w.modules)
+  pub used : is_used s (slots_of c.module_state.modules) ≡ is_used s (slots_of w.modules)
 
-spares_by : (s : ℕ) (w : World) (p : Plan) (a : PlanAction) (others : List PlanAction) (code : Option Code) (on : World → Plan → Carried World)
-    → is_used s (slots_of_actions (a ∷ others)) ≡ false → IsAside s p → ((v : World) (q : Plan) → IsAside s q → Spares s v (on v q))
+spares_by : (s : ℕ) (w : ModuleState) (p : Plan) (a : PlanAction) (others : List PlanAction) (code : Option Code) (on : ModuleState → Plan → Carried ModuleState)
+    → is_used s (slots_of_actions (a ∷ others)) ≡ false → IsAside s p → ((v : ModuleState) (q : Plan) → IsAside s q → Spares s v (on v q))
     → Spares s w (carried_by module_doing w p a others code on)
 spares_by s w p a others (Some code) on none aside later =
     let parts = rest_aside s a others none in
     record { aside = record { actions = none; instead = aside.instead }; used = used_acted s p.given w a parts.0 }
 spares_by s w p a others None on none aside later =
     let parts = rest_aside s a others none in
-    let rest = later (world_after_action world_slid p.given w a) (record p { actions = others; instead = actions_owed p.instead a; runs = false })
+    let rest = later (module_state_after_action module_state_slid p.given w a) (record p { actions = others; instead = actions_owed p.instead a; runs = false })
     (record { actions = parts.1; instead = owed_aside s p.instead a aside.instead parts.0 }) in
     record { aside = rest.aside; used = rest.used ∙ used_acted s p.given w a parts.0 }
 
-spares_from : (s : ℕ) (actions : List PlanAction) (w : World) (p : Plan) → is_used s (slots_of_actions actions) ≡ false → IsAside s p
+spares_from : (s : ℕ) (actions : List PlanAction) (w : ModuleState) (p : Plan) → is_used s (slots_of_actions actions) ≡ false → IsAside s p
     → Spares s w (carried_from module_doing actions w p)
 spares_from s [] w p none aside = record { aside = aside; used = refl }
 spares_from s (a ∷ others) w p none aside =
     spares_by s w p a others (code_among w.modules a) (carried_from module_doing others) none aside
     (λ v q later. spares_from s others v q (rest_aside s a others none).1 later)
 
-carried_spares : (s : ℕ) (w : World) (p : Plan) (c : Carried World) → carry_of_plan module_doing w p ≡ c → IsAside s p → Spares s w c
+carried_spares : (s : ℕ) (w : ModuleState) (p : Plan) (c : Carried ModuleState) → carry_of_plan module_doing w p ≡ c → IsAside s p → Spares s w c
 unfolding carry_of_plan
 carried_spares s w p c is aside = subst (Spares s w) is (spares_from s p.actions w p aside.actions aside)
 
@@ -255,24 +255,24 @@ code_of_first ms (Instantiate s) others code is = cc
 code_of_first ms GiveUp others code is = cc
 code_of_first ms Slide others code is = cc
 
-code_by : (w : World) (p : Plan) (a : PlanAction) (others : List PlanAction) (o : Option Code) (on : World → Plan → Carried World) (code : Code)
-    → code_among w.modules a ≡ o → ((v : World) (q : Plan) → (on v q).code ≡ Some code → IsCodeOf code.slot (on v q).rest.actions)
+code_by : (w : ModuleState) (p : Plan) (a : PlanAction) (others : List PlanAction) (o : Option Code) (on : ModuleState → Plan → Carried ModuleState) (code : Code)
+    → code_among w.modules a ≡ o → ((v : ModuleState) (q : Plan) → (on v q).code ≡ Some code → IsCodeOf code.slot (on v q).rest.actions)
     → (carried_by module_doing w p a others o on).code ≡ Some code → IsCodeOf code.slot (carried_by module_doing w p a others o on).rest.actions
 code_by w p a others (Some c) on code is later has = code_of_first w.modules a others code (is ∙ has)
 code_by w p a others None on code is later has = later _ _ has
 
-code_from : (actions : List PlanAction) (w : World) (p : Plan) (code : Code) → (carried_from module_doing actions w p).code ≡ Some code
+code_from : (actions : List PlanAction) (w : ModuleState) (p : Plan) (code : Code) → (carried_from module_doing actions w p).code ≡ Some code
     → IsCodeOf code.slot (carried_from module_doing actions w p).rest.actions
 code_from [] w p code has = cc
 code_from (a ∷ others) w p code has =
     code_by w p a others (code_among w.modules a) (carried_from module_doing others) code refl (λ v q later. code_from others v q code later) has
 
-code_is_first : (w : World) (p : Plan) (c : Carried World) (code : Code) → carry_of_plan module_doing w p ≡ c → c.code ≡ Some code
+code_is_first : (w : ModuleState) (p : Plan) (c : Carried ModuleState) (code : Code) → carry_of_plan module_doing w p ≡ c → c.code ≡ Some code
     → IsCodeOf code.slot c.rest.actions
 unfolding carry_of_plan
 code_is_first w p c code is has =
-    subst (λ (x : Carried World). IsCodeOf code.slot x.rest.actions) is
-    (code_from p.actions w p code (ap (λ (x : Carried World). x.code) is ∙ has))
+    subst (λ (x : Carried ModuleState). IsCodeOf code.slot x.rest.actions) is
+    (code_from p.actions w p code (ap (λ (x : Carried ModuleState). x.code) is ∙ has))
 
 -- Its instance is there, and is one that the plan names.
 code_used : (slot : ℕ) (used : List ℕ) (instead actions : List PlanAction) → IsCodeOf slot actions → CanDo used instead actions → is_used slot used ≡ true
@@ -311,10 +311,10 @@ apart_by : (p q : Plan) (code : Option Code) → ((c : Code) → code ≡ Some c
 apart_by p q None of aside = tt
 apart_by p q (Some c) of aside = λ s none. code_apart s c.slot q.actions (of c refl) (aside s none).actions
 
-pub keeps_others : (w v : World) (p q : Plan) (o : Outcome) (code : Option Code)
-    → carry_of_plan module_doing w (plan_after_code p o) ≡ record { world = v; rest = q; code = code } → IsUnderWay v q → KeepsOtherInstances w.modules v.modules p q code
+pub keeps_others : (w v : ModuleState) (p q : Plan) (o : Outcome) (code : Option Code)
+    → carry_of_plan module_doing w (plan_after_code p o) ≡ record { module_state = v; rest = q; code = code } → IsUnderWay v q → KeepsOtherInstances w.modules v.modules p q code
 keeps_others w v p q o code is going =
-    let c : Carried World = record { world = v; rest = q; code = code } in
+    let c : Carried ModuleState = record { module_state = v; rest = q; code = code } in
     let spares : (s : ℕ) → is_used s (slots_of_plan p) ≡ false → Spares s w c =
     λ s none. carried_spares s w (plan_after_code p o) c is (settled_aside s p o (is_aside s p none)) in
     let of : (x : Code) → code ≡ Some x → IsCodeOf x.slot q.actions = λ x has. code_is_first w (plan_after_code p o) c x is has in

@@ -18,7 +18,7 @@ use Rattle.instances_table.specs.plans.Doable.{without_all}
 use Rattle.instances_table.specs.declared.parts.NewInstance.{NewInstance}
 use Rattle.instances_table.specs.Changes.{IsRoomFor, free_slot, module_has_slot, instance_room, is_slot_held, is_named, modules_of_title, titled_otherwise}
 use Rattle.instances_table.specs.declared.parts.ModuleInfo.{ModuleInfo}
-use Rattle.instances_table.specs.Lookup.{number_of_title, told_of_module}
+use Rattle.instances_table.specs.Lookup.{number_of_title, shown_of_module}
 use Rattle.instances_table.specs.Modules.{AreModules, Instance, Module, has_title, slots_of}
 use Rattle.instances_table.specs.Names.{name_given, new_name, full_name_parts}
 use Rattle.instances_table.proofs.Counting.{same_test}
@@ -150,18 +150,18 @@ instantiate_ready given modules full new m room is there title name =
     instantiate_is_ready given modules new.slot (instantiate_doable given new.slot modules is.below is.free)
     (can_name given modules full new m room is there title name)
 
--- the same with what the table tells of the module
-pub instantiate_told : (given : Given) (modules : List Module) (full : List ℕ) (new : NewInstance) (t : Option ModuleInfo) (e : ErrorNumber) (info : ModuleInfo)
-    → instance_room modules full ≡ Ok new → IsRoomFor new modules → t ≡ option_map told_of_module (slice_get modules new.number) → Ok info ≡ ok_or t e
+-- the same with what the table reports the module
+pub instantiate_shown : (given : Given) (modules : List Module) (full : List ℕ) (new : NewInstance) (t : Option ModuleInfo) (e : ErrorNumber) (info : ModuleInfo)
+    → instance_room modules full ≡ Ok new → IsRoomFor new modules → t ≡ option_map shown_of_module (slice_get modules new.number) → Ok info ≡ ok_or t e
     → given.header.title ≡ info.title → given.name ≡ new.name → IsReady modules (instantiate_plan given new.slot)
-instantiate_told given modules full new t e info room is told ok title name = go (slice_get modules new.number) refl where
+instantiate_shown given modules full new t e info room is reported ok title name = go (slice_get modules new.number) refl where
   go : (o : Option Module) → slice_get modules new.number ≡ o → IsReady modules (instantiate_plan given new.slot)
   go None none =
-      let no : Ok info ≡ Err e = ok ∙ ap (λ (x : Option ModuleInfo). ok_or x e) (told ∙ ap (option_map told_of_module) none) in
+      let no : Ok info ≡ Err e = ok ∙ ap (λ (x : Option ModuleInfo). ok_or x e) (reported ∙ ap (option_map shown_of_module) none) in
       absurd (cc)
   go (Some m) there =
-      let both : Ok info ≡ Ok (told_of_module m) = ok ∙ ap (λ (x : Option ModuleInfo). ok_or x e) (told ∙ ap (option_map told_of_module) there) in
-      let same : info ≡ told_of_module m = cc in
+      let both : Ok info ≡ Ok (shown_of_module m) = ok ∙ ap (λ (x : Option ModuleInfo). ok_or x e) (reported ∙ ap (option_map shown_of_module) there) in
+      let same : info ≡ shown_of_module m = cc in
       instantiate_ready given modules full new m room is there
       (ap (λ (n : ArrayVec ℕ). n.items) (title ∙ ap (λ (x : ModuleInfo). x.title) same)) (ap (λ (n : ArrayVec ℕ). n.items) name)
 

@@ -22,7 +22,7 @@ use Rattle.instances_table.specs.declared.parts.Image.{Image}
 use Rattle.instances_table.specs.Modules.{Module, slots_of}
 use Rattle.instances_table.specs.Changes.{free_slot_for, instance_room, modules_of_title}
 use Rattle.instances_table.specs.Lookup.{module_at}
-use Rattle.instances.specs.world.World.{World}
+use Rattle.instances.specs.module_state.ModuleState.{ModuleState}
 use Rattle.instances.specs.Given.{given_instance, given_module, is_text_too_long}
 
 -- Reason 14: a new instance of a module that is there, with its name, and a text, which has to be
@@ -49,36 +49,36 @@ adding_plan modules header image text slot = load_plan (given_module header imag
     (slots_of (modules_of_title header.title.items modules)) slot
 
 -- Reason 1: an image that is given, with a text that can be kept, gets a block of the module area.
-unfoldable pub loading : World → List ℕ → List ℕ → Result (World × Plan) ErrorNumber
+unfoldable pub loading : ModuleState → List ℕ → List ℕ → Result (ModuleState × Plan) ErrorNumber
 loading w image text =
     if is_text_too_long text then Err BadString else
     bind (good_header (header_of image)) (λ header.
     bind (slot_for w.modules header) (λ slot.
-    bind (image_made w.estate image) (λ made.
+    bind (image_made w.area_store image) (λ made.
     let placed : Image = record { at = made.1; len = length image } in
-    Ok (record w { estate = made.0 }, adding_plan w.modules header placed text slot))))
+    Ok (record w { area_store = made.0 }, adding_plan w.modules header placed text slot))))
 
 -- Reason 10: an image in place keeps its bytes.
-unfoldable pub inserting : World → ℕ → ℕ → Result (World × Plan) ErrorNumber
+unfoldable pub inserting : ModuleState → ℕ → ℕ → Result (ModuleState × Plan) ErrorNumber
 inserting w at len =
-    if not (may_be_in_place w.estate.store at len) then Err BadPointer else
-    bind (good_header (header_of (bytes_between w.estate.store.bytes.at at len))) (λ header.
+    if not (may_be_in_place w.area_store.store at len) then Err BadPointer else
+    bind (good_header (header_of (bytes_between w.area_store.store.bytes.at at len))) (λ header.
     bind (slot_for w.modules header) (λ slot.
     let placed : Image = record { at = at; len = len } in
     Ok (
-      record w { estate = with_store w.estate (with_image_in_place w.estate.store at len) },
+      record w { area_store = with_store w.area_store (with_image_in_place w.area_store.store at len) },
       adding_plan w.modules header placed [] slot,
     )))
 
 -- Reason 11: of an image that stands in memory the module area gets a copy.
-unfoldable pub copying : World → ℕ → ℕ → Result (World × Plan) ErrorNumber
+unfoldable pub copying : ModuleState → ℕ → ℕ → Result (ModuleState × Plan) ErrorNumber
 copying w at len =
-    if not (may_be_copied w.estate at len) then Err BadPointer else
-    bind (good_header (header_of (bytes_between w.estate.store.bytes.at at len))) (λ header.
+    if not (may_be_copied w.area_store at len) then Err BadPointer else
+    bind (good_header (header_of (bytes_between w.area_store.store.bytes.at at len))) (λ header.
     bind (slot_for w.modules header) (λ slot.
-    bind (image_copied w.estate at len) (λ made.
+    bind (image_copied w.area_store at len) (λ made.
     let placed : Image = record { at = made.1; len = len } in
-    Ok (record w { estate = made.0 }, adding_plan w.modules header placed [] slot))))
+    Ok (record w { area_store = made.0 }, adding_plan w.modules header placed [] slot))))
 
 -- The record of the new image, which begins at an address, comes after all others, and each of
 -- these stands where it stood.

@@ -21,6 +21,6 @@ pub mod Naming
 pub mod Plans
 pub mod Reading
 pub mod Turns
-pub mod world
+pub mod module_state
 pub mod actions
 pub mod tidying

@@ -10,10 +10,10 @@ use Rattle.instances_table.specs.Modules.{Module}
 use Rattle.instances_table.specs.Lookup.{information, looked_up, module_at, slot_at}
 use Rattle.instances.specs.declared.answers.Found.{Found}
 use Rattle.instances.specs.declared.answers.Start.{Start}
-use Rattle.instances.specs.declared.answers.Told.{Told}
+use Rattle.instances.specs.declared.answers.Reported.{Reported}
 
 -- OS_Module 12: the place after an instance, its module's image, and the value of its private word
-abbrev pub instance_info : (ℕ → ℕ) → List Module → Place → Result Told ErrorNumber
+abbrev pub instance_info : (ℕ → ℕ) → List Module → Place → Result Reported ErrorNumber
 instance_info bytes modules place =
     bind (information modules place.number place.instance) (λ i.
     bind (slot_at modules place) (λ slot.

@@ -1,4 +1,4 @@
--- A call that is under way on the world: its plan finds what its actions ask for, and module code
+-- A call that is under way on the module state: its plan finds what its actions ask for, and module code
 -- runs only where an action has some (this project's own).
 use Rattle.std.specs.Prelude.{◌≡◌, Bool, true, false, Option, Some, None, List, []}
 use Rattle.instances_table.specs.declared.plans.action.PlanAction.{PlanAction}
@@ -6,18 +6,18 @@ use Rattle.instances_table.specs.declared.plans.action.PlanAction.TheVariants.{F
 use Rattle.instances_table.specs.declared.plans.code.Code.{Code}
 use Rattle.instances_table.specs.plans.Carrying.{Doing}
 use Rattle.instances_table.specs.plans.Plans.{Plan, first_action}
-use Rattle.instances.specs.world.Sound.{IsWorld}
-use Rattle.instances.specs.world.World.{World}
+use Rattle.instances.specs.module_state.Sound.{IsModuleState}
+use Rattle.instances.specs.module_state.ModuleState.{ModuleState}
 use Rattle.instances_table.specs.Modules.{Module}
 use Rattle.instances.specs.actions.Actions.{doing}
 use Rattle.instances.specs.actions.Codes.{code_among}
 use Rattle.instances.specs.actions.Pending.{pending_of}
 use Rattle.instances.specs.actions.Ready.{IsReady}
-use Rattle.instances.specs.tidying.Slid.{world_slid}
+use Rattle.instances.specs.tidying.Slid.{module_state_slid}
 
--- What actions do to the world, the slide of the module area among them.
-abbrev pub module_doing : Doing World
-module_doing = doing world_slid
+-- What actions do to the module state, the slide of the module area among them.
+abbrev pub module_doing : Doing ModuleState
+module_doing = doing module_state_slid
 
 -- has an action an entry of a module to call?
 abbrev pub calls_module : Option PlanAction → Bool
@@ -30,12 +30,12 @@ abbrev pub code_called : List Module → Option PlanAction → Option Code
 code_called modules None = None
 code_called modules (Some action) = code_among modules action
 
-pub record IsUnderWay (w : World) (p : Plan) : Type 0 where
-  pub world : IsWorld w (pending_of p)
+pub record IsUnderWay (w : ModuleState) (p : Plan) : Type 0 where
+  pub module_state : IsModuleState w (pending_of p)
   pub ready : IsReady w.modules p
   pub code : p.runs ≡ true → calls_module (first_action p.actions) ≡ true
 
--- A world between module calls, or one whose call is under way while module code runs.
-abbrev pub MayGoOn : World → Option Plan → Type 0
-MayGoOn w None = IsWorld w []
+-- A module state between module calls, or one whose call is under way while module code runs.
+abbrev pub MayGoOn : ModuleState → Option Plan → Type 0
+MayGoOn w None = IsModuleState w []
 MayGoOn w (Some p) = (p.runs ≡ true) × IsUnderWay w p

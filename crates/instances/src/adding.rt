@@ -11,8 +11,8 @@ ghost use Rattle.instances_table.specs.plans.ModuleHeaderHeader.{header_of};
 ghost use Rattle.instances.specs.actions.Pending.{pending_of};
 ghost use Rattle.instances.specs.actions.Ready.{IsReady};
 ghost use Rattle.instances_table.specs.Changes.{is_slot_held, titled_otherwise};
-ghost use Rattle.instances.specs.world.Sound.{IsWorld};
-ghost use Rattle.instances.specs.world.World.{world_of};
+ghost use Rattle.instances.specs.module_state.Sound.{IsModuleState};
+ghost use Rattle.instances.specs.module_state.ModuleState.{module_state_of};
 ghost use Rattle.instances.specs.Adding.{AddsImage, adding_plan, good_header, loading, slot_for};
 
 use crate::given::{given_module, is_too_long};
@@ -45,12 +45,12 @@ impl Instances {
         image: &[u8],
         text: &[u8],
     ) -> Result<Plan, ErrorNumber>
-        requires sound { IsWorld (world_of map.old areas.old self.now) [] }
+        requires sound { IsModuleState (module_state_of map.old areas.old self.now) [] }
         requires classes { AreClasses map.old }
-        ensures world { Gives (world_of map.old areas.old self.now)
-            (loading (world_of map.old areas.old self.now) image.now text.now) result
-            (world_of map.new areas.new self.now) }
-        ensures sound { IfOk result (λ plan. IsWorld (world_of map.new areas.new self.now)
+        ensures module_state { Gives (module_state_of map.old areas.old self.now)
+            (loading (module_state_of map.old areas.old self.now) image.now text.now) result
+            (module_state_of map.new areas.new self.now) }
+        ensures sound { IfOk result (λ plan. IsModuleState (module_state_of map.new areas.new self.now)
             (pending_of plan)) }
         ensures classes { AreClasses map.new }
         ensures order { MatchResult result (λ plan. AddsImage map.old map.new plan.given.image)

@@ -7,12 +7,12 @@ ghost use Rattle.dynamic_areas.specs.Store.{AreClasses, store_of};
 ghost use Rattle.rma.specs.flex_frame.Keeping.{KeepsFlex};
 ghost use Rattle.instances_table.specs.plans.Carrying.{advance_of_plan, carry_of_plan};
 ghost use Rattle.instances_table.specs.plans.Plans.{plan_after_action, first_action, plan_after_code};
-ghost use Rattle.instances.specs.world.Records.{CarriesRecords, MayTurnRecords, TurnsRecords};
-ghost use Rattle.instances.specs.world.Sound.{IsWorld};
-ghost use Rattle.instances.specs.world.World.{world_of};
-ghost use Rattle.instances.specs.actions.Actions.{world_after_action};
+ghost use Rattle.instances.specs.module_state.Records.{CarriesRecords, MayTurnRecords, TurnsRecords};
+ghost use Rattle.instances.specs.module_state.Sound.{IsModuleState};
+ghost use Rattle.instances.specs.module_state.ModuleState.{module_state_of};
+ghost use Rattle.instances.specs.actions.Actions.{module_state_after_action};
 ghost use Rattle.instances.specs.actions.Pending.{pending_of};
-ghost use Rattle.instances.specs.tidying.Slid.{world_slid};
+ghost use Rattle.instances.specs.tidying.Slid.{module_state_slid};
 ghost use Rattle.instances.specs.Naming.{KeepsOtherInstances};
 ghost use Rattle.instances.specs.Turns.{IsUnderWay, code_called, module_doing};
 
@@ -37,15 +37,20 @@ impl Instances {
         plan: &mut Plan,
         outcome: Outcome,
     ) -> Option<Code>
-        requires going { IsUnderWay (world_of map.old areas.now self.old) plan.old }
+        requires going { IsUnderWay (module_state_of map.old areas.now self.old) plan.old }
         requires classes { AreClasses map.old }
-        ensures carried { carry_of_plan module_doing (world_of map.old areas.now self.old)
+        ensures carried { carry_of_plan module_doing (module_state_of map.old areas.now self.old)
             (plan_after_code plan.old outcome)
-            ≡ record { world = world_of map.new areas.now self.new; rest = plan.new; code = result } }
+            ≡ record {
+              module_state = module_state_of map.new areas.now self.new;
+              rest = plan.new;
+              code =
+                  result;
+            } }
         ensures code { IfSome result (λ code. code_called self.new (first_action plan.new.actions) ≡ Some
             code) }
-        ensures ended { result ≡ None → IsWorld (world_of map.new areas.now self.new) [] }
-        ensures going { IsUnderWay (world_of map.new areas.now self.new) plan.new }
+        ensures ended { result ≡ None → IsModuleState (module_state_of map.new areas.now self.new) [] }
+        ensures going { IsUnderWay (module_state_of map.new areas.now self.new) plan.new }
         ensures others { KeepsOtherInstances self.old self.new plan.old plan.new result }
         ensures classes { AreClasses map.new }
         ensures mapping { mapping map.new ≡ mapping map.old }
@@ -72,11 +77,17 @@ impl Instances {
         plan: &mut Plan,
         outcome: Outcome,
     ) -> Advance
-        requires going { IsUnderWay (world_of map.old areas.now self.old) plan.old }
+        requires going { IsUnderWay (module_state_of map.old areas.now self.old) plan.old }
         requires classes { AreClasses map.old }
-        ensures advanced { advance_of_plan module_doing (world_of map.old areas.now self.old) plan.old outcome
-            ≡ record { world = world_of map.new areas.now self.new; rest = plan.new; step = result } }
-        ensures going { IsUnderWay (world_of map.new areas.now self.new) plan.new }
+        ensures advanced { advance_of_plan module_doing (module_state_of map.old areas.now self.old)
+            plan.old outcome
+            ≡ record {
+              module_state = module_state_of map.new areas.now self.new;
+              rest = plan.new;
+              step =
+                  result;
+            } }
+        ensures going { IsUnderWay (module_state_of map.new areas.now self.new) plan.new }
         ensures classes { AreClasses map.new }
         ensures mapping { mapping map.new ≡ mapping map.old }
         ensures records { MayTurnRecords (first_action (plan_after_code plan.old outcome).actions)
@@ -105,11 +116,12 @@ impl Instances {
     /// An action's own part.
     fn act(&mut self, map: &mut AddressMap, areas: &Areas, plan: &Plan, action: PlanAction)
         requires first { first_action plan.now.actions ≡ Some action }
-        requires going { IsUnderWay (world_of map.old areas.now self.old) plan.now }
+        requires going { IsUnderWay (module_state_of map.old areas.now self.old) plan.now }
         requires classes { AreClasses map.old }
-        ensures world { world_of map.new areas.now self.new
-            ≡ world_after_action world_slid plan.now.given (world_of map.old areas.now self.old) action }
-        ensures sound { IsWorld (world_of map.new areas.now self.new)
+        ensures module_state { module_state_of map.new areas.now self.new
+            ≡ module_state_after_action module_state_slid plan.now.given
+            (module_state_of map.old areas.now self.old) action }
+        ensures sound { IsModuleState (module_state_of map.new areas.now self.new)
             (pending_of (plan_after_action plan.now action)) }
         ensures classes { AreClasses map.new }
         ensures mapping { mapping map.new ≡ mapping map.old }

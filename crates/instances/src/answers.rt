@@ -11,10 +11,10 @@ pub struct Found {
     pub word: u32,
 }
 
-/// What OS_Module 12 tells of an instance: the place after it, the address of its module's image,
+/// What OS_Module 12 reports an instance: the place after it, the address of its module's image,
 /// and the value of its private word.
 #[derive(Clone, Copy, Debug, PartialEq, Eq)]
-pub struct Told {
+pub struct Reported {
     pub next: Place,
     pub image: u32,
     pub word: u32,

@@ -2,7 +2,7 @@
 ghost use Rattle.std.specs.Prelude.{◌≡◌, [], false, true, IfOk, MatchResult, Ok};
 ghost use Rattle.profile.specs.Outcome.{Gives};
 ghost use Rattle.address_map.specs.Bytes.{bytes_between};
-ghost use Rattle.dynamic_areas.specs.Ground.{estate_of};
+ghost use Rattle.dynamic_areas.specs.Ground.{area_store_of};
 ghost use Rattle.dynamic_areas.specs.Order.{KeepsOrder};
 ghost use Rattle.dynamic_areas.specs.Store.{AreClasses, store_of};
 ghost use Rattle.rma.specs.flex_frame.Keeping.{KeepsFlex};
@@ -11,8 +11,8 @@ ghost use Rattle.rma.specs.Copies.{may_be_copied};
 ghost use Rattle.instances_table.specs.plans.ModuleHeaderHeader.{header_of};
 ghost use Rattle.instances.specs.actions.Pending.{pending_of};
 ghost use Rattle.instances.specs.actions.Ready.{IsReady};
-ghost use Rattle.instances.specs.world.Sound.{IsWorld};
-ghost use Rattle.instances.specs.world.World.{world_of};
+ghost use Rattle.instances.specs.module_state.Sound.{IsModuleState};
+ghost use Rattle.instances.specs.module_state.ModuleState.{module_state_of};
 ghost use Rattle.instances.specs.Adding.{AddsImage, copying};
 
 use crate::adding::header_at;
@@ -45,12 +45,12 @@ impl Instances {
         at: u32,
         len: u32,
     ) -> Result<Plan, ErrorNumber>
-        requires sound { IsWorld (world_of map.old areas.old self.now) [] }
+        requires sound { IsModuleState (module_state_of map.old areas.old self.now) [] }
         requires classes { AreClasses map.old }
-        ensures world { Gives (world_of map.old areas.old self.now)
-            (copying (world_of map.old areas.old self.now) at len) result
-            (world_of map.new areas.new self.now) }
-        ensures sound { IfOk result (λ plan. IsWorld (world_of map.new areas.new self.now)
+        ensures module_state { Gives (module_state_of map.old areas.old self.now)
+            (copying (module_state_of map.old areas.old self.now) at len) result
+            (module_state_of map.new areas.new self.now) }
+        ensures sound { IfOk result (λ plan. IsModuleState (module_state_of map.new areas.new self.now)
             (pending_of plan)) }
         ensures classes { AreClasses map.new }
         ensures order { MatchResult result (λ plan. AddsImage map.old map.new plan.given.image)
@@ -85,14 +85,14 @@ impl Instances {
         len: u32,
         header: Header,
     ) -> Result<Plan, ErrorNumber>
-        requires sound { IsWorld (world_of map.old areas.old self.now) [] }
+        requires sound { IsModuleState (module_state_of map.old areas.old self.now) [] }
         requires classes { AreClasses map.old }
-        requires may { may_be_copied (estate_of map.old areas.old) at len ≡ true }
+        requires may { may_be_copied (area_store_of map.old areas.old) at len ≡ true }
         requires header { header_of (bytes_between (store_of map.old).bytes.at at len) ≡ Ok header }
-        ensures world { Gives (world_of map.old areas.old self.now)
-            (copying (world_of map.old areas.old self.now) at len) result
-            (world_of map.new areas.new self.now) }
-        ensures sound { IfOk result (λ plan. IsWorld (world_of map.new areas.new self.now)
+        ensures module_state { Gives (module_state_of map.old areas.old self.now)
+            (copying (module_state_of map.old areas.old self.now) at len) result
+            (module_state_of map.new areas.new self.now) }
+        ensures sound { IfOk result (λ plan. IsModuleState (module_state_of map.new areas.new self.now)
             (pending_of plan)) }
         ensures classes { AreClasses map.new }
         ensures order { MatchResult result (λ plan. AddsImage map.old map.new plan.given.image)

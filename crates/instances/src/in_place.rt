@@ -10,8 +10,8 @@ ghost use Rattle.rma.specs.NewImages.{may_be_in_place};
 ghost use Rattle.instances_table.specs.plans.ModuleHeaderHeader.{header_of};
 ghost use Rattle.instances.specs.actions.Pending.{pending_of};
 ghost use Rattle.instances.specs.actions.Ready.{IsReady};
-ghost use Rattle.instances.specs.world.Sound.{IsWorld};
-ghost use Rattle.instances.specs.world.World.{world_of};
+ghost use Rattle.instances.specs.module_state.Sound.{IsModuleState};
+ghost use Rattle.instances.specs.module_state.ModuleState.{module_state_of};
 ghost use Rattle.instances.specs.Adding.{AddsImage, inserting};
 
 use crate::adding::header_at;
@@ -43,12 +43,12 @@ impl Instances {
         at: u32,
         len: u32,
     ) -> Result<Plan, ErrorNumber>
-        requires sound { IsWorld (world_of map.old areas.now self.now) [] }
+        requires sound { IsModuleState (module_state_of map.old areas.now self.now) [] }
         requires classes { AreClasses map.old }
-        ensures world { Gives (world_of map.old areas.now self.now)
-            (inserting (world_of map.old areas.now self.now) at len) result
-            (world_of map.new areas.now self.now) }
-        ensures sound { IfOk result (λ plan. IsWorld (world_of map.new areas.now self.now)
+        ensures module_state { Gives (module_state_of map.old areas.now self.now)
+            (inserting (module_state_of map.old areas.now self.now) at len) result
+            (module_state_of map.new areas.now self.now) }
+        ensures sound { IfOk result (λ plan. IsModuleState (module_state_of map.new areas.now self.now)
             (pending_of plan)) }
         ensures classes { AreClasses map.new }
         ensures mapping { mapping map.new ≡ mapping map.old }
@@ -81,14 +81,14 @@ impl Instances {
         len: u32,
         header: Header,
     ) -> Result<Plan, ErrorNumber>
-        requires sound { IsWorld (world_of map.old areas.now self.now) [] }
+        requires sound { IsModuleState (module_state_of map.old areas.now self.now) [] }
         requires classes { AreClasses map.old }
         requires may { may_be_in_place (store_of map.old) at len ≡ true }
         requires header { header_of (bytes_between (store_of map.old).bytes.at at len) ≡ Ok header }
-        ensures world { Gives (world_of map.old areas.now self.now)
-            (inserting (world_of map.old areas.now self.now) at len) result
-            (world_of map.new areas.now self.now) }
-        ensures sound { IfOk result (λ plan. IsWorld (world_of map.new areas.now self.now)
+        ensures module_state { Gives (module_state_of map.old areas.now self.now)
+            (inserting (module_state_of map.old areas.now self.now) at len) result
+            (module_state_of map.new areas.now self.now) }
+        ensures sound { IfOk result (λ plan. IsModuleState (module_state_of map.new areas.now self.now)
             (pending_of plan)) }
         ensures classes { AreClasses map.new }
         ensures mapping { mapping map.new ≡ mapping map.old }

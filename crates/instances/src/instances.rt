@@ -4,16 +4,16 @@ ghost use Rattle.std.specs.Prelude.{◌≡◌, ◌<◌, [], Option, option_map, 
 ghost use Rattle.profile.specs.Outcome.{Leaves};
 ghost use Rattle.address_map.specs.Bytes.{AreMapped};
 ghost use Rattle.address_map.specs.Memory.{byte_at, is_mapped};
-ghost use Rattle.dynamic_areas.specs.Ground.{Estate};
+ghost use Rattle.dynamic_areas.specs.Ground.{AreaStore};
 ghost use Rattle.instances_table.specs.plans.Plans.{Plan};
-ghost use Rattle.instances_table.specs.Lookup.{told_of_module, told_of_place};
+ghost use Rattle.instances_table.specs.Lookup.{shown_of_module, shown_of_place};
 ghost use Rattle.instances_table.specs.Changes.{preferring, modules_after_rename};
 ghost use Rattle.instances_table.specs.Modules.{AreModules, slots_of};
 ghost use Rattle.instances.specs.Reading.{instance_looked_up, instance_info};
 ghost use Rattle.instances.specs.Turns.{MayGoOn};
 
-use crate::answers::{Found, Told};
-use crate::world::private_value;
+use crate::answers::{Found, Reported};
+use crate::module_state::private_value;
 use address_map::AddressMap;
 use instances_table::{InstanceInfo, InstanceTable, ModuleInfo, Place};
 use profile::ErrorNumber;
@@ -63,14 +63,14 @@ impl Instances {
 
     /// The module at an index, if there is one.
     pub fn module(&self, number: u32) -> Option<ModuleInfo>
-        ensures { result ≡ option_map told_of_module (slice_get self.now number) }
+        ensures { result ≡ option_map shown_of_module (slice_get self.now number) }
     {
         self.table.module(number)
     }
 
     /// An instance, by its module's index and its own among that module's, if there is one.
     pub fn instance(&self, number: u32, instance: u32) -> Option<InstanceInfo>
-        ensures value { result ≡ told_of_place instance (slice_get self.now number) }
+        ensures value { result ≡ shown_of_place instance (slice_get self.now number) }
         ensures below { IfSome result (λ i. i.slot < 64) }
     {
         self.table.instance(number, instance)
@@ -83,7 +83,7 @@ impl Instances {
     /// `ModuleNotFound` where there is no such module or instance.
     ///
     /// RISC OS 3 Programmer's Reference Manual, "OS_Module", reason 12.
-    pub fn info(&self, map: &AddressMap, place: Place) -> Result<Told, ErrorNumber>
+    pub fn info(&self, map: &AddressMap, place: Place) -> Result<Reported, ErrorNumber>
         requires { AreMapped (is_mapped map.now) 0x01C02000 256 }
         ensures { result ≡ instance_info (byte_at map.now) self.now place }
     {
@@ -92,7 +92,7 @@ impl Instances {
             .table
             .slot_of(place)
             .ok_or(ErrorNumber::ModuleNotFound)?;
-        Ok(Told {
+        Ok(Reported {
             next: information.next,
             image: information.image,
             word: private_value(map, slot),
@@ -112,11 +112,11 @@ impl Instances {
         ensures { result ≡ instance_looked_up (byte_at map.now) self.now full.now }
     {
         let place = self.table.lookup(full)?;
-        let told = self.info(map, place)?;
+        let reported = self.info(map, place)?;
         Ok(Found {
             place,
-            image: told.image,
-            word: told.word,
+            image: reported.image,
+            word: reported.word,
         })
     }
 
@@ -131,9 +131,9 @@ impl Instances {
     /// RISC OS 3 Programmer's Reference Manual, "OS_Module", reason 15.
     pub fn rename(&mut self, full: &[u8], new: &[u8]) -> Result<(), ErrorNumber>
         ensures value { Leaves self.old (modules_after_rename self.old full.now new.now) result self.new }
-        ensures going { (e : Estate) (plan : Option Plan) →
-            MayGoOn (record { estate = e; modules = self.old }) plan
-            → MayGoOn (record { estate = e; modules = self.new }) plan }
+        ensures going { (e : AreaStore) (plan : Option Plan) →
+            MayGoOn (record { area_store = e; modules = self.old }) plan
+            → MayGoOn (record { area_store = e; modules = self.new }) plan }
         ensures slots { slots_of self.new ≡ slots_of self.old }
     {
         self.table.rename(full, new)
@@ -150,9 +150,9 @@ impl Instances {
     /// RISC OS 3 Programmer's Reference Manual, "OS_Module", reason 16.
     pub fn prefer(&mut self, full: &[u8]) -> Result<(), ErrorNumber>
         ensures value { Leaves self.old (preferring self.old full.now) result self.new }
-        ensures going { (e : Estate) (plan : Option Plan) →
-            MayGoOn (record { estate = e; modules = self.old }) plan
-            → MayGoOn (record { estate = e; modules = self.new }) plan }
+        ensures going { (e : AreaStore) (plan : Option Plan) →
+            MayGoOn (record { area_store = e; modules = self.old }) plan
+            → MayGoOn (record { area_store = e; modules = self.new }) plan }
         ensures slots { slots_of self.new ≡ slots_of self.old }
     {
         self.table.prefer(full)

@@ -14,12 +14,12 @@ mod given;
 pub mod in_place;
 pub mod instances;
 pub mod instantiating;
+pub mod module_state;
 pub mod plans;
 pub mod reading;
 pub mod tidying;
-pub mod world;
 
-pub use answers::{Found, Start, Told};
+pub use answers::{Found, Reported, Start};
 pub use dynamic_areas::Area;
 pub use instances::Instances;
 pub use instances_table::plans::{Advance, Code, CodeKind, Ended, Outcome, Plan};

@@ -52,9 +52,9 @@ still_none slot m [] some = absurd (omega arith)
 still_none slot m (i ∷ is) some = refl
 
 -- the module at an index of a table
-pub last_told : (names : List (ArrayVec ℕ)) (slot : ℕ) (ms : List Loaded) (k : ℕ) (l : Loaded) → position (has_slot_in slot) ms ≡ Some k
+pub last_shown : (names : List (ArrayVec ℕ)) (slot : ℕ) (ms : List Loaded) (k : ℕ) (l : Loaded) → position (has_slot_in slot) ms ≡ Some k
     → slice_get ms k ≡ Some l → length l.slots.items ≤ 1 → last_image slot (modules_of names ms) ≡ Some l.image
-last_told names slot ms k l found there few =
+last_shown names slot ms k l found there few =
     let m : Module = module_of names l in
     let first = position-Some (has_instance slot) (modules_of names ms) k m (holding_view names slot ms ∙ found) in
     let same : get_or (modules_of names ms) k m ≡ m = some_same (sym (slice_get-get_or (modules_of names ms) k m first.0) ∙ module_view names ms k l there) in

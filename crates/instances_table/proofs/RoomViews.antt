@@ -1,5 +1,5 @@
--- What a table tells of the modules of a title, and of those of other titles, is what the list
--- tells.
+-- What a table reports the modules of a title, and of those of other titles, is what the list
+-- shows.
 use Rattle.std.proofs.Common.{◌≡◌, ℕ, ◌+◌, ◌<◌, ◌≤◌, ◌&&◌, ◌==◌, true, false, List, [], ◌∷◌, append-nil, length, drop, get_or, refl, ◌∙◌, not, inl, inr, arith}
 use Rattle.std.specs.List.{list_any}
 use Rattle.std.specs.Str.{str_eq_ignore_ascii_case}

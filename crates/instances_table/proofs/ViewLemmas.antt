@@ -12,7 +12,7 @@ use Rattle.std.proofs.lemmas.List.Quantifiers.{position-Some}
 use Rattle.std.proofs.lemmas.Option.{slice_get-map, slice_get-get_or}
 use Rattle.instances_table.specs.declared.loaded.Loaded.{Loaded}
 use Rattle.instances_table.specs.Modules.{slots_of, Instance, Module, AreModules, has_name, has_slot, has_instance, changed_at}
-use Rattle.instances_table.specs.Lookup.{slot_in, instance_in, slot_within, instance_meant, told_of_instance, told_of_place}
+use Rattle.instances_table.specs.Lookup.{slot_in, instance_in, slot_within, instance_meant, shown_of_instance, shown_of_place}
 use Rattle.instances_table.specs.Changes.{is_slot_held, is_named, module_has_slot, with_name, with_names, with_instance, modules_with_names, without_first_passing, still, module_without, without_instance}
 use Rattle.instances_table.specs.Table.{all_slots, name_of_slot, instance_of, module_of, modules_of, heir}
 use Rattle.instances_table.proofs.RenameLemmas.{held_below}
@@ -85,10 +85,10 @@ pub instance_view : (names : List (ArrayVec ℕ)) (l : Loaded) (i s : ℕ) → s
     → slice_get (module_of names l).instances i ≡ Some (instance_of names s)
 instance_view names l i s found = slice_get-map (instance_of names) l.slots.items i ∙ ap (option_map (instance_of names)) found
 
-pub told_view : (names : List (ArrayVec ℕ)) (ms : List Loaded) (k i s : ℕ) (l : Loaded) → slice_get ms k ≡ Some l → slice_get l.slots.items i ≡ Some s
-    → told_of_place i (slice_get (modules_of names ms) k) ≡ Some (told_of_instance (module_of names l) (instance_of names s))
-told_view names ms k i s l found there =
-    rw (module_view names ms k l found) (ap (option_map (told_of_instance (module_of names l))) (instance_view names l i s there))
+pub shown_view : (names : List (ArrayVec ℕ)) (ms : List Loaded) (k i s : ℕ) (l : Loaded) → slice_get ms k ≡ Some l → slice_get l.slots.items i ≡ Some s
+    → shown_of_place i (slice_get (modules_of names ms) k) ≡ Some (shown_of_instance (module_of names l) (instance_of names s))
+shown_view names ms k i s l found there =
+    rw (module_view names ms k l found) (ap (option_map (shown_of_instance (module_of names l))) (instance_view names l i s there))
 
 pub named_view : (names : List (ArrayVec ℕ)) (ms : List Loaded) (k : ℕ) (l : Loaded) (name : List ℕ) → slice_get ms k ≡ Some l
     → is_named name (slice_get (modules_of names ms) k) ≡ list_any (λ s. str_eq_ignore_ascii_case (name_of_slot names s) name) l.slots.items
@@ -109,8 +109,8 @@ slot_view names ms k i l found =
     rw (module_view names ms k l found)
     (ap (option_map (λ (x : Instance). x.slot)) (slice_get-map (instance_of names) l.slots.items i) ∙ slots_again names (slice_get l.slots.items i))
 
--- what the table tells by a number
-pub ruleset table_views = (position-map, list_any-map, slice_get-map, module_view, told_view, meant_view, within_view, slot_view)
+-- what the table shows by a number
+pub ruleset table_views = (position-map, list_any-map, slice_get-map, module_view, shown_view, meant_view, within_view, slot_view)
 
 -- a name changed: where no instance has the slot nothing is, else its name
 kept_one : (names : List (ArrayVec ℕ)) (slot s : ℕ) (name : ArrayVec ℕ) → s ≢ slot → instance_of (set names slot name) s ≡ instance_of names s

@@ -101,8 +101,8 @@ abbrev pub place_of_slot : ℕ → List Module → Option Place
 place_of_slot slot modules = instance_place_in slot modules (position (has_instance slot) modules)
 
 -- what the table answers about a module, and about an instance
-abbrev pub told_of_module : Module → ModuleInfo
-told_of_module m = record {
+abbrev pub shown_of_module : Module → ModuleInfo
+shown_of_module m = record {
   title = m.header.title;
   image = m.image.at;
   len = m.image.len;
@@ -111,16 +111,16 @@ told_of_module m = record {
   handler = m.header.handler;
 }
 
-abbrev pub told_of_instance : Module → Instance → InstanceInfo
-told_of_instance m i = record {
+abbrev pub shown_of_instance : Module → Instance → InstanceInfo
+shown_of_instance m i = record {
   name = record { items = i.name };
   slot = i.slot;
   preferred = i.slot == m.preferred;
 }
 
-abbrev pub told_of_place : ℕ → Option Module → Option InstanceInfo
-told_of_place i None = None
-told_of_place i (Some m) = option_map (told_of_instance m) (slice_get m.instances i)
+abbrev pub shown_of_place : ℕ → Option Module → Option InstanceInfo
+shown_of_place i None = None
+shown_of_place i (Some m) = option_map (shown_of_instance m) (slice_get m.instances i)
 
 -- how many instances a module has, none where there is no module
 abbrev pub instance_count : Option Module → ℕ

@@ -5,7 +5,7 @@ ghost use Rattle.std.specs.Option.{option_copied};
 ghost use Rattle.std.specs.Str.{str_eq_ignore_ascii_case};
 ghost use Rattle.instances_table.specs.Changes.{new_module, without_first_passing};
 ghost use Rattle.instances_table.specs.Table.{Names, name_of_slot, all_slots, titled_slots, module_of, heir};
-ghost use Rattle.instances_table.specs.Lookup.{handled_in, told_of_module, instance_meant};
+ghost use Rattle.instances_table.specs.Lookup.{handled_in, shown_of_module, instance_meant};
 
 use crate::names::name_of;
 use crate::parts::{Handler, Image, ModuleInfo, Name};
@@ -31,8 +31,8 @@ impl Loaded {
         self.header.title.as_slice().eq_ignore_ascii_case(title)
     }
 
-    pub(crate) fn told(&self) -> ModuleInfo
-        ensures { result ≡ told_of_module (module_of [] self.now) }
+    pub(crate) fn reported(&self) -> ModuleInfo
+        ensures { result ≡ shown_of_module (module_of [] self.now) }
     {
         ModuleInfo {
             title: name_of(self.header.title.as_slice()),

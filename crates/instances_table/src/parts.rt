@@ -16,14 +16,14 @@ pub struct Image {
     pub len: u32,
 }
 
-/// An instance, as OS_Module tells it: the number of its module, and its own in it, both from 0.
+/// An instance, as OS_Module shows it: the number of its module, and its own in it, both from 0.
 #[derive(Clone, Copy, Debug, PartialEq, Eq)]
 pub struct Place {
     pub number: u32,
     pub instance: u32,
 }
 
-/// What OS_Module 12 tells of an instance: the place after it, its module's image, and the slot of
+/// What OS_Module 12 reports an instance: the place after it, its module's image, and the slot of
 /// its private word.
 #[derive(Clone, Copy, Debug, PartialEq, Eq)]
 pub struct Information {

@@ -1,11 +1,11 @@
-//! The table, and what it tells.
+//! The table, and what it shows.
 
 ghost use Rattle.std.specs.Prelude.{◌≡◌, ◌≤◌, ◌<◌, [], length, map, true, option_map, slice_get, slice_index, EachIndex, IfSome};
 ghost use Rattle.std.specs.List.{position};
 ghost use Rattle.std.specs.Option.{option_copied};
 ghost use Rattle.instances_table.specs.Modules.{AreModules, Module, has_instance, slots_of};
 ghost use Rattle.instances_table.specs.Changes.{module_has_slot};
-ghost use Rattle.instances_table.specs.Lookup.{handler_of, number_of_title, number_of_call, place_meant, looked_up, information, instance_in, slot_in, slot_within, place_of_slot, told_of_module, told_of_place};
+ghost use Rattle.instances_table.specs.Lookup.{handler_of, number_of_title, number_of_call, place_meant, looked_up, information, instance_in, slot_in, slot_within, place_of_slot, shown_of_module, shown_of_place};
 
 use crate::loaded::{
     Loaded, MOST_INSTANCES, all_slots, loaded_at, name_at, number_of_call, number_of_slot,
@@ -61,10 +61,10 @@ impl InstanceTable {
 
     /// The module at an index, if there is one.
     pub fn module(&self, number: u32) -> Option<ModuleInfo>
-        ensures { result ≡ option_map told_of_module (slice_get self.now number) }
+        ensures { result ≡ option_map shown_of_module (slice_get self.now number) }
     {
         let loaded = self.modules.as_slice().get(number as usize)?;
-        Some(loaded.told())
+        Some(loaded.reported())
     }
 
     /// The header of the module at an index, if there is one.
@@ -164,7 +164,7 @@ impl InstanceTable {
         loaded.place_meant(&self.names, name)
     }
 
-    /// What OS_Module 12 tells of an instance, the value of its private word aside. The place after
+    /// What OS_Module 12 reports an instance, the value of its private word aside. The place after
     /// an instance is the next one of the module, or instance 0 of the next module's number, there
     /// or not.
     ///
@@ -207,15 +207,15 @@ impl InstanceTable {
 
     /// An instance, by its module's index and its own among that module's, if there is one.
     pub fn instance(&self, number: u32, instance: u32) -> Option<InstanceInfo>
-        ensures value { result ≡ told_of_place instance (slice_get self.now number) }
+        ensures value { result ≡ shown_of_place instance (slice_get self.now number) }
         ensures below { IfSome result (λ i. i.slot < 64) }
     {
         let _ = &self.names;
-        self.told(number, instance)
+        self.reported(number, instance)
     }
 
-    fn told(&self, number: u32, instance: u32) -> Option<InstanceInfo>
-        ensures { result ≡ told_of_place instance (slice_get self.now number) }
+    fn reported(&self, number: u32, instance: u32) -> Option<InstanceInfo>
+        ensures { result ≡ shown_of_place instance (slice_get self.now number) }
     {
         let loaded = self.modules.as_slice().get(number as usize)?;
         let slot = loaded.slots.as_slice().get(instance as usize)?;

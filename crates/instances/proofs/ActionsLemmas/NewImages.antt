@@ -6,8 +6,8 @@ use Rattle.instances_table.specs.Additions.{added_to}
 use Rattle.instances_table.specs.Modules.{Module}
 use Rattle.instances_table.specs.Lookup.{number_of_title}
 use Rattle.instances_table.specs.Changes.{is_new, new_module, with_instance, with_module}
-use Rattle.instances.specs.world.Sound.{images_of}
-use Rattle.instances.proofs.WorldLemmas.Worlds.{images_added, images_changed}
+use Rattle.instances.specs.module_state.Sound.{images_of}
+use Rattle.instances.proofs.ModuleStateLemmas.ModuleStates.{images_added, images_changed}
 use Rattle.instances.specs.actions.Actions.{image_given, with_another, with_new}
 
 pub images_new : (g : Given) (slot : ℕ) (old new : List Module) → is_new g.header.title.items slot old ≡ true → new ≡ with_new g slot old

@@ -5,7 +5,7 @@ use Rattle.std.proofs.lemmas.Bool.{cases_Bool, cases_eq, le-leb, lt-ltb}
 use Rattle.address_map.specs.Bytes.{AreMapped, Bytes, in_range}
 use Rattle.address_map.specs.Items.{size_of}
 use Rattle.address_map.specs.Moves.{moved_place, moved_region, moved_regions, moved_to}
-use Rattle.address_map.specs.declared.follow.Move.{Move}
+use Rattle.address_map.specs.declared.follow.BlockMove.{BlockMove}
 use Rattle.address_map.specs.declared.region.Kind.TheVariants as kind
 use Rattle.address_map.specs.declared.region.Region.{Region}
 use Rattle.rma.proofs.LiveBlocks.{LiveBytes, law_live_bytes}
@@ -18,7 +18,7 @@ use Rattle.rma.proofs.HeapSlideLemmas.Records.{IsSlide, moves_in, out_still, sli
 use Rattle.dynamic_areas.specs.Ground.{AreRangesMapped, IsRecorded, system_pages_range}
 use Rattle.instances_table.specs.ModuleArea.{is_in_module_area}
 use Rattle.instances_table.specs.Modules.{Module}
-use Rattle.instances.specs.world.Sound.{AreSolid, IsSolid, count_beside, image_ranges, images_of, range_of}
+use Rattle.instances.specs.module_state.Sound.{AreSolid, IsSolid, count_beside, image_ranges, images_of, range_of}
 use Rattle.instances.specs.tidying.Slid.{image_moved}
 
 -- a record that is clear of the heap stays where it is
@@ -56,12 +56,12 @@ ranges_mapped b c h hs movable (r ∷ rs) s found same placed mapped = (
   ranges_mapped b c h hs movable rs s found same placed.1 mapped.1,
 )
 
-pub system_moved : (moves : List Move) (rs : List Region) → IsRecorded system_pages_range rs → IsRecorded system_pages_range (moved_regions moves rs)
+pub system_moved : (moves : List BlockMove) (rs : List Region) → IsRecorded system_pages_range rs → IsRecorded system_pages_range (moved_regions moves rs)
 system_moved moves [] there = there
 system_moved moves (r ∷ rs) (inl same) = inl (ap (moved_region moves) same)
 system_moved moves (r ∷ rs) (inr later) = inr (system_moved moves rs later)
 
-ranges_moved : (moves : List Move) (rs : List Region) → image_ranges (moved_regions moves rs) ≡ moved_regions moves (image_ranges rs)
+ranges_moved : (moves : List BlockMove) (rs : List Region) → image_ranges (moved_regions moves rs) ≡ moved_regions moves (image_ranges rs)
 ranges_moved moves [] = refl
 ranges_moved moves (r ∷ rs) = elim (cases_Bool (is_image r.kind)) [
   | inl image ↦ rw image (ap (λ (xs : List Region). moved_region moves r ∷ xs) (ranges_moved moves rs))
@@ -70,7 +70,7 @@ ranges_moved moves (r ∷ rs) = elim (cases_Bool (is_image r.kind)) [
 
 -- each image stays on its side of the module area's edge, and so keeps the length that is recorded
 -- for it
-image_moved_is : (moves : List Move) (m : Module) → is_in_module_area (moved_to moves m.image.at) ≡ is_in_module_area m.image.at
+image_moved_is : (moves : List BlockMove) (m : Module) → is_in_module_area (moved_to moves m.image.at) ≡ is_in_module_area m.image.at
     → range_of (image_moved moves m).image ≡ moved_region moves (range_of m.image)
 image_moved_is moves m side = λ i. record {
   kind = kind.Image;
@@ -78,7 +78,7 @@ image_moved_is moves m side = λ i. record {
   len = if side i then total_for m.image.len - 4 else m.image.len;
 }
 
-images_moved : (moves : List Move) (modules : List Module) → ((a : ℕ) → is_in_module_area (moved_to moves a) ≡ is_in_module_area a)
+images_moved : (moves : List BlockMove) (modules : List Module) → ((a : ℕ) → is_in_module_area (moved_to moves a) ≡ is_in_module_area a)
     → map range_of (images_of (map (image_moved moves) modules) ++ []) ≡ moved_regions moves (map range_of (images_of modules ++ []))
 images_moved moves [] sides = refl
 images_moved moves (m ∷ ms) sides =
@@ -86,7 +86,7 @@ images_moved moves (m ∷ ms) sides =
     let rest = images_moved moves ms sides in
     λ i. first i ∷ rest i
 
-pub images_follow : (moves : List Move) (rs : List Region) (modules : List Module) → ((a : ℕ) → is_in_module_area (moved_to moves a) ≡ is_in_module_area a)
+pub images_follow : (moves : List BlockMove) (rs : List Region) (modules : List Module) → ((a : ℕ) → is_in_module_area (moved_to moves a) ≡ is_in_module_area a)
     → image_ranges rs ≡ map range_of (images_of modules ++ [])
     → image_ranges (moved_regions moves rs) ≡ map range_of (images_of (map (image_moved moves) modules) ++ [])
 images_follow moves rs modules sides images = ranges_moved moves rs ∙ ap (moved_regions moves) images ∙ sym (images_moved moves modules sides)
@@ -108,7 +108,7 @@ solid_moved b c h hs movable (r ∷ rs) s found placed solid = (
   solid_moved b c h hs movable rs s found placed.1 solid.1,
 )
 
-pub beside_moved : (moves : List Move) (rs : List Region) → count_beside (moved_regions moves rs) ≡ count_beside rs
+pub beside_moved : (moves : List BlockMove) (rs : List Region) → count_beside (moved_regions moves rs) ≡ count_beside rs
 beside_moved moves [] = refl
 beside_moved moves (r ∷ rs) = elim (cases_Bool (is_image r.kind)) [
   | inl image ↦ rw image (beside_moved moves rs)

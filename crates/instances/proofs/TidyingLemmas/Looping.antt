@@ -4,14 +4,14 @@ use Rattle.std.specs.Prelude.{option_map, slice_get}
 use Rattle.std.proofs.lemmas.List.{drop_more, length-map, length-take, map-append, take_more}
 use Rattle.address_map.specs.Bytes.{word_at}
 use Rattle.address_map.specs.Moves.{moved_to}
-use Rattle.address_map.specs.declared.follow.Move.{Move}
-use Rattle.dynamic_areas.specs.Ground.{Estate}
+use Rattle.address_map.specs.declared.follow.BlockMove.{BlockMove}
+use Rattle.dynamic_areas.specs.Ground.{AreaStore}
 use Rattle.instances_table.specs.plans.Code.{private_of}
 use Rattle.instances_table.specs.Changes.{with_image_at}
-use Rattle.instances_table.specs.Lookup.{told_of_module}
+use Rattle.instances_table.specs.Lookup.{shown_of_module}
 use Rattle.instances_table.specs.declared.parts.ModuleInfo.{ModuleInfo}
 use Rattle.instances_table.specs.Modules.{Module, changed_at}
-use Rattle.instances.specs.world.World.{private_word, with_private}
+use Rattle.instances.specs.module_state.ModuleState.{private_word, with_private}
 use Rattle.instances.specs.tidying.Slid.{image_moved, private_words_at, words_moved}
 
 pub words_more : (bytes : ℕ → ℕ) (slots : List ℕ) (i : ℕ) → i < length slots
@@ -24,7 +24,7 @@ pub words_few : (bytes : ℕ → ℕ) (slots : List ℕ) (i : ℕ) → i ≤ len
 words_few bytes slots i within =
     length-map (take i slots) (λ (s : ℕ). word_at bytes (private_of s)) ∙ omega (arith, length-take i slots)
 
-pub words_next : (moves : List Move) (slots : List ℕ) (i : ℕ) (e : Estate) → i < length slots
+pub words_next : (moves : List BlockMove) (slots : List ℕ) (i : ℕ) (e : AreaStore) → i < length slots
     → words_moved moves (drop i slots) e
     ≡ words_moved moves (drop (i + 1) slots) (with_private e (get_or slots i 0) (moved_to moves (private_word e (get_or slots i 0))))
 words_next moves slots i e within = ap (λ (xs : List ℕ). words_moved moves xs e) (drop_more slots i 0 within)
@@ -66,30 +66,30 @@ partly_all change (suc n) [] all = refl
 partly_all change (suc n) (m ∷ ms) all = ap (λ (ys : List Module). change m ∷ ys) (partly_all change n ms (omega arith))
 
 -- the image of one module more
-pub images_next : (moves : List Move) (n : ℕ) (ms now next : List Module) (told : Option ModuleInfo) (info : ModuleInfo) (to : ℕ)
-    → now ≡ partly (image_moved moves) n ms → told ≡ option_map told_of_module (slice_get now n) → told ≡ Some info → to ≡ moved_to moves info.image
+pub images_next : (moves : List BlockMove) (n : ℕ) (ms now next : List Module) (reported : Option ModuleInfo) (info : ModuleInfo) (to : ℕ)
+    → now ≡ partly (image_moved moves) n ms → reported ≡ option_map shown_of_module (slice_get now n) → reported ≡ Some info → to ≡ moved_to moves info.image
     → next ≡ changed_at n (with_image_at to) now → next ≡ partly (image_moved moves) (n + 1) ms
-images_next moves n ms now next told info to so_far asked some went changed = go (slice_get ms n) refl where
+images_next moves n ms now next reported info to so_far asked some went changed = go (slice_get ms n) refl where
   there : slice_get now n ≡ slice_get ms n
   there = ap (λ (xs : List Module). slice_get xs n) so_far ∙ partly_get (image_moved moves) n ms
 
   go : (o : Option Module) → slice_get ms n ≡ o → next ≡ partly (image_moved moves) (n + 1) ms
-  go None none = absurd (let no : Some info ≡ None = sym some ∙ asked ∙ ap (option_map told_of_module) (there ∙ none) in cc)
+  go None none = absurd (let no : Some info ≡ None = sym some ∙ asked ∙ ap (option_map shown_of_module) (there ∙ none) in cc)
   go (Some m) found =
-      let is : Some info ≡ Some (told_of_module m) = sym some ∙ asked ∙ ap (option_map told_of_module) (there ∙ found) in
-      let same : info ≡ told_of_module m = cc in
+      let is : Some info ≡ Some (shown_of_module m) = sym some ∙ asked ∙ ap (option_map shown_of_module) (there ∙ found) in
+      let same : info ≡ shown_of_module m = cc in
       let place : to ≡ moved_to moves m.image.at = went ∙ ap (λ (i : ModuleInfo). moved_to moves i.image) same in
       changed ∙ ap (changed_at n (with_image_at to)) so_far
       ∙ partly_more (image_moved moves) (with_image_at to) n (n + 1) ms m refl found (ap (λ (a : ℕ). with_image_at a m) place)
 
-pub images_same : (moves : List Move) (n : ℕ) (ms now : List Module) (told : Option ModuleInfo)
-    → now ≡ partly (image_moved moves) n ms → told ≡ option_map told_of_module (slice_get now n) → told ≡ None
+pub images_same : (moves : List BlockMove) (n : ℕ) (ms now : List Module) (reported : Option ModuleInfo)
+    → now ≡ partly (image_moved moves) n ms → reported ≡ option_map shown_of_module (slice_get now n) → reported ≡ None
     → now ≡ partly (image_moved moves) (n + 1) ms
-images_same moves n ms now told so_far asked none = go (slice_get ms n) refl where
+images_same moves n ms now reported so_far asked none = go (slice_get ms n) refl where
   there : slice_get now n ≡ slice_get ms n
   there = ap (λ (xs : List Module). slice_get xs n) so_far ∙ partly_get (image_moved moves) n ms
 
   go : (o : Option Module) → slice_get ms n ≡ o → now ≡ partly (image_moved moves) (n + 1) ms
   go None gone = so_far ∙ partly_same (image_moved moves) n (n + 1) ms refl gone
   go (Some m) found =
-      absurd (let no : None ≡ Some (told_of_module m) = sym none ∙ asked ∙ ap (option_map told_of_module) (there ∙ found) in cc)
+      absurd (let no : None ≡ Some (shown_of_module m) = sym none ∙ asked ∙ ap (option_map shown_of_module) (there ∙ found) in cc)

@@ -5,7 +5,7 @@ use Rattle.std.proofs.lemmas.Bool.{both_ways, cases_Bool, cases_lt, eq-eqb, eqb-
 use Rattle.address_map.specs.Bytes.{in_range, with_moved_at, with_word_at, word_at, word_start}
 use Rattle.address_map.specs.Items.{is_heap_word, size_of}
 use Rattle.address_map.specs.Moves.{AreDown, moved_to}
-use Rattle.address_map.specs.declared.follow.Move.{Move}
+use Rattle.address_map.specs.declared.follow.BlockMove.{BlockMove}
 use Rattle.address_map.specs.declared.item.Item.{Item}
 use Rattle.address_map.specs.declared.item.Item.TheVariants.{Free, Live}
 use Rattle.rma.proofs.Payloads.{heap_beside, spelled_inside}
@@ -19,18 +19,18 @@ use Rattle.rma.proofs.HeapSlideLemmas.LawLemmas.{slid_totals, slide_fits}
 use Rattle.rma.proofs.HeapSlideLemmas.Places.{bytes_low, bytes_past, moves_down}
 use Rattle.rma.proofs.HeapSlideLemmas.Records.{slid_in}
 use Rattle.rma.specs.heap_slide.Slide.{is_listed, item_place_after, slid_bytes, with_slid}
-use Rattle.dynamic_areas.specs.Ground.{Estate}
+use Rattle.dynamic_areas.specs.Ground.{AreaStore}
 use Rattle.rma.specs.Calls.{with_store}
 use Rattle.instances_table.specs.plans.Code.{private_of}
 use Rattle.instances_table.proofs.RoomLemmas.{slots_once}
 use Rattle.instances_table.specs.Changes.{is_slot_held}
 use Rattle.instances_table.specs.Modules.{AreModules, number_passing, slots_of}
-use Rattle.instances.specs.world.Sound.{IsWorld}
-use Rattle.instances.specs.world.World.{World, private_word, with_private}
+use Rattle.instances.specs.module_state.Sound.{IsModuleState}
+use Rattle.instances.specs.module_state.ModuleState.{ModuleState, private_word, with_private}
 use Rattle.instances.proofs.TidyingLemmas.LawLemmas.{is_low}
 use Rattle.instances.specs.tidying.Laws.{AreBytes, TidyKeepsNames, tidy_moves_in}
 use Rattle.instances.specs.tidying.Movable.{movable_blocks}
-use Rattle.instances.specs.tidying.Slid.{moves_in, private_words_of, words_moved, world_moved, world_slid, world_slid_in}
+use Rattle.instances.specs.tidying.Slid.{moves_in, private_words_of, words_moved, module_state_moved, module_state_slid, module_state_slid_in}
 
 -- bytes stay bytes
 word_small : (f : ℕ → ℕ) (at v : ℕ) → AreBytes f → AreBytes (with_word_at f at v)
@@ -81,7 +81,7 @@ word_fits : (f : ℕ → ℕ) (a : ℕ) → AreBytes f → word_at f a < 2 ^ 32
 word_fits f a small = omega (arith, small a, small (a + 1), small (a + 2), small (a + 3))
 
 -- a block goes to no higher address
-down_to : (moves : List Move) (a : ℕ) → AreDown moves → moved_to moves a ≤ a
+down_to : (moves : List BlockMove) (a : ℕ) → AreDown moves → moved_to moves a ≤ a
 down_to [] a down = omega arith
 down_to (m ∷ ms) a down = elim (cases_Bool (m.from == a)) [
   | inl here ↦ let e : m.from ≡ a = eqb-true m.from a here in rw here (omega (arith, e, down.0.0))
@@ -89,25 +89,25 @@ down_to (m ∷ ms) a down = elim (cases_Bool (m.from == a)) [
 ]
 
 -- the word of a slot that was written, and those of others
-slot_written : (e : Estate) (s v : ℕ) → v < 2 ^ 32
+slot_written : (e : AreaStore) (s v : ℕ) → v < 2 ^ 32
     → IsWordWritten e.store.bytes.at (with_word_at e.store.bytes.at (private_of s) v) (private_of s) v
 slot_written e s v fits = written e.store.bytes.at (with_word_at e.store.bytes.at (private_of s) v) (private_of s) v fits (λ a. refl)
 
-slot_other : (e : Estate) (s slot v : ℕ) → s ≢ slot → v < 2 ^ 32 → private_word (with_private e s v) slot ≡ private_word e slot
+slot_other : (e : AreaStore) (s slot v : ℕ) → s ≢ slot → v < 2 ^ 32 → private_word (with_private e s v) slot ≡ private_word e slot
 slot_other e s slot v other fits = (slot_written e s v fits).apart (private_of slot) (elim (cases_lt slot s) [
   | inl low ↦ inl (omega (arith, low))
   | inr high ↦ inr (omega (arith, high, other))
 ])
 
-module _ (moves : List Move) (down : AreDown moves) where
-  went : Estate → ℕ → ℕ
+module _ (moves : List BlockMove) (down : AreDown moves) where
+  went : AreaStore → ℕ → ℕ
   went e s = moved_to moves (private_word e s)
 
-  went_fits : (e : Estate) (s : ℕ) → AreBytes e.store.bytes.at → went e s < 2 ^ 32
+  went_fits : (e : AreaStore) (s : ℕ) → AreBytes e.store.bytes.at → went e s < 2 ^ 32
   unfolding went
   went_fits e s small = omega (arith, down_to moves (private_word e s) down, word_fits e.store.bytes.at (private_of s) small)
 
-  words_apart : (slots : List ℕ) (e : Estate) (slot : ℕ) → AreBytes e.store.bytes.at → number_passing (λ x. x == slot) slots ≡ 0
+  words_apart : (slots : List ℕ) (e : AreaStore) (slot : ℕ) → AreBytes e.store.bytes.at → number_passing (λ x. x == slot) slots ≡ 0
       → private_word (words_moved moves slots e) slot ≡ private_word e slot
   unfolding went
   words_apart [] e slot small none = refl
@@ -120,7 +120,7 @@ module _ (moves : List Move) (down : AreDown moves) where
         ∙ slot_other e s slot (went e s) apart (went_fits e s small)
   ]
 
-  pub words_after : (slots : List ℕ) (e : Estate) (slot : ℕ) → AreBytes e.store.bytes.at → number_passing (λ x. x == slot) slots ≡ 1
+  pub words_after : (slots : List ℕ) (e : AreaStore) (slot : ℕ) → AreBytes e.store.bytes.at → number_passing (λ x. x == slot) slots ≡ 1
       → private_word (words_moved moves slots e) slot ≡ moved_to moves (private_word e slot)
   unfolding went
   words_after [] e slot small one = absurd (omega (arith, one))
@@ -163,36 +163,36 @@ word_same f g a same =
     let b3 = same (a + 3) (omega arith) in
     rw (b0, b1, b2, b3) refl
 
-pub names_moved : (w : World) (h : HeapList) (movable : List ℕ) (slot : ℕ) → IsWorld w [] → AreModules w.modules → AreBytes w.estate.store.bytes.at
-    → find_heap module_area_start w.estate.store.heaps ≡ Some h → is_slot_held slot w.modules ≡ true
-    → private_word (world_moved w h movable).estate slot ≡ moved_to (moves_in h movable) (private_word w.estate slot)
-names_moved w h movable slot world modules small found held =
-    let s : Store = w.estate.store in
-    let heap : IsHeapIn s.bytes h.start h.end h.items = found_heap s.bytes module_area_start s.heaps h world.estate.ground.sound.heaps found in
+pub names_moved : (w : ModuleState) (h : HeapList) (movable : List ℕ) (slot : ℕ) → IsModuleState w [] → AreModules w.modules → AreBytes w.area_store.store.bytes.at
+    → find_heap module_area_start w.area_store.store.heaps ≡ Some h → is_slot_held slot w.modules ≡ true
+    → private_word (module_state_moved w h movable).area_store slot ≡ moved_to (moves_in h movable) (private_word w.area_store slot)
+names_moved w h movable slot module_state modules small found held =
+    let s : Store = w.area_store.store in
+    let heap : IsHeapIn s.bytes h.start h.end h.items = found_heap s.bytes module_area_start s.heaps h module_state.area_store.ground.sound.heaps found in
     let start : h.start ≡ module_area_start = found_start module_area_start s.heaps h found in
-    let low : module_area_start + h.end ≤ system_start = is_low w.estate h world.estate found in
+    let low : module_area_start + h.end ≤ system_start = is_low w.area_store h module_state.area_store found in
     let first : ℕ = h.start + 16 in
     let mv : ℕ → Bool = is_listed movable in
     let down : AreDown (moves_in h movable) =
     moves_down mv first first h.items (omega arith) (omega (arith, heap.aligned)) (omega (arith, heap.aligned)) heap.totals in
-    let e : Estate = with_store w.estate (with_slid s h movable) in
+    let e : AreaStore = with_store w.area_store (with_slid s h movable) in
     let small' : AreBytes e.store.bytes.at =
     heap_small (slid_bytes mv first first h.items s.bytes.at) h.start h.end (slid_in h movable) (slid_small mv first first h.items s.bytes.at small) in
     let byte : (k : ℕ) → 0x01C02000 ≤ k → (with_slid s h movable).bytes.at k ≡ s.bytes.at k = λ k high.
     slid_outside s h movable k heap.aligned heap.totals heap.inside (inr (omega (arith, high, start, low))) in
-    let word : private_word e slot ≡ private_word w.estate slot =
+    let word : private_word e slot ≡ private_word w.area_store slot =
     word_same s.bytes.at (with_slid s h movable).bytes.at (private_of slot) (λ k high. byte k (omega (arith, high))) in
     words_after (moves_in h movable) down (slots_of w.modules) e slot small' (slots_once w.modules modules slot held)
     ∙ ap (moved_to (moves_in h movable)) word
 
-names_where : (return_address : ℕ) (w : World) (o : Option HeapList) (slot : ℕ) → IsWorld w [] → AreModules w.modules → AreBytes w.estate.store.bytes.at
-    → find_heap module_area_start w.estate.store.heaps ≡ o → is_slot_held slot w.modules ≡ true
-    → private_word (world_slid_in return_address w o).estate slot ≡ moved_to (tidy_moves_in return_address w o) (private_word w.estate slot)
-names_where return_address w None slot world modules small found held = refl
-names_where return_address w (Some h) slot world modules small found held =
-    names_moved w h (movable_blocks w.estate.store w.modules (private_words_of w) return_address h) slot world modules small found held
+names_where : (return_address : ℕ) (w : ModuleState) (o : Option HeapList) (slot : ℕ) → IsModuleState w [] → AreModules w.modules → AreBytes w.area_store.store.bytes.at
+    → find_heap module_area_start w.area_store.store.heaps ≡ o → is_slot_held slot w.modules ≡ true
+    → private_word (module_state_slid_in return_address w o).area_store slot ≡ moved_to (tidy_moves_in return_address w o) (private_word w.area_store slot)
+names_where return_address w None slot module_state modules small found held = refl
+names_where return_address w (Some h) slot module_state modules small found held =
+    names_moved w h (movable_blocks w.area_store.store w.modules (private_words_of w) return_address h) slot module_state modules small found held
 
 pub tidy_keeps_names : TidyKeepsNames
-unfolding world_slid
-tidy_keeps_names return_address w world modules small slot held =
-    names_where return_address w (find_heap module_area_start w.estate.store.heaps) slot world modules small refl held
+unfolding module_state_slid
+tidy_keeps_names return_address w module_state modules small slot held =
+    names_where return_address w (find_heap module_area_start w.area_store.store.heaps) slot module_state modules small refl held

@@ -13,7 +13,7 @@ use Rattle.rma.specs.lists.Heap.{AreTotals, HeapList, IsHeapIn}
 use Rattle.dynamic_areas.proofs.Found.{found_heap, found_start}
 use Rattle.dynamic_areas.specs.Store.{find_heap}
 use Rattle.rma.specs.heap_slide.Slide.{is_listed, moves_of}
-use Rattle.dynamic_areas.specs.Ground.{Estate, IsEstate}
+use Rattle.dynamic_areas.specs.Ground.{AreaStore, IsAreaStore}
 use Rattle.instances_table.specs.ModuleArea.{is_in_module_area}
 use Rattle.instances.proofs.TidyingLemmas.LawLemmas.{is_low}
 use Rattle.instances.specs.tidying.Laws.{TidyKeepsSides, tidy_moves_in}
@@ -52,7 +52,7 @@ sides_of listed top at (Live t ∷ xs) totals low under high a =
     ]
 
 -- so for the heap of the module area
-pub sides_kept : (e : Estate) (h : HeapList) (movable : List ℕ) → IsEstate e → find_heap module_area_start e.store.heaps ≡ Some h
+pub sides_kept : (e : AreaStore) (h : HeapList) (movable : List ℕ) → IsAreaStore e → find_heap module_area_start e.store.heaps ≡ Some h
     → (a : ℕ) → is_in_module_area (moved_to (moves_in h movable) a) ≡ is_in_module_area a
 sides_kept e h movable good found =
     let start : h.start ≡ module_area_start = found_start module_area_start e.store.heaps h found in
@@ -61,9 +61,9 @@ sides_kept e h movable good found =
     (omega (arith, start, heap.inside, is_low e h good found))
 
 pub tidy_keeps_sides : TidyKeepsSides
-tidy_keeps_sides return_address w world block = go (find_heap module_area_start w.estate.store.heaps) refl where
-  go : (o : Option HeapList) → find_heap module_area_start w.estate.store.heaps ≡ o
+tidy_keeps_sides return_address w module_state block = go (find_heap module_area_start w.area_store.store.heaps) refl where
+  go : (o : Option HeapList) → find_heap module_area_start w.area_store.store.heaps ≡ o
       → is_in_module_area (moved_to (tidy_moves_in return_address w o) block) ≡ is_in_module_area block
   go None none = refl
   go (Some h) found =
-      sides_kept w.estate h (movable_blocks w.estate.store w.modules (private_words_of w) return_address h) world.estate found block
+      sides_kept w.area_store h (movable_blocks w.area_store.store w.modules (private_words_of w) return_address h) module_state.area_store found block

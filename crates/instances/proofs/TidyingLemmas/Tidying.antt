@@ -1,11 +1,11 @@
--- The world after its module area was tidied, and that it is sound.
+-- The module state after its module area was tidied, and that it is sound.
 use Rattle.profile.specs.MemoryMap.{module_area_start}
 use Rattle.std.proofs.Common.{◌≡◌, ℕ, Bool, true, false, not, ◌+◌, ◌-◌, ◌≤◌, ◌∙◌, ◌&&◌, ◌||◌, List, [], ◌∷◌, length, map, arith, refl, sym, ap, subst, Option, Some, None}
 use Rattle.std.proofs.lemmas.Bool.{and_parts, both_ways, false_from_ne_true, not-true, or_from, or_parts}
 use Rattle.address_map.specs.Bytes.{in_range}
 use Rattle.address_map.specs.Memory.{Mapping, byte_at, free_pages, mapping}
 use Rattle.address_map.specs.Records.{anchor_among}
-use Rattle.address_map.specs.declared.follow.Move.{Move}
+use Rattle.address_map.specs.declared.follow.BlockMove.{BlockMove}
 use Rattle.address_map.specs.declared.map.AddressMap.{AddressMap}
 use Rattle.rma.specs.lists.Heap.{HeapList, IsHeapIn}
 use Rattle.dynamic_areas.proofs.Forgetting.{StartsIn, so_starts, starts_so}
@@ -16,19 +16,19 @@ use Rattle.dynamic_areas.specs.Forgetting.{holds_heap, starts_in}
 use Rattle.dynamic_areas.specs.Store.{IsSound, Store, find_heap, store_of}
 use Rattle.rma.proofs.HeapSlideLemmas.Records.{IsSlide, slid_in}
 use Rattle.rma.specs.heap_slide.Slide.{AreBlocks, HoldNoAnchor, HoldNoHeap, IsHeapSlid, MaySlide, with_slid}
-use Rattle.dynamic_areas.specs.Areas.{Land, find_area}
-use Rattle.dynamic_areas.specs.Ground.{EndsWithArea, Estate, IsEstate, IsGround, estate_of}
+use Rattle.dynamic_areas.specs.Areas.{AreaTable, find_area}
+use Rattle.dynamic_areas.specs.Ground.{EndsWithArea, AreaStore, IsAreaStore, IsGround, area_store_of}
 use Rattle.rma.specs.Calls.{with_store}
 use Rattle.instances_table.specs.Lookup.{has_image_at}
 use Rattle.instances_table.specs.Modules.{Module, slots_of}
-use Rattle.instances.specs.world.Sound.{IsWorld}
-use Rattle.instances.specs.world.World.{World, world_of}
+use Rattle.instances.specs.module_state.Sound.{IsModuleState}
+use Rattle.instances.specs.module_state.ModuleState.{ModuleState, module_state_of}
 use Rattle.dynamic_areas.proofs.HeapCalls.{same_end}
 use Rattle.instances.proofs.TidyingLemmas.Choosing.{IsChosen, are_blocks, chosen, few_blocks}
 use Rattle.instances.proofs.TidyingLemmas.Following.{beside_moved, images_follow, ranges_mapped, solid_moved, system_moved}
 use Rattle.instances.proofs.TidyingLemmas.Sides.{sides_kept}
 use Rattle.instances.specs.tidying.Movable.{can_move, is_named_once, movable_blocks, movable_in}
-use Rattle.instances.specs.tidying.Slid.{image_moved, moves_in, private_words_of, private_words_at, words_moved, world_moved, world_slid, world_slid_in}
+use Rattle.instances.specs.tidying.Slid.{image_moved, moves_in, private_words_of, private_words_at, words_moved, module_state_moved, module_state_slid, module_state_slid_in}
 
 -- a block that can be moved holds no anchor and no heap
 pub holds_none : (anchor : ℕ → Bool) (holds : ℕ → ℕ → Bool) (modules : List Module) (words : List ℕ) (return_address at total : ℕ)
@@ -61,9 +61,9 @@ pub record HasHeap (s : Store) : Type 0 where
   pub heap : HeapList
   pub found : find_heap module_area_start s.heaps ≡ Some heap
 
-pub heap_there : (e : Estate) → IsEstate e → HasHeap e.store
+pub heap_there : (e : AreaStore) → IsAreaStore e → HasHeap e.store
 heap_there e good = go (find_heap module_area_start e.store.heaps) refl good.heap where
-  go : (o : Option HeapList) → find_heap module_area_start e.store.heaps ≡ o → EndsWithArea o (find_area 1 e.land.areas) → HasHeap e.store
+  go : (o : Option HeapList) → find_heap module_area_start e.store.heaps ≡ o → EndsWithArea o (find_area 1 e.area_table.areas) → HasHeap e.store
   go None none ends = absurd ends
   go (Some h) found ends = record { heap = h; found = found }
 
@@ -95,31 +95,31 @@ may_by s modules words return_address (Some h) there none images named =
 no_heap : (o : Option HeapList) (h : HeapList) → o ≡ Some h → o ≡ None → ⊥
 no_heap o h some none = let no : None ≡ Some h = sym none ∙ some in cc
 
-pub may_slide : (m : AddressMap) (l : Land) (modules : List Module) (words movable : List ℕ) (return_address : ℕ) → IsWorld (world_of m l modules) []
+pub may_slide : (m : AddressMap) (l : AreaTable) (modules : List Module) (words movable : List ℕ) (return_address : ℕ) → IsModuleState (module_state_of m l modules) []
     → length modules ≤ 64 → length words ≤ 64
     → movable ≡ movable_in (store_of m) modules words return_address (find_heap module_area_start (store_of m).heaps)
     → MaySlide (store_of m) module_area_start movable
-may_slide m l modules words movable return_address world images named e =
-    let a : HasHeap (store_of m) = heap_there (estate_of m l) world.estate in
+may_slide m l modules words movable return_address module_state images named e =
+    let a : HasHeap (store_of m) = heap_there (area_store_of m l) module_state.area_store in
     subst (λ (xs : List ℕ). MaySlide (store_of m) module_area_start xs) (sym e)
     (may_by (store_of m) modules words return_address (find_heap module_area_start (store_of m).heaps)
-    (λ h found. found_heap (store_of m).bytes module_area_start (store_of m).heaps h world.estate.ground.sound.heaps found)
+    (λ h found. found_heap (store_of m).bytes module_area_start (store_of m).heaps h module_state.area_store.ground.sound.heaps found)
     (no_heap (find_heap module_area_start (store_of m).heaps) a.heap a.found) images named)
 
--- the world after the blocks, their records and the images of modules moved
-abbrev pub after_blocks : World → HeapList → List ℕ → World
+-- the module state after the blocks, their records and the images of modules moved
+abbrev pub after_blocks : ModuleState → HeapList → List ℕ → ModuleState
 after_blocks w h movable = record {
-  estate = with_store w.estate (with_slid w.estate.store h movable);
+  area_store = with_store w.area_store (with_slid w.area_store.store h movable);
   modules = map (image_moved (moves_in h movable)) w.modules;
 }
 
-pub blocks_sound : (w : World) (h : HeapList) (movable : List ℕ) → IsWorld w [] → find_heap module_area_start w.estate.store.heaps ≡ Some h
-    → IsSound (with_slid w.estate.store h movable) → IsWorld (after_blocks w h movable) []
-blocks_sound w h movable world found sound =
-    let s : Store = w.estate.store in
+pub blocks_sound : (w : ModuleState) (h : HeapList) (movable : List ℕ) → IsModuleState w [] → find_heap module_area_start w.area_store.store.heaps ≡ Some h
+    → IsSound (with_slid w.area_store.store h movable) → IsModuleState (after_blocks w h movable) []
+blocks_sound w h movable module_state found sound =
+    let s : Store = w.area_store.store in
     let t : Store = with_slid s h movable in
     let p : HeapList = record { kind = h.kind; start = h.start; end = h.end; items = slid_in h movable } in
-    let g : IsGround s w.estate.pool w.estate.land = world.estate.ground in
+    let g : IsGround s w.area_store.pool w.area_store.area_table = module_state.area_store.ground in
     let start : h.start ≡ module_area_start = found_start module_area_start s.heaps h found in
     let own : find_heap h.start s.heaps ≡ Some h = subst (λ (q : ℕ). find_heap q s.heaps ≡ Some h) (sym start) found in
     let there : find_heap h.start t.heaps ≡ Some p = found_held h.start (slid_in h movable) s.heaps h own in
@@ -129,38 +129,38 @@ blocks_sound w h movable world found sound =
     } in
     let there' : find_heap module_area_start t.heaps ≡ Some p = subst (λ (q : ℕ). find_heap q t.heaps ≡ Some p) start there in
     record {
-      estate = record {
+      area_store = record {
         ground = record {
           sizes = g.sizes;
           table = g.table;
-          land = g.land;
+          area_table = g.area_table;
           pages = g.pages;
           ranges = ranges_mapped s.bytes t.bytes h s.heaps movable s.others slide own refl g.sound.placed g.ranges;
           sound = sound;
         };
-        heap = rw there' (same_end h p _ refl refl (rw found at world.estate.heap));
+        heap = rw there' (same_end h p _ refl refl (rw found at module_state.area_store.heap));
       };
-      system = system_moved (moves_in h movable) s.others world.system;
-      images = images_follow (moves_in h movable) s.others w.modules (sides_kept w.estate h movable world.estate found) world.images;
-      solid = solid_moved s.bytes t.bytes h s.heaps movable s.others slide own g.sound.placed world.solid;
-      few = rw (beside_moved (moves_in h movable) s.others) world.few;
+      system = system_moved (moves_in h movable) s.others module_state.system;
+      images = images_follow (moves_in h movable) s.others w.modules (sides_kept w.area_store h movable module_state.area_store found) module_state.images;
+      solid = solid_moved s.bytes t.bytes h s.heaps movable s.others slide own g.sound.placed module_state.solid;
+      few = rw (beside_moved (moves_in h movable) s.others) module_state.few;
     }
 
 -- The same of maps: `k` is memory after the blocks slid, and `new` are the modules whose images
 -- followed.
-pub record IsBlocksSlid (m k : AddressMap) (l : Land) (modules new : List Module) (movable : List ℕ) (moves : List Move) : Type 0 where
+pub record IsBlocksSlid (m k : AddressMap) (l : AreaTable) (modules new : List Module) (movable : List ℕ) (moves : List BlockMove) : Type 0 where
   pub heap : HeapList
   pub found : find_heap module_area_start (store_of m).heaps ≡ Some heap
   pub moved : moves ≡ moves_in heap movable
-  pub estate : estate_of k l ≡ with_store (estate_of m l) (with_slid (store_of m) heap movable)
+  pub area_store : area_store_of k l ≡ with_store (area_store_of m l) (with_slid (store_of m) heap movable)
   pub images : new ≡ map (image_moved (moves_in heap movable)) modules
   pub store : store_of k ≡ with_slid (store_of m) heap movable
 
-pub blocks_slid : (m k : AddressMap) (l : Land) (modules new : List Module) (movable : List ℕ) (moves : List Move) → IsWorld (world_of m l modules) []
+pub blocks_slid : (m k : AddressMap) (l : AreaTable) (modules new : List Module) (movable : List ℕ) (moves : List BlockMove) → IsModuleState (module_state_of m l modules) []
     → IsHeapSlid (store_of m) module_area_start movable (store_of k) moves → mapping k ≡ mapping m → new ≡ map (image_moved moves) modules
     → IsBlocksSlid m k l modules new movable moves
-blocks_slid m k l modules new movable moves world slid same images =
-    let a : HasHeap (store_of m) = heap_there (estate_of m l) world.estate in
+blocks_slid m k l modules new movable moves module_state slid same images =
+    let a : HasHeap (store_of m) = heap_there (area_store_of m l) module_state.area_store in
     let h : HeapList = a.heap in
     let both = rw a.found at slid in
     let store : store_of k ≡ with_slid (store_of m) h movable = both.0 in
@@ -170,39 +170,39 @@ blocks_slid m k l modules new movable moves world slid same images =
       heap = h;
       found = a.found;
       moved = moved;
-      estate = λ i. record { store = store i; pool = pool i; land = l };
-      images = images ∙ ap (λ (x : List Move). map (image_moved x) modules) moved;
+      area_store = λ i. record { store = store i; pool = pool i; area_table = l };
+      images = images ∙ ap (λ (x : List BlockMove). map (image_moved x) modules) moved;
       store = store;
     }
 
-pub sound_after : (m k : AddressMap) (l : Land) (modules new : List Module) (movable : List ℕ) (moves : List Move) → IsWorld (world_of m l modules) []
-    → IsSound (store_of k) → IsBlocksSlid m k l modules new movable moves → IsWorld (world_of k l new) []
-sound_after m k l modules new movable moves world sound is =
-    let w : World = world_of m l modules in
-    let e : world_of k l new ≡ after_blocks w is.heap movable = λ i. record { estate = is.estate i; modules = is.images i } in
-    subst (λ (x : World). IsWorld x []) (sym e) (blocks_sound w is.heap movable world is.found (subst IsSound is.store sound))
+pub sound_after : (m k : AddressMap) (l : AreaTable) (modules new : List Module) (movable : List ℕ) (moves : List BlockMove) → IsModuleState (module_state_of m l modules) []
+    → IsSound (store_of k) → IsBlocksSlid m k l modules new movable moves → IsModuleState (module_state_of k l new) []
+sound_after m k l modules new movable moves module_state sound is =
+    let w : ModuleState = module_state_of m l modules in
+    let e : module_state_of k l new ≡ after_blocks w is.heap movable = λ i. record { area_store = is.area_store i; modules = is.images i } in
+    subst (λ (x : ModuleState). IsModuleState x []) (sym e) (blocks_sound w is.heap movable module_state is.found (subst IsSound is.store sound))
 
-words_are : (m : AddressMap) (l : Land) (modules : List Module) → private_words_of (world_of m l modules) ≡ private_words_at (byte_at m) (slots_of modules)
+words_are : (m : AddressMap) (l : AreaTable) (modules : List Module) → private_words_of (module_state_of m l modules) ≡ private_words_at (byte_at m) (slots_of modules)
 unfolding store_of
 words_are m l modules = refl
 
-pub world_after : (m k n : AddressMap) (l : Land) (modules new : List Module) (return_address : ℕ) (slots words movable : List ℕ) (moves : List Move)
+pub module_state_after : (m k n : AddressMap) (l : AreaTable) (modules new : List Module) (return_address : ℕ) (slots words movable : List ℕ) (moves : List BlockMove)
     → slots ≡ slots_of modules → words ≡ private_words_at (byte_at m) slots
     → movable ≡ movable_in (store_of m) modules words return_address (find_heap module_area_start (store_of m).heaps)
-    → IsBlocksSlid m k l modules new movable moves → estate_of n l ≡ words_moved moves slots (estate_of k l)
-    → world_of n l new ≡ world_slid return_address (world_of m l modules)
-unfolding world_slid
-world_after m k n l modules new return_address slots words movable moves is-slots is-words is-movable is is-estate =
-    let w : World = world_of m l modules in
+    → IsBlocksSlid m k l modules new movable moves → area_store_of n l ≡ words_moved moves slots (area_store_of k l)
+    → module_state_of n l new ≡ module_state_slid return_address (module_state_of m l modules)
+unfolding module_state_slid
+module_state_after m k n l modules new return_address slots words movable moves is-slots is-words is-movable is is-area_store =
+    let w : ModuleState = module_state_of m l modules in
     let h : HeapList = is.heap in
     let all : words ≡ private_words_of w = is-words ∙ ap (private_words_at (byte_at m)) is-slots ∙ sym (words_are m l modules) in
     let blocks : movable ≡ movable_blocks (store_of m) modules (private_words_of w) return_address h =
     is-movable ∙ ap (λ (o : Option HeapList). movable_in (store_of m) modules words return_address o) is.found
     ∙ ap (λ (xs : List ℕ). movable_blocks (store_of m) modules xs return_address h) all in
-    let estate : estate_of n l ≡ words_moved (moves_in h movable) (slots_of modules) (with_store (estate_of m l) (with_slid (store_of m) h movable)) =
-    is-estate ∙ ap (λ (x : List Move). words_moved x slots (estate_of k l)) is.moved
-    ∙ ap (λ (xs : List ℕ). words_moved (moves_in h movable) xs (estate_of k l)) is-slots
-    ∙ ap (λ (e : Estate). words_moved (moves_in h movable) (slots_of modules) e) is.estate in
-    let after : world_of n l new ≡ world_moved w h movable = λ i. record { estate = estate i; modules = is.images i } in
-    after ∙ ap (λ (xs : List ℕ). world_moved w h xs) blocks
-    ∙ sym (ap (λ (o : Option HeapList). world_slid_in return_address w o) is.found)
+    let area_store : area_store_of n l ≡ words_moved (moves_in h movable) (slots_of modules) (with_store (area_store_of m l) (with_slid (store_of m) h movable)) =
+    is-area_store ∙ ap (λ (x : List BlockMove). words_moved x slots (area_store_of k l)) is.moved
+    ∙ ap (λ (xs : List ℕ). words_moved (moves_in h movable) xs (area_store_of k l)) is-slots
+    ∙ ap (λ (e : AreaStore). words_moved (moves_in h movable) (slots_of modules) e) is.area_store in
+    let after : module_state_of n l new ≡ module_state_moved w h movable = λ i. record { area_store = area_store i; modules = is.images i } in
+    after ∙ ap (λ (xs : List ℕ). module_state_moved w h xs) blocks
+    ∙ sym (ap (λ (o : Option HeapList). module_state_slid_in return_address w o) is.found)

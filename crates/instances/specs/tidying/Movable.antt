@@ -19,7 +19,7 @@ abbrev pub is_named_once : List ℕ → ℕ → Bool
 is_named_once words block = count_by (λ (w : ℕ). w == block) words == 1
 
 -- Can the block of `total` bytes be moved whose length word is at `at`? It holds what lies in any
--- of these bytes. `anchor` tells of each byte whether it is an anchor's, and `holds` of each range
+-- of these bytes. `anchor` says of each byte whether it is an anchor's, and `holds` of each range
 -- whether a heap starts in it.
 abbrev pub can_move : (ℕ → Bool) → (ℕ → ℕ → Bool) → List Module → List ℕ → ℕ → ℕ → ℕ → Bool
 can_move anchor holds modules words return_address at total =

@@ -3,39 +3,40 @@
 ghost use Rattle.std.specs.Prelude.{ℕ, List, ◌≡◌, [], ◌∷◌, true, false};
 ghost use Rattle.address_map.specs.Memory.{mapping, regions};
 ghost use Rattle.dynamic_areas.specs.Store.{AreClasses, store_of};
-ghost use Rattle.dynamic_areas.specs.Areas.{Land};
+ghost use Rattle.dynamic_areas.specs.Areas.{AreaTable};
 ghost use Rattle.rma.specs.flex_frame.Keeping.{KeepsFlex};
 ghost use Rattle.instances_table.specs.declared.parts.Image.{Image};
-ghost use Rattle.instances.specs.world.Records.{LosesRecords};
-ghost use Rattle.instances.specs.world.Sound.{HasSystemPages, IsWorld};
-ghost use Rattle.instances.specs.world.World.{World, world_of};
-ghost use Rattle.instances.specs.actions.Actions.{world_after_action, image_given};
+ghost use Rattle.instances.specs.module_state.Records.{LosesRecords};
+ghost use Rattle.instances.specs.module_state.Sound.{HasSystemPages, IsModuleState};
+ghost use Rattle.instances.specs.module_state.ModuleState.{ModuleState, module_state_of};
+ghost use Rattle.instances.specs.actions.Actions.{module_state_after_action, image_given};
 ghost use Rattle.instances.specs.actions.Asked.{CanAct};
 ghost use Rattle.instances.specs.actions.Pending.{settles};
 
 use crate::actions::adding::{give_up, insert, instantiate};
 use crate::actions::removal::{free_private, remove};
-use crate::world::put_text;
+use crate::module_state::put_text;
 use address_map::AddressMap;
 use instances_table::InstanceTable;
 use instances_table::plans::{Given, PlanAction};
 
 /// Does an action's own part, before its code runs; a slide is done elsewhere. The image of a new
 /// module is pending until an insertion adds it, or it is given up.
-#[tactic(auto, using(crate::proofs::WorldLemmas::Keeping::keeps_same, crate::proofs::WorldLemmas::Records::loses_same))]
+#[tactic(auto, using(crate::proofs::ModuleStateLemmas::Keeping::keeps_same, crate::proofs::ModuleStateLemmas::Records::loses_same))]
 pub fn act(map: &mut AddressMap, table: &mut InstanceTable, given: &Given, action: PlanAction)
     requires can { CanAct given.now table.old action }
     requires system { HasSystemPages map.old }
     requires classes { AreClasses map.old }
-    ensures world { (slide : ℕ → World → World) (l : Land)
-        → world_of map.new l table.new ≡ world_after_action slide given.now (world_of map.old l table.old)
+    ensures module_state { (slide : ℕ → ModuleState → ModuleState) (l : AreaTable)
+        → module_state_of map.new l table.new ≡ module_state_after_action slide given.now
+        (module_state_of map.old l table.old)
         action }
-    ensures sound { (l : Land) (pending : List Image) → settles action ≡ false
-        → IsWorld (world_of map.old l table.old) pending
-        → IsWorld (world_of map.new l table.new) pending }
-    ensures settled { (l : Land) → settles action ≡ true
-        → IsWorld (world_of map.old l table.old) (image_given given.now ∷ [])
-        → IsWorld (world_of map.new l table.new) [] }
+    ensures sound { (l : AreaTable) (pending : List Image) → settles action ≡ false
+        → IsModuleState (module_state_of map.old l table.old) pending
+        → IsModuleState (module_state_of map.new l table.new) pending }
+    ensures settled { (l : AreaTable) → settles action ≡ true
+        → IsModuleState (module_state_of map.old l table.old) (image_given given.now ∷ [])
+        → IsModuleState (module_state_of map.new l table.new) [] }
     ensures pages { HasSystemPages map.new }
     ensures classes { AreClasses map.new }
     ensures mapping { mapping map.new ≡ mapping map.old }

@@ -3,19 +3,19 @@
 ghost use Rattle.std.specs.Prelude.{ℕ, List, ◌≡◌, [], ◌∷◌, true};
 ghost use Rattle.address_map.specs.Memory.{layout, mapping, regions};
 ghost use Rattle.dynamic_areas.specs.Store.{AreClasses, store_of};
-ghost use Rattle.dynamic_areas.specs.Areas.{Land};
-ghost use Rattle.dynamic_areas.specs.Ground.{estate_of};
+ghost use Rattle.dynamic_areas.specs.Areas.{AreaTable};
+ghost use Rattle.dynamic_areas.specs.Ground.{area_store_of};
 ghost use Rattle.rma.specs.flex_frame.Keeping.{KeepsFlex};
 ghost use Rattle.instances_table.specs.Changes.{is_new};
 ghost use Rattle.instances_table.specs.Modules.{Module};
-ghost use Rattle.instances.specs.world.Records.{LosesRecords};
-ghost use Rattle.instances.specs.world.Sound.{HasSystemPages, IsWorld};
-ghost use Rattle.instances.specs.world.World.{image_gone, with_private, world_of};
+ghost use Rattle.instances.specs.module_state.Records.{LosesRecords};
+ghost use Rattle.instances.specs.module_state.Sound.{HasSystemPages, IsModuleState};
+ghost use Rattle.instances.specs.module_state.ModuleState.{image_gone, with_private, module_state_of};
 ghost use Rattle.instances.specs.actions.Actions.{image_given, with_another, with_new};
 ghost use Rattle.instances.specs.actions.Asked.{CanInstantiate};
 
 use crate::actions::removal::drop_image;
-use crate::world::put_private;
+use crate::module_state::put_private;
 use address_map::AddressMap;
 use arrayvec::ArrayVec;
 use instances_table::plans::{Given, Header};
@@ -27,10 +27,12 @@ use instances_table::{Image, InstanceTable};
 pub fn insert(map: &mut AddressMap, table: &mut InstanceTable, given: &Given, slot: u32)
     requires new { is_new given.now.header.title.items slot table.old ≡ true }
     requires system { HasSystemPages map.old }
-    ensures estate { (l : Land) → estate_of map.new l ≡ with_private (estate_of map.old l) slot 0 }
+    ensures area_store { (l : AreaTable) → area_store_of map.new l ≡ with_private (area_store_of map.old l)
+        slot 0 }
     ensures modules { table.new ≡ with_new given.now slot table.old }
-    ensures sound { (l : Land) → IsWorld (world_of map.old l table.old) (image_given given.now ∷ [])
-        → IsWorld (world_of map.new l table.new) [] }
+    ensures sound { (l : AreaTable) → IsModuleState (module_state_of map.old l table.old)
+        (image_given given.now ∷ [])
+        → IsModuleState (module_state_of map.new l table.new) [] }
     ensures pages { HasSystemPages map.new }
     ensures classes { AreClasses map.old → AreClasses map.new }
     ensures layout { layout map.new ≡ layout map.old }
@@ -46,10 +48,12 @@ pub fn insert(map: &mut AddressMap, table: &mut InstanceTable, given: &Given, sl
 pub fn instantiate(map: &mut AddressMap, table: &mut InstanceTable, given: &Given, slot: u32)
     requires can { CanInstantiate given.now table.old slot }
     requires system { HasSystemPages map.old }
-    ensures estate { (l : Land) → estate_of map.new l ≡ with_private (estate_of map.old l) slot 0 }
+    ensures area_store { (l : AreaTable) → area_store_of map.new l ≡ with_private (area_store_of map.old l)
+        slot 0 }
     ensures modules { table.new ≡ with_another given.now slot table.old }
-    ensures sound { (l : Land) (pending : List Image) → IsWorld (world_of map.old l table.old) pending
-        → IsWorld (world_of map.new l table.new) pending }
+    ensures sound { (l : AreaTable) (pending : List Image) → IsModuleState
+        (module_state_of map.old l table.old) pending
+        → IsModuleState (module_state_of map.new l table.new) pending }
     ensures pages { HasSystemPages map.new }
     ensures classes { AreClasses map.old → AreClasses map.new }
     ensures layout { layout map.new ≡ layout map.old }
@@ -65,11 +69,11 @@ pub fn instantiate(map: &mut AddressMap, table: &mut InstanceTable, given: &Give
 pub fn give_up(map: &mut AddressMap, given: &Given)
     requires system { HasSystemPages map.old }
     requires classes { AreClasses map.old }
-    ensures estate { (l : Land) → estate_of map.new l ≡ image_gone (estate_of map.old l)
+    ensures area_store { (l : AreaTable) → area_store_of map.new l ≡ image_gone (area_store_of map.old l)
         (image_given given.now) }
-    ensures sound { (l : Land) (modules : List Module)
-        → IsWorld (world_of map.old l modules) (image_given given.now ∷ [])
-        → IsWorld (world_of map.new l modules) [] }
+    ensures sound { (l : AreaTable) (modules : List Module)
+        → IsModuleState (module_state_of map.old l modules) (image_given given.now ∷ [])
+        → IsModuleState (module_state_of map.new l modules) [] }
     ensures pages { HasSystemPages map.new }
     ensures classes { AreClasses map.new }
     ensures mapping { mapping map.new ≡ mapping map.old }

@@ -4,16 +4,16 @@ ghost use Rattle.std.specs.Prelude.{ℕ, List, ◌≡◌, ◌<◌};
 ghost use Rattle.address_map.specs.Memory.{mapping, regions};
 ghost use Rattle.dynamic_areas.specs.Order.{LosesHeaps};
 ghost use Rattle.dynamic_areas.specs.Store.{AreClasses, store_of};
-ghost use Rattle.dynamic_areas.specs.Areas.{Land};
-ghost use Rattle.dynamic_areas.specs.Ground.{IsEstate, estate_of};
+ghost use Rattle.dynamic_areas.specs.Areas.{AreaTable};
+ghost use Rattle.dynamic_areas.specs.Ground.{IsAreaStore, area_store_of};
 ghost use Rattle.rma.specs.flex_frame.Keeping.{KeepsFlex};
 ghost use Rattle.instances_table.specs.declared.parts.Image.{Image};
 ghost use Rattle.instances_table.specs.Modules.{Module};
-ghost use Rattle.instances.specs.world.Records.{LosesRecords};
-ghost use Rattle.instances.specs.world.Sound.{HasSystemPages, IsWorld};
-ghost use Rattle.instances.specs.world.World.{image_gone, private_freed, world_after_remove, world_of};
+ghost use Rattle.instances.specs.module_state.Records.{LosesRecords};
+ghost use Rattle.instances.specs.module_state.Sound.{HasSystemPages, IsModuleState};
+ghost use Rattle.instances.specs.module_state.ModuleState.{image_gone, private_freed, module_state_after_remove, module_state_of};
 
-use crate::world::{private_value, put_private};
+use crate::module_state::{private_value, put_private};
 use address_map::AddressMap;
 use instances_table::{Image, InstanceTable, is_in_module_area};
 use rma::Rma;
@@ -26,10 +26,11 @@ pub fn remove(map: &mut AddressMap, table: &mut InstanceTable, slot: u32)
     requires below { slot < 64 }
     requires system { HasSystemPages map.old }
     requires classes { AreClasses map.old }
-    ensures world { (l : Land) → world_of map.new l table.new ≡ world_after_remove
-        (world_of map.old l table.old) slot }
-    ensures sound { (l : Land) (pending : List Image) → IsWorld (world_of map.old l table.old) pending
-        → IsWorld (world_of map.new l table.new) pending }
+    ensures module_state { (l : AreaTable) → module_state_of map.new l table.new ≡ module_state_after_remove
+        (module_state_of map.old l table.old) slot }
+    ensures sound { (l : AreaTable) (pending : List Image) → IsModuleState
+        (module_state_of map.old l table.old) pending
+        → IsModuleState (module_state_of map.new l table.new) pending }
     ensures pages { HasSystemPages map.new }
     ensures classes { AreClasses map.new }
     ensures mapping { mapping map.new ≡ mapping map.old }
@@ -53,10 +54,11 @@ pub fn free_private(map: &mut AddressMap, slot: u32)
     requires below { slot < 64 }
     requires system { HasSystemPages map.old }
     requires classes { AreClasses map.old }
-    ensures estate { (l : Land) → estate_of map.new l ≡ private_freed (estate_of map.old l) slot }
-    ensures sound { (l : Land) (modules : List Module) (pending : List Image)
-        → IsWorld (world_of map.old l modules) pending
-        → IsWorld (world_of map.new l modules) pending }
+    ensures area_store { (l : AreaTable) → area_store_of map.new l ≡ private_freed (area_store_of map.old l)
+        slot }
+    ensures sound { (l : AreaTable) (modules : List Module) (pending : List Image)
+        → IsModuleState (module_state_of map.old l modules) pending
+        → IsModuleState (module_state_of map.new l modules) pending }
     ensures pages { HasSystemPages map.new }
     ensures classes { AreClasses map.new }
     ensures others { (store_of map.new).others ≡ (store_of map.old).others }
@@ -74,8 +76,10 @@ pub fn free_private(map: &mut AddressMap, slot: u32)
 pub(crate) fn drop_image(map: &mut AddressMap, image: Image)
     requires system { HasSystemPages map.old }
     requires classes { AreClasses map.old }
-    ensures estate { (l : Land) → estate_of map.new l ≡ image_gone (estate_of map.old l) image }
-    ensures kept { (l : Land) → IsEstate (estate_of map.old l) → IsEstate (estate_of map.new l) }
+    ensures area_store { (l : AreaTable) → area_store_of map.new l ≡ image_gone (area_store_of map.old l)
+        image }
+    ensures kept { (l : AreaTable) → IsAreaStore (area_store_of map.old l) → IsAreaStore
+        (area_store_of map.new l) }
     ensures pages { HasSystemPages map.new }
     ensures classes { AreClasses map.new }
     ensures mapping { mapping map.new ≡ mapping map.old }

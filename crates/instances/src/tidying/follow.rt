@@ -3,17 +3,17 @@ ghost use Rattle.std.specs.Prelude.{◌≡◌, ◌≤◌, ◌<◌, ℕ, List, le
 ghost use Rattle.address_map.specs.Bytes.{AreMapped};
 ghost use Rattle.address_map.specs.Memory.{byte_at, is_mapped, layout};
 ghost use Rattle.dynamic_areas.specs.Store.{AreClasses, store_of};
-ghost use Rattle.dynamic_areas.specs.Areas.{Land};
-ghost use Rattle.dynamic_areas.specs.Ground.{estate_of};
+ghost use Rattle.dynamic_areas.specs.Areas.{AreaTable};
+ghost use Rattle.dynamic_areas.specs.Ground.{area_store_of};
 ghost use Rattle.rma.specs.flex_frame.Keeping.{KeepsFlex};
 ghost use Rattle.instances_table.specs.declared.parts.Image.{Image};
 ghost use Rattle.instances_table.specs.Modules.{Module};
-ghost use Rattle.instances.specs.world.Sound.{HasSystemPages, IsWorld};
-ghost use Rattle.instances.specs.world.World.{world_of};
+ghost use Rattle.instances.specs.module_state.Sound.{HasSystemPages, IsModuleState};
+ghost use Rattle.instances.specs.module_state.ModuleState.{module_state_of};
 ghost use Rattle.instances.specs.tidying.Slid.{image_moved, private_words_at, words_moved};
 
-use crate::world::{private_value, put_private};
-use address_map::{AddressMap, Move};
+use crate::module_state::{private_value, put_private};
+use address_map::{AddressMap, BlockMove};
 use arrayvec::ArrayVec;
 use instances_table::InstanceTable;
 use rma::heap_slide::moved_to;
@@ -37,15 +37,15 @@ pub(crate) fn private_words(map: &AddressMap, slots: &[u32]) -> ArrayVec<u32, MO
 }
 
 /// Gives each private word of some slots that names a block that moved the address where it went.
-#[tactic(auto, using(crate::proofs::WorldLemmas::Keeping::keeps_same))]
-pub(crate) fn move_words(map: &mut AddressMap, slots: &[u32], moves: &[Move])
+#[tactic(auto, using(crate::proofs::ModuleStateLemmas::Keeping::keeps_same))]
+pub(crate) fn move_words(map: &mut AddressMap, slots: &[u32], moves: &[BlockMove])
     requires below { EachIndex slots.now (λ k. slice_index slots.now k < 64) }
     requires system { HasSystemPages map.old }
-    ensures estate { (l : Land) → estate_of map.new l ≡ words_moved moves.now slots.now
-        (estate_of map.old l) }
-    ensures sound { (l : Land) (modules : List Module) (pending : List Image)
-        → IsWorld (world_of map.old l modules) pending
-        → IsWorld (world_of map.new l modules) pending }
+    ensures area_store { (l : AreaTable) → area_store_of map.new l ≡ words_moved moves.now slots.now
+        (area_store_of map.old l) }
+    ensures sound { (l : AreaTable) (modules : List Module) (pending : List Image)
+        → IsModuleState (module_state_of map.old l modules) pending
+        → IsModuleState (module_state_of map.new l modules) pending }
     ensures classes { AreClasses map.old → AreClasses map.new }
     ensures layout { layout map.new ≡ layout map.old }
     ensures flex { KeepsFlex (store_of map.old) (store_of map.new) }
@@ -57,7 +57,7 @@ pub(crate) fn move_words(map: &mut AddressMap, slots: &[u32], moves: &[Move])
 }
 
 /// Gives each module whose image moved the address where it went.
-pub(crate) fn move_images(table: &mut InstanceTable, moves: &[Move])
+pub(crate) fn move_images(table: &mut InstanceTable, moves: &[BlockMove])
     ensures { table.new ≡ map (image_moved moves.now) table.old }
 {
     for number in 0..table.count() {

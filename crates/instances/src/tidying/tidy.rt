@@ -4,10 +4,10 @@ ghost use Rattle.address_map.specs.Memory.{mapping, regions};
 ghost use Rattle.dynamic_areas.specs.Store.{AreClasses, store_of};
 ghost use Rattle.rma.specs.flex_frame.Keeping.{KeepsFlex};
 ghost use Rattle.instances_table.specs.declared.plans.action.PlanAction.TheVariants.{Slide};
-ghost use Rattle.instances.specs.world.Records.{TurnsRecords};
-ghost use Rattle.instances.specs.world.Sound.{IsWorld};
-ghost use Rattle.instances.specs.world.World.{world_of};
-ghost use Rattle.instances.specs.tidying.Slid.{world_slid};
+ghost use Rattle.instances.specs.module_state.Records.{TurnsRecords};
+ghost use Rattle.instances.specs.module_state.Sound.{IsModuleState};
+ghost use Rattle.instances.specs.module_state.ModuleState.{module_state_of};
+ghost use Rattle.instances.specs.tidying.Slid.{module_state_slid};
 
 use crate::tidying::follow::{move_images, move_words, private_words};
 use crate::tidying::movable::movable_blocks;
@@ -20,16 +20,16 @@ use rma::Rma;
 /// becomes one. Movable are the images of modules, and each block that exactly one private word of
 /// an instance names, if they hold neither an anchor of the flex store, nor a heap, nor the return
 /// address of the call; all others stay. Private words that name blocks that moved follow them, and
-/// so do the images of modules, wherever these are told of.
+/// so do the images of modules, wherever these are shown of.
 ///
 /// RISC OS 3 Programmer's Reference Manual, "OS_Module", reason 8; which blocks can be moved is
 /// this project's own.
 pub fn slide(map: &mut AddressMap, areas: &Areas, table: &mut InstanceTable, return_address: u32)
-    requires sound { IsWorld (world_of map.old areas.now table.old) [] }
+    requires sound { IsModuleState (module_state_of map.old areas.now table.old) [] }
     requires classes { AreClasses map.old }
-    ensures world { world_of map.new areas.now table.new
-        ≡ world_slid return_address (world_of map.old areas.now table.old) }
-    ensures sound { IsWorld (world_of map.new areas.now table.new) [] }
+    ensures module_state { module_state_of map.new areas.now table.new
+        ≡ module_state_slid return_address (module_state_of map.old areas.now table.old) }
+    ensures sound { IsModuleState (module_state_of map.new areas.now table.new) [] }
     ensures classes { AreClasses map.new }
     ensures mapping { mapping map.new ≡ mapping map.old }
     ensures records { TurnsRecords Slide (regions map.old) (regions map.new) }

@@ -47,8 +47,8 @@ one_done d run g first a others codes instead w (Some code) few rest = rest code
 
 all_are_done : {W : Type 0} → (d : Doing W) (run : W → Code → W) (g : Given) (first : Option ℕ) (actions : List PlanAction) → Does d run g first actions
 unfolding carry_of_plan
-all_are_done d run g first [] zero instead w few = record { world = refl; code = refl; actions = refl; error = refl }
-all_are_done d run g first [] (suc codes) instead w few = record { world = refl; code = refl; actions = refl; error = refl }
+all_are_done d run g first [] zero instead w few = record { module_state = refl; code = refl; actions = refl; error = refl }
+all_are_done d run g first [] (suc codes) instead w few = record { module_state = refl; code = refl; actions = refl; error = refl }
 all_are_done d run g first (a ∷ others) zero instead w few = absurd (omega (arith, few))
 all_are_done d run g first (a ∷ others) (suc codes) instead w few =
     one_done d run g first a others codes instead w (d.code_of w a) (omega (arith, few)) (all_are_done d run g first others)

@@ -18,9 +18,9 @@ CarriesByTurns W = (d : Doing W) (w : W) (p : Plan) (o : Outcome) →
     carry_of_plan d w (plan_after_code p o) ≡ carried_after d (advance_of_plan d w p o)
     (advance_of_plan d w p o).step
 
--- The call is at its end, the world is this one, and the first error is as before.
+-- The call is at its end, the module state is this one, and the first error is as before.
 pub record IsPlanDone {W : Type 0} (c : Carried W) (w : W) (first : Option ℕ) : Type 0 where
-  pub world : c.world ≡ w
+  pub module_state : c.module_state ≡ w
   pub code : c.code ≡ None
   pub actions : c.rest.actions ≡ []
   pub error : c.rest.first ≡ first

@@ -1,7 +1,7 @@
 use Rattle.std.proofs.Common.{◌≡◌, Some, None, sym, ◌∙◌, arith}
 use Rattle.std.specs.Prelude.{slice_get}
 use Rattle.std.specs.List.{position}
-use Rattle.instances_table.proofs.ImageLemmas.{last_told, last_of_more, last_of_none, missing}
+use Rattle.instances_table.proofs.ImageLemmas.{last_shown, last_of_more, last_of_none, missing}
 use Rattle.instances_table.proofs.ViewLemmas.{has_slot_in}
 use Rattle.instances_table.proofs.images.image_of_last.Goals as goal
 
@@ -25,5 +25,5 @@ pub returns : goal.returns
 returns c = λ names.
     let found : position (has_slot_in c.args.slot) c.args.modules.now ≡ Some c.in_ok-number.number = sym c.number_of_slot.ensures.value ∙ c.in_ok-number.was in
     let there : slice_get c.args.modules.now c.in_ok-number.number ≡ Some c.in_ok-loaded.loaded.now = sym c.in_ok-loaded.ensures in
-    sym (last_told names c.args.slot c.args.modules.now c.in_ok-number.number c.in_ok-loaded.loaded.now found there
+    sym (last_shown names c.args.slot c.args.modules.now c.in_ok-number.number c.in_ok-loaded.loaded.now found there
     (omega (arith, c.len.ensures.value, c.if-len-gt1.false)))

@@ -1,7 +1,7 @@
 use Rattle.std.proofs.Common.{refl, [], ◌∷◌}
 use Rattle.instances_table.proofs.ModuleLemmas.{new_parts}
-use Rattle.instances.specs.world.World.{world_of}
-use Rattle.instances.proofs.WorldLemmas.Worlds.{world_renewed}
+use Rattle.instances.specs.module_state.ModuleState.{module_state_of}
+use Rattle.instances.proofs.ModuleStateLemmas.ModuleStates.{module_state_renewed}
 use Rattle.instances.specs.actions.Actions.{image_given}
 use Rattle.instances.proofs.ActionsLemmas.NewImages.{images_new}
 use Rattle.instances.proofs.actions.adding.insert.Goals as goal
@@ -14,8 +14,8 @@ pub returns-clause-modules : goal.returns-clause-modules
 returns-clause-modules c = rw (c.copied.ensures, c.image_given.ensures) at c.insert.ensures.table
 
 pub returns-clause-sound : goal.returns-clause-sound
-returns-clause-sound c = λ l world.
-    let put = c.put_private.ensures.sound l c.args.table.now (image_given c.args.given.now ∷ []) world in
+returns-clause-sound c = λ l module_state.
+    let put = c.put_private.ensures.sound l c.args.table.now (image_given c.args.given.now ∷ []) module_state in
     let added = rw (c.copied.ensures, c.image_given.ensures) at c.insert.ensures.table in
-    world_renewed (world_of c.put_private.new.map l c.args.table.now) (world_of c.put_private.new.map l c.insert.new.self)
-    (image_given c.args.given.now ∷ []) [] put (images_new c.args.given.now c.args.slot c.args.table.now c.insert.new.self c.requires.new added) refl put.estate
+    module_state_renewed (module_state_of c.put_private.new.map l c.args.table.now) (module_state_of c.put_private.new.map l c.insert.new.self)
+    (image_given c.args.given.now ∷ []) [] put (images_new c.args.given.now c.args.slot c.args.table.now c.insert.new.self c.requires.new added) refl put.area_store

@@ -1,7 +1,7 @@
 use Rattle.std.proofs.Common.{ap, ◌∙◌, refl, ◌++◌}
-use Rattle.instances.specs.world.Sound.{images_of}
-use Rattle.instances.specs.world.World.{world_of}
-use Rattle.instances.proofs.WorldLemmas.Worlds.{world_renewed}
+use Rattle.instances.specs.module_state.Sound.{images_of}
+use Rattle.instances.specs.module_state.ModuleState.{module_state_of}
+use Rattle.instances.proofs.ModuleStateLemmas.ModuleStates.{module_state_renewed}
 use Rattle.instances.proofs.ActionsLemmas.NewImages.{images_another}
 use Rattle.instances.proofs.actions.adding.instantiate.Goals as goal
 
@@ -12,8 +12,8 @@ pub returns-clause-modules : goal.returns-clause-modules
 returns-clause-modules c = rw (c.as_slice.ensures.value, c.as_slice-2.ensures.value) at c.add_to.ensures
 
 pub returns-clause-sound : goal.returns-clause-sound
-returns-clause-sound c = λ l pending world.
-    let put = c.put_private.ensures.sound l c.args.table.now pending world in
+returns-clause-sound c = λ l pending module_state.
+    let put = c.put_private.ensures.sound l c.args.table.now pending module_state in
     let added = rw (c.as_slice.ensures.value, c.as_slice-2.ensures.value) at c.add_to.ensures in
-    world_renewed (world_of c.put_private.new.map l c.args.table.now) (world_of c.put_private.new.map l c.add_to.new.self) pending pending put
-    (ap (λ xs. xs ++ pending) (ap images_of added ∙ images_another c.args.given.now c.args.slot c.args.table.now)) refl put.estate
+    module_state_renewed (module_state_of c.put_private.new.map l c.args.table.now) (module_state_of c.put_private.new.map l c.add_to.new.self) pending pending put
+    (ap (λ xs. xs ++ pending) (ap images_of added ∙ images_another c.args.given.now c.args.slot c.args.table.now)) refl put.area_store

@@ -5,22 +5,22 @@ use Rattle.address_map.specs.declared.region.Kind.TheVariants as kind
 use Rattle.dynamic_areas.specs.Order.{stays}
 use Rattle.dynamic_areas.specs.Store.{store_of}
 use Rattle.rma.specs.Images.{image_dropped, image_freed}
-use Rattle.instances.specs.world.Records.{LosesRecords}
-use Rattle.instances.specs.world.World.{image_gone}
-use Rattle.instances.proofs.WorldLemmas.Records.{loses_both, loses_filtered, loses_one}
-use Rattle.instances.proofs.ActionsLemmas.Estates.{estate_with, others_dropped, others_freed, pages_less}
+use Rattle.instances.specs.module_state.Records.{LosesRecords}
+use Rattle.instances.specs.module_state.ModuleState.{image_gone}
+use Rattle.instances.proofs.ModuleStateLemmas.Records.{loses_both, loses_filtered, loses_one}
+use Rattle.instances.proofs.ActionsLemmas.AreaStores.{area_store_with, others_dropped, others_freed, pages_less}
 use Rattle.instances.proofs.actions.removal.drop_image.Goals as goal
 
-pub returns-then-is_in_module_area-clause-estate : goal.returns-then-is_in_module_area-clause-estate
+pub returns-then-is_in_module_area-clause-area_store : goal.returns-then-is_in_module_area-clause-area_store
 unfolding image_gone
-returns-then-is_in_module_area-clause-estate c = λ l.
-    rw (sym c.is_in_module_area.ensures ∙ c.if-is_in_module_area.true) (estate_with c.args.map.now c.free_image.new.map l (image_freed (store_of c.args.map.now) c.args.image.at)
+returns-then-is_in_module_area-clause-area_store c = λ l.
+    rw (sym c.is_in_module_area.ensures ∙ c.if-is_in_module_area.true) (area_store_with c.args.map.now c.free_image.new.map l (image_freed (store_of c.args.map.now) c.args.image.at)
     c.free_image.ensures.store c.free_image.ensures.mapping)
 
-pub returns-else-is_in_module_area-clause-estate : goal.returns-else-is_in_module_area-clause-estate
+pub returns-else-is_in_module_area-clause-area_store : goal.returns-else-is_in_module_area-clause-area_store
 unfolding image_gone
-returns-else-is_in_module_area-clause-estate c = λ l.
-    rw (sym c.is_in_module_area.ensures ∙ c.if-is_in_module_area.false) (estate_with c.args.map.now c.drop_image.new.map l (image_dropped (store_of c.args.map.now) c.args.image.at)
+returns-else-is_in_module_area-clause-area_store c = λ l.
+    rw (sym c.is_in_module_area.ensures ∙ c.if-is_in_module_area.false) (area_store_with c.args.map.now c.drop_image.new.map l (image_dropped (store_of c.args.map.now) c.args.image.at)
     c.drop_image.ensures.store c.drop_image.ensures.mapping)
 
 pub returns-then-is_in_module_area-clause-pages : goal.returns-then-is_in_module_area-clause-pages

@@ -1,44 +1,44 @@
 use Rattle.std.proofs.Common.{◌≡◌, sym, subst, ◌∙◌, refl, Some, None}
 use Rattle.address_map.specs.Memory.{regions}
-use Rattle.dynamic_areas.specs.Ground.{IsEstate, estate_of}
+use Rattle.dynamic_areas.specs.Ground.{IsAreaStore, area_store_of}
 use Rattle.rma.proofs.FlexFrameLemmas.Keeping.{keeps_then}
-use Rattle.instances.specs.world.Sound.{IsWorld}
-use Rattle.instances.specs.world.World.{World, world_after_remove, world_of}
-use Rattle.instances.proofs.WorldLemmas.Records.{loses_both, loses_heaps}
-use Rattle.instances.proofs.WorldLemmas.Removals.{world_removed}
+use Rattle.instances.specs.module_state.Sound.{IsModuleState}
+use Rattle.instances.specs.module_state.ModuleState.{ModuleState, module_state_after_remove, module_state_of}
+use Rattle.instances.proofs.ModuleStateLemmas.Records.{loses_both, loses_heaps}
+use Rattle.instances.proofs.ModuleStateLemmas.Removals.{module_state_removed}
 use Rattle.instances.proofs.ActionsLemmas.Removing.{removed_by}
 use Rattle.instances.proofs.actions.removal.remove.Goals as goal
 
-pub returns-in-Some-clause-world : goal.returns-in-Some-clause-world
-returns-in-Some-clause-world c = λ l.
-    removed_by (estate_of c.args.map.now l) (estate_of c.free_private.new.map l) (estate_of c.drop_image.new.map l) c.args.table.now c.remove.new.self
-    c.args.slot (Some c.in-Some.image) (c.free_private.ensures.estate l) c.remove.ensures (sym c.in-Some.is ∙ c.last_image-image.ensures)
-    (c.drop_image.ensures.estate l)
+pub returns-in-Some-clause-module_state : goal.returns-in-Some-clause-module_state
+returns-in-Some-clause-module_state c = λ l.
+    removed_by (area_store_of c.args.map.now l) (area_store_of c.free_private.new.map l) (area_store_of c.drop_image.new.map l) c.args.table.now c.remove.new.self
+    c.args.slot (Some c.in-Some.image) (c.free_private.ensures.area_store l) c.remove.ensures (sym c.in-Some.is ∙ c.last_image-image.ensures)
+    (c.drop_image.ensures.area_store l)
 
 pub returns-in-Some-clause-sound : goal.returns-in-Some-clause-sound
-returns-in-Some-clause-sound c = λ l pending world.
-    let all : world_of c.drop_image.new.map l c.remove.new.self ≡ world_after_remove (world_of c.args.map.now l c.args.table.now) c.args.slot =
-    removed_by (estate_of c.args.map.now l) (estate_of c.free_private.new.map l) (estate_of c.drop_image.new.map l) c.args.table.now c.remove.new.self
-    c.args.slot (Some c.in-Some.image) (c.free_private.ensures.estate l) c.remove.ensures (sym c.in-Some.is ∙ c.last_image-image.ensures)
-    (c.drop_image.ensures.estate l) in
-    let freed = c.free_private.ensures.sound l c.args.table.now pending world in
-    let estate : IsEstate (estate_of c.drop_image.new.map l) = c.drop_image.ensures.kept l freed.estate in
-    subst (λ (w : World). IsWorld w pending) (sym all)
-    (world_removed (world_of c.args.map.now l c.args.table.now) c.args.slot pending world (subst (λ (w : World). IsEstate w.estate) all estate))
+returns-in-Some-clause-sound c = λ l pending module_state.
+    let all : module_state_of c.drop_image.new.map l c.remove.new.self ≡ module_state_after_remove (module_state_of c.args.map.now l c.args.table.now) c.args.slot =
+    removed_by (area_store_of c.args.map.now l) (area_store_of c.free_private.new.map l) (area_store_of c.drop_image.new.map l) c.args.table.now c.remove.new.self
+    c.args.slot (Some c.in-Some.image) (c.free_private.ensures.area_store l) c.remove.ensures (sym c.in-Some.is ∙ c.last_image-image.ensures)
+    (c.drop_image.ensures.area_store l) in
+    let freed = c.free_private.ensures.sound l c.args.table.now pending module_state in
+    let area_store : IsAreaStore (area_store_of c.drop_image.new.map l) = c.drop_image.ensures.kept l freed.area_store in
+    subst (λ (w : ModuleState). IsModuleState w pending) (sym all)
+    (module_state_removed (module_state_of c.args.map.now l c.args.table.now) c.args.slot pending module_state (subst (λ (w : ModuleState). IsAreaStore w.area_store) all area_store))
 
-pub returns-in_default-clause-world : goal.returns-in_default-clause-world
-returns-in_default-clause-world c = λ l.
-    removed_by (estate_of c.args.map.now l) (estate_of c.free_private.new.map l) (estate_of c.free_private.new.map l) c.args.table.now c.remove.new.self
-    c.args.slot None (c.free_private.ensures.estate l) c.remove.ensures (sym c.in_default.is ∙ c.last_image-image.ensures) refl
+pub returns-in_default-clause-module_state : goal.returns-in_default-clause-module_state
+returns-in_default-clause-module_state c = λ l.
+    removed_by (area_store_of c.args.map.now l) (area_store_of c.free_private.new.map l) (area_store_of c.free_private.new.map l) c.args.table.now c.remove.new.self
+    c.args.slot None (c.free_private.ensures.area_store l) c.remove.ensures (sym c.in_default.is ∙ c.last_image-image.ensures) refl
 
 pub returns-in_default-clause-sound : goal.returns-in_default-clause-sound
-returns-in_default-clause-sound c = λ l pending world.
-    let all : world_of c.free_private.new.map l c.remove.new.self ≡ world_after_remove (world_of c.args.map.now l c.args.table.now) c.args.slot =
-    removed_by (estate_of c.args.map.now l) (estate_of c.free_private.new.map l) (estate_of c.free_private.new.map l) c.args.table.now c.remove.new.self
-    c.args.slot None (c.free_private.ensures.estate l) c.remove.ensures (sym c.in_default.is ∙ c.last_image-image.ensures) refl in
-    let freed = c.free_private.ensures.sound l c.args.table.now pending world in
-    subst (λ (w : World). IsWorld w pending) (sym all)
-    (world_removed (world_of c.args.map.now l c.args.table.now) c.args.slot pending world (subst (λ (w : World). IsEstate w.estate) all freed.estate))
+returns-in_default-clause-sound c = λ l pending module_state.
+    let all : module_state_of c.free_private.new.map l c.remove.new.self ≡ module_state_after_remove (module_state_of c.args.map.now l c.args.table.now) c.args.slot =
+    removed_by (area_store_of c.args.map.now l) (area_store_of c.free_private.new.map l) (area_store_of c.free_private.new.map l) c.args.table.now c.remove.new.self
+    c.args.slot None (c.free_private.ensures.area_store l) c.remove.ensures (sym c.in_default.is ∙ c.last_image-image.ensures) refl in
+    let freed = c.free_private.ensures.sound l c.args.table.now pending module_state in
+    subst (λ (w : ModuleState). IsModuleState w pending) (sym all)
+    (module_state_removed (module_state_of c.args.map.now l c.args.table.now) c.args.slot pending module_state (subst (λ (w : ModuleState). IsAreaStore w.area_store) all freed.area_store))
 
 pub returns-in-Some-clause-flex : goal.returns-in-Some-clause-flex
 returns-in-Some-clause-flex c = keeps_then _ _ _ c.free_private.ensures.flex c.drop_image.ensures.flex

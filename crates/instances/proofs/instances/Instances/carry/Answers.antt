@@ -3,22 +3,22 @@ use Rattle.address_map.specs.Memory.{regions}
 use Rattle.instances_table.specs.declared.plans.action.PlanAction.{PlanAction}
 use Rattle.instances_table.specs.plans.Plans.{plan_after_code}
 use Rattle.rma.proofs.FlexFrameLemmas.Keeping.{keeps_then}
-use Rattle.instances.specs.world.Records.{CarriesRecords}
-use Rattle.instances.specs.world.World.{world_of}
-use Rattle.instances.proofs.WorldLemmas.Records.{carries_last, carries_on}
-use Rattle.instances.proofs.Carrying.{code_carried, end_carried, next_carried, next_fewer, next_left, world_at_end}
+use Rattle.instances.specs.module_state.Records.{CarriesRecords}
+use Rattle.instances.specs.module_state.ModuleState.{module_state_of}
+use Rattle.instances.proofs.ModuleStateLemmas.Records.{carries_last, carries_on}
+use Rattle.instances.proofs.Carrying.{code_carried, end_carried, next_carried, next_fewer, next_left, module_state_at_end}
 use Rattle.instances.proofs.Naming.{keeps_others}
 use Rattle.instances.proofs.NextCode.{code_is_first}
 use Rattle.instances.proofs.instances.Instances.carry.Goals as goal
 
 pub loop-outcome-smaller : goal.loop-outcome-smaller
 loop-outcome-smaller c =
-    next_fewer (world_of c.loop-outcome.map c.args.areas.now c.loop-outcome.self) (world_of c.advance.new.map c.args.areas.now c.advance.new.self)
+    next_fewer (module_state_of c.loop-outcome.map c.args.areas.now c.loop-outcome.self) (module_state_of c.advance.new.map c.args.areas.now c.advance.new.self)
     c.loop-outcome.plan c.advance.new.plan c.loop-outcome.outcome c.advance.result c.advance.ensures.advanced c.in-Next.is
 
 pub loop-outcome-preserved : goal.loop-outcome-preserved
 loop-outcome-preserved c = record {
-  carried = next_carried (world_of c.loop-outcome.map c.args.areas.now c.loop-outcome.self) (world_of c.advance.new.map c.args.areas.now c.advance.new.self)
+  carried = next_carried (module_state_of c.loop-outcome.map c.args.areas.now c.loop-outcome.self) (module_state_of c.advance.new.map c.args.areas.now c.advance.new.self)
       c.loop-outcome.plan c.advance.new.plan c.loop-outcome.outcome c.advance.result c.advance.ensures.advanced _ c.in-Next.is
       c.loop-outcome.invariant.carried;
   going = c.advance.ensures.going;
@@ -29,31 +29,31 @@ loop-outcome-preserved c = record {
       (carries_on (plan_after_code c.loop-outcome.plan c.loop-outcome.outcome).actions (regions c.loop-outcome.map) (regions c.advance.new.map) new
       c.advance.ensures.records
       (subst (λ (actions : List PlanAction). CarriesRecords actions (regions c.advance.new.map) new)
-      (next_left (world_of c.loop-outcome.map c.args.areas.now c.loop-outcome.self) (world_of c.advance.new.map c.args.areas.now c.advance.new.self)
+      (next_left (module_state_of c.loop-outcome.map c.args.areas.now c.loop-outcome.self) (module_state_of c.advance.new.map c.args.areas.now c.advance.new.self)
       c.loop-outcome.plan c.advance.new.plan c.loop-outcome.outcome c.advance.result c.advance.ensures.advanced c.in-Next.is) later));
   flex = keeps_then _ _ _ c.loop-outcome.invariant.flex c.advance.ensures.flex;
 }
 
 pub returns-in-Code-clause-carried : goal.returns-in-Code-clause-carried
 returns-in-Code-clause-carried c =
-    code_carried (world_of c.loop-outcome.map c.args.areas.now c.loop-outcome.self) (world_of c.advance.new.map c.args.areas.now c.advance.new.self)
+    code_carried (module_state_of c.loop-outcome.map c.args.areas.now c.loop-outcome.self) (module_state_of c.advance.new.map c.args.areas.now c.advance.new.self)
     c.loop-outcome.plan c.advance.new.plan c.loop-outcome.outcome c.advance.result c.advance.ensures.advanced _ c.in-Code.code c.in-Code.is
     c.loop-outcome.invariant.carried
 
 pub returns-in-End-clause-carried : goal.returns-in-End-clause-carried
 returns-in-End-clause-carried c =
-    end_carried (world_of c.loop-outcome.map c.args.areas.now c.loop-outcome.self) (world_of c.advance.new.map c.args.areas.now c.advance.new.self)
+    end_carried (module_state_of c.loop-outcome.map c.args.areas.now c.loop-outcome.self) (module_state_of c.advance.new.map c.args.areas.now c.advance.new.self)
     c.loop-outcome.plan c.advance.new.plan c.loop-outcome.outcome c.advance.result c.advance.ensures.advanced _ c.in-End.field-0 c.in-End.is
     c.loop-outcome.invariant.carried
 
 pub returns-in-Code-clause-code : goal.returns-in-Code-clause-code
 returns-in-Code-clause-code c =
-    code_is_first _ (world_of c.advance.new.map c.args.areas.now c.advance.new.self) _ c.advance.new.plan (Some c.in-Code.code) c.in-Code.code
+    code_is_first _ (module_state_of c.advance.new.map c.args.areas.now c.advance.new.self) _ c.advance.new.plan (Some c.in-Code.code) c.in-Code.code
     (returns-in-Code-clause-carried c) refl
 
 pub returns-in-End-clause-ended : goal.returns-in-End-clause-ended
 returns-in-End-clause-ended c = λ none.
-    world_at_end (world_of c.loop-outcome.map c.args.areas.now c.loop-outcome.self) (world_of c.advance.new.map c.args.areas.now c.advance.new.self)
+    module_state_at_end (module_state_of c.loop-outcome.map c.args.areas.now c.loop-outcome.self) (module_state_of c.advance.new.map c.args.areas.now c.advance.new.self)
     c.loop-outcome.plan c.advance.new.plan c.loop-outcome.outcome c.advance.result c.advance.ensures.advanced c.in-End.field-0 c.in-End.is
     c.advance.ensures.going
 
@@ -65,12 +65,12 @@ returns-in-End-clause-flex c = keeps_then _ _ _ c.loop-outcome.invariant.flex c.
 
 pub returns-in-Code-clause-others : goal.returns-in-Code-clause-others
 returns-in-Code-clause-others c =
-    keeps_others _ (world_of c.advance.new.map c.args.areas.now c.advance.new.self) _ c.advance.new.plan _ (Some c.in-Code.code)
+    keeps_others _ (module_state_of c.advance.new.map c.args.areas.now c.advance.new.self) _ c.advance.new.plan _ (Some c.in-Code.code)
     (returns-in-Code-clause-carried c) c.advance.ensures.going
 
 pub returns-in-End-clause-others : goal.returns-in-End-clause-others
 returns-in-End-clause-others c =
-    keeps_others _ (world_of c.advance.new.map c.args.areas.now c.advance.new.self) _ c.advance.new.plan _ None
+    keeps_others _ (module_state_of c.advance.new.map c.args.areas.now c.advance.new.self) _ c.advance.new.plan _ None
     (returns-in-End-clause-carried c) c.advance.ensures.going
 
 pub returns-in-Code-clause-mapping : goal.returns-in-Code-clause-mapping

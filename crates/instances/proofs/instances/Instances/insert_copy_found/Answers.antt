@@ -1,25 +1,25 @@
 use Rattle.std.proofs.Common.{[], refl, arith}
 use Rattle.dynamic_areas.specs.Store.{store_of}
-use Rattle.dynamic_areas.specs.Ground.{estate_of}
-use Rattle.instances.specs.world.World.{world_of}
-use Rattle.instances.proofs.WorldLemmas.Worlds.{few_records}
-use Rattle.instances.proofs.AddingLemmas.{copied_mapped, no_image, world_with_block}
+use Rattle.dynamic_areas.specs.Ground.{area_store_of}
+use Rattle.instances.specs.module_state.ModuleState.{module_state_of}
+use Rattle.instances.proofs.ModuleStateLemmas.ModuleStates.{few_records}
+use Rattle.instances.proofs.AddingLemmas.{copied_mapped, no_image, module_state_with_block}
 use Rattle.instances.proofs.instances.Instances.insert_copy_found.Goals as goal
 
 pub copy_image-requires-clause-room : goal.copy_image-requires-clause-room
 copy_image-requires-clause-room c =
-    few_records (world_of c.args.map.now c.args.areas.now c.args.self.now) [] c.requires.sound c.slot_for.ensures.few (omega arith)
+    few_records (module_state_of c.args.map.now c.args.areas.now c.args.self.now) [] c.requires.sound c.slot_for.ensures.few (omega arith)
 
 pub copy_image-requires-clause-source : goal.copy_image-requires-clause-source
 unfolding store_of
 copy_image-requires-clause-source c =
-    copied_mapped (estate_of c.args.map.now c.args.areas.now) c.args.at c.args.len c.requires.may
+    copied_mapped (area_store_of c.args.map.now c.args.areas.now) c.args.at c.args.len c.requires.may
 
 pub returns-clause-sound : goal.returns-clause-sound
 returns-clause-sound c =
     rw c.adding_plan.ensures.pending
-    (world_with_block (world_of c.args.map.now c.args.areas.now c.args.self.now) (world_of c.copy_image.new.map c.copy_image.new.areas c.args.self.now)
-    c.in_ok-copy.copy c.args.len c.requires.sound refl c.in_ok-copy.ensures.whole c.in_ok-copy.ensures.inside c.in_ok-copy.ensures.alone c.in_ok-copy.ensures.others c.copy_image.ensures.estate)
+    (module_state_with_block (module_state_of c.args.map.now c.args.areas.now c.args.self.now) (module_state_of c.copy_image.new.map c.copy_image.new.areas c.args.self.now)
+    c.in_ok-copy.copy c.args.len c.requires.sound refl c.in_ok-copy.ensures.whole c.in_ok-copy.ensures.inside c.in_ok-copy.ensures.alone c.in_ok-copy.ensures.others c.copy_image.ensures.area_store)
 
 pub returns-clause-order : goal.returns-clause-order
 returns-clause-order c =

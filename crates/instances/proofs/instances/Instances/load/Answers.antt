@@ -1,19 +1,19 @@
 use Rattle.std.proofs.Common.{[], length, refl, arith}
 use Rattle.dynamic_areas.specs.Store.{store_of}
-use Rattle.instances.specs.world.World.{world_of}
-use Rattle.instances.proofs.WorldLemmas.Worlds.{few_records}
-use Rattle.instances.proofs.AddingLemmas.{no_image, world_with_block}
+use Rattle.instances.specs.module_state.ModuleState.{module_state_of}
+use Rattle.instances.proofs.ModuleStateLemmas.ModuleStates.{few_records}
+use Rattle.instances.proofs.AddingLemmas.{no_image, module_state_with_block}
 use Rattle.instances.proofs.instances.Instances.load.Goals as goal
 
 pub make_image-requires-clause-room : goal.make_image-requires-clause-room
 make_image-requires-clause-room c =
-    few_records (world_of c.args.map.now c.args.areas.now c.args.self.now) [] c.requires.sound c.slot_for.ensures.few (omega arith)
+    few_records (module_state_of c.args.map.now c.args.areas.now c.args.self.now) [] c.requires.sound c.slot_for.ensures.few (omega arith)
 
 pub returns-clause-sound : goal.returns-clause-sound
 returns-clause-sound c =
     rw c.adding_plan.ensures.pending
-    (world_with_block (world_of c.args.map.now c.args.areas.now c.args.self.now) (world_of c.make_image.new.map c.make_image.new.areas c.args.self.now)
-    c.in_ok-at.at (length c.args.image.now) c.requires.sound refl c.in_ok-at.ensures.whole c.in_ok-at.ensures.inside c.in_ok-at.ensures.alone c.in_ok-at.ensures.others c.make_image.ensures.estate)
+    (module_state_with_block (module_state_of c.args.map.now c.args.areas.now c.args.self.now) (module_state_of c.make_image.new.map c.make_image.new.areas c.args.self.now)
+    c.in_ok-at.at (length c.args.image.now) c.requires.sound refl c.in_ok-at.ensures.whole c.in_ok-at.ensures.inside c.in_ok-at.ensures.alone c.in_ok-at.ensures.others c.make_image.ensures.area_store)
 
 pub returns-clause-order : goal.returns-clause-order
 returns-clause-order c =

@@ -1,16 +1,16 @@
 use Rattle.profile.specs.MemoryMap.{module_area_start}
 use Rattle.std.proofs.Common.{◌≡◌, ◌∙◌, ℕ, List, [], ap, length, map, arith}
 use Rattle.address_map.specs.Memory.{byte_at}
-use Rattle.address_map.specs.declared.follow.Move.{Move}
+use Rattle.address_map.specs.declared.follow.BlockMove.{BlockMove}
 use Rattle.dynamic_areas.specs.Store.{store_of}
 use Rattle.dynamic_areas.proofs.Frame.{layout-regions}
 use Rattle.rma.specs.heap_slide.Slide.{MaySlide}
-use Rattle.dynamic_areas.specs.Ground.{estate_of}
+use Rattle.dynamic_areas.specs.Ground.{area_store_of}
 use Rattle.rma.proofs.FlexFrameLemmas.Keeping.{keeps_then}
 use Rattle.rma.proofs.FlexFrameLemmas.Slides.{slides_keep}
-use Rattle.instances.proofs.WorldLemmas.Records.{layout-mapping}
-use Rattle.instances.proofs.WorldLemmas.Writes.{has_system}
-use Rattle.instances.proofs.TidyingLemmas.Tidying.{IsBlocksSlid, blocks_slid, may_slide, sound_after, world_after}
+use Rattle.instances.proofs.ModuleStateLemmas.Records.{layout-mapping}
+use Rattle.instances.proofs.ModuleStateLemmas.Writes.{has_system}
+use Rattle.instances.proofs.TidyingLemmas.Tidying.{IsBlocksSlid, blocks_slid, may_slide, sound_after, module_state_after}
 use Rattle.instances.specs.tidying.Slid.{image_moved, private_words_at, words_moved}
 use Rattle.instances.proofs.tidying.tidy.slide.Goals as goal
 
@@ -26,40 +26,40 @@ slide-moves-requires-clause-movable c =
 
 pub move_words-requires-clause-system : goal.move_words-requires-clause-system
 move_words-requires-clause-system c =
-    let moves : List Move = c.slide-moves.result.items in
+    let moves : List BlockMove = c.slide-moves.result.items in
     let blocks : IsBlocksSlid c.args.map.now c.slide-moves.new.map c.args.areas.now c.args.table.now c.move_images.new.table c.as_slice-3.result.now moves =
     blocks_slid c.args.map.now c.slide-moves.new.map c.args.areas.now c.args.table.now c.move_images.new.table c.as_slice-3.result.now moves
     c.requires.sound c.slide-moves.ensures.slid c.slide-moves.ensures.mapping
-    (c.move_images.ensures ∙ ap (λ (ms : List Move). map (image_moved ms) c.args.table.now) c.as_slice-4.ensures.value) in
+    (c.move_images.ensures ∙ ap (λ (ms : List BlockMove). map (image_moved ms) c.args.table.now) c.as_slice-4.ensures.value) in
     has_system c.slide-moves.new.map c.args.areas.now c.move_images.new.table []
     (sound_after c.args.map.now c.slide-moves.new.map c.args.areas.now c.args.table.now c.move_images.new.table c.as_slice-3.result.now moves
     c.requires.sound c.slide-moves.ensures.sound blocks)
 
-pub returns-clause-world : goal.returns-clause-world
-returns-clause-world c =
-    let moves : List Move = c.slide-moves.result.items in
+pub returns-clause-module_state : goal.returns-clause-module_state
+returns-clause-module_state c =
+    let moves : List BlockMove = c.slide-moves.result.items in
     let slots : List ℕ = c.slots-slots.result.items in
     let blocks : IsBlocksSlid c.args.map.now c.slide-moves.new.map c.args.areas.now c.args.table.now c.move_images.new.table c.as_slice-3.result.now moves =
     blocks_slid c.args.map.now c.slide-moves.new.map c.args.areas.now c.args.table.now c.move_images.new.table c.as_slice-3.result.now moves
     c.requires.sound c.slide-moves.ensures.slid c.slide-moves.ensures.mapping
-    (c.move_images.ensures ∙ ap (λ (ms : List Move). map (image_moved ms) c.args.table.now) c.as_slice-4.ensures.value) in
+    (c.move_images.ensures ∙ ap (λ (ms : List BlockMove). map (image_moved ms) c.args.table.now) c.as_slice-4.ensures.value) in
     let words : c.as_slice-2.result.now ≡ private_words_at (byte_at c.args.map.now) slots =
     c.as_slice-2.ensures.value ∙ c.private_words-words.ensures ∙ ap (private_words_at (byte_at c.args.map.now)) c.as_slice.ensures.value in
-    let estate : estate_of c.move_words.new.map c.args.areas.now ≡ words_moved moves slots (estate_of c.slide-moves.new.map c.args.areas.now) =
-    c.move_words.ensures.estate c.args.areas.now
-    ∙ ap (λ (ms : List Move). words_moved ms c.as_slice-5.result.now (estate_of c.slide-moves.new.map c.args.areas.now)) c.as_slice-6.ensures.value
-    ∙ ap (λ (xs : List ℕ). words_moved moves xs (estate_of c.slide-moves.new.map c.args.areas.now)) c.as_slice-5.ensures.value in
-    world_after c.args.map.now c.slide-moves.new.map c.move_words.new.map c.args.areas.now c.args.table.now c.move_images.new.table c.args.return_address
+    let area_store : area_store_of c.move_words.new.map c.args.areas.now ≡ words_moved moves slots (area_store_of c.slide-moves.new.map c.args.areas.now) =
+    c.move_words.ensures.area_store c.args.areas.now
+    ∙ ap (λ (ms : List BlockMove). words_moved ms c.as_slice-5.result.now (area_store_of c.slide-moves.new.map c.args.areas.now)) c.as_slice-6.ensures.value
+    ∙ ap (λ (xs : List ℕ). words_moved moves xs (area_store_of c.slide-moves.new.map c.args.areas.now)) c.as_slice-5.ensures.value in
+    module_state_after c.args.map.now c.slide-moves.new.map c.move_words.new.map c.args.areas.now c.args.table.now c.move_images.new.table c.args.return_address
     slots c.as_slice-2.result.now c.as_slice-3.result.now moves c.slots-slots.ensures.value words (c.as_slice-3.ensures.value ∙ c.movable_blocks-movable.ensures)
-    blocks estate
+    blocks area_store
 
 pub returns-clause-sound : goal.returns-clause-sound
 returns-clause-sound c =
-    let moves : List Move = c.slide-moves.result.items in
+    let moves : List BlockMove = c.slide-moves.result.items in
     let blocks : IsBlocksSlid c.args.map.now c.slide-moves.new.map c.args.areas.now c.args.table.now c.move_images.new.table c.as_slice-3.result.now moves =
     blocks_slid c.args.map.now c.slide-moves.new.map c.args.areas.now c.args.table.now c.move_images.new.table c.as_slice-3.result.now moves
     c.requires.sound c.slide-moves.ensures.slid c.slide-moves.ensures.mapping
-    (c.move_images.ensures ∙ ap (λ (ms : List Move). map (image_moved ms) c.args.table.now) c.as_slice-4.ensures.value) in
+    (c.move_images.ensures ∙ ap (λ (ms : List BlockMove). map (image_moved ms) c.args.table.now) c.as_slice-4.ensures.value) in
     c.move_words.ensures.sound c.args.areas.now c.move_images.new.table []
     (sound_after c.args.map.now c.slide-moves.new.map c.args.areas.now c.args.table.now c.move_images.new.table c.as_slice-3.result.now moves
     c.requires.sound c.slide-moves.ensures.sound blocks)
@@ -72,7 +72,7 @@ returns-clause-flex c =
     (omega (arith, slots)) (omega arith) (c.as_slice-3.ensures.value ∙ c.movable_blocks-movable.ensures) in
     keeps_then _ _ _
     (slides_keep (store_of c.args.map.now) (store_of c.slide-moves.new.map) c.as_slice-3.result.now c.slide-moves.result.items
-    c.requires.sound.estate.ground.sound c.slide-moves.ensures.sound may c.slide-moves.ensures.slid)
+    c.requires.sound.area_store.ground.sound c.slide-moves.ensures.sound may c.slide-moves.ensures.slid)
     c.move_words.ensures.flex
 
 pub returns-clause-mapping : goal.returns-clause-mapping

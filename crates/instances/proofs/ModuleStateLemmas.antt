@@ -1,0 +1,9 @@
+pub mod AreaLemmas
+pub mod Images
+pub mod Keeping
+pub mod LawLemmas
+pub mod Records
+pub mod Removals
+pub mod Starting
+pub mod ModuleStates
+pub mod Writes

@@ -1,9 +1,0 @@
-pub mod AreaLemmas
-pub mod Images
-pub mod Keeping
-pub mod LawLemmas
-pub mod Records
-pub mod Removals
-pub mod Starting
-pub mod Worlds
-pub mod Writes

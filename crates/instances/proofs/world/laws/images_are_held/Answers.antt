@@ -1,5 +1,0 @@
-use Rattle.instances.proofs.WorldLemmas.LawLemmas.{images_are_held}
-use Rattle.instances.proofs.world.laws.images_are_held.Goals as goal
-
-pub returns : goal.returns
-returns c = images_are_held

@@ -1,0 +1,5 @@
+-- What module calls act on. Begin with Module state, then Sound.
+pub mod Laws
+pub mod Records
+pub mod Sound
+pub mod ModuleState
