@@ -11,16 +11,16 @@ use Rattle.swi_dispatch_guest.specs.declared.halt.Halt.{Halt}
 use Rattle.swi_dispatch_guest.specs.declared.running.Ran.{Ran}
 use Rattle.swi_dispatch_guest.specs.Ending.{Ends, StandsAfter}
 use Rattle.swi_dispatch_guest.specs.MachineState.{MachineState, machine_start, stop_of}
-use Rattle.swi_dispatch_guest.specs.Run.{Run, quiet_run, ran}
+use Rattle.swi_dispatch_guest.specs.Run.{Run, silent_run, ran}
 use Rattle.swi_dispatch_guest.proofs.RunLoop.{ran-halted, ran-none}
 
 -- a machine that stands as it was made isn't halted
-pub fresh_awake : (s : MachineState) (sizes : Sizes) (b : Bool) (r : Option Stop) → (b ≡ true → s ≡ machine_start sizes) → r ≡ option_map stop_of s.halt
+pub fresh_unhalted : (s : MachineState) (sizes : Sizes) (b : Bool) (r : Option Stop) → (b ≡ true → s ≡ machine_start sizes) → r ≡ option_map stop_of s.halt
     → IsSome r → b ≡ false
 unfolding machine_start
-fresh_awake s sizes false r start e some = refl
-fresh_awake s sizes true None start e some = cc
-fresh_awake s sizes true (Some x) start e some = let k : s.halt ≡ None = ap (λ (t : MachineState). t.halt) (start refl) in
+fresh_unhalted s sizes false r start e some = refl
+fresh_unhalted s sizes true None start e some = cc
+fresh_unhalted s sizes true (Some x) start e some = let k : s.halt ≡ None = ap (λ (t : MachineState). t.halt) (start refl) in
     let none : Some x ≡ None = e ∙ ap (option_map stop_of) k in cc
 
 -- a run of no step
@@ -52,8 +52,8 @@ start_stays images breaks budget s t start b o0 o1 c0 c1 r was ends stands fresh
     none_ran images breaks budget s t o0 o1 c0 c1 r none ends stands ∙ was parts.0
 
 -- the same of a run that prints nothing
-pub quiet_start_stays : (breaks : List ℕ) (n : ℕ) (s t start : MachineState) (b : Bool) (x : Stop)
-    → ((images : List Entry) → ran images breaks n s ≡ quiet_run t n x) → n ≡ 0 → (b ≡ true → s ≡ start) → b ≡ true → t ≡ start
-quiet_start_stays breaks n s t start b x h none was fresh =
-    let at_none : ran [] breaks 0 s ≡ quiet_run t 0 x = subst (λ (k : ℕ). ran [] breaks k s ≡ quiet_run t k x) none (h []) in
+pub silent_start_stays : (breaks : List ℕ) (n : ℕ) (s t start : MachineState) (b : Bool) (x : Stop)
+    → ((images : List Entry) → ran images breaks n s ≡ silent_run t n x) → n ≡ 0 → (b ≡ true → s ≡ start) → b ≡ true → t ≡ start
+silent_start_stays breaks n s t start b x h none was fresh =
+    let at_none : ran [] breaks 0 s ≡ silent_run t 0 x = subst (λ (k : ℕ). ran [] breaks k s ≡ silent_run t k x) none (h []) in
     ap (λ (r : Run). r.now) (sym at_none) ∙ still [] breaks s s.halt refl ∙ was fresh

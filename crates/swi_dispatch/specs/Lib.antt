@@ -11,7 +11,7 @@ pub use Rattle.os_heap.specs.Store
 pub use Rattle.os_heap.specs.lists
 pub use Rattle.swi_dispatch_guest.specs.MachineState
 pub use Rattle.swi_dispatch_guest.specs.Moves
-pub use Rattle.swi_dispatch_guest.specs.Parts
+pub use Rattle.swi_dispatch_guest.specs.GuestState
 pub use Rattle.swi_dispatch_guest.specs.Step
 pub use Rattle.swi_dispatch_guest.specs.declared.halt.Halt as SwiDispatchGuestHalt
 pub mod Boot

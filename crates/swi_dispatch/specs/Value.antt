@@ -2,12 +2,12 @@
 use Rattle.std.specs.Prelude.{◌≡◌, ◌&&◌, ℕ, Bool, true, false, List}
 use Rattle.profile.specs.Sizes.{Sizes}
 use Rattle.swi_dispatch_guest.specs.MachineState.{MachineState, StepOutcome, machine_start}
-use Rattle.swi_dispatch_guest.specs.Parts.{IsGuest, Parts, state_of}
+use Rattle.swi_dispatch_guest.specs.GuestState.{IsGuest, GuestState, state_of}
 
 -- `sizes` are those that it was made with; `is_fresh` says whether it still stands as it was made,
 -- so that it can be booted; and `printed` is what its last step printed.
 pub record MachineValue : Type 0 where
-  pub guest : Parts
+  pub guest : GuestState
   pub sizes : Sizes
   pub is_fresh : Bool
   pub printed : List ℕ

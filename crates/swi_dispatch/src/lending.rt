@@ -8,7 +8,7 @@ ghost use Rattle.swi_dispatch_guest.specs.Rooms.{IsAreaTable};
 ghost use Rattle.flex_store.specs.State.{IsFlex};
 ghost use Rattle.swi_dispatch_guest.specs.Errors.{error_number};
 ghost use Rattle.swi_dispatch_guest.specs.MachineState.{stop_of};
-ghost use Rattle.swi_dispatch_guest.specs.Parts.{state_of};
+ghost use Rattle.swi_dispatch_guest.specs.GuestState.{state_of};
 
 use crate::machine::Machine;
 use arm_core::Cpu;
@@ -51,7 +51,7 @@ impl Machine {
 
     /// The dynamic areas, which stand on the memory.
     pub fn areas(&self) -> &Areas
-        ensures land { result.now ≡ (state_of self.now.guest).tables.land }
+        ensures area_table { result.now ≡ (state_of self.now.guest).tables.area_table }
         ensures table { IsAreaTable result.now.areas }
     {
         self.guest.areas()

@@ -5,7 +5,7 @@ ghost use Rattle.image_loader.specs.Entries.{Entry};
 ghost use Rattle.std.specs.Option.{option_map};
 ghost use Rattle.profile.specs.Outcome.{Leaves};
 ghost use Rattle.swi_dispatch_guest.specs.Ending.{Ends, StandsAfter};
-ghost use Rattle.swi_dispatch_guest.specs.Run.{last_or, quiet_last, quiet_run, ran};
+ghost use Rattle.swi_dispatch_guest.specs.Run.{last_or, silent_last, silent_run, ran};
 ghost use Rattle.swi_dispatch_guest.specs.Step.{machine_step, module_loaded, store_called};
 
 use crate::boot_error::BootError;
@@ -31,7 +31,7 @@ impl Model for Machine {
     ghost use Rattle.std.specs.Prelude.{◌≡◌, true};
     ghost use Rattle.swi_dispatch.specs.Value.{MachineValue};
     ghost use Rattle.swi_dispatch_guest.specs.MachineState.{machine_start};
-    ghost use Rattle.swi_dispatch_guest.specs.Parts.{state_of};
+    ghost use Rattle.swi_dispatch_guest.specs.GuestState.{state_of};
 
     ghost Value = { MachineValue };
 
@@ -48,8 +48,8 @@ impl Model for Machine {
 impl Machine {
     ghost use Rattle.swi_dispatch.specs.Boot.{machine_after_boot};
     ghost use Rattle.swi_dispatch.specs.Value.{HasRun, IsAfterStep, IsBesides, IsMachine};
-    ghost use Rattle.swi_dispatch_guest.specs.Parts.{AreCoreSteps, AwaitsOtherTurn, state_of};
-    ghost use Rattle.swi_dispatch_guest.specs.MachineState.{machine_start, quiet, stop_of};
+    ghost use Rattle.swi_dispatch_guest.specs.GuestState.{AreCoreSteps, AwaitsOtherTurn, state_of};
+    ghost use Rattle.swi_dispatch_guest.specs.MachineState.{machine_start, silent, stop_of};
 
     /// A machine of these sizes at its start: user mode at &8000, each register 0 but the stack
     /// pointer of supervisor mode, all mapped memory 0 but the descriptor of the module area's
@@ -193,18 +193,18 @@ impl Machine {
     /// that neither prints nor halts it, and no further than to a break. A start on a break isn't
     /// tested. The stop is `Budget` where another step may come next: after fewer steps than were
     /// asked for, one that is no such instruction.
-    pub fn run_quietly(&mut self, breaks: &Breaks, most: u64) -> Ran
+    pub fn run_silently(&mut self, breaks: &Breaks, most: u64) -> Ran
         requires some { 0 < most }
-        requires awake { (state_of self.old.guest).halt ≡ None }
+        requires unhalted { (state_of self.old.guest).halt ≡ None }
         ensures ran { (images : List Entry) → ran images breaks.now result.taken (state_of self.old.guest)
-            ≡ quiet_run (state_of self.new.guest) result.taken result.stop }
+            ≡ silent_run (state_of self.new.guest) result.taken result.stop }
         ensures steps { AreCoreSteps result.taken (state_of self.old.guest) (state_of self.new.guest) }
-        ensures awake { (state_of self.new.guest).halt ≡ None }
+        ensures unhalted { (state_of self.new.guest).halt ≡ None }
         ensures count { result.taken ≤ most }
         ensures further { result.stop ≡ Stop.Budget → result.taken < most
             → AwaitsOtherTurn (state_of self.new.guest) }
         ensures rest { HasRun self.old self.new (result.taken == 0) }
-        ensures printed { self.new.printed ≡ last_or self.old.printed (quiet_last result.taken) }
+        ensures printed { self.new.printed ≡ last_or self.old.printed (silent_last result.taken) }
         ensures kept { IsMachine self.new }
     {
         let (taken, next) = self.guest.take_instructions(breaks, most);
@@ -239,7 +239,7 @@ impl Machine {
 
     // A step prints into an empty list, and a machine that has been stepped can't be booted.
     pub(crate) fn begin_step(&mut self)
-        ensures { IsAfterStep self.old self.new (quiet (state_of self.old.guest)) }
+        ensures { IsAfterStep self.old self.new (silent (state_of self.old.guest)) }
     {
         self.is_fresh = false;
         self.printed.clear();

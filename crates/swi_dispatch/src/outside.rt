@@ -2,14 +2,14 @@
 
 ghost use Rattle.std.specs.Prelude.{◌≡◌, ◌≤◌, ◌<◌, ◌%◌, ◌^◌, ◌&&◌, false, is_err};
 ghost use Rattle.profile.specs.Outcome.{Leaves};
-ghost use Rattle.swi_dispatch_guest.specs.Writes.{machine_after_poke, machine_at, machine_awake, machine_with_bank_register, machine_with_register, machine_with_status};
+ghost use Rattle.swi_dispatch_guest.specs.Writes.{machine_after_poke, machine_at, machine_unhalted, machine_with_bank_register, machine_with_register, machine_with_status};
 
 use crate::machine::Machine;
 use arm_core::{Mode, Psr};
 use profile::Fault;
 
 impl Machine {
-    ghost use Rattle.swi_dispatch_guest.specs.Parts.{state_of};
+    ghost use Rattle.swi_dispatch_guest.specs.GuestState.{state_of};
     ghost use Rattle.swi_dispatch.specs.Value.{IsBesides, IsMachine, IsWritten};
 
     /// Sets one of R0 to R14 of the present mode.
@@ -52,7 +52,7 @@ impl Machine {
 
     /// Lets the machine take steps again, whatever has halted it.
     pub fn wake(&mut self)
-        ensures written { IsWritten self.old self.new (machine_awake (state_of self.old.guest)) }
+        ensures written { IsWritten self.old self.new (machine_unhalted (state_of self.old.guest)) }
         ensures kept { IsMachine self.new }
     {
         self.is_fresh = false;

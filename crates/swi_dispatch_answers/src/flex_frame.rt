@@ -2,4 +2,4 @@
 #![tactic(auto)]
 
 pub mod laws;
-pub mod world_laws;
+pub mod module_state_laws;

@@ -2,9 +2,9 @@
 use Rattle.std.proofs.Common.{◌≡◌, ℕ, Bool, true, false, List, [], Ok, Err, refl, sym, ◌∙◌, ap}
 use Rattle.swi_dispatch_answers.specs.declared.refusal.Refusal.{Refusal}
 use Rattle.swi_dispatch_answers.specs.declared.frames.call.Call.{Call}
-use Rattle.swi_dispatch_guest.specs.MachineState.{MachineState, StepOutcome, outcome_with, quiet}
+use Rattle.swi_dispatch_guest.specs.MachineState.{MachineState, StepOutcome, outcome_with, silent}
 use Rattle.swi_dispatch_guest.specs.Answers.{Answer}
-use Rattle.swi_dispatch_guest.specs.Parts.{Answers}
+use Rattle.swi_dispatch_guest.specs.GuestState.{Answers}
 use Rattle.swi_dispatch_guest.specs.Step.{call_of, outcome_of_answer, outcome_of_end}
 use Rattle.swi_dispatch_guest.specs.Returns.{gone_back, error_answered, outcome_of_error}
 
@@ -28,12 +28,12 @@ erred_same s mid false answered unmoved = ap (λ (t : MachineState). outcome_of_
 pub ended_error : (s mid new : MachineState) (printed : List ℕ) (a : Answer) (call after : Call) (e : Refusal)
     → Answers a after.next (Err e) (outcome_with mid printed) → after ≡ record call { next = after.next }
     → call ≡ call_of s call.is_x call.next false → (call.is_x ≡ false → mid ≡ s) → printed ≡ []
-    → quiet new ≡ outcome_of_error mid after.is_x (error_answered after.caller (quiet mid) after.next e)
+    → silent new ≡ outcome_of_error mid after.is_x (error_answered after.caller (silent mid) after.next e)
     → outcome_with new printed ≡ outcome_of_answer s call.is_x a
-ended_error s mid new printed a call after e given same made unmoved silent ended =
+ended_error s mid new printed a call after e given same made unmoved unprinted ended =
     let psr = ap (λ (c : Call). c.caller) same ∙ ap (λ (c : Call). c.caller) made in
-    let left : quiet mid ≡ a.left = ap (outcome_with mid) (sym silent) ∙ given.left in
-    ap (outcome_with new) silent ∙ ended
+    let left : silent mid ≡ a.left = ap (outcome_with mid) (sym unprinted) ∙ given.left in
+    ap (outcome_with new) unprinted ∙ ended
     ∙ (λ i. outcome_of_error mid ((same i).is_x) (error_answered (psr i) (left i) (given.next i) e))
     ∙ erred_same s mid call.is_x (error_answered s.cpu.psr a.left a.next e) unmoved
     ∙ sym (ap (outcome_of_end s call.is_x a) given.error)

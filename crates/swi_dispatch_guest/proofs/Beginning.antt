@@ -6,14 +6,14 @@ use Rattle.instances_table.specs.plans.Plans.{Plan}
 use Rattle.swi_dispatch_answers.specs.declared.frames.call.Call.{Call}
 use Rattle.swi_dispatch_guest.specs.Additions.{Planned, Starts}
 use Rattle.swi_dispatch_guest.specs.Gates.{state_after_plan}
-use Rattle.swi_dispatch_guest.specs.MachineState.{MachineState, StepOutcome, quiet}
+use Rattle.swi_dispatch_guest.specs.MachineState.{MachineState, StepOutcome, silent}
 use Rattle.swi_dispatch_guest.specs.Step.{outcome_of_planned, outcome_of_plan, call_of, call_refused}
 
 begins_by : (s t : MachineState) (x : Bool) (next : ℕ) (enters : Bool) (r : Result Planned ErrorNumber)
     (ended : Result (Option Plan) ErrorNumber) → Starts s (call_of s x next enters) r ended t
     → outcome_of_plan t (call_of s x next enters) ended ≡ outcome_of_planned s x next enters r
 unfolding outcome_of_planned
-begins_by s t x next enters (Ok w) (Ok ended) starts = λ i. quiet
+begins_by s t x next enters (Ok w) (Ok ended) starts = λ i. silent
     (state_after_plan (starts.0 i) (call_of s x next enters) (starts.1 i))
 begins_by s t x next enters (Err e) (Err f) starts = λ i. call_refused (starts.1 i) x next (starts.0 i)
 begins_by s t x next enters (Ok w) (Err f) starts = absurd starts

@@ -17,7 +17,7 @@ use Rattle.swi_dispatch_guest.specs.Errors.{error_number, with_error}
 use Rattle.swi_dispatch_answers.specs.Errors.{error_at, memory_with_error}
 use Rattle.swi_dispatch_guest.specs.Returns.{gone_back}
 use Rattle.swi_dispatch_answers.specs.Returns.{state_after_return, return_word}
-use Rattle.swi_dispatch_guest.specs.Parts.{Parts, IsWellFormed, state_of}
+use Rattle.swi_dispatch_guest.specs.GuestState.{GuestState, IsWellFormed, state_of}
 
 -- R0 is the same register in all modes
 zero_apart : (m : Mode) → slot_of m 0 ≢ 25
@@ -56,7 +56,7 @@ block_read s caller next e mapped size =
     ∙ ap (error_at (memory_with_error s.store.bytes (error_code e) (error_name e))) (zero_set s.cpu error_block_start size)
     ∙ block_number s.store.bytes (error_code e) (error_name e) mapped (short_code e)
 
-pub system_number : (p : Parts) (caller : Psr) (next : ℕ) (e : ErrorNumber) → IsWellFormed p → length p.cpu.file ≡ 26
+pub system_number : (p : GuestState) (caller : Psr) (next : ℕ) (e : ErrorNumber) → IsWellFormed p → length p.cpu.file ≡ 26
     → error_number (gone_back caller (with_error (state_of p) (refusal.System e)) true next) ≡ error_code e
 system_number p caller next e well size =
-    block_read (state_of p) caller next e (system_mapped (store_of p.map) (free_pages p.map) p.tables.land well.areas error_block_start refl) size
+    block_read (state_of p) caller next e (system_mapped (store_of p.map) (free_pages p.map) p.tables.area_table well.areas error_block_start refl) size

@@ -6,9 +6,9 @@ use Rattle.address_map.specs.declared.map.AddressMap.{AddressMap}
 use Rattle.address_map.specs.Memory.{free_pages}
 use Rattle.arm_core.specs.State.{State}
 use Rattle.swi_dispatch_answers.specs.flex.Flex.{Flex}
-use Rattle.instances.proofs.WorldLemmas.Worlds.{few_records}
-use Rattle.instances.specs.world.Sound.{IsWorld}
-use Rattle.instances.specs.world.World.{World, world_of}
+use Rattle.instances.proofs.ModuleStateLemmas.ModuleStates.{few_records}
+use Rattle.instances.specs.module_state.Sound.{IsModuleState}
+use Rattle.instances.specs.module_state.ModuleState.{ModuleState, module_state_of}
 use Rattle.instances_table.specs.declared.plans.given.Given.{Given}
 use Rattle.instances_table.specs.plans.Plans.{Plan}
 use Rattle.instances_table.specs.declared.parts.Image.{Image}
@@ -22,7 +22,7 @@ use Rattle.instances.specs.actions.Ready.{IsReady}
 use Rattle.swi_dispatch_guest.specs.declared.halt.Halt.{Halt}
 use Rattle.swi_dispatch_guest.specs.Calls.{on_flex}
 use Rattle.swi_dispatch_guest.specs.MachineState.{Tables}
-use Rattle.swi_dispatch_guest.specs.Parts.{IsWellFormed, Parts, parts_world}
+use Rattle.swi_dispatch_guest.specs.GuestState.{IsWellFormed, GuestState, parts_module_state}
 use Rattle.swi_dispatch_guest.proofs.Kept.{over, with_core}
 use Rattle.swi_dispatch_guest.proofs.OpenFrames.{frames_kept}
 use Rattle.swi_dispatch_guest.proofs.StoreCalls.{same_pages}
@@ -32,71 +32,71 @@ pub pending_one : (b : Bool) (g : Given) → length (pending_by b g []) ≤ 1
 pending_one true g = lit≤ tt
 pending_one false g = lit≤ tt
 
-few_ranges : (w : World) (plan : Option Plan) → MayGoOn w plan → length w.modules ≤ 64
-    → length w.estate.store.others < 68
+few_ranges : (w : ModuleState) (plan : Option Plan) → MayGoOn w plan → length w.modules ≤ 64
+    → length w.area_store.store.others < 68
 few_ranges w None going few = few_records w [] going few (lit≤ tt)
 few_ranges w (Some p) going few =
-    few_records w (pending_of p) going.1.world few (pending_one (is_pending p.actions) p.given)
+    few_records w (pending_of p) going.1.module_state few (pending_one (is_pending p.actions) p.given)
 
-pub can_call : (p : Parts) → IsWellFormed p → length p.tables.modules ≤ 64 → CanCallFlex p.map p.tables.flex
+pub can_call : (p : GuestState) → IsWellFormed p → length p.tables.modules ≤ 64 → CanCallFlex p.map p.tables.flex
 can_call p well few = record {
   flex = well.flex;
   sound = well.areas.ground.sound;
   classes = well.classes;
-  few = few_ranges (parts_world p) p.tables.plan well.modules few;
+  few = few_ranges (parts_module_state p) p.tables.plan well.modules few;
 }
 
--- a module call that is under way goes on where the world it stands on does
-goes_on : (w v : World) (plan : Option Plan) → v.modules ≡ w.modules
-    → ((pending : List Image) → IsWorld w pending → IsWorld v pending) → MayGoOn w plan → MayGoOn v plan
-goes_on w v None same worlds going = worlds [] going
-goes_on w v (Some p) same worlds going = (
+-- a module call that is under way goes on where the module state it stands on does
+goes_on : (w v : ModuleState) (plan : Option Plan) → v.modules ≡ w.modules
+    → ((pending : List Image) → IsModuleState w pending → IsModuleState v pending) → MayGoOn w plan → MayGoOn v plan
+goes_on w v None same module_states going = module_states [] going
+goes_on w v (Some p) same module_states going = (
   going.0,
   record {
-    world = worlds (pending_of p) going.1.world;
+    module_state = module_states (pending_of p) going.1.module_state;
     ready = subst (λ (ms : List Module). IsReady ms p) (sym same) going.1.ready;
     code = going.1.code;
   },
 )
 
-world_there : (w : World) (plan : Option Plan) → MayGoOn w plan → (pending : List Image) × IsWorld w pending
-world_there w None going = ([], going)
-world_there w (Some p) going = (pending_of p, going.1.world)
+module_state_there : (w : ModuleState) (plan : Option Plan) → MayGoOn w plan → (pending : List Image) × IsModuleState w pending
+module_state_there w None going = ([], going)
+module_state_there w (Some p) going = (pending_of p, going.1.module_state)
 
--- the modules' world after a flex call
-abbrev world_left : Parts → AddressMap → World
-world_left p n = world_of n p.tables.land p.tables.modules
+-- the modules' module state after a flex call
+abbrev module_state_left : GuestState → AddressMap → ModuleState
+module_state_left p n = module_state_of n p.tables.area_table p.tables.modules
 
-left_going : (p : Parts) (n : AddressMap) (g : Flex) → IsWellFormed p → LeavesFlex p.map n g
-    → MayGoOn (world_left p n) p.tables.plan
+left_going : (p : GuestState) (n : AddressMap) (g : Flex) → IsWellFormed p → LeavesFlex p.map n g
+    → MayGoOn (module_state_left p n) p.tables.plan
 left_going p n g well left =
-    goes_on (parts_world p) (world_left p n) p.tables.plan refl (left.world p.tables.land p.tables.modules) well.modules
+    goes_on (parts_module_state p) (module_state_left p n) p.tables.plan refl (left.module_state p.tables.area_table p.tables.modules) well.modules
 
-pub same_free : (p : Parts) (n : AddressMap) (g : Flex) → IsWellFormed p → LeavesFlex p.map n g
+pub same_free : (p : GuestState) (n : AddressMap) (g : Flex) → IsWellFormed p → LeavesFlex p.map n g
     → free_pages n ≡ free_pages p.map
 same_free p n g well left =
-    let there = world_there (world_left p n) p.tables.plan (left_going p n g well left) in
-    same_pages p.map n p.tables.land well.areas there.1.estate
+    let there = module_state_there (module_state_left p n) p.tables.plan (left_going p n g well left) in
+    same_pages p.map n p.tables.area_table well.areas there.1.area_store
 
 -- the parts of the machine then
-pub well_flexed : (old new : Parts) → IsWellFormed old → LeavesFlex old.map new.map new.tables.flex
+pub well_flexed : (old new : GuestState) → IsWellFormed old → LeavesFlex old.map new.map new.tables.flex
     → new.tables ≡ record old.tables { flex = new.tables.flex } → new.sizes ≡ old.sizes → IsWellFormed new
 well_flexed old new well left tables sizes =
-    let land : new.tables.land ≡ old.tables.land = ap (λ (t : Tables). t.land) tables in
+    let area_table : new.tables.area_table ≡ old.tables.area_table = ap (λ (t : Tables). t.area_table) tables in
     let modules : new.tables.modules ≡ old.tables.modules = ap (λ (t : Tables). t.modules) tables in
     let plan : new.tables.plan ≡ old.tables.plan = ap (λ (t : Tables). t.plan) tables in
-    let going : MayGoOn (world_left old new.map) old.tables.plan = left_going old new.map new.tables.flex well left in
-    let there = world_there (world_left old new.map) old.tables.plan going in
+    let going : MayGoOn (module_state_left old new.map) old.tables.plan = left_going old new.map new.tables.flex well left in
+    let there = module_state_there (module_state_left old new.map) old.tables.plan going in
     record {
-      areas = rw land there.1.estate;
+      areas = rw area_table there.1.area_store;
       classes = left.classes;
       system = there.1.system;
-      modules = rw (plan, land, modules) going;
+      modules = rw (plan, area_table, modules) going;
       frames =
           frames_kept old.tables new.tables well.frames (ap (λ (t : Tables). t.frames) tables) plan
           (ap slots_of modules);
       flex = left.flex;
-      sized = rw land (well.sized ∙ sym sizes);
+      sized = rw area_table (well.sized ∙ sym sizes);
     }
 
 -- the written machine then

@@ -17,7 +17,7 @@ use Rattle.swi_dispatch_answers.specs.declared.frames.frame.FrameKind.TheVariant
 use Rattle.swi_dispatch_guest.specs.declared.halt.Halt.TheVariants as halt
 use Rattle.swi_dispatch_guest.specs.Errors.{error_number}
 use Rattle.swi_dispatch_guest.specs.Gates.{IsUntaken, frame_closed, frame_left, outcome_of_gate, returned_from}
-use Rattle.swi_dispatch_guest.specs.MachineState.{MachineState, StepOutcome, quiet}
+use Rattle.swi_dispatch_guest.specs.MachineState.{MachineState, StepOutcome, silent}
 use Rattle.swi_dispatch_guest.specs.Returns.{outcome_of_error, outcome_of_halt}
 
 -- R0 is in no bank, and no call restores it
@@ -57,20 +57,20 @@ if_untaken false is_x s o answered untaken is = cc
 
 -- what a step at the gate leaves then
 back_by : (s : MachineState) (f : Frame) (kind : FrameKind) (kept : Option Plan) (o : StepOutcome) → is_swi kind ≡ true
-    → (s.cpu.psr.overflow && not f.call.is_x) ≡ false → o ≡ quiet (frame_closed s f) → o ≡ frame_left s f kind kept
-back_by s f (Swi number) kept o swi taken is = if_taken s.cpu.psr.overflow f.call.is_x s o (quiet (frame_closed s f)) taken is
+    → (s.cpu.psr.overflow && not f.call.is_x) ≡ false → o ≡ silent (frame_closed s f) → o ≡ frame_left s f kind kept
+back_by s f (Swi number) kept o swi taken is = if_taken s.cpu.psr.overflow f.call.is_x s o (silent (frame_closed s f)) taken is
 back_by s f (Entry kind) kept o swi taken is = cc
 
 halts_by : (s : MachineState) (f : Frame) (kind : FrameKind) (kept : Option Plan) (o : StepOutcome) (number : ℕ) → is_swi kind ≡ true
     → IsUntaken s.cpu s.store.bytes f number → o ≡ outcome_of_halt s (halt.Fault (ErrorStop number)) → o ≡ frame_left s f kind kept
 halts_by s f (Swi called) kept o number swi untaken is =
-    if_untaken s.cpu.psr.overflow f.call.is_x s o (quiet (frame_closed s f)) untaken.refused
+    if_untaken s.cpu.psr.overflow f.call.is_x s o (silent (frame_closed s f)) untaken.refused
     (is ∙ ap (λ (n : ℕ). outcome_of_halt s (halt.Fault (ErrorStop n))) untaken.error)
 halts_by s f (Entry kind) kept o number swi untaken is = cc
 
 pub swi_went : (s : MachineState) (f : Frame) (o : StepOutcome) → innermost_frame s.tables.frames ≡ Some f
     → (register_in Supervisor s.cpu 13 == f.stack) ≡ true → is_swi f.kind ≡ true → (s.cpu.psr.overflow && not f.call.is_x) ≡ false
-    → o ≡ quiet (frame_closed s f) → o ≡ outcome_of_gate s
+    → o ≡ silent (frame_closed s f) → o ≡ outcome_of_gate s
 swi_went s f o last stack swi taken is =
     rw (last, stack) (back_by s f f.kind s.tables.plan o swi taken is)
 

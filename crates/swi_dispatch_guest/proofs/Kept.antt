@@ -28,14 +28,14 @@ use Rattle.swi_dispatch_guest.specs.MachineState.{MachineState, Tables, with_mem
 use Rattle.swi_dispatch_answers.proofs.FlexLemmas.Kept.{flex_frame, flex_stored}
 use Rattle.swi_dispatch_answers.specs.flex.Ground.{HasFlex}
 use Rattle.swi_dispatch_answers.specs.flex.Flex.{Flex}
-use Rattle.dynamic_areas.specs.Areas.{Land}
+use Rattle.dynamic_areas.specs.Areas.{AreaTable}
 use Rattle.instances.proofs.Writes.{system_keeps}
 use Rattle.instances.specs.flex_frame.Keeping.{KeepsFlex}
 use Rattle.instances_table.specs.Modules.{slots_of}
 use Rattle.instances.specs.Turns.{MayGoOn}
 use Rattle.instances.proofs.GoingOn.{may_go_on_kept}
 use Rattle.swi_dispatch_guest.specs.OpenFrames.{AreFrames}
-use Rattle.swi_dispatch_guest.specs.Parts.{Parts, IsWellFormed, parts_world}
+use Rattle.swi_dispatch_guest.specs.GuestState.{GuestState, IsWellFormed, parts_module_state}
 use Rattle.swi_dispatch_guest.specs.Writes.{machine_after_poke, with_program}
 use Rattle.swi_dispatch_guest.proofs.OpenFrames.{frames_kept}
 
@@ -170,49 +170,49 @@ error_kept m n number text same marks sound others short e =
     ∙ outside_bytes (with_word_at (byte_at m) error_block_start number) a text short out ∙ outside_word (byte_at m) a number out)
 
 -- the flex store after a call other than its own
-pub flex_by : (old new : Parts) → IsWellFormed old → AreAreas (store_of new.map) (free_pages new.map) new.tables.land
+pub flex_by : (old new : GuestState) → IsWellFormed old → AreAreas (store_of new.map) (free_pages new.map) new.tables.area_table
     → KeepsFlex (store_of old.map) (store_of new.map) → new.tables.flex ≡ old.tables.flex → HasFlex new.map new.tables.flex
 flex_by old new well areas keeps flex =
-    rw flex (flex_frame old.map new.map old.tables.flex (free_pages new.map) new.tables.land well.flex well.areas.ground.sound keeps areas)
+    rw flex (flex_frame old.map new.map old.tables.flex (free_pages new.map) new.tables.area_table well.flex well.areas.ground.sound keeps areas)
 
 -- the parts of a guest after a call that kept the other records, the modules, the plan and the
 -- frames
-pub well_by : (old new : Parts) → IsWellFormed old → AreAreas (store_of new.map) (free_pages new.map) new.tables.land → AreClasses new.map
+pub well_by : (old new : GuestState) → IsWellFormed old → AreAreas (store_of new.map) (free_pages new.map) new.tables.area_table → AreClasses new.map
     → (store_of new.map).others ≡ (store_of old.map).others → new.tables.modules ≡ old.tables.modules → new.tables.plan ≡ old.tables.plan
-    → new.tables.frames ≡ old.tables.frames → HasFlex new.map new.tables.flex → new.tables.land.sizes ≡ new.sizes → IsWellFormed new
+    → new.tables.frames ≡ old.tables.frames → HasFlex new.map new.tables.flex → new.tables.area_table.sizes ≡ new.sizes → IsWellFormed new
 well_by old new well areas classes others modules plan frames flex sized = record {
   areas = areas;
   classes = classes;
   system = rw others well.system;
-  modules = rw plan (may_go_on_kept (parts_world old) (parts_world new) old.tables.plan areas others modules well.modules);
+  modules = rw plan (may_go_on_kept (parts_module_state old) (parts_module_state new) old.tables.plan areas others modules well.modules);
   frames = frames_kept old.tables new.tables well.frames frames plan (ap slots_of modules);
   flex = flex;
   sized = sized;
 }
 
 -- the same where the call kept the flex store
-pub well_called : (old new : Parts) → IsWellFormed old → AreAreas (store_of new.map) (free_pages new.map) new.tables.land → AreClasses new.map
+pub well_called : (old new : GuestState) → IsWellFormed old → AreAreas (store_of new.map) (free_pages new.map) new.tables.area_table → AreClasses new.map
     → (store_of new.map).others ≡ (store_of old.map).others → new.tables.modules ≡ old.tables.modules → new.tables.plan ≡ old.tables.plan
     → new.tables.frames ≡ old.tables.frames → KeepsFlex (store_of old.map) (store_of new.map) → new.tables.flex ≡ old.tables.flex
-    → new.tables.land.sizes ≡ new.sizes → IsWellFormed new
+    → new.tables.area_table.sizes ≡ new.sizes → IsWellFormed new
 well_called old new well areas classes others modules plan frames keeps flex sized =
     well_by old new well areas classes others modules plan frames (flex_by old new well areas keeps flex) sized
 
 -- the same after a call that changed the frames alone
-pub well_framed : (old new : Parts) → IsWellFormed old → new.map ≡ old.map → new.tables.land ≡ old.tables.land → new.tables.modules ≡ old.tables.modules
+pub well_framed : (old new : GuestState) → IsWellFormed old → new.map ≡ old.map → new.tables.area_table ≡ old.tables.area_table → new.tables.modules ≡ old.tables.modules
     → new.tables.plan ≡ old.tables.plan → AreFrames new.tables → new.tables.flex ≡ old.tables.flex → new.sizes ≡ old.sizes → IsWellFormed new
-well_framed old new well map land modules plan frames flex sizes = record {
-  areas = rw (map, land) well.areas;
+well_framed old new well map area_table modules plan frames flex sizes = record {
+  areas = rw (map, area_table) well.areas;
   classes = rw map well.classes;
   system = rw map well.system;
-  modules = rw (map, land, modules, plan) well.modules;
+  modules = rw (map, area_table, modules, plan) well.modules;
   frames = frames;
   flex = rw (map, flex) well.flex;
-  sized = rw land (well.sized ∙ sym sizes);
+  sized = rw area_table (well.sized ∙ sym sizes);
 }
 
 -- the flex store lies in no system page
-pub flex_error : (m n : AddressMap) (f : Flex) (l : Land) (number : ℕ) (text : List ℕ) → HasFlex m f → AreAreas (store_of m) (free_pages m) l
+pub flex_error : (m n : AddressMap) (f : Flex) (l : AreaTable) (number : ℕ) (text : List ℕ) → HasFlex m f → AreAreas (store_of m) (free_pages m) l
     → IsRecorded system_pages_range (store_of m).others → length text ≤ 128 → IsKept m n → layout n ≡ layout m
     → bytes_of n ≡ with_bytes (with_word (bytes_of m) error_block_start number) 0x01C02104 text → HasFlex n f
 unfolding store_of
@@ -223,13 +223,13 @@ flex_error m n f l number text has areas system short kept same e =
     flex_frame m n f (free_pages n) l has areas.ground.sound keeps (areas_written m n l areas kept.sound same)
 
 -- the areas after a call that kept every list
-kept_areas : (old new : Parts) → IsWellFormed old → IsKept old.map new.map → layout new.map ≡ layout old.map → new.tables ≡ old.tables
-    → AreAreas (store_of new.map) (free_pages new.map) new.tables.land
+kept_areas : (old new : GuestState) → IsWellFormed old → IsKept old.map new.map → layout new.map ≡ layout old.map → new.tables ≡ old.tables
+    → AreAreas (store_of new.map) (free_pages new.map) new.tables.area_table
 kept_areas old new well kept same tables =
-    rw tables (areas_written old.map new.map old.tables.land well.areas kept.sound same)
+    rw tables (areas_written old.map new.map old.tables.area_table well.areas kept.sound same)
 
 -- the parts of a guest after a call that kept every list
-pub well_kept : (old new : Parts) → IsWellFormed old → IsKept old.map new.map → layout new.map ≡ layout old.map → class_of new.map ≡ class_of old.map
+pub well_kept : (old new : GuestState) → IsWellFormed old → IsKept old.map new.map → layout new.map ≡ layout old.map → class_of new.map ≡ class_of old.map
     → new.tables ≡ old.tables → HasFlex new.map old.tables.flex → new.sizes ≡ old.sizes → IsWellFormed new
 well_kept old new well kept same marks tables flex sizes =
     well_by old new well (kept_areas old new well kept same tables) (kept_classes old.map new.map kept marks well.classes)

@@ -11,8 +11,8 @@ pub mod LawFramesLemmas
 pub mod NextEntry
 pub mod NextTurn
 pub mod OpenFrames
-pub mod Quiet
-pub mod QuietSteps
+pub mod Silent
+pub mod SilentSteps
 pub mod RunEnds
 pub mod RunLoop
 pub mod Runs

@@ -13,7 +13,7 @@ use Rattle.instances_table.specs.plans.Plans.{Plan, first_action}
 use Rattle.instances_table.specs.declared.parts.Place.{Place}
 use Rattle.instances_table.specs.Lookup.{place_of_slot}
 use Rattle.instances_table.specs.Modules.{Module}
-use Rattle.instances.specs.world.World.{World}
+use Rattle.instances.specs.module_state.ModuleState.{ModuleState}
 use Rattle.instances.specs.Turns.{module_doing}
 use Rattle.instances.specs.actions.Codes.{code_among, code_at, code_to_enter, entered_at, entered_in, entry_offset, fatal_word}
 use Rattle.swi_dispatch_guest.specs.OpenFrames.{entry_called}
@@ -66,16 +66,16 @@ entry_of_code ms act.GiveUp code is = cc
 entry_of_code ms act.Slide code is = cc
 
 -- so for a call that is carried on
-entry_by : (w : World) (p : Plan) (a : PlanAction) (others : List PlanAction) (o : Option Code)
-    (on : World → Plan → Carried World) (code : Code) → code_among w.modules a ≡ o
-    → ((v : World) (q : Plan) → (on v q).code ≡ Some code
+entry_by : (w : ModuleState) (p : Plan) (a : PlanAction) (others : List PlanAction) (o : Option Code)
+    (on : ModuleState → Plan → Carried ModuleState) (code : Code) → code_among w.modules a ≡ o
+    → ((v : ModuleState) (q : Plan) → (on v q).code ≡ Some code
     → entry_called (first_action (on v q).rest.actions) ≡ Some (code.kind, code.slot))
     → (carried_by module_doing w p a others o on).code ≡ Some code
     → entry_called (first_action (carried_by module_doing w p a others o on).rest.actions) ≡ Some (code.kind, code.slot)
 entry_by w p a others (Some c) on code is later has = entry_of_code w.modules a code (is ∙ has)
 entry_by w p a others None on code is later has = later _ _ has
 
-entry_from : (actions : List PlanAction) (w : World) (p : Plan) (code : Code)
+entry_from : (actions : List PlanAction) (w : ModuleState) (p : Plan) (code : Code)
     → (carried_from module_doing actions w p).code ≡ Some code
     → entry_called (first_action (carried_from module_doing actions w p).rest.actions) ≡ Some (code.kind, code.slot)
 entry_from [] w p code has = cc
@@ -83,11 +83,11 @@ entry_from (a ∷ others) w p code has =
     entry_by w p a others (code_among w.modules a) (carried_from module_doing others) code refl
     (λ v q later. entry_from others v q code later) has
 
-pub next_entry : (w v : World) (p q : Plan) (o : Option Code)
-    → carry_of_plan module_doing w p ≡ record { world = v; rest = q; code = o }
+pub next_entry : (w v : ModuleState) (p q : Plan) (o : Option Code)
+    → carry_of_plan module_doing w p ≡ record { module_state = v; rest = q; code = o }
     → IfSome o (λ c. entry_called (first_action q.actions) ≡ Some (c.kind, c.slot))
 unfolding carry_of_plan
 next_entry w v p q None is = tt
 next_entry w v p q (Some code) is =
-    subst (λ (x : Carried World). entry_called (first_action x.rest.actions) ≡ Some (code.kind, code.slot)) is
-    (entry_from p.actions w p code (ap (λ (x : Carried World). x.code) is))
+    subst (λ (x : Carried ModuleState). entry_called (first_action x.rest.actions) ≡ Some (code.kind, code.slot)) is
+    (entry_from p.actions w p code (ap (λ (x : Carried ModuleState). x.code) is))

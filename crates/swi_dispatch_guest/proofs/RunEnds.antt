@@ -13,7 +13,7 @@ use Rattle.swi_dispatch_plans.specs.Entries.{Entry}
 use Rattle.swi_dispatch_guest.specs.declared.halt.Halt.{Halt}
 use Rattle.swi_dispatch_guest.specs.MachineState.{MachineState, StepOutcome, stop_of}
 use Rattle.swi_dispatch_guest.specs.Step.{machine_step}
-use Rattle.swi_dispatch_guest.specs.Run.{Run, resting, run_after_steps, is_among, go_on, run_unless_halted, ran, then_run, later_text, last_or, quiet_run, quiet_last, stop_after, count_after}
+use Rattle.swi_dispatch_guest.specs.Run.{Run, resting, run_after_steps, is_among, go_on, run_unless_halted, ran, then_run, later_text, last_or, silent_run, silent_last, stop_after, count_after}
 use Rattle.swi_dispatch_guest.specs.Ending.{Ends, StandsAfter}
 use Rattle.swi_dispatch_guest.proofs.RunLoop.{no_further_in, one_count, one_run, one_step, ran-halted, ran-none, steps_more}
 
@@ -76,15 +76,15 @@ stands_more images breaks s0 s s' n budget o0 o1 o2 c0 c1 c2 lt done one last pa
 pub ends_one : (images : List Entry) (breaks : List ℕ) (s : MachineState) (a : StepOutcome) (o : List ℕ) (c0 c1 : Option (List ℕ)) (k : ℕ) (x : Stop)
     → s.halt ≡ None → a ≡ machine_step images s → Appends c0 c1 a.printed
     → k ≡ count_after a.now.halt → x ≡ stop_after breaks a.now a.now.halt → Ends (ran images breaks 1 s) a.now o a.printed c0 c1 k x
-ends_one images breaks s a o c0 c1 k x awake after text count end =
-    let e : ran images breaks 1 s ≡ one_step breaks a a.now.halt = one_run images breaks s awake ∙ ap (λ (b : StepOutcome). one_step breaks b b.now.halt) (sym after) in
+ends_one images breaks s a o c0 c1 k x unhalted after text count end =
+    let e : ran images breaks 1 s ≡ one_step breaks a a.now.halt = one_run images breaks s unhalted ∙ ap (λ (b : StepOutcome). one_step breaks b b.now.halt) (sym after) in
     let one : Ends (one_step breaks a a.now.halt) a.now o a.printed c0 c1 k x = record { machine = refl; text = text; shows = refl; count = count; stop = end } in
     subst (λ (r : Run). Ends r a.now o a.printed c0 c1 k x) (sym e) one
 
 pub stands_one : (images : List Entry) (breaks : List ℕ) (s : MachineState) (a : StepOutcome) → s.halt ≡ None → a ≡ machine_step images s
     → (a.now ≡ (ran images breaks 1 s).now) × (Some a.printed ≡ (ran images breaks 1 s).last)
-stands_one images breaks s a awake after =
-    let e : one_step breaks a a.now.halt ≡ ran images breaks 1 s = ap (λ (b : StepOutcome). one_step breaks b b.now.halt) after ∙ sym (one_run images breaks s awake) in
+stands_one images breaks s a unhalted after =
+    let e : one_step breaks a a.now.halt ≡ ran images breaks 1 s = ap (λ (b : StepOutcome). one_step breaks b b.now.halt) after ∙ sym (one_run images breaks s unhalted) in
     (ap (λ (r : Run). r.now) e, ap (λ (r : Run). r.last) e)
 
 pub ends_stopped : (images : List Entry) (breaks : List ℕ) (budget : ℕ) (s : MachineState) (h : Option Halt) (x : Stop) (o : List ℕ) (c : Option (List ℕ))
@@ -95,8 +95,8 @@ ends_stopped images breaks budget s None x o c e stopped nothing = cc
 -- a step that ends with the budget counts
 pub one_taken : (images : List Entry) (breaks : List ℕ) (s s' : MachineState) (o0 o1 : List ℕ) (c0 c1 : Option (List ℕ)) (k : ℕ) (x : Stop) → s.halt ≡ None
     → Ends (ran images breaks 1 s) s' o0 o1 c0 c1 k x → x ≡ stop.Budget → k ≡ 1
-one_taken images breaks s s' o0 o1 c0 c1 k x awake ends budget =
-    let e : ran images breaks 1 s ≡ one_step breaks (machine_step images s) (machine_step images s).now.halt = one_run images breaks s awake in
+one_taken images breaks s s' o0 o1 c0 c1 k x unhalted ends budget =
+    let e : ran images breaks 1 s ≡ one_step breaks (machine_step images s) (machine_step images s).now.halt = one_run images breaks s unhalted in
     let b : stop_after breaks (machine_step images s).now (machine_step images s).now.halt ≡ stop.Budget = ap (λ (r : Run). r.stop) (sym e) ∙ sym ends.stop ∙ budget in
     ends.count ∙ ap (λ (r : Run). r.taken) e ∙ one_count breaks (machine_step images s).now (machine_step images s).now.halt b
 
@@ -104,24 +104,24 @@ one_taken images breaks s s' o0 o1 c0 c1 k x awake ends budget =
 pub ends_on : (images : List Entry) (breaks : List ℕ) (s0 s s' : MachineState) (n : ℕ) (o0 o1 o2 : List ℕ) (c0 c1 c2 : Option (List ℕ)) (k : ℕ) (x : Stop) → s.halt ≡ None
     → Ends (ran images breaks n s0) s o0 o1 c0 c1 n stop.Budget → Ends (ran images breaks 1 s) s' o1 o2 c1 c2 k x → x ≡ stop.Budget
     → Ends (ran images breaks (n + k) s0) s' o0 o2 c0 c2 (n + k) stop.Budget
-ends_on images breaks s0 s s' n o0 o1 o2 c0 c1 c2 k x awake done one budget =
-    let count : k ≡ 1 = one_taken images breaks s s' o1 o2 c1 c2 k x awake one budget in
+ends_on images breaks s0 s s' n o0 o1 o2 c0 c1 c2 k x unhalted done one budget =
+    let count : k ≡ 1 = one_taken images breaks s s' o1 o2 c1 c2 k x unhalted one budget in
     let all : Ends (ran images breaks (n + 1) s0) s' o0 o2 c0 c2 (n + k) x = ends_more images breaks s0 s s' n 1 o0 o1 o2 c0 c1 c2 k x done one in
     subst (λ (y : Stop). Ends (ran images breaks (n + k) s0) s' o0 o2 c0 c2 (n + k) y) budget
     (subst (λ (j : ℕ). Ends (ran images breaks (n + j) s0) s' o0 o2 c0 c2 (n + k) x) (sym count) all)
 
 -- steps that the core does by itself
-quiet_ends : (s : MachineState) (k : ℕ) (x : Stop) (o1 o2 : List ℕ) (c : Option (List ℕ)) → Appends c c [] → o2 ≡ last_or o1 (quiet_last k)
-    → Ends (quiet_run s k x) s o1 o2 c c k x
-quiet_ends s zero x o1 o2 c nothing e = record { machine = refl; text = nothing; shows = e; count = refl; stop = refl }
-quiet_ends s (suc m) x o1 o2 c nothing e = record { machine = refl; text = nothing; shows = e; count = refl; stop = refl }
+silent_ends : (s : MachineState) (k : ℕ) (x : Stop) (o1 o2 : List ℕ) (c : Option (List ℕ)) → Appends c c [] → o2 ≡ last_or o1 (silent_last k)
+    → Ends (silent_run s k x) s o1 o2 c c k x
+silent_ends s zero x o1 o2 c nothing e = record { machine = refl; text = nothing; shows = e; count = refl; stop = refl }
+silent_ends s (suc m) x o1 o2 c nothing e = record { machine = refl; text = nothing; shows = e; count = refl; stop = refl }
 
-pub ends_quiet : (images : List Entry) (breaks : List ℕ) (s0 s s' : MachineState) (n k : ℕ) (x : Stop) (o0 o1 o2 : List ℕ) (c0 c1 : Option (List ℕ)) → Appends c1 c1 []
-    → Ends (ran images breaks n s0) s o0 o1 c0 c1 n stop.Budget → ran images breaks k s ≡ quiet_run s' k x → o2 ≡ last_or o1 (quiet_last k)
+pub ends_silent : (images : List Entry) (breaks : List ℕ) (s0 s s' : MachineState) (n k : ℕ) (x : Stop) (o0 o1 o2 : List ℕ) (c0 c1 : Option (List ℕ)) → Appends c1 c1 []
+    → Ends (ran images breaks n s0) s o0 o1 c0 c1 n stop.Budget → ran images breaks k s ≡ silent_run s' k x → o2 ≡ last_or o1 (silent_last k)
     → Ends (ran images breaks (n + k) s0) s' o0 o2 c0 c1 (n + k) x
-ends_quiet images breaks s0 s s' n k x o0 o1 o2 c0 c1 nothing done quiet output =
+ends_silent images breaks s0 s s' n k x o0 o1 o2 c0 c1 nothing done silent output =
     ends_more images breaks s0 s s' n k o0 o1 o2 c0 c1 c1 k x done
-    (subst (λ (r : Run). Ends r s' o1 o2 c1 c1 k x) (sym quiet) (quiet_ends s' k x o1 o2 c1 nothing output))
+    (subst (λ (r : Run). Ends r s' o1 o2 c1 c1 k x) (sym silent) (silent_ends s' k x o1 o2 c1 nothing output))
 
 -- A run that ended for another reason than its budget, or has used it up, is the whole run.
 pub ends_all : (images : List Entry) (breaks : List ℕ) (s0 s : MachineState) (n budget : ℕ) (x : Stop) (o0 o1 : List ℕ) (c0 c1 : Option (List ℕ)) → n ≤ budget

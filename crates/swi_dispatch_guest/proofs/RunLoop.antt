@@ -13,7 +13,7 @@ use Rattle.swi_dispatch_plans.specs.Entries.{Entry}
 use Rattle.swi_dispatch_guest.specs.declared.halt.Halt.{Halt}
 use Rattle.swi_dispatch_guest.specs.MachineState.{MachineState, StepOutcome, stop_of}
 use Rattle.swi_dispatch_guest.specs.Step.{machine_step}
-use Rattle.swi_dispatch_guest.specs.Run.{Run, resting, run_after_steps, is_among, go_on, run_unless_halted, ran, then_run, later_text, last_or, quiet_run, quiet_last, stop_after, count_after}
+use Rattle.swi_dispatch_guest.specs.Run.{Run, resting, run_after_steps, is_among, go_on, run_unless_halted, ran, then_run, later_text, last_or, silent_run, silent_last, stop_after, count_after}
 use Rattle.swi_dispatch_guest.proofs.Runs.{halt-no_budget, runs_on}
 
 -- a halted machine takes no step

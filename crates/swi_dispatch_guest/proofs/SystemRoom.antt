@@ -6,15 +6,15 @@ use Rattle.address_map.specs.declared.map.AddressMap.{AddressMap}
 use Rattle.address_map.specs.Bytes.{AreMapped}
 use Rattle.address_map.specs.Memory.{free_pages}
 use Rattle.os_heap.specs.Store.{Store, store_of}
-use Rattle.dynamic_areas.specs.Areas.{Land}
+use Rattle.dynamic_areas.specs.Areas.{AreaTable}
 use Rattle.dynamic_areas.specs.Ground.{AreAreas, IsRecorded, system_pages_range}
 use Rattle.dynamic_areas.proofs.HeapCalls.{system_mapped}
-use Rattle.instances.specs.world.Sound.{HasSystemPages}
+use Rattle.instances.specs.module_state.Sound.{HasSystemPages}
 
-pub private_room : (s : Store) (free : ℕ) (l : Land) → AreAreas s free l → AreMapped s.bytes.mapped 0x01C02000 256
+pub private_room : (s : Store) (free : ℕ) (l : AreaTable) → AreAreas s free l → AreMapped s.bytes.mapped 0x01C02000 256
 private_room s free l areas a low high = system_mapped s free l areas a (range_inside system_start 0x3000 a (omega arith) (omega arith))
 
-pub has_pages : (m : AddressMap) (l : Land) → AreAreas (store_of m) (free_pages m) l → IsRecorded system_pages_range (store_of m).others → HasSystemPages m
+pub has_pages : (m : AddressMap) (l : AreaTable) → AreAreas (store_of m) (free_pages m) l → IsRecorded system_pages_range (store_of m).others → HasSystemPages m
 unfolding store_of
 has_pages m l areas recorded = record {
   sound = areas.ground.sound;

@@ -5,30 +5,30 @@ use Rattle.profile.specs.Outcome.{bind}
 use Rattle.profile.specs.declared.error.ErrorNumber.{ErrorNumber}
 use Rattle.swi_dispatch_plans.specs.Entries.{Entry}
 use Rattle.instances_table.specs.plans.Plans.{Plan}
-use Rattle.instances.specs.world.World.{World}
+use Rattle.instances.specs.module_state.ModuleState.{ModuleState}
 use Rattle.instances.specs.Adding.{copying, inserting, loading}
 use Rattle.swi_dispatch_answers.specs.declared.frames.call.Call.{Call}
 use Rattle.swi_dispatch_guest.specs.Gates.{ended_of, state_with_code_entered}
-use Rattle.swi_dispatch_plans.specs.Trials.{world_carried}
-use Rattle.swi_dispatch_plans.specs.Setting.{string_asked}
+use Rattle.swi_dispatch_plans.specs.Trials.{module_state_carried}
+use Rattle.swi_dispatch_plans.specs.PlannerInput.{string_asked}
 use Rattle.swi_dispatch_plans.specs.ImagePlans.{copy_asked, insertion_asked, load_asked}
-use Rattle.swi_dispatch_guest.specs.MachineState.{MachineState, machine_world, setting_of}
+use Rattle.swi_dispatch_guest.specs.MachineState.{MachineState, machine_module_state, setting_of}
 
 -- what a call is to do from here on
 pub record Planned : Type 0 where
-  pub world : World
+  pub module_state : ModuleState
   pub plan : Plan
 
 abbrev pub plan_alone : MachineState → Plan → Planned
-plan_alone s p = record { world = machine_world s; plan = p }
+plan_alone s p = record { module_state = machine_module_state s; plan = p }
 
-abbrev pub planned_of : Result (World × Plan) ErrorNumber → Result Planned ErrorNumber
-planned_of r = bind r (λ w. Ok (record { world = w.0; plan = w.1 }))
+abbrev pub planned_of : Result (ModuleState × Plan) ErrorNumber → Result Planned ErrorNumber
+planned_of r = bind r (λ w. Ok (record { module_state = w.0; plan = w.1 }))
 
 -- an image of those that are given, and a text: a load that enters its module at its end may begin
 -- only while no module code is under way
 abbrev pub image_planned : MachineState → List ℕ → List ℕ → Result Planned ErrorNumber
-image_planned s image text = planned_of (loading (machine_world s) image text)
+image_planned s image text = planned_of (loading (machine_module_state s) image text)
 
 unfoldable pub load_planned : List Entry → MachineState → List ℕ → Bool → Result Planned ErrorNumber
 load_planned images s words enters = bind (load_asked images (setting_of s) words enters)
@@ -41,14 +41,14 @@ named_load_planned images s enters = bind (string_asked (setting_of s) 1)
 
 -- reason 10, insert
 abbrev pub range_planned : MachineState → ℕ → ℕ → Result Planned ErrorNumber
-range_planned s at len = planned_of (inserting (machine_world s) at len)
+range_planned s at len = planned_of (inserting (machine_module_state s) at len)
 
 unfoldable pub insertion_planned : MachineState → Result Planned ErrorNumber
 insertion_planned s = bind (insertion_asked (setting_of s)) (λ range. range_planned s range.at range.len)
 
 -- reason 11, copy
 abbrev pub copied_range_planned : MachineState → ℕ → ℕ → Result Planned ErrorNumber
-copied_range_planned s at len = planned_of (copying (machine_world s) at len)
+copied_range_planned s at len = planned_of (copying (machine_module_state s) at len)
 
 unfoldable pub copy_planned : MachineState → Result Planned ErrorNumber
 copy_planned s = bind (copy_asked (setting_of s)) (λ range. copied_range_planned s range.at range.len)
@@ -58,6 +58,7 @@ abbrev pub Starts : MachineState → Call → Result Planned ErrorNumber → Res
     MachineState
     → Type 0
 Starts s call (Ok w) (Ok ended) t =
-    (let c = world_carried w.world w.plan in (t ≡ state_with_code_entered s call c) × (ended ≡ ended_of c))
+    (let c = module_state_carried w.module_state w.plan in (t ≡ state_with_code_entered s call c) ×
+    (ended ≡ ended_of c))
 Starts s call (Err e) (Err f) t = (f ≡ e) × (t ≡ s)
 Starts s call r ended t = ⊥

@@ -2,7 +2,7 @@
 use Rattle.std.specs.Prelude.{ℕ, Option, Some, None, Result, Ok, Err, List, []}
 use Rattle.arm_core.specs.State.{with_register}
 use Rattle.swi_dispatch_answers.specs.declared.refusal.Refusal.{Refusal}
-use Rattle.swi_dispatch_guest.specs.MachineState.{MachineState, StepOutcome, quiet}
+use Rattle.swi_dispatch_guest.specs.MachineState.{MachineState, StepOutcome, silent}
 
 -- What a call answers: what it leaves, the machine but for what every call does to the core and the
 -- bytes printed, where the guest goes on, and the error, if there is one. So a call may change
@@ -21,7 +21,7 @@ answer_without_error s printed next = record {
 
 -- an error, and nothing is changed
 abbrev pub refusal_answer : MachineState → ℕ → Refusal → Answer
-refusal_answer s next e = record { left = quiet s; next = next; error = Some e }
+refusal_answer s next e = record { left = silent s; next = next; error = Some e }
 
 abbrev pub went_on : MachineState → ℕ → Result MachineState Refusal → Answer
 went_on s next (Ok t) = answer_without_error t [] next

@@ -11,8 +11,8 @@ use Rattle.address_map.specs.Bytes.{Bytes}
 use Rattle.arm_core.specs.declared.psr.Mode.TheVariants.{Supervisor}
 use Rattle.arm_core.specs.State.{State, register_of, with_mode}
 use Rattle.os_heap.specs.Store.{Store}
-use Rattle.dynamic_areas.specs.Ground.{Estate}
-use Rattle.instances.specs.world.World.{World}
+use Rattle.dynamic_areas.specs.Ground.{AreaStore}
+use Rattle.instances.specs.module_state.ModuleState.{ModuleState}
 use Rattle.swi_dispatch_answers.specs.declared.refusal.Refusal.{Refusal}
 use Rattle.swi_dispatch_answers.specs.declared.refusal.Refusal.TheVariants as refusal
 use Rattle.swi_dispatch_answers.specs.declared.strings.TextEnd.TheVariants as end
@@ -22,7 +22,7 @@ use Rattle.swi_dispatch_plans.specs.store.Areas.{area_called, area_changed, area
 use Rattle.swi_dispatch_plans.specs.store.Heaps.{heap_called}
 use Rattle.swi_dispatch_plans.specs.modules.Calls.{result_of_module_call}
 use Rattle.swi_dispatch_guest.specs.Answers.{Answer, answer_without_error, refusal_answer, went_on, with_answer}
-use Rattle.swi_dispatch_guest.specs.MachineState.{MachineState, machine_estate, machine_world, quiet, with_estate, with_world}
+use Rattle.swi_dispatch_guest.specs.MachineState.{MachineState, machine_area_store, machine_module_state, silent, with_area_store, with_module_state}
 
 abbrev pub machine_in_supervisor : MachineState → MachineState
 machine_in_supervisor s = record s { cpu = with_mode s.cpu Supervisor }
@@ -48,18 +48,18 @@ generated_refusal s at = if at % 4 == 0 && s.store.bytes.mapped at then refusal.
     else refusal.System BadPointer
 
 -- The machine with what a family of calls leaves of the parts that it acts on: the core, and the
--- store, the estate, the world, or the store with the flex store.
+-- store, the area store, the module state, or the store with the flex store.
 abbrev pub on_store : MachineState → Result (State × Store) Refusal → Result MachineState Refusal
 on_store s r = bind r (λ q. Ok (record s { cpu = q.0; store = q.1 }))
 
-abbrev pub with_guest : MachineState → State × Estate → MachineState
-with_guest s q = with_estate (record s { cpu = q.0 }) q.1
+abbrev pub with_guest : MachineState → State × AreaStore → MachineState
+with_guest s q = with_area_store (record s { cpu = q.0 }) q.1
 
-abbrev pub on_estate : MachineState → Result (State × Estate) Refusal → Result MachineState Refusal
-on_estate s r = bind r (λ q. Ok (with_guest s q))
+abbrev pub on_area_store : MachineState → Result (State × AreaStore) Refusal → Result MachineState Refusal
+on_area_store s r = bind r (λ q. Ok (with_guest s q))
 
-abbrev pub on_world : MachineState → Result (State × World) Refusal → Result MachineState Refusal
-on_world s r = bind r (λ q. Ok (with_world (record s { cpu = q.0 }) q.1))
+abbrev pub on_module_state : MachineState → Result (State × ModuleState) Refusal → Result MachineState Refusal
+on_module_state s r = bind r (λ q. Ok (with_module_state (record s { cpu = q.0 }) q.1))
 
 abbrev pub machine_flex : MachineState → FlexMemory
 machine_flex s = record { store = s.store; flex = s.tables.flex }
@@ -77,14 +77,14 @@ on_flex s r = bind r (λ q. Ok (machine_with_flex s q))
 -- OS_ChangeDynamicArea may change something and err.
 abbrev pub area_changing : MachineState → ℕ → Answer
 area_changing s next = record {
-  left = quiet (with_guest s (area_changed s.cpu (machine_estate s)));
+  left = silent (with_guest s (area_changed s.cpu (machine_area_store s)));
   next = next;
-  error = option_map refusal.System (change_asked s.cpu (machine_estate s)).error;
+  error = option_map refusal.System (change_asked s.cpu (machine_area_store s)).error;
 }
 
 -- the error with which a call ends after it changed something
 abbrev pub moving_error : MachineState → Option SwiName → Option ErrorNumber
-moving_error s (Some swi.ChangeDynamicArea) = (change_asked s.cpu (machine_estate s)).error
+moving_error s (Some swi.ChangeDynamicArea) = (change_asked s.cpu (machine_area_store s)).error
 moving_error s name = None
 
 -- A call by its name and its number without the X bit; `next` is where the guest goes on. What is
@@ -98,12 +98,12 @@ call_answer s next number (Some swi.NewLine) = answer_without_error s (10 ∷ 13
 call_answer s next number (Some swi.EnterOs) = answer_without_error (machine_in_supervisor s) [] next
 call_answer s next number (Some swi.Heap) = went_on s next (on_store s (heap_called s.cpu s.store))
 call_answer s next number (Some swi.Module) = went_on s next
-    (on_world s (result_of_module_call s.cpu (machine_world s)))
+    (on_module_state s (result_of_module_call s.cpu (machine_module_state s)))
 call_answer s next number (Some swi.ChangeDynamicArea) = area_changing s next
 call_answer s next number (Some swi.ReadDynamicArea) = went_on s next
-    (on_estate s (area_read s.cpu (machine_estate s)))
+    (on_area_store s (area_read s.cpu (machine_area_store s)))
 call_answer s next number (Some swi.DynamicArea) = went_on s next
-    (on_estate s (area_called s.cpu (machine_estate s)))
+    (on_area_store s (area_called s.cpu (machine_area_store s)))
 call_answer s next number (Some swi.GenerateError) = refusal_answer s next
     (generated_refusal s (register_of s.cpu 0))
 call_answer s next number (Some swi.WriteI) = answer_without_error s (number % 256 ∷ []) next

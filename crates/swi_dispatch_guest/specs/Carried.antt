@@ -3,11 +3,11 @@
 use Rattle.std.specs.Prelude.{◌≡◌, IfSome, Option, Some, None, List, []}
 use Rattle.address_map.specs.declared.map.AddressMap.{AddressMap}
 use Rattle.arm_core.specs.State.{State}
-use Rattle.dynamic_areas.specs.Areas.{Land}
+use Rattle.dynamic_areas.specs.Areas.{AreaTable}
 use Rattle.os_heap.specs.Store.{AreClasses, store_of}
 use Rattle.instances.specs.flex_frame.Keeping.{KeepsFlex}
-use Rattle.instances.specs.world.Sound.{IsWorld}
-use Rattle.instances.specs.world.World.{world_of}
+use Rattle.instances.specs.module_state.Sound.{IsModuleState}
+use Rattle.instances.specs.module_state.ModuleState.{module_state_of}
 use Rattle.instances_table.specs.declared.plans.code.Code.{Code}
 use Rattle.instances_table.specs.declared.plans.code.Outcome.{Outcome as CodeOutcome}
 use Rattle.instances_table.specs.plans.Carrying.{carry_of_plan}
@@ -28,18 +28,20 @@ pub record CodeUnderWay : Type 0 where
 -- What is left of the plan and its next code, if there is any, are those of the plan carried on;
 -- the code is entered in a frame of the call, and the plan kept. No other instance went, and the
 -- flex store stays.
-pub record IsCarriedNext (m n : AddressMap) (land : Land) (old new : List Module) (before after : CodeUnderWay)
-    (call : Call) (plan : Plan) (outcome : CodeOutcome) (kept_ended : Option Plan × Option Plan) : Type 0 where
-  pub rest : Plan
-  pub code : Option Code
-  pub carried : carry_of_plan module_doing (world_of m land old) (plan_after_code plan outcome)
-      ≡ record { world = world_of n land new; rest = rest; code = code }
-  pub next : IfSome code (λ c. entry_called (first_action rest.actions) ≡ Some (c.kind, c.slot))
-  pub ended : code ≡ None → IsWorld (world_of n land new) []
-  pub going : IsUnderWay (world_of n land new) rest
-  pub others : KeepsOtherInstances old new plan rest code
-  pub classes : AreClasses n
-  pub flex : KeepsFlex (store_of m) (store_of n)
-  pub core : after.cpu ≡ core_by before.cpu code
-  pub opens : after.frames ≡ frames_by before.frames before.cpu call code
-  pub plans : kept_ended ≡ (kept_by rest code, plan_unless_code rest code)
+pub record IsCarriedNext (m n : AddressMap) (area_table : AreaTable) (old new : List Module)
+    (before after : CodeUnderWay)
+    (call : Call) (plan : Plan) (outcome : CodeOutcome) (kept_ended : Option Plan × Option Plan) : Type 0
+  where
+    pub rest : Plan
+    pub code : Option Code
+    pub carried : carry_of_plan module_doing (module_state_of m area_table old) (plan_after_code plan outcome)
+        ≡ record { module_state = module_state_of n area_table new; rest = rest; code = code }
+    pub next : IfSome code (λ c. entry_called (first_action rest.actions) ≡ Some (c.kind, c.slot))
+    pub ended : code ≡ None → IsModuleState (module_state_of n area_table new) []
+    pub going : IsUnderWay (module_state_of n area_table new) rest
+    pub others : KeepsOtherInstances old new plan rest code
+    pub classes : AreClasses n
+    pub flex : KeepsFlex (store_of m) (store_of n)
+    pub core : after.cpu ≡ core_by before.cpu code
+    pub opens : after.frames ≡ frames_by before.frames before.cpu call code
+    pub plans : kept_ended ≡ (kept_by rest code, plan_unless_code rest code)

@@ -14,7 +14,7 @@ use Rattle.instances_table.specs.declared.plans.code.Outcome.TheVariants.{Well, 
 use Rattle.instances_table.specs.declared.plans.given.Given.{Given}
 use Rattle.instances_table.specs.plans.Carrying.{Carried}
 use Rattle.instances_table.specs.plans.Plans.{Plan, plan_after_code}
-use Rattle.instances.specs.world.World.{World}
+use Rattle.instances.specs.module_state.ModuleState.{ModuleState}
 use Rattle.instances.specs.declared.answers.Start.{Start}
 use Rattle.instances.specs.Reading.{start_found}
 use Rattle.swi_dispatch_answers.specs.declared.frames.call.Call.{Call}
@@ -26,12 +26,12 @@ use Rattle.swi_dispatch_answers.specs.frames.Frames.{frames_after_close, frame_o
 use Rattle.swi_dispatch_answers.specs.frames.Leaving.{left}
 use Rattle.swi_dispatch_guest.specs.declared.halt.Halt.TheVariants as halt
 use Rattle.swi_dispatch_guest.specs.Answers.{with_answer}
-use Rattle.swi_dispatch_guest.specs.MachineState.{MachineState, StepOutcome, machine_world, quiet, with_world}
+use Rattle.swi_dispatch_guest.specs.MachineState.{MachineState, StepOutcome, machine_module_state, silent, with_module_state}
 use Rattle.swi_dispatch_guest.specs.ModuleStart.{opened_at}
 use Rattle.swi_dispatch_guest.specs.Returns.{outcome_of_error, gone_back, outcome_of_halt}
 use Rattle.swi_dispatch_answers.specs.Errors.{error_at}
 use Rattle.swi_dispatch_answers.specs.Returns.{state_after_return}
-use Rattle.swi_dispatch_plans.specs.Trials.{error_ahead, world_carried}
+use Rattle.swi_dispatch_plans.specs.Trials.{error_ahead, module_state_carried}
 
 -- A module that was loaded to be run is entered with the text of the call, as OS_Module 2 does.
 abbrev pub entered_with : MachineState → List ℕ → Result Start ErrorNumber → MachineState
@@ -79,11 +79,11 @@ with_code s cpu frames plan = record s {
       { frames = frames; plan = plan };
 }
 
-abbrev pub state_with_code_entered : MachineState → Call → Carried World → MachineState
-state_with_code_entered s call c = with_code (with_world s c.world) (core_by s.cpu c.code)
+abbrev pub state_with_code_entered : MachineState → Call → Carried ModuleState → MachineState
+state_with_code_entered s call c = with_code (with_module_state s c.module_state) (core_by s.cpu c.code)
     (frames_by s.tables.frames s.cpu call c.code) (kept_by c.rest c.code)
 
-abbrev pub ended_of : Carried World → Option Plan
+abbrev pub ended_of : Carried ModuleState → Option Plan
 ended_of c = plan_unless_code c.rest c.code
 
 -- A call whose plan has ended goes back; one whose code is under way does so when that is done.
@@ -93,7 +93,7 @@ state_after_plan s call None = s
 
 -- A call is carried on with what its plan has left to do.
 abbrev pub carried_on : MachineState → Call → Plan → MachineState
-carried_on s call p = (let c = world_carried (machine_world s) p in
+carried_on s call p = (let c = module_state_carried (machine_module_state s) p in
     state_after_plan (state_with_code_entered s call c) call (ended_of c))
 
 -- Module code has come back: the core is the caller's again, but for what a SWI leaves, and the
@@ -118,7 +118,7 @@ frame_closed s f = record s {
 
 abbrev pub swi_left : MachineState → Frame → StepOutcome
 swi_left s f =
-    let answered : StepOutcome = quiet (frame_closed s f) in
+    let answered : StepOutcome = silent (frame_closed s f) in
     if s.cpu.psr.overflow then outcome_of_error s f.call.is_x answered else answered
 
 -- The two ways in which a SWI of a module can go back: the core is the caller's again, or its
@@ -137,15 +137,15 @@ outcome_left cpu = if cpu.psr.overflow then Refused (register_of cpu 0) else Wel
 
 -- The call whose entry it was is carried on. Where its caller takes no error, and there is one, the
 -- step is a fault, and nothing of it is done.
-abbrev pub fault_ahead : Call → World → Plan → Option ℕ
+abbrev pub fault_ahead : Call → ModuleState → Plan → Option ℕ
 fault_ahead call w p = if call.is_x then None else error_ahead w p
 
 abbrev pub unless_fault : MachineState → Option ℕ → MachineState → StepOutcome
-unless_fault s None t = quiet t
+unless_fault s None t = silent t
 unless_fault s (Some number) t = outcome_of_halt s (halt.Fault (ErrorStop number))
 
 abbrev pub entry_left : MachineState → Frame → Plan → StepOutcome
-entry_left s f p = unless_fault s (fault_ahead f.call (machine_world s) p)
+entry_left s f p = unless_fault s (fault_ahead f.call (machine_module_state s) p)
     (carried_on (come_back s f) f.call p)
 
 -- A plan is kept while the code of an entry runs, so the first of these is for no machine; it is as
@@ -172,10 +172,10 @@ outcome_of_gate s = gated_by s (innermost_frame s.tables.frames)
 -- ended; a plan is kept
 abbrev pub Resumes : MachineState → Frame → CodeOutcome → Option Plan → Option Plan → MachineState → Type 0
 Resumes s f o (Some p) ended t =
-    (let c = world_carried (machine_world s) (plan_after_code p o) in
+    (let c = module_state_carried (machine_module_state s) (plan_after_code p o) in
     (t ≡ state_with_code_entered (come_back s f) f.call c) × (ended ≡ ended_of c))
 Resumes s f o None ended t = ⊥
 
-abbrev pub fault_kept : Call → World → CodeOutcome → Option Plan → Option ℕ
+abbrev pub fault_kept : Call → ModuleState → CodeOutcome → Option Plan → Option ℕ
 fault_kept call w o None = None
 fault_kept call w o (Some p) = fault_ahead call w (plan_after_code p o)

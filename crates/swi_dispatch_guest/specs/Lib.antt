@@ -1,4 +1,4 @@
--- The written machine. Begin with MachineState and Step; Run has many steps, Parts ties it to the
+-- The written machine. Begin with MachineState and Step; Run has many steps, GuestState ties it to the
 -- real machine.
 pub use Rattle.arm_core.specs.declared.psr.Mode as ArmCoreMode
 pub use Rattle.arm_core.specs.declared.psr.Psr as ArmCorePsr
@@ -16,7 +16,7 @@ pub mod MachineState
 pub mod ModuleStart
 pub mod Moves
 pub mod OpenFrames
-pub mod Parts
+pub mod GuestState
 pub mod Returns
 pub mod Run
 pub mod Step

@@ -8,15 +8,15 @@ use Rattle.profile.specs.Sizes.{Sizes}
 use Rattle.address_map.specs.Bytes.{Bytes}
 use Rattle.arm_core.specs.State.{State, cpu_start_state}
 use Rattle.os_heap.specs.Store.{Store}
-use Rattle.dynamic_areas.specs.Areas.{Land, start_land}
-use Rattle.dynamic_areas.specs.Ground.{Estate, pool_of}
+use Rattle.dynamic_areas.specs.Areas.{AreaTable, start_area_table}
+use Rattle.dynamic_areas.specs.Ground.{AreaStore, pool_of}
 use Rattle.dynamic_areas.specs.Start.{start_store}
 use Rattle.swi_dispatch_answers.specs.flex.Flex.{Flex}
-use Rattle.instances.specs.world.World.{World}
+use Rattle.instances.specs.module_state.ModuleState.{ModuleState}
 use Rattle.instances_table.specs.plans.Plans.{Plan}
 use Rattle.instances_table.specs.Modules.{Module}
 use Rattle.swi_dispatch_answers.specs.declared.frames.frame.Frame.{Frame}
-use Rattle.swi_dispatch_plans.specs.Setting.{Setting}
+use Rattle.swi_dispatch_plans.specs.PlannerInput.{PlannerInput}
 use Rattle.swi_dispatch_guest.specs.declared.halt.Halt.{Halt}
 use Rattle.swi_dispatch_guest.specs.declared.halt.Halt.TheVariants as halt
 
@@ -24,7 +24,7 @@ use Rattle.swi_dispatch_guest.specs.declared.halt.Halt.TheVariants as halt
 -- that is under way, what is left to do of a call on modules whose code is under way, and where the
 -- flex store is, if there is one
 pub record Tables : Type 0 where
-  pub land : Land
+  pub area_table : AreaTable
   pub modules : List Module
   pub frames : List Frame
   pub plan : Option Plan
@@ -46,8 +46,8 @@ abbrev pub outcome_with : MachineState → List ℕ → StepOutcome
 outcome_with s printed = record { now = s; printed = printed }
 
 -- what is left where nothing is printed
-abbrev pub quiet : MachineState → StepOutcome
-quiet s = record { now = s; printed = [] }
+abbrev pub silent : MachineState → StepOutcome
+silent s = record { now = s; printed = [] }
 
 abbrev pub stop_of : Halt → Stop
 stop_of halt.Exit = stop.Exit
@@ -58,34 +58,45 @@ abbrev pub with_memory : Store → Bytes → Store
 with_memory s b = record s { bytes = b }
 
 -- what calls on memory act on, and the machine after one of them
-abbrev pub machine_estate : MachineState → Estate
-machine_estate s = record { store = s.store; pool = s.pool; land = s.tables.land }
+abbrev pub machine_area_store : MachineState → AreaStore
+machine_area_store s = record { store = s.store; pool = s.pool; area_table = s.tables.area_table }
 
-abbrev pub with_estate : MachineState → Estate → MachineState
-with_estate s e = record s { store = e.store; pool = e.pool; tables = record s.tables { land = e.land } }
+abbrev pub with_area_store : MachineState → AreaStore → MachineState
+with_area_store s e = record s {
+  store = e.store;
+  pool = e.pool;
+  tables = record s.tables
+      { area_table = e.area_table };
+}
 
 abbrev pub with_modules : MachineState → List Module → MachineState
 with_modules s modules = record s { tables = record s.tables { modules = modules } }
 
 -- what calls on modules act on, and the machine after one of their actions
-abbrev pub machine_world : MachineState → World
-machine_world s = record { estate = machine_estate s; modules = s.tables.modules }
+abbrev pub machine_module_state : MachineState → ModuleState
+machine_module_state s = record { area_store = machine_area_store s; modules = s.tables.modules }
 
-abbrev pub with_world : MachineState → World → MachineState
-with_world s w = with_modules (with_estate s w.estate) w.modules
+abbrev pub with_module_state : MachineState → ModuleState → MachineState
+with_module_state s w = with_modules (with_area_store s w.area_store) w.modules
 
 -- what a call on modules finds as it begins
-abbrev pub setting_of : MachineState → Setting
-setting_of s = record { cpu = s.cpu; world = machine_world s; frames = s.tables.frames; plan = s.tables.plan }
+abbrev pub setting_of : MachineState → PlannerInput
+setting_of s = record {
+  cpu = s.cpu;
+  module_state = machine_module_state s;
+  frames = s.tables.frames;
+  plan =
+      s.tables.plan;
+}
 
 -- the start: all pages but those mapped then are in the pool
 unfoldable pub machine_start : Sizes → MachineState
 machine_start s = record {
   cpu = cpu_start_state;
   store = start_store s;
-  pool = pool_of (start_land s);
+  pool = pool_of (start_area_table s);
   tables = record {
-    land = start_land s;
+    area_table = start_area_table s;
     modules = [];
     frames = [];
     plan = None;

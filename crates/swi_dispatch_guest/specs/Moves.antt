@@ -5,8 +5,8 @@ use Rattle.profile.specs.SwiNames.{swi_of}
 use Rattle.profile.specs.declared.swi.SwiName.{SwiName}
 use Rattle.address_map.specs.Bytes.{Bytes}
 use Rattle.arm_core.specs.State.{State}
-use Rattle.arm_core.specs.declared.turn.Turn.{Turn}
-use Rattle.arm_core.specs.declared.turn.Turn.TheVariants as turn
+use Rattle.arm_core.specs.declared.turn.StepEnd.{StepEnd}
+use Rattle.arm_core.specs.declared.turn.StepEnd.TheVariants as turn
 use Rattle.swi_dispatch_plans.specs.Entries.{Entry}
 use Rattle.swi_dispatch_guest.specs.Writes.{machine_with_register}
 use Rattle.swi_dispatch_guest.specs.MachineState.{MachineState}
@@ -26,21 +26,21 @@ with_registers s n (v ∷ vs) = with_registers (machine_with_register s n v) (n 
 abbrev pub machine_with_words : MachineState → List ℕ → MachineState
 machine_with_words s words = with_registers s 0 words
 
-abbrev pub machine_after_move : List Entry → MachineState → Move → MachineState
-machine_after_move images s (Call number words) = (store_called images
+abbrev pub machine_after_event : List Entry → MachineState → Move → MachineState
+machine_after_event images s (Call number words) = (store_called images
     (machine_with_words s words) number).now
-machine_after_move images s Step = (machine_step images s).now
+machine_after_event images s Step = (machine_step images s).now
 
 abbrev pub moved_all : List Entry → MachineState → List Move → MachineState
 moved_all images s [] = s
-moved_all images s (m ∷ ms) = moved_all images (machine_after_move images s m) ms
+moved_all images s (m ∷ ms) = moved_all images (machine_after_event images s m) ms
 
 -- the name of a call from outside: bits 31 to 24 of its number and its X bit are left out
 abbrev pub outside_name : ℕ → Option SwiName
 outside_name number = swi_of (without_x (number % 2 ^ 24))
 
 -- The SWI that a move makes, if it makes one, and the core that makes it.
-abbrev pub swi_of_turn : Result (State × Bytes) Turn → Option SwiName
+abbrev pub swi_of_turn : Result (State × Bytes) StepEnd → Option SwiName
 swi_of_turn (Err (turn.Swi n)) = swi_of (without_x n)
 swi_of_turn other = None
 

@@ -8,11 +8,11 @@ use Rattle.swi_dispatch_guest.specs.declared.halt.Halt.{Halt}
 use Rattle.swi_dispatch_guest.specs.declared.halt.Halt.TheVariants as halt
 use Rattle.swi_dispatch_answers.specs.declared.refusal.Refusal.{Refusal}
 use Rattle.swi_dispatch_answers.specs.Returns.{state_after_return}
-use Rattle.swi_dispatch_guest.specs.MachineState.{MachineState, StepOutcome, quiet}
+use Rattle.swi_dispatch_guest.specs.MachineState.{MachineState, StepOutcome, silent}
 use Rattle.swi_dispatch_guest.specs.Errors.{error_number, with_error}
 
 abbrev pub outcome_of_halt : MachineState → Halt → StepOutcome
-outcome_of_halt s h = quiet (record s { halt = Some h })
+outcome_of_halt s h = silent (record s { halt = Some h })
 
 abbrev pub gone_back : Psr → MachineState → Bool → ℕ → MachineState
 gone_back caller s overflow next = record s { cpu = state_after_return caller s.cpu overflow next }

@@ -5,7 +5,7 @@ use Rattle.std.specs.Prelude.{◌≡◌, ℕ, zero, suc, ◌+◌, Option, Some, 
 use Rattle.profile.specs.declared.stop.Stop.{Stop}
 use Rattle.profile.specs.declared.stop.Stop.TheVariants as stop
 use Rattle.swi_dispatch_plans.specs.Entries.{Entry}
-use Rattle.arm_core.specs.declared.turn.Turn.{Turn}
+use Rattle.arm_core.specs.declared.turn.StepEnd.{StepEnd}
 unfoldable pub use Rattle.arm_run.specs.Breaks.{is_among}
 use Rattle.swi_dispatch_guest.specs.declared.halt.Halt.{Halt}
 use Rattle.swi_dispatch_guest.specs.declared.halt.Halt.TheVariants as halt
@@ -91,17 +91,17 @@ last_or printed None = printed
 last_or printed (Some last) = last
 
 -- a run of so many steps that print nothing, and why it ended
-abbrev pub quiet_run : MachineState → ℕ → Stop → Run
-quiet_run now zero x = resting now x
-quiet_run now (suc n) x = record { now = now; printed = []; last = Some []; taken = suc n; stop = x }
+abbrev pub silent_run : MachineState → ℕ → Stop → Run
+silent_run now zero x = resting now x
+silent_run now (suc n) x = record { now = now; printed = []; last = Some []; taken = suc n; stop = x }
 
 -- what such a run printed last
-abbrev pub quiet_last : ℕ → Option (List ℕ)
-quiet_last zero = None
-quiet_last (suc n) = Some []
+abbrev pub silent_last : ℕ → Option (List ℕ)
+silent_last zero = None
+silent_last (suc n) = Some []
 
 -- why it ended: where another turn comes next that was no break, and so only for the steps that
 -- were asked for
-abbrev pub quiet_stop : Result Turn Stop → Stop
-quiet_stop (Ok next) = stop.Budget
-quiet_stop (Err x) = x
+abbrev pub silent_stop : Result StepEnd Stop → Stop
+silent_stop (Ok next) = stop.Budget
+silent_stop (Err x) = x

@@ -12,8 +12,8 @@ use Rattle.profile.specs.declared.reason.ModuleReason.TheVariants as reason
 use Rattle.profile.specs.Outcome.{bind}
 use Rattle.profile.specs.Word.{bit_of}
 use Rattle.address_map.specs.Bytes.{Bytes}
-use Rattle.arm_core.specs.declared.turn.Turn.{Turn}
-use Rattle.arm_core.specs.declared.turn.Turn.TheVariants as turn
+use Rattle.arm_core.specs.declared.turn.StepEnd.{StepEnd}
+use Rattle.arm_core.specs.declared.turn.StepEnd.TheVariants as turn
 use Rattle.arm_core.specs.State.{State, register_of}
 use Rattle.arm_step.specs.Step.{result_of_step}
 use Rattle.os_heap.specs.Store.{owned_in}
@@ -30,7 +30,7 @@ use Rattle.instances_table.specs.Lookup.{handler_of}
 use Rattle.swi_dispatch_answers.specs.declared.refusal.Refusal.{Refusal}
 use Rattle.swi_dispatch_answers.specs.declared.refusal.Refusal.TheVariants as refusal
 use Rattle.swi_dispatch_plans.specs.declared.openings.Opening.{Opening}
-use Rattle.swi_dispatch_guest.specs.MachineState.{MachineState, StepOutcome, quiet, setting_of, with_memory, with_world}
+use Rattle.swi_dispatch_guest.specs.MachineState.{MachineState, StepOutcome, silent, setting_of, with_memory, with_module_state}
 use Rattle.swi_dispatch_plans.specs.ModulePlans.{clear_planned, delete_planned, reinit_planned, tidy_planned}
 use Rattle.swi_dispatch_plans.specs.ImagePlans.{instantiation_planned}
 use Rattle.swi_dispatch_plans.specs.Openings.{opening_asked}
@@ -44,7 +44,7 @@ use Rattle.swi_dispatch_guest.specs.Returns.{outcome_of_error, error_answered, g
 
 -- An instruction changes memory, and no list.
 abbrev pub moved_on : MachineState → State × Bytes → StepOutcome
-moved_on s w = quiet (record s { cpu = w.0; store = with_memory s.store w.1 })
+moved_on s w = silent (record s { cpu = w.0; store = with_memory s.store w.1 })
 
 -- The number of a store call without its X bit, which is bit 17 (RISC OS 3 Programmer's Reference
 -- Manual, "An introduction to SWIs").
@@ -82,23 +82,23 @@ abbrev pub outcome_of_module_swi : MachineState → Bool → ℕ → ℕ → Opt
 outcome_of_module_swi s x next number None = call_refused s x next SwiUnknown
 outcome_of_module_swi s x next number (Some h) =
     if length s.tables.frames == 32 then call_refused s x next FrameLimit else
-    quiet (handler_entered s (call_of s x next false) number h)
+    silent (handler_entered s (call_of s x next false) number h)
 
 -- OS_Module 2: the call goes back, and then the module is entered.
 abbrev pub module_entered : MachineState → Bool → ℕ → Result Opening ErrorNumber → StepOutcome
 module_entered s x next (Err e) = call_refused s x next e
-module_entered s x next (Ok o) = quiet (module_opened (gone_back s.cpu.psr s false next) o)
+module_entered s x next (Ok o) = silent (module_opened (gone_back s.cpu.psr s false next) o)
 
 -- A call that may run module code begins, if nothing refuses it.
 unfoldable pub outcome_of_planned : MachineState → Bool → ℕ → Bool → Result Planned ErrorNumber → StepOutcome
 outcome_of_planned s x next enters (Err e) = call_refused s x next e
-outcome_of_planned s x next enters (Ok w) = quiet (carried_on (with_world s w.world)
+outcome_of_planned s x next enters (Ok w) = silent (carried_on (with_module_state s w.module_state)
     (call_of s x next enters) w.plan)
 
 -- a call that has done something at once, or is refused
 abbrev pub outcome_of_plan : MachineState → Call → Result (Option Plan) ErrorNumber → StepOutcome
 outcome_of_plan s call (Err e) = call_refused s call.is_x call.next e
-outcome_of_plan s call (Ok ended) = quiet (state_after_plan s call ended)
+outcome_of_plan s call (Ok ended) = silent (state_after_plan s call ended)
 
 -- with what a call on instances that are there is to do
 abbrev pub begun_alone : MachineState → Bool → ℕ → Result Plan ErrorNumber → StepOutcome
@@ -151,28 +151,28 @@ abbrev pub swi_called : List Entry → MachineState → ℕ → StepOutcome
 swi_called images s n = outcome_of_call images s (bit_of n 17) ((s.cpu.pc + 4) % 2 ^ 26) (without_x n)
 
 -- What a turn of the core asks of the machine.
-abbrev pub turn_end : List Entry → MachineState → Turn → StepOutcome
-turn_end images s turn.Done = quiet s
+abbrev pub turn_end : List Entry → MachineState → StepEnd → StepOutcome
+turn_end images s turn.Done = silent s
 turn_end images s (turn.Swi n) = swi_called images s n
 turn_end images s turn.Gate = outcome_of_gate s
 turn_end images s (turn.Fault f) = outcome_of_halt s (halt.Fault f)
 
 -- the core's part of a step, and then what it asks for
-abbrev pub outcome_of_turn : List Entry → MachineState → Result (State × Bytes) Turn → StepOutcome
+abbrev pub outcome_of_turn : List Entry → MachineState → Result (State × Bytes) StepEnd → StepOutcome
 outcome_of_turn images s (Ok w) = moved_on s w
 outcome_of_turn images s (Err t) = turn_end images s t
 
 -- what the core's part of a step leaves: on another turn than Done nothing is changed
-abbrev pub Turned : MachineState → Result (State × Bytes) Turn → Turn → MachineState → Type 0
+abbrev pub Turned : MachineState → Result (State × Bytes) StepEnd → StepEnd → MachineState → Type 0
 Turned s (Ok w) t s' = (t ≡ turn.Done) × (s' ≡ (moved_on s w).now)
 Turned s (Err e) t s' = (t ≡ e) × (s' ≡ s)
 
 -- The instruction at the program counter; the words that the heaps spell are owned.
-abbrev pub result_of_instruction : MachineState → Result (State × Bytes) Turn
+abbrev pub result_of_instruction : MachineState → Result (State × Bytes) StepEnd
 result_of_instruction s = result_of_step (owned_in s.store) s.cpu s.store.bytes
 
 abbrev pub unless_halted : MachineState → Option Halt → StepOutcome → StepOutcome
-unless_halted s (Some h) a = quiet s
+unless_halted s (Some h) a = silent s
 unless_halted s None a = a
 
 -- A halted machine stays as it is. A step is a function of the machine and the images.

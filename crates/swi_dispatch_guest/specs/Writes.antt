@@ -29,8 +29,8 @@ abbrev pub machine_at : MachineState → ℕ → MachineState
 machine_at s address = record s { cpu = record s.cpu { pc = address } }
 
 -- whatever has halted it, it can take steps again
-abbrev pub machine_awake : MachineState → MachineState
-machine_awake s = record s { halt = None }
+abbrev pub machine_unhalted : MachineState → MachineState
+machine_unhalted s = record s { halt = None }
 
 -- the flags, the interrupt bits and the mode
 abbrev pub machine_with_status : MachineState → Psr → MachineState

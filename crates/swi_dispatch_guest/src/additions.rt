@@ -18,10 +18,10 @@ use swi_dispatch_plans::{ImageFound, ImageRange, Images};
 type Started = Result<Option<Plan>, ErrorNumber>;
 
 impl Guest {
-    ghost use Rattle.swi_dispatch_guest.specs.Parts.{state_of};
+    ghost use Rattle.swi_dispatch_guest.specs.GuestState.{state_of};
     ghost use Rattle.swi_dispatch_guest.specs.Additions.{Starts, copied_range_planned, copy_planned, image_planned};
     ghost use Rattle.swi_dispatch_guest.specs.Additions.{insertion_planned, load_planned, named_load_planned, range_planned};
-    ghost use Rattle.swi_dispatch_guest.specs.MachineState.{machine_world, quiet, setting_of};
+    ghost use Rattle.swi_dispatch_guest.specs.MachineState.{machine_module_state, silent, setting_of};
     ghost use Rattle.swi_dispatch_guest.specs.Step.{call_of, outcome_of_plan, outcome_of_planned};
     ghost use Rattle.swi_dispatch_plans.specs.Beginning.{IsFree, SparesTitle};
     ghost use Rattle.swi_dispatch_plans.specs.ImagePlans.{SparesRange, image_header_in};
@@ -32,7 +32,7 @@ impl Guest {
     pub(crate) fn load_named(&mut self, images: &Images, call: Call)
         requires made { call ≡ call_of (state_of self.old) call.is_x call.next call.enters }
         requires next { call.next < 2 ^ 26 }
-        ensures { quiet (state_of self.new)
+        ensures { silent (state_of self.new)
             ≡ outcome_of_planned (state_of self.old) call.is_x call.next call.enters
             (named_load_planned images.now (state_of self.old) call.enters) }
     {
@@ -46,7 +46,7 @@ impl Guest {
     /// The same with the words of the string.
     pub(crate) fn load_words(&mut self, images: &Images, call: Call, words: &[u8])
         requires made { call ≡ call_of (state_of self.old) call.is_x call.next call.enters }
-        ensures { quiet (state_of self.new)
+        ensures { silent (state_of self.new)
             ≡ outcome_of_planned (state_of self.old) call.is_x call.next call.enters
             (load_planned images.now (state_of self.old) words.now call.enters) }
     {
@@ -57,7 +57,7 @@ impl Guest {
     /// OS_Module 10: R1 has the address of an image, R2 its length.
     pub(crate) fn insert_range(&mut self, call: Call)
         requires made { call ≡ call_of (state_of self.old) call.is_x call.next call.enters }
-        ensures { quiet (state_of self.new)
+        ensures { silent (state_of self.new)
             ≡ outcome_of_planned (state_of self.old) call.is_x call.next call.enters
             (insertion_planned (state_of self.old)) }
     {
@@ -68,7 +68,7 @@ impl Guest {
     /// OS_Module 11: R1 has the address of an image, R2 its length.
     pub(crate) fn insert_copy(&mut self, call: Call)
         requires made { call ≡ call_of (state_of self.old) call.is_x call.next call.enters }
-        ensures { quiet (state_of self.new)
+        ensures { silent (state_of self.new)
             ≡ outcome_of_planned (state_of self.old) call.is_x call.next call.enters
             (copy_planned (state_of self.old)) }
     {
@@ -79,7 +79,7 @@ impl Guest {
     // A call goes on that has begun, or is refused.
     fn go_on(&mut self, call: Call, started: Started)
         requires made { OnErr started (call ≡ call_of (state_of self.old) call.is_x call.next call.enters) }
-        ensures { quiet (state_of self.new) ≡ outcome_of_plan (state_of self.old) call started }
+        ensures { silent (state_of self.new) ≡ outcome_of_plan (state_of self.old) call started }
     {
         match started {
             Ok(ended) => self.finish(call, ended),
@@ -140,7 +140,7 @@ impl Guest {
 
     // An image is recorded where it stands, and the plan of its call is begun.
     fn record_image(&mut self, call: Call, found: ImageFound) -> Started
-        requires place { may_be_in_place (machine_world (state_of self.old)).estate.store
+        requires place { may_be_in_place (machine_module_state (state_of self.old)).area_store.store
             found.range.at found.range.len ≡ true }
         requires header { image_header_in (setting_of (state_of self.old)) found.range.at found.range.len
             ≡ Ok found.header }
@@ -170,7 +170,7 @@ impl Guest {
     // A copy of an image that stands in memory gets a block of the module area, and the plan of its
     // call is begun.
     fn place_copy(&mut self, call: Call, found: ImageFound) -> Started
-        requires place { may_be_copied (machine_world (state_of self.old)).estate
+        requires place { may_be_copied (machine_module_state (state_of self.old)).area_store
             found.range.at found.range.len ≡ true }
         requires header { image_header_in (setting_of (state_of self.old)) found.range.at found.range.len
             ≡ Ok found.header }

@@ -17,7 +17,7 @@ impl Guest {
     ghost use Rattle.swi_dispatch_guest.specs.Answers.{with_answer};
     ghost use Rattle.swi_dispatch_guest.specs.Calls.{call_answer, machine_in_supervisor, moving_error};
     ghost use Rattle.swi_dispatch_guest.specs.MachineState.{outcome_with};
-    ghost use Rattle.swi_dispatch_guest.specs.Parts.{Answers, state_of};
+    ghost use Rattle.swi_dispatch_guest.specs.GuestState.{Answers, state_of};
     ghost use Rattle.swi_dispatch_guest.specs.Returns.{gone_back};
 
     /// A store call as the guest makes it in its present status. `is_x` says whether an error goes
@@ -38,7 +38,7 @@ impl Guest {
     pub(crate) fn call(&mut self, images: &Images, output: &mut Output, call: Call, number: u32)
         requires made { call ≡ call_of (state_of self.old) call.is_x call.next false }
         requires next { call.next < 2 ^ 26 }
-        requires silent { output.old.items ≡ [] }
+        requires unprinted { output.old.items ≡ [] }
         ensures { outcome_with (state_of self.new) output.new.items
             ≡ outcome_of_call images.now (state_of self.old) call.is_x call.next number }
     {
@@ -59,7 +59,7 @@ impl Guest {
     fn call_os_module(&mut self, images: &Images, output: &mut Output, call: Call, number: u32)
         requires made { call ≡ call_of (state_of self.old) call.is_x call.next false }
         requires next { call.next < 2 ^ 26 }
-        requires silent { output.old.items ≡ [] }
+        requires unprinted { output.old.items ≡ [] }
         ensures { outcome_with (state_of self.new) output.new.items
             ≡ os_module_called images.now (state_of self.old) call.is_x call.next number }
     {
@@ -104,7 +104,7 @@ impl Guest {
     fn call_system(&mut self, output: &mut Output, call: Call, number: u32, name: Option<SwiName>)
         requires made { call ≡ call_of (state_of self.old) call.is_x call.next false }
         requires next { call.next < 2 ^ 26 }
-        requires silent { output.old.items ≡ [] }
+        requires unprinted { output.old.items ≡ [] }
         ensures { outcome_with (state_of self.new) output.new.items
             ≡ outcome_of_answer (state_of self.old) call.is_x
             (call_answer (state_of self.old) call.next number name) }
@@ -131,14 +131,14 @@ impl Guest {
         name: Option<SwiName>,
     ) -> Result<(), Refusal>
         requires next { call.old.next < 2 ^ 26 }
-        requires silent { output.old.items ≡ [] }
+        requires unprinted { output.old.items ≡ [] }
         ensures done { Answers (call_answer
             (state_of self.old) call.old.next number name) call.new.next result
             (outcome_with (state_of self.new) output.new.items) }
         ensures call { call.new ≡ record call.old { next = call.new.next } }
         ensures unmoved { OnErr result (moving_error (state_of self.old) name ≡ None
             → state_of self.new ≡ state_of self.old) }
-        ensures silent { OnErr result (output.new.items ≡ []) }
+        ensures unprinted { OnErr result (output.new.items ≡ []) }
     {
         match name {
             Some(SwiName::WriteC) => output.push((self.cpu().register(0) % 256) as u8),

@@ -12,8 +12,8 @@ use swi_dispatch_answers::errors::{error_at, write_error};
 use swi_dispatch_answers::frames::Call;
 
 impl Guest {
-    ghost use Rattle.swi_dispatch_guest.specs.Parts.{state_of};
-    ghost use Rattle.swi_dispatch_guest.specs.MachineState.{quiet};
+    ghost use Rattle.swi_dispatch_guest.specs.GuestState.{state_of};
+    ghost use Rattle.swi_dispatch_guest.specs.MachineState.{silent};
     ghost use Rattle.swi_dispatch_guest.specs.Calls.{generated_refusal};
     ghost use Rattle.swi_dispatch_guest.specs.Errors.{error_number, with_error};
     ghost use Rattle.swi_dispatch_guest.specs.Returns.{gone_back, error_answered, outcome_of_error};
@@ -30,8 +30,8 @@ impl Guest {
 
     /// A call that errs goes back with its error, or is a fault, and then nothing is changed.
     pub(crate) fn end_with_error(&mut self, call: Call, refusal: Refusal)
-        ensures { quiet (state_of self.new) ≡ outcome_of_error (state_of self.old) call.is_x
-            (error_answered call.caller (quiet (state_of self.old)) call.next refusal) }
+        ensures { silent (state_of self.new) ≡ outcome_of_error (state_of self.old) call.is_x
+            (error_answered call.caller (silent (state_of self.old)) call.next refusal) }
     {
         if !call.is_x {
             let number = self.answered_number(refusal);

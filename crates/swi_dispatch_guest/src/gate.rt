@@ -18,12 +18,12 @@ use swi_dispatch_answers::frames::{Call, Frame, FrameKind};
 use swi_dispatch_answers::returns::return_to;
 
 impl Guest {
-    ghost use Rattle.swi_dispatch_guest.specs.Parts.{state_of};
-    ghost use Rattle.swi_dispatch_guest.specs.MachineState.{machine_world, quiet};
+    ghost use Rattle.swi_dispatch_guest.specs.GuestState.{state_of};
+    ghost use Rattle.swi_dispatch_guest.specs.MachineState.{machine_module_state, silent};
 
     /// What a step does at the gate. Where no frame is open, there is nothing to be fetched.
     pub(crate) fn pass_gate(&mut self)
-        ensures { quiet (state_of self.new) ≡ outcome_of_gate (state_of self.old) }
+        ensures { silent (state_of self.new) ≡ outcome_of_gate (state_of self.old) }
     {
         let Some(frame) = self.frames.innermost() else {
             return self.halt_with(Halt::Fault(Fault::FetchUnmapped));
@@ -47,7 +47,7 @@ impl Guest {
     fn leave_entry(&mut self, frame: Frame)
         requires last { innermost_frame (state_of self.old).tables.frames ≡ Some frame }
         requires entry { is_swi frame.kind ≡ false }
-        ensures { quiet (state_of self.new)
+        ensures { silent (state_of self.new)
             ≡ plan_left (state_of self.old) frame (state_of self.old).tables.plan }
     {
         let outcome = outcome_left(self.cpu());
@@ -86,7 +86,7 @@ impl Guest {
     // The number of the error that a call ends with whose entry comes back with this outcome, if it
     // ends with one that its caller doesn't take.
     fn fault_ahead(&mut self, call: Call, outcome: Outcome) -> Option<u32>
-        ensures value { result ≡ fault_kept call (machine_world (state_of self.old)) outcome
+        ensures value { result ≡ fault_kept call (machine_module_state (state_of self.old)) outcome
             (state_of self.old).tables.plan }
         ensures same { self.new ≡ self.old }
     {
@@ -94,7 +94,7 @@ impl Guest {
             return None;
         }
         let plan = self.plan.as_ref()?;
-        self.spare
+        self.scratch
             .error_after(&self.memory, &self.areas, &self.instances, plan, outcome)
     }
 }

@@ -6,8 +6,8 @@ ghost use Rattle.swi_dispatch_guest.specs.Step.{swi_called, turn_end, without_x}
 use crate::halt::Halt;
 use crate::printing::Output;
 use address_map::AddressMap;
-use arm_core::{Cpu, Turn};
-use arm_run::ReadyWords;
+use arm_core::{Cpu, StepEnd};
+use arm_run::DecodeCache;
 use dynamic_areas::{Areas, start_memory};
 use instances::Instances;
 use instances_table::plans::Plan;
@@ -19,7 +19,7 @@ use std::alloc::{AllocError, Global};
 use std::marker::Model;
 use swi_dispatch_answers::flex::Flex;
 use swi_dispatch_answers::frames::Frames;
-use swi_dispatch_plans::{Images, Spare};
+use swi_dispatch_plans::{Images, Scratch};
 
 /// The bit of a call's number that asks for errors to be returned.
 const X_BIT: u32 = 1 << 17;
@@ -38,37 +38,37 @@ pub struct Guest {
     pub(crate) flex: Flex,
     pub(crate) halt: Option<Halt>,
     /// What a call is tried on whose caller takes no error. It is no part of the guest's state.
-    pub(crate) spare: Spare,
+    pub(crate) scratch: Scratch,
     /// Words that were carried out, made ready. They are no part of the guest's state.
-    pub(crate) ready: ReadyWords,
+    pub(crate) ready: DecodeCache,
 }
 
 impl Model for Guest {
-    ghost use Rattle.swi_dispatch_guest.specs.Parts.{Parts, IsWellFormed};
+    ghost use Rattle.swi_dispatch_guest.specs.GuestState.{GuestState, IsWellFormed};
 
-    ghost Value = { Parts };
+    ghost Value = { GuestState };
 
     ghost view = { λ g. record {
       cpu = g.cpu;
       map = g.memory;
-      tables = record { land = g.areas; modules = g.instances; frames = g.frames; plan = g.plan; flex = g.flex };
+      tables = record { area_table = g.areas; modules = g.instances; frames = g.frames; plan = g.plan; flex = g.flex };
       halt = g.halt;
-      sizes = g.spare;
+      sizes = g.scratch;
     } };
 
     ghost invariant = { λ g. IsWellFormed
         (record {
           cpu = g.cpu;
           map = g.memory;
-          tables = record { land = g.areas; modules = g.instances; frames = g.frames; plan = g.plan; flex = g.flex };
+          tables = record { area_table = g.areas; modules = g.instances; frames = g.frames; plan = g.plan; flex = g.flex };
           halt = g.halt;
-          sizes = g.spare;
+          sizes = g.scratch;
         }) };
 }
 
 impl Guest {
-    ghost use Rattle.swi_dispatch_guest.specs.MachineState.{machine_start, outcome_with, quiet};
-    ghost use Rattle.swi_dispatch_guest.specs.Parts.{IsGuest, TakesTurn, state_of};
+    ghost use Rattle.swi_dispatch_guest.specs.MachineState.{machine_start, outcome_with, silent};
+    ghost use Rattle.swi_dispatch_guest.specs.GuestState.{IsGuest, TakesTurn, state_of};
     ghost use Rattle.swi_dispatch_guest.specs.Returns.{outcome_of_halt};
     ghost use Rattle.swi_dispatch_guest.specs.Writes.{with_program};
 
@@ -93,8 +93,8 @@ impl Guest {
             plan: None,
             flex: Flex::new(),
             halt: None,
-            spare: Spare::new(alloc, config)?,
-            ready: ReadyWords::new(alloc)?,
+            scratch: Scratch::new(alloc, config)?,
+            ready: DecodeCache::new(alloc)?,
         })
     }
 
@@ -132,22 +132,22 @@ impl Guest {
     }
 
     /// What a turn of the core leaves to do, and prints.
-    pub fn after_turn(&mut self, images: &Images, output: &mut Output, turn: Turn)
-        requires silent { output.old.items ≡ [] }
+    pub fn after_turn(&mut self, images: &Images, output: &mut Output, turn: StepEnd)
+        requires unprinted { output.old.items ≡ [] }
         ensures { outcome_with (state_of self.new) output.new.items
             ≡ turn_end images.now (state_of self.old) turn }
     {
         match turn {
-            Turn::Done => {}
-            Turn::Swi(number) => self.call_by_instruction(images, output, number),
-            Turn::Gate => self.pass_gate(),
-            Turn::Fault(fault) => self.halt_with(Halt::Fault(fault)),
+            StepEnd::Done => {}
+            StepEnd::Swi(number) => self.call_by_instruction(images, output, number),
+            StepEnd::Gate => self.pass_gate(),
+            StepEnd::Fault(fault) => self.halt_with(Halt::Fault(fault)),
         }
     }
 
     // A call by an instruction; the guest goes on after it.
     fn call_by_instruction(&mut self, images: &Images, output: &mut Output, number: u32)
-        requires silent { output.old.items ≡ [] }
+        requires unprinted { output.old.items ≡ [] }
         ensures { outcome_with (state_of self.new) output.new.items
             ≡ swi_called images.now (state_of self.old) number }
     {
@@ -157,7 +157,7 @@ impl Guest {
     }
 
     pub(crate) fn halt_with(&mut self, halt: Halt)
-        ensures { quiet (state_of self.new) ≡ outcome_of_halt (state_of self.old) halt }
+        ensures { silent (state_of self.new) ≡ outcome_of_halt (state_of self.old) halt }
     {
         self.halt = Some(halt);
     }

@@ -7,7 +7,7 @@ ghost use Rattle.os_heap.specs.Store.{store_of, IsSound};
 ghost use Rattle.dynamic_areas.specs.Rooms.{IsAreaTable};
 ghost use Rattle.swi_dispatch_answers.specs.flex.State.{IsFlex};
 ghost use Rattle.swi_dispatch_guest.specs.MachineState.{stop_of, setting_of};
-ghost use Rattle.swi_dispatch_plans.specs.Setting.{setting_in};
+ghost use Rattle.swi_dispatch_plans.specs.PlannerInput.{setting_in};
 
 use crate::guest::Guest;
 use crate::halt::Halt;
@@ -22,7 +22,7 @@ use swi_dispatch_answers::frames::Frame;
 use swi_dispatch_plans::Planner;
 
 impl Guest {
-    ghost use Rattle.swi_dispatch_guest.specs.Parts.{state_of};
+    ghost use Rattle.swi_dispatch_guest.specs.GuestState.{state_of};
     /// The core.
     pub fn cpu(&self) -> &Cpu
         ensures { result.now ≡ (state_of self.now).cpu }
@@ -50,7 +50,7 @@ impl Guest {
 
     /// The dynamic areas, which stand on the memory.
     pub fn areas(&self) -> &Areas
-        ensures land { result.now ≡ (state_of self.now).tables.land }
+        ensures area_table { result.now ≡ (state_of self.now).tables.area_table }
         ensures table { IsAreaTable result.now.areas }
     {
         &self.areas

@@ -5,13 +5,13 @@ ghost use Rattle.std.specs.Prelude.{◌≡◌, ◌<◌, ◌≤◌, ◌^◌, fals
 
 use crate::guest::Guest;
 use instances::Start;
-use instances::world::put_text;
+use instances::module_state::put_text;
 use swi_dispatch_answers::frames::Call;
 use swi_dispatch_plans::{Opening, enter_as_user};
 
 impl Guest {
-    ghost use Rattle.swi_dispatch_guest.specs.Parts.{state_of};
-    ghost use Rattle.swi_dispatch_guest.specs.MachineState.{quiet, setting_of};
+    ghost use Rattle.swi_dispatch_guest.specs.GuestState.{state_of};
+    ghost use Rattle.swi_dispatch_guest.specs.MachineState.{silent, setting_of};
     ghost use Rattle.swi_dispatch_guest.specs.ModuleStart.{module_opened, opened_at, with_environment};
     ghost use Rattle.swi_dispatch_guest.specs.Returns.{gone_back};
     ghost use Rattle.swi_dispatch_guest.specs.Step.{call_of, module_entered};
@@ -21,7 +21,7 @@ impl Guest {
     pub(crate) fn enter_module(&mut self, call: Call)
         requires made { call ≡ call_of (state_of self.old) call.is_x call.next false }
         requires next { call.next < 2 ^ 26 }
-        ensures { quiet (state_of self.new) ≡ module_entered (state_of self.old) call.is_x call.next
+        ensures { silent (state_of self.new) ≡ module_entered (state_of self.old) call.is_x call.next
             (opening_asked (setting_of (state_of self.old))) }
     {
         let opening = self.planner().opening();

@@ -2,10 +2,10 @@
 //! ends (RISC OS 3 Programmer's Reference Manual, "Modules" and "OS_Module").
 
 ghost use Rattle.std.specs.Prelude.{◌≡◌, ◌<◌, false, length, IfOk};
-ghost use Rattle.instances.specs.world.World.{world_of};
+ghost use Rattle.instances.specs.module_state.ModuleState.{module_state_of};
 ghost use Rattle.os_heap.specs.Store.{AreClasses};
 ghost use Rattle.instances.specs.Turns.{IsUnderWay};
-ghost use Rattle.swi_dispatch_plans.specs.Trials.{world_carried};
+ghost use Rattle.swi_dispatch_plans.specs.Trials.{module_state_carried};
 ghost use Rattle.swi_dispatch_guest.specs.Carried.{IsCarriedNext};
 ghost use Rattle.swi_dispatch_guest.specs.Gates.{call_ended, core_by, ended_of, frames_by, kept_by, loaded_entered, plan_unless_code, state_after_plan, state_with_code_entered};
 
@@ -19,8 +19,8 @@ use profile::ErrorNumber;
 use swi_dispatch_answers::frames::{Call, Frame, FrameKind, Frames, enter_code};
 
 impl Guest {
-    ghost use Rattle.swi_dispatch_guest.specs.Parts.{state_of};
-    ghost use Rattle.swi_dispatch_guest.specs.MachineState.{machine_world, quiet, setting_of};
+    ghost use Rattle.swi_dispatch_guest.specs.GuestState.{state_of};
+    ghost use Rattle.swi_dispatch_guest.specs.MachineState.{machine_module_state, silent, setting_of};
     ghost use Rattle.swi_dispatch_guest.specs.Gates.{carried_on};
     ghost use Rattle.swi_dispatch_guest.specs.Step.{begun_alone, call_of};
     ghost use Rattle.swi_dispatch_plans.specs.Beginning.{CanBegin};
@@ -30,7 +30,7 @@ impl Guest {
     pub(crate) fn begin(&mut self, call: Call, planned: Result<Plan, ErrorNumber>)
         requires made { call ≡ call_of (state_of self.old) call.is_x call.next false }
         requires begins { IfOk planned (CanBegin (setting_of (state_of self.old))) }
-        ensures { quiet (state_of self.new) ≡ begun_alone (state_of self.old) call.is_x call.next planned }
+        ensures { silent (state_of self.new) ≡ begun_alone (state_of self.old) call.is_x call.next planned }
     {
         match planned {
             Ok(plan) => self.begin_plan(call, plan),
@@ -51,8 +51,9 @@ impl Guest {
     fn carry_first(&mut self, call: Call, plan: Plan) -> Option<Plan>
         requires begins { CanBegin (setting_of (state_of self.old)) plan }
         ensures state { state_of self.new ≡ state_with_code_entered (state_of self.old) call
-            (world_carried (machine_world (state_of self.old)) plan) }
-        ensures ended { result ≡ ended_of (world_carried (machine_world (state_of self.old)) plan) }
+            (module_state_carried (machine_module_state (state_of self.old)) plan) }
+        ensures ended { result ≡ ended_of (module_state_carried (machine_module_state (state_of self.old))
+            plan) }
     {
         let (kept, ended) = carry_next(
             &mut self.cpu,
@@ -118,7 +119,7 @@ pub(crate) fn carry_next(
     plan: Plan,
     outcome: Outcome,
 ) -> (Option<Plan>, Option<Plan>)
-    requires going { IsUnderWay (world_of memory.old areas.now instances.old) plan }
+    requires going { IsUnderWay (module_state_of memory.old areas.now instances.old) plan }
     requires classes { AreClasses memory.old }
     requires room { length frames.old < 32 }
     ensures { IsCarriedNext memory.old memory.new areas.now instances.old instances.new

@@ -10,10 +10,10 @@ use swi_dispatch_answers::Refusal;
 use swi_dispatch_answers::frames::{Call, Frame, FrameKind, MOST_FRAMES, enter_swi};
 
 impl Guest {
-    ghost use Rattle.swi_dispatch_guest.specs.Parts.{state_of};
+    ghost use Rattle.swi_dispatch_guest.specs.GuestState.{state_of};
     ghost use Rattle.instances_table.specs.Lookup.{handler_of};
     ghost use Rattle.instances_table.specs.Modules.{slots_of};
-    ghost use Rattle.swi_dispatch_guest.specs.MachineState.{quiet};
+    ghost use Rattle.swi_dispatch_guest.specs.MachineState.{silent};
     ghost use Rattle.swi_dispatch_guest.specs.Step.{call_of, call_refused, handler_entered, outcome_of_module_swi};
 
     /// A call that isn't the system's own.
@@ -21,7 +21,7 @@ impl Guest {
     pub(crate) fn call_module(&mut self, call: Call, number: u32)
         requires made { call ≡ call_of (state_of self.old) call.is_x call.next false }
         requires next { call.next < 2 ^ 26 }
-        ensures { quiet (state_of self.new)
+        ensures { silent (state_of self.new)
             ≡ outcome_of_module_swi (state_of self.old) call.is_x call.next number
             (handler_of number (state_of self.old).tables.modules) }
     {
@@ -37,7 +37,7 @@ impl Guest {
     /// A call that is refused before it did anything.
     pub(crate) fn refuse_call(&mut self, call: Call, error: ErrorNumber)
         requires made { call ≡ call_of (state_of self.old) call.is_x call.next call.enters }
-        ensures { quiet (state_of self.new) ≡ call_refused (state_of self.old) call.is_x call.next error }
+        ensures { silent (state_of self.new) ≡ call_refused (state_of self.old) call.is_x call.next error }
     {
         self.end_with_error(call, Refusal::System(error));
     }

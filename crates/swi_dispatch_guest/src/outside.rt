@@ -14,17 +14,17 @@ use swi_dispatch_answers::words::host_string;
 use swi_dispatch_plans::Images;
 
 impl Guest {
-    ghost use Rattle.swi_dispatch_guest.specs.Parts.{state_of};
+    ghost use Rattle.swi_dispatch_guest.specs.GuestState.{state_of};
     ghost use Rattle.swi_dispatch_guest.specs.Additions.{load_planned};
-    ghost use Rattle.swi_dispatch_guest.specs.MachineState.{outcome_with, quiet};
+    ghost use Rattle.swi_dispatch_guest.specs.MachineState.{outcome_with, silent};
     ghost use Rattle.swi_dispatch_guest.specs.Step.{outcome_of_call, outcome_of_planned, without_x};
-    ghost use Rattle.swi_dispatch_guest.specs.Writes.{machine_after_poke, machine_at, machine_awake, machine_with_bank_register};
+    ghost use Rattle.swi_dispatch_guest.specs.Writes.{machine_after_poke, machine_at, machine_unhalted, machine_with_bank_register};
     ghost use Rattle.swi_dispatch_guest.specs.Writes.{machine_with_register, machine_with_status};
 
     /// Makes a store call with the X bit, of which bits 31 to 24 of the number and its X bit are
     /// left out. The guest goes on at the present program counter.
     pub fn call_here(&mut self, images: &Images, output: &mut Output, number: u32)
-        requires silent { output.old.items ≡ [] }
+        requires unprinted { output.old.items ≡ [] }
         ensures { outcome_with (state_of self.new) output.new.items
             ≡ outcome_of_call images.now (state_of self.old) true (state_of self.old).cpu.pc
             (without_x (number % 2 ^ 24)) }
@@ -37,7 +37,7 @@ impl Guest {
     /// that R1 points to. The guest goes on at the present program counter.
     #[tactic(auto, unfolding(crate::specs::Step::outcome_of_planned))]
     pub fn load_here(&mut self, images: &Images, text: &[u8])
-        ensures { quiet (state_of self.new)
+        ensures { silent (state_of self.new)
             ≡ outcome_of_planned (state_of self.old) true (state_of self.old).cpu.pc false
             (bind (ok_or (host_string text.now) BadString)
             (λ words. load_planned images.now (state_of self.old) words false)) }
@@ -76,7 +76,7 @@ impl Guest {
 
     /// Lets the guest take steps again, whatever has halted it.
     pub fn wake(&mut self)
-        ensures { state_of self.new ≡ machine_awake (state_of self.old) }
+        ensures { state_of self.new ≡ machine_unhalted (state_of self.old) }
     {
         self.halt = None;
     }

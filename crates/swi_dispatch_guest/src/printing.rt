@@ -22,7 +22,7 @@ impl Guest {
     ghost use Rattle.arm_core.specs.State.{register_of};
     ghost use Rattle.swi_dispatch_guest.specs.Answers.{Answer};
     ghost use Rattle.swi_dispatch_guest.specs.MachineState.{outcome_with};
-    ghost use Rattle.swi_dispatch_guest.specs.Parts.{Answers, state_of};
+    ghost use Rattle.swi_dispatch_guest.specs.GuestState.{Answers, state_of};
 
     /// OS_WriteS: the text stands after the instruction, and the guest goes on after it.
     pub(crate) fn write_text_after(
@@ -30,13 +30,13 @@ impl Guest {
         output: &mut Output,
         call: &mut Call,
     ) -> Result<(), Refusal>
-        requires silent { output.old.items ≡ [] }
+        requires unprinted { output.old.items ≡ [] }
         ensures done { let s = state_of self.now in
             Answers (wrote_text_after s call.old.next
             (printable_at s.store.bytes call.old.next)) call.new.next
             result (outcome_with s output.new.items) }
         ensures call { call.new ≡ record call.old { next = call.new.next } }
-        ensures silent { OnErr result (output.new.items ≡ []) }
+        ensures unprinted { OnErr result (output.new.items ≡ []) }
     {
         let Some(text) = text_at(self.memory(), call.next, TextEnd::Zero) else {
             return Err(Refusal::System(ErrorNumber::BadString));
@@ -48,13 +48,13 @@ impl Guest {
 
     /// OS_Write0: R0 points to the text, and past its end afterwards.
     pub(crate) fn write_text(&mut self, output: &mut Output) -> Result<(), Refusal>
-        requires silent { output.old.items ≡ [] }
+        requires unprinted { output.old.items ≡ [] }
         ensures done { (next : ℕ) → let at = register_of (state_of self.old).cpu 0 in
             Answers (wrote_text_at (state_of self.old) next at
             (printable_at (state_of self.old).store.bytes at)) next result
             (outcome_with (state_of self.new) output.new.items) }
         ensures unmoved { OnErr result (state_of self.new ≡ state_of self.old) }
-        ensures silent { OnErr result (output.new.items ≡ []) }
+        ensures unprinted { OnErr result (output.new.items ≡ []) }
     {
         let at = self.cpu().register(0);
         let Some(text) = text_at(self.memory(), at, TextEnd::Zero) else {

@@ -2,8 +2,8 @@
 
 ghost use Rattle.std.specs.Prelude.{◌≡◌, ◌≢◌, ◌<◌, ◌&&◌, ◌==◌, ◌≤◌, ◌↔◌, None, Some, Err, List, false, true, IsTrue, IfOk, OnOk, OnErr};
 ghost use Rattle.std.specs.Option.{option_map};
-ghost use Rattle.swi_dispatch_guest.specs.Parts.{TakesTurn, state_of};
-ghost use Rattle.swi_dispatch_guest.specs.Run.{ran, stop_after, count_after, last_or, quiet_run, quiet_last, quiet_stop};
+ghost use Rattle.swi_dispatch_guest.specs.GuestState.{TakesTurn, state_of};
+ghost use Rattle.swi_dispatch_guest.specs.Run.{ran, stop_after, count_after, last_or, silent_run, silent_last, silent_stop};
 ghost use Rattle.swi_dispatch_guest.specs.MachineState.{outcome_with, stop_of};
 ghost use Rattle.swi_dispatch_guest.specs.Step.{machine_step};
 ghost use Rattle.std.specs.Io.KnownBytes.{Appends};
@@ -12,7 +12,7 @@ ghost use Rattle.swi_dispatch_guest.specs.Ending.{Ends, StandsAfter};
 
 use crate::guest::Guest;
 use crate::printing::Output;
-use arm_core::Turn;
+use arm_core::StepEnd;
 use arm_run::Breaks;
 use profile::{Sink, Stop, WriteFault, push_all};
 use swi_dispatch_plans::Images;
@@ -68,8 +68,8 @@ impl Guest {
         }
         let mut taken = 0;
         while taken < budget {
-            let (quiet, next) = self.run_quietly(breaks, output, budget - taken);
-            taken += quiet;
+            let (silent, next) = self.run_silently(breaks, output, budget - taken);
+            taken += silent;
             let turn = match next {
                 Ok(turn) => turn,
                 Err(stop) => return Ok(Ran { stop, taken }),
@@ -87,21 +87,21 @@ impl Guest {
     // Takes steps as long as each is an instruction that the core does by itself, which prints
     // nothing and halts nothing. Answers how many, and the turn that comes next, or why the run
     // ended before.
-    fn run_quietly(
+    fn run_silently(
         &mut self,
         breaks: &Breaks,
         output: &mut Output,
         most: u64,
-    ) -> (u64, Result<Turn, Stop>)
+    ) -> (u64, Result<StepEnd, Stop>)
         requires some { 0 < most }
-        requires awake { (state_of self.old).halt ≡ None }
+        requires unhalted { (state_of self.old).halt ≡ None }
         ensures ran { (images : List Entry) → ran images breaks.now result.0 (state_of self.old)
-            ≡ quiet_run (state_of self.new) result.0 (quiet_stop result.1) }
-        ensures output { output.new.items ≡ last_or output.old.items (quiet_last result.0) }
+            ≡ silent_run (state_of self.new) result.0 (silent_stop result.1) }
+        ensures output { output.new.items ≡ last_or output.old.items (silent_last result.0) }
         ensures next { IfOk result.1 (λ turn. TakesTurn (state_of self.new) turn (state_of self.new)) }
         ensures fewer { OnOk result.1 (result.0 < most) }
         ensures all { result.1 ≡ Err Stop.Budget → result.0 ≡ most }
-        ensures awake { (state_of self.new).halt ≡ None }
+        ensures unhalted { (state_of self.new).halt ≡ None }
         ensures most { result.0 ≤ most }
     {
         let (taken, next) = self.take_instructions(breaks, most);
@@ -112,8 +112,8 @@ impl Guest {
     }
 
     // Takes a step of a guest that isn't halted, by the turn that comes next.
-    fn step_from(&mut self, images: &Images, output: &mut Output, turn: Turn) -> Option<Stop>
-        requires awake { (state_of self.old).halt ≡ None }
+    fn step_from(&mut self, images: &Images, output: &mut Output, turn: StepEnd) -> Option<Stop>
+        requires unhalted { (state_of self.old).halt ≡ None }
         requires next { TakesTurn (state_of self.old) turn (state_of self.old) }
         ensures after { outcome_with (state_of self.new) output.new.items
             ≡ machine_step images.now (state_of self.old) }
@@ -131,14 +131,14 @@ impl Guest {
         breaks: &Breaks,
         output: &mut Output,
         sink: &mut W,
-        turn: Turn,
+        turn: StepEnd,
     ) -> Result<Ran, WriteFault>
-        requires awake { (state_of self.old).halt ≡ None }
+        requires unhalted { (state_of self.old).halt ≡ None }
         requires next { TakesTurn (state_of self.old) turn (state_of self.old) }
         ensures ends { IfOk result (λ r. Ends (ran images.now breaks.now 1 (state_of self.old))
             (state_of self.new) output.old.items output.new.items
             (W.contents sink.old) (W.contents sink.new) r.taken r.stop) }
-        ensures awake { IfOk result (λ r. r.stop ≡ Stop.Budget → (state_of self.new).halt ≡ None) }
+        ensures unhalted { IfOk result (λ r. r.stop ≡ Stop.Budget → (state_of self.new).halt ≡ None) }
         ensures count { IfOk result (λ r. r.taken ≤ 1) }
         ensures stands { OnErr result (state_of self.new
             ≡ (ran images.now breaks.now 1 (state_of self.old)).now) }

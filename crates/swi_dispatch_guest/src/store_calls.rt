@@ -21,9 +21,9 @@ use swi_dispatch_plans::store::{call_area, call_heap, change_area, change_error,
 
 impl Guest {
     ghost use Rattle.swi_dispatch_guest.specs.Calls.{area_changing, call_answer, machine_flex, moving_error, with_guest};
-    ghost use Rattle.swi_dispatch_guest.specs.Calls.{on_estate, on_flex, on_store, on_world};
-    ghost use Rattle.swi_dispatch_guest.specs.MachineState.{machine_estate, machine_world, quiet};
-    ghost use Rattle.swi_dispatch_guest.specs.Parts.{Answers, state_of};
+    ghost use Rattle.swi_dispatch_guest.specs.Calls.{on_area_store, on_flex, on_store, on_module_state};
+    ghost use Rattle.swi_dispatch_guest.specs.MachineState.{machine_area_store, machine_module_state, silent};
+    ghost use Rattle.swi_dispatch_guest.specs.GuestState.{Answers, state_of};
     ghost use Rattle.swi_dispatch_guest.specs.Step.{outcome_of_answer};
     ghost use Rattle.swi_dispatch_guest.specs.Returns.{outcome_of_halt};
 
@@ -38,7 +38,7 @@ impl Guest {
     /// OS_ReadDynamicArea.
     pub(crate) fn read_area(&mut self) -> Result<(), Refusal>
         ensures { let s = state_of self.old in
-            Leaves s (on_estate s (area_read s.cpu (machine_estate s))) result (state_of self.new) }
+            Leaves s (on_area_store s (area_read s.cpu (machine_area_store s))) result (state_of self.new) }
     {
         read_area(&mut self.cpu, &self.memory, &self.areas)
     }
@@ -46,7 +46,7 @@ impl Guest {
     /// OS_DynamicArea.
     pub(crate) fn call_area(&mut self) -> Result<(), Refusal>
         ensures { let s = state_of self.old in
-            Leaves s (on_estate s (area_called s.cpu (machine_estate s))) result (state_of self.new) }
+            Leaves s (on_area_store s (area_called s.cpu (machine_area_store s))) result (state_of self.new) }
     {
         call_area(&mut self.cpu, &mut self.memory, &mut self.areas)
     }
@@ -54,7 +54,8 @@ impl Guest {
     /// OS_Module, the reasons that run no module code.
     pub(crate) fn call_module_reason(&mut self) -> Result<(), Refusal>
         ensures { let s = state_of self.old in
-            Leaves s (on_world s (result_of_module_call s.cpu (machine_world s))) result (state_of self.new) }
+            Leaves s (on_module_state s (result_of_module_call s.cpu (machine_module_state s))) result
+            (state_of self.new) }
     {
         call_module(
             &mut self.cpu,
@@ -67,7 +68,7 @@ impl Guest {
     /// OS_ChangeDynamicArea. Pages move even where not all can.
     pub(crate) fn change_area(&mut self) -> Result<(), Refusal>
         ensures { (next : ℕ) → Answers (area_changing (state_of self.old) next) next result
-            (quiet (state_of self.new)) }
+            (silent (state_of self.new)) }
     {
         match self.resize_area() {
             None => Ok(()),
@@ -76,9 +77,10 @@ impl Guest {
     }
 
     fn resize_area(&mut self) -> Option<ErrorNumber>
-        ensures error { let s = state_of self.old in result ≡ (change_asked s.cpu (machine_estate s)).error }
+        ensures error { let s = state_of self.old in result ≡
+            (change_asked s.cpu (machine_area_store s)).error }
         ensures state { let s = state_of self.old in
-            (state_of self.new) ≡ with_guest s (area_changed s.cpu (machine_estate s)) }
+            (state_of self.new) ≡ with_guest s (area_changed s.cpu (machine_area_store s)) }
     {
         change_area(&mut self.cpu, &mut self.memory, &mut self.areas)
     }

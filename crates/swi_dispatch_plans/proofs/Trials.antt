@@ -1,12 +1,12 @@
--- A trial on a copy of the world comes to what the call comes to.
+-- A trial on a copy of the module state comes to what the call comes to.
 use Rattle.std.proofs.Common.{inl, inr, ◌≡◌, ℕ, true, false, Some, None, List, refl, sym, ap, subst, ◌∙◌}
 use Rattle.std.specs.Prelude.{◌⊎◌, Option, is_some, option_map}
 use Rattle.std.proofs.lemmas.Bool.{false≢true, true≢false}
 use Rattle.address_map.specs.Bytes.{Bytes}
 use Rattle.address_map.specs.declared.map.AddressMap.{AddressMap}
 use Rattle.address_map.specs.Memory.{Layout, byte_at, bytes_of, class_of, layout}
-use Rattle.instances.specs.world.World.{World, world_of}
-use Rattle.dynamic_areas.specs.Areas.{Land}
+use Rattle.instances.specs.module_state.ModuleState.{ModuleState, module_state_of}
+use Rattle.dynamic_areas.specs.Areas.{AreaTable}
 use Rattle.instances_table.specs.declared.plans.code.Code.{Code}
 use Rattle.instances_table.specs.declared.plans.code.Ended.{Ended}
 use Rattle.instances_table.specs.declared.plans.code.Ended.TheVariants as ended
@@ -32,34 +32,34 @@ no_first None is = refl
 no_first (Some r) (inl is) = cc
 no_first (Some r) (inr is) = absurd (let never = is.1 in cc)
 
-pub error_in_code : (w v : World) (p q : Plan) (code : Option Code)
-    → carry_of_plan module_doing w p ≡ record { world = v; rest = q; code = code }
+pub error_in_code : (w v : ModuleState) (p q : Plan) (code : Option Code)
+    → carry_of_plan module_doing w p ≡ record { module_state = v; rest = q; code = code }
     → is_some code ≡ true → None ≡ error_ahead w p
 unfolding error_ahead
 error_in_code w v p q None is some = absurd (false≢true some)
-error_in_code w v p q (Some c) is some = sym (ap (λ (x : Carried World). error_left x x.code) is)
+error_in_code w v p q (Some c) is some = sym (ap (λ (x : Carried ModuleState). error_left x x.code) is)
 
-pub error_at_end : (w v : World) (p q : Plan) (code : Option Code) (r0 number : ℕ)
-    → carry_of_plan module_doing w p ≡ record { world = v; rest = q; code = code }
-    → is_some code ≡ false → end_by q.first ≡ ended.Own r0 → number ≡ error_at v.estate.store.bytes r0
+pub error_at_end : (w v : ModuleState) (p q : Plan) (code : Option Code) (r0 number : ℕ)
+    → carry_of_plan module_doing w p ≡ record { module_state = v; rest = q; code = code }
+    → is_some code ≡ false → end_by q.first ≡ ended.Own r0 → number ≡ error_at v.area_store.store.bytes r0
     → Some number ≡ error_ahead w p
 unfolding error_ahead
 error_at_end w v p q (Some c) r0 number is none own there = absurd (true≢false none)
 error_at_end w v p q None r0 number is none own there =
-    ap Some there ∙ sym (ap (λ (x : Carried World). error_left x x.code) is
-    ∙ ap (option_map (error_at v.estate.store.bytes)) (own_first q.first r0 own))
+    ap Some there ∙ sym (ap (λ (x : Carried ModuleState). error_left x x.code) is
+    ∙ ap (option_map (error_at v.area_store.store.bytes)) (own_first q.first r0 own))
 
-pub no_error_at_end : (w v : World) (p q : Plan) (code : Option Code) (end : Ended)
-    → carry_of_plan module_doing w p ≡ record { world = v; rest = q; code = code } → is_some code ≡ false
+pub no_error_at_end : (w v : ModuleState) (p q : Plan) (code : Option Code) (end : Ended)
+    → carry_of_plan module_doing w p ≡ record { module_state = v; rest = q; code = code } → is_some code ≡ false
     → end ≡ end_by q.first
     → (end ≡ ended.Well) ⊎ ((e : ErrorNumber) × (end ≡ ended.System e)) → None ≡ error_ahead w p
 unfolding error_ahead
 no_error_at_end w v p q (Some c) end is none ends well = absurd (true≢false none)
 no_error_at_end w v p q None end is none ends well =
-    sym (ap (λ (x : Carried World). error_left x x.code) is ∙ ap (option_map (error_at v.estate.store.bytes))
+    sym (ap (λ (x : Carried ModuleState). error_left x x.code) is ∙ ap (option_map (error_at v.area_store.store.bytes))
     (no_first q.first (rw (← ends) well)))
 
--- a trial on a copy of the world
+-- a trial on a copy of the module state
 copied_bytes : (m n : AddressMap) → byte_at n ≡ byte_at m → layout n ≡ layout m → bytes_of n ≡ bytes_of m
 copied_bytes m n at same = λ i. record { mapped = λ a. is_some ((same i).place a); at = at i }
 
@@ -72,13 +72,13 @@ copied_store : (m n : AddressMap) → bytes_of n ≡ bytes_of m → IsKept m n �
 unfolding store_of
 copied_store m n bytes kept = kept.store ∙ ap (λ (b : Bytes). record (store_of m) { bytes = b }) bytes
 
-pub copied_world : (m n : AddressMap) (l : Land) (ms ns : List Module) → byte_at n ≡ byte_at m → layout n ≡ layout m
+pub copied_module_state : (m n : AddressMap) (l : AreaTable) (ms ns : List Module) → byte_at n ≡ byte_at m → layout n ≡ layout m
     → class_of n ≡ class_of m
-    → IsSound (store_of m) → ns ≡ ms → world_of n l ns ≡ world_of m l ms
-copied_world m n l ms ns at same marks sound modules =
+    → IsSound (store_of m) → ns ≡ ms → module_state_of n l ns ≡ module_state_of m l ms
+copied_module_state m n l ms ns at same marks sound modules =
     let store = copied_store m n (copied_bytes m n at same) (copied_kept m n at same marks sound) in
     let pool = ap (λ (x : Layout). x.free_pages) same in
-    λ i. record { estate = record { store = store i; pool = pool i; land = l }; modules = modules i }
+    λ i. record { area_store = record { store = store i; pool = pool i; area_table = l }; modules = modules i }
 
 pub copied_classes : (m n : AddressMap) → byte_at n ≡ byte_at m → layout n ≡ layout m → class_of n ≡ class_of m
     → IsSound (store_of m) → AreClasses m
@@ -86,9 +86,9 @@ pub copied_classes : (m n : AddressMap) → byte_at n ≡ byte_at m → layout n
 copied_classes m n at same marks sound classes =
     classes_same m n (ap (λ (s : Store). s.heaps) (copied_kept m n at same marks sound).store) (λ a i. marks i a) classes
 
-pub tried : (w v : World) (p q : Plan) (o : CodeOutcome) (c : Carried World) → v ≡ w → q ≡ p
+pub tried : (w v : ModuleState) (p q : Plan) (o : CodeOutcome) (c : Carried ModuleState) → v ≡ w → q ≡ p
     → carry_of_plan module_doing v (plan_after_code q o) ≡ c
     → carry_of_plan module_doing w (plan_after_code p o) ≡ c
-tried w v p q o c world plan is =
-    ap (λ (x : World). carry_of_plan module_doing x (plan_after_code p o)) (sym world)
+tried w v p q o c module_state plan is =
+    ap (λ (x : ModuleState). carry_of_plan module_doing x (plan_after_code p o)) (sym module_state)
     ∙ ap (λ (x : Plan). carry_of_plan module_doing v (plan_after_code x o)) (sym plan) ∙ is

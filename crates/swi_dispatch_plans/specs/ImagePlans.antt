@@ -24,15 +24,15 @@ use Rattle.swi_dispatch_plans.specs.declared.image_plans.ImageFound.{ImageFound}
 use Rattle.swi_dispatch_plans.specs.declared.image_plans.ImageRange.{ImageRange}
 use Rattle.swi_dispatch_plans.specs.declared.image_plans.Load.{Load}
 use Rattle.swi_dispatch_plans.specs.ModulePlans.{may_begin_alone, may_finalise}
-use Rattle.swi_dispatch_plans.specs.Setting.{Setting, string_asked}
+use Rattle.swi_dispatch_plans.specs.PlannerInput.{PlannerInput, string_asked}
 
 -- A module that is added takes the place of an older one of its title, whose instances are
 -- finalised.
-abbrev pub may_replace : List ℕ → Setting → Result (Unit {0}) ErrorNumber
-may_replace title s = may_finalise (slots_of (modules_of_title title s.world.modules)) s
+abbrev pub may_replace : List ℕ → PlannerInput → Result (Unit {0}) ErrorNumber
+may_replace title s = may_finalise (slots_of (modules_of_title title s.module_state.modules)) s
 
 -- A load that is to enter its module then may begin only while no module code is under way.
-abbrev pub may_load : Bool → List ℕ → Setting → Result (Unit {0}) ErrorNumber
+abbrev pub may_load : Bool → List ℕ → PlannerInput → Result (Unit {0}) ErrorNumber
 may_load must_be_alone title s = if must_be_alone then may_begin_alone s else may_replace title s
 
 -- what a load is given: the bytes of an image, and a text
@@ -45,7 +45,7 @@ loading_of (Ok load) = Ok (record { image = load.image.now; text = load.text.now
 loading_of (Err e) = Err e
 
 -- reasons 0 and 1, run and load: a string of the name of an image and a text
-unfoldable pub load_asked : List Entry → Setting → List ℕ → Bool → Result Loading ErrorNumber
+unfoldable pub load_asked : List Entry → PlannerInput → List ℕ → Bool → Result Loading ErrorNumber
 load_asked images s words must_be_alone =
     bind (ok_or (bytes_of_image images (name_part words)) ImageUnknown) (λ image.
     bind (good_header (header_of image)) (λ header.
@@ -53,7 +53,7 @@ load_asked images s words must_be_alone =
     Ok (record { image = image; text = text_part words }))))
 
 -- reasons 10 and 11, insert and copy: R1 has the address of the image, R2 its length
-abbrev pub range_asked : Setting → ImageRange
+abbrev pub range_asked : PlannerInput → ImageRange
 range_asked s = record { at = register_of s.cpu 1; len = register_of s.cpu 2 }
 
 -- where an image that was found stands
@@ -62,31 +62,31 @@ range_found (Ok found) = Ok found.range
 range_found (Err e) = Err e
 
 -- the header of the image that stands in a range
-abbrev pub image_header_in : Setting → ℕ → ℕ → Result Header HeaderFault
-image_header_in s at len = header_of (bytes_between s.world.estate.store.bytes.at at len)
+abbrev pub image_header_in : PlannerInput → ℕ → ℕ → Result Header HeaderFault
+image_header_in s at len = header_of (bytes_between s.module_state.area_store.store.bytes.at at len)
 
 -- no SWI is under way of an instance of the module that it takes the place of
-abbrev pub SparesRange : Setting → ℕ → ℕ → Type 0
+abbrev pub SparesRange : PlannerInput → ℕ → ℕ → Type 0
 SparesRange s at len = SparesTitle s (image_header_in s at len)
 
 -- that image may be added
-abbrev pub may_add : Setting → ImageRange → Result (Unit {0}) ErrorNumber
+abbrev pub may_add : PlannerInput → ImageRange → Result (Unit {0}) ErrorNumber
 may_add s range =
     bind (good_header (image_header_in s range.at range.len)) (λ header.
     may_replace header.title.items s)
 
 -- reason 10, insert: the image stays in place, and has to be one that may
-unfoldable pub insertion_asked : Setting → Result ImageRange ErrorNumber
+unfoldable pub insertion_asked : PlannerInput → Result ImageRange ErrorNumber
 insertion_asked s =
     let range = range_asked s in
-    if not (may_be_in_place s.world.estate.store range.at range.len) then Err BadPointer else
+    if not (may_be_in_place s.module_state.area_store.store range.at range.len) then Err BadPointer else
     bind (may_add s range) (λ _. Ok range)
 
 -- reason 11, copy: the image gets a block of its own
-unfoldable pub copy_asked : Setting → Result ImageRange ErrorNumber
+unfoldable pub copy_asked : PlannerInput → Result ImageRange ErrorNumber
 copy_asked s =
     let range = range_asked s in
-    if not (may_be_copied s.world.estate range.at range.len) then Err BadPointer else
+    if not (may_be_copied s.module_state.area_store range.at range.len) then Err BadPointer else
     bind (may_add s range) (λ _. Ok range)
 
 -- Reason 14, instantiate: R1 points to a full name and a text. A bad name and an unknown module are
@@ -96,9 +96,9 @@ well_named (Err BadString) = Err BadString
 well_named (Err ModuleNotFound) = Err ModuleNotFound
 well_named _ = Ok tt
 
-unfoldable pub instantiation_planned : Setting → Result Plan ErrorNumber
+unfoldable pub instantiation_planned : PlannerInput → Result Plan ErrorNumber
 instantiation_planned s =
     bind (string_asked s 1) (λ words.
-    let planned = instantiation s.world.modules (name_part words) (text_part words) in
+    let planned = instantiation s.module_state.modules (name_part words) (text_part words) in
     bind (well_named planned) (λ _.
     bind (may_finalise [] s) (λ _. planned)))

@@ -3,12 +3,12 @@ pub use Rattle.dynamic_areas.specs.Ground
 pub use Rattle.image_loader.specs.Entries
 pub use Rattle.instances.specs.Reading
 pub use Rattle.instances.specs.declared.answers.Start
-pub use Rattle.instances.specs.world
+pub use Rattle.instances.specs.module_state
 pub mod Beginning
 pub mod ImagePlans
 pub mod ModulePlans
 pub mod Openings
-pub mod Setting
+pub mod PlannerInput
 pub mod Trials
 pub mod store
 pub mod modules

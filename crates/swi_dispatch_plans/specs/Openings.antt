@@ -12,21 +12,21 @@ use Rattle.instances_table.specs.plans.Code.{private_of}
 use Rattle.instances.specs.declared.answers.Start.{Start}
 use Rattle.instances.specs.Reading.{start_found}
 use Rattle.swi_dispatch_plans.specs.declared.openings.Opening.{Opening}
-use Rattle.swi_dispatch_plans.specs.Setting.{Setting, string_asked}
+use Rattle.swi_dispatch_plans.specs.PlannerInput.{PlannerInput, string_asked}
 
 -- no module code may be under way
-abbrev pub unless_open : {A : Type 0} → Setting → A → Result A ErrorNumber
+abbrev pub unless_open : {A : Type 0} → PlannerInput → A → Result A ErrorNumber
 unless_open s a = if nat_lt 0 (length s.frames) then Err ModuleBusy else Ok a
 
 abbrev pub opening_of : Start → List ℕ → Opening
 opening_of start text = record { start = start; text = record { items = text } }
 
 -- R1 points to the name of an instance, R2 to a text
-unfoldable pub opening_asked : Setting → Result Opening ErrorNumber
+unfoldable pub opening_asked : PlannerInput → Result Opening ErrorNumber
 opening_asked s =
     bind (string_asked s 1) (λ name.
     bind (string_asked s 2) (λ text.
-    bind (start_found s.world.modules name) (λ start.
+    bind (start_found s.module_state.modules name) (λ start.
     unless_open s (opening_of start text))))
 
 -- The module is entered in user mode with all flags clear: R10 is the address of the text, R12 that

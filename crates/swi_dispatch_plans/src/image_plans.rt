@@ -9,7 +9,7 @@ ghost use Rattle.instances.specs.Copies.{may_be_copied};
 ghost use Rattle.instances.specs.NewImages.{may_be_in_place};
 ghost use Rattle.swi_dispatch_plans.specs.Beginning.{CanBegin, IsFree, SparesTitle};
 ghost use Rattle.swi_dispatch_plans.specs.ImagePlans.{SparesRange, copy_asked, image_header_in, insertion_asked, instantiation_planned, load_asked, loading_of, may_add, range_asked, range_found, well_named};
-ghost use Rattle.swi_dispatch_plans.specs.Setting.{setting_in};
+ghost use Rattle.swi_dispatch_plans.specs.PlannerInput.{setting_in};
 
 use crate::planner::Planner;
 use image_loader::Images;
@@ -87,7 +87,8 @@ impl<'a> Planner<'a> {
     #[tactic(auto, unfolding(crate::specs::ImagePlans::insertion_asked))]
     pub fn insertion(&self) -> Result<ImageFound, ErrorNumber>
         ensures value { range_found result ≡ insertion_asked (setting_in self.now) }
-        ensures place { IfOk result (λ found. may_be_in_place (setting_in self.now).world.estate.store
+        ensures place { IfOk result (λ found. may_be_in_place
+            (setting_in self.now).module_state.area_store.store
             found.range.at found.range.len ≡ true) }
         ensures header { IfOk result (λ found. image_header_in (setting_in self.now)
             found.range.at found.range.len ≡ Ok found.header) }
@@ -112,7 +113,7 @@ impl<'a> Planner<'a> {
     #[tactic(auto, unfolding(crate::specs::ImagePlans::copy_asked))]
     pub fn copy(&self) -> Result<ImageFound, ErrorNumber>
         ensures value { range_found result ≡ copy_asked (setting_in self.now) }
-        ensures place { IfOk result (λ found. may_be_copied (setting_in self.now).world.estate
+        ensures place { IfOk result (λ found. may_be_copied (setting_in self.now).module_state.area_store
             found.range.at found.range.len ≡ true) }
         ensures header { IfOk result (λ found. image_header_in (setting_in self.now)
             found.range.at found.range.len ≡ Ok found.header) }
@@ -162,7 +163,8 @@ impl<'a> Planner<'a> {
     // The header of the image that stands in a range, if it may be added.
     #[tactic(auto, unfolding(os_heap::specs::Store::store_of))]
     fn header_to_add(&self, range: ImageRange) -> Result<Header, ErrorNumber>
-        requires { AreMapped (setting_in self.now).world.estate.store.bytes.mapped range.at range.len }
+        requires { AreMapped (setting_in self.now).module_state.area_store.store.bytes.mapped range.at
+            range.len }
         ensures value { bind result (λ _. Ok tt) ≡ may_add (setting_in self.now) range }
         ensures header { IfOk result (λ header. image_header_in (setting_in self.now) range.at range.len
             ≡ Ok header) }

@@ -5,9 +5,9 @@
 //! plan may begin.
 //!
 //! A `Planner` is made from the parts of a machine that these calls read; it changes none of them.
-//! What holds between calls is its invariant (`IsSetting`), so that a plan of its may begin
-//! (`CanBegin`) on what it was made from. A `Spare` tries a call that is under way on a copy, to
-//! tell whether it ends with an error.
+//! What holds between calls is its invariant (`IsPlannerInput`), so that a plan of its may begin
+//! (`CanBegin`) on what it was made from. A `Scratch` tries a call that is under way on a copy, to
+//! say whether it ends with an error.
 #![tactic(auto)]
 
 pub mod image_plans;
@@ -16,11 +16,11 @@ pub mod modules;
 pub mod openings;
 pub mod planner;
 pub mod refusals;
-pub mod spare;
+pub mod scratch;
 pub mod store;
 
 pub use image_loader::Images;
 pub use image_plans::{ImageFound, ImageRange, Load};
 pub use openings::{Opening, enter_as_user};
 pub use planner::Planner;
-pub use spare::Spare;
+pub use scratch::Scratch;

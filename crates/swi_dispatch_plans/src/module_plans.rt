@@ -4,7 +4,7 @@
 ghost use Rattle.std.specs.Prelude.{◌≡◌, IfOk};
 ghost use Rattle.swi_dispatch_plans.specs.Beginning.{CanBegin};
 ghost use Rattle.swi_dispatch_plans.specs.ModulePlans.{clear_planned, delete_planned, reinit_planned, tidy_planned};
-ghost use Rattle.swi_dispatch_plans.specs.Setting.{setting_in};
+ghost use Rattle.swi_dispatch_plans.specs.PlannerInput.{setting_in};
 
 use crate::planner::Planner;
 use instances_table::plans::Plan;

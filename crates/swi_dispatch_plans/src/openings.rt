@@ -3,7 +3,7 @@
 
 ghost use Rattle.std.specs.Prelude.{◌≡◌, ◌<◌, IfOk};
 ghost use Rattle.swi_dispatch_plans.specs.Openings.{as_user, opening_asked};
-ghost use Rattle.swi_dispatch_plans.specs.Setting.{setting_in};
+ghost use Rattle.swi_dispatch_plans.specs.PlannerInput.{setting_in};
 
 use crate::planner::Planner;
 use arrayvec::ArrayVec;

@@ -2,8 +2,8 @@
 
 ghost use Rattle.std.specs.Prelude.{◌≡◌, ◌≤◌};
 ghost use Rattle.swi_dispatch_answers.specs.Strings.{bytes_read};
-ghost use Rattle.swi_dispatch_plans.specs.Beginning.{IsSetting};
-ghost use Rattle.swi_dispatch_plans.specs.Setting.{setting_in, string_asked};
+ghost use Rattle.swi_dispatch_plans.specs.Beginning.{IsPlannerInput};
+ghost use Rattle.swi_dispatch_plans.specs.PlannerInput.{setting_in, string_asked};
 
 use address_map::AddressMap;
 use arrayvec::ArrayVec;
@@ -30,24 +30,24 @@ pub struct Planner<'a> {
 }
 
 impl<'a> Model for Planner<'a> {
-    ghost use Rattle.swi_dispatch_plans.specs.Beginning.{IsSetting};
-    ghost use Rattle.swi_dispatch_plans.specs.Setting.{PlanParts, setting_in};
+    ghost use Rattle.swi_dispatch_plans.specs.Beginning.{IsPlannerInput};
+    ghost use Rattle.swi_dispatch_plans.specs.PlannerInput.{PlanParts, setting_in};
 
     ghost Value = { PlanParts };
 
     ghost view = { λ p. record {
       cpu = p.cpu.now;
       map = p.memory.now;
-      land = p.areas.now;
+      area_table = p.areas.now;
       modules = p.instances.now;
       frames = p.frames.now;
       plan = p.plan.now;
     } };
 
-    ghost invariant = { λ p. IsSetting (setting_in (record {
+    ghost invariant = { λ p. IsPlannerInput (setting_in (record {
       cpu = p.cpu.now;
       map = p.memory.now;
-      land = p.areas.now;
+      area_table = p.areas.now;
       modules = p.instances.now;
       frames = p.frames.now;
       plan = p.plan.now;
@@ -64,10 +64,10 @@ impl<'a> Planner<'a> {
         frames: &'a Frames,
         plan: &'a Option<Plan>,
     ) -> Planner<'a>
-        requires { IsSetting (setting_in (record {
+        requires { IsPlannerInput (setting_in (record {
           cpu = cpu.now;
           map = memory.now;
-          land = areas.now;
+          area_table = areas.now;
           modules = instances.now;
           frames = frames.now;
           plan = plan.now;
@@ -75,7 +75,7 @@ impl<'a> Planner<'a> {
         ensures { result ≡ record {
           cpu = cpu.now;
           map = memory.now;
-          land = areas.now;
+          area_table = areas.now;
           modules = instances.now;
           frames = frames.now;
           plan = plan.now;

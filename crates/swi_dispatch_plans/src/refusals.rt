@@ -5,7 +5,7 @@ ghost use Rattle.swi_dispatch_answers.specs.frames.Busy.{has_swi_of};
 ghost use Rattle.swi_dispatch_plans.specs.Beginning.{IsFree, SparesTitled};
 ghost use Rattle.swi_dispatch_plans.specs.ImagePlans.{may_load, may_replace};
 ghost use Rattle.swi_dispatch_plans.specs.ModulePlans.{may_begin_alone, may_finalise};
-ghost use Rattle.swi_dispatch_plans.specs.Setting.{setting_in};
+ghost use Rattle.swi_dispatch_plans.specs.PlannerInput.{setting_in};
 
 use crate::planner::Planner;
 use profile::ErrorNumber;

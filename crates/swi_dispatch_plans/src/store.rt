@@ -3,7 +3,7 @@
 //!
 //! Each takes the core, the memory and, where it needs them, the areas: what a caller's registers
 //! ask for, and where the answer goes. Between calls holds what `os_heap` and `dynamic_areas` ask
-//! (`AreClasses`, `IsEstate`); `LeavesSound` says that each of them keeps it, and the flex store
+//! (`AreClasses`, `IsAreaStore`); `LeavesSound` says that each of them keeps it, and the flex store
 //! and the other recorded ranges too.
 #![tactic(auto)]
 

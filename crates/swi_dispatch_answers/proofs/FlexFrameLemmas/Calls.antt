@@ -23,7 +23,7 @@ use Rattle.flex_store.specs.Shifts.{following, splice_shifts}
 use Rattle.flex_store.specs.State.{IsFlex, IsFlexAt, flex_in, state_of_flex}
 use Rattle.flex_store.specs.declared.flex.Extent.{Extent}
 use Rattle.flex_store.specs.declared.flex.Flex.{Flex}
-use Rattle.instances.specs.world.Sound.{count_beside}
+use Rattle.instances.specs.module_state.Sound.{count_beside}
 use Rattle.swi_dispatch_answers.specs.flex_frame.CallLaws.{IsFlexCall, IsLeft}
 use Rattle.swi_dispatch_answers.specs.flex_frame.Ground.{HasFlex, anchors_in, flex_of, flex_state, headers_in, records_with, spelled_store, store_flexed}
 

@@ -14,7 +14,7 @@ use Rattle.address_map.specs.declared.region.Kind.TheVariants as kind
 use Rattle.address_map.specs.declared.region.Region.{Region}
 use Rattle.flex_store.proofs.Frame.{layout-others}
 use Rattle.flex_store.specs.Store.{IsSound, Store, is_flex_store, is_flex_word, is_image, is_in_flex_store, owned_in, store_of}
-use Rattle.instances.specs.Areas.{Land}
+use Rattle.instances.specs.Areas.{AreaTable}
 use Rattle.instances.specs.Ground.{AreAreas, AreRangesMapped}
 use Rattle.instances.specs.DynamicAreasStart.{start_store}
 use Rattle.instances.specs.flex_frame.Keeping.{AreAnchorsFree, IsFlexKept, KeepsFlex, beside_images, is_flex_byte, is_in_other_record}
@@ -23,7 +23,7 @@ use Rattle.flex_store.specs.Staying.{IsExtentThere, StaysFlex}
 use Rattle.flex_store.specs.State.{IsFlex, IsFlexAt, IsNoFlex, IsRecordedStore, blocks_of, flex_in, is_recorded, is_store_record}
 use Rattle.flex_store.specs.declared.flex.Extent.{Extent}
 use Rattle.flex_store.specs.declared.flex.Flex.{Flex}
-use Rattle.instances.specs.world.Sound.{count_beside}
+use Rattle.instances.specs.module_state.Sound.{count_beside}
 use Rattle.swi_dispatch_answers.specs.flex_frame.Ground.{records_with}
 use Rattle.flex_store.proofs.Keeping.{in_extent}
 use Rattle.flex_store.proofs.Listing.{store_text}
@@ -92,7 +92,7 @@ beside_recorded s t k start end there =
     recorded_beside t.others start end
     ∙ (ap (λ (rs : List Region). is_recorded rs start end) k.beside ∙ (sym (recorded_beside s.others start end) ∙ there))
 
-kept_stays : (m n : AddressMap) (f : Flex) (free : ℕ) (l : Land) → IsFlex m f → IsSound (store_of m) → IsFlexKept (store_of m) (store_of n)
+kept_stays : (m n : AddressMap) (f : Flex) (free : ℕ) (l : AreaTable) → IsFlex m f → IsSound (store_of m) → IsFlexKept (store_of m) (store_of n)
     → AreAreas (store_of n) free l → StaysFlex m n f
 unfolding store_of
 kept_stays m n f free l is sound k areas = record {

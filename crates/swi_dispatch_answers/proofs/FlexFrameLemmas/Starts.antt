@@ -6,7 +6,7 @@ use Rattle.address_map.specs.Classes.{is_anchor}
 use Rattle.address_map.specs.Memory.{Mapping, class_of, free_pages, is_mapped, mapping, regions}
 use Rattle.address_map.specs.declared.map.AddressMap.{AddressMap}
 use Rattle.flex_store.specs.Store.{IsSound, others_in, store_of}
-use Rattle.instances.specs.Areas.{Land}
+use Rattle.instances.specs.Areas.{AreaTable}
 use Rattle.instances.specs.Ground.{AreAreas}
 use Rattle.instances.specs.flex_frame.Keeping.{AreAnchorsFree}
 use Rattle.instances.proofs.ImageLemmas.{mapped_more}
@@ -15,9 +15,9 @@ use Rattle.flex_store.specs.State.{IsFlex, IsFlexAt, state_of_flex}
 use Rattle.flex_store.specs.declared.flex.Extent.{Extent}
 use Rattle.flex_store.specs.declared.flex.Flex.{Flex}
 use Rattle.flex_store.proofs.Starting.{good_range}
-use Rattle.instances.specs.world.Sound.{count_beside}
+use Rattle.instances.specs.module_state.Sound.{count_beside}
 use Rattle.flex_store.proofs.Recorded.{others_in-other}
-use Rattle.swi_dispatch_answers.proofs.FlexFrameLemmas.Worlds.{beside_begun}
+use Rattle.swi_dispatch_answers.proofs.FlexFrameLemmas.ModuleStates.{beside_begun}
 use Rattle.swi_dispatch_answers.proofs.FlexFrameLemmas.Calls.{flex_is, flex_stays_by, store_spelled}
 use Rattle.swi_dispatch_answers.specs.flex_frame.Ground.{HasFlex, flex_of, records_with, store_flexed, with_flex_record}
 
@@ -58,7 +58,7 @@ pub unmade_left : (m n : AddressMap) (f g : Flex) → IsFlex m f → IsFlexMade 
 unmade_left m n f g is made records state = flex_stays_by m n f g is made.flex (others_same m n records) made.heaps state
 
 -- the areas stand on memory with a record more, whose range is mapped
-pub made_areas : (m n : AddressMap) (g : Flex) (l : Land) (start end : ℕ) → IsFlexMade m n g → regions n ≡ regions m ++ flex_record start end ∷ []
+pub made_areas : (m n : AddressMap) (g : Flex) (l : AreaTable) (start end : ℕ) → IsFlexMade m n g → regions n ≡ regions m ++ flex_record start end ∷ []
     → AreMapped (is_mapped m) start (end - start) → AreAreas (store_of m) (free_pages m) l → AreAreas (store_of n) (free_pages n) l
 unfolding store_of
 made_areas m n g l start end made records there areas =
@@ -70,7 +70,7 @@ made_areas m n g l start end made records there areas =
       ground = record {
         sizes = ground.sizes;
         table = ground.table;
-        land = λ x. ap (λ (f : ℕ → Bool). f x) mapped ∙ ground.land x;
+        area_table = λ x. ap (λ (f : ℕ → Bool). f x) mapped ∙ ground.area_table x;
         pages = rw free ground.pages;
         ranges = rw (mapped, others) (mapped_more (is_mapped m) (others_in (regions m)) (flex_record start end) ground.ranges there);
         sound = made.sound;
@@ -78,7 +78,7 @@ made_areas m n g l start end made records there areas =
       heap = rw made.heaps areas.heap;
     }
 
-pub unmade_areas : (m n : AddressMap) (g : Flex) (l : Land) → IsFlexMade m n g → store_of n ≡ store_of m → AreAreas (store_of m) (free_pages m) l
+pub unmade_areas : (m n : AddressMap) (g : Flex) (l : AreaTable) → IsFlexMade m n g → store_of n ≡ store_of m → AreAreas (store_of m) (free_pages m) l
     → AreAreas (store_of n) (free_pages n) l
 unmade_areas m n g l made store areas =
     let free : free_pages n ≡ free_pages m = ap (λ (p : Mapping). p.free_pages) made.mapping in

@@ -11,11 +11,11 @@ use Rattle.swi_dispatch_answers.specs.flex_frame.Ground.{HasFlex}
 use Rattle.flex_store.specs.Calls.{FlexState}
 use Rattle.flex_store.specs.State.{IsFlex, state_of_flex as flex_state_of}
 use Rattle.flex_store.specs.declared.flex.Flex.{Flex}
-use Rattle.swi_dispatch_answers.proofs.FlexFrameLemmas.InstancesWorlds.{world_kept}
+use Rattle.swi_dispatch_answers.proofs.FlexFrameLemmas.InstancesModuleStates.{module_state_kept}
 use Rattle.dynamic_areas.proofs.HeapCalls.{areas_written}
 use Rattle.dynamic_areas.proofs.Frame.{layout-others}
 use Rattle.dynamic_areas.specs.Store.{AreClasses, IsSound, store_of}
-use Rattle.swi_dispatch_answers.specs.flex_frame.world.World.{world_of}
+use Rattle.swi_dispatch_answers.specs.flex_frame.module_state.ModuleState.{module_state_of}
 use Rattle.swi_dispatch_answers.specs.flex.Calls.{memory_after_flex, memory_of, state_in, memory_with_flex}
 use Rattle.swi_dispatch_answers.specs.flex.Leaving.{CanCallFlex, LeavesFlex}
 
@@ -30,14 +30,14 @@ pub leaves_called : (m n : AddressMap) (f g : Flex) → IsFlexCall m n f g → I
 leaves_called m n f g call sound classes has = record {
   flex = has;
   classes = classes;
-  world = λ l ms pending world.
-      world_kept (world_of m l ms) (world_of n l ms) pending world refl (layout-others m n call.same)
-      (areas_written m n l world.estate sound call.same);
+  module_state = λ l ms pending module_state.
+      module_state_kept (module_state_of m l ms) (module_state_of n l ms) pending module_state refl (layout-others m n call.same)
+      (areas_written m n l module_state.area_store sound call.same);
 }
 
 -- and where nothing is changed
 pub leaves_same : (m : AddressMap) (f : Flex) → CanCallFlex m f → LeavesFlex m m f
-leaves_same m f can = record { flex = can.flex; classes = can.classes; world = λ l ms pending world. world }
+leaves_same m f can = record { flex = can.flex; classes = can.classes; module_state = λ l ms pending module_state. module_state }
 
 -- what such a call leaves, and what one that was refused
 called_left : (m n : AddressMap) (f g : Flex) (t : FlexState) → IsFlexCall m n f g → flex_state_of n g ≡ t

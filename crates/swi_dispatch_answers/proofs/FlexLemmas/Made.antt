@@ -8,17 +8,17 @@ use Rattle.dynamic_areas.specs.Memory.{regions}
 use Rattle.dynamic_areas.specs.AddressMap.{AddressMap}
 use Rattle.swi_dispatch_answers.proofs.FlexFrameLemmas.Calls.{ok_is, state_is}
 use Rattle.swi_dispatch_answers.proofs.FlexFrameLemmas.Starts.{IsFlexMade, has_made, made_areas, made_left, others_made, room_there, unmade_areas, unmade_left}
-use Rattle.swi_dispatch_answers.proofs.FlexFrameLemmas.Worlds.{begun_world}
+use Rattle.swi_dispatch_answers.proofs.FlexFrameLemmas.ModuleStates.{begun_module_state}
 use Rattle.swi_dispatch_answers.specs.flex_frame.Ground.{HasFlex, records_with, with_flex_record}
 use Rattle.flex_store.specs.Blocks.{FlexStore}
 use Rattle.flex_store.specs.Calls.{FlexState, flex_after_init, flex_after_init_over, flex_record, is_flex_range, with_flex_range}
 use Rattle.flex_store.specs.State.{IsFlex, flex_in, state_of_flex as flex_state_of}
 use Rattle.flex_store.specs.declared.flex.Extent.{Extent}
 use Rattle.flex_store.specs.declared.flex.Flex.{Flex}
-use Rattle.swi_dispatch_answers.proofs.FlexFrameLemmas.InstancesWorlds.{world_kept}
+use Rattle.swi_dispatch_answers.proofs.FlexFrameLemmas.InstancesModuleStates.{module_state_kept}
 use Rattle.dynamic_areas.specs.Store.{AreClasses, Store, store_of}
-use Rattle.swi_dispatch_answers.specs.flex_frame.world.Sound.{count_beside}
-use Rattle.swi_dispatch_answers.specs.flex_frame.world.World.{world_of}
+use Rattle.swi_dispatch_answers.specs.flex_frame.module_state.Sound.{count_beside}
+use Rattle.swi_dispatch_answers.specs.flex_frame.module_state.ModuleState.{module_state_of}
 use Rattle.swi_dispatch_answers.specs.flex.Calls.{flex_in_range, memory_after_flex, memory_of, state_in}
 use Rattle.swi_dispatch_answers.specs.flex.Leaving.{LeavesFlex}
 
@@ -68,15 +68,15 @@ begun_leaves m n f g start end r has is state made records classes =
     record {
       flex = has_made m n f g start end has none some made records;
       classes = classes;
-      world = λ l ms pending world.
-          begun_world (world_of m l ms) (world_of n l ms) pending start end
+      module_state = λ l ms pending module_state.
+          begun_module_state (module_state_of m l ms) (module_state_of n l ms) pending start end
           (record {
-            estate = made_areas m n g l start end made records (room_there m start end begun.room) world.estate;
+            area_store = made_areas m n g l start end made records (room_there m start end begun.room) module_state.area_store;
             others = others_made m n start end records;
             modules = refl;
             first = has.beside ∙ ap records_with none;
           })
-          world;
+          module_state;
     }
 
 -- and where it was refused
@@ -93,9 +93,9 @@ unbegun_leaves m n f g has state made records classes =
             ap count_beside others ∙ has.beside ∙ ap (λ (h : Flex). records_with h.extent) (sym left.1);
       };
       classes = classes;
-      world = λ l ms pending world.
-          world_kept (world_of m l ms) (world_of n l ms) pending world refl others
-          (unmade_areas m n g l made left.0 world.estate);
+      module_state = λ l ms pending module_state.
+          module_state_kept (module_state_of m l ms) (module_state_of n l ms) pending module_state refl others
+          (unmade_areas m n g l made left.0 module_state.area_store);
     }
 
 pub made_leaves : (m n : AddressMap) (f g : Flex) (start end : ℕ) (r : Result (FlexState × Unit {0}) ErrorNumber)

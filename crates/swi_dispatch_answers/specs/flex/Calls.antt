@@ -47,18 +47,18 @@ abbrev pub flex_made : State → FlexMemory → Result (State × FlexMemory) Ref
 flex_made cpu s = bind (or_error (flex_in_range s (register_of cpu 0) (register_of cpu 1)))
     (λ r. Ok (cpu, r.0))
 
--- In R0 a call tells whether the store had room: 1, or 0 with nothing changed.
+-- In R0 a call says whether the store had room: 1, or 0 with nothing changed.
 abbrev pub room_word_of : Bool → ℕ
 room_word_of true = 1
 room_word_of false = 0
 
-abbrev pub fit_told : State → Result (FlexMemory × Bool) ErrorNumber → Result (State × FlexMemory) Refusal
-fit_told cpu r = bind (or_error r) (λ q. Ok (with_register cpu 0 (room_word_of q.1), q.0))
+abbrev pub fit_shown : State → Result (FlexMemory × Bool) ErrorNumber → Result (State × FlexMemory) Refusal
+fit_shown cpu r = bind (or_error r) (λ q. Ok (with_register cpu 0 (room_word_of q.1), q.0))
 
 -- Flex_Alloc: R0 has the anchor's address, R1 a size.
 abbrev pub flex_allocated : State → FlexMemory → Result (State × FlexMemory) Refusal
 flex_allocated cpu s =
-    fit_told cpu (memory_after_flex s.store (flex_after_alloc s.store (state_in s) (register_of cpu 0)
+    fit_shown cpu (memory_after_flex s.store (flex_after_alloc s.store (state_in s) (register_of cpu 0)
     (register_of cpu 1)))
 
 -- Flex_Free: R0 has an anchor's address.
@@ -73,14 +73,14 @@ flex_sized cpu s = bind (or_error (flex_block_size (state_in s) (register_of cpu
 
 -- Flex_Extend: R0 has an anchor's address, R1 the new size of its block.
 abbrev pub flex_extended : State → FlexMemory → Result (State × FlexMemory) Refusal
-flex_extended cpu s = fit_told cpu (memory_after_flex s.store
+flex_extended cpu s = fit_shown cpu (memory_after_flex s.store
     (flex_after_extend (state_in s) (register_of cpu 0) (register_of cpu 1)))
 
 -- Flex_MidExtend: R0 has an anchor's address, R1 a place in its block, R2 how many bytes come
 -- there, or go before it.
 abbrev pub flex_mid_extended : State → FlexMemory → Result (State × FlexMemory) Refusal
 flex_mid_extended cpu s =
-    fit_told cpu
+    fit_shown cpu
     (memory_after_flex s.store (mid_extended (state_in s) (register_of cpu 0) (register_of cpu 1)
     (register_of cpu 2)))
 

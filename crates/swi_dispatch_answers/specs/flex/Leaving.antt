@@ -3,12 +3,12 @@ use Rattle.std.specs.Prelude.{◌<◌, List, length}
 use Rattle.dynamic_areas.specs.AddressMap.{AddressMap}
 use Rattle.swi_dispatch_answers.specs.flex_frame.Ground.{HasFlex}
 use Rattle.flex_store.specs.declared.flex.Flex.{Flex}
-use Rattle.dynamic_areas.specs.Areas.{Land}
+use Rattle.dynamic_areas.specs.Areas.{AreaTable}
 use Rattle.instances_table.specs.Modules.{Module}
 use Rattle.instances_table.specs.declared.parts.Image.{Image}
 use Rattle.dynamic_areas.specs.Store.{AreClasses, IsSound, store_of}
-use Rattle.swi_dispatch_answers.specs.flex_frame.world.Sound.{IsWorld}
-use Rattle.swi_dispatch_answers.specs.flex_frame.world.World.{world_of}
+use Rattle.swi_dispatch_answers.specs.flex_frame.module_state.Sound.{IsModuleState}
+use Rattle.swi_dispatch_answers.specs.flex_frame.module_state.ModuleState.{module_state_of}
 
 -- Memory is sound and spells the flex store, if there is one, and a range more can be recorded.
 pub record CanCallFlex (m : AddressMap) (f : Flex) : Type 0 where
@@ -22,5 +22,6 @@ pub record CanCallFlex (m : AddressMap) (f : Flex) : Type 0 where
 pub record LeavesFlex (m n : AddressMap) (g : Flex) : Type 0 where
   pub flex : HasFlex n g
   pub classes : AreClasses n
-  pub world : (l : Land) (ms : List Module) (pending : List Image) → IsWorld (world_of m l ms) pending
-      → IsWorld (world_of n l ms) pending
+  pub module_state : (l : AreaTable) (ms : List Module) (pending : List Image) → IsModuleState
+      (module_state_of m l ms) pending
+      → IsModuleState (module_state_of n l ms) pending

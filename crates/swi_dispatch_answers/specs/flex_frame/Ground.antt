@@ -12,7 +12,7 @@ use Rattle.flex_store.specs.Blocks.{FlexStore, has_anchor, is_header, bytes_take
 use Rattle.flex_store.specs.Calls.{FlexState, flex_record}
 use Rattle.flex_store.specs.Memory.{blocks_in}
 use Rattle.flex_store.specs.State.{IsFlex}
-use Rattle.instances.specs.world.Sound.{count_beside}
+use Rattle.instances.specs.module_state.Sound.{count_beside}
 
 abbrev pub records_with : Option Extent → ℕ
 records_with None = 1

@@ -5,7 +5,7 @@ use Rattle.flex_store.specs.Sizes.{Sizes}
 use Rattle.address_map.specs.Memory.{byte_at, class_of, layout}
 use Rattle.address_map.specs.declared.map.AddressMap.{AddressMap}
 use Rattle.flex_store.specs.Store.{IsSound, find_heap, owned_in, store_of}
-use Rattle.instances.specs.Areas.{Land}
+use Rattle.instances.specs.Areas.{AreaTable}
 use Rattle.instances.specs.Ground.{AreAreas}
 use Rattle.instances.specs.DynamicAreasStart.{start_store}
 use Rattle.instances.specs.flex_frame.Keeping.{KeepsFlex}
@@ -19,7 +19,7 @@ use Rattle.swi_dispatch_answers.specs.flex_frame.Ground.{HasFlex}
 
 -- a call that keeps the store's bytes and words
 abbrev pub FlexKept : Type 0
-FlexKept = (m n : AddressMap) (f : Flex) (free : ℕ) (l : Land) → HasFlex m f → IsSound (store_of m) →
+FlexKept = (m n : AddressMap) (f : Flex) (free : ℕ) (l : AreaTable) → HasFlex m f → IsSound (store_of m) →
     KeepsFlex (store_of m) (store_of n)
     → AreAreas (store_of n) free l → HasFlex n f
 

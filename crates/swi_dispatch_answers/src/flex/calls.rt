@@ -197,7 +197,7 @@ fn mid_extend_block(
     flex.mid_extend(memory, anchor, at, by)
 }
 
-// What R0 tells of whether a block fits.
+// What R0 reports whether a block fits.
 fn word_of(fits: bool) -> u32
     ensures { result ≡ room_word_of fits }
 {

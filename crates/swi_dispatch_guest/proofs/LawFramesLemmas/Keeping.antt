@@ -20,8 +20,8 @@ use Rattle.address_map.specs.Bytes.{Bytes, word_loaded}
 use Rattle.arm_core.specs.Conditions.{condition_holds}
 use Rattle.arm_core.specs.Effect.{with_next_pc}
 use Rattle.arm_core.specs.State.{State, register_of}
-use Rattle.arm_core.specs.declared.turn.Turn.{Turn}
-use Rattle.arm_core.specs.declared.turn.Turn.TheVariants as turn
+use Rattle.arm_core.specs.declared.turn.StepEnd.{StepEnd}
+use Rattle.arm_core.specs.declared.turn.StepEnd.TheVariants as turn
 use Rattle.arm_decode.specs.Decoded.{instruction_of_word}
 use Rattle.arm_decode.specs.Fields.{condition_in}
 use Rattle.arm_decode.specs.declared.action.Action.{Action}
@@ -36,7 +36,7 @@ use Rattle.instances_table.specs.declared.plans.code.Code.{Code}
 use Rattle.instances_table.specs.declared.plans.given.Given.{Given}
 use Rattle.instances_table.specs.plans.Carrying.{Carried}
 use Rattle.instances_table.specs.plans.Plans.{Plan}
-use Rattle.swi_dispatch_plans.specs.world.World.{World}
+use Rattle.swi_dispatch_plans.specs.module_state.ModuleState.{ModuleState}
 use Rattle.instances_table.specs.declared.parts.Handler.{Handler}
 use Rattle.instances_table.specs.Lookup.{handler_of}
 use Rattle.swi_dispatch_answers.specs.declared.refusal.Refusal.{Refusal}
@@ -48,7 +48,7 @@ use Rattle.swi_dispatch_answers.specs.frames.Frames.{frame_of}
 use Rattle.swi_dispatch_plans.specs.ImagePlans.{instantiation_planned}
 use Rattle.swi_dispatch_plans.specs.ModulePlans.{clear_planned, delete_planned, reinit_planned, tidy_planned}
 use Rattle.swi_dispatch_plans.specs.Openings.{opening_asked}
-use Rattle.swi_dispatch_plans.specs.Trials.{world_carried}
+use Rattle.swi_dispatch_plans.specs.Trials.{module_state_carried}
 use Rattle.swi_dispatch_plans.specs.declared.openings.Opening.{Opening}
 use Rattle.swi_dispatch_plans.specs.Start.{Start}
 use Rattle.swi_dispatch_plans.specs.Reading.{start_found}
@@ -58,7 +58,7 @@ use Rattle.swi_dispatch_guest.specs.Additions.{Planned, copy_planned, insertion_
 use Rattle.swi_dispatch_guest.specs.Answers.{Answer, refusal_answer}
 use Rattle.swi_dispatch_guest.specs.Calls.{call_answer}
 use Rattle.swi_dispatch_guest.specs.Gates.{call_ended_by, carried_on, ended_of, entered_if, entered_with, frames_by, state_after_plan, state_with_code_entered}
-use Rattle.swi_dispatch_guest.specs.MachineState.{MachineState, StepOutcome, machine_world, quiet, setting_of, with_world}
+use Rattle.swi_dispatch_guest.specs.MachineState.{MachineState, StepOutcome, machine_module_state, silent, setting_of, with_module_state}
 use Rattle.swi_dispatch_guest.specs.ModuleStart.{opened_at}
 use Rattle.swi_dispatch_guest.specs.Returns.{error_answered, gone_back, outcome_of_error, outcome_of_halt}
 use Rattle.swi_dispatch_guest.specs.Step.{begun_alone, call_of, call_refused, called_by, is_exit, machine_step, module_entered, os_module_called, os_module_called_for, outcome_of_answer, outcome_of_call, outcome_of_end, outcome_of_module_swi, outcome_of_planned, outcome_of_turn, result_of_instruction, unless_halted, without_x}
@@ -122,9 +122,9 @@ unfolding frames_opened
 opened_by frames cpu call (Some code) = refl
 opened_by frames cpu call None = sym (append-nil frames)
 
-carried_keeps : (s t : MachineState) (call : Call) (p : Plan) → SameFrames s t → KeepsFrames s (quiet (carried_on t call p))
+carried_keeps : (s t : MachineState) (call : Call) (p : Plan) → SameFrames s t → KeepsFrames s (silent (carried_on t call p))
 carried_keeps s t call p same =
-    let c : Carried World = world_carried (machine_world t) p in
+    let c : Carried ModuleState = module_state_carried (machine_module_state t) p in
     record {
       opened = frames_opened t.cpu call c.code;
       are = finished_same (state_with_code_entered t call c) call (ended_of c)
@@ -134,7 +134,7 @@ carried_keeps s t call p same =
 
 begun_keeps : (s : MachineState) (x : Bool) (next : ℕ) (enters : Bool) (r : Result Planned ErrorNumber) → KeepsFrames s (outcome_of_planned s x next enters r)
 unfolding outcome_of_planned
-begun_keeps s x next enters (Ok w) = carried_keeps s (with_world s w.world) (call_of s x next enters) w.plan refl
+begun_keeps s x next enters (Ok w) = carried_keeps s (with_module_state s w.module_state) (call_of s x next enters) w.plan refl
 begun_keeps s x next enters (Err e) = refused_keeps s x next e
 
 module_entered_keeps : (s : MachineState) (x : Bool) (next : ℕ) (r : Result Opening ErrorNumber) → KeepsFrames s (module_entered s x next r)
@@ -217,7 +217,7 @@ module _ (images : List Entry) (s : MachineState) (x : Bool) (next number : ℕ)
   call_keeps = exit_keeps (is_exit (swi_of number)) (swi_of number)
 
 -- the gate comes next nowhere else
-abbrev IsNoGate : Result (State × Bytes) Turn → Type 0
+abbrev IsNoGate : Result (State × Bytes) StepEnd → Type 0
 IsNoGate (Err turn.Gate) = ⊥
 IsNoGate _ = Unit {0}
 
@@ -258,16 +258,16 @@ no_gate s other =
     step_no_gate (s.cpu.pc == return_gate) (owned_in s.store) s.cpu s.store.bytes (ne_eqb s.cpu.pc return_gate other)
 
 -- a turn of the core
-turn_keeps : (images : List Entry) (s : MachineState) (r : Result (State × Bytes) Turn) → IsNoGate r → KeepsFrames s (outcome_of_turn images s r)
+turn_keeps : (images : List Entry) (s : MachineState) (r : Result (State × Bytes) StepEnd) → IsNoGate r → KeepsFrames s (outcome_of_turn images s r)
 turn_keeps images s (Ok w) other = none_opened s (outcome_of_turn images s (Ok w)) refl
-turn_keeps images s (Err turn.Done) other = none_opened s (quiet s) refl
+turn_keeps images s (Err turn.Done) other = none_opened s (silent s) refl
 turn_keeps images s (Err (turn.Swi n)) other = call_keeps images s (bit_of n 17) ((s.cpu.pc + 4) % 2 ^ 26) (without_x n)
 turn_keeps images s (Err turn.Gate) other = absurd other
 turn_keeps images s (Err (turn.Fault f)) other = none_opened s (outcome_of_halt s (halt.Fault f)) refl
 
 step_keeps : (images : List Entry) (s : MachineState) (kept : Option Halt) → IsNoGate (result_of_instruction s)
     → KeepsFrames s (unless_halted s kept (outcome_of_turn images s (result_of_instruction s)))
-step_keeps images s (Some h) other = none_opened s (quiet s) refl
+step_keeps images s (Some h) other = none_opened s (silent s) refl
 step_keeps images s None other = turn_keeps images s (result_of_instruction s) other
 
 pub only_the_gate_closes : OnlyTheGateCloses

@@ -5,37 +5,37 @@ use Rattle.address_map.proofs.InRange.{range_inside}
 use Rattle.address_map.specs.declared.map.AddressMap.{AddressMap}
 use Rattle.address_map.specs.Bytes.{AreMapped}
 use Rattle.os_heap.specs.Store.{AreClasses, Store, store_of}
-use Rattle.dynamic_areas.specs.Areas.{Land}
-use Rattle.dynamic_areas.specs.Ground.{AreAreas, IsEstate, estate_of}
+use Rattle.dynamic_areas.specs.Areas.{AreaTable}
+use Rattle.dynamic_areas.specs.Ground.{AreAreas, IsAreaStore, area_store_of}
 use Rattle.dynamic_areas.proofs.HeapCalls.{system_mapped}
 use Rattle.instances_table.specs.plans.Plans.{Plan}
 use Rattle.instances.specs.Modules.{Module, slots_of}
 use Rattle.instances.proofs.GoingOn.{may_go_on_kept}
 use Rattle.instances.specs.Turns.{MayGoOn}
-use Rattle.instances.specs.world.World.{world_of}
+use Rattle.instances.specs.module_state.ModuleState.{module_state_of}
 use Rattle.swi_dispatch_plans.proofs.StoreLemmas.Leaving.{leaves_memory}
 use Rattle.swi_dispatch_plans.specs.store.Leaving.{LeavesSound}
-use Rattle.swi_dispatch_plans.specs.modules.Leaving.{LeavesWorld}
+use Rattle.swi_dispatch_plans.specs.modules.Leaving.{LeavesModuleState}
 
 -- a call on memory and areas
-pub world_left : (m n : AddressMap) (k l : Land) (modules : List Module) → LeavesSound m n l → LeavesWorld m n k l modules modules
-world_left m n k l modules left = record {
+pub module_state_left : (m n : AddressMap) (k l : AreaTable) (modules : List Module) → LeavesSound m n l → LeavesModuleState m n k l modules modules
+module_state_left m n k l modules left = record {
   memory = left;
   slots = refl;
-  going = λ plan going. may_go_on_kept (world_of m k modules) (world_of n l modules) plan left.estate left.others refl going;
+  going = λ plan going. may_go_on_kept (module_state_of m k modules) (module_state_of n l modules) plan left.area_store left.others refl going;
 }
 
 -- a call on the modules alone, and one that changes nothing
-pub named_left : (m : AddressMap) (l : Land) (old new : List Module) → IsEstate (estate_of m l) → AreClasses m → slots_of new ≡ slots_of old
-    → ((plan : Option Plan) → MayGoOn (world_of m l old) plan → MayGoOn (world_of m l new) plan) → LeavesWorld m m l l old new
-named_left m l old new estate classes slots going =
-    record { memory = leaves_memory m l estate classes; slots = slots; going = going }
+pub named_left : (m : AddressMap) (l : AreaTable) (old new : List Module) → IsAreaStore (area_store_of m l) → AreClasses m → slots_of new ≡ slots_of old
+    → ((plan : Option Plan) → MayGoOn (module_state_of m l old) plan → MayGoOn (module_state_of m l new) plan) → LeavesModuleState m m l l old new
+named_left m l old new area_store classes slots going =
+    record { memory = leaves_memory m l area_store classes; slots = slots; going = going }
 
-pub nothing_left : (m : AddressMap) (l : Land) (modules : List Module) → IsEstate (estate_of m l) → AreClasses m
-    → LeavesWorld m m l l modules modules
-nothing_left m l modules estate classes = world_left m m l l modules (leaves_memory m l estate classes)
+pub nothing_left : (m : AddressMap) (l : AreaTable) (modules : List Module) → IsAreaStore (area_store_of m l) → AreClasses m
+    → LeavesModuleState m m l l modules modules
+nothing_left m l modules area_store classes = module_state_left m m l l modules (leaves_memory m l area_store classes)
 
 -- the private words of the modules are mapped
-pub private_room : (m : AddressMap) (l : Land) → IsEstate (estate_of m l) → AreMapped (store_of m).bytes.mapped 0x01C02000 256
-private_room m l estate a low high =
-    system_mapped _ _ l estate a (range_inside system_start 0x3000 a (omega arith) (omega arith))
+pub private_room : (m : AddressMap) (l : AreaTable) → IsAreaStore (area_store_of m l) → AreMapped (store_of m).bytes.mapped 0x01C02000 256
+private_room m l area_store a low high =
+    system_mapped _ _ l area_store a (range_inside system_start 0x3000 a (omega arith) (omega arith))

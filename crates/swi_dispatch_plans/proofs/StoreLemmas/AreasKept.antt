@@ -13,10 +13,10 @@ use Rattle.dynamic_areas.specs.declared.area.Area.{Area}
 use Rattle.dynamic_areas.specs.declared.area.Changed.{Changed}
 use Rattle.dynamic_areas.specs.declared.area.Created.{Created}
 use Rattle.dynamic_areas.specs.declared.area.Wanted.{Wanted}
-use Rattle.dynamic_areas.specs.Areas.{Land, find_area}
-use Rattle.dynamic_areas.specs.Changing.{change_answer, store_after_end, is_growth, land_after_remove, store_changed, store_emptied, store_extended, store_less, store_more, store_reduced, with_heap_end}
-use Rattle.dynamic_areas.specs.Creating.{land_after_create, pages_for}
-use Rattle.dynamic_areas.specs.Ground.{AreAreas, estate_of}
+use Rattle.dynamic_areas.specs.Areas.{AreaTable, find_area}
+use Rattle.dynamic_areas.specs.Changing.{change_answer, store_after_end, is_growth, area_table_after_remove, store_changed, store_emptied, store_extended, store_less, store_more, store_reduced, with_heap_end}
+use Rattle.dynamic_areas.specs.Creating.{area_table_after_create, pages_for}
+use Rattle.dynamic_areas.specs.Ground.{AreAreas, area_store_of}
 use Rattle.dynamic_areas.specs.Remapped.{with_pages_at}
 use Rattle.instances.proofs.Areas.{area_changed_keeps, created_keeps, removed_keeps}
 use Rattle.instances.proofs.RmaKeeping.{keeps_equal}
@@ -29,16 +29,16 @@ pub record AreKept (s t : Store) : Type 0 where
 same_kept : (s t : Store) → t ≡ s → AreKept s t
 same_kept s t same = record { flex = keeps_equal s t same; others = ap (λ (u : Store). u.others) same }
 
-pub created_kept : (m n : AddressMap) (l k : Land) (w : Wanted) (name : List ℕ) (x : Result Created ErrorNumber)
-    → AreAreas (store_of m) (free_pages m) l → AreAreas (store_of n) (free_pages n) k → Gives l (land_after_create l (free_pages m) w name) x k
+pub created_kept : (m n : AddressMap) (l k : AreaTable) (w : Wanted) (name : List ℕ) (x : Result Created ErrorNumber)
+    → AreAreas (store_of m) (free_pages m) l → AreAreas (store_of n) (free_pages n) k → Gives l (area_table_after_create l (free_pages m) w name) x k
     → MatchResult x (λ made. store_of n ≡ with_pages_at (store_of m) made.base (4096 * pages_for w.size)) (λ _. store_of n ≡ store_of m)
     → AreKept (store_of m) (store_of n)
-created_kept m n l k w name x areas areas' gives store = by x (land_after_create l (free_pages m) w name) refl gives store where
-  by : (x : Result Created ErrorNumber) (r : Result (Land × Created) ErrorNumber) → land_after_create l (free_pages m) w name ≡ r → Gives l r x k
+created_kept m n l k w name x areas areas' gives store = by x (area_table_after_create l (free_pages m) w name) refl gives store where
+  by : (x : Result Created ErrorNumber) (r : Result (AreaTable × Created) ErrorNumber) → area_table_after_create l (free_pages m) w name ≡ r → Gives l r x k
       → MatchResult x (λ made. store_of n ≡ with_pages_at (store_of m) made.base (4096 * pages_for w.size)) (λ _. store_of n ≡ store_of m)
       → AreKept (store_of m) (store_of n)
   by (Ok made) (Ok r) is gives store = record {
-    flex = created_keeps (estate_of m l) (estate_of n k) w name made areas areas' (is ∙ (λ i. Ok (sym gives.0 i, sym gives.1 i))) store;
+    flex = created_keeps (area_store_of m l) (area_store_of n k) w name made areas areas' (is ∙ (λ i. Ok (sym gives.0 i, sym gives.1 i))) store;
     others = ap (λ (u : Store). u.others) store;
   }
   by (Err e) r is gives store = same_kept (store_of m) (store_of n) store
@@ -48,16 +48,16 @@ emptied_others : (s : Store) (o : Option Area) → (store_emptied s o).others �
 emptied_others s None = refl
 emptied_others s (Some a) = refl
 
-pub removed_kept : (m n : AddressMap) (l k : Land) (number : ℕ) (x : Result (Unit {0}) ErrorNumber) → AreAreas (store_of m) (free_pages m) l
-    → AreAreas (store_of n) (free_pages n) k → Leaves {U = Unit {0}} l (land_after_remove l (store_of m) number) x k
+pub removed_kept : (m n : AddressMap) (l k : AreaTable) (number : ℕ) (x : Result (Unit {0}) ErrorNumber) → AreAreas (store_of m) (free_pages m) l
+    → AreAreas (store_of n) (free_pages n) k → Leaves {U = Unit {0}} l (area_table_after_remove l (store_of m) number) x k
     → MatchResult x (λ _. store_of n ≡ store_emptied (store_of m) (find_area number l.areas)) (λ _. store_of n ≡ store_of m)
     → AreKept (store_of m) (store_of n)
-removed_kept m n l k number x areas areas' leaves store = by x (land_after_remove l (store_of m) number) refl leaves store where
-  by : (x : Result (Unit {0}) ErrorNumber) (r : Result Land ErrorNumber) → land_after_remove l (store_of m) number ≡ r → Leaves {U = Unit {0}} l r x k
+removed_kept m n l k number x areas areas' leaves store = by x (area_table_after_remove l (store_of m) number) refl leaves store where
+  by : (x : Result (Unit {0}) ErrorNumber) (r : Result AreaTable ErrorNumber) → area_table_after_remove l (store_of m) number ≡ r → Leaves {U = Unit {0}} l r x k
       → MatchResult x (λ _. store_of n ≡ store_emptied (store_of m) (find_area number l.areas)) (λ _. store_of n ≡ store_of m)
       → AreKept (store_of m) (store_of n)
   by (Ok u) (Ok r) is leaves store = record {
-    flex = removed_keeps (estate_of m l) (estate_of n k) number areas areas' (is ∙ ap Ok (sym leaves)) store;
+    flex = removed_keeps (area_store_of m l) (area_store_of n k) number areas areas' (is ∙ ap Ok (sym leaves)) store;
     others = ap (λ (u : Store). u.others) store ∙ emptied_others (store_of m) (find_area number l.areas);
   }
   by (Err e) r is leaves store = same_kept (store_of m) (store_of n) store
@@ -93,11 +93,11 @@ changed_others s areas number amount bytes = elim (cases_Bool (is_growth amount)
   | inr shrinks ↦ rw shrinks (reduced_others s number _ (find_area number areas))
 ]
 
-pub changed_kept : (m n : AddressMap) (l k : Land) (number amount : ℕ) (c : Changed) → AreAreas (store_of m) (free_pages m) l
+pub changed_kept : (m n : AddressMap) (l k : AreaTable) (number amount : ℕ) (c : Changed) → AreAreas (store_of m) (free_pages m) l
     → AreAreas (store_of n) (free_pages n) k → c ≡ change_answer l.areas (store_of m) (free_pages m) number amount
     → store_of n ≡ store_changed (store_of m) l.areas number amount c.bytes → AreKept (store_of m) (store_of n)
 changed_kept m n l k number amount c areas areas' answer store = record {
-  flex = area_changed_keeps (estate_of m l) (estate_of n k) number amount areas areas'
+  flex = area_changed_keeps (area_store_of m l) (area_store_of n k) number amount areas areas'
       (store ∙ ap (λ (d : Changed). store_changed (store_of m) l.areas number amount d.bytes) answer);
   others = ap (λ (u : Store). u.others) store ∙ changed_others (store_of m) l.areas number amount c.bytes;
 }

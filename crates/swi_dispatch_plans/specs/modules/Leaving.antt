@@ -1,16 +1,17 @@
 -- What the calls on modules that run no module code leave of all else.
 use Rattle.std.specs.Prelude.{◌≡◌, List, Option}
 use Rattle.address_map.specs.declared.map.AddressMap.{AddressMap}
-use Rattle.dynamic_areas.specs.Areas.{Land}
+use Rattle.dynamic_areas.specs.Areas.{AreaTable}
 use Rattle.swi_dispatch_plans.specs.store.Leaving.{LeavesSound}
-use Rattle.instances.specs.world.World.{world_of}
+use Rattle.instances.specs.module_state.ModuleState.{module_state_of}
 use Rattle.instances.specs.Turns.{MayGoOn}
 use Rattle.instances_table.specs.plans.Plans.{Plan}
 use Rattle.instances.specs.Modules.{Module, slots_of}
 
 -- Memory, areas and modules after a call: memory and areas as sound as before, the same instances,
 -- and a call under way that could go on still can.
-pub record LeavesWorld (m n : AddressMap) (k l : Land) (old new : List Module) : Type 0 where
+pub record LeavesModuleState (m n : AddressMap) (k l : AreaTable) (old new : List Module) : Type 0 where
   pub memory : LeavesSound m n l
   pub slots : slots_of new ≡ slots_of old
-  pub going : (plan : Option Plan) → MayGoOn (world_of m k old) plan → MayGoOn (world_of n l new) plan
+  pub going : (plan : Option Plan) → MayGoOn (module_state_of m k old) plan → MayGoOn
+      (module_state_of n l new) plan

@@ -9,9 +9,9 @@ use Rattle.swi_dispatch_answers.specs.declared.refusal.Refusal.{Refusal}
 use Rattle.swi_dispatch_answers.specs.Refusals.{or_error}
 use Rattle.swi_dispatch_answers.specs.Strings.{string_in}
 use Rattle.instances.specs.declared.answers.Found.{Found}
-use Rattle.instances.specs.declared.answers.Told.{Told}
+use Rattle.instances.specs.declared.answers.Reported.{Reported}
 use Rattle.instances.specs.Reading.{instance_looked_up, instance_info}
-use Rattle.instances.specs.world.World.{World}
+use Rattle.instances.specs.module_state.ModuleState.{ModuleState}
 use Rattle.instances.specs.InstancesTablePlace.{Place}
 use Rattle.instances.specs.Changes.{preferring, modules_after_rename}
 
@@ -20,33 +20,33 @@ use Rattle.instances.specs.Changes.{preferring, modules_after_rename}
 abbrev pub place_asked : State → Place
 place_asked cpu = record { number = register_of cpu 1; instance = register_of cpu 2 }
 
-abbrev pub with_told : State → Told → State
-with_told cpu t =
+abbrev pub with_shown : State → Reported → State
+with_shown cpu t =
     with_register (with_register
     (with_register (with_register cpu 1 t.next.number) 2 t.next.instance) 3 t.image) 4 t.word
 
-abbrev pub instance_told : State → World → Result (State × World) Refusal
-instance_told cpu w = bind (or_error (instance_info w.estate.store.bytes.at w.modules (place_asked cpu)))
-    (λ t. Ok (with_told cpu t, w))
+abbrev pub instance_shown : State → ModuleState → Result (State × ModuleState) Refusal
+instance_shown cpu w = bind (or_error (instance_info w.area_store.store.bytes.at w.modules (place_asked cpu)))
+    (λ t. Ok (with_shown cpu t, w))
 
 -- reason 15, rename: R1 points to the full name of an instance, R2 to its new name
-abbrev pub named_anew : State → World → List ℕ → List ℕ → Result (State × World) ErrorNumber
+abbrev pub named_anew : State → ModuleState → List ℕ → List ℕ → Result (State × ModuleState) ErrorNumber
 named_anew cpu w full new = bind (modules_after_rename w.modules full new)
     (λ modules. Ok (cpu, record w { modules = modules }))
 
-abbrev pub instance_renamed : State → World → Result (State × World) Refusal
+abbrev pub instance_renamed : State → ModuleState → Result (State × ModuleState) Refusal
 instance_renamed cpu w =
-    bind (or_error (string_in w.estate.store.bytes cpu 1)) (λ full.
-    bind (or_error (string_in w.estate.store.bytes cpu 2)) (λ new. or_error (named_anew cpu w full new)))
+    bind (or_error (string_in w.area_store.store.bytes cpu 1)) (λ full.
+    bind (or_error (string_in w.area_store.store.bytes cpu 2)) (λ new. or_error (named_anew cpu w full new)))
 
 -- reason 16, prefer: R1 points to the full name of an instance
-abbrev pub made_preferred : State → World → List ℕ → Result (State × World) ErrorNumber
+abbrev pub made_preferred : State → ModuleState → List ℕ → Result (State × ModuleState) ErrorNumber
 made_preferred cpu w full = bind (preferring w.modules full)
     (λ modules. Ok (cpu, record w { modules = modules }))
 
-abbrev pub instance_preferred : State → World → Result (State × World) Refusal
+abbrev pub instance_preferred : State → ModuleState → Result (State × ModuleState) Refusal
 instance_preferred cpu w =
-    bind (or_error (string_in w.estate.store.bytes cpu 1)) (λ full. or_error (made_preferred cpu w full))
+    bind (or_error (string_in w.area_store.store.bytes cpu 1)) (λ full. or_error (made_preferred cpu w full))
 
 -- reason 18, look up: R1 points to a name; R1 and R2 have the numbers then, R3 and R4 are as in
 -- reason 12
@@ -55,10 +55,10 @@ with_found cpu f =
     with_register (with_register
     (with_register (with_register cpu 1 f.place.number) 2 f.place.instance) 3 f.image) 4 f.word
 
-abbrev pub looked_for : State → World → List ℕ → Result (State × World) ErrorNumber
-looked_for cpu w full = bind (instance_looked_up w.estate.store.bytes.at w.modules full)
+abbrev pub looked_for : State → ModuleState → List ℕ → Result (State × ModuleState) ErrorNumber
+looked_for cpu w full = bind (instance_looked_up w.area_store.store.bytes.at w.modules full)
     (λ f. Ok (with_found cpu f, w))
 
-abbrev pub instance_found : State → World → Result (State × World) Refusal
+abbrev pub instance_found : State → ModuleState → Result (State × ModuleState) Refusal
 instance_found cpu w =
-    bind (or_error (string_in w.estate.store.bytes cpu 1)) (λ full. or_error (looked_for cpu w full))
+    bind (or_error (string_in w.area_store.store.bytes cpu 1)) (λ full. or_error (looked_for cpu w full))

@@ -14,18 +14,18 @@ use Rattle.dynamic_areas.specs.declared.area.Changed.{Changed}
 use Rattle.dynamic_areas.specs.declared.area.Created.{Created}
 use Rattle.dynamic_areas.specs.declared.area.Extent.{Extent}
 use Rattle.dynamic_areas.specs.declared.area.Wanted.{Wanted}
-use Rattle.dynamic_areas.specs.Areas.{Land, area_in, extent_asked, find_area, next_number, areas_after_renumber, with_areas}
-use Rattle.dynamic_areas.specs.Changing.{change_answer, land_changed, land_after_remove, store_changed, store_emptied}
-use Rattle.dynamic_areas.specs.Creating.{area_wanted, land_after_create, pages_for}
-use Rattle.dynamic_areas.specs.Ground.{Estate, pool_of}
+use Rattle.dynamic_areas.specs.Areas.{AreaTable, area_in, extent_asked, find_area, next_number, areas_after_renumber, with_areas}
+use Rattle.dynamic_areas.specs.Changing.{change_answer, area_table_changed, area_table_after_remove, store_changed, store_emptied}
+use Rattle.dynamic_areas.specs.Creating.{area_wanted, area_table_after_create, pages_for}
+use Rattle.dynamic_areas.specs.Ground.{AreaStore, pool_of}
 use Rattle.dynamic_areas.specs.Remapped.{with_pages_at}
 use Rattle.swi_dispatch_answers.specs.declared.refusal.Refusal.{Refusal}
 use Rattle.swi_dispatch_answers.specs.Refusals.{or_error, system_error}
 use Rattle.swi_dispatch_answers.specs.Strings.{string_at}
 
 -- another store and other areas: all pages that no area has are in the pool
-abbrev pub with_land : Store → Land → Estate
-with_land s l = record { store = s; pool = pool_of l; land = l }
+abbrev pub with_area_table : Store → AreaTable → AreaStore
+with_area_table s l = record { store = s; pool = pool_of l; area_table = l }
 
 -- OS_ReadDynamicArea: R0 has the area's number on entry, and its base then; R1 has its size, and R2
 -- its maximum, where that was asked for.
@@ -36,8 +36,8 @@ with_maximum cpu (Some maximum) = with_register cpu 2 maximum
 abbrev pub with_extent : State → Extent → State
 with_extent cpu x = with_maximum (with_register (with_register cpu 0 x.base) 1 x.size) x.maximum
 
-unfoldable pub area_read : State → Estate → Result (State × Estate) Refusal
-area_read cpu e = bind (or_error (extent_asked e.land.areas (register_of cpu 0)))
+unfoldable pub area_read : State → AreaStore → Result (State × AreaStore) Refusal
+area_read cpu e = bind (or_error (extent_asked e.area_table.areas (register_of cpu 0)))
     (λ x. Ok (with_extent cpu x, e))
 
 -- OS_DynamicArea, by its reason in R0. Reason 0, create: R1 to R7 are the words of a new area, and
@@ -56,79 +56,81 @@ wanted_of cpu = record {
 abbrev pub with_created : State → Created → State
 with_created cpu c = with_register (with_register (with_register cpu 1 c.number) 3 c.base) 5 c.maximum
 
-abbrev pub area_made : State → Estate → Wanted → Land × Created → State × Estate
+abbrev pub area_made : State → AreaStore → Wanted → AreaTable × Created → State × AreaStore
 area_made cpu e w r = (
   with_created cpu r.1,
-  with_land (with_pages_at e.store r.1.base
+  with_area_table (with_pages_at e.store r.1.base
       (4096 * pages_for w.size)) r.0,
 )
 
 -- where the name can't be read, all else is tested first, as with a good name
-abbrev pub area_named : State → Estate → Wanted → Option (List ℕ) → Result (State × Estate) Refusal
-area_named cpu e w (Some name) = bind (or_error (land_after_create e.land e.pool w name))
+abbrev pub area_named : State → AreaStore → Wanted → Option (List ℕ) → Result (State × AreaStore) Refusal
+area_named cpu e w (Some name) = bind (or_error (area_table_after_create e.area_table e.pool w name))
     (λ r. Ok (area_made cpu e w r))
-area_named cpu e w None = bind (or_error (area_wanted e.land e.pool w (codes "?")))
+area_named cpu e w None = bind (or_error (area_wanted e.area_table e.pool w (codes "?")))
     (λ a. system_error BadString)
 
-abbrev pub area_created : State → Estate → Result (State × Estate) Refusal
+abbrev pub area_created : State → AreaStore → Result (State × AreaStore) Refusal
 area_created cpu e = area_named cpu e (wanted_of cpu) (string_at e.store.bytes (register_of cpu 8))
 
 -- reason 1, remove: R1 has the number
-abbrev pub area_removed : State → Estate → Result (State × Estate) Refusal
+abbrev pub area_removed : State → AreaStore → Result (State × AreaStore) Refusal
 area_removed cpu e =
     let number : ℕ = register_of cpu 1 in
-    bind (or_error (land_after_remove e.land e.store number)) (λ l.
-    Ok (cpu, with_land (store_emptied e.store (find_area number e.land.areas)) l))
+    bind (or_error (area_table_after_remove e.area_table e.store number)) (λ l.
+    Ok (cpu, with_area_table (store_emptied e.store (find_area number e.area_table.areas)) l))
 
 -- reason 2, read: R1 has the number; size, base, flags, maximum, 0 for the handler, and workspace
 -- go to R2 to R7
-abbrev pub with_area_told : State → Area → State
-with_area_told cpu a =
+abbrev pub with_area_shown : State → Area → State
+with_area_shown cpu a =
     let extent : State = with_register (with_register cpu 2 (4096 * a.pages)) 3 a.base in
     with_register (with_register
     (with_register (with_register extent 4 a.flags) 5 a.maximum) 6 0) 7 a.workspace
 
-abbrev pub area_told : State → Estate → Result (State × Estate) Refusal
-area_told cpu e = bind (or_error (area_in e.land.areas (register_of cpu 1)))
-    (λ a. Ok (with_area_told cpu a, e))
+abbrev pub area_shown : State → AreaStore → Result (State × AreaStore) Refusal
+area_shown cpu e = bind (or_error (area_in e.area_table.areas (register_of cpu 1)))
+    (λ a. Ok (with_area_shown cpu a, e))
 
 -- reason 3, enumerate: R1 has a number or -1, and the next greater number or -1 then
-abbrev pub area_enumerated : State → Estate → Result (State × Estate) Refusal
+abbrev pub area_enumerated : State → AreaStore → Result (State × AreaStore) Refusal
 area_enumerated cpu e =
-    bind (or_error (next_number e.land.areas (register_of cpu 1))) (λ n. Ok (with_register cpu 1 n, e))
+    bind (or_error (next_number e.area_table.areas (register_of cpu 1))) (λ n. Ok (with_register cpu 1 n, e))
 
 -- reason 4, renumber: R1 has the old number, R2 the new one
-abbrev pub area_renumbered : State → Estate → Result (State × Estate) Refusal
+abbrev pub area_renumbered : State → AreaStore → Result (State × AreaStore) Refusal
 area_renumbered cpu e =
-    bind (or_error (areas_after_renumber e.land.areas (register_of cpu 1) (register_of cpu 2))) (λ areas.
-    Ok (cpu, record e { land = with_areas e.land areas }))
+    bind (or_error (areas_after_renumber e.area_table.areas (register_of cpu 1) (register_of cpu 2)))
+    (λ areas.
+    Ok (cpu, record e { area_table = with_areas e.area_table areas }))
 
-abbrev pub area_called_for : State → Estate → Option AreaReason → Result (State × Estate) Refusal
+abbrev pub area_called_for : State → AreaStore → Option AreaReason → Result (State × AreaStore) Refusal
 area_called_for cpu e (Some reason.Create) = area_created cpu e
 area_called_for cpu e (Some reason.Remove) = area_removed cpu e
-area_called_for cpu e (Some reason.Info) = area_told cpu e
+area_called_for cpu e (Some reason.Info) = area_shown cpu e
 area_called_for cpu e (Some reason.Enumerate) = area_enumerated cpu e
 area_called_for cpu e (Some reason.Renumber) = area_renumbered cpu e
 area_called_for cpu e None = system_error AreaBadReason
 
-unfoldable pub area_called : State → Estate → Result (State × Estate) Refusal
+unfoldable pub area_called : State → AreaStore → Result (State × AreaStore) Refusal
 area_called cpu e = area_called_for cpu e (area_reason (register_of cpu 0))
 
 -- OS_ChangeDynamicArea: R0 has the number, R1 the change. Pages move even where not all can; R1
--- tells how many bytes did, where there is the area.
-abbrev pub change_asked : State → Estate → Changed
-change_asked cpu e = change_answer e.land.areas e.store e.pool (register_of cpu 0) (register_of cpu 1)
+-- says how many bytes did, where there is the area.
+abbrev pub change_asked : State → AreaStore → Changed
+change_asked cpu e = change_answer e.area_table.areas e.store e.pool (register_of cpu 0) (register_of cpu 1)
 
-abbrev pub area_resized : State → Estate → ℕ → ℕ → ℕ → State × Estate
+abbrev pub area_resized : State → AreaStore → ℕ → ℕ → ℕ → State × AreaStore
 area_resized cpu e number amount bytes = (
   with_register cpu 1 bytes,
-  with_land (store_changed e.store e.land.areas number amount bytes)
-      (land_changed e.land number amount bytes),
+  with_area_table (store_changed e.store e.area_table.areas number amount bytes)
+      (area_table_changed e.area_table number amount bytes),
 )
 
-abbrev pub change_left : State → Estate → Option Area → ℕ → State × Estate
+abbrev pub change_left : State → AreaStore → Option Area → ℕ → State × AreaStore
 change_left cpu e None bytes = (cpu, e)
 change_left cpu e (Some a) bytes = area_resized cpu e (register_of cpu 0) (register_of cpu 1) bytes
 
-abbrev pub area_changed : State → Estate → State × Estate
-area_changed cpu e = change_left cpu e (find_area (register_of cpu 0) e.land.areas) (change_asked cpu e).bytes
+abbrev pub area_changed : State → AreaStore → State × AreaStore
+area_changed cpu e = change_left cpu e (find_area (register_of cpu 0) e.area_table.areas)
+    (change_asked cpu e).bytes

@@ -4,10 +4,10 @@
 ghost use Rattle.std.specs.Prelude.{◌≡◌, List};
 ghost use Rattle.profile.specs.Outcome.{Leaves};
 ghost use Rattle.os_heap.specs.Store.{AreClasses, IsSound, store_of};
-ghost use Rattle.dynamic_areas.specs.Areas.{Land};
-ghost use Rattle.dynamic_areas.specs.Ground.{IsEstate, estate_of};
+ghost use Rattle.dynamic_areas.specs.Areas.{AreaTable};
+ghost use Rattle.dynamic_areas.specs.Ground.{IsAreaStore, area_store_of};
 ghost use Rattle.instances.specs.Modules.{Module};
-ghost use Rattle.instances.specs.world.World.{world_of};
+ghost use Rattle.instances.specs.module_state.ModuleState.{module_state_of};
 ghost use Rattle.swi_dispatch_plans.specs.store.Leaving.{LeavesSound};
 ghost use Rattle.swi_dispatch_plans.specs.modules.Area.{area_described, block_claimed, block_extended, rma_block_after_free};
 
@@ -19,9 +19,9 @@ use swi_dispatch_answers::{Cpu, Refusal};
 /// Reason 5: the largest free block and all that is free go to R2 and R3.
 pub(crate) fn describe_area(cpu: &mut Cpu, memory: &AddressMap) -> Result<(), Refusal>
     requires { IsSound (store_of memory.now) }
-    ensures { (l : Land) (modules : List Module) → Leaves (cpu.old, world_of memory.now l modules)
-        (area_described cpu.old (world_of memory.now l modules)) result
-        (cpu.new, world_of memory.now l modules) }
+    ensures { (l : AreaTable) (modules : List Module) → Leaves (cpu.old, module_state_of memory.now l modules)
+        (area_described cpu.old (module_state_of memory.now l modules)) result
+        (cpu.new, module_state_of memory.now l modules) }
 {
     let (largest, free) = Rma::new().describe(memory)?;
     cpu.set_register(2, largest);
@@ -35,11 +35,11 @@ pub(crate) fn claim_block(
     memory: &mut AddressMap,
     areas: &mut Areas,
 ) -> Result<(), Refusal>
-    requires estate { IsEstate (estate_of memory.old areas.old) }
+    requires area_store { IsAreaStore (area_store_of memory.old areas.old) }
     requires classes { AreClasses memory.old }
-    ensures state { (modules : List Module) → Leaves (cpu.old, world_of memory.old areas.old modules)
-        (block_claimed cpu.old (world_of memory.old areas.old modules)) result
-        (cpu.new, world_of memory.new areas.new modules) }
+    ensures state { (modules : List Module) → Leaves (cpu.old, module_state_of memory.old areas.old modules)
+        (block_claimed cpu.old (module_state_of memory.old areas.old modules)) result
+        (cpu.new, module_state_of memory.new areas.new modules) }
     ensures leaves { LeavesSound memory.old memory.new areas.new }
     ensures sizes { areas.new.sizes ≡ areas.old.sizes }
 {
@@ -55,11 +55,11 @@ pub(crate) fn free_block(
     memory: &mut AddressMap,
     areas: &Areas,
 ) -> Result<(), Refusal>
-    requires estate { IsEstate (estate_of memory.old areas.now) }
+    requires area_store { IsAreaStore (area_store_of memory.old areas.now) }
     requires classes { AreClasses memory.old }
-    ensures state { (modules : List Module) → Leaves (cpu.old, world_of memory.old areas.now modules)
-        (rma_block_after_free cpu.old (world_of memory.old areas.now modules)) result
-        (cpu.new, world_of memory.new areas.now modules) }
+    ensures state { (modules : List Module) → Leaves (cpu.old, module_state_of memory.old areas.now modules)
+        (rma_block_after_free cpu.old (module_state_of memory.old areas.now modules)) result
+        (cpu.new, module_state_of memory.new areas.now modules) }
     ensures leaves { LeavesSound memory.old memory.new areas.now }
 {
     let block = cpu.register(2);
@@ -74,11 +74,11 @@ pub(crate) fn extend_block(
     memory: &mut AddressMap,
     areas: &mut Areas,
 ) -> Result<(), Refusal>
-    requires estate { IsEstate (estate_of memory.old areas.old) }
+    requires area_store { IsAreaStore (area_store_of memory.old areas.old) }
     requires classes { AreClasses memory.old }
-    ensures state { (modules : List Module) → Leaves (cpu.old, world_of memory.old areas.old modules)
-        (block_extended cpu.old (world_of memory.old areas.old modules)) result
-        (cpu.new, world_of memory.new areas.new modules) }
+    ensures state { (modules : List Module) → Leaves (cpu.old, module_state_of memory.old areas.old modules)
+        (block_extended cpu.old (module_state_of memory.old areas.old modules)) result
+        (cpu.new, module_state_of memory.new areas.new modules) }
     ensures leaves { LeavesSound memory.old memory.new areas.new }
     ensures sizes { areas.new.sizes ≡ areas.old.sizes }
 {

@@ -3,13 +3,13 @@
 ghost use Rattle.std.specs.Prelude.{◌≡◌};
 ghost use Rattle.profile.specs.Outcome.{Leaves};
 ghost use Rattle.os_heap.specs.Store.{AreClasses};
-ghost use Rattle.dynamic_areas.specs.Ground.{IsEstate, estate_of};
-ghost use Rattle.instances.specs.world.World.{world_of};
+ghost use Rattle.dynamic_areas.specs.Ground.{IsAreaStore, area_store_of};
+ghost use Rattle.instances.specs.module_state.ModuleState.{module_state_of};
 ghost use Rattle.swi_dispatch_plans.specs.modules.Calls.{result_of_module_call};
-ghost use Rattle.swi_dispatch_plans.specs.modules.Leaving.{LeavesWorld};
+ghost use Rattle.swi_dispatch_plans.specs.modules.Leaving.{LeavesModuleState};
 
 use crate::modules::area::{claim_block, describe_area, extend_block, free_block};
-use crate::modules::naming::{find_instance, prefer_instance, rename_instance, tell_instance};
+use crate::modules::naming::{find_instance, prefer_instance, print_instance, rename_instance};
 use address_map::AddressMap;
 use dynamic_areas::Areas;
 use instances::Instances;
@@ -30,19 +30,19 @@ pub fn call_module(
     areas: &mut Areas,
     instances: &mut Instances,
 ) -> Result<(), Refusal>
-    requires estate { IsEstate (estate_of memory.old areas.old) }
+    requires area_store { IsAreaStore (area_store_of memory.old areas.old) }
     requires classes { AreClasses memory.old }
-    ensures state { Leaves (cpu.old, world_of memory.old areas.old instances.old)
-        (result_of_module_call cpu.old (world_of memory.old areas.old instances.old)) result
-        (cpu.new, world_of memory.new areas.new instances.new) }
-    ensures leaves { LeavesWorld memory.old memory.new areas.old areas.new instances.old instances.new }
+    ensures state { Leaves (cpu.old, module_state_of memory.old areas.old instances.old)
+        (result_of_module_call cpu.old (module_state_of memory.old areas.old instances.old)) result
+        (cpu.new, module_state_of memory.new areas.new instances.new) }
+    ensures leaves { LeavesModuleState memory.old memory.new areas.old areas.new instances.old instances.new }
     ensures sizes { areas.new.sizes ≡ areas.old.sizes }
 {
     match ModuleReason::of(cpu.register(0)) {
         Some(ModuleReason::DescribeArea) => describe_area(cpu, memory),
         Some(ModuleReason::Claim) => claim_block(cpu, memory, areas),
         Some(ModuleReason::Free) => free_block(cpu, memory, areas),
-        Some(ModuleReason::Info) => tell_instance(cpu, memory, instances),
+        Some(ModuleReason::Info) => print_instance(cpu, memory, instances),
         Some(ModuleReason::Extend) => extend_block(cpu, memory, areas),
         Some(ModuleReason::Rename) => rename_instance(cpu, memory, instances),
         Some(ModuleReason::Prefer) => prefer_instance(cpu, memory, instances),

@@ -6,12 +6,12 @@ ghost use Rattle.std.specs.Prelude.{◌≡◌, Option};
 ghost use Rattle.profile.specs.Outcome.{Leaves};
 ghost use Rattle.address_map.specs.Bytes.{AreMapped};
 ghost use Rattle.address_map.specs.Memory.{is_mapped};
-ghost use Rattle.dynamic_areas.specs.Areas.{Land};
+ghost use Rattle.dynamic_areas.specs.Areas.{AreaTable};
 ghost use Rattle.instances_table.specs.plans.Plans.{Plan};
 ghost use Rattle.instances.specs.Modules.{slots_of};
 ghost use Rattle.instances.specs.Turns.{MayGoOn};
-ghost use Rattle.instances.specs.world.World.{world_of};
-ghost use Rattle.swi_dispatch_plans.specs.modules.Naming.{instance_found, instance_preferred, instance_renamed, instance_told};
+ghost use Rattle.instances.specs.module_state.ModuleState.{module_state_of};
+ghost use Rattle.swi_dispatch_plans.specs.modules.Naming.{instance_found, instance_preferred, instance_renamed, instance_shown};
 
 use address_map::AddressMap;
 use instances::{Instances, Place};
@@ -19,25 +19,25 @@ use swi_dispatch_answers::strings::string_in;
 use swi_dispatch_answers::{Cpu, Refusal};
 
 /// Reason 12: R1 and R2 have the numbers of a module and of an instance.
-pub(crate) fn tell_instance(
+pub(crate) fn print_instance(
     cpu: &mut Cpu,
     memory: &AddressMap,
     instances: &Instances,
 ) -> Result<(), Refusal>
     requires { AreMapped (is_mapped memory.now) 0x01C02000 256 }
-    ensures { (l : Land) → Leaves (cpu.old, world_of memory.now l instances.now)
-        (instance_told cpu.old (world_of memory.now l instances.now)) result
-        (cpu.new, world_of memory.now l instances.now) }
+    ensures { (l : AreaTable) → Leaves (cpu.old, module_state_of memory.now l instances.now)
+        (instance_shown cpu.old (module_state_of memory.now l instances.now)) result
+        (cpu.new, module_state_of memory.now l instances.now) }
 {
     let place = Place {
         number: cpu.register(1),
         instance: cpu.register(2),
     };
-    let told = instances.info(memory, place)?;
-    cpu.set_register(1, told.next.number);
-    cpu.set_register(2, told.next.instance);
-    cpu.set_register(3, told.image);
-    cpu.set_register(4, told.word);
+    let reported = instances.info(memory, place)?;
+    cpu.set_register(1, reported.next.number);
+    cpu.set_register(2, reported.next.instance);
+    cpu.set_register(3, reported.image);
+    cpu.set_register(4, reported.word);
     Ok(())
 }
 
@@ -47,12 +47,13 @@ pub(crate) fn rename_instance(
     memory: &AddressMap,
     instances: &mut Instances,
 ) -> Result<(), Refusal>
-    ensures state { (l : Land) → Leaves (cpu.now, world_of memory.now l instances.old)
-        (instance_renamed cpu.now (world_of memory.now l instances.old)) result
-        (cpu.now, world_of memory.now l instances.new) }
+    ensures state { (l : AreaTable) → Leaves (cpu.now, module_state_of memory.now l instances.old)
+        (instance_renamed cpu.now (module_state_of memory.now l instances.old)) result
+        (cpu.now, module_state_of memory.now l instances.new) }
     ensures slots { slots_of instances.new ≡ slots_of instances.old }
-    ensures going { (l : Land) (plan : Option Plan) → MayGoOn (world_of memory.now l instances.old) plan
-        → MayGoOn (world_of memory.now l instances.new) plan }
+    ensures going { (l : AreaTable) (plan : Option Plan) → MayGoOn
+        (module_state_of memory.now l instances.old) plan
+        → MayGoOn (module_state_of memory.now l instances.new) plan }
 {
     let full = string_in(cpu, memory, 1)?;
     let new = string_in(cpu, memory, 2)?;
@@ -66,12 +67,13 @@ pub(crate) fn prefer_instance(
     memory: &AddressMap,
     instances: &mut Instances,
 ) -> Result<(), Refusal>
-    ensures state { (l : Land) → Leaves (cpu.now, world_of memory.now l instances.old)
-        (instance_preferred cpu.now (world_of memory.now l instances.old)) result
-        (cpu.now, world_of memory.now l instances.new) }
+    ensures state { (l : AreaTable) → Leaves (cpu.now, module_state_of memory.now l instances.old)
+        (instance_preferred cpu.now (module_state_of memory.now l instances.old)) result
+        (cpu.now, module_state_of memory.now l instances.new) }
     ensures slots { slots_of instances.new ≡ slots_of instances.old }
-    ensures going { (l : Land) (plan : Option Plan) → MayGoOn (world_of memory.now l instances.old) plan
-        → MayGoOn (world_of memory.now l instances.new) plan }
+    ensures going { (l : AreaTable) (plan : Option Plan) → MayGoOn
+        (module_state_of memory.now l instances.old) plan
+        → MayGoOn (module_state_of memory.now l instances.new) plan }
 {
     let full = string_in(cpu, memory, 1)?;
     instances.prefer(full.as_slice())?;
@@ -85,9 +87,9 @@ pub(crate) fn find_instance(
     instances: &Instances,
 ) -> Result<(), Refusal>
     requires { AreMapped (is_mapped memory.now) 0x01C02000 256 }
-    ensures { (l : Land) → Leaves (cpu.old, world_of memory.now l instances.now)
-        (instance_found cpu.old (world_of memory.now l instances.now)) result
-        (cpu.new, world_of memory.now l instances.now) }
+    ensures { (l : AreaTable) → Leaves (cpu.old, module_state_of memory.now l instances.now)
+        (instance_found cpu.old (module_state_of memory.now l instances.now)) result
+        (cpu.new, module_state_of memory.now l instances.now) }
 {
     let full = string_in(cpu, memory, 1)?;
     let found = instances.lookup(memory, full.as_slice())?;

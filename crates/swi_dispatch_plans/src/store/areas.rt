@@ -4,10 +4,10 @@
 ghost use Rattle.std.specs.Prelude.{◌≡◌, Some, None, Err};
 ghost use Rattle.profile.specs.Outcome.{Leaves};
 ghost use Rattle.os_heap.specs.Store.{AreClasses};
-ghost use Rattle.dynamic_areas.specs.Changing.{change_answer, land_changed, store_changed};
-ghost use Rattle.dynamic_areas.specs.Ground.{IsEstate, estate_of};
+ghost use Rattle.dynamic_areas.specs.Changing.{change_answer, area_table_changed, store_changed};
+ghost use Rattle.dynamic_areas.specs.Ground.{IsAreaStore, area_store_of};
 ghost use Rattle.dynamic_areas.specs.Rooms.{IsAreaTable};
-ghost use Rattle.swi_dispatch_plans.specs.store.Areas.{area_called, area_changed, area_created, area_enumerated, area_named, area_read, area_removed, area_renumbered, area_told, change_asked, wanted_of, with_land};
+ghost use Rattle.swi_dispatch_plans.specs.store.Areas.{area_called, area_changed, area_created, area_enumerated, area_named, area_read, area_removed, area_renumbered, area_shown, change_asked, wanted_of, with_area_table};
 ghost use Rattle.swi_dispatch_plans.specs.store.Leaving.{LeavesSound};
 
 use address_map::AddressMap;
@@ -25,9 +25,9 @@ use swi_dispatch_answers::{Cpu, MAX_TEXT, Refusal, TextEnd};
 #[tactic(auto, unfolding(crate::specs::store::Areas::area_read))]
 pub fn read_area(cpu: &mut Cpu, memory: &AddressMap, areas: &Areas) -> Result<(), Refusal>
     requires { IsAreaTable areas.now.areas }
-    ensures { Leaves (cpu.old, estate_of memory.now areas.now)
-        (area_read cpu.old (estate_of memory.now areas.now)) result
-        (cpu.new, estate_of memory.now areas.now) }
+    ensures { Leaves (cpu.old, area_store_of memory.now areas.now)
+        (area_read cpu.old (area_store_of memory.now areas.now)) result
+        (cpu.new, area_store_of memory.now areas.now) }
 {
     let word = cpu.register(0);
     let extent = areas.read(word)?;
@@ -48,18 +48,18 @@ pub fn read_area(cpu: &mut Cpu, memory: &AddressMap, areas: &Areas) -> Result<()
 /// changed then.
 #[tactic(auto, unfolding(crate::specs::store::Areas::area_called))]
 pub fn call_area(cpu: &mut Cpu, memory: &mut AddressMap, areas: &mut Areas) -> Result<(), Refusal>
-    requires estate { IsEstate (estate_of memory.old areas.old) }
+    requires area_store { IsAreaStore (area_store_of memory.old areas.old) }
     requires classes { AreClasses memory.old }
-    ensures state { Leaves (cpu.old, estate_of memory.old areas.old)
-        (area_called cpu.old (estate_of memory.old areas.old)) result
-        (cpu.new, estate_of memory.new areas.new) }
+    ensures state { Leaves (cpu.old, area_store_of memory.old areas.old)
+        (area_called cpu.old (area_store_of memory.old areas.old)) result
+        (cpu.new, area_store_of memory.new areas.new) }
     ensures leaves { LeavesSound memory.old memory.new areas.new }
     ensures sizes { areas.new.sizes ≡ areas.old.sizes }
 {
     match AreaReason::of(cpu.register(0)) {
         Some(AreaReason::Create) => create_area(cpu, memory, areas),
         Some(AreaReason::Remove) => remove_area(cpu, memory, areas),
-        Some(AreaReason::Info) => tell_area(cpu, memory, areas),
+        Some(AreaReason::Info) => print_area(cpu, memory, areas),
         Some(AreaReason::Enumerate) => next_area(cpu, memory, areas),
         Some(AreaReason::Renumber) => renumber_area(cpu, memory, areas),
         None => Err(Refusal::System(ErrorNumber::AreaBadReason)),
@@ -69,11 +69,11 @@ pub fn call_area(cpu: &mut Cpu, memory: &mut AddressMap, areas: &mut Areas) -> R
 // R1 to R7 are the words of a new area, and R8 points to its name.
 #[tactic(auto, unfolding(os_heap::specs::Store::store_of))]
 fn create_area(cpu: &mut Cpu, memory: &mut AddressMap, areas: &mut Areas) -> Result<(), Refusal>
-    requires estate { IsEstate (estate_of memory.old areas.old) }
+    requires area_store { IsAreaStore (area_store_of memory.old areas.old) }
     requires classes { AreClasses memory.old }
-    ensures state { Leaves (cpu.old, estate_of memory.old areas.old)
-        (area_created cpu.old (estate_of memory.old areas.old)) result
-        (cpu.new, estate_of memory.new areas.new) }
+    ensures state { Leaves (cpu.old, area_store_of memory.old areas.old)
+        (area_created cpu.old (area_store_of memory.old areas.old)) result
+        (cpu.new, area_store_of memory.new areas.new) }
     ensures leaves { LeavesSound memory.old memory.new areas.new }
     ensures sizes { areas.new.sizes ≡ areas.old.sizes }
 {
@@ -107,11 +107,11 @@ fn make_area(
     wanted: &Wanted,
     name: &[u8],
 ) -> Result<(), Refusal>
-    requires estate { IsEstate (estate_of memory.old areas.old) }
+    requires area_store { IsAreaStore (area_store_of memory.old areas.old) }
     requires classes { AreClasses memory.old }
-    ensures state { Leaves (cpu.old, estate_of memory.old areas.old)
-        (area_named cpu.old (estate_of memory.old areas.old) wanted.now (Some name.now)) result
-        (cpu.new, estate_of memory.new areas.new) }
+    ensures state { Leaves (cpu.old, area_store_of memory.old areas.old)
+        (area_named cpu.old (area_store_of memory.old areas.old) wanted.now (Some name.now)) result
+        (cpu.new, area_store_of memory.new areas.new) }
     ensures leaves { LeavesSound memory.old memory.new areas.new }
     ensures sizes { areas.new.sizes ≡ areas.old.sizes }
 {
@@ -124,7 +124,7 @@ fn make_area(
 
 // A name that can't be read counts only where the area would be allowed otherwise.
 fn unnamed_error(cpu: &Cpu, memory: &AddressMap, areas: &Areas, wanted: &Wanted) -> Refusal
-    ensures { area_named cpu.now (estate_of memory.now areas.now) wanted.now None ≡ Err result }
+    ensures { area_named cpu.now (area_store_of memory.now areas.now) wanted.now None ≡ Err result }
 {
     match areas.area_wanted(memory.free_pages(), wanted, b"?") {
         Ok(_) => Refusal::System(ErrorNumber::BadString),
@@ -133,11 +133,11 @@ fn unnamed_error(cpu: &Cpu, memory: &AddressMap, areas: &Areas, wanted: &Wanted)
 }
 
 fn remove_area(cpu: &mut Cpu, memory: &mut AddressMap, areas: &mut Areas) -> Result<(), Refusal>
-    requires estate { IsEstate (estate_of memory.old areas.old) }
+    requires area_store { IsAreaStore (area_store_of memory.old areas.old) }
     requires classes { AreClasses memory.old }
-    ensures state { Leaves (cpu.old, estate_of memory.old areas.old)
-        (area_removed cpu.old (estate_of memory.old areas.old)) result
-        (cpu.new, estate_of memory.new areas.new) }
+    ensures state { Leaves (cpu.old, area_store_of memory.old areas.old)
+        (area_removed cpu.old (area_store_of memory.old areas.old)) result
+        (cpu.new, area_store_of memory.new areas.new) }
     ensures leaves { LeavesSound memory.old memory.new areas.new }
     ensures sizes { areas.new.sizes ≡ areas.old.sizes }
 {
@@ -146,11 +146,11 @@ fn remove_area(cpu: &mut Cpu, memory: &mut AddressMap, areas: &mut Areas) -> Res
     Ok(())
 }
 
-fn tell_area(cpu: &mut Cpu, memory: &AddressMap, areas: &Areas) -> Result<(), Refusal>
-    requires estate { IsEstate (estate_of memory.now areas.now) }
-    ensures { Leaves (cpu.old, estate_of memory.now areas.now)
-        (area_told cpu.old (estate_of memory.now areas.now)) result
-        (cpu.new, estate_of memory.now areas.now) }
+fn print_area(cpu: &mut Cpu, memory: &AddressMap, areas: &Areas) -> Result<(), Refusal>
+    requires area_store { IsAreaStore (area_store_of memory.now areas.now) }
+    ensures { Leaves (cpu.old, area_store_of memory.now areas.now)
+        (area_shown cpu.old (area_store_of memory.now areas.now)) result
+        (cpu.new, area_store_of memory.now areas.now) }
 {
     let number = cpu.register(1);
     let area = areas.info(number)?;
@@ -164,9 +164,9 @@ fn tell_area(cpu: &mut Cpu, memory: &AddressMap, areas: &Areas) -> Result<(), Re
 }
 
 fn next_area(cpu: &mut Cpu, memory: &AddressMap, areas: &Areas) -> Result<(), Refusal>
-    ensures { Leaves (cpu.old, estate_of memory.now areas.now)
-        (area_enumerated cpu.old (estate_of memory.now areas.now)) result
-        (cpu.new, estate_of memory.now areas.now) }
+    ensures { Leaves (cpu.old, area_store_of memory.now areas.now)
+        (area_enumerated cpu.old (area_store_of memory.now areas.now)) result
+        (cpu.new, area_store_of memory.now areas.now) }
 {
     let number = cpu.register(1);
     let next = areas.next(number)?;
@@ -175,11 +175,11 @@ fn next_area(cpu: &mut Cpu, memory: &AddressMap, areas: &Areas) -> Result<(), Re
 }
 
 fn renumber_area(cpu: &mut Cpu, memory: &AddressMap, areas: &mut Areas) -> Result<(), Refusal>
-    requires estate { IsEstate (estate_of memory.now areas.old) }
-    ensures state { Leaves (cpu.old, estate_of memory.now areas.old)
-        (area_renumbered cpu.old (estate_of memory.now areas.old)) result
-        (cpu.new, estate_of memory.now areas.new) }
-    ensures estate { IsEstate (estate_of memory.now areas.new) }
+    requires area_store { IsAreaStore (area_store_of memory.now areas.old) }
+    ensures state { Leaves (cpu.old, area_store_of memory.now areas.old)
+        (area_renumbered cpu.old (area_store_of memory.now areas.old)) result
+        (cpu.new, area_store_of memory.now areas.new) }
+    ensures area_store { IsAreaStore (area_store_of memory.now areas.new) }
     ensures sizes { areas.new.sizes ≡ areas.old.sizes }
 {
     let old = cpu.register(1);
@@ -192,11 +192,11 @@ fn renumber_area(cpu: &mut Cpu, memory: &AddressMap, areas: &mut Areas) -> Resul
 /// not all can, so the call may change something and err. Answers the error with which it ends, if
 /// it does.
 pub fn change_area(cpu: &mut Cpu, memory: &mut AddressMap, areas: &mut Areas) -> Option<ErrorNumber>
-    requires estate { IsEstate (estate_of memory.old areas.old) }
+    requires area_store { IsAreaStore (area_store_of memory.old areas.old) }
     requires classes { AreClasses memory.old }
-    ensures error { result ≡ (change_asked cpu.old (estate_of memory.old areas.old)).error }
-    ensures state { (cpu.new, estate_of memory.new areas.new)
-        ≡ area_changed cpu.old (estate_of memory.old areas.old) }
+    ensures error { result ≡ (change_asked cpu.old (area_store_of memory.old areas.old)).error }
+    ensures state { (cpu.new, area_store_of memory.new areas.new)
+        ≡ area_changed cpu.old (area_store_of memory.old areas.old) }
     ensures leaves { LeavesSound memory.old memory.new areas.new }
     ensures sizes { areas.new.sizes ≡ areas.old.sizes }
 {
@@ -211,14 +211,14 @@ pub fn change_area(cpu: &mut Cpu, memory: &mut AddressMap, areas: &mut Areas) ->
 }
 
 fn resize_area(memory: &mut AddressMap, areas: &mut Areas, number: u32, amount: u32) -> Changed
-    requires estate { IsEstate (estate_of memory.old areas.old) }
+    requires area_store { IsAreaStore (area_store_of memory.old areas.old) }
     requires classes { AreClasses memory.old }
-    ensures answer { let e = estate_of memory.old areas.old in
-        result ≡ change_answer e.land.areas e.store e.pool number amount }
-    ensures estate { let e = estate_of memory.old areas.old in
-        estate_of memory.new areas.new
-        ≡ with_land (store_changed e.store e.land.areas number amount result.bytes)
-        (land_changed e.land number amount result.bytes) }
+    ensures answer { let e = area_store_of memory.old areas.old in
+        result ≡ change_answer e.area_table.areas e.store e.pool number amount }
+    ensures area_store { let e = area_store_of memory.old areas.old in
+        area_store_of memory.new areas.new
+        ≡ with_area_table (store_changed e.store e.area_table.areas number amount result.bytes)
+        (area_table_changed e.area_table number amount result.bytes) }
     ensures leaves { LeavesSound memory.old memory.new areas.new }
     ensures sizes { areas.new.sizes ≡ areas.old.sizes }
 {
@@ -227,8 +227,8 @@ fn resize_area(memory: &mut AddressMap, areas: &mut Areas, number: u32, amount: 
 
 /// The error with which OS_ChangeDynamicArea would end; nothing is changed.
 pub fn change_error(cpu: &Cpu, memory: &AddressMap, areas: &Areas) -> Option<ErrorNumber>
-    requires { IsEstate (estate_of memory.now areas.now) }
-    ensures { result ≡ (change_asked cpu.now (estate_of memory.now areas.now)).error }
+    requires { IsAreaStore (area_store_of memory.now areas.now) }
+    ensures { result ≡ (change_asked cpu.now (area_store_of memory.now areas.now)).error }
 {
     let number = cpu.register(0);
     let amount = cpu.register(1);

@@ -14,7 +14,7 @@ invariant_of-self c =
 pub returns : goal.returns
 returns c =
     let tables : Tables = record {
-      land = c.self.inside.areas;
+      area_table = c.self.inside.areas;
       modules = c.self.inside.instances;
       frames = c.self.inside.frames;
       plan = c.self.inside.plan;

@@ -12,5 +12,5 @@ invariant_of-self c =
 pub returns : goal.returns
 returns c =
     let left = c.call_heap.ensures.leaves _ c.self.invariant.areas in
-    rw (← c.self.view_is) (store_left _ _ _ _ (record { land = c.self.inside.areas; modules = c.self.inside.instances; frames = c.self.inside.frames; plan = c.self.inside.plan; flex = c.self.inside.flex }) c.self.inside.halt _ _
-    (same_pages _ _ _ c.self.invariant.areas left.estate) c.call_heap.ensures.state)
+    rw (← c.self.view_is) (store_left _ _ _ _ (record { area_table = c.self.inside.areas; modules = c.self.inside.instances; frames = c.self.inside.frames; plan = c.self.inside.plan; flex = c.self.inside.flex }) c.self.inside.halt _ _
+    (same_pages _ _ _ c.self.invariant.areas left.area_store) c.call_heap.ensures.state)

@@ -2,7 +2,7 @@ use Rattle.std.proofs.Common.{refl, subst, sym}
 use Rattle.instances.proofs.RmaKeeping.{keeps_same}
 use Rattle.swi_dispatch_plans.specs.Beginning.{CanBegin}
 use Rattle.swi_dispatch_guest.specs.MachineState.{MachineState, setting_of}
-use Rattle.swi_dispatch_guest.specs.Parts.{Parts, state_of}
+use Rattle.swi_dispatch_guest.specs.GuestState.{GuestState, state_of}
 use Rattle.swi_dispatch_guest.proofs.Kept.{over}
 use Rattle.swi_dispatch_guest.proofs.GateLemmas.{carried_well, ended_carried, first_carried, state_opened}
 use Rattle.swi_dispatch_guest.proofs.CarriedFrames.{begun_beneath}
@@ -12,14 +12,14 @@ pub invariant_of-self : goal.invariant_of-self
 invariant_of-self c =
     let before : MachineState = over c.self.inside.memory c.self.inside.cpu
     (record {
-      land = c.self.inside.areas;
+      area_table = c.self.inside.areas;
       modules = c.self.inside.instances;
       frames = c.self.inside.frames;
       plan = c.self.inside.plan;
       flex = c.self.inside.flex;
     })
     c.self.inside.halt in
-    let begins = subst (λ (p : Parts). CanBegin (setting_of (state_of p)) c.args.plan) (sym c.self.view_is) c.requires.begins in
+    let begins = subst (λ (p : GuestState). CanBegin (setting_of (state_of p)) c.args.plan) (sym c.self.view_is) c.requires.begins in
     carried_well _ _ _ _ _ _ _ _ _ _ c.carry_next-kept.ensures refl (begun_beneath before _ begins) c.self.invariant (keeps_same _) refl
     c.self.invariant.sized
 
@@ -27,7 +27,7 @@ pub returns-clause-state : goal.returns-clause-state
 returns-clause-state c =
     let before : MachineState = over c.self.inside.memory c.self.inside.cpu
     (record {
-      land = c.self.inside.areas;
+      area_table = c.self.inside.areas;
       modules = c.self.inside.instances;
       frames = c.self.inside.frames;
       plan = c.self.inside.plan;

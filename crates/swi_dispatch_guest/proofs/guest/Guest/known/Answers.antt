@@ -3,13 +3,13 @@ use Rattle.address_map.proofs.Bytes.{byte_at-lt}
 use Rattle.dynamic_areas.specs.declared.area.Area.{Area}
 use Rattle.instances_table.specs.plans.Plans.{Plan}
 use Rattle.os_heap.specs.Store.{store_of}
-use Rattle.swi_dispatch_guest.specs.Parts.{IsGuest, Parts}
+use Rattle.swi_dispatch_guest.specs.GuestState.{IsGuest, GuestState}
 use Rattle.swi_dispatch_guest.proofs.guest.Guest.known.Goals as goal
 
 pub returns : goal.returns
 unfolding store_of
 returns c =
-    let text = subst (λ (p : Parts). IfSome p.tables.plan (λ (plan : Plan). length plan.given.text.items ≤ 255))
+    let text = subst (λ (p : GuestState). IfSome p.tables.plan (λ (plan : Plan). length plan.given.text.items ≤ 255))
     (sym c.self.view_is) c.text_of_plan.ensures in
     subst IsGuest c.self.view_is (record {
       well_formed = c.self.invariant;

@@ -1,5 +1,5 @@
 use Rattle.std.proofs.Common.{refl, ap, sym, ◌∙◌}
-use Rattle.dynamic_areas.specs.Areas.{Land}
+use Rattle.dynamic_areas.specs.Areas.{AreaTable}
 use Rattle.swi_dispatch_answers.proofs.FlexLemmas.Kept.{flex_started}
 use Rattle.swi_dispatch_guest.proofs.OpenFrames.{frames_none}
 use Rattle.swi_dispatch_guest.proofs.Starting.{start_modules, starts, system_recorded}
@@ -9,16 +9,16 @@ pub invariant_of-result : goal.invariant_of-result
 invariant_of-result c =
     let memory = c.in_ok-memory.ensures in
     record {
-      areas = rw c.new-3.ensures.land memory.areas;
+      areas = rw c.new-3.ensures.area_table memory.areas;
       classes = memory.classes;
       system = system_recorded _ c.args.config memory.store;
-      modules = rw (c.new-3.ensures.land, c.new-4.ensures) (start_modules _ c.args.config memory.store memory.areas);
+      modules = rw (c.new-3.ensures.area_table, c.new-4.ensures) (start_modules _ c.args.config memory.store memory.areas);
       frames = frames_none _ refl c.new-5.ensures;
       flex = flex_started _ c.args.config _ memory.store c.new-6.ensures;
-      sized = ap (λ (l : Land). l.sizes) c.new-3.ensures.land ∙ sym c.in_ok-new.ensures;
+      sized = ap (λ (l : AreaTable). l.sizes) c.new-3.ensures.area_table ∙ sym c.in_ok-new.ensures;
     }
 
 pub returns : goal.returns
 returns c =
     let memory = c.in_ok-memory.ensures in
-    rw (c.new.ensures, c.new-3.ensures.land, c.new-4.ensures, c.new-5.ensures, c.new-6.ensures) (starts _ _ memory.store memory.areas)
+    rw (c.new.ensures, c.new-3.ensures.area_table, c.new-4.ensures, c.new-5.ensures, c.new-6.ensures) (starts _ _ memory.store memory.areas)

@@ -21,7 +21,7 @@ pub returns-in-Err : goal.returns-in-Err
 unfolding store_of
 returns-in-Err c =
     let tables : Tables = record {
-      land = c.self.inside.areas;
+      area_table = c.self.inside.areas;
       modules = c.self.inside.instances;
       frames = c.self.inside.frames;
       plan = c.self.inside.plan;

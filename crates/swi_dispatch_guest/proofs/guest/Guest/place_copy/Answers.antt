@@ -3,35 +3,35 @@ use Rattle.instances.specs.Copies.{may_be_copied}
 use Rattle.instances.proofs.NamedByCalls.{copying_names, named_given}
 use Rattle.swi_dispatch_plans.specs.ImagePlans.{SparesRange, image_header_in}
 use Rattle.swi_dispatch_plans.specs.Beginning.{IsFree}
-use Rattle.swi_dispatch_guest.specs.MachineState.{MachineState, machine_world, setting_of}
-use Rattle.swi_dispatch_guest.specs.Parts.{Parts, state_of}
+use Rattle.swi_dispatch_guest.specs.MachineState.{MachineState, machine_module_state, setting_of}
+use Rattle.swi_dispatch_guest.specs.GuestState.{GuestState, state_of}
 use Rattle.swi_dispatch_guest.proofs.Kept.{over}
-use Rattle.swi_dispatch_guest.proofs.GateLemmas.{carried_well, ended_carried, first_carried, refused_well, refused_world, starts_by, state_opened}
+use Rattle.swi_dispatch_guest.proofs.GateLemmas.{carried_well, ended_carried, first_carried, refused_well, refused_module_state, starts_by, state_opened}
 use Rattle.swi_dispatch_guest.proofs.CarriedFrames.{titled_beneath}
 use Rattle.swi_dispatch_guest.proofs.guest.Guest.place_copy.Goals as goal
 
 pub insert_copy_found-requires-clause-may : goal.insert_copy_found-requires-clause-may
 insert_copy_found-requires-clause-may c =
     let range = c.args.found.range in
-    subst (λ (p : Parts). may_be_copied (machine_world (state_of p)).estate range.at range.len ≡ true) (sym c.self.view_is)
+    subst (λ (p : GuestState). may_be_copied (machine_module_state (state_of p)).area_store range.at range.len ≡ true) (sym c.self.view_is)
     c.requires.place
 
 pub insert_copy_found-requires-clause-header : goal.insert_copy_found-requires-clause-header
 insert_copy_found-requires-clause-header c =
     let found = c.args.found in
-    subst (λ (p : Parts). image_header_in (setting_of (state_of p)) found.range.at found.range.len ≡ Ok found.header)
+    subst (λ (p : GuestState). image_header_in (setting_of (state_of p)) found.range.at found.range.len ≡ Ok found.header)
     (sym c.self.view_is) c.requires.header
 
 pub invariant_of-self : goal.invariant_of-self
 invariant_of-self c =
     let given = c.in_err-plan.ensures in
-    refused_well _ _ c.self.invariant (refused_world _ _ _ _ given.world) refl refl given.classes given.flex refl refl
+    refused_well _ _ c.self.invariant (refused_module_state _ _ _ _ given.module_state) refl refl given.classes given.flex refl refl
 
 pub invariant_of-self-2 : goal.invariant_of-self-2
 invariant_of-self-2 c =
     let before : MachineState = over c.self.inside.memory c.self.inside.cpu
     (record {
-      land = c.self.inside.areas;
+      area_table = c.self.inside.areas;
       modules = c.self.inside.instances;
       frames = c.self.inside.frames;
       plan = c.self.inside.plan;
@@ -39,9 +39,9 @@ invariant_of-self-2 c =
     })
     c.self.inside.halt in
     let given = c.in_ok-plan.ensures in
-    let free = subst (λ (p : Parts). IsFree (setting_of (state_of p))) (sym c.self.view_is) c.requires.free in
-    let spared = subst (λ (p : Parts). SparesRange (setting_of (state_of p)) c.args.found.range.at c.args.found.range.len) (sym c.self.view_is) c.requires.spared in
-    let names = named_given _ _ _ _ _ _ (copying_names (machine_world before) c.args.found.range.at c.args.found.range.len) given.world given.ready in
+    let free = subst (λ (p : GuestState). IsFree (setting_of (state_of p))) (sym c.self.view_is) c.requires.free in
+    let spared = subst (λ (p : GuestState). SparesRange (setting_of (state_of p)) c.args.found.range.at c.args.found.range.len) (sym c.self.view_is) c.requires.spared in
+    let names = named_given _ _ _ _ _ _ (copying_names (machine_module_state before) c.args.found.range.at c.args.found.range.len) given.module_state given.ready in
     let beneath = titled_beneath before _ (image_header_in (setting_of before) c.args.found.range.at c.args.found.range.len) free spared names in
     carried_well _ _ _ _ _ _ _ _ _ _ c.carry_next-kept.ensures refl beneath c.self.invariant given.flex refl
     (given.sizes ∙ c.self.invariant.sized)
@@ -50,7 +50,7 @@ pub returns : goal.returns
 returns c =
     let before : MachineState = over c.self.inside.memory c.self.inside.cpu
     (record {
-      land = c.self.inside.areas;
+      area_table = c.self.inside.areas;
       modules = c.self.inside.instances;
       frames = c.self.inside.frames;
       plan = c.self.inside.plan;
@@ -60,5 +60,5 @@ returns c =
     let given = c.in_ok-plan.ensures in
     let next = c.carry_next-kept.ensures in
     let first = first_carried _ _ given.rests in
-    rw (← c.self.view_is) (starts_by before _ c.args.call _ _ _ _ _ given.world
+    rw (← c.self.view_is) (starts_by before _ c.args.call _ _ _ _ _ given.module_state
     (state_opened before _ _ _ _ _ _ _ _ _ _ _ next first) (ended_carried _ _ _ _ _ _ _ _ _ _ _ _ next first))

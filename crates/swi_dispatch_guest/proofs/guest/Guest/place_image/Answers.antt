@@ -2,23 +2,23 @@ use Rattle.std.proofs.Common.{refl, subst, sym, ◌∙◌}
 use Rattle.instances.proofs.NamedByCalls.{loading_names, named_given}
 use Rattle.image_loader.specs.module_header.Header.{header_of}
 use Rattle.swi_dispatch_plans.specs.Beginning.{IsFree, SparesTitle}
-use Rattle.swi_dispatch_guest.specs.MachineState.{MachineState, machine_world, setting_of}
-use Rattle.swi_dispatch_guest.specs.Parts.{Parts, state_of}
+use Rattle.swi_dispatch_guest.specs.MachineState.{MachineState, machine_module_state, setting_of}
+use Rattle.swi_dispatch_guest.specs.GuestState.{GuestState, state_of}
 use Rattle.swi_dispatch_guest.proofs.Kept.{over}
-use Rattle.swi_dispatch_guest.proofs.GateLemmas.{carried_well, ended_carried, first_carried, refused_well, refused_world, starts_by, state_opened}
+use Rattle.swi_dispatch_guest.proofs.GateLemmas.{carried_well, ended_carried, first_carried, refused_well, refused_module_state, starts_by, state_opened}
 use Rattle.swi_dispatch_guest.proofs.CarriedFrames.{titled_beneath}
 use Rattle.swi_dispatch_guest.proofs.guest.Guest.place_image.Goals as goal
 
 pub invariant_of-self : goal.invariant_of-self
 invariant_of-self c =
     let given = c.in_err-plan.ensures in
-    refused_well _ _ c.self.invariant (refused_world _ _ _ _ given.world) refl refl given.classes given.flex refl refl
+    refused_well _ _ c.self.invariant (refused_module_state _ _ _ _ given.module_state) refl refl given.classes given.flex refl refl
 
 pub invariant_of-self-2 : goal.invariant_of-self-2
 invariant_of-self-2 c =
     let before : MachineState = over c.self.inside.memory c.self.inside.cpu
     (record {
-      land = c.self.inside.areas;
+      area_table = c.self.inside.areas;
       modules = c.self.inside.instances;
       frames = c.self.inside.frames;
       plan = c.self.inside.plan;
@@ -26,9 +26,9 @@ invariant_of-self-2 c =
     })
     c.self.inside.halt in
     let given = c.in_ok-plan.ensures in
-    let free = subst (λ (p : Parts). IsFree (setting_of (state_of p))) (sym c.self.view_is) c.requires.free in
-    let spared = subst (λ (p : Parts). SparesTitle (setting_of (state_of p)) (header_of c.args.image.now)) (sym c.self.view_is) c.requires.spared in
-    let names = named_given _ _ _ _ _ _ (loading_names (machine_world before) c.args.image.now c.args.text.now) given.world given.ready in
+    let free = subst (λ (p : GuestState). IsFree (setting_of (state_of p))) (sym c.self.view_is) c.requires.free in
+    let spared = subst (λ (p : GuestState). SparesTitle (setting_of (state_of p)) (header_of c.args.image.now)) (sym c.self.view_is) c.requires.spared in
+    let names = named_given _ _ _ _ _ _ (loading_names (machine_module_state before) c.args.image.now c.args.text.now) given.module_state given.ready in
     let beneath = titled_beneath before _ (header_of c.args.image.now) free spared names in
     carried_well _ _ _ _ _ _ _ _ _ _ c.carry_next-kept.ensures refl beneath c.self.invariant given.flex refl
     (given.sizes ∙ c.self.invariant.sized)
@@ -37,7 +37,7 @@ pub returns : goal.returns
 returns c =
     let before : MachineState = over c.self.inside.memory c.self.inside.cpu
     (record {
-      land = c.self.inside.areas;
+      area_table = c.self.inside.areas;
       modules = c.self.inside.instances;
       frames = c.self.inside.frames;
       plan = c.self.inside.plan;
@@ -47,5 +47,5 @@ returns c =
     let given = c.in_ok-plan.ensures in
     let next = c.carry_next-kept.ensures in
     let first = first_carried _ _ given.rests in
-    rw (← c.self.view_is) (starts_by before _ c.args.call _ _ _ _ _ given.world
+    rw (← c.self.view_is) (starts_by before _ c.args.call _ _ _ _ _ given.module_state
     (state_opened before _ _ _ _ _ _ _ _ _ _ _ next first) (ended_carried _ _ _ _ _ _ _ _ _ _ _ _ next first))

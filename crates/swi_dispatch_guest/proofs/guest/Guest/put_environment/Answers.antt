@@ -1,8 +1,8 @@
 use Rattle.std.proofs.Common.{refl, ap, ◌∙◌}
 use Rattle.os_heap.specs.Store.{store_of}
 use Rattle.os_heap.proofs.Frame.{layout-others}
-use Rattle.dynamic_areas.specs.Ground.{Estate}
-use Rattle.swi_dispatch_guest.specs.MachineState.{Tables, with_estate}
+use Rattle.dynamic_areas.specs.Ground.{AreaStore}
+use Rattle.swi_dispatch_guest.specs.MachineState.{Tables, with_area_store}
 use Rattle.swi_dispatch_guest.proofs.Kept.{over, well_called}
 use Rattle.swi_dispatch_guest.proofs.SystemRoom.{has_pages}
 use Rattle.swi_dispatch_guest.proofs.guest.Guest.put_environment.Goals as goal
@@ -17,8 +17,8 @@ invariant_of-self c =
 pub returns : goal.returns
 unfolding store_of
 returns c =
-    let tables : Tables = record { land = c.self.inside.areas; modules = c.self.inside.instances; frames = c.self.inside.frames; plan = c.self.inside.plan; flex = c.self.inside.flex } in
-    rw (← c.self.view_is) (ap (λ (e : Estate). with_estate (over c.self.inside.memory c.self.inside.cpu tables c.self.inside.halt) e) (c.put_text.ensures.estate c.self.inside.areas))
+    let tables : Tables = record { area_table = c.self.inside.areas; modules = c.self.inside.instances; frames = c.self.inside.frames; plan = c.self.inside.plan; flex = c.self.inside.flex } in
+    rw (← c.self.view_is) (ap (λ (e : AreaStore). with_area_store (over c.self.inside.memory c.self.inside.cpu tables c.self.inside.halt) e) (c.put_text.ensures.area_store c.self.inside.areas))
 
 pub put_text-requires-clause-system : goal.put_text-requires-clause-system
 unfolding store_of

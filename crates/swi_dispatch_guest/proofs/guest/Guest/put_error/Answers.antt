@@ -19,7 +19,7 @@ returns c =
     let store = kept_memory _ _ _ kept c.write_error.ensures.bytes in
     let core = c.set_register.ensures in
     let pool = same_pool _ _ c.write_error.ensures.layout in
-    rw (← c.self.view_is) (λ i. with_core (core i) (pool i) (record { land = c.self.inside.areas; modules = c.self.inside.instances; frames = c.self.inside.frames; plan = c.self.inside.plan; flex = c.self.inside.flex }) c.self.inside.halt (store i))
+    rw (← c.self.view_is) (λ i. with_core (core i) (pool i) (record { area_table = c.self.inside.areas; modules = c.self.inside.instances; frames = c.self.inside.frames; plan = c.self.inside.plan; flex = c.self.inside.flex }) c.self.inside.halt (store i))
 
 pub write_error-requires : goal.write_error-requires
 unfolding store_of

@@ -3,7 +3,7 @@ use Rattle.std.proofs.Common.{◌≤◌, ◌*◌, ◌∙◌, length, ap, refl, a
 use Rattle.os_heap.specs.Store.{Store, store_of}
 use Rattle.swi_dispatch_answers.proofs.FlexLemmas.Kept.{flex_unmade}
 use Rattle.swi_dispatch_guest.specs.MachineState.{MachineState, machine_start}
-use Rattle.swi_dispatch_guest.specs.Parts.{state_of}
+use Rattle.swi_dispatch_guest.specs.GuestState.{state_of}
 use Rattle.swi_dispatch_guest.proofs.Kept.{well_kept, program_kept, program_put}
 use Rattle.address_map.proofs.InRange.{range_inside}
 use Rattle.swi_dispatch_guest.proofs.guest.Guest.put_program.Goals as goal

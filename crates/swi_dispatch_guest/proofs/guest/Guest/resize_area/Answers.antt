@@ -13,5 +13,5 @@ returns-clause-error c = rw (← c.self.view_is) c.change_area.ensures.error
 
 pub returns-clause-state : goal.returns-clause-state
 returns-clause-state c =
-    let s : MachineState = over c.self.inside.memory c.self.inside.cpu (record { land = c.self.inside.areas; modules = c.self.inside.instances; frames = c.self.inside.frames; plan = c.self.inside.plan; flex = c.self.inside.flex }) c.self.inside.halt in
+    let s : MachineState = over c.self.inside.memory c.self.inside.cpu (record { area_table = c.self.inside.areas; modules = c.self.inside.instances; frames = c.self.inside.frames; plan = c.self.inside.plan; flex = c.self.inside.flex }) c.self.inside.halt in
     rw (← c.self.view_is) (ap (with_guest s) c.change_area.ensures.state)

@@ -2,11 +2,11 @@ use Rattle.std.proofs.Common.{refl, ap, subst, sym, ◌∙◌}
 use Rattle.instances.proofs.RmaKeeping.{keeps_same}
 use Rattle.swi_dispatch_answers.specs.frames.Frames.{innermost_frame}
 use Rattle.arm_core.specs.State.{State}
-use Rattle.instances.specs.world.World.{world_of}
+use Rattle.instances.specs.module_state.ModuleState.{module_state_of}
 use Rattle.swi_dispatch_guest.specs.Carried.{CodeUnderWay, IsCarriedNext}
 use Rattle.swi_dispatch_guest.specs.Gates.{Resumes, come_back, with_code}
-use Rattle.swi_dispatch_guest.specs.MachineState.{MachineState, with_world}
-use Rattle.swi_dispatch_guest.specs.Parts.{Parts, state_of}
+use Rattle.swi_dispatch_guest.specs.MachineState.{MachineState, with_module_state}
+use Rattle.swi_dispatch_guest.specs.GuestState.{GuestState, state_of}
 use Rattle.swi_dispatch_guest.proofs.Kept.{over}
 use Rattle.swi_dispatch_guest.proofs.GateLemmas.{carried_well, ended_carried, resumes_by, state_opened}
 use Rattle.swi_dispatch_guest.proofs.CarriedFrames.{left_beneath}
@@ -15,7 +15,7 @@ use Rattle.swi_dispatch_guest.proofs.guest.Guest.resume.Goals as goal
 
 pub invariant_of-self-2 : goal.invariant_of-self-2
 invariant_of-self-2 c =
-    let last = ap (λ (p : Parts). innermost_frame (state_of p).tables.frames) c.self.view_is ∙ c.requires.last in
+    let last = ap (λ (p : GuestState). innermost_frame (state_of p).tables.frames) c.self.view_is ∙ c.requires.last in
     let beneath = left_beneath _ c.args.frame _ c.self.invariant.frames (sym c.in_ok-plan.ensures.value) last c.requires.entry in
     carried_well _ _ _ _ _ _ _ _ _ _ c.carry_next-kept.ensures refl (rw c.close.ensures.value beneath) c.self.invariant (keeps_same _) refl
     c.self.invariant.sized
@@ -24,7 +24,7 @@ pub returns : goal.returns
 returns c =
     let before : MachineState = over c.self.inside.memory c.self.inside.cpu
     (record {
-      land = c.self.inside.areas;
+      area_table = c.self.inside.areas;
       modules = c.self.inside.instances;
       frames = c.self.inside.frames;
       plan = c.self.inside.plan;
@@ -32,10 +32,10 @@ returns c =
     })
     c.self.inside.halt in
     let next = rw (c.leave.ensures, c.close.ensures.value) at c.carry_next-kept.ensures in
-    let after : MachineState = with_code (with_world (come_back before c.args.frame)
-    (world_of c.carry_next-kept.new.memory c.self.inside.areas c.carry_next-kept.new.instances))
+    let after : MachineState = with_code (with_module_state (come_back before c.args.frame)
+    (module_state_of c.carry_next-kept.new.memory c.self.inside.areas c.carry_next-kept.new.instances))
     c.carry_next-kept.new.cpu c.carry_next-kept.new.frames c.carry_next-kept.result.0 in
-    subst (λ (p : Parts). Resumes (state_of p) c.args.frame c.args.outcome p.tables.plan c.carry_next-kept.result.1 after)
+    subst (λ (p : GuestState). Resumes (state_of p) c.args.frame c.args.outcome p.tables.plan c.carry_next-kept.result.1 after)
     c.self.view_is (resumes_by before after c.args.frame c.args.outcome _ _ _ (sym c.in_ok-plan.ensures.value) (
       state_opened (come_back before c.args.frame) _ _ _ _ _ _ _ _ _ _ _ next refl,
       ended_carried _ _ _ _ _ _ _ _ _ _ _ _ next refl,
@@ -44,5 +44,5 @@ returns c =
 -- a plan is kept while an entry's frame is open
 pub returns-in_err-plan : goal.returns-in_err-plan
 returns-in_err-plan c =
-    let last = ap (λ (p : Parts). innermost_frame (state_of p).tables.frames) c.self.view_is ∙ c.requires.last in
+    let last = ap (λ (p : GuestState). innermost_frame (state_of p).tables.frames) c.self.view_is ∙ c.requires.last in
     absurd (plan_there _ c.args.frame c.self.invariant.frames (sym c.in_err-plan.ensures.value) last c.requires.entry)

@@ -2,8 +2,8 @@ use Rattle.std.proofs.Common.{◌≡◌, ◌≢◌, false, IsTrue, ◌≤◌, �
 use Rattle.std.proofs.lemmas.Result.{err_from_is_err_and}
 use Rattle.profile.specs.declared.stop.Stop.TheVariants as stop
 use Rattle.profile.proofs.OutputLemmas.{Appends-nothing}
-use Rattle.swi_dispatch_guest.specs.Parts.{state_of}
-use Rattle.swi_dispatch_guest.proofs.RunEnds.{ends_stopped, ends_start, ends_quiet, ends_more, ends_on, ends_early, ends_all, stands_more, one_taken}
+use Rattle.swi_dispatch_guest.specs.GuestState.{state_of}
+use Rattle.swi_dispatch_guest.proofs.RunEnds.{ends_stopped, ends_start, ends_silent, ends_more, ends_on, ends_early, ends_all, stands_more, one_taken}
 use Rattle.swi_dispatch_guest.proofs.RunLoop.{halt-none}
 use Rattle.swi_dispatch_guest.proofs.guest.Guest.run.Goals as goal
 
@@ -12,76 +12,76 @@ returns-in-Some-clause-ends g c = ends_stopped _ _ _ _ _ _ _ _ refl (sym c.in-So
 
 pub loop-taken-init : goal.loop-taken-init
 loop-taken-init g c =
-    let awake = halt-none _ _ c.stop.ensures c.in_default.is in
+    let unhalted = halt-none _ _ c.stop.ensures c.in_default.is in
     record {
-      ends = ends_start _ _ _ _ _ awake (Appends-nothing _);
+      ends = ends_start _ _ _ _ _ unhalted (Appends-nothing _);
       within = omega arith;
-      awake = awake;
+      unhalted = unhalted;
       same_flag = refl;
     }
 
--- the steps so far and the quiet ones after them
+-- the steps so far and the silent ones after them
 pub returns-in-Err-clause-ends : goal.returns-in-Err-clause-ends
 returns-in-Err-clause-ends g c =
-    let quiet = c.run_quietly-quiet.ensures in
+    let silent = c.run_silently-silent.ensures in
     let before : c.loop-taken.taken < c.args.budget = c.loop-taken-test.true in
-    let ran = rw c.in-Err.is at quiet.ran c.args.images.now in
-    let all : c.in-Err.stop ≡ stop.Budget → c.loop-taken.taken + c.run_quietly-quiet.result.0 ≡ c.args.budget =
-    λ e. (let k = quiet.all (c.in-Err.is ∙ ap Err e) in omega (arith, k, before)) in
-    ends_all _ _ _ _ _ _ _ _ _ _ _ (omega (arith, quiet.most, before)) all
-    (ends_quiet c.args.images.now c.args.breaks.now (state_of c.args.self.now) (state_of c.loop-taken.self) (state_of c.run_quietly-quiet.new.self)
-    c.loop-taken.taken c.run_quietly-quiet.result.0 c.in-Err.stop c.args.output.now.items c.loop-taken.output.items c.run_quietly-quiet.new.output.items
-    (g.W.Sink.contents c.args.sink.now) (g.W.Sink.contents c.loop-taken.sink) (Appends-nothing _) c.loop-taken.invariant.ends ran quiet.output)
+    let ran = rw c.in-Err.is at silent.ran c.args.images.now in
+    let all : c.in-Err.stop ≡ stop.Budget → c.loop-taken.taken + c.run_silently-silent.result.0 ≡ c.args.budget =
+    λ e. (let k = silent.all (c.in-Err.is ∙ ap Err e) in omega (arith, k, before)) in
+    ends_all _ _ _ _ _ _ _ _ _ _ _ (omega (arith, silent.most, before)) all
+    (ends_silent c.args.images.now c.args.breaks.now (state_of c.args.self.now) (state_of c.loop-taken.self) (state_of c.run_silently-silent.new.self)
+    c.loop-taken.taken c.run_silently-silent.result.0 c.in-Err.stop c.args.output.now.items c.loop-taken.output.items c.run_silently-silent.new.output.items
+    (g.W.Sink.contents c.args.sink.now) (g.W.Sink.contents c.loop-taken.sink) (Appends-nothing _) c.loop-taken.invariant.ends ran silent.output)
 
 pub returns-in_err-one-clause-stands : goal.returns-in_err-one-clause-stands
 returns-in_err-one-clause-stands g c =
-    let quiet = c.run_quietly-quiet.ensures in
-    let ran = rw c.in-Ok.is at quiet.ran c.args.images.now in
-    let fewer = rw c.in-Ok.is at quiet.fewer in
-    let done = ends_quiet c.args.images.now c.args.breaks.now (state_of c.args.self.now) (state_of c.loop-taken.self)
-    (state_of c.run_quietly-quiet.new.self) c.loop-taken.taken c.run_quietly-quiet.result.0 stop.Budget c.args.output.now.items c.loop-taken.output.items
-    c.run_quietly-quiet.new.output.items (g.W.Sink.contents c.args.sink.now) (g.W.Sink.contents c.loop-taken.sink) (Appends-nothing _)
-    c.loop-taken.invariant.ends ran quiet.output in
+    let silent = c.run_silently-silent.ensures in
+    let ran = rw c.in-Ok.is at silent.ran c.args.images.now in
+    let fewer = rw c.in-Ok.is at silent.fewer in
+    let done = ends_silent c.args.images.now c.args.breaks.now (state_of c.args.self.now) (state_of c.loop-taken.self)
+    (state_of c.run_silently-silent.new.self) c.loop-taken.taken c.run_silently-silent.result.0 stop.Budget c.args.output.now.items c.loop-taken.output.items
+    c.run_silently-silent.new.output.items (g.W.Sink.contents c.args.sink.now) (g.W.Sink.contents c.loop-taken.sink) (Appends-nothing _)
+    c.loop-taken.invariant.ends ran silent.output in
     let one = c.in_err-one.ensures in
     let p = err_from_is_err_and c.from_residual.result c.from_residual.ensures.1 in
-    let within : c.loop-taken.taken + c.run_quietly-quiet.result.0 < c.args.budget = omega (arith, fewer) in
+    let within : c.loop-taken.taken + c.run_silently-silent.result.0 < c.args.budget = omega (arith, fewer) in
     rw p.1 (stands_more _ _ _ _ _ _ _ _ _ _ _ _ _ within done one.stands one.output one.part)
 
 pub returns-then-not-goes_on-clause-ends : goal.returns-then-not-goes_on-clause-ends
 returns-then-not-goes_on-clause-ends g c =
-    let quiet = c.run_quietly-quiet.ensures in
-    let ran = rw c.in-Ok.is at quiet.ran c.args.images.now in
-    let fewer = rw c.in-Ok.is at quiet.fewer in
-    let done = ends_quiet c.args.images.now c.args.breaks.now (state_of c.args.self.now) (state_of c.loop-taken.self)
-    (state_of c.run_quietly-quiet.new.self) c.loop-taken.taken c.run_quietly-quiet.result.0 stop.Budget c.args.output.now.items c.loop-taken.output.items
-    c.run_quietly-quiet.new.output.items (g.W.Sink.contents c.args.sink.now) (g.W.Sink.contents c.loop-taken.sink) (Appends-nothing _)
-    c.loop-taken.invariant.ends ran quiet.output in
-    let within : c.loop-taken.taken + c.run_quietly-quiet.result.0 + 1 ≤ c.args.budget = omega (arith, fewer) in
+    let silent = c.run_silently-silent.ensures in
+    let ran = rw c.in-Ok.is at silent.ran c.args.images.now in
+    let fewer = rw c.in-Ok.is at silent.fewer in
+    let done = ends_silent c.args.images.now c.args.breaks.now (state_of c.args.self.now) (state_of c.loop-taken.self)
+    (state_of c.run_silently-silent.new.self) c.loop-taken.taken c.run_silently-silent.result.0 stop.Budget c.args.output.now.items c.loop-taken.output.items
+    c.run_silently-silent.new.output.items (g.W.Sink.contents c.args.sink.now) (g.W.Sink.contents c.loop-taken.sink) (Appends-nothing _)
+    c.loop-taken.invariant.ends ran silent.output in
+    let within : c.loop-taken.taken + c.run_silently-silent.result.0 + 1 ≤ c.args.budget = omega (arith, fewer) in
     let other : c.in_ok-one.one.stop ≢ stop.Budget = λ e. (let t : IsTrue false = c.if-not-goes_on.ensures.1 e in cc) in
     ends_early _ _ _ _ _ _ _ _ _ _ _ _ within other (ends_more _ _ _ _ _ _ _ _ _ _ _ _ _ _ _ done c.in_ok-one.ensures.ends)
 
 pub loop-taken-smaller : goal.loop-taken-smaller
 loop-taken-smaller g c =
     let budget : c.in_ok-one.one.stop ≡ stop.Budget = c.if-not-goes_on.ensures.0 refl in
-    let count : c.in_ok-one.one.taken ≡ 1 = one_taken _ _ _ _ _ _ _ _ _ _ c.run_quietly-quiet.ensures.awake c.in_ok-one.ensures.ends budget in
-    let fewer = rw c.in-Ok.is at c.run_quietly-quiet.ensures.fewer in
+    let count : c.in_ok-one.one.taken ≡ 1 = one_taken _ _ _ _ _ _ _ _ _ _ c.run_silently-silent.ensures.unhalted c.in_ok-one.ensures.ends budget in
+    let fewer = rw c.in-Ok.is at c.run_silently-silent.ensures.fewer in
     omega (arith, count, fewer)
 
 pub loop-taken-preserved : goal.loop-taken-preserved
 loop-taken-preserved g c =
-    let quiet = c.run_quietly-quiet.ensures in
-    let ran = rw c.in-Ok.is at quiet.ran c.args.images.now in
-    let fewer = rw c.in-Ok.is at quiet.fewer in
-    let done = ends_quiet c.args.images.now c.args.breaks.now (state_of c.args.self.now) (state_of c.loop-taken.self)
-    (state_of c.run_quietly-quiet.new.self) c.loop-taken.taken c.run_quietly-quiet.result.0 stop.Budget c.args.output.now.items c.loop-taken.output.items
-    c.run_quietly-quiet.new.output.items (g.W.Sink.contents c.args.sink.now) (g.W.Sink.contents c.loop-taken.sink) (Appends-nothing _)
-    c.loop-taken.invariant.ends ran quiet.output in
+    let silent = c.run_silently-silent.ensures in
+    let ran = rw c.in-Ok.is at silent.ran c.args.images.now in
+    let fewer = rw c.in-Ok.is at silent.fewer in
+    let done = ends_silent c.args.images.now c.args.breaks.now (state_of c.args.self.now) (state_of c.loop-taken.self)
+    (state_of c.run_silently-silent.new.self) c.loop-taken.taken c.run_silently-silent.result.0 stop.Budget c.args.output.now.items c.loop-taken.output.items
+    c.run_silently-silent.new.output.items (g.W.Sink.contents c.args.sink.now) (g.W.Sink.contents c.loop-taken.sink) (Appends-nothing _)
+    c.loop-taken.invariant.ends ran silent.output in
     let one = c.in_ok-one.ensures in
     let budget : c.in_ok-one.one.stop ≡ stop.Budget = c.if-not-goes_on.ensures.0 refl in
-    let count : c.in_ok-one.one.taken ≡ 1 = one_taken _ _ _ _ _ _ _ _ _ _ quiet.awake one.ends budget in
+    let count : c.in_ok-one.one.taken ≡ 1 = one_taken _ _ _ _ _ _ _ _ _ _ silent.unhalted one.ends budget in
     record {
-      ends = ends_on _ _ _ _ _ _ _ _ _ _ _ _ _ _ quiet.awake done one.ends budget;
+      ends = ends_on _ _ _ _ _ _ _ _ _ _ _ _ _ _ silent.unhalted done one.ends budget;
       within = omega (arith, count, fewer);
-      awake = one.awake budget;
+      unhalted = one.unhalted budget;
       same_flag = one.same_flag ∙ c.loop-taken.invariant.same_flag;
     }

@@ -1,6 +1,6 @@
 use Rattle.std.proofs.Common.{◌≡◌, ◌&&◌, ◌==◌, ◌≤◌, ◌-◌, None}
 use Rattle.profile.specs.declared.stop.Stop.TheVariants as stop
-use Rattle.swi_dispatch_guest.specs.Parts.{state_of}
+use Rattle.swi_dispatch_guest.specs.GuestState.{state_of}
 use Rattle.swi_dispatch_guest.specs.Run.{ran}
 use Rattle.swi_dispatch_guest.specs.Ending.{Ends}
 use Rattle.swi_dispatch_guest.proofs.guest.Guest.run.Given as goal
@@ -11,7 +11,7 @@ invariant-loop-taken g l = record {
   ends : Ends (ran l.images l.breaks l.taken (state_of l.fn.self)) (state_of l.self) l.fn.output.items l.output.items
       (g.W.Sink.contents l.fn.sink) (g.W.Sink.contents l.sink) l.taken stop.Budget;
   within : l.taken ≤ l.budget;
-  awake : (state_of l.self).halt ≡ None;
+  unhalted : (state_of l.self).halt ≡ None;
   same_flag : g.W.Sink.has_failed l.sink ≡ g.W.Sink.has_failed l.fn.sink;
 }
 

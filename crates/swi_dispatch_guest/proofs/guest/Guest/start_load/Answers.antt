@@ -1,7 +1,7 @@
 use Rattle.std.proofs.Common.{subst}
 use Rattle.image_loader.specs.module_header.Header.{header_of}
 use Rattle.swi_dispatch_plans.specs.Beginning.{IsFree, SparesTitle}
-use Rattle.swi_dispatch_plans.specs.Setting.{Setting}
+use Rattle.swi_dispatch_plans.specs.PlannerInput.{PlannerInput}
 use Rattle.swi_dispatch_guest.proofs.guest.Guest.start_load.Goals as goal
 
 pub place_image-requires-clause-free : goal.place_image-requires-clause-free
@@ -9,5 +9,5 @@ place_image-requires-clause-free c = subst IsFree c.planner.ensures c.in_ok-load
 
 pub place_image-requires-clause-spared : goal.place_image-requires-clause-spared
 place_image-requires-clause-spared c =
-    subst (λ (s : Setting). SparesTitle s (header_of c.in_ok-load.load.image.now)) c.planner.ensures
+    subst (λ (s : PlannerInput). SparesTitle s (header_of c.in_ok-load.load.image.now)) c.planner.ensures
     c.in_ok-load.ensures.spared

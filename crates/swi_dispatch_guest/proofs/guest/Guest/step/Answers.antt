@@ -1,7 +1,7 @@
 use Rattle.std.proofs.Common.{◌≡◌, ap, ◌∙◌, Err}
 use Rattle.profile.specs.declared.stop.Stop.TheVariants as stop
 use Rattle.swi_dispatch_guest.specs.MachineState.{outcome_with}
-use Rattle.swi_dispatch_guest.specs.Parts.{state_of}
+use Rattle.swi_dispatch_guest.specs.GuestState.{state_of}
 use Rattle.swi_dispatch_guest.proofs.NextTurn.{turn_left, nothing_left}
 use Rattle.swi_dispatch_guest.proofs.guest.Guest.step.Goals as goal
 
@@ -13,7 +13,7 @@ returns-in-Ok c =
     let fewer = rw c.in-Ok.is at one.fewer in
     let next = rw c.in-Ok.is at one.next in
     c.after_turn.ensures
-    ∙ turn_left images (state_of c.args.self.now) (state_of c.take_instructions-next.new.self) _ c.in-Ok.turn c.requires.awake one.awake ran fewer next
+    ∙ turn_left images (state_of c.args.self.now) (state_of c.take_instructions-next.new.self) _ c.in-Ok.turn c.requires.unhalted one.unhalted ran fewer next
 
 pub returns-in-Err : goal.returns-in-Err
 returns-in-Err c =
@@ -21,5 +21,5 @@ returns-in-Err c =
     let images = c.args.images.now in
     let ran = rw (c.new.ensures, c.in-Err.is) at one.ran images in
     let all = λ (e : c.in-Err.field-0 ≡ stop.Budget). one.all (c.in-Err.is ∙ ap Err e) in
-    ap (outcome_with (state_of c.take_instructions-next.new.self)) c.requires.silent
-    ∙ nothing_left images (state_of c.args.self.now) (state_of c.take_instructions-next.new.self) _ c.in-Err.field-0 c.requires.awake ran one.most all
+    ap (outcome_with (state_of c.take_instructions-next.new.self)) c.requires.unprinted
+    ∙ nothing_left images (state_of c.args.self.now) (state_of c.take_instructions-next.new.self) _ c.in-Err.field-0 c.requires.unhalted ran one.most all

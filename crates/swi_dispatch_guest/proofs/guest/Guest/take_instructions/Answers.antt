@@ -6,10 +6,10 @@ use Rattle.os_heap.specs.Store.{store_of, owned_in}
 use Rattle.arm_step.specs.Step.{result_of_step}
 use Rattle.arm_step.specs.Turns.{Turns}
 use Rattle.swi_dispatch_guest.specs.MachineState.{MachineState, Tables}
-use Rattle.swi_dispatch_guest.specs.Parts.{AreCoreSteps, Parts, TakesTurn, state_of}
-use Rattle.swi_dispatch_guest.specs.Run.{ran, quiet_run, quiet_stop}
+use Rattle.swi_dispatch_guest.specs.GuestState.{AreCoreSteps, GuestState, TakesTurn, state_of}
+use Rattle.swi_dispatch_guest.specs.Run.{ran, silent_run, silent_stop}
 use Rattle.swi_dispatch_guest.proofs.Kept.{by_words, flex_after, over, well_kept}
-use Rattle.swi_dispatch_guest.proofs.QuietSteps.{core_steps, moved, next_by, ran_by, settled, steps_keep, turn_taken}
+use Rattle.swi_dispatch_guest.proofs.SilentSteps.{core_steps, moved, next_by, ran_by, settled, steps_keep, turn_taken}
 use Rattle.swi_dispatch_guest.proofs.guest.Guest.take_instructions.Goals as goal
 
 pub invariant_of-self : goal.invariant_of-self
@@ -18,7 +18,7 @@ invariant_of-self c =
     let done = subst (λ (owned : ℕ → Bool). AreDone owned c.args.breaks.now c.run.result.0 (c.self.inside.cpu, bytes_of c.self.inside.memory) (c.run.new.cpu, bytes_of c.run.new.memory))
     (owned_marks c.self.inside.memory well.classes) c.run.ensures.done in
     let kept = settled c.self.inside.memory c.run.new.memory c.self.inside.cpu c.run.new.cpu
-    (record { land = c.self.inside.areas; modules = c.self.inside.instances; frames = c.self.inside.frames; plan = c.self.inside.plan; flex = c.self.inside.flex }) c.self.inside.halt
+    (record { area_table = c.self.inside.areas; modules = c.self.inside.instances; frames = c.self.inside.frames; plan = c.self.inside.plan; flex = c.self.inside.flex }) c.self.inside.halt
     c.run.ensures.layout c.run.ensures.marks well.areas.ground.sound (steps_keep _ _ _ _ _ (by_words (store_of c.self.inside.memory)) done) in
     well_kept _ _ well kept.0.kept c.run.ensures.layout c.run.ensures.marks refl (flex_after _ _ _ well.flex c.run.ensures.layout c.run.ensures.marks kept.0) refl
 
@@ -28,16 +28,16 @@ returns-clause-ran c images =
     let m = c.self.inside.memory in
     let n = c.run.new.memory in
     let cpu = c.self.inside.cpu in
-    let tables : Tables = record { land = c.self.inside.areas; modules = c.self.inside.instances; frames = c.self.inside.frames; plan = c.self.inside.plan; flex = c.self.inside.flex } in
+    let tables : Tables = record { area_table = c.self.inside.areas; modules = c.self.inside.instances; frames = c.self.inside.frames; plan = c.self.inside.plan; flex = c.self.inside.flex } in
     let done = subst (λ (owned : ℕ → Bool). AreDone owned c.args.breaks.now c.run.result.0 (cpu, bytes_of m) (c.run.new.cpu, bytes_of n)) (owned_marks m well.classes) c.run.ensures.done in
     let kept = settled m n cpu c.run.new.cpu tables c.self.inside.halt
     c.run.ensures.layout c.run.ensures.marks well.areas.ground.sound (steps_keep _ _ _ _ _ (by_words (store_of m)) done) in
     let start = settled m m cpu cpu tables c.self.inside.halt refl refl well.areas.ground.sound (record { mapped = refl; bytes = λ a o. refl }) in
     let s = over m cpu tables c.self.inside.halt in
-    let awake : c.self.inside.halt ≡ None = ap (λ (p : Parts). (state_of p).halt) c.self.view_is ∙ c.requires.awake in
+    let unhalted : c.self.inside.halt ≡ None = ap (λ (p : GuestState). (state_of p).halt) c.self.view_is ∙ c.requires.unhalted in
     rw (← c.self.view_is) (ap (λ (x : MachineState). ran images c.args.breaks.now c.run.result.0 x) start.1
-    ∙ ran_by images c.args.breaks.now s c.run.result.0 (cpu, bytes_of m) (c.run.new.cpu, bytes_of n) c.run.result.1 awake done c.run.ensures.ends
-    ∙ ap (λ (x : MachineState). quiet_run x c.run.result.0 (quiet_stop c.run.result.1)) (sym kept.1))
+    ∙ ran_by images c.args.breaks.now s c.run.result.0 (cpu, bytes_of m) (c.run.new.cpu, bytes_of n) c.run.result.1 unhalted done c.run.ensures.ends
+    ∙ ap (λ (x : MachineState). silent_run x c.run.result.0 (silent_stop c.run.result.1)) (sym kept.1))
 
 pub returns-clause-next : goal.returns-clause-next
 returns-clause-next c =
@@ -45,7 +45,7 @@ returns-clause-next c =
     let m = c.self.inside.memory in
     let n = c.run.new.memory in
     let cpu = c.self.inside.cpu in
-    let tables : Tables = record { land = c.self.inside.areas; modules = c.self.inside.instances; frames = c.self.inside.frames; plan = c.self.inside.plan; flex = c.self.inside.flex } in
+    let tables : Tables = record { area_table = c.self.inside.areas; modules = c.self.inside.instances; frames = c.self.inside.frames; plan = c.self.inside.plan; flex = c.self.inside.flex } in
     let done = subst (λ (owned : ℕ → Bool). AreDone owned c.args.breaks.now c.run.result.0 (cpu, bytes_of m) (c.run.new.cpu, bytes_of n)) (owned_marks m well.classes) c.run.ensures.done in
     let kept = settled m n cpu c.run.new.cpu tables c.self.inside.halt
     c.run.ensures.layout c.run.ensures.marks well.areas.ground.sound (steps_keep _ _ _ _ _ (by_words (store_of m)) done) in
@@ -61,7 +61,7 @@ returns-clause-steps c =
     let m = c.self.inside.memory in
     let n = c.run.new.memory in
     let cpu = c.self.inside.cpu in
-    let tables : Tables = record { land = c.self.inside.areas; modules = c.self.inside.instances; frames = c.self.inside.frames; plan = c.self.inside.plan; flex = c.self.inside.flex } in
+    let tables : Tables = record { area_table = c.self.inside.areas; modules = c.self.inside.instances; frames = c.self.inside.frames; plan = c.self.inside.plan; flex = c.self.inside.flex } in
     let done = subst (λ (owned : ℕ → Bool). AreDone owned c.args.breaks.now c.run.result.0 (cpu, bytes_of m) (c.run.new.cpu, bytes_of n)) (owned_marks m well.classes) c.run.ensures.done in
     let kept = settled m n cpu c.run.new.cpu tables c.self.inside.halt
     c.run.ensures.layout c.run.ensures.marks well.areas.ground.sound (steps_keep _ _ _ _ _ (by_words (store_of m)) done) in

@@ -4,7 +4,7 @@ pub returns-in_err-free-clause-leaves : goal.returns-in_err-free-clause-leaves
 returns-in_err-free-clause-leaves c =
     let freed = c.free.ensures in
     record {
-      estate = freed.estate c.args.areas.now c.requires.estate;
+      area_store = freed.area_store c.args.areas.now c.requires.area_store;
       classes = freed.classes;
       others = freed.others;
       flex = freed.flex;
@@ -14,7 +14,7 @@ pub returns-clause-leaves : goal.returns-clause-leaves
 returns-clause-leaves c =
     let freed = c.free.ensures in
     record {
-      estate = freed.estate c.args.areas.now c.requires.estate;
+      area_store = freed.area_store c.args.areas.now c.requires.area_store;
       classes = freed.classes;
       others = freed.others;
       flex = freed.flex;

@@ -3,7 +3,7 @@ use Rattle.image_loader.specs.module_header.Header.{header_of}
 use Rattle.os_heap.specs.Store.{store_of}
 use Rattle.swi_dispatch_plans.specs.Beginning.{SparesTitle, SparesTitled}
 use Rattle.swi_dispatch_plans.specs.ImagePlans.{image_header_in}
-use Rattle.swi_dispatch_plans.specs.Setting.{PlanParts, setting_in}
+use Rattle.swi_dispatch_plans.specs.PlannerInput.{PlanParts, setting_in}
 use Rattle.swi_dispatch_plans.proofs.planner.Planner.header_to_add.Goals as goal
 
 pub returns-clause-header : goal.returns-clause-header

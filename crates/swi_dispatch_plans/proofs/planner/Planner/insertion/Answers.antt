@@ -2,7 +2,7 @@ use Rattle.std.proofs.Common.{◌≡◌, true, sym, ap, ◌∙◌}
 use Rattle.os_heap.specs.Store.{store_of}
 use Rattle.instances.specs.NewImages.{may_be_in_place}
 use Rattle.instances.proofs.InPlaceLemmas.{may_be}
-use Rattle.swi_dispatch_plans.specs.Setting.{PlanParts}
+use Rattle.swi_dispatch_plans.specs.PlannerInput.{PlanParts}
 use Rattle.swi_dispatch_plans.proofs.planner.Planner.insertion.Goals as goal
 
 pub header_to_add-requires : goal.header_to_add-requires

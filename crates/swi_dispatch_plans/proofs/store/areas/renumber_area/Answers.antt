@@ -1,4 +1,4 @@
 use Rattle.swi_dispatch_plans.proofs.store.areas.renumber_area.Goals as goal
 
-pub returns-clause-estate : goal.returns-clause-estate
-returns-clause-estate c = c.renumber.ensures.ground _ _ c.requires.estate
+pub returns-clause-area_store : goal.returns-clause-area_store
+returns-clause-area_store c = c.renumber.ensures.ground _ _ c.requires.area_store

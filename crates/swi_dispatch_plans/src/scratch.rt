@@ -5,7 +5,7 @@ ghost use Rattle.std.specs.Prelude.{◌≡◌, IfOk};
 ghost use Rattle.profile.specs.Sizes.{AreGood};
 ghost use Rattle.os_heap.specs.Store.{AreClasses};
 ghost use Rattle.instances_table.specs.plans.Plans.{plan_after_code};
-ghost use Rattle.instances.specs.world.World.{world_of};
+ghost use Rattle.instances.specs.module_state.ModuleState.{module_state_of};
 ghost use Rattle.instances.specs.Turns.{IsUnderWay};
 ghost use Rattle.swi_dispatch_plans.specs.Trials.{error_ahead};
 
@@ -21,12 +21,12 @@ use swi_dispatch_answers::errors::error_at;
 /// What a call is tried on: a memory as large as the machine's, which is kept for the next call.
 /// The list of modules is no part of it: each trial makes its own.
 #[derive(Drop)]
-pub struct Spare {
+pub struct Scratch {
     memory: AddressMap,
     sizes: Config,
 }
 
-impl Model for Spare {
+impl Model for Scratch {
     ghost use Rattle.std.specs.Prelude.{◌≡◌};
     ghost use Rattle.profile.specs.Sizes.{Sizes};
     ghost use Rattle.address_map.specs.Memory.{page_total};
@@ -38,16 +38,16 @@ impl Model for Spare {
     ghost invariant = { λ s. page_total s.memory ≡ s.sizes.pages };
 }
 
-impl Spare {
+impl Scratch {
     /// One for memories of a machine of these sizes.
     ///
     /// # Errors
     ///
     /// Where memory is missing.
-    pub fn new(alloc: Global, config: Config) -> Result<Spare, AllocError>
+    pub fn new(alloc: Global, config: Config) -> Result<Scratch, AllocError>
         ensures { IfOk result (λ s. s ≡ config) }
     {
-        Ok(Spare {
+        Ok(Scratch {
             memory: AddressMap::new(alloc, config.pages())?,
             sizes: config,
         })
@@ -73,10 +73,10 @@ impl Spare {
         plan: &Plan,
         outcome: Outcome,
     ) -> Option<u32>
-        requires going { IsUnderWay (world_of memory.now areas.now instances.now) plan.now }
+        requires going { IsUnderWay (module_state_of memory.now areas.now instances.now) plan.now }
         requires classes { AreClasses memory.now }
         requires sizes { areas.now.sizes ≡ self.old }
-        ensures error { result ≡ error_ahead (world_of memory.now areas.now instances.now)
+        ensures error { result ≡ error_ahead (module_state_of memory.now areas.now instances.now)
             (plan_after_code plan.now outcome) }
         ensures same { self.new ≡ self.old }
     {

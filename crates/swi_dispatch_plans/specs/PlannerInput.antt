@@ -3,8 +3,8 @@ use Rattle.std.specs.Prelude.{ℕ, Option, Result, List}
 use Rattle.profile.specs.declared.error.ErrorNumber.{ErrorNumber}
 use Rattle.address_map.specs.declared.map.AddressMap.{AddressMap}
 use Rattle.swi_dispatch_answers.specs.State.{State}
-use Rattle.instances.specs.world.World.{World, world_of}
-use Rattle.dynamic_areas.specs.Areas.{Land}
+use Rattle.instances.specs.module_state.ModuleState.{ModuleState, module_state_of}
+use Rattle.dynamic_areas.specs.Areas.{AreaTable}
 use Rattle.instances_table.specs.plans.Plans.{Plan}
 use Rattle.instances.specs.Modules.{Module}
 use Rattle.swi_dispatch_answers.specs.Strings.{string_in}
@@ -12,29 +12,29 @@ use Rattle.swi_dispatch_answers.specs.declared.frames.frame.Frame.{Frame}
 
 -- The core, the modules and what they stand on, the frames of module code that is under way, and
 -- what is left to do of a call on modules whose code is under way.
-pub record Setting : Type 0 where
+pub record PlannerInput : Type 0 where
   pub cpu : State
-  pub world : World
+  pub module_state : ModuleState
   pub frames : List Frame
   pub plan : Option Plan
 
 -- the string that a register points to
-unfoldable pub string_asked : Setting → ℕ → Result (List ℕ) ErrorNumber
-string_asked s number = string_in s.world.estate.store.bytes s.cpu number
+unfoldable pub string_asked : PlannerInput → ℕ → Result (List ℕ) ErrorNumber
+string_asked s number = string_in s.module_state.area_store.store.bytes s.cpu number
 
 -- the parts of a real machine that are read then, and the setting that they stand for
 pub record PlanParts : Type 0 where
   pub cpu : State
   pub map : AddressMap
-  pub land : Land
+  pub area_table : AreaTable
   pub modules : List Module
   pub frames : List Frame
   pub plan : Option Plan
 
-abbrev pub setting_in : PlanParts → Setting
+abbrev pub setting_in : PlanParts → PlannerInput
 setting_in p = record {
   cpu = p.cpu;
-  world = world_of p.map p.land p.modules;
+  module_state = module_state_of p.map p.area_table p.modules;
   frames = p.frames;
   plan = p.plan;
 }

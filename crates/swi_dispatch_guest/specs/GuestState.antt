@@ -7,10 +7,10 @@ use Rattle.os_heap.specs.Store.{AreClasses, store_of}
 use Rattle.dynamic_areas.specs.Ground.{AreAreas, IsRecorded, system_pages_range}
 use Rattle.dynamic_areas.specs.Rooms.{IsAreaTable}
 use Rattle.swi_dispatch_answers.specs.flex.Ground.{HasFlex}
-use Rattle.arm_core.specs.declared.turn.Turn.{Turn}
-use Rattle.arm_core.specs.declared.turn.Turn.TheVariants.{Done}
+use Rattle.arm_core.specs.declared.turn.StepEnd.{StepEnd}
+use Rattle.arm_core.specs.declared.turn.StepEnd.TheVariants.{Done}
 use Rattle.arm_core.specs.State.{IsCore, State}
-use Rattle.instances.specs.world.World.{World, world_of}
+use Rattle.instances.specs.module_state.ModuleState.{ModuleState, module_state_of}
 use Rattle.instances_table.specs.plans.Plans.{Plan}
 use Rattle.instances_table.specs.Modules.{AreModules}
 use Rattle.instances.specs.Turns.{MayGoOn}
@@ -22,14 +22,14 @@ use Rattle.swi_dispatch_guest.specs.OpenFrames.{AreFrames}
 use Rattle.swi_dispatch_guest.specs.Step.{Turned, result_of_instruction}
 
 -- the sizes are those that the machine was made with
-pub record Parts : Type 0 where
+pub record GuestState : Type 0 where
   pub cpu : State
   pub map : AddressMap
   pub tables : Tables
   pub halt : Option Halt
   pub sizes : Sizes
 
-abbrev pub state_of : Parts → MachineState
+abbrev pub state_of : GuestState → MachineState
 state_of p = record {
   cpu = p.cpu;
   store = store_of p.map;
@@ -50,8 +50,8 @@ pub record Answers (a : Answer) (to : ℕ) (result : Result (Unit {0}) Refusal) 
   pub error : HasError a.error result
 
 -- what calls on modules act on
-abbrev pub parts_world : Parts → World
-parts_world p = world_of p.map p.tables.land p.tables.modules
+abbrev pub parts_module_state : GuestState → ModuleState
+parts_module_state p = module_state_of p.map p.tables.area_table p.tables.modules
 
 -- What holds of every guest, whatever it does: the areas stand on its memory, so that memory spells
 -- the lists of all heaps; the words that these lists spell are those that are marked; the system
@@ -60,14 +60,14 @@ parts_world p = world_of p.map p.tables.land p.tables.modules
 -- plan is kept, and else none; each frame is of an instance that is there, and no SWI that waits
 -- for an initialisation or a finalisation is of its instance, nor of one that the plan names;
 -- memory spells the flex store, if there is one; and the areas are those of a machine of its sizes.
-pub record IsWellFormed (p : Parts) : Type 0 where
-  pub areas : AreAreas (store_of p.map) (free_pages p.map) p.tables.land
+pub record IsWellFormed (p : GuestState) : Type 0 where
+  pub areas : AreAreas (store_of p.map) (free_pages p.map) p.tables.area_table
   pub classes : AreClasses p.map
   pub system : IsRecorded system_pages_range (store_of p.map).others
-  pub modules : MayGoOn (parts_world p) p.tables.plan
+  pub modules : MayGoOn (parts_module_state p) p.tables.plan
   pub frames : AreFrames p.tables
   pub flex : HasFlex p.map p.tables.flex
-  pub sized : p.tables.land.sizes ≡ p.sizes
+  pub sized : p.tables.area_table.sizes ≡ p.sizes
 
 -- All that holds of every guest, whatever it does. Beside what its steps keep: the core has 26
 -- registers, those of all banks, each a word, and its program counter is a multiple of 4 below
@@ -76,30 +76,30 @@ pub record IsWellFormed (p : Parts) : Type 0 where
 -- are open; and the text of a call that is under way has at most 255 bytes. (The slots that its
 -- plan names are those of instances, or below 64 where it is to add one: that is said with the
 -- plan, in `modules` of `IsWellFormed`.)
-pub record IsGuest (p : Parts) : Type 0 where
+pub record IsGuest (p : GuestState) : Type 0 where
   pub well_formed : IsWellFormed p
   pub core : IsCore p.cpu
   pub bytes : (a : ℕ) → (store_of p.map).bytes.at a < 256
-  pub areas : IsAreaTable p.tables.land.areas
-  pub few_areas : length p.tables.land.areas ≤ 32
+  pub areas : IsAreaTable p.tables.area_table.areas
+  pub few_areas : length p.tables.area_table.areas ≤ 32
   pub modules : AreModules p.tables.modules
   pub frames : length p.tables.frames ≤ 32
   pub text : IfSome p.tables.plan (λ (plan : Plan). length plan.given.text.items ≤ 255)
 
 -- a machine's state
 pub record IsState (s : MachineState) : Type 0 where
-  pub parts : Parts
+  pub parts : GuestState
   pub is : state_of parts ≡ s
   pub machine : IsGuest parts
 
 -- the core takes a turn, and the rest of the machine stays
-abbrev pub TakesTurn : MachineState → Turn → MachineState → Type 0
+abbrev pub TakesTurn : MachineState → StepEnd → MachineState → Type 0
 TakesTurn s t s' = Turned s (result_of_instruction s) t s'
 
 -- Another turn comes next than that of an instruction that is done: a software interrupt, the
 -- address that module code returns to, or a fault.
 pub record AwaitsOtherTurn (s : MachineState) : Type 0 where
-  pub turn : Turn
+  pub turn : StepEnd
   pub other : turn ≢ Done
   pub takes : TakesTurn s turn s
 

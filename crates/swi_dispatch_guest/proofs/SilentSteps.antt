@@ -5,8 +5,8 @@ use Rattle.profile.specs.declared.stop.Stop.TheVariants as stop
 use Rattle.address_map.specs.declared.map.AddressMap.{AddressMap}
 use Rattle.address_map.specs.Bytes.{Bytes}
 use Rattle.address_map.specs.Memory.{bytes_of, layout, class_of}
-use Rattle.arm_core.specs.declared.turn.Turn.{Turn}
-use Rattle.arm_core.specs.declared.turn.Turn.TheVariants as turn
+use Rattle.arm_core.specs.declared.turn.StepEnd.{StepEnd}
+use Rattle.arm_core.specs.declared.turn.StepEnd.TheVariants as turn
 use Rattle.arm_core.specs.State.{State}
 use Rattle.arm_run.specs.Runs.{AreDone, StopsBy}
 use Rattle.arm_step.specs.OwnedBytes.{IsByWords, KeepsOwnedBytes}
@@ -18,50 +18,50 @@ use Rattle.swi_dispatch_plans.specs.Entries.{Entry}
 use Rattle.swi_dispatch_guest.specs.declared.halt.Halt.{Halt}
 use Rattle.swi_dispatch_guest.specs.MachineState.{MachineState, Tables}
 use Rattle.swi_dispatch_guest.specs.Step.{Turned, moved_on}
-use Rattle.swi_dispatch_guest.specs.Parts.{AreCoreSteps, TakesTurn}
-use Rattle.swi_dispatch_guest.specs.Run.{is_among, ran, quiet_run, quiet_stop}
+use Rattle.swi_dispatch_guest.specs.GuestState.{AreCoreSteps, TakesTurn}
+use Rattle.swi_dispatch_guest.specs.Run.{is_among, ran, silent_run, silent_stop}
 use Rattle.swi_dispatch_guest.proofs.Kept.{IsStored, keeps_stored, kept_memory, same_pool, with_core, over}
-use Rattle.swi_dispatch_guest.proofs.Quiet.{quiet_start, quiet_more, ends_by}
+use Rattle.swi_dispatch_guest.proofs.Silent.{silent_start, silent_more, ends_by}
 
 -- the machine with another core and other bytes
 abbrev pub moved : MachineState → State × Bytes → MachineState
 moved s w = (moved_on s w).now
 
-taken_by : (s : MachineState) (r : Result (State × Bytes) Turn) (t : Turn) (middle new : State × Bytes) → Turns middle r t new → Turned (moved s middle) r t (moved s new)
+taken_by : (s : MachineState) (r : Result (State × Bytes) StepEnd) (t : StepEnd) (middle new : State × Bytes) → Turns middle r t new → Turned (moved s middle) r t (moved s new)
 taken_by s (Ok v) t middle new h = (h.0, ap (moved s) h.1)
 taken_by s (Err e) t middle new h = (h.0, ap (moved s) h.1)
 
-pub turn_taken : (s : MachineState) (t : Turn) (middle new : State × Bytes) → Turns middle (result_of_step (owned_in s.store) middle.0 middle.1) t new → TakesTurn (moved s middle) t (moved s new)
+pub turn_taken : (s : MachineState) (t : StepEnd) (middle new : State × Bytes) → Turns middle (result_of_step (owned_in s.store) middle.0 middle.1) t new → TakesTurn (moved s middle) t (moved s new)
 unfolding owned_in
 turn_taken s t middle new h = taken_by s (result_of_step (owned_in s.store) middle.0 middle.1) t middle new h
 
 taken : (s : MachineState) (middle new : State × Bytes) → Turns middle (result_of_step (owned_in s.store) middle.0 middle.1) turn.Done new → TakesTurn (moved s middle) turn.Done (moved s new)
 taken s middle new h = turn_taken s turn.Done middle new h
 
-pub next_by : (r : Result Turn Stop) (p q : Turn → Type 0) → ((t : Turn) → p t → q t) → IfOk r p → IfOk r q
+pub next_by : (r : Result StepEnd Stop) (p q : StepEnd → Type 0) → ((t : StepEnd) → p t → q t) → IfOk r p → IfOk r q
 next_by (Ok t) p q f h = f t h
 next_by (Err e) p q f h = tt
 
 -- none of them ended on a break
-quiet_so_far : (images : List Entry) (breaks : List ℕ) (s : MachineState) (n : ℕ) (old new : State × Bytes) → s.halt ≡ None → AreDone (owned_in s.store) breaks n old new
-    → (n ≡ 0) ⊎ (is_among breaks new.0.pc ≡ false) → ran images breaks n (moved s old) ≡ quiet_run (moved s new) n stop.Budget
+silent_so_far : (images : List Entry) (breaks : List ℕ) (s : MachineState) (n : ℕ) (old new : State × Bytes) → s.halt ≡ None → AreDone (owned_in s.store) breaks n old new
+    → (n ≡ 0) ⊎ (is_among breaks new.0.pc ≡ false) → ran images breaks n (moved s old) ≡ silent_run (moved s new) n stop.Budget
 unfolding AreDone
-quiet_so_far images breaks s zero old new awake h clear =
-    quiet_start images breaks (moved s old) awake ∙ ap (λ (w : State × Bytes). quiet_run (moved s w) 0 stop.Budget) (sym h)
-quiet_so_far images breaks s (suc n) old new awake h (inl none) = absurd (cc)
-quiet_so_far images breaks s (suc n) old new awake h (inr clear) =
-    let so_far : ran images breaks n (moved s old) ≡ quiet_run (moved s h.0) n stop.Budget = quiet_so_far images breaks s n old h.0 awake h.1.0 h.1.1.unbroken in
-    subst (λ (k : ℕ). ran images breaks k (moved s old) ≡ quiet_run (moved s new) k stop.Budget) (add-one n)
-    (quiet_more images breaks (moved s old) (moved s h.0) (moved s new) n turn.Done stop.Budget refl so_far awake (ends_by breaks (moved s new) false clear) (taken s h.0 new h.1.1.step))
+silent_so_far images breaks s zero old new unhalted h clear =
+    silent_start images breaks (moved s old) unhalted ∙ ap (λ (w : State × Bytes). silent_run (moved s w) 0 stop.Budget) (sym h)
+silent_so_far images breaks s (suc n) old new unhalted h (inl none) = absurd (cc)
+silent_so_far images breaks s (suc n) old new unhalted h (inr clear) =
+    let so_far : ran images breaks n (moved s old) ≡ silent_run (moved s h.0) n stop.Budget = silent_so_far images breaks s n old h.0 unhalted h.1.0 h.1.1.unbroken in
+    subst (λ (k : ℕ). ran images breaks k (moved s old) ≡ silent_run (moved s new) k stop.Budget) (add-one n)
+    (silent_more images breaks (moved s old) (moved s h.0) (moved s new) n turn.Done stop.Budget refl so_far unhalted (ends_by breaks (moved s new) false clear) (taken s h.0 new h.1.1.step))
 
 -- and where the last of them led to a break
-pub quiet_to_break : (images : List Entry) (breaks : List ℕ) (s : MachineState) (n : ℕ) (old new : State × Bytes) → s.halt ≡ None → AreDone (owned_in s.store) breaks (suc n) old new
-    → is_among breaks new.0.pc ≡ true → ran images breaks (suc n) (moved s old) ≡ quiet_run (moved s new) (suc n) (stop.Break new.0.pc)
+pub silent_to_break : (images : List Entry) (breaks : List ℕ) (s : MachineState) (n : ℕ) (old new : State × Bytes) → s.halt ≡ None → AreDone (owned_in s.store) breaks (suc n) old new
+    → is_among breaks new.0.pc ≡ true → ran images breaks (suc n) (moved s old) ≡ silent_run (moved s new) (suc n) (stop.Break new.0.pc)
 unfolding AreDone
-quiet_to_break images breaks s n old new awake h broken =
-    let so_far : ran images breaks n (moved s old) ≡ quiet_run (moved s h.0) n stop.Budget = quiet_so_far images breaks s n old h.0 awake h.1.0 h.1.1.unbroken in
-    subst (λ (k : ℕ). ran images breaks k (moved s old) ≡ quiet_run (moved s new) k (stop.Break new.0.pc)) (add-one n)
-    (quiet_more images breaks (moved s old) (moved s h.0) (moved s new) n turn.Done (stop.Break new.0.pc) refl so_far awake (ends_by breaks (moved s new) true broken) (taken s h.0 new h.1.1.step))
+silent_to_break images breaks s n old new unhalted h broken =
+    let so_far : ran images breaks n (moved s old) ≡ silent_run (moved s h.0) n stop.Budget = silent_so_far images breaks s n old h.0 unhalted h.1.0 h.1.1.unbroken in
+    subst (λ (k : ℕ). ran images breaks k (moved s old) ≡ silent_run (moved s new) k (stop.Break new.0.pc)) (add-one n)
+    (silent_more images breaks (moved s old) (moved s h.0) (moved s new) n turn.Done (stop.Break new.0.pc) refl so_far unhalted (ends_by breaks (moved s new) true broken) (taken s h.0 new h.1.1.step))
 
 -- all of them leave owned bytes as they were
 same_bytes : (owned : ℕ → Bool) (b : Bytes) → KeepsOwnedBytes owned b b
@@ -70,7 +70,7 @@ same_bytes owned b = record { mapped = refl; bytes = λ a h. refl }
 then_bytes : (owned : ℕ → Bool) (b c d : Bytes) → KeepsOwnedBytes owned b c → KeepsOwnedBytes owned c d → KeepsOwnedBytes owned b d
 then_bytes owned b c d h g = record { mapped = g.mapped ∙ h.mapped; bytes = λ a o. g.bytes a o ∙ h.bytes a o }
 
-kept_by : (owned : ℕ → Bool) (r : Result (State × Bytes) Turn) (middle new : State × Bytes) → IsByWords owned → result_of_step owned middle.0 middle.1 ≡ r → Turns middle r turn.Done new
+kept_by : (owned : ℕ → Bool) (r : Result (State × Bytes) StepEnd) (middle new : State × Bytes) → IsByWords owned → result_of_step owned middle.0 middle.1 ≡ r → Turns middle r turn.Done new
     → KeepsOwnedBytes owned middle.1 new.1
 kept_by owned (Ok v) middle new words e h =
     subst (λ (w : State × Bytes). KeepsOwnedBytes owned middle.1 w.1) (sym h.1) (step_keeps owned middle.0 middle.1 words v.0 v.1 e)
@@ -92,15 +92,15 @@ settled m n cpu cpu' tables halt same marks sound keeps =
     (kept, λ i. with_core cpu' (pool i) tables halt (store i))
 
 -- the run of all of them, by why they ended
-pub ran_by : (images : List Entry) (breaks : List ℕ) (s : MachineState) (n : ℕ) (old new : State × Bytes) (r : Result Turn Stop) → s.halt ≡ None → AreDone (owned_in s.store) breaks n old new
-    → StopsBy breaks n new.0.pc r → ran images breaks n (moved s old) ≡ quiet_run (moved s new) n (quiet_stop r)
-ran_by images breaks s n old new (Ok t) awake h ends = quiet_so_far images breaks s n old new awake h ends
-ran_by images breaks s n old new (Err stop.Budget) awake h ends = quiet_so_far images breaks s n old new awake h ends
-ran_by images breaks s zero old new (Err (stop.Break at)) awake h ends = absurd (omega (arith, ends.0))
-ran_by images breaks s (suc n) old new (Err (stop.Break at)) awake h ends =
-    quiet_to_break images breaks s n old new awake h ends.2 ∙ ap (λ (x : ℕ). quiet_run (moved s new) (suc n) (stop.Break x)) (sym ends.1)
-ran_by images breaks s n old new (Err stop.Exit) awake h ends = absurd ends
-ran_by images breaks s n old new (Err (stop.Fault f)) awake h ends = absurd ends
+pub ran_by : (images : List Entry) (breaks : List ℕ) (s : MachineState) (n : ℕ) (old new : State × Bytes) (r : Result StepEnd Stop) → s.halt ≡ None → AreDone (owned_in s.store) breaks n old new
+    → StopsBy breaks n new.0.pc r → ran images breaks n (moved s old) ≡ silent_run (moved s new) n (silent_stop r)
+ran_by images breaks s n old new (Ok t) unhalted h ends = silent_so_far images breaks s n old new unhalted h ends
+ran_by images breaks s n old new (Err stop.Budget) unhalted h ends = silent_so_far images breaks s n old new unhalted h ends
+ran_by images breaks s zero old new (Err (stop.Break at)) unhalted h ends = absurd (omega (arith, ends.0))
+ran_by images breaks s (suc n) old new (Err (stop.Break at)) unhalted h ends =
+    silent_to_break images breaks s n old new unhalted h ends.2 ∙ ap (λ (x : ℕ). silent_run (moved s new) (suc n) (stop.Break x)) (sym ends.1)
+ran_by images breaks s n old new (Err stop.Exit) unhalted h ends = absurd ends
+ran_by images breaks s n old new (Err (stop.Fault f)) unhalted h ends = absurd ends
 
 -- and each of them is a step of the machine that the core does by itself
 one_more : (n : ℕ) (s m s' : MachineState) → AreCoreSteps n s m → TakesTurn m turn.Done s' → AreCoreSteps (suc n) s s'
