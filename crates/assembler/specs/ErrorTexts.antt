@@ -1,4 +1,4 @@
--- What is told of a source that is refused.
+-- What is shown of a source that is refused.
 use Rattle.std.specs.Prelude.{ℕ, List, ◌++◌, codes}
 use Rattle.std.specs.Fmt.{decimal}
 use Rattle.assembler.specs.ErrorNames.{reason_name}

@@ -133,7 +133,7 @@ fn measure<'s>(
     requires none { none.now ≡ [] }
     requires origin { origin < 2 ^ 26 }
     requires room { length output.old.bytes ≤ 1048576 }
-    ensures told { IfOk result (λ answer.
+    ensures reported { IfOk result (λ answer.
         leaving (record { entries = labels.new; program = output.new.bytes }) answer
         ≡ measured_with_line origin (record { entries = labels.old; program = output.old.bytes })
         (line (address_of []) origin output.old.bytes text.now)) }
@@ -189,7 +189,7 @@ fn finish(
 ) -> Result<Result<(), Reason>, AllocError>
     requires origin { origin < 2 ^ 26 }
     requires room { length output.old.bytes ≤ 1048576 }
-    ensures told { IfOk result (λ answer. leaving output.new.bytes answer
+    ensures reported { IfOk result (λ answer. leaving output.new.bytes answer
         ≡ bytes_of_line origin (line (address_of labels.now) origin output.old.bytes text.now)) }
     ensures room { IfOk result (λ answer. OnOk answer (length output.new.bytes ≤ 1048576)) }
 {

@@ -68,7 +68,7 @@ low_heap m heap sound some =
     let below : heap + h.end ≤ 2 ^ 26 = is.below in
     omega arith))
 
--- the words of its descriptor that tell its base and its end
+-- the words of its descriptor that show its base and its end
 pub base_is : (m : AddressMap) (heap : ℕ) → IsSound (store_of m)
     → IfSome (find_heap heap (store_of m).heaps) (λ h. word_loaded (bytes_of m) (heap + 8) ≡ Ok (16 + size_of h.items))
 base_is m heap sound = of_found m heap (λ h. word_loaded (bytes_of m) (heap + 8) ≡ Ok (16 + size_of h.items)) sound

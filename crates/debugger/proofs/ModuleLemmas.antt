@@ -6,7 +6,7 @@ use Rattle.std.proofs.lemmas.List.{drop_more, drop_all}
 use Rattle.std.proofs.lemmas.Option.{slice_get-get_or}
 use Rattle.profile.proofs.OutputLemmas.{AddsAllBut-start, AddsAllBut-more, AddsAllBut-same, Appends-from_all_but}
 use Rattle.address_map.specs.Bytes.{Bytes}
-use Rattle.instances.specs.Lookup.{told_of_instance, told_of_place, instance_count}
+use Rattle.instances.specs.Lookup.{shown_of_instance, shown_of_place, instance_count}
 use Rattle.instances.specs.Modules.{Instance, Module}
 use Rattle.debugger.specs.Modules.{one_text, instance_line, instances_text}
 
@@ -21,23 +21,23 @@ all_shown text xs n past = rw (drop_all n xs past) refl
 -- the instances of a module that are left
 abbrev pub instances_from : Bytes → ℕ → Option Module → List ℕ
 instances_from b n None = []
-instances_from b n (Some m) = flat_map (λ (i : Instance). instance_line b (told_of_instance m i)) (drop n m.instances)
+instances_from b n (Some m) = flat_map (λ (i : Instance). instance_line b (shown_of_instance m i)) (drop n m.instances)
 
-told_line : (b : Bytes) (m : Module) (found : Option Instance)
-    → one_text (instance_line b) (option_map (told_of_instance m) found) ≡ one_text (λ (i : Instance). instance_line b (told_of_instance m i)) found
-told_line b m None = refl
-told_line b m (Some i) = refl
+shown_line : (b : Bytes) (m : Module) (found : Option Instance)
+    → one_text (instance_line b) (option_map (shown_of_instance m) found) ≡ one_text (λ (i : Instance). instance_line b (shown_of_instance m i)) found
+shown_line b m None = refl
+shown_line b m (Some i) = refl
 
 pub next_instance : (b : Bytes) (o : Option Module) (n : ℕ) → n < instance_count o
-    → instances_from b n o ≡ one_text (instance_line b) (told_of_place n o) ++ instances_from b (n + 1) o
+    → instances_from b n o ≡ one_text (instance_line b) (shown_of_place n o) ++ instances_from b (n + 1) o
 next_instance b None n below = absurd (omega arith)
 next_instance b (Some m) n below =
-    next_shown (λ (i : Instance). instance_line b (told_of_instance m i)) m.instances n below
-    ∙ rw (told_line b m (slice_get m.instances n)) refl
+    next_shown (λ (i : Instance). instance_line b (shown_of_instance m i)) m.instances n below
+    ∙ rw (shown_line b m (slice_get m.instances n)) refl
 
 pub no_instance_more : (b : Bytes) (o : Option Module) (n : ℕ) → instance_count o ≤ n → instances_from b n o ≡ []
 no_instance_more b None n past = refl
-no_instance_more b (Some m) n past = all_shown (λ (i : Instance). instance_line b (told_of_instance m i)) m.instances n past
+no_instance_more b (Some m) n past = all_shown (λ (i : Instance). instance_line b (shown_of_instance m i)) m.instances n past
 
 pub first_instance : (b : Bytes) (o : Option Module) → one_text (instances_text b) o ≡ instances_from b 0 o
 first_instance b None = refl

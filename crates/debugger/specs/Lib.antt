@@ -1,6 +1,6 @@
 -- The text of each view, a file for each.
 pub use Rattle.swi_dispatch.specs.MachineState
-pub use Rattle.swi_dispatch.specs.Parts
+pub use Rattle.swi_dispatch.specs.GuestState
 pub use Rattle.swi_dispatch.specs.Step
 pub mod Areas
 pub mod Code

@@ -10,7 +10,7 @@ use Rattle.profile.specs.Digits.{hex_word}
 use Rattle.address_map.specs.Bytes.{Bytes, word_loaded}
 use Rattle.instances.specs.InstancesTableModuleInfo.{ModuleInfo}
 use Rattle.instances.specs.InstancesTableInstanceInfo.{InstanceInfo}
-use Rattle.instances.specs.Lookup.{told_of_module, told_of_instance}
+use Rattle.instances.specs.Lookup.{shown_of_module, shown_of_instance}
 use Rattle.instances.specs.Modules.{Instance, Module}
 
 -- what is shown of something, nothing where there is none
@@ -42,10 +42,10 @@ instance_line b i =
     ++ (codes " " ++ (hex_word (private_value b i.slot) ++ preferred_text i.preferred)))))
 
 abbrev pub instances_text : Bytes → Module → List ℕ
-instances_text b m = flat_map (λ (i : Instance). instance_line b (told_of_instance m i)) m.instances
+instances_text b m = flat_map (λ (i : Instance). instance_line b (shown_of_instance m i)) m.instances
 
 abbrev pub module_text : Bytes → Module → List ℕ
-module_text b m = module_line (told_of_module m) ++ instances_text b m
+module_text b m = module_line (shown_of_module m) ++ instances_text b m
 
 abbrev pub modules_text : Bytes → List Module → List ℕ
 modules_text b modules = flat_map (module_text b) modules

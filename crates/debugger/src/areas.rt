@@ -3,7 +3,7 @@
 ghost use Rattle.std.specs.List.{flat_map};
 ghost use Rattle.profile.specs.Output.{Writes};
 ghost use Rattle.debugger.specs.Areas.{area_text, areas_text, area_extent_text, pool_text};
-ghost use Rattle.swi_dispatch.specs.Parts.{state_of};
+ghost use Rattle.swi_dispatch.specs.GuestState.{state_of};
 
 use instances::Area;
 use itoa::Buffer;
@@ -15,7 +15,7 @@ use swi_dispatch::Machine;
 /// its size and its maximum in bytes, and then how many pages are in the pool, `pool 173 pages`.
 pub fn show_areas<W: Sink>(machine: &Machine, sink: &mut W) -> Result<(), WriteFault>
     ensures writes { Writes W.contents W.has_failed sink.old sink.new result
-        (areas_text (state_of machine.now.guest).tables.land.areas (state_of machine.now.guest).pool) }
+        (areas_text (state_of machine.now.guest).tables.area_table.areas (state_of machine.now.guest).pool) }
 {
     let areas = machine.areas();
     show_list(areas.list(), sink)?;

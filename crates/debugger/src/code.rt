@@ -3,7 +3,7 @@
 ghost use Rattle.address_map.specs.Memory.{bytes_of};
 ghost use Rattle.profile.specs.Output.{Writes};
 ghost use Rattle.debugger.specs.Code.{line_address_text, code_line, code_text, word_text};
-ghost use Rattle.swi_dispatch.specs.Parts.{state_of};
+ghost use Rattle.swi_dispatch.specs.GuestState.{state_of};
 
 use address_map::AddressMap;
 use assembler_text::disassemble;

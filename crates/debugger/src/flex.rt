@@ -6,7 +6,7 @@ ghost use Rattle.swi_dispatch.specs.Listed.{all_listed};
 ghost use Rattle.swi_dispatch.specs.State.{flex_in, IsFlex};
 ghost use Rattle.profile.specs.Output.{Writes};
 ghost use Rattle.debugger.specs.Flex.{flex_blocks_text, flex_text, holder_in, flex_holder_text, own_text, range_text};
-ghost use Rattle.swi_dispatch.specs.Parts.{state_of};
+ghost use Rattle.swi_dispatch.specs.GuestState.{state_of};
 
 use address_map::AddressMap;
 use itoa::Buffer;

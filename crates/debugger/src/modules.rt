@@ -3,9 +3,9 @@
 ghost use Rattle.std.specs.Prelude.{◌≡◌, ◌<◌, slice_get};
 ghost use Rattle.address_map.specs.Memory.{bytes_of};
 ghost use Rattle.profile.specs.Output.{Writes};
-ghost use Rattle.instances.specs.Lookup.{told_of_place};
+ghost use Rattle.instances.specs.Lookup.{shown_of_place};
 ghost use Rattle.debugger.specs.Modules.{instance_line, instances_text, module_line, module_text, modules_text, one_text, preferred_text};
-ghost use Rattle.swi_dispatch.specs.Parts.{state_of};
+ghost use Rattle.swi_dispatch.specs.GuestState.{state_of};
 
 use address_map::AddressMap;
 use instances::{InstanceInfo, Instances, ModuleInfo};
@@ -100,34 +100,34 @@ fn show_instance<W: Sink>(
 ) -> Result<(), WriteFault>
     ensures { Writes W.contents W.has_failed sink.old sink.new result
         (one_text (instance_line (bytes_of memory.now))
-        (told_of_place instance (slice_get modules.now number))) }
+        (shown_of_place instance (slice_get modules.now number))) }
 {
     match modules.instance(number, instance) {
-        Some(told) => show_told(&told, memory, sink),
+        Some(reported) => show_shown(&reported, memory, sink),
         None => Ok(()),
     }
 }
 
-fn show_told<W: Sink>(
-    told: &InstanceInfo,
+fn show_shown<W: Sink>(
+    reported: &InstanceInfo,
     memory: &AddressMap,
     sink: &mut W,
 ) -> Result<(), WriteFault>
-    requires { told.now.slot < 64 }
+    requires { reported.now.slot < 64 }
     ensures { Writes W.contents W.has_failed sink.old sink.new result
-        (instance_line (bytes_of memory.now) told.now) }
+        (instance_line (bytes_of memory.now) reported.now) }
 {
-    let word = PRIVATE_WORDS + 4 * told.slot;
+    let word = PRIVATE_WORDS + 4 * reported.slot;
     push_parts(
         sink,
         &[
             b"  ".as_slice(),
-            told.name.as_slice(),
+            reported.name.as_slice(),
             b" word ".as_slice(),
             HexText::word(word).as_slice(),
             b" ".as_slice(),
             HexText::word(memory.load_word(word).unwrap_or(0)).as_slice(),
-            preferred_text(told.preferred),
+            preferred_text(reported.preferred),
         ],
     )
 }

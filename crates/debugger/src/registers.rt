@@ -3,7 +3,7 @@
 ghost use Rattle.std.specs.Prelude.{◌≡◌, ◌≤◌, ◌++◌, codes};
 ghost use Rattle.profile.specs.Output.{Writes};
 ghost use Rattle.debugger.specs.Registers.{register_label, row_text, flags_and_mode_text, status_text, cpu_registers_text, flag_letter, flag_letters, mode_text};
-ghost use Rattle.swi_dispatch.specs.Parts.{state_of};
+ghost use Rattle.swi_dispatch.specs.GuestState.{state_of};
 
 use arm_step::{Cpu, Mode, Psr};
 use profile::{HexText, Sink, WriteFault, push_all, push_parts};

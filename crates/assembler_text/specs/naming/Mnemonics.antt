@@ -95,5 +95,6 @@ plain_branch name = do
 -- the first that fits
 unfoldable pub mnemonic_named : List ℕ → Option Mnemonic
 mnemonic_named name =
-    operate_mnemonic name or multiply_mnemonic name or transfer_mnemonic name or block_mnemonic name or swi_mnemonic name
+    operate_mnemonic name or multiply_mnemonic name or transfer_mnemonic name or block_mnemonic name or
+    swi_mnemonic name
     or linked_branch name or plain_branch name

@@ -3,7 +3,7 @@
 ghost use Rattle.std.specs.Prelude.{◌≡◌, ◌<◌};
 ghost use Rattle.profile.specs.Output.{Writes};
 ghost use Rattle.debugger.specs.views.Banks.{bank_line_from_8, bank_line_from_13, banked_name, banked_register_text, banks_text, mode_suffix, registers_from_8_text};
-ghost use Rattle.swi_dispatch.specs.Parts.{state_of};
+ghost use Rattle.swi_dispatch.specs.GuestState.{state_of};
 
 use crate::mode_name;
 use arm_step::{Cpu, Mode};

@@ -6,7 +6,7 @@ use Rattle.swi_dispatch.specs.State.{IsFlex}
 use Rattle.swi_dispatch.specs.Flex.{Flex}
 use Rattle.debugger.specs.Flex.{flex_text}
 use Rattle.debugger.proofs.flex.show_flex.Goals as goal
-use Rattle.swi_dispatch.specs.Parts.{state_of}
+use Rattle.swi_dispatch.specs.GuestState.{state_of}
 
 pub show_store-requires : goal.show_store-requires
 show_store-requires g c =

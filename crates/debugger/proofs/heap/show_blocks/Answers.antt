@@ -8,7 +8,7 @@ use Rattle.swi_dispatch.specs.Calls.{items_of}
 use Rattle.debugger.specs.Heap.{limits_text, heap_items_text, heap_blocks_text}
 use Rattle.debugger.proofs.HeapLemmas.{IsShown, shown, not_shown}
 use Rattle.debugger.proofs.heap.show_blocks.Goals as goal
-use Rattle.swi_dispatch.specs.Parts.{state_of}
+use Rattle.swi_dispatch.specs.GuestState.{state_of}
 
 pub returns-in_default-clause-found : goal.returns-in_default-clause-found
 returns-in_default-clause-found g c =
