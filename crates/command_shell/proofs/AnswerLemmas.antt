@@ -6,25 +6,25 @@ use Rattle.profile.proofs.OutputLemmas.{Appends-join}
 use Rattle.command_shell.specs.State.{ScriptState, Answered, IsAnswered, answer, then_answered}
 
 -- an answer, and then one that goes on from its state
-pub tells_then : {U E : Type 0} (r : Result U E) (a b c : Option (List ℕ)) (now mid : ScriptState) (first : Answered)
+pub shows_then : {U E : Type 0} (r : Result U E) (a b c : Option (List ℕ)) (now mid : ScriptState) (first : Answered)
     (next : ScriptState → Answered)
     → Appends a b first.text → mid ≡ first.state → OnOk r (IsAnswered b c now (next mid))
     → OnOk r (IsAnswered a c now (then_answered first next))
-tells_then (Ok u) a b c now mid first next before at after =
-    let told : IsAnswered b c now (next first.state) =
+shows_then (Ok u) a b c now mid first next before at after =
+    let reported : IsAnswered b c now (next first.state) =
     subst (λ (w : ScriptState). IsAnswered b c now (next w)) at after in
-    record { text = Appends-join a b c first.text (next first.state).text before told.text; state = told.state }
-tells_then (Err e) a b c now mid first next before at after = tt
+    record { text = Appends-join a b c first.text (next first.state).text before reported.text; state = reported.state }
+shows_then (Err e) a b c now mid first next before at after = tt
 
 -- the same answer, written another way
-pub tells_same : {U E : Type 0} (r : Result U E) (b c : Option (List ℕ)) (now : ScriptState) (told same : Answered)
-    → same ≡ told
-    → OnOk r (IsAnswered b c now told) → OnOk r (IsAnswered b c now same)
-tells_same r b c now told same e h = subst (λ (t : Answered). OnOk r (IsAnswered b c now t)) (sym e) h
+pub shows_same : {U E : Type 0} (r : Result U E) (b c : Option (List ℕ)) (now : ScriptState) (reported same : Answered)
+    → same ≡ reported
+    → OnOk r (IsAnswered b c now reported) → OnOk r (IsAnswered b c now same)
+shows_same r b c now reported same e h = subst (λ (t : Answered). OnOk r (IsAnswered b c now t)) (sym e) h
 
 -- a text that leaves the state as it is
-pub tells_text : {U E : Type 0} (r : Result U E) (b c : Option (List ℕ)) (w : ScriptState) (text : List ℕ)
+pub shows_text : {U E : Type 0} (r : Result U E) (b c : Option (List ℕ)) (w : ScriptState) (text : List ℕ)
     → OnOk r (Appends b c text)
     → OnOk r (IsAnswered b c w (answer w text))
-tells_text (Ok u) b c w text h = record { text = h; state = refl }
-tells_text (Err e) b c w text h = tt
+shows_text (Ok u) b c w text h = record { text = h; state = refl }
+shows_text (Err e) b c w text h = tt

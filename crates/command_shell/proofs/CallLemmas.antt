@@ -13,7 +13,7 @@ use Rattle.swi_dispatch_guest.specs.declared.halt.Halt.TheVariants as halt
 use Rattle.swi_dispatch_guest.specs.MachineState.{StepOutcome, stop_of}
 use Rattle.swi_dispatch_guest.specs.Run.{count_after, is_among}
 use Rattle.swi_dispatch_guest.specs.Step.{machine_step}
-use Rattle.command_shell.specs.Calls.{call_done, call_end, call_end_by, call_made, call_unless, end_told, answer_after_steps, finished_by, step_made, step_then, stop_before_step, stop_before_step_by, stop_told}
+use Rattle.command_shell.specs.Calls.{call_done, call_end, call_end_by, call_made, call_unless, end_answer, answer_after_steps, finished_by, step_made, step_then, stop_before_step, stop_before_step_by, stop_answer}
 use Rattle.command_shell.specs.State.{ScriptState, Answered, IsAnswered}
 use Rattle.command_shell.specs.declared.calls.CallEnd.{CallEnd}
 use Rattle.command_shell.specs.declared.calls.CallEnd.TheVariants as end
@@ -24,7 +24,7 @@ can_step None left none = grind (arith, nat_tests, none)
 
 -- a call that can't take its first step
 pub call_refused : (w : ScriptState) (first : StepOutcome) (stop : Stop) → stop_before_step w ≡ Some stop
-    → call_made w first ≡ stop_told w stop
+    → call_made w first ≡ stop_answer w stop
 unfolding call_made
 call_refused w first stop e = ap (call_unless w first) e
 
@@ -40,9 +40,9 @@ next_step s = machine_step s.images s.machine
 
 -- a call that goes no further
 pub finished_ends : (frames n : ℕ) (s : ScriptState) (e : CallEnd) → call_end s frames ≡ Some e
-    → answer_after_steps frames n s ≡ end_told s e
+    → answer_after_steps frames n s ≡ end_answer s e
 unfolding answer_after_steps
-finished_ends frames zero s e h = ap (λ o. finished_by s o (stop_told s stop.Budget)) h
+finished_ends frames zero s e h = ap (λ o. finished_by s o (stop_answer s stop.Budget)) h
 finished_ends frames (suc n) s e h = ap (λ o. finished_by s o (step_then s (next_step s) (answer_after_steps frames n))) h
 
 -- one that does
@@ -52,9 +52,9 @@ unfolding answer_after_steps
 finished_on frames n s h = ap (λ o. finished_by s o (step_then s (next_step s) (answer_after_steps frames n))) h
 
 -- where a call goes on, nothing halts the machine
-awake_by : (s : ScriptState) (frames : ℕ) (o : Option Halt) → call_end_by s frames o ≡ None → o ≡ None
-awake_by s frames (Some h) none = absurd (cc)
-awake_by s frames None none = refl
+unhalted_by : (s : ScriptState) (frames : ℕ) (o : Option Halt) → call_end_by s frames o ≡ None → o ≡ None
+unhalted_by s frames (Some h) none = absurd (cc)
+unhalted_by s frames None none = refl
 
 -- and a step is left of the budget
 budget_by : (s : ScriptState) (broken : Stop) (back among : Bool)
@@ -72,7 +72,7 @@ unfolding call_end
 goes_left s frames none =
     budget_by s (stop.Break s.machine.cpu.pc) (length s.machine.tables.frames == frames)
     (is_among s.breaks s.machine.cpu.pc)
-    (ap (call_end_by s frames) (sym (awake_by s frames s.machine.halt none)) ∙ none)
+    (ap (call_end_by s frames) (sym (unhalted_by s frames s.machine.halt none)) ∙ none)
 
 pub halted_ends : (s : ScriptState) (frames : ℕ) (h : Halt) → s.machine.halt ≡ Some h
     → call_end s frames ≡ Some (end.Stopped (stop_of h))
@@ -83,7 +83,7 @@ halted_ends s frames h is = ap (call_end_by s frames) is
 after_by : (frames n : ℕ) (now : ScriptState) (o : Option Halt) → now.machine.halt ≡ o
     → now.left ≡ suc n - count_after o
     → answer_after_steps frames n now ≡ answer_after_steps frames now.left now
-after_by frames n now None awake left = ap (λ k. answer_after_steps frames k now) (omega (arith, left))
+after_by frames n now None unhalted left = ap (λ k. answer_after_steps frames k now) (omega (arith, left))
 after_by frames n now (Some halt.Exit) halted left = ap (λ k. answer_after_steps frames k now) (omega (arith, left))
 after_by frames n now (Some (halt.Fault f)) halted left =
     let over = halted_ends now frames (halt.Fault f) halted in
@@ -109,7 +109,7 @@ goes_by frames s now (suc n) is some none made =
       ap (λ (t : Answered). t.state) whole ∙ ap (λ (t : Answered). t.state) rest,
     )
 
--- a step of a call: what stands written and what follows are still all that the call tells
+-- a step of a call: what stands written and what follows are still all that the call shows
 pub call_goes_on : (a b c : Option (List ℕ)) (frames : ℕ) (s now : ScriptState) (all : Answered)
     → AddsAllBut a b (answer_after_steps frames s.left s).text all.text
     → (answer_after_steps frames s.left s).state ≡ all.state → call_end s frames ≡ None → now ≡ step_made s (next_step s)
@@ -127,16 +127,16 @@ pub call_ends : {U E : Type 0} (r : Result U E) (a b c : Option (List ℕ)) (fra
     (e : CallEnd) (all : Answered)
     → AddsAllBut a b (answer_after_steps frames s.left s).text all.text → (answer_after_steps frames s.left s).state ≡ all.state
     → call_end s frames ≡ Some e
-    → OnOk r (IsAnswered b c now (end_told s e)) → OnOk r (IsAnswered a c now all)
-call_ends (Ok u) a b c frames s now e all done same over told =
-    let whole : answer_after_steps frames s.left s ≡ end_told s e = finished_ends frames s.left s e over in
+    → OnOk r (IsAnswered b c now (end_answer s e)) → OnOk r (IsAnswered a c now all)
+call_ends (Ok u) a b c frames s now e all done same over reported =
+    let whole : answer_after_steps frames s.left s ≡ end_answer s e = finished_ends frames s.left s e over in
     let rest : List ℕ = (answer_after_steps frames s.left s).text in
-    let here : Appends b c rest = subst (λ (t : Answered). Appends b c t.text) (sym whole) told.text in
+    let here : Appends b c rest = subst (λ (t : Answered). Appends b c t.text) (sym whole) reported.text in
     record {
       text = Appends-from_all_but a c [] all.text (AddsAllBut-more a b c rest rest [] all.text done here (sym (append-nil rest))) refl;
-      state = told.state ∙ ap (λ (t : Answered). t.state) (sym whole) ∙ same;
+      state = reported.state ∙ ap (λ (t : Answered). t.state) (sym whole) ∙ same;
     }
-call_ends (Err f) a b c frames s now e all done same over told = tt
+call_ends (Err f) a b c frames s now e all done same over reported = tt
 
 -- how many steps a call may still take
 abbrev pub steps_left_by : Option Halt → ℕ → ℕ
@@ -148,9 +148,9 @@ steps_left s = steps_left_by s.machine.halt s.left
 
 steps_by : (o p : Option Halt) (left was : ℕ) → o ≡ None → 0 < was → left ≡ was - count_after p
     → steps_left_by p left < steps_left_by o was
-steps_by (Some h) p left was awake some is = absurd (cc)
-steps_by None None left was awake some is = omega (arith, some, is)
-steps_by None (Some h) left was awake some is = omega arith
+steps_by (Some h) p left was unhalted some is = absurd (cc)
+steps_by None None left was unhalted some is = omega (arith, some, is)
+steps_by None (Some h) left was unhalted some is = omega arith
 
 -- each step of a call leaves fewer
 pub fewer_steps : (frames : ℕ) (s now : ScriptState) → call_end s frames ≡ None → now ≡ step_made s (next_step s)
@@ -159,7 +159,7 @@ unfolding call_end
 fewer_steps frames s now none made =
     let is : now.machine.halt ≡ (next_step s).now.halt = ap (λ (w : ScriptState). w.machine.halt) made in
     let left : now.left ≡ s.left - count_after (next_step s).now.halt = ap (λ (w : ScriptState). w.left) made in
-    let awake = awake_by s frames s.machine.halt none in
-    rw is (steps_by s.machine.halt (next_step s).now.halt now.left s.left awake (goes_left s frames none) left)
+    let unhalted = unhalted_by s frames s.machine.halt none in
+    rw is (steps_by s.machine.halt (next_step s).now.halt now.left s.left unhalted (goes_left s frames none) left)
 
 pub ruleset call_steps = (AddsAllBut-start, goes_left)

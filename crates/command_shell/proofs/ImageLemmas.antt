@@ -23,14 +23,14 @@ use Rattle.arm_core.specs.declared.breaks.breaks.BreakError.{BreakError}
 use Rattle.command_shell_lines.specs.Blocks.{block_bytes, block_lines, lines_after, lines_taken}
 use Rattle.command_shell_lines.specs.Requests.{Request, Nothing, Hex, Asm, Boot, Run, Regs, Set, Poke, Call, Load, Step, Break, Unbreak, Mem, Code, Heap, Areas, Modules, Flex, Unknown, opens_block, request_of, is_end_of_block}
 use Rattle.command_shell.specs.Answers.{break_text, unbreak_text}
-use Rattle.command_shell.specs.Calls.{call_end, call_made, call_unless, end_told, answer_after_steps, finished_by, step_made, step_then, stop_before_step, stop_told}
-use Rattle.command_shell.specs.Fronts.{IsFront, HasSome, AreOldOrTold}
-use Rattle.command_shell.specs.Images.{asm_block, asm_told, boot_done, boot_found, boot_told, hex_block, hex_told, image_added, image_opened}
+use Rattle.command_shell.specs.Calls.{call_end, call_made, call_unless, end_answer, answer_after_steps, finished_by, step_made, step_then, stop_before_step, stop_answer}
+use Rattle.command_shell.specs.Fronts.{IsFront, HasSome, AreOldOrAnswer}
+use Rattle.command_shell.specs.Images.{asm_block, asm_answer, boot_done, boot_found, boot_answer, hex_block, hex_answer, image_added, image_opened}
 use Rattle.command_shell.specs.Memory.{poke_done}
-use Rattle.command_shell.specs.Script.{OpenBlock, at_the_end, answer_to_block, in_block, lines_told, on_line, on_opened, request_told, script_told}
+use Rattle.command_shell.specs.Script.{OpenBlock, at_the_end, answer_to_block, in_block, lines_answer, on_line, on_opened, request_answer, script_answer}
 use Rattle.command_shell.specs.State.{ScriptState, Answered, script_start_state}
 use Rattle.command_shell.specs.Stepping.{breaks_changed}
-use Rattle.command_shell.specs.Views.{flex_told, heap_told, shown_or}
+use Rattle.command_shell.specs.Views.{flex_answer, heap_answer, shown_or}
 use Rattle.command_shell.specs.declared.calls.CallEnd.{CallEnd}
 use Rattle.command_shell.specs.declared.calls.CallEnd.TheVariants as end
 use Rattle.profile.specs.Output.{AddsFront}
@@ -39,10 +39,10 @@ use Rattle.command_shell.proofs.ScriptLemmas.{state_step}
 
 -- an answer after which all the images of before are there
 abbrev pub Keeps : ScriptState → Answered → Type 0
-Keeps s told = IsFront s.images told.state.images
+Keeps s reported = IsFront s.images reported.state.images
 
-keeps_all : (s : ScriptState) (told : Answered) → told.state.images ≡ s.images → Keeps s told
-keeps_all s told e = IsFront-is s.images told.state.images e
+keeps_all : (s : ScriptState) (reported : Answered) → reported.state.images ≡ s.images → Keeps s reported
+keeps_all s reported e = IsFront-is s.images reported.state.images e
 
 -- HEX and ASM
 
@@ -67,13 +67,13 @@ asm_block_keeps s name (Err e) = IsFront-same s.images
 asm_block_keeps s name (Ok bytes) =
     image_added_keeps s (codes "asm ") name bytes (refusal_for s.images name (length bytes))
 
-hex_keeps : (s : ScriptState) (name : List ℕ) (block : List (List ℕ)) → Keeps s (hex_told s name block)
+hex_keeps : (s : ScriptState) (name : List ℕ) (block : List (List ℕ)) → Keeps s (hex_answer s name block)
 hex_keeps s name block =
     image_opened_keeps s (codes "hex ") name (hex_block s name (block_bytes 0 block)) (refusal_for s.images name 0)
     (hex_block_keeps s name (block_bytes 0 block))
 
 asm_keeps : (s : ScriptState) (name : List ℕ) (origin : ℕ) (block : List (List ℕ))
-    → Keeps s (asm_told s name origin block)
+    → Keeps s (asm_answer s name origin block)
 asm_keeps s name origin block =
     image_opened_keeps s (codes "asm ") name (asm_block s name (means_lines block origin)) (refusal_for s.images name 0)
     (asm_block_keeps s name (means_lines block origin))
@@ -108,28 +108,28 @@ shown_keeps : (s : ScriptState) (refusal : List ℕ) (o : Option (List ℕ))
 shown_keeps s refusal None = refl
 shown_keeps s refusal (Some text) = refl
 
-heap_keeps : (s : ScriptState) (address : ℕ) → (heap_told s address).state.images ≡ s.images
-unfolding heap_told
+heap_keeps : (s : ScriptState) (address : ℕ) → (heap_answer s address).state.images ≡ s.images
+unfolding heap_answer
 heap_keeps s address = shown_keeps s (codes "NoHeap") (heap_blocks_text s.machine.store address)
 
-flex_keeps : (s : ScriptState) → (flex_told s).state.images ≡ s.images
-unfolding flex_told
+flex_keeps : (s : ScriptState) → (flex_answer s).state.images ≡ s.images
+unfolding flex_answer
 flex_keeps s = shown_keeps s (codes "NoFlex") (flex_text s.machine.store.bytes s.machine.tables.flex)
 
 -- CALL and LOAD
 
-end_told_keeps : (s : ScriptState) (e : CallEnd) → (end_told s e).state.images ≡ s.images
-end_told_keeps s end.Returned = refl
-end_told_keeps s (end.Stopped stop) = refl
+end_answer_keeps : (s : ScriptState) (e : CallEnd) → (end_answer s e).state.images ≡ s.images
+end_answer_keeps s end.Returned = refl
+end_answer_keeps s (end.Stopped stop) = refl
 
 finished_by_keeps : (s : ScriptState) (o : Option CallEnd) (more : Answered) → more.state.images ≡ s.images
     → (finished_by s o more).state.images ≡ s.images
-finished_by_keeps s (Some e) more keeps = end_told_keeps s e
+finished_by_keeps s (Some e) more keeps = end_answer_keeps s e
 finished_by_keeps s None more keeps = keeps
 
 finished_keeps : (frames n : ℕ) (s : ScriptState) → (answer_after_steps frames n s).state.images ≡ s.images
 unfolding answer_after_steps
-finished_keeps frames zero s = finished_by_keeps s (call_end s frames) (stop_told s stop.Budget) refl
+finished_keeps frames zero s = finished_by_keeps s (call_end s frames) (stop_answer s stop.Budget) refl
 finished_keeps frames (suc n) s =
     let step = machine_step s.images s.machine in
     finished_by_keeps s (call_end s frames) (step_then s step (answer_after_steps frames n))
@@ -147,12 +147,12 @@ call_keeps s first = call_unless_keeps s first (stop_before_step s)
 
 -- no line takes an image away
 pub line_keeps : (s : ScriptState) (number : ℕ) (r : Request) (block : List (List ℕ))
-    → Keeps s (request_told s number r block)
+    → Keeps s (request_answer s number r block)
 line_keeps s number (Hex name) block = hex_keeps s name block
 line_keeps s number (Asm name origin) block = asm_keeps s name origin block
 line_keeps s number Nothing block = IsFront-same s.images
 line_keeps s number (Boot name) block =
-    keeps_all s (boot_told s name) (boot_found_keeps s name (bytes_of_image s.images name))
+    keeps_all s (boot_answer s name) (boot_found_keeps s name (bytes_of_image s.images name))
 line_keeps s number Run block = IsFront-same s.images
 line_keeps s number Regs block = IsFront-same s.images
 line_keeps s number (Set register value) block = IsFront-same s.images
@@ -164,17 +164,17 @@ line_keeps s number (Load text) block =
     let first = module_loaded s.images s.machine text in keeps_all s (call_made s first) (call_keeps s first)
 line_keeps s number (Step count) block = IsFront-same s.images
 line_keeps s number (Break address) block =
-    let told = breaks_changed s (break_text address) (with_break s.breaks address) in
-    keeps_all s told (breaks_changed_keeps s (break_text address) (with_break s.breaks address))
+    let reported = breaks_changed s (break_text address) (with_break s.breaks address) in
+    keeps_all s reported (breaks_changed_keeps s (break_text address) (with_break s.breaks address))
 line_keeps s number (Unbreak address) block =
-    let told = breaks_changed s (unbreak_text address) (without_break s.breaks address) in
-    keeps_all s told (breaks_changed_keeps s (unbreak_text address) (without_break s.breaks address))
+    let reported = breaks_changed s (unbreak_text address) (without_break s.breaks address) in
+    keeps_all s reported (breaks_changed_keeps s (unbreak_text address) (without_break s.breaks address))
 line_keeps s number (Mem address count) block = IsFront-same s.images
 line_keeps s number (Code address count) block = IsFront-same s.images
-line_keeps s number (Heap address) block = keeps_all s (heap_told s address) (heap_keeps s address)
+line_keeps s number (Heap address) block = keeps_all s (heap_answer s address) (heap_keeps s address)
 line_keeps s number Areas block = IsFront-same s.images
 line_keeps s number Modules block = IsFront-same s.images
-line_keeps s number Flex block = keeps_all s (flex_told s) (flex_keeps s)
+line_keeps s number Flex block = keeps_all s (flex_answer s) (flex_keeps s)
 line_keeps s number Unknown block = IsFront-same s.images
 
 -- Lines that follow, none of which takes an image away.
@@ -185,7 +185,7 @@ opened_keeps : (s : ScriptState) (number : ℕ) (r : Request) (b : Bool)
     (next : ScriptState → Option OpenBlock → Answered) → AllKeep next → Keeps s (on_opened s number r b next)
 opened_keeps s number r true next keep = keep s (Some (record { request = r; number = number; block = [] }))
 opened_keeps s number r false next keep =
-    IsFront-then (line_keeps s number r []) (keep (request_told s number r []).state None)
+    IsFront-then (line_keeps s number r []) (keep (request_answer s number r []).state None)
 
 in_block_keeps : (s : ScriptState) (o : OpenBlock) (line : List ℕ) (b : Bool)
     (next : ScriptState → Option OpenBlock → Answered) → AllKeep next → Keeps s (in_block s o line b next)
@@ -205,11 +205,11 @@ end_keeps s (Some o) = line_keeps s o.number o.request o.block
 
 -- nor do the lines of a script
 pub lines_keep : (number : ℕ) (s : ScriptState) (o : Option OpenBlock) (left : List (List ℕ))
-    → Keeps s (lines_told number s o left)
-unfolding lines_told
+    → Keeps s (lines_answer number s o left)
+unfolding lines_answer
 lines_keep number s o [] = end_keeps s o
 lines_keep number s o (line ∷ rest) =
-    on_line_keeps s (number + 1) o line (λ after still. lines_told (number + 1) after still rest)
+    on_line_keeps s (number + 1) o line (λ after still. lines_answer (number + 1) after still rest)
     (λ after still. lines_keep (number + 1) after still rest)
 
 -- SCRIPTS THAT END BEFORE THEIR LAST LINE
@@ -218,23 +218,23 @@ HasSome-at : (old now new all : List Entry) → new ≡ now → IsFront old now 
 HasSome-at old now new all e before after =
     subst (λ (xs : List Entry). HasSome old all xs) (sym e) (record { keeps = before; in_order = after })
 
-stops_by : (old new : List Entry) (s : ScriptState) (told all : Answered)
-    → (new ≡ s.images) ⊎ (new ≡ told.state.images)
-    → IsFront old s.images → Keeps s told → IsFront told.state.images all.state.images
+stops_by : (old new : List Entry) (s : ScriptState) (reported all : Answered)
+    → (new ≡ s.images) ⊎ (new ≡ reported.state.images)
+    → IsFront old s.images → Keeps s reported → IsFront reported.state.images all.state.images
     → HasSome old all.state.images new
-stops_by old new s told all (inl e) before line after =
+stops_by old new s reported all (inl e) before line after =
     HasSome-at old s.images new all.state.images e before (IsFront-then line after)
-stops_by old new s told all (inr e) before line after =
-    HasSome-at old told.state.images new all.state.images e (IsFront-then before line) after
+stops_by old new s reported all (inr e) before line after =
+    HasSome-at old reported.state.images new all.state.images e (IsFront-then before line) after
 
 rest_keeps : (number here : ℕ) (s : ScriptState) (line : List ℕ) (rest : List (List ℕ)) (r : Request) (all : Answered)
-    → here ≡ number + 1 → r ≡ request_of line → (lines_told number s None (line ∷ rest)).state ≡ all.state
-    → IsFront (request_told s here r (block_lines rest)).state.images all.state.images
+    → here ≡ number + 1 → r ≡ request_of line → (lines_answer number s None (line ∷ rest)).state ≡ all.state
+    → IsFront (request_answer s here r (block_lines rest)).state.images all.state.images
 rest_keeps number here s line rest r all at is same =
-    let after = (request_told s here r (block_lines rest)).state in
+    let after = (request_answer s here r (block_lines rest)).state in
     let next = here + lines_taken (opens_block r) rest in
     let left = lines_after (opens_block r) rest in
-    let ends : (lines_told next after None left).state ≡ all.state =
+    let ends : (lines_answer next after None left).state ≡ all.state =
     sym (state_step number here next s after line rest left r at is refl refl refl) ∙ same in
     subst (λ (w : ScriptState). IsFront after.images w.images) ends (lines_keep next after None left)
 
@@ -242,19 +242,19 @@ rest_keeps number here s line rest r all at is same =
 pub stops_at : (old new : List Entry) (number here : ℕ) (s : ScriptState) (line : List ℕ) (left rest : List (List ℕ))
     (r : Request) (all : Answered)
     → left ≡ line ∷ rest → here ≡ number + 1 → r ≡ request_of line
-    → (lines_told number s None left).state ≡ all.state → IsFront old s.images
-    → AreOldOrTold s.images new (request_told s here r (block_lines rest))
+    → (lines_answer number s None left).state ≡ all.state → IsFront old s.images
+    → AreOldOrAnswer s.images new (request_answer s here r (block_lines rest))
     → HasSome old all.state.images new
 stops_at old new number here s line left rest r all first at is same before stopped =
-    let whole : (lines_told number s None (line ∷ rest)).state ≡ all.state =
-    subst (λ (xs : List (List ℕ)). (lines_told number s None xs).state ≡ all.state) first same in
-    stops_by old new s (request_told s here r (block_lines rest)) all stopped before
+    let whole : (lines_answer number s None (line ∷ rest)).state ≡ all.state =
+    subst (λ (xs : List (List ℕ)). (lines_answer number s None xs).state ≡ all.state) first same in
+    stops_by old new s (request_answer s here r (block_lines rest)) all stopped before
     (line_keeps s here r (block_lines rest)) (rest_keeps number here s line rest r all at is whole)
 
 -- the images after one more line
-pub front_more : (old now : List Entry) (s : ScriptState) (told : Answered) → IsFront old s.images → Keeps s told
-    → now ≡ told.state.images → IsFront old now
-front_more old now s told before line e = IsFront-then before (IsFront-then line (IsFront-is told.state.images now e))
+pub front_more : (old now : List Entry) (s : ScriptState) (reported : Answered) → IsFront old s.images → Keeps s reported
+    → now ≡ reported.state.images → IsFront old now
+front_more old now s reported before line e = IsFront-then before (IsFront-then line (IsFront-is reported.state.images now e))
 
 -- what holds whatever the error is
 pub at_err : {U E : Type 0} (r : Result U E) (P : Type 0) → P → OnErr r P
@@ -262,19 +262,19 @@ at_err (Ok u) P holds = tt
 at_err (Err e) P holds = holds
 
 script_keeps : (sizes : Sizes) (images : List Entry) (budget : ℕ) (script : List ℕ)
-    → IsFront images (script_told sizes images budget script).state.images
-unfolding script_told script_start_state
+    → IsFront images (script_answer sizes images budget script).state.images
+unfolding script_answer script_start_state
 script_keeps sizes images budget script = lines_keep 0 (script_start_state sizes images budget) None (lines script)
 
 -- a script of which no line is answered
 pub none_added : (o : Option (List ℕ)) (sizes : Sizes) (images : List Entry) (budget : ℕ)
-    → IfSome o (λ script. HasSome images (script_told sizes images budget script).state.images images)
+    → IfSome o (λ script. HasSome images (script_answer sizes images budget script).state.images images)
 none_added None sizes images budget = tt
 none_added (Some script) sizes images budget =
     record { keeps = IsFront-same images; in_order = script_keeps sizes images budget script }
 
 -- nothing is written yet
 pub none_written : (held : Option (List ℕ)) (o : Option (List ℕ)) (sizes : Sizes) (images : List Entry) (budget : ℕ)
-    → IfSome o (λ script. AddsFront held held (script_told sizes images budget script).text)
+    → IfSome o (λ script. AddsFront held held (script_answer sizes images budget script).text)
 none_written held None sizes images budget = tt
-none_written held (Some script) sizes images budget = AddsFront-start held (script_told sizes images budget script).text
+none_written held (Some script) sizes images budget = AddsFront-start held (script_answer sizes images budget script).text

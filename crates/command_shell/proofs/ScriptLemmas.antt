@@ -12,39 +12,39 @@ use Rattle.swi_dispatch_guest.specs.MachineState.{machine_start}
 use Rattle.swi_dispatch.specs.Value.{MachineValue}
 use Rattle.command_shell.specs.declared.session.Session.{Session}
 use Rattle.command_shell.specs.Session.{script_state, state_on}
-use Rattle.command_shell.specs.Script.{OpenBlock, request_told, on_opened, on_request, in_block, lines_told, script_told}
+use Rattle.command_shell.specs.Script.{OpenBlock, request_answer, on_opened, on_request, in_block, lines_answer, script_answer}
 use Rattle.command_shell.specs.State.{ScriptState, Answered, answer, then_answered, script_start_state}
 use Rattle.profile.proofs.OutputLemmas.{AddsAllBut-start, Appends-from_all_but}
 use Rattle.command_shell.proofs.FrontLemmas.{AddsFront-from_all_but, AddsFront-start, IsFront-same}
-use Rattle.swi_dispatch_guest.specs.Parts.{state_of}
+use Rattle.swi_dispatch_guest.specs.GuestState.{state_of}
 
 -- an answer, and then the lines that are left
-after_told : Answered → ℕ → List (List ℕ) → Answered
-after_told first number left = then_answered first (λ after. lines_told number after None left)
+after_answer : Answered → ℕ → List (List ℕ) → Answered
+after_answer first number left = then_answered first (λ after. lines_answer number after None left)
 
 -- the end of a script
-pub told_end : (number : ℕ) (w : ScriptState) → lines_told number w None [] ≡ answer w []
-unfolding lines_told
-told_end number w = refl
+pub answer_end : (number : ℕ) (w : ScriptState) → lines_answer number w None [] ≡ answer w []
+unfolding lines_answer
+answer_end number w = refl
 
 block_same : (w : ScriptState) (number : ℕ) (r : Request) (block block' : List (List ℕ)) (next next' : ℕ)
     (left left' : List (List ℕ))
     → block ≡ block' → next ≡ next' → left ≡ left'
-    → after_told (request_told w number r block) next left ≡ after_told (request_told w number r block') next' left'
+    → after_answer (request_answer w number r block) next left ≡ after_answer (request_answer w number r block') next' left'
 block_same w number r block block' next next' left left' e n l = cc
 
-told_by_end : (number : ℕ) (w : ScriptState) (o : OpenBlock) (line : List ℕ) (rest : List (List ℕ)) (b : Bool)
-    → lines_told (number + 1) w (Some (record o { block = o.block ++ line ∷ [] })) rest
-    ≡ after_told (request_told w o.number o.request ((o.block ++ line ∷ []) ++ block_lines rest))
+answer_by_end : (number : ℕ) (w : ScriptState) (o : OpenBlock) (line : List ℕ) (rest : List (List ℕ)) (b : Bool)
+    → lines_answer (number + 1) w (Some (record o { block = o.block ++ line ∷ [] })) rest
+    ≡ after_answer (request_answer w o.number o.request ((o.block ++ line ∷ []) ++ block_lines rest))
     (number + 1 + lines_in_block rest) (after_block rest)
-    → in_block w o line b (λ after still. lines_told (number + 1) after still rest)
-    ≡ after_told (request_told w o.number o.request (o.block ++ (if b then [] else line ∷ block_lines rest)))
+    → in_block w o line b (λ after still. lines_answer (number + 1) after still rest)
+    ≡ after_answer (request_answer w o.number o.request (o.block ++ (if b then [] else line ∷ block_lines rest)))
     (number + (if b then 1 else 1 + lines_in_block rest)) (if b then rest else after_block rest)
-unfolding after_told
-told_by_end number w o line rest true later =
+unfolding after_answer
+answer_by_end number w o line rest true later =
     block_same w o.number o.request o.block (o.block ++ []) (number + 1) (number + 1) rest rest
     (sym (append-nil o.block)) refl refl
-told_by_end number w o line rest false later =
+answer_by_end number w o line rest false later =
     later
     ∙ block_same w o.number o.request ((o.block ++ line ∷ []) ++ block_lines rest)
     (o.block ++ line ∷ block_lines rest) (number + 1 + lines_in_block rest) (number + (1 + lines_in_block rest))
@@ -52,28 +52,28 @@ told_by_end number w o line rest false later =
 
 nothing_after : (t : Answered) → t ≡ record { state = t.state; text = t.text ++ [] }
 nothing_after t =
-    ap (λ (xs : List ℕ). let told : Answered = record { state = t.state; text = xs } in told) (sym (append-nil t.text))
+    ap (λ (xs : List ℕ). let reported : Answered = record { state = t.state; text = xs } in reported) (sym (append-nil t.text))
 
 -- an open block takes its lines up to the one that ends it
-told_open : (number : ℕ) (w : ScriptState) (o : OpenBlock) (left : List (List ℕ))
-    → lines_told number w (Some o) left
-    ≡ after_told (request_told w o.number o.request (o.block ++ block_lines left)) (number + lines_in_block left)
+answer_open : (number : ℕ) (w : ScriptState) (o : OpenBlock) (left : List (List ℕ))
+    → lines_answer number w (Some o) left
+    ≡ after_answer (request_answer w o.number o.request (o.block ++ block_lines left)) (number + lines_in_block left)
     (after_block left)
-unfolding lines_told block_lines after_block lines_in_block after_told
-told_open number w o [] =
-    ap (request_told w o.number o.request) (sym (append-nil o.block))
-    ∙ nothing_after (request_told w o.number o.request (o.block ++ []))
-told_open number w o (line ∷ rest) =
-    told_by_end number w o line rest (is_end_of_block line)
-    (told_open (number + 1) w (record o { block = o.block ++ line ∷ [] }) rest)
+unfolding lines_answer block_lines after_block lines_in_block after_answer
+answer_open number w o [] =
+    ap (request_answer w o.number o.request) (sym (append-nil o.block))
+    ∙ nothing_after (request_answer w o.number o.request (o.block ++ []))
+answer_open number w o (line ∷ rest) =
+    answer_by_end number w o line rest (is_end_of_block line)
+    (answer_open (number + 1) w (record o { block = o.block ++ line ∷ [] }) rest)
 
 no_lines_more : (first : Answered) (number : ℕ) (left : List (List ℕ))
-    → after_told first number left ≡ after_told first (number + 0) left
-no_lines_more first number left = ap (λ (n : ℕ). after_told first n left) (sym (add-zero number))
+    → after_answer first number left ≡ after_answer first (number + 0) left
+no_lines_more first number left = ap (λ (n : ℕ). after_answer first n left) (sym (add-zero number))
 
 -- what is answered at once doesn't depend on the lines that follow
 pub at_once : (number : ℕ) (w : ScriptState) (r : Request) (block : List (List ℕ)) → opens_block r ≡ false
-    → request_told w number r [] ≡ request_told w number r block
+    → request_answer w number r [] ≡ request_answer w number r block
 at_once number w (Hex name) block e = absurd (cc)
 at_once number w (Asm name origin) block e = absurd (cc)
 at_once number w Nothing block e = refl
@@ -95,64 +95,64 @@ at_once number w Modules block e = refl
 at_once number w Flex block e = refl
 at_once number w Unknown block e = refl
 
-told_by_opened : (number : ℕ) (w : ScriptState) (rest : List (List ℕ)) (r : Request) (b : Bool) → opens_block r ≡ b
-    → on_opened w (number + 1) r b (λ after still. lines_told (number + 1) after still rest)
-    ≡ after_told (request_told w (number + 1) r (block_lines rest)) (number + 1 + lines_taken b rest)
+answer_by_opened : (number : ℕ) (w : ScriptState) (rest : List (List ℕ)) (r : Request) (b : Bool) → opens_block r ≡ b
+    → on_opened w (number + 1) r b (λ after still. lines_answer (number + 1) after still rest)
+    ≡ after_answer (request_answer w (number + 1) r (block_lines rest)) (number + 1 + lines_taken b rest)
     (lines_after b rest)
-unfolding after_told
-told_by_opened number w rest r false e =
-    no_lines_more (request_told w (number + 1) r []) (number + 1) rest
-    ∙ ap (λ (t : Answered). after_told t (number + 1 + 0) rest) (at_once (number + 1) w r (block_lines rest) e)
-told_by_opened number w rest r true e =
-    told_open (number + 1) w (record { request = r; number = number + 1; block = [] }) rest
+unfolding after_answer
+answer_by_opened number w rest r false e =
+    no_lines_more (request_answer w (number + 1) r []) (number + 1) rest
+    ∙ ap (λ (t : Answered). after_answer t (number + 1 + 0) rest) (at_once (number + 1) w r (block_lines rest) e)
+answer_by_opened number w rest r true e =
+    answer_open (number + 1) w (record { request = r; number = number + 1; block = [] }) rest
 
-told_by_request : (number : ℕ) (w : ScriptState) (rest : List (List ℕ)) (r : Request)
-    → on_request w (number + 1) r (λ after still. lines_told (number + 1) after still rest)
-    ≡ after_told (request_told w (number + 1) r (block_lines rest)) (number + 1 + lines_taken (opens_block r) rest)
+answer_by_request : (number : ℕ) (w : ScriptState) (rest : List (List ℕ)) (r : Request)
+    → on_request w (number + 1) r (λ after still. lines_answer (number + 1) after still rest)
+    ≡ after_answer (request_answer w (number + 1) r (block_lines rest)) (number + 1 + lines_taken (opens_block r) rest)
     (lines_after (opens_block r) rest)
-told_by_request number w rest r = told_by_opened number w rest r (opens_block r) refl
+answer_by_request number w rest r = answer_by_opened number w rest r (opens_block r) refl
 
 -- a line and the rest of the script
-told_step : (number : ℕ) (w : ScriptState) (line : List ℕ) (rest : List (List ℕ))
-    → lines_told number w None (line ∷ rest)
-    ≡ after_told (request_told w (number + 1) (request_of line) (block_lines rest))
+answer_step : (number : ℕ) (w : ScriptState) (line : List ℕ) (rest : List (List ℕ))
+    → lines_answer number w None (line ∷ rest)
+    ≡ after_answer (request_answer w (number + 1) (request_of line) (block_lines rest))
     (number + 1 + lines_taken (opens_block (request_of line)) rest) (lines_after (opens_block (request_of line)) rest)
-unfolding lines_told
-told_step number w line rest = told_by_request number w rest (request_of line)
+unfolding lines_answer
+answer_step number w line rest = answer_by_request number w rest (request_of line)
 
 step_at : (number here next : ℕ) (w after : ScriptState) (line : List ℕ) (rest left : List (List ℕ)) (r : Request)
-    → here ≡ number + 1 → r ≡ request_of line → after ≡ (request_told w here r (block_lines rest)).state
+    → here ≡ number + 1 → r ≡ request_of line → after ≡ (request_answer w here r (block_lines rest)).state
     → next ≡ here + lines_taken (opens_block r) rest
     → left ≡ lines_after (opens_block r) rest
-    → lines_told number w None (line ∷ rest)
-    ≡ then_answered (request_told w here r (block_lines rest)) (λ _. lines_told next after None left)
-unfolding after_told
+    → lines_answer number w None (line ∷ rest)
+    ≡ then_answered (request_answer w here r (block_lines rest)) (λ _. lines_answer next after None left)
+unfolding after_answer
 step_at number here next w after line rest left r at is state counted stays =
-    rw (state, counted, stays, is, at) (told_step number w line rest)
+    rw (state, counted, stays, is, at) (answer_step number w line rest)
 
 pub text_step : (number here next : ℕ) (w after : ScriptState) (line : List ℕ) (rest left : List (List ℕ)) (r : Request)
-    → here ≡ number + 1 → r ≡ request_of line → after ≡ (request_told w here r (block_lines rest)).state
+    → here ≡ number + 1 → r ≡ request_of line → after ≡ (request_answer w here r (block_lines rest)).state
     → next ≡ here + lines_taken (opens_block r) rest
     → left ≡ lines_after (opens_block r) rest
-    → (lines_told number w None (line ∷ rest)).text
-    ≡ (request_told w here r (block_lines rest)).text ++ (lines_told next after None left).text
+    → (lines_answer number w None (line ∷ rest)).text
+    ≡ (request_answer w here r (block_lines rest)).text ++ (lines_answer next after None left).text
 text_step number here next w after line rest left r at is state counted stays =
     ap (λ (t : Answered). t.text) (step_at number here next w after line rest left r at is state counted stays)
 
 pub state_step : (number here next : ℕ) (w after : ScriptState) (line : List ℕ) (rest left : List (List ℕ))
     (r : Request)
-    → here ≡ number + 1 → r ≡ request_of line → after ≡ (request_told w here r (block_lines rest)).state
+    → here ≡ number + 1 → r ≡ request_of line → after ≡ (request_answer w here r (block_lines rest)).state
     → next ≡ here + lines_taken (opens_block r) rest
     → left ≡ lines_after (opens_block r) rest
-    → (lines_told number w None (line ∷ rest)).state ≡ (lines_told next after None left).state
+    → (lines_answer number w None (line ∷ rest)).state ≡ (lines_answer next after None left).state
 state_step number here next w after line rest left r at is state counted stays =
     ap (λ (t : Answered). t.state) (step_at number here next w after line rest left r at is state counted stays)
 
-pub text_end : (number : ℕ) (w : ScriptState) → (lines_told number w None []).text ≡ []
-text_end number w = ap (λ (t : Answered). t.text) (told_end number w)
+pub text_end : (number : ℕ) (w : ScriptState) → (lines_answer number w None []).text ≡ []
+text_end number w = ap (λ (t : Answered). t.text) (answer_end number w)
 
-pub state_end : (number : ℕ) (w : ScriptState) → (lines_told number w None []).state ≡ w
-state_end number w = ap (λ (t : Answered). t.state) (told_end number w)
+pub state_end : (number : ℕ) (w : ScriptState) → (lines_answer number w None []).state ≡ w
+state_end number w = ap (λ (t : Answered). t.state) (answer_end number w)
 
 after_block-shorter : (rest : List (List ℕ)) → length (after_block rest) ≤ length rest
 unfolding after_block
@@ -210,35 +210,35 @@ state_on_start machine sizes images budget start same fresh = λ i. record {
   last = None;
 }
 
--- What is so of what the lines of a script that was read are told, on a machine that was just made,
--- is so of what the script is told.
-pub told_of : (P : Answered → Type 0) (o : Option (List ℕ)) (sizes : Sizes) (images : List Entry) (budget : ℕ)
+-- What is so of what the lines of a script that was read are shown, on a machine that was just made,
+-- is so of what the script is shown.
+pub answer_of : (P : Answered → Type 0) (o : Option (List ℕ)) (sizes : Sizes) (images : List Entry) (budget : ℕ)
     (read text : List ℕ) (session : Session) (machine : MachineValue) (place : ReadingPlace)
     → IfSome o (λ script. read ≡ script) → text ≡ read
     → script_state session images ≡ state_on machine images budget
     → state_of machine.guest ≡ machine_start sizes → machine.sizes ≡ sizes → machine.is_fresh ≡ true
     → place ≡ record { left = lines text; number = 0 }
-    → P (lines_told place.number (script_state session images) None place.left)
-    → IfSome o (λ script. P (script_told sizes images budget script))
-unfolding script_told
-told_of P None sizes images budget read text session machine place is same stands start sized fresh at so = tt
-told_of P (Some script) sizes images budget read text session machine place is same stands start sized fresh at so =
-    let from_first = subst (λ (p : ReadingPlace). P (lines_told p.number (script_state session images) None p.left)) at so in
-    let from_start = subst (λ (w : ScriptState). P (lines_told 0 w None (lines text)))
+    → P (lines_answer place.number (script_state session images) None place.left)
+    → IfSome o (λ script. P (script_answer sizes images budget script))
+unfolding script_answer
+answer_of P None sizes images budget read text session machine place is same stands start sized fresh at so = tt
+answer_of P (Some script) sizes images budget read text session machine place is same stands start sized fresh at so =
+    let from_first = subst (λ (p : ReadingPlace). P (lines_answer p.number (script_state session images) None p.left)) at so in
+    let from_start = subst (λ (w : ScriptState). P (lines_answer 0 w None (lines text)))
     (stands ∙ state_on_start machine sizes images budget start sized fresh) from_first in
-    subst (λ (xs : List ℕ). P (lines_told 0 (script_start_state sizes images budget) None (lines xs))) (same ∙ is) from_start
+    subst (λ (xs : List ℕ). P (lines_answer 0 (script_start_state sizes images budget) None (lines xs))) (same ∙ is) from_start
 
 -- and a part of the state that they leave
-pub part_told : {A : Type 0} (part : ScriptState → A) (told : A) (now : ScriptState) (o : Option (List ℕ)) (sizes : Sizes)
+pub part_answer : {A : Type 0} (part : ScriptState → A) (reported : A) (now : ScriptState) (o : Option (List ℕ)) (sizes : Sizes)
     (images : List Entry) (budget : ℕ) (read text : List ℕ) (session : Session) (machine : MachineValue) (place : ReadingPlace)
     → IfSome o (λ script. read ≡ script) → text ≡ read
     → script_state session images ≡ state_on machine images budget
     → state_of machine.guest ≡ machine_start sizes → machine.sizes ≡ sizes → machine.is_fresh ≡ true
     → place ≡ record { left = lines text; number = 0 }
-    → now ≡ (lines_told place.number (script_state session images) None place.left).state → told ≡ part now
-    → IfSome o (λ script. told ≡ part (script_told sizes images budget script).state)
-part_told part told now o sizes images budget read text session machine place is same stands start sized fresh at after ends =
-    told_of (λ (t : Answered). told ≡ part t.state) o sizes images budget read text session machine place is same stands
+    → now ≡ (lines_answer place.number (script_state session images) None place.left).state → reported ≡ part now
+    → IfSome o (λ script. reported ≡ part (script_answer sizes images budget script).state)
+part_answer part reported now o sizes images budget read text session machine place is same stands start sized fresh at after ends =
+    answer_of (λ (t : Answered). reported ≡ part t.state) o sizes images budget read text session machine place is same stands
     start sized fresh at (ends ∙ ap part after)
 
 pub ruleset line_steps = (

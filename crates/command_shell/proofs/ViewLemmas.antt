@@ -5,7 +5,7 @@ use Rattle.debugger.specs.Flex.{flex_text}
 use Rattle.debugger.specs.Heap.{heap_blocks_text}
 use Rattle.command_shell.specs.Answers.{refused_text}
 use Rattle.command_shell.specs.State.{ScriptState, answer}
-use Rattle.command_shell.specs.Views.{flex_told, heap_told, shown_or}
+use Rattle.command_shell.specs.Views.{flex_answer, heap_answer, shown_or}
 
 there : (s : ScriptState) (refusal : List ℕ) (o : Option (List ℕ)) → is_some o ≡ true
     → shown_or s refusal o ≡ answer s (unwrap_or o [])
@@ -22,13 +22,13 @@ nothing None e = cc
 nothing (Some text) e = absurd (cc)
 
 pub heap_there : (s : ScriptState) (address : ℕ) → is_some (heap_blocks_text s.machine.store address) ≡ true
-    → heap_told s address ≡ answer s (unwrap_or (heap_blocks_text s.machine.store address) [])
-unfolding heap_told
+    → heap_answer s address ≡ answer s (unwrap_or (heap_blocks_text s.machine.store address) [])
+unfolding heap_answer
 heap_there s address e = there s (codes "NoHeap") (heap_blocks_text s.machine.store address) e
 
 pub heap_missing : (s : ScriptState) (address : ℕ) → is_some (heap_blocks_text s.machine.store address) ≡ false
-    → heap_told s address ≡ answer s (refused_text (codes "NoHeap"))
-unfolding heap_told
+    → heap_answer s address ≡ answer s (refused_text (codes "NoHeap"))
+unfolding heap_answer
 heap_missing s address e = missing s (codes "NoHeap") (heap_blocks_text s.machine.store address) e
 
 pub nothing_shown : (s : ScriptState) (address : ℕ) → is_some (heap_blocks_text s.machine.store address) ≡ false
@@ -36,13 +36,13 @@ pub nothing_shown : (s : ScriptState) (address : ℕ) → is_some (heap_blocks_t
 nothing_shown s address e = nothing (heap_blocks_text s.machine.store address) e
 
 pub flex_there : (s : ScriptState) → is_some (flex_text s.machine.store.bytes s.machine.tables.flex) ≡ true
-    → flex_told s ≡ answer s (unwrap_or (flex_text s.machine.store.bytes s.machine.tables.flex) [])
-unfolding flex_told
+    → flex_answer s ≡ answer s (unwrap_or (flex_text s.machine.store.bytes s.machine.tables.flex) [])
+unfolding flex_answer
 flex_there s e = there s (codes "NoFlex") (flex_text s.machine.store.bytes s.machine.tables.flex) e
 
 pub flex_missing : (s : ScriptState) → is_some (flex_text s.machine.store.bytes s.machine.tables.flex) ≡ false
-    → flex_told s ≡ answer s (refused_text (codes "NoFlex"))
-unfolding flex_told
+    → flex_answer s ≡ answer s (refused_text (codes "NoFlex"))
+unfolding flex_answer
 flex_missing s e = missing s (codes "NoFlex") (flex_text s.machine.store.bytes s.machine.tables.flex) e
 
 pub ruleset heap_steps = (heap_there, heap_missing, nothing_shown)

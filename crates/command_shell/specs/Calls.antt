@@ -25,13 +25,13 @@ stop_before_step_by None left = if left == 0 then Some stop.Budget else None
 abbrev pub stop_before_step : ScriptState → Option Stop
 stop_before_step s = stop_before_step_by s.machine.halt s.left
 
--- what a call tells that came back: V says whether it was refused, and R0 points to the error then
+-- what a call says that came back: V says whether it was refused, and R0 points to the error then
 abbrev pub call_text : MachineState → List ℕ
 call_text s = if s.cpu.psr.overflow then call_error_text (error_number s) else ok_text
 
 -- a stop line, which is the last one then
-abbrev pub stop_told : ScriptState → Stop → Answered
-stop_told s stop = answer (script_with_last s stop) (stop_text stop s.machine.cpu.pc)
+abbrev pub stop_answer : ScriptState → Stop → Answered
+stop_answer s stop = answer (script_with_last s stop) (stop_text stop s.machine.cpu.pc)
 
 -- Why a call goes no further after a step, if so many frames were open before it. It is tested in
 -- this order: the machine is halted; the call has come back; the program counter is among the
@@ -47,9 +47,9 @@ call_end_by s frames None =
 unfoldable pub call_end : ScriptState → ℕ → Option CallEnd
 call_end s frames = call_end_by s frames s.machine.halt
 
-abbrev pub end_told : ScriptState → CallEnd → Answered
-end_told s end.Returned = answer s (call_text s.machine)
-end_told s (end.Stopped stop) = stop_told s stop
+abbrev pub end_answer : ScriptState → CallEnd → Answered
+end_answer s end.Returned = answer s (call_text s.machine)
+end_answer s (end.Stopped stop) = stop_answer s stop
 
 -- the state after a step, which counts unless it ended in a fault
 abbrev pub step_made : ScriptState → StepOutcome → ScriptState
@@ -60,12 +60,12 @@ abbrev pub step_then : ScriptState → StepOutcome → (ScriptState → Answered
 step_then s a next = then_answered (answer (step_made s a) a.printed) next
 
 abbrev pub finished_by : ScriptState → Option CallEnd → Answered → Answered
-finished_by s (Some e) more = end_told s e
+finished_by s (Some e) more = end_answer s e
 finished_by s None more = more
 
 -- The rest of a call after a step of it, with so many steps left.
 unfoldable pub answer_after_steps : ℕ → ℕ → ScriptState → Answered
-answer_after_steps frames zero s = finished_by s (call_end s frames) (stop_told s stop.Budget)
+answer_after_steps frames zero s = finished_by s (call_end s frames) (stop_answer s stop.Budget)
 answer_after_steps frames (suc n) s =
     finished_by s (call_end s frames) (step_then s (machine_step s.images s.machine)
     (answer_after_steps frames n))
@@ -75,7 +75,7 @@ abbrev pub call_done : ScriptState → StepOutcome → Answered
 call_done s a = step_then s a (λ after. answer_after_steps (length s.machine.tables.frames) after.left after)
 
 abbrev pub call_unless : ScriptState → StepOutcome → Option Stop → Answered
-call_unless s a (Some stop) = stop_told s stop
+call_unless s a (Some stop) = stop_answer s stop
 call_unless s a None = call_done s a
 
 -- a call whose first step leaves this, unless no step can be taken
@@ -83,11 +83,11 @@ unfoldable pub call_made : ScriptState → StepOutcome → Answered
 call_made s a = call_unless s a (stop_before_step s)
 
 -- CALL makes a store call; LOAD loads a module.
-abbrev pub call_told : ScriptState → ℕ → Answered
-call_told s number = call_made s (store_called s.images s.machine number)
+abbrev pub outside_call_answer : ScriptState → ℕ → Answered
+outside_call_answer s number = call_made s (store_called s.images s.machine number)
 
-abbrev pub load_told : ScriptState → List ℕ → Answered
-load_told s text = call_made s (module_loaded s.images s.machine text)
+abbrev pub load_answer : ScriptState → List ℕ → Answered
+load_answer s text = call_made s (module_loaded s.images s.machine text)
 
 abbrev pub outside_called : List Entry → MachineState → OutsideCall → StepOutcome
 outside_called images s (outside.Swi number) = store_called images s number

@@ -14,5 +14,5 @@ pub record HasSome (old all new : List Entry) : Type 0 where
   pub in_order : IsFront new all
 
 -- The images are those of before, or those that the answer leaves.
-abbrev pub AreOldOrTold : List Entry → List Entry → Answered → Type 0
-AreOldOrTold old new told = (new ≡ old) ⊎ (new ≡ told.state.images)
+abbrev pub AreOldOrAnswer : List Entry → List Entry → Answered → Type 0
+AreOldOrAnswer old new reported = (new ≡ old) ⊎ (new ≡ reported.state.images)

@@ -34,8 +34,8 @@ abbrev pub hex_block : ScriptState → List ℕ → Result (List ℕ) ℕ → An
 hex_block s name (Err line) = answer s (line_refused_text (codes "hex ") name line (codes "Syntax"))
 hex_block s name (Ok bytes) = image_sized s (codes "hex ") name bytes
 
-abbrev pub hex_told : ScriptState → List ℕ → List (List ℕ) → Answered
-hex_told s name block =
+abbrev pub hex_answer : ScriptState → List ℕ → List (List ℕ) → Answered
+hex_answer s name block =
     image_opened s (codes "hex ") name (hex_block s name (block_bytes 0 block)) (refusal_for s.images name 0)
 
 -- ASM: likewise, with the bytes that the lines mean at the origin.
@@ -43,8 +43,8 @@ abbrev pub asm_block : ScriptState → List ℕ → Result (List ℕ) AsmError �
 asm_block s name (Err e) = answer s (line_refused_text (codes "asm ") name e.line (reason_name e.reason))
 asm_block s name (Ok bytes) = image_sized s (codes "asm ") name bytes
 
-abbrev pub asm_told : ScriptState → List ℕ → ℕ → List (List ℕ) → Answered
-asm_told s name origin block =
+abbrev pub asm_answer : ScriptState → List ℕ → ℕ → List (List ℕ) → Answered
+asm_answer s name origin block =
     image_opened s (codes "asm ") name (asm_block s name (means_lines block origin))
     (refusal_for s.images name 0)
 
@@ -62,5 +62,5 @@ abbrev pub boot_found : ScriptState → List ℕ → Option (List ℕ) → Answe
 boot_found s name None = answer s (refused_text (codes "NoImage"))
 boot_found s name (Some program) = boot_done s name (machine_after_boot s.sizes s.is_fresh s.machine program)
 
-abbrev pub boot_told : ScriptState → List ℕ → Answered
-boot_told s name = boot_found s name (bytes_of_image s.images name)
+abbrev pub boot_answer : ScriptState → List ℕ → Answered
+boot_answer s name = boot_found s name (bytes_of_image s.images name)

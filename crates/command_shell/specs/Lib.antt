@@ -4,7 +4,7 @@ pub use Rattle.swi_dispatch.specs.Boot
 pub use Rattle.swi_dispatch.specs.Value
 pub use Rattle.swi_dispatch.specs.declared.boot_error.BootError
 pub use Rattle.swi_dispatch_guest.specs.MachineState
-pub use Rattle.swi_dispatch_guest.specs.Parts
+pub use Rattle.swi_dispatch_guest.specs.GuestState
 pub use Rattle.swi_dispatch_guest.specs.Run
 pub use Rattle.swi_dispatch_guest.specs.Step
 pub use Rattle.swi_dispatch_guest.specs.Writes

@@ -7,7 +7,7 @@ use Rattle.profile.specs.Sizes.{Sizes}
 use Rattle.profile.specs.declared.fault.Fault.{Fault}
 use Rattle.profile.specs.declared.stop.Stop.{Stop}
 use Rattle.swi_dispatch_guest.specs.MachineState.{MachineState}
-use Rattle.swi_dispatch_guest.specs.Writes.{machine_after_poke, machine_at, machine_awake, machine_with_bank_register, machine_with_register, machine_with_status}
+use Rattle.swi_dispatch_guest.specs.Writes.{machine_after_poke, machine_at, machine_unhalted, machine_with_bank_register, machine_with_register, machine_with_status}
 use Rattle.swi_dispatch_guest.specs.ArmCoreMode.{Mode}
 use Rattle.swi_dispatch_guest.specs.ArmCorePsr.{Psr}
 use Rattle.command_shell.specs.Answers.{refused_text}
@@ -32,24 +32,24 @@ script_after_poke s address value =
     bind (machine_after_poke s.machine address value) (λ machine. Ok (script_with_machine s machine))
 
 -- SET changes a register of the present mode.
-abbrev pub set_told : ScriptState → ℕ → ℕ → Answered
-set_told s register value = answer (script_with_register s register value) []
+abbrev pub set_answer : ScriptState → ℕ → ℕ → Answered
+set_answer s register value = answer (script_with_register s register value) []
 
 -- POKE stores a word as a guest's store would.
 abbrev pub poke_done : ScriptState → Result MachineState Fault → Answered
 poke_done s (Ok machine) = answer (script_with_machine s machine) []
 poke_done s (Err fault) = answer s (refused_text (fault_name fault))
 
-abbrev pub poke_told : ScriptState → ℕ → ℕ → Answered
-poke_told s address value = poke_done s (machine_after_poke s.machine address value)
+abbrev pub poke_answer : ScriptState → ℕ → ℕ → Answered
+poke_answer s address value = poke_done s (machine_after_poke s.machine address value)
 
 -- another program counter
 abbrev pub script_at : ScriptState → ℕ → ScriptState
 script_at s address = script_with_machine s (machine_at s.machine address)
 
 -- a machine that can take steps again, whatever has halted it
-abbrev pub script_awake : ScriptState → ScriptState
-script_awake s = script_with_machine s (machine_awake s.machine)
+abbrev pub script_unhalted : ScriptState → ScriptState
+script_unhalted s = script_with_machine s (machine_unhalted s.machine)
 
 -- another status
 abbrev pub script_with_status : ScriptState → Psr → ScriptState

@@ -4,36 +4,36 @@ use Rattle.std.specs.Str.Lines.{lines}
 use Rattle.profile.specs.Sizes.{Sizes}
 use Rattle.image_loader.specs.Entries.{Entry, refusal_for}
 use Rattle.command_shell.specs.Answers.{unknown_text}
-use Rattle.command_shell.specs.Calls.{call_told, load_told}
-use Rattle.command_shell.specs.Images.{hex_told, asm_told, boot_told}
-use Rattle.command_shell.specs.Memory.{set_told, poke_told}
+use Rattle.command_shell.specs.Calls.{outside_call_answer, load_answer}
+use Rattle.command_shell.specs.Images.{hex_answer, asm_answer, boot_answer}
+use Rattle.command_shell.specs.Memory.{set_answer, poke_answer}
 use Rattle.command_shell_lines.specs.Requests.{Request, Nothing, Hex, Asm, Boot, Run, Regs, Set, Poke, Call, Load, Step, Break, Unbreak, Mem, Code, Heap, Areas, Modules, Flex, Unknown, opens_block, request_of, is_end_of_block}
 use Rattle.command_shell.specs.State.{ScriptState, Answered, answer, then_answered, script_start_state}
-use Rattle.command_shell.specs.Stepping.{run_told, step_told, break_told, unbreak_told}
-use Rattle.command_shell.specs.Views.{regs_told, mem_told, code_told, heap_told, areas_told, modules_told, flex_told}
+use Rattle.command_shell.specs.Stepping.{run_answer, step_answer, break_answer, unbreak_answer}
+use Rattle.command_shell.specs.Views.{regs_answer, mem_answer, code_answer, heap_answer, areas_answer, modules_answer, flex_answer}
 
 -- A request at the line of that number; of a HEX or an ASM line, with the lines of its block.
-abbrev pub request_told : ScriptState → ℕ → Request → List (List ℕ) → Answered
-request_told s number Nothing block = answer s []
-request_told s number (Hex name) block = hex_told s name block
-request_told s number (Asm name origin) block = asm_told s name origin block
-request_told s number (Boot name) block = boot_told s name
-request_told s number Run block = run_told s
-request_told s number Regs block = regs_told s
-request_told s number (Set register value) block = set_told s register value
-request_told s number (Poke address value) block = poke_told s address value
-request_told s number (Call called) block = call_told s called
-request_told s number (Load text) block = load_told s text
-request_told s number (Step count) block = step_told s count
-request_told s number (Break address) block = break_told s address
-request_told s number (Unbreak address) block = unbreak_told s address
-request_told s number (Mem address count) block = mem_told s address count
-request_told s number (Code address count) block = code_told s address count
-request_told s number (Heap address) block = heap_told s address
-request_told s number Areas block = areas_told s
-request_told s number Modules block = modules_told s
-request_told s number Flex block = flex_told s
-request_told s number Unknown block = answer s (unknown_text number)
+abbrev pub request_answer : ScriptState → ℕ → Request → List (List ℕ) → Answered
+request_answer s number Nothing block = answer s []
+request_answer s number (Hex name) block = hex_answer s name block
+request_answer s number (Asm name origin) block = asm_answer s name origin block
+request_answer s number (Boot name) block = boot_answer s name
+request_answer s number Run block = run_answer s
+request_answer s number Regs block = regs_answer s
+request_answer s number (Set register value) block = set_answer s register value
+request_answer s number (Poke address value) block = poke_answer s address value
+request_answer s number (Call called) block = outside_call_answer s called
+request_answer s number (Load text) block = load_answer s text
+request_answer s number (Step count) block = step_answer s count
+request_answer s number (Break address) block = break_answer s address
+request_answer s number (Unbreak address) block = unbreak_answer s address
+request_answer s number (Mem address count) block = mem_answer s address count
+request_answer s number (Code address count) block = code_answer s address count
+request_answer s number (Heap address) block = heap_answer s address
+request_answer s number Areas block = areas_answer s
+request_answer s number Modules block = modules_answer s
+request_answer s number Flex block = flex_answer s
+request_answer s number Unknown block = answer s (unknown_text number)
 
 -- a block whose end has not come yet: the request that opened it, the number of its line, and the
 -- block's lines so far
@@ -52,14 +52,14 @@ abbrev pub on_opened : ScriptState → ℕ → Request → Bool → (ScriptState
     Answered
 on_opened s number request true next = next s (Some (record
     { request = request; number = number; block = [] }))
-on_opened s number request false next = then_answered (request_told s number request [])
+on_opened s number request false next = then_answered (request_answer s number request [])
     (λ after. next after None)
 
 abbrev pub on_request : ScriptState → ℕ → Request → (ScriptState → Option OpenBlock → Answered) → Answered
 on_request s number request next = on_opened s number request (opens_block request) next
 
 abbrev pub answer_to_block : ScriptState → OpenBlock → Answered
-answer_to_block s open_block = request_told s open_block.number open_block.request open_block.block
+answer_to_block s open_block = request_answer s open_block.number open_block.request open_block.block
 
 abbrev pub in_block : ScriptState → OpenBlock → List ℕ → Bool → (ScriptState → Option OpenBlock → Answered) →
     Answered
@@ -78,11 +78,12 @@ at_the_end s None = answer s []
 at_the_end s (Some open_block) = answer_to_block s open_block
 
 -- lines, where so many came before
-unfoldable pub lines_told : ℕ → ScriptState → Option OpenBlock → List (List ℕ) → Answered
-lines_told number s open_block [] = at_the_end s open_block
-lines_told number s open_block (line ∷ rest) =
-    on_line s (number + 1) open_block line (λ after still_open. lines_told (number + 1) after still_open rest)
+unfoldable pub lines_answer : ℕ → ScriptState → Option OpenBlock → List (List ℕ) → Answered
+lines_answer number s open_block [] = at_the_end s open_block
+lines_answer number s open_block (line ∷ rest) =
+    on_line s (number + 1) open_block line (λ after still_open. lines_answer (number + 1) after still_open
+    rest)
 
-unfoldable pub script_told : Sizes → List Entry → ℕ → List ℕ → Answered
-script_told sizes images budget script = lines_told 0 (script_start_state sizes images budget) None
+unfoldable pub script_answer : Sizes → List Entry → ℕ → List ℕ → Answered
+script_answer sizes images budget script = lines_answer 0 (script_start_state sizes images budget) None
     (lines script)

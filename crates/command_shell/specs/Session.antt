@@ -4,7 +4,7 @@ use Rattle.image_loader.specs.Entries.{Entry}
 use Rattle.swi_dispatch.specs.Value.{MachineValue}
 use Rattle.command_shell.specs.declared.session.Session.{Session}
 use Rattle.command_shell.specs.State.{ScriptState}
-use Rattle.swi_dispatch_guest.specs.Parts.{state_of}
+use Rattle.swi_dispatch_guest.specs.GuestState.{state_of}
 
 abbrev pub script_state : Session → List Entry → ScriptState
 script_state s images = record {

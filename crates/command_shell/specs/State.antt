@@ -27,9 +27,10 @@ answer s text = record { state = s; text = text }
 
 -- A writer and a script after an answer: what was written is its text, and the script stands in its
 -- state.
-pub record IsAnswered (before after : Option (List ℕ)) (now : ScriptState) (told : Answered) : Type 0 where
-  pub text : Appends before after told.text
-  pub state : now ≡ told.state
+pub record IsAnswered (before after : Option (List ℕ)) (now : ScriptState) (reported : Answered) : Type 0
+  where
+    pub text : Appends before after reported.text
+    pub state : now ≡ reported.state
 
 -- an answer, and then those of the lines that follow
 abbrev pub then_answered : Answered → (ScriptState → Answered) → Answered

@@ -8,7 +8,7 @@ use Rattle.arm_core.specs.declared.breaks.breaks.BreakError.{BreakError}
 use Rattle.arm_core.specs.declared.breaks.breaks.BreakError.TheVariants as break
 use Rattle.arm_core.specs.breaks.Breaks.{with_break, without_break}
 use Rattle.swi_dispatch_guest.specs.MachineState.{MachineState}
-use Rattle.swi_dispatch_guest.specs.Parts.{AreCoreSteps}
+use Rattle.swi_dispatch_guest.specs.GuestState.{AreCoreSteps}
 use Rattle.swi_dispatch_guest.specs.Run as machine
 use Rattle.command_shell.specs.Answers.{break_text, unbreak_text, refused_text, stop_text, stepped_text}
 use Rattle.command_shell.specs.State.{ScriptState, Answered, answer}
@@ -28,7 +28,8 @@ script_after_run s most r = record s {
 
 -- What a run of so many steps at most leaves: the state, what the guest printed, written, how many
 -- steps count and why they ended.
-pub record IsAfterRun (s : ScriptState) (most : ℕ) (now : ScriptState) (before after : Option (List ℕ)) (taken : ℕ)
+pub record IsAfterRun (s : ScriptState) (most : ℕ) (now : ScriptState) (before after : Option (List ℕ))
+    (taken : ℕ)
     (end : Stop) : Type 0 where
   pub state : now ≡ script_after_run s most (script_run s most)
   pub text : Appends before after (script_run s most).printed
@@ -36,24 +37,24 @@ pub record IsAfterRun (s : ScriptState) (most : ℕ) (now : ScriptState) (before
   pub stop : end ≡ (script_run s most).stop
 
 -- the state after so many steps that print nothing and don't halt the machine; the last stop stays
-abbrev pub script_after_quiet : ScriptState → MachineState → ℕ → ScriptState
-script_after_quiet s now taken =
+abbrev pub script_after_silent : ScriptState → MachineState → ℕ → ScriptState
+script_after_silent s now taken =
     record s { machine = now; is_fresh = s.is_fresh && (taken == 0); left = s.left - taken }
 
 -- Steps that print nothing left this, of which each is an instruction that the core does by itself.
-pub record IsAfterQuietSteps (s now : ScriptState) (taken : ℕ) (end : Stop) : Type 0 where
-  pub run : script_run s taken ≡ machine.quiet_run now.machine taken end
+pub record IsAfterSilentSteps (s now : ScriptState) (taken : ℕ) (end : Stop) : Type 0 where
+  pub run : script_run s taken ≡ machine.silent_run now.machine taken end
   pub steps : AreCoreSteps taken s.machine now.machine
-  pub state : now ≡ script_after_quiet s now.machine taken
-  pub awake : now.machine.halt ≡ None
+  pub state : now ≡ script_after_silent s now.machine taken
+  pub unhalted : now.machine.halt ≡ None
 
 -- RUN: all that is left of the budget may be used. What the guest prints comes first, then the stop
 -- line.
 abbrev pub run_done : ScriptState → machine.Run → Answered
 run_done s r = answer (script_after_run s s.left r) (r.printed ++ stop_text r.stop r.now.cpu.pc)
 
-abbrev pub run_told : ScriptState → Answered
-run_told s = run_done s (script_run s s.left)
+abbrev pub run_answer : ScriptState → Answered
+run_answer s = run_done s (script_run s s.left)
 
 -- STEP takes so many steps, or as many as are left.
 abbrev pub step_done : ScriptState → ℕ → machine.Run → Answered
@@ -61,8 +62,8 @@ step_done s count r =
     answer (script_after_run s (min count s.left) r)
     (r.printed ++ stepped_text (nat_le count s.left) r.stop r.now.cpu.pc)
 
-abbrev pub step_told : ScriptState → ℕ → Answered
-step_told s count = step_done s count (script_run s (min count s.left))
+abbrev pub step_answer : ScriptState → ℕ → Answered
+step_answer s count = step_done s count (script_run s (min count s.left))
 
 -- one break more, or one less, or why they stay as they are
 abbrev pub script_with_break : ScriptState → ℕ → Result ScriptState BreakError
@@ -82,8 +83,8 @@ abbrev pub breaks_changed : ScriptState → List ℕ → Result (List ℕ) Break
 breaks_changed s text (Ok breaks) = answer (record s { breaks = breaks }) text
 breaks_changed s text (Err error) = answer s (refused_text (break_refusal_name error))
 
-abbrev pub break_told : ScriptState → ℕ → Answered
-break_told s address = breaks_changed s (break_text address) (with_break s.breaks address)
+abbrev pub break_answer : ScriptState → ℕ → Answered
+break_answer s address = breaks_changed s (break_text address) (with_break s.breaks address)
 
-abbrev pub unbreak_told : ScriptState → ℕ → Answered
-unbreak_told s address = breaks_changed s (unbreak_text address) (without_break s.breaks address)
+abbrev pub unbreak_answer : ScriptState → ℕ → Answered
+unbreak_answer s address = breaks_changed s (unbreak_text address) (without_break s.breaks address)

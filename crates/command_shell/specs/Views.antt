@@ -11,14 +11,14 @@ use Rattle.debugger.specs.Registers.{cpu_registers_text}
 use Rattle.command_shell.specs.Answers.{refused_text}
 use Rattle.command_shell.specs.State.{ScriptState, Answered, answer}
 
-abbrev pub regs_told : ScriptState → Answered
-regs_told s = answer s (cpu_registers_text s.machine.cpu)
+abbrev pub regs_answer : ScriptState → Answered
+regs_answer s = answer s (cpu_registers_text s.machine.cpu)
 
-abbrev pub mem_told : ScriptState → ℕ → ℕ → Answered
-mem_told s address count = answer s (memory_text s.machine.store.bytes address count)
+abbrev pub mem_answer : ScriptState → ℕ → ℕ → Answered
+mem_answer s address count = answer s (memory_text s.machine.store.bytes address count)
 
-abbrev pub code_told : ScriptState → ℕ → ℕ → Answered
-code_told s address count = answer s (code_text s.machine.store.bytes address count)
+abbrev pub code_answer : ScriptState → ℕ → ℕ → Answered
+code_answer s address count = answer s (code_text s.machine.store.bytes address count)
 
 -- a text, or `refused` and a word where there is none
 abbrev pub shown_or : ScriptState → List ℕ → Option (List ℕ) → Answered
@@ -26,15 +26,15 @@ shown_or s refusal None = answer s (refused_text refusal)
 shown_or s refusal (Some text) = answer s text
 
 -- `refused NoHeap` where no heap starts there
-unfoldable pub heap_told : ScriptState → ℕ → Answered
-heap_told s address = shown_or s (codes "NoHeap") (heap_blocks_text s.machine.store address)
+unfoldable pub heap_answer : ScriptState → ℕ → Answered
+heap_answer s address = shown_or s (codes "NoHeap") (heap_blocks_text s.machine.store address)
 
-abbrev pub areas_told : ScriptState → Answered
-areas_told s = answer s (areas_text s.machine.tables.land.areas s.machine.pool)
+abbrev pub areas_answer : ScriptState → Answered
+areas_answer s = answer s (areas_text s.machine.tables.area_table.areas s.machine.pool)
 
-abbrev pub modules_told : ScriptState → Answered
-modules_told s = answer s (modules_text s.machine.store.bytes s.machine.tables.modules)
+abbrev pub modules_answer : ScriptState → Answered
+modules_answer s = answer s (modules_text s.machine.store.bytes s.machine.tables.modules)
 
 -- `refused NoFlex` where there is no flex store
-unfoldable pub flex_told : ScriptState → Answered
-flex_told s = shown_or s (codes "NoFlex") (flex_text s.machine.store.bytes s.machine.tables.flex)
+unfoldable pub flex_answer : ScriptState → Answered
+flex_answer s = shown_or s (codes "NoFlex") (flex_text s.machine.store.bytes s.machine.tables.flex)

@@ -7,7 +7,7 @@ use itoa::Buffer;
 use profile::{Fault, HexText, Sink, Stop, WriteFault, push_all, push_parts};
 
 /// `? line n`: the line is outside the language.
-pub fn tell_unknown<W: Sink>(sink: &mut W, line: usize) -> Result<(), WriteFault>
+pub fn print_unknown<W: Sink>(sink: &mut W, line: usize) -> Result<(), WriteFault>
     ensures { Writes W.contents W.has_failed sink.old sink.new result (unknown_text line) }
 {
     let mut number = Buffer::new();
@@ -22,7 +22,7 @@ pub fn tell_unknown<W: Sink>(sink: &mut W, line: usize) -> Result<(), WriteFault
 }
 
 /// `hex name: n bytes`, or `asm ` in place of `hex `: the image was taken.
-pub fn tell_image<W: Sink>(
+pub fn print_image<W: Sink>(
     sink: &mut W,
     word: &[u8],
     name: &[u8],
@@ -44,7 +44,7 @@ pub fn tell_image<W: Sink>(
 }
 
 /// `hex name: line k: Syntax`, and the like: that line of the block is refused.
-pub fn tell_line_refused<'t, W: Sink>(
+pub fn print_line_refused<'t, W: Sink>(
     sink: &mut W,
     word: &'t [u8],
     name: &'t [u8],
@@ -70,7 +70,7 @@ pub fn tell_line_refused<'t, W: Sink>(
 }
 
 /// `hex name: NameTaken`, and the like: the image was refused.
-pub fn tell_image_refused<W: Sink>(
+pub fn print_image_refused<W: Sink>(
     sink: &mut W,
     word: &[u8],
     name: &[u8],
@@ -86,7 +86,7 @@ pub fn tell_image_refused<W: Sink>(
 }
 
 /// `boot name`: the program was copied.
-pub fn tell_boot<W: Sink>(sink: &mut W, name: &[u8]) -> Result<(), WriteFault>
+pub fn print_boot<W: Sink>(sink: &mut W, name: &[u8]) -> Result<(), WriteFault>
     ensures { Writes W.contents W.has_failed sink.old sink.new result (boot_text name.now) }
 {
     push_parts(sink, &[b"boot ".as_slice(), name, b"\n".as_slice()])
@@ -94,14 +94,14 @@ pub fn tell_boot<W: Sink>(sink: &mut W, name: &[u8]) -> Result<(), WriteFault>
 
 /// `refused NoImage`, and the like.
 #[tactic(auto, unfolding(crate::specs::Answers::refused_text))]
-pub fn tell_refused<W: Sink>(sink: &mut W, reason: &[u8]) -> Result<(), WriteFault>
+pub fn print_refused<W: Sink>(sink: &mut W, reason: &[u8]) -> Result<(), WriteFault>
     ensures { Writes W.contents W.has_failed sink.old sink.new result (refused_text reason.now) }
 {
     push_parts(sink, &[b"refused ".as_slice(), reason, b"\n".as_slice()])
 }
 
 /// `break &8004`: a run stops there from now on.
-pub fn tell_break<W: Sink>(sink: &mut W, address: u32) -> Result<(), WriteFault>
+pub fn print_break<W: Sink>(sink: &mut W, address: u32) -> Result<(), WriteFault>
     ensures { Writes W.contents W.has_failed sink.old sink.new result (break_text address) }
 {
     push_parts(
@@ -115,7 +115,7 @@ pub fn tell_break<W: Sink>(sink: &mut W, address: u32) -> Result<(), WriteFault>
 }
 
 /// `unbreak &8004`: a run doesn't stop there any more.
-pub fn tell_unbreak<W: Sink>(sink: &mut W, address: u32) -> Result<(), WriteFault>
+pub fn print_unbreak<W: Sink>(sink: &mut W, address: u32) -> Result<(), WriteFault>
     ensures { Writes W.contents W.has_failed sink.old sink.new result (unbreak_text address) }
 {
     push_parts(
@@ -129,14 +129,14 @@ pub fn tell_unbreak<W: Sink>(sink: &mut W, address: u32) -> Result<(), WriteFaul
 }
 
 /// `ok`: the store call succeeded.
-pub fn tell_ok<W: Sink>(sink: &mut W) -> Result<(), WriteFault>
+pub fn print_ok<W: Sink>(sink: &mut W) -> Result<(), WriteFault>
     ensures { Writes W.contents W.has_failed sink.old sink.new result ok_text }
 {
     push_all(sink, b"ok\n")
 }
 
 /// `error n`: the store call was refused with that error.
-pub fn tell_error<W: Sink>(sink: &mut W, number: u32) -> Result<(), WriteFault>
+pub fn print_error<W: Sink>(sink: &mut W, number: u32) -> Result<(), WriteFault>
     ensures { Writes W.contents W.has_failed sink.old sink.new result (call_error_text number) }
 {
     let mut digits = Buffer::new();
@@ -151,7 +151,7 @@ pub fn tell_error<W: Sink>(sink: &mut W, number: u32) -> Result<(), WriteFault>
 }
 
 /// `at &8004`: the steps are taken, and the machine stands there.
-pub fn tell_at<W: Sink>(sink: &mut W, pc: u32) -> Result<(), WriteFault>
+pub fn print_at<W: Sink>(sink: &mut W, pc: u32) -> Result<(), WriteFault>
     ensures { Writes W.contents W.has_failed sink.old sink.new result (at_text pc) }
 {
     push_parts(
@@ -166,7 +166,7 @@ pub fn tell_at<W: Sink>(sink: &mut W, pc: u32) -> Result<(), WriteFault>
 
 /// A stop line: `stop Exit`, `stop Budget`, `stop Break &8004`, `stop OwnedWord &8004`,
 /// `stop ErrorStop 6 &8004`. After a fault stands the program counter.
-pub fn tell_stop<W: Sink>(sink: &mut W, stop: Stop, pc: u32) -> Result<(), WriteFault>
+pub fn print_stop<W: Sink>(sink: &mut W, stop: Stop, pc: u32) -> Result<(), WriteFault>
     ensures { Writes W.contents W.has_failed sink.old sink.new result (stop_text stop pc) }
 {
     match stop {
@@ -180,13 +180,13 @@ pub fn tell_stop<W: Sink>(sink: &mut W, stop: Stop, pc: u32) -> Result<(), Write
                 b"\n".as_slice(),
             ],
         ),
-        Stop::Fault(fault) => tell_fault(sink, fault, pc),
+        Stop::Fault(fault) => print_fault(sink, fault, pc),
     }
 }
 
 /// What follows on the steps of a STEP line: where the machine stands, if all of them could be
 /// taken and were, else the stop line.
-pub fn tell_stepped<W: Sink>(
+pub fn print_stepped<W: Sink>(
     sink: &mut W,
     could_all: bool,
     stop: Stop,
@@ -195,12 +195,12 @@ pub fn tell_stepped<W: Sink>(
     ensures { Writes W.contents W.has_failed sink.old sink.new result (stepped_text could_all stop pc) }
 {
     match stop {
-        Stop::Budget if could_all => tell_at(sink, pc),
-        _ => tell_stop(sink, stop, pc),
+        Stop::Budget if could_all => print_at(sink, pc),
+        _ => print_stop(sink, stop, pc),
     }
 }
 
-fn tell_numbered<W: Sink>(
+fn print_numbered<W: Sink>(
     sink: &mut W,
     words: &[u8],
     number: u32,
@@ -221,11 +221,11 @@ fn tell_numbered<W: Sink>(
     )
 }
 
-fn tell_fault<W: Sink>(sink: &mut W, fault: Fault, pc: u32) -> Result<(), WriteFault>
+fn print_fault<W: Sink>(sink: &mut W, fault: Fault, pc: u32) -> Result<(), WriteFault>
     ensures { Writes W.contents W.has_failed sink.old sink.new result (fault_stop_text fault pc) }
 {
     match fault {
-        Fault::ErrorStop(code) => tell_numbered(sink, b"stop ErrorStop ", code, pc),
+        Fault::ErrorStop(code) => print_numbered(sink, b"stop ErrorStop ", code, pc),
         _ => push_parts(
             sink,
             &[

@@ -8,9 +8,9 @@ ghost use Rattle.profile.specs.Output.{Writes};
 ghost use Rattle.swi_dispatch_guest.specs.declared.halt.Halt.{Halt};
 ghost use Rattle.swi_dispatch_guest.specs.MachineState.{stop_of};
 ghost use Rattle.swi_dispatch_guest.specs.Run.{count_after};
-ghost use Rattle.swi_dispatch_guest.specs.Parts.{state_of};
+ghost use Rattle.swi_dispatch_guest.specs.GuestState.{state_of};
 
-use crate::answers::{tell_error, tell_ok, tell_stop};
+use crate::answers::{print_error, print_ok, print_stop};
 use crate::session::Session;
 use image_loader::Images;
 use profile::{Sink, Stop, WriteFault, push_all};
@@ -54,13 +54,13 @@ pub enum CallEnd {
 impl Session {
     ghost use Rattle.image_loader.specs.Entries.{Entry};
     ghost use Rattle.swi_dispatch_guest.specs.Step.{machine_step};
-    ghost use Rattle.command_shell.specs.Calls.{call_made, call_done, call_end, call_text, end_told, answer_after_steps};
-    ghost use Rattle.command_shell.specs.Calls.{first_step, step_made, stop_told, stop_before_step};
+    ghost use Rattle.command_shell.specs.Calls.{call_made, call_done, call_end, call_text, end_answer, answer_after_steps};
+    ghost use Rattle.command_shell.specs.Calls.{first_step, step_made, stop_answer, stop_before_step};
     ghost use Rattle.command_shell.specs.Session.{script_state};
     ghost use Rattle.command_shell.specs.State.{IsAnswered};
 
     /// Makes a call, takes the steps of the module code that it enters, until that has come back,
-    /// and tells how the call ended.
+    /// and says how the call ended.
     #[tactic(auto, unfolding(crate::specs::Calls::call_made))]
     pub(crate) fn call<W: Sink>(
         &mut self,
@@ -68,7 +68,7 @@ impl Session {
         sink: &mut W,
         call: OutsideCall,
     ) -> Result<(), WriteFault>
-        ensures told { OnOk result (IsAnswered (W.contents sink.old) (W.contents sink.new)
+        ensures reported { OnOk result (IsAnswered (W.contents sink.old) (W.contents sink.new)
             (script_state self.new images.now)
             (call_made (script_state self.old images.now)
             (first_step (script_state self.old images.now) call.entry))) }
@@ -91,17 +91,17 @@ impl Session {
         }
     }
 
-    // Tells a stop, which is the last one then.
+    // Shows a stop, which is the last one then.
     fn stopped<W: Sink>(&mut self, sink: &mut W, stop: Stop) -> Result<(), WriteFault>
-        ensures told { (images : List Entry) → OnOk result
+        ensures reported { (images : List Entry) → OnOk result
             (IsAnswered (W.contents sink.old) (W.contents sink.new)
             (script_state self.new images)
-            (stop_told (script_state self.old images) stop)) }
+            (stop_answer (script_state self.old images) stop)) }
         ensures flag { OnErr result (W.has_failed sink.new ≡ true) }
         ensures same_flag { OnOk result (W.has_failed sink.new ≡ W.has_failed sink.old) }
     {
         self.last = Some(stop);
-        tell_stop(sink, stop, self.machine.cpu().pc())
+        print_stop(sink, stop, self.machine.cpu().pc())
     }
 
     // A call where a step can be taken.
@@ -112,7 +112,7 @@ impl Session {
         call: OutsideCall,
     ) -> Result<(), WriteFault>
         requires { 0 < self.old.left }
-        ensures told { OnOk result (IsAnswered (W.contents sink.old) (W.contents sink.new)
+        ensures reported { OnOk result (IsAnswered (W.contents sink.old) (W.contents sink.new)
             (script_state self.new images.now)
             (call_done (script_state self.old images.now)
             (first_step (script_state self.old images.now) call.entry))) }
@@ -152,7 +152,7 @@ impl Session {
         Ok(halt)
     }
 
-    /// Takes the steps of a call that is under way, until it ends, and tells how. So many frames
+    /// Takes the steps of a call that is under way, until it ends, and says how. So many frames
     /// were open before it.
     ///
     /// # Errors
@@ -165,7 +165,7 @@ impl Session {
         sink: &mut W,
         frames: usize,
     ) -> Result<(), WriteFault>
-        ensures told { OnOk result (IsAnswered (W.contents sink.old) (W.contents sink.new)
+        ensures reported { OnOk result (IsAnswered (W.contents sink.old) (W.contents sink.new)
             (script_state self.new images.now)
             (answer_after_steps frames (script_state self.old images.now).left
             (script_state self.old images.now))) }
@@ -174,7 +174,7 @@ impl Session {
     {
         loop {
             match self.call_end(frames) {
-                Some(end) => return self.tell_end(sink, end),
+                Some(end) => return self.print_end(sink, end),
                 None => {
                     self.take_step(images, sink)?;
                 }
@@ -203,21 +203,21 @@ impl Session {
         }
     }
 
-    /// Tells how a call ended; where it was stopped, that is the last stop then.
+    /// Says how a call ended; where it was stopped, that is the last stop then.
     ///
     /// # Errors
     ///
     /// `WriteFault` where the sink failed.
-    pub fn tell_end<W: Sink>(&mut self, sink: &mut W, end: CallEnd) -> Result<(), WriteFault>
-        ensures told { (images : List Entry) → OnOk result
+    pub fn print_end<W: Sink>(&mut self, sink: &mut W, end: CallEnd) -> Result<(), WriteFault>
+        ensures reported { (images : List Entry) → OnOk result
             (IsAnswered (W.contents sink.old) (W.contents sink.new)
             (script_state self.new images)
-            (end_told (script_state self.old images) end)) }
+            (end_answer (script_state self.old images) end)) }
         ensures flag { OnErr result (W.has_failed sink.new ≡ true) }
         ensures same_flag { OnOk result (W.has_failed sink.new ≡ W.has_failed sink.old) }
     {
         match end {
-            CallEnd::Returned => self.tell_call(sink),
+            CallEnd::Returned => self.print_call(sink),
             CallEnd::Stopped(stop) => self.stopped(sink, stop),
         }
     }
@@ -267,14 +267,14 @@ impl Session {
     }
 
     // How a call ended that came back.
-    fn tell_call<W: Sink>(&self, sink: &mut W) -> Result<(), WriteFault>
+    fn print_call<W: Sink>(&self, sink: &mut W) -> Result<(), WriteFault>
         ensures { Writes W.contents W.has_failed sink.old sink.new result
             (call_text (state_of self.now.machine.guest)) }
     {
         if self.machine.cpu().psr().overflow {
-            tell_error(sink, self.machine.error_number())
+            print_error(sink, self.machine.error_number())
         } else {
-            tell_ok(sink)
+            print_ok(sink)
         }
     }
 }

@@ -12,7 +12,7 @@ use swi_dispatch_guest::{Mode, Psr};
 
 impl Session {
     ghost use Rattle.image_loader.specs.Entries.{Entry};
-    ghost use Rattle.command_shell.specs.Memory.{script_after_poke, script_at, script_awake, script_started_anew, script_with_bank_register};
+    ghost use Rattle.command_shell.specs.Memory.{script_after_poke, script_at, script_unhalted, script_started_anew, script_with_bank_register};
     ghost use Rattle.command_shell.specs.Memory.{script_with_budget, script_with_last, script_with_register, script_with_status};
     ghost use Rattle.command_shell.specs.Session.{script_state};
     ghost use Rattle.command_shell.specs.Stepping.{script_with_break, script_without_break};
@@ -92,7 +92,7 @@ impl Session {
     /// Lets the machine take steps again, whatever has halted it.
     pub fn wake(&mut self)
         ensures { (images : List Entry)
-            → script_state self.new images ≡ script_awake (script_state self.old images) }
+            → script_state self.new images ≡ script_unhalted (script_state self.old images) }
     {
         self.machine.wake();
     }

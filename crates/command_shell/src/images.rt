@@ -3,9 +3,11 @@
 ghost use Rattle.std.specs.Prelude.{◌≡◌, ◌+◌, true, None, IfErr, IsOk, OnOk, OnErr};
 ghost use Rattle.command_shell_lines.specs.Blocks.{block_lines, after_block, lines_in_block, result_of_block};
 ghost use Rattle.command_shell.specs.Error.{IsLineError};
-ghost use Rattle.command_shell.specs.Fronts.{AreOldOrTold};
+ghost use Rattle.command_shell.specs.Fronts.{AreOldOrAnswer};
 
-use crate::answers::{tell_boot, tell_image, tell_image_refused, tell_line_refused, tell_refused};
+use crate::answers::{
+    print_boot, print_image, print_image_refused, print_line_refused, print_refused,
+};
 use crate::error::RunError;
 use crate::session::Session;
 use assembler::{AsmError, Program, Reason, assemble_lines};
@@ -17,7 +19,7 @@ use swi_dispatch::BootError;
 
 impl Session {
     ghost use Rattle.image_loader.specs.Entries.{refusal_for};
-    ghost use Rattle.command_shell.specs.Images.{asm_told, asm_block, hex_told, hex_block, image_sized, boot_told};
+    ghost use Rattle.command_shell.specs.Images.{asm_answer, asm_block, hex_answer, hex_block, image_sized, boot_answer};
     ghost use Rattle.command_shell.specs.Session.{script_state};
     ghost use Rattle.command_shell.specs.State.{IsAnswered};
 
@@ -29,23 +31,23 @@ impl Session {
         name: &[u8],
         script: &mut Lines,
     ) -> Result<(), RunError>
-        ensures told { OnOk result (IsAnswered (W.contents sink.old) (W.contents sink.new)
+        ensures reported { OnOk result (IsAnswered (W.contents sink.old) (W.contents sink.new)
             (script_state self.now images.new)
-            (hex_told (script_state self.now images.old) name.now (block_lines script.old.left))) }
+            (hex_answer (script_state self.now images.old) name.now (block_lines script.old.left))) }
         ensures taking { result ≡ Err RunError.Memory → refusal_for images.old name.now 0 ≡ None }
         ensures left { OnOk result (script.new.left ≡ after_block script.old.left) }
         ensures number { OnOk result (script.new.number ≡ script.old.number + lines_in_block
             script.old.left) }
         ensures memory { result ≡ Err RunError.Memory → sink.new ≡ sink.old }
         ensures write_fault { result ≡ Err RunError.WriteFault → W.has_failed sink.new ≡ true }
-        ensures images { OnErr result (AreOldOrTold images.old images.new
-            (hex_told (script_state self.now images.old) name.now (block_lines script.old.left))) }
+        ensures images { OnErr result (AreOldOrAnswer images.old images.new
+            (hex_answer (script_state self.now images.old) name.now (block_lines script.old.left))) }
         ensures errors { IfErr result IsLineError }
         ensures same_flag { OnOk result (W.has_failed sink.new ≡ W.has_failed sink.old) }
     {
         if let Some(error) = images.refusal(name, 0) {
             skip_block(script);
-            return Ok(tell_image_refused(sink, b"hex ", name, error.name().as_bytes())?);
+            return Ok(print_image_refused(sink, b"hex ", name, error.name().as_bytes())?);
         }
         let block = read_block(self.alloc, script)?;
         self.hex_block(images, sink, name, &block)
@@ -59,20 +61,20 @@ impl Session {
         name: &[u8],
         block: &Block,
     ) -> Result<(), RunError>
-        ensures told { OnOk result (IsAnswered (W.contents sink.old) (W.contents sink.new)
+        ensures reported { OnOk result (IsAnswered (W.contents sink.old) (W.contents sink.new)
             (script_state self.now images.new)
             (hex_block (script_state self.now images.old) name.now (result_of_block block.now))) }
         ensures taking { result ≡ Err RunError.Memory → IsOk (result_of_block block.now) }
         ensures memory { result ≡ Err RunError.Memory → sink.new ≡ sink.old }
         ensures write_fault { result ≡ Err RunError.WriteFault → W.has_failed sink.new ≡ true }
-        ensures images { OnErr result (AreOldOrTold images.old images.new
+        ensures images { OnErr result (AreOldOrAnswer images.old images.new
             (hex_block (script_state self.now images.old) name.now (result_of_block block.now))) }
         ensures errors { IfErr result IsLineError }
         ensures same_flag { OnOk result (W.has_failed sink.new ≡ W.has_failed sink.old) }
     {
         match block {
             Block::Bytes(bytes) => self.add_image(images, sink, b"hex ", name, bytes.as_slice()),
-            Block::BadLine(line) => Ok(tell_line_refused(sink, b"hex ", name, *line, b"Syntax")?),
+            Block::BadLine(line) => Ok(print_line_refused(sink, b"hex ", name, *line, b"Syntax")?),
         }
     }
 
@@ -85,17 +87,17 @@ impl Session {
         origin: Origin,
         script: &mut Lines,
     ) -> Result<(), RunError>
-        ensures told { OnOk result (IsAnswered (W.contents sink.old) (W.contents sink.new)
+        ensures reported { OnOk result (IsAnswered (W.contents sink.old) (W.contents sink.new)
             (script_state self.now images.new)
-            (asm_told (script_state self.now images.old) name.now origin (block_lines script.old.left))) }
+            (asm_answer (script_state self.now images.old) name.now origin (block_lines script.old.left))) }
         ensures taking { result ≡ Err RunError.Memory → refusal_for images.old name.now 0 ≡ None }
         ensures left { OnOk result (script.new.left ≡ after_block script.old.left) }
         ensures number { OnOk result (script.new.number ≡ script.old.number + lines_in_block
             script.old.left) }
         ensures memory { result ≡ Err RunError.Memory → sink.new ≡ sink.old }
         ensures write_fault { result ≡ Err RunError.WriteFault → W.has_failed sink.new ≡ true }
-        ensures images { OnErr result (AreOldOrTold images.old images.new
-            (asm_told (script_state self.now images.old) name.now origin (block_lines script.old.left))) }
+        ensures images { OnErr result (AreOldOrAnswer images.old images.new
+            (asm_answer (script_state self.now images.old) name.now origin (block_lines script.old.left))) }
         ensures errors { IfErr result IsLineError }
         ensures same_flag { OnOk result (W.has_failed sink.new ≡ W.has_failed sink.old) }
     {
@@ -103,7 +105,7 @@ impl Session {
         let count = skip_block(script);
         if let Some(error) = images.refusal(name, 0) {
             let reason = error.name().as_bytes();
-            return Ok(tell_image_refused(sink, b"asm ", name, reason)?);
+            return Ok(print_image_refused(sink, b"asm ", name, reason)?);
         }
         let answer = assemble_lines(self.alloc, &block, count, origin.address());
         self.asm_block(images, sink, name, &answer)
@@ -117,7 +119,7 @@ impl Session {
         name: &[u8],
         answer: &Result<Program, AsmError>,
     ) -> Result<(), RunError>
-        ensures told { OnOk result (IsAnswered (W.contents sink.old) (W.contents sink.new)
+        ensures reported { OnOk result (IsAnswered (W.contents sink.old) (W.contents sink.new)
             (script_state self.now images.new)
             (asm_block (script_state self.now images.old) name.now answer.now)) }
         ensures no_memory { answer.now ≡ Err (record { line = 0; reason = Reason.Memory })
@@ -125,7 +127,7 @@ impl Session {
         ensures taking { IfErr answer.now (λ e. result ≡ Err RunError.Memory → e.reason ≡ Reason.Memory) }
         ensures memory { result ≡ Err RunError.Memory → sink.new ≡ sink.old }
         ensures write_fault { result ≡ Err RunError.WriteFault → W.has_failed sink.new ≡ true }
-        ensures images { OnErr result (AreOldOrTold images.old images.new
+        ensures images { OnErr result (AreOldOrAnswer images.old images.new
             (asm_block (script_state self.now images.old) name.now answer.now)) }
         ensures errors { IfErr result IsLineError }
         ensures same_flag { OnOk result (W.has_failed sink.new ≡ W.has_failed sink.old) }
@@ -136,7 +138,7 @@ impl Session {
                 Reason::Memory => Err(RunError::Memory),
                 _ => {
                     let reason = error.reason_name().as_bytes();
-                    Ok(tell_line_refused(sink, b"asm ", name, error.line, reason)?)
+                    Ok(print_line_refused(sink, b"asm ", name, error.line, reason)?)
                 }
             },
         }
@@ -151,20 +153,20 @@ impl Session {
         name: &[u8],
         bytes: &[u8],
     ) -> Result<(), RunError>
-        ensures told { OnOk result (IsAnswered (W.contents sink.old) (W.contents sink.new)
+        ensures reported { OnOk result (IsAnswered (W.contents sink.old) (W.contents sink.new)
             (script_state self.now images.new)
             (image_sized (script_state self.now images.old) word.now name.now bytes.now)) }
         ensures memory { result ≡ Err RunError.Memory → sink.new ≡ sink.old }
         ensures write_fault { result ≡ Err RunError.WriteFault → W.has_failed sink.new ≡ true }
-        ensures images { OnErr result (AreOldOrTold images.old images.new
+        ensures images { OnErr result (AreOldOrAnswer images.old images.new
             (image_sized (script_state self.now images.old) word.now name.now bytes.now)) }
         ensures errors { IfErr result IsLineError }
         ensures same_flag { OnOk result (W.has_failed sink.new ≡ W.has_failed sink.old) }
     {
         match images.add(self.alloc, name, bytes) {
-            Ok(()) => Ok(tell_image(sink, word, name, bytes.len())?),
+            Ok(()) => Ok(print_image(sink, word, name, bytes.len())?),
             Err(ImageError::Memory) => Err(RunError::Memory),
-            Err(error) => Ok(tell_image_refused(sink, word, name, error.name().as_bytes())?),
+            Err(error) => Ok(print_image_refused(sink, word, name, error.name().as_bytes())?),
         }
     }
 
@@ -175,18 +177,18 @@ impl Session {
         sink: &mut W,
         name: &[u8],
     ) -> Result<(), WriteFault>
-        ensures told { OnOk result (IsAnswered (W.contents sink.old) (W.contents sink.new)
+        ensures reported { OnOk result (IsAnswered (W.contents sink.old) (W.contents sink.new)
             (script_state self.new images.now)
-            (boot_told (script_state self.old images.now) name.now)) }
+            (boot_answer (script_state self.old images.now) name.now)) }
         ensures flag { OnErr result (W.has_failed sink.new ≡ true) }
         ensures same_flag { OnOk result (W.has_failed sink.new ≡ W.has_failed sink.old) }
     {
         match images.get(name) {
-            None => tell_refused(sink, b"NoImage"),
+            None => print_refused(sink, b"NoImage"),
             Some(program) => match self.machine.boot(program) {
-                Ok(()) => tell_boot(sink, name),
-                Err(BootError::Booted) => tell_refused(sink, b"Booted"),
-                Err(BootError::TooLarge) => tell_refused(sink, b"TooLarge"),
+                Ok(()) => print_boot(sink, name),
+                Err(BootError::Booted) => print_refused(sink, b"Booted"),
+                Err(BootError::TooLarge) => print_refused(sink, b"TooLarge"),
             },
         }
     }

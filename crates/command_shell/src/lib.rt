@@ -17,7 +17,7 @@ mod session;
 mod stepping;
 mod views;
 
-pub use answers::{tell_stepped, tell_stop, tell_unknown};
+pub use answers::{print_stepped, print_stop, print_unknown};
 pub use calls::{CallEnd, OutsideCall};
 pub use debugger::show_code;
 pub use error::RunError;

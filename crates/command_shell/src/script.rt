@@ -4,7 +4,7 @@ ghost use Rattle.std.specs.Prelude.{◌≡◌, ◌+◌, true, false, [], None, l
 ghost use Rattle.command_shell.specs.Error.{IsLineError};
 ghost use Rattle.profile.specs.Output.{AddsFront};
 ghost use Rattle.command_shell.specs.Fronts.{HasSome};
-ghost use Rattle.command_shell.specs.Script.{script_told};
+ghost use Rattle.command_shell.specs.Script.{script_answer};
 ghost use Rattle.command_shell.specs.Whole.{AnswersWhole};
 
 use crate::error::RunError;
@@ -33,7 +33,7 @@ pub struct Summary {
 /// `ReadFault` and `ScriptTooLong`, past 1,048,576 bytes, before anything is written; `Memory`,
 /// when a part of the answers may stand written; `WriteFault`. The images are then those of before
 /// and some of those that the script adds, in order.
-#[tactic(auto, using(crate::proofs::ScriptLemmas::whole_steps), unfolding(crate::specs::Script::script_told))]
+#[tactic(auto, using(crate::proofs::ScriptLemmas::whole_steps), unfolding(crate::specs::Script::script_answer))]
 pub fn run_script<R: Source, W: Sink>(
     alloc: Global,
     reader: &mut R,
@@ -44,11 +44,11 @@ pub fn run_script<R: Source, W: Sink>(
 ) -> Result<Summary, RunError>
     ensures answers { AnswersWhole R.remaining R.has_failed R.pulls W.contents W.has_failed
         reader.old reader.new writer.old writer.new images.old images.new result
-        (script_told config images.old budget) }
+        (script_answer config images.old budget) }
     ensures last { IfOk result (λ summary. IfSome (R.remaining reader.old) (λ script.
-        summary.last ≡ (script_told config images.old budget script).state.last)) }
+        summary.last ≡ (script_answer config images.old budget script).state.last)) }
     ensures left { IfOk result (λ summary. IfSome (R.remaining reader.old) (λ script.
-        summary.left ≡ (script_told config images.old budget script).state.left)) }
+        summary.left ≡ (script_answer config images.old budget script).state.left)) }
 {
     let script = read_script(alloc, reader)?;
     let Ok(machine) = Machine::new(alloc, config) else {
@@ -64,7 +64,7 @@ pub fn run_script<R: Source, W: Sink>(
 }
 
 impl Session {
-    ghost use Rattle.command_shell.specs.Script.{lines_told};
+    ghost use Rattle.command_shell.specs.Script.{lines_answer};
     ghost use Rattle.command_shell.specs.Session.{script_state};
     ghost use Rattle.command_shell.specs.State.{IsAnswered};
 
@@ -81,18 +81,18 @@ impl Session {
         sink: &mut W,
         script: &mut Lines,
     ) -> Result<(), RunError>
-        ensures told { OnOk result (IsAnswered (W.contents sink.old) (W.contents sink.new)
+        ensures reported { OnOk result (IsAnswered (W.contents sink.old) (W.contents sink.new)
             (script_state self.new images.new)
-            (lines_told script.old.number (script_state self.old images.old) None script.old.left)) }
+            (lines_answer script.old.number (script_state self.old images.old) None script.old.left)) }
         ensures left { OnOk result (script.new.left ≡ []) }
         ensures number { OnOk result (script.new.number ≡ script.old.number + length script.old.left) }
         ensures memory { result ≡ Err RunError.Memory → AddsFront (W.contents sink.old) (W.contents sink.new)
-            (lines_told script.old.number (script_state self.old images.old) None script.old.left).text }
+            (lines_answer script.old.number (script_state self.old images.old) None script.old.left).text }
         ensures write_fault { result ≡ Err RunError.WriteFault → W.has_failed sink.new ≡ true }
-        ensures write_told { W.has_failed sink.old ≡ false → W.has_failed sink.new ≡ true
+        ensures write_answer { W.has_failed sink.old ≡ false → W.has_failed sink.new ≡ true
             → result ≡ Err RunError.WriteFault }
         ensures added { OnErr result (HasSome images.old
-            (lines_told script.old.number (script_state self.old images.old) None
+            (lines_answer script.old.number (script_state self.old images.old) None
             script.old.left).state.images images.new) }
         ensures errors { IfErr result IsLineError }
         ensures same_flag { OnOk result (W.has_failed sink.new ≡ W.has_failed sink.old) }

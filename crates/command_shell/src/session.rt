@@ -3,9 +3,9 @@
 ghost use Rattle.std.specs.Prelude.{◌≡◌, ◌+◌, true, List, IfErr, OnOk, OnErr};
 ghost use Rattle.command_shell_lines.specs.Blocks.{block_lines, lines_after, lines_taken};
 ghost use Rattle.command_shell.specs.Error.{IsLineError};
-ghost use Rattle.command_shell.specs.Fronts.{AreOldOrTold};
+ghost use Rattle.command_shell.specs.Fronts.{AreOldOrAnswer};
 
-use crate::answers::tell_unknown;
+use crate::answers::print_unknown;
 use crate::calls::OutsideCall;
 use crate::error::RunError;
 use command_shell_lines::{ScriptCommand, command_of};
@@ -29,7 +29,7 @@ pub struct Session {
 impl Session {
     ghost use Rattle.image_loader.specs.Entries.{Entry};
     ghost use Rattle.command_shell_lines.specs.Requests.{opens_block, request_of, request_of_command};
-    ghost use Rattle.command_shell.specs.Script.{request_told, takes_memory};
+    ghost use Rattle.command_shell.specs.Script.{request_answer, takes_memory};
     ghost use Rattle.command_shell.specs.Session.{script_state, state_on};
     ghost use Rattle.command_shell.specs.State.{IsAnswered};
 
@@ -88,9 +88,9 @@ impl Session {
         line: &[u8],
         script: &mut Lines,
     ) -> Result<(), RunError>
-        ensures told { OnOk result (IsAnswered (W.contents sink.old) (W.contents sink.new)
+        ensures reported { OnOk result (IsAnswered (W.contents sink.old) (W.contents sink.new)
             (script_state self.new images.new)
-            (request_told (script_state self.old images.old) script.old.number
+            (request_answer (script_state self.old images.old) script.old.number
             (request_of line.now) (block_lines script.old.left))) }
         ensures left { OnOk result (script.new.left
             ≡ lines_after (opens_block (request_of line.now)) script.old.left) }
@@ -100,8 +100,8 @@ impl Session {
         ensures taking { result ≡ Err RunError.Memory
             → takes_memory images.old (request_of line.now) ≡ true }
         ensures write_fault { result ≡ Err RunError.WriteFault → W.has_failed sink.new ≡ true }
-        ensures images { OnErr result (AreOldOrTold images.old images.new
-            (request_told (script_state self.old images.old) script.old.number
+        ensures images { OnErr result (AreOldOrAnswer images.old images.new
+            (request_answer (script_state self.old images.old) script.old.number
             (request_of line.now) (block_lines script.old.left))) }
         ensures errors { IfErr result IsLineError }
         ensures same_flag { OnOk result (W.has_failed sink.new ≡ W.has_failed sink.old) }
@@ -121,9 +121,9 @@ impl Session {
         command: ScriptCommand,
         script: &mut Lines,
     ) -> Result<(), RunError>
-        ensures told { OnOk result (IsAnswered (W.contents sink.old) (W.contents sink.new)
+        ensures reported { OnOk result (IsAnswered (W.contents sink.old) (W.contents sink.new)
             (script_state self.new images.new)
-            (request_told (script_state self.old images.old) script.old.number
+            (request_answer (script_state self.old images.old) script.old.number
             (request_of_command command.entry) (block_lines script.old.left))) }
         ensures left { OnOk result (script.new.left
             ≡ lines_after (opens_block (request_of_command command.entry)) script.old.left) }
@@ -134,8 +134,8 @@ impl Session {
         ensures taking { result ≡ Err RunError.Memory
             → takes_memory images.old (request_of_command command.entry) ≡ true }
         ensures write_fault { result ≡ Err RunError.WriteFault → W.has_failed sink.new ≡ true }
-        ensures images { OnErr result (AreOldOrTold images.old images.new
-            (request_told (script_state self.old images.old) script.old.number
+        ensures images { OnErr result (AreOldOrAnswer images.old images.new
+            (request_answer (script_state self.old images.old) script.old.number
             (request_of_command command.entry) (block_lines script.old.left))) }
         ensures errors { IfErr result IsLineError }
         ensures same_flag { OnOk result (W.has_failed sink.new ≡ W.has_failed sink.old) }
@@ -163,7 +163,7 @@ impl Session {
             ScriptCommand::Areas => Ok(self.areas(sink)?),
             ScriptCommand::Modules => Ok(self.modules(sink)?),
             ScriptCommand::Flex => Ok(self.flex(sink)?),
-            ScriptCommand::Unknown => Ok(tell_unknown(sink, script.number())?),
+            ScriptCommand::Unknown => Ok(print_unknown(sink, script.number())?),
         }
     }
 }

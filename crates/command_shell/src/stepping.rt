@@ -2,10 +2,10 @@
 
 ghost use Rattle.std.specs.Prelude.{◌≡◌, ◌<◌, ◌≤◌, min, true, None, List, IfOk, OnOk, OnErr};
 ghost use Rattle.profile.specs.declared.stop.Stop.TheVariants.{Budget};
-ghost use Rattle.swi_dispatch_guest.specs.Parts.{AwaitsOtherTurn, state_of};
+ghost use Rattle.swi_dispatch_guest.specs.GuestState.{AwaitsOtherTurn, state_of};
 ghost use Rattle.command_shell.specs.Stepping.{break_refusal_name};
 
-use crate::answers::{tell_break, tell_refused, tell_stepped, tell_stop, tell_unbreak};
+use crate::answers::{print_break, print_refused, print_stepped, print_stop, print_unbreak};
 use crate::session::Session;
 use image_loader::Images;
 use profile::{Sink, WriteFault};
@@ -15,8 +15,8 @@ impl Session {
     ghost use Rattle.image_loader.specs.Entries.{Entry};
     ghost use Rattle.command_shell.specs.Session.{script_state};
     ghost use Rattle.command_shell.specs.State.{IsAnswered};
-    ghost use Rattle.command_shell.specs.Stepping.{run_told, step_told, break_told, unbreak_told};
-    ghost use Rattle.command_shell.specs.Stepping.{IsAfterQuietSteps, IsAfterRun};
+    ghost use Rattle.command_shell.specs.Stepping.{run_answer, step_answer, break_answer, unbreak_answer};
+    ghost use Rattle.command_shell.specs.Stepping.{IsAfterSilentSteps, IsAfterRun};
 
     /// Takes so many steps, or as many as are left of the budget; fewer where the machine is halted
     /// or a break is reached. What the guest prints is written, and why the steps ended is the last
@@ -64,64 +64,64 @@ impl Session {
     /// that neither prints nor halts it, and no further than to a break. The stop is `Budget` where
     /// another step may come next: after fewer steps than were asked for, one that is no such
     /// instruction. The last stop that a line was answered with stays.
-    pub fn take_quiet_steps(&mut self, most: u64) -> Ran
+    pub fn take_silent_steps(&mut self, most: u64) -> Ran
         requires some { 0 < most }
         requires enough { most ≤ self.old.left }
-        requires awake { (state_of self.old.machine.guest).halt ≡ None }
-        ensures taken { (images : List Entry) → IsAfterQuietSteps (script_state self.old images)
+        requires unhalted { (state_of self.old.machine.guest).halt ≡ None }
+        ensures taken { (images : List Entry) → IsAfterSilentSteps (script_state self.old images)
             (script_state self.new images) result.taken result.stop }
         ensures count { result.taken ≤ most }
         ensures further { result.stop ≡ Budget → result.taken < most
             → AwaitsOtherTurn (state_of self.new.machine.guest) }
     {
-        let ran = self.machine.run_quietly(&self.breaks, most);
+        let ran = self.machine.run_silently(&self.breaks, most);
         self.left -= ran.taken;
         ran
     }
 
-    /// Takes all the steps that are left, and tells the stop.
+    /// Takes all the steps that are left, and shows the stop.
     pub(crate) fn run<W: Sink>(&mut self, images: &Images, sink: &mut W) -> Result<(), WriteFault>
-        ensures told { OnOk result (IsAnswered (W.contents sink.old) (W.contents sink.new)
+        ensures reported { OnOk result (IsAnswered (W.contents sink.old) (W.contents sink.new)
             (script_state self.new images.now)
-            (run_told (script_state self.old images.now))) }
+            (run_answer (script_state self.old images.now))) }
         ensures flag { OnErr result (W.has_failed sink.new ≡ true) }
         ensures same_flag { OnOk result (W.has_failed sink.new ≡ W.has_failed sink.old) }
     {
         let ran = self.run_within(images, sink, self.left)?;
-        tell_stop(sink, ran.stop, self.machine.cpu().pc())
+        print_stop(sink, ran.stop, self.machine.cpu().pc())
     }
 
-    /// Takes so many steps, or as many as are left, and tells where the machine stands.
+    /// Takes so many steps, or as many as are left, and says where the machine stands.
     pub(crate) fn step<W: Sink>(
         &mut self,
         images: &Images,
         sink: &mut W,
         count: u32,
     ) -> Result<(), WriteFault>
-        ensures told { OnOk result (IsAnswered (W.contents sink.old) (W.contents sink.new)
+        ensures reported { OnOk result (IsAnswered (W.contents sink.old) (W.contents sink.new)
             (script_state self.new images.now)
-            (step_told (script_state self.old images.now) count)) }
+            (step_answer (script_state self.old images.now) count)) }
         ensures flag { OnErr result (W.has_failed sink.new ≡ true) }
         ensures same_flag { OnOk result (W.has_failed sink.new ≡ W.has_failed sink.old) }
     {
         let count = u64::from(count);
         let could_all = count <= self.left;
         let ran = self.take_steps(images, sink, count)?;
-        tell_stepped(sink, could_all, ran.stop, self.machine.cpu().pc())
+        print_stepped(sink, could_all, ran.stop, self.machine.cpu().pc())
     }
 
     /// Adds a break.
     pub(crate) fn break_at<W: Sink>(&mut self, sink: &mut W, address: u32) -> Result<(), WriteFault>
-        ensures told { (images : List Entry) → OnOk result
+        ensures reported { (images : List Entry) → OnOk result
             (IsAnswered (W.contents sink.old) (W.contents sink.new)
             (script_state self.new images)
-            (break_told (script_state self.old images) address)) }
+            (break_answer (script_state self.old images) address)) }
         ensures flag { OnErr result (W.has_failed sink.new ≡ true) }
         ensures same_flag { OnOk result (W.has_failed sink.new ≡ W.has_failed sink.old) }
     {
         match self.breaks.add(address) {
-            Ok(()) => tell_break(sink, address),
-            Err(error) => tell_refused(sink, break_error_name(error)),
+            Ok(()) => print_break(sink, address),
+            Err(error) => print_refused(sink, break_error_name(error)),
         }
     }
 
@@ -131,16 +131,16 @@ impl Session {
         sink: &mut W,
         address: u32,
     ) -> Result<(), WriteFault>
-        ensures told { (images : List Entry) → OnOk result
+        ensures reported { (images : List Entry) → OnOk result
             (IsAnswered (W.contents sink.old) (W.contents sink.new)
             (script_state self.new images)
-            (unbreak_told (script_state self.old images) address)) }
+            (unbreak_answer (script_state self.old images) address)) }
         ensures flag { OnErr result (W.has_failed sink.new ≡ true) }
         ensures same_flag { OnOk result (W.has_failed sink.new ≡ W.has_failed sink.old) }
     {
         match self.breaks.remove(address) {
-            Ok(()) => tell_unbreak(sink, address),
-            Err(error) => tell_refused(sink, break_error_name(error)),
+            Ok(()) => print_unbreak(sink, address),
+            Err(error) => print_refused(sink, break_error_name(error)),
         }
     }
 }

@@ -3,7 +3,7 @@
 
 ghost use Rattle.std.specs.Prelude.{◌≡◌, true, List, OnOk, OnErr};
 
-use crate::answers::tell_refused;
+use crate::answers::print_refused;
 use crate::session::Session;
 use command_shell_lines::WordAddress;
 use debugger::{
@@ -15,15 +15,15 @@ impl Session {
     ghost use Rattle.image_loader.specs.Entries.{Entry};
     ghost use Rattle.command_shell.specs.Session.{script_state};
     ghost use Rattle.command_shell.specs.State.{IsAnswered};
-    ghost use Rattle.command_shell.specs.Views.{regs_told, mem_told, code_told, heap_told, areas_told, modules_told};
-    ghost use Rattle.command_shell.specs.Views.{flex_told};
+    ghost use Rattle.command_shell.specs.Views.{regs_answer, mem_answer, code_answer, heap_answer, areas_answer, modules_answer};
+    ghost use Rattle.command_shell.specs.Views.{flex_answer};
 
     /// Shows the registers of the present mode and the status.
     pub(crate) fn regs<W: Sink>(&self, sink: &mut W) -> Result<(), WriteFault>
-        ensures told { (images : List Entry) → OnOk result
+        ensures reported { (images : List Entry) → OnOk result
             (IsAnswered (W.contents sink.old) (W.contents sink.new)
             (script_state self.now images)
-            (regs_told (script_state self.now images))) }
+            (regs_answer (script_state self.now images))) }
         ensures flag { OnErr result (W.has_failed sink.new ≡ true) }
         ensures same_flag { OnOk result (W.has_failed sink.new ≡ W.has_failed sink.old) }
     {
@@ -37,10 +37,10 @@ impl Session {
         address: u32,
         count: u32,
     ) -> Result<(), WriteFault>
-        ensures told { (images : List Entry) → OnOk result
+        ensures reported { (images : List Entry) → OnOk result
             (IsAnswered (W.contents sink.old) (W.contents sink.new)
             (script_state self.now images)
-            (mem_told (script_state self.now images) address count)) }
+            (mem_answer (script_state self.now images) address count)) }
         ensures flag { OnErr result (W.has_failed sink.new ≡ true) }
         ensures same_flag { OnOk result (W.has_failed sink.new ≡ W.has_failed sink.old) }
     {
@@ -54,10 +54,10 @@ impl Session {
         address: WordAddress,
         count: u32,
     ) -> Result<(), WriteFault>
-        ensures told { (images : List Entry) → OnOk result
+        ensures reported { (images : List Entry) → OnOk result
             (IsAnswered (W.contents sink.old) (W.contents sink.new)
             (script_state self.now images)
-            (code_told (script_state self.now images) address count)) }
+            (code_answer (script_state self.now images) address count)) }
         ensures flag { OnErr result (W.has_failed sink.new ≡ true) }
         ensures same_flag { OnOk result (W.has_failed sink.new ≡ W.has_failed sink.old) }
     {
@@ -67,25 +67,25 @@ impl Session {
     /// Shows the heap that starts at an address, if one does.
     #[tactic(auto, using(crate::proofs::ViewLemmas::heap_steps))]
     pub(crate) fn heap<W: Sink>(&self, sink: &mut W, address: u32) -> Result<(), WriteFault>
-        ensures told { (images : List Entry) → OnOk result
+        ensures reported { (images : List Entry) → OnOk result
             (IsAnswered (W.contents sink.old) (W.contents sink.new)
             (script_state self.now images)
-            (heap_told (script_state self.now images) address)) }
+            (heap_answer (script_state self.now images) address)) }
         ensures flag { OnErr result (W.has_failed sink.new ≡ true) }
         ensures same_flag { OnOk result (W.has_failed sink.new ≡ W.has_failed sink.old) }
     {
         if show_blocks(&self.machine, address, sink)? {
             return Ok(());
         }
-        tell_refused(sink, b"NoHeap")
+        print_refused(sink, b"NoHeap")
     }
 
     /// Shows all areas, and what is left in the pool.
     pub(crate) fn areas<W: Sink>(&self, sink: &mut W) -> Result<(), WriteFault>
-        ensures told { (images : List Entry) → OnOk result
+        ensures reported { (images : List Entry) → OnOk result
             (IsAnswered (W.contents sink.old) (W.contents sink.new)
             (script_state self.now images)
-            (areas_told (script_state self.now images))) }
+            (areas_answer (script_state self.now images))) }
         ensures flag { OnErr result (W.has_failed sink.new ≡ true) }
         ensures same_flag { OnOk result (W.has_failed sink.new ≡ W.has_failed sink.old) }
     {
@@ -94,10 +94,10 @@ impl Session {
 
     /// Shows all modules and their instances.
     pub(crate) fn modules<W: Sink>(&self, sink: &mut W) -> Result<(), WriteFault>
-        ensures told { (images : List Entry) → OnOk result
+        ensures reported { (images : List Entry) → OnOk result
             (IsAnswered (W.contents sink.old) (W.contents sink.new)
             (script_state self.now images)
-            (modules_told (script_state self.now images))) }
+            (modules_answer (script_state self.now images))) }
         ensures flag { OnErr result (W.has_failed sink.new ≡ true) }
         ensures same_flag { OnOk result (W.has_failed sink.new ≡ W.has_failed sink.old) }
     {
@@ -107,16 +107,16 @@ impl Session {
     /// Shows the flex store and its blocks, if there is one.
     #[tactic(auto, using(crate::proofs::ViewLemmas::flex_steps))]
     pub(crate) fn flex<W: Sink>(&self, sink: &mut W) -> Result<(), WriteFault>
-        ensures told { (images : List Entry) → OnOk result
+        ensures reported { (images : List Entry) → OnOk result
             (IsAnswered (W.contents sink.old) (W.contents sink.new)
             (script_state self.now images)
-            (flex_told (script_state self.now images))) }
+            (flex_answer (script_state self.now images))) }
         ensures flag { OnErr result (W.has_failed sink.new ≡ true) }
         ensures same_flag { OnOk result (W.has_failed sink.new ≡ W.has_failed sink.old) }
     {
         if show_flex(&self.machine, sink)? {
             return Ok(());
         }
-        tell_refused(sink, b"NoFlex")
+        print_refused(sink, b"NoFlex")
     }
 }

@@ -10,9 +10,9 @@ mod texts;
 mod values;
 
 pub use assembler_text::naming::swi_named;
-pub use error_names::error_told;
+pub use error_names::error_shown;
 pub use forms::{form_of_line, form_of_word};
 pub use named_bytes::{bytes_named, bytes_written, names_bytes};
 pub use spelling::{is_spelt, is_well_spelt};
 pub use texts::{between_quotes, byte_value, cut_at_quote, text_behind};
-pub use values::{swi_told, value_told};
+pub use values::{swi_shown, value_shown};

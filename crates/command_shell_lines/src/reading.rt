@@ -17,12 +17,13 @@ const CHUNK: usize = 4096;
 ///
 /// `Memory`, `ReadFault`, and `ScriptTooLong` past 1,048,576 bytes.
 pub fn read_script<R: Source>(alloc: Global, reader: &mut R) -> Result<Vec<u8>, ReadingError>
-    ensures bytes { IfOk result (λ script. IfSome (R.remaining reader.old) (λ told. script.items ≡ told)) }
+    ensures bytes { IfOk result (λ script. IfSome (R.remaining reader.old)
+        (λ reported. script.items ≡ reported)) }
     ensures in_limit { IfOk result (λ script. length script.items ≤ 1048576) }
-    ensures told { R.has_failed reader.new ≡ true → result ≡ Err ReadingError.ReadFault }
+    ensures reported { R.has_failed reader.new ≡ true → result ≡ Err ReadingError.ReadFault }
     ensures read_fault { result ≡ Err ReadingError.ReadFault → R.has_failed reader.new ≡ true }
     ensures too_long { result ≡ Err ReadingError.ScriptTooLong
-        → IfSome (R.remaining reader.old) (λ told. 1048576 < length told) }
+        → IfSome (R.remaining reader.old) (λ reported. 1048576 < length reported) }
     ensures pulls { PullsAtMost (R.pulls reader.old) (R.pulls reader.new) 1048577 }
 {
     let mut script = Vec::new(alloc);

@@ -1,7 +1,7 @@
 //! Gate: makes calls for which host memory is refused, each after some takings of memory.
 //!
 //! Standard input has lines `CALL TAKINGS`. The program makes what the call is handed, takes host
-//! memory so many times, gives it back, makes the call, and tells by one word how that ended.
+//! memory so many times, gives it back, makes the call, and shows by one word how that ended.
 //! `tools/refuse_memory` runs it where one taking of memory, by its number, is refused: by the
 //! number of takings before the call it is the call's first, second and so on.
 #![tactic(auto)]
@@ -27,7 +27,7 @@ fn main(rt: HostRuntime) -> ExitCode {
     let mut room = [0u8; ROOM];
     let count = filled(&mut rt.stdin(), &mut room);
     match str::from_utf8(&room[..count.min(ROOM)]) {
-        Ok(text) => tell_all(&rt, text),
+        Ok(text) => print_all(&rt, text),
         Err(_) => ExitCode::from(NOT_RUN),
     }
 }
@@ -45,8 +45,8 @@ fn filled<R: Read>(reader: &mut R, room: &mut [u8; ROOM]) -> usize {
     count
 }
 
-/// Tells how each call ended that a line names.
-fn tell_all<R: AllocGlobal + Print>(rt: &R, text: &str) -> ExitCode {
+/// Says how each call ended that a line names.
+fn print_all<R: AllocGlobal + Print>(rt: &R, text: &str) -> ExitCode {
     for line in text.lines() {
         let Some((call, takings)) = line.split_once(' ') else {
             return ExitCode::from(NOT_RUN);
@@ -54,8 +54,8 @@ fn tell_all<R: AllocGlobal + Print>(rt: &R, text: &str) -> ExitCode {
         let Ok(takings) = takings.parse::<u32>() else {
             return ExitCode::from(NOT_RUN);
         };
-        let told = outcome_of(rt.alloc(), call, takings).word();
-        if println!(rt; "{call} {told}").is_err() {
+        let reported = outcome_of(rt.alloc(), call, takings).word();
+        if println!(rt; "{call} {reported}").is_err() {
             return ExitCode::from(NOT_RUN);
         }
     }

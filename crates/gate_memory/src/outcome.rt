@@ -6,7 +6,7 @@ use std::alloc::{AllocError, Global};
 pub enum CallOutcome {
     /// Memory was refused before the call.
     Before,
-    /// The call told that memory is missing, and left what it was handed as it was.
+    /// The call shown that memory is missing, and left what it was handed as it was.
     Refused,
     /// The call gave its answer.
     Answered,
@@ -15,7 +15,7 @@ pub enum CallOutcome {
 }
 
 impl CallOutcome {
-    /// The call told that memory is missing: that is right where all is as before.
+    /// The call shown that memory is missing: that is right where all is as before.
     pub fn refused(is_as_before: bool) -> CallOutcome {
         if is_as_before {
             CallOutcome::Refused

@@ -1,5 +1,5 @@
 //! Calls that take no host memory: many of them on a machine, and then takings of memory. Where
-//! these are refused from tells how many were taken before.
+//! these are refused from says how many were taken before.
 
 use crate::outcome::{CallOutcome, take_and_give_back};
 use debugger::{
@@ -137,7 +137,7 @@ fn views(machine: &mut Machine, images: &Images) -> bool {
     true
 }
 
-/// How many bytes tell all that is shown.
+/// How many bytes show all that is shown.
 fn all_shown(machine: &Machine) -> Result<usize, WriteFault> {
     let mut room = [0u8; 4096];
     let mut writer = MemorySink::new(&mut room, 4096, u64::MAX);

@@ -1,4 +1,4 @@
--- A file's front of one byte more than an image can have tells whether the file can be an image.
+-- A file's front of one byte more than an image can have says whether the file can be an image.
 use Rattle.std.proofs.Common.{◌≡◌, ◌≤◌, ◌<◌, ◌∙◌, ◌+◌, ◌++◌, ◌∷◌, [], ℕ, List, length, take, append_assoc, slice_get, nat_lt, Option, Some, None, Result, Ok, Err, IfSome, IsOkUnless, MatchOption, false, arith, refl, sym, ap, subst}
 use Rattle.std.proofs.lemmas.Bool.Decides.{nat_tests}
 use Rattle.std.proofs.lemmas.List.{append-nil, length-take, map-append, take_all, take_more}
@@ -22,7 +22,7 @@ let_in : {U : Type 0} (u : U) (o : Option ImageError) (P : Type 0) → MatchOpti
 let_in u None P h = refl
 let_in u (Some e) P h = absurd (cc)
 
--- a front of the bytes that are told, which the table lets in, is all of them
+-- a front of the bytes that are shown, which the table lets in, is all of them
 let_in_whole : (old : List Entry) (name bytes : List ℕ) (known : Option (List ℕ)) (most : ℕ) → 1048576 < most
     → IfSome known (λ all. bytes ≡ front_of most all) → refusal_for old name (length bytes) ≡ None
     → IfSome known (λ all. bytes ≡ all)
@@ -43,7 +43,7 @@ adds_image u P old new path name bytes known most enough part front refused adde
       name = name;
       bytes = bytes;
       last_part = sym part;
-      told = let_in_whole old name bytes known most enough front free;
+      reported = let_in_whole old name bytes known most enough front free;
       let_in = free;
       added = added;
     }
@@ -96,7 +96,7 @@ refused_nameless old path known none =
     let held = known_bytes known in
     record { bytes = held.0; held = held.1; refused = rw none refl }
 
--- one byte more than a limit tells as well as all bytes whether they pass it
+-- one byte more than a limit shows as well as all bytes whether they pass it
 same_limit : (most : ℕ) (all : List ℕ) → nat_lt most (length (take (most + 1) all)) ≡ nat_lt most (length all)
 same_limit most all = let len = length-take (most + 1) all in grind (arith, nat_tests, len)
 

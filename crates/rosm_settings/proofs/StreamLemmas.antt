@@ -1,10 +1,10 @@
--- What a run over the standard streams tells, by what the run to a stream does.
+-- What a run over the standard streams shows, by what the run to a stream does.
 use Rattle.std.proofs.Common.{◌≡◌, ℕ, List, Option, IfSome, subst}
 use Rattle.profile.specs.declared.stop.Stop.{Stop}
 use Rattle.rosm_settings.specs.declared.command_line.options.Settings.{Settings}
 use Rattle.rosm_settings.specs.Answering.{AnswersScript, StopsWithScript, answers_to}
 
--- the last stop of a script that a reader tells
+-- the last stop of a script that a reader shows
 pub stops_with : {F R : Type 0} (of_file : F → Option (List ℕ)) (of_reader : R → Option (List ℕ))
     (settings : Settings) (reader : R) (script before after : Option (List ℕ)) (last : Option Stop)
     → script ≡ of_reader reader → AnswersScript of_file settings script before after last

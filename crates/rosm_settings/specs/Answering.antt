@@ -4,7 +4,7 @@ use Rattle.std.specs.Io.KnownBytes.{Appends}
 use Rattle.profile.specs.declared.stop.Stop.{Stop}
 use Rattle.image_loader.specs.Entries.{Entry}
 use Rattle.profile.specs.Output.{AddsFront}
-use Rattle.command_shell.specs.Script.{script_told}
+use Rattle.command_shell.specs.Script.{script_answer}
 use Rattle.command_shell.specs.State.{Answered}
 use Rattle.rosm_settings.specs.declared.command_line.options.Settings.{Settings}
 use Rattle.rosm_settings.specs.ImageFiles.{AddsFiles, StopsAtFile}
@@ -13,7 +13,7 @@ use Rattle.rosm_settings.specs.declared.refusal.SettingsRefusal.TheVariants as r
 
 -- what a script is answered with on a machine of the settings' sizes, within their budget
 abbrev pub answers_to : Settings → List Entry → List ℕ → Answered
-answers_to settings images script = script_told settings.config images settings.budget script
+answers_to settings images script = script_answer settings.config images settings.budget script
 
 -- With the files' images there from the start, the answers to the script are appended to what was
 -- written before, all of them, and the last stop is the script's.
@@ -41,9 +41,9 @@ is_of_run _ = false
 -- nothing written.
 pub record StopsBeforeScript {F R W : Type 0} (of_file : F → Option (List ℕ)) (paths : List (List ℕ))
     (r r' : R)
-    (w w' : W) (told : SettingsRefusal) : Type 0 where
+    (w w' : W) (reported : SettingsRefusal) : Type 0 where
   pub images : List Entry
-  pub stops : StopsAtFile of_file [] images paths told
+  pub stops : StopsAtFile of_file [] images paths reported
   pub unread : r' ≡ r
   pub unwritten : w' ≡ w
 
@@ -53,7 +53,7 @@ RefusesFiles of_file paths r r' w w' (refusal.File path error) =
     StopsBeforeScript of_file paths r r' w w' (refusal.File path error)
 RefusesFiles of_file paths r r' w w' _ = Unit {0}
 
--- The last stop is that of a script that a reader tells, with the files' images there from the
+-- The last stop is that of a script that a reader shows, with the files' images there from the
 -- start.
 pub record StopsWithScript {F R : Type 0} (of_file : F → Option (List ℕ)) (of_reader : R → Option (List ℕ))
     (settings : Settings) (last : Option Stop) : Type 0 where
@@ -63,12 +63,12 @@ pub record StopsWithScript {F R : Type 0} (of_file : F → Option (List ℕ)) (o
   pub stop : IfSome (of_reader reader) (λ bytes. last ≡ (answers_to settings images bytes).state.last)
 
 -- The refusal of a file is that of the first that gives no image.
-abbrev pub TellsOfFile : {F : Type 0} → (F → Option (List ℕ)) → List (List ℕ) → SettingsRefusal → Type 0
-TellsOfFile of_file paths (refusal.File path error) =
+abbrev pub ShowsOfFile : {F : Type 0} → (F → Option (List ℕ)) → List (List ℕ) → SettingsRefusal → Type 0
+ShowsOfFile of_file paths (refusal.File path error) =
     (images : List Entry) × StopsAtFile of_file [] images paths (refusal.File path error)
-TellsOfFile of_file paths _ = Unit {0}
+ShowsOfFile of_file paths _ = Unit {0}
 
--- A reader tells more bytes than a script may have.
-pub record TellsTooMuch {R : Type 0} (of_reader : R → Option (List ℕ)) : Type 0 where
+-- A reader shows more bytes than a script may have.
+pub record ShowsTooMuch {R : Type 0} (of_reader : R → Option (List ℕ)) : Type 0 where
   pub reader : R
   pub long : IfSome (of_reader reader) (λ script. 1048576 < length script)

@@ -38,19 +38,19 @@ status_of (Ok last) = status_after last
 status_of (Err refused) = refusal_status refused
 
 -- The text is that of the refusal, as far as it is known, or says that there was no memory for it.
-abbrev pub IsTold : Option (List ℕ) → List ℕ → Type 0
-IsTold told text = IfSome told (λ known. (text ≡ known) ⊎ (text ≡ codes "out of memory"))
+abbrev pub IsAnswer : Option (List ℕ) → List ℕ → Type 0
+IsAnswer reported text = IfSome reported (λ known. (text ≡ known) ⊎ (text ≡ codes "out of memory"))
 
--- One line was appended: the program's name, and what is told of the refusal.
-pub record TellsLine (told before after : Option (List ℕ)) : Type 0 where
+-- One line was appended: the program's name, and what is shown of the refusal.
+pub record ShowsLine (reported before after : Option (List ℕ)) : Type 0 where
   pub text : List ℕ
-  pub is_told : IsTold told text
+  pub is_shown : IsAnswer reported text
   pub line : Appends before after (codes "rosm: " ++ (text ++ codes "\n"))
 
 -- What stands on standard error at the end: nothing after a script that ran whole, and else one
 -- line, if it could be written.
-abbrev pub TellsEnding : {W : Type 0} → (W → Option (List ℕ)) → (W → Bool) → W → W →
+abbrev pub ShowsEnding : {W : Type 0} → (W → Option (List ℕ)) → (W → Bool) → W → W →
     Result (Option Stop) SettingsRefusal → Type 0
-TellsEnding contents has_failed before after (Ok last) = after ≡ before
-TellsEnding contents has_failed before after (Err refused) =
-    has_failed after ≡ false → TellsLine (refusal_text refused) (contents before) (contents after)
+ShowsEnding contents has_failed before after (Ok last) = after ≡ before
+ShowsEnding contents has_failed before after (Err refused) =
+    has_failed after ≡ false → ShowsLine (refusal_text refused) (contents before) (contents after)

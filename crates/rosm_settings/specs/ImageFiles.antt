@@ -1,5 +1,5 @@
 -- Files as images: a file's image is named by the last part of its path, and has the bytes that its
--- reader tells.
+-- reader shows.
 use Rattle.std.specs.Prelude.{◌≡◌, ℕ, Bool, true, false, List, [], ◌∷◌, length, map, take, slice_get, Option, Some, None, IfSome, option_map}
 use Rattle.std.specs.Path.{path_file_name}
 use Rattle.std.specs.declared.io.ErrorKind.{ErrorKind}
@@ -44,14 +44,14 @@ named_refusal entries (Some name) bytes = option_map file.Image (refusal_for ent
 abbrev pub file_refusal : List Entry → List ℕ → List ℕ → Option FileError
 file_refusal entries path bytes = named_refusal entries (path_file_name path) bytes
 
--- the file of that path is taken into the table, with all the bytes that its reader tells, as far
+-- the file of that path is taken into the table, with all the bytes that its reader shows, as far
 -- as they are known
 pub record AddsImageFile (old : List Entry) (path : List ℕ) (known : Option (List ℕ))
     (new : List Entry) : Type 0 where
   pub name : List ℕ
   pub bytes : List ℕ
   pub last_part : path_file_name path ≡ Some name
-  pub told : IfSome known (λ all. bytes ≡ all)
+  pub reported : IfSome known (λ all. bytes ≡ all)
   pub let_in : refusal_for old name (length bytes) ≡ None
   pub added : new ≡ with_entry old name bytes
 
@@ -62,7 +62,7 @@ pub record RefusesImage (old : List Entry) (path : List ℕ) (known : Option (Li
   pub held : IfSome known (λ all. bytes ≡ all)
   pub refused : file_refusal old path bytes ≡ Some error
 
--- A file was opened, and it is taken into the table with the bytes that it tells.
+-- A file was opened, and it is taken into the table with the bytes that it shows.
 pub record AddsFile {F : Type 0} (remaining : F → Option (List ℕ)) (old : List Entry) (path : List ℕ)
     (new : List Entry)
     : Type 0 where
@@ -91,18 +91,18 @@ names_for paths = map path_file_name paths
 
 -- the error of that file
 abbrev pub IsOfFile : SettingsRefusal → List ℕ → FileError → Type 0
-IsOfFile (refusal.File at error) path told = (at.now ≡ path) × (error ≡ told)
-IsOfFile _ path told = ⊥
+IsOfFile (refusal.File at error) path reported = (at.now ≡ path) × (error ≡ reported)
+IsOfFile _ path reported = ⊥
 
 -- The files before the first one that gives no image are taken in; it is the one that is reported,
 -- and its error is the host's or the table's at that time.
 pub record StopsAtFile {F : Type 0} (remaining : F → Option (List ℕ)) (old new : List Entry)
     (paths : List (List ℕ))
-    (told : SettingsRefusal) : Type 0 where
+    (reported : SettingsRefusal) : Type 0 where
   pub place : ℕ
   pub path : List ℕ
   pub error : FileError
   pub there : slice_get paths place ≡ Some path
-  pub tells : IsOfFile told path error
+  pub shows : IsOfFile reported path error
   pub before : AddsFiles remaining old (take place paths) new
   pub cause : is_host_error error ≡ false → RefusesFile remaining new path error

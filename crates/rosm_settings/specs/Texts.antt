@@ -1,4 +1,4 @@
--- What is told of a refusal, in one line, for the person who ran the program.
+-- What is shown of a refusal, in one line, for the person who ran the program.
 use Rattle.std.specs.Prelude.{ℕ, List, ◌++◌, Option, Some, codes, option_map, string_bytes}
 use Rattle.std.specs.Fmt.{debug_str}
 use Rattle.image_loader.specs.ErrorNames.{image_error_name}

@@ -3,7 +3,7 @@
 ghost use Rattle.std.specs.Prelude.{◌≡◌, ◌<◌, false, true, length, Err, IfErr, IfOk, IfSome, IsErr, OnErr, OnOk};
 ghost use Rattle.profile.specs.Devices.{device_failed, device_inner};
 ghost use Rattle.command_shell.specs.Whole.{AnswersWhole};
-ghost use Rattle.rosm_settings.specs.Answering.{AnswersScript, EndsWithin, RefusesFiles, TellsOfFile, answers_to, is_of_run};
+ghost use Rattle.rosm_settings.specs.Answering.{AnswersScript, EndsWithin, RefusesFiles, ShowsOfFile, answers_to, is_of_run};
 ghost use Rattle.rosm_settings.specs.Endings.{refusal_status};
 
 use crate::command_line::Settings;
@@ -45,13 +45,13 @@ where
     ensures memory { result ≡ Err (SettingsRefusal.Script RunError.Memory)
         → EndsWithin F.File.Read.remaining settings.entry.now (R.remaining reader.old)
         (W.contents (device_inner writer.old)) (W.contents (device_inner writer.new)) }
-    ensures told { R.has_failed reader.old ≡ false → R.has_failed reader.new ≡ true
+    ensures reported { R.has_failed reader.old ≡ false → R.has_failed reader.new ≡ true
         → result ≡ Err (SettingsRefusal.Script RunError.ReadFault) }
     ensures read_fault { result ≡ Err (SettingsRefusal.Script RunError.ReadFault)
         → (R.has_failed reader.new ≡ true) × (writer.new ≡ writer.old) }
     ensures too_long { result ≡ Err (SettingsRefusal.Script RunError.ScriptTooLong)
         → (writer.new ≡ writer.old) × IfSome (R.remaining reader.old) (λ script. 1048576 < length script) }
-    ensures write_told { device_failed writer.old ≡ false → device_failed writer.new ≡ true
+    ensures write_answer { device_failed writer.old ≡ false → device_failed writer.new ≡ true
         → result ≡ Err (SettingsRefusal.Script RunError.WriteFault) }
     ensures write_fault { result ≡ Err (SettingsRefusal.Script RunError.WriteFault) →
         device_failed writer.new ≡ true }
@@ -85,7 +85,7 @@ where
         (R.remaining reader.old) (W.contents stream) (W.contents (device_inner ended.1)) ended.0) }
     ensures well { IfOk result (λ ended. device_failed ended.1 ≡ false) }
     ensures refused { IfErr result (λ e. refusal_status e ≡ 4) }
-    ensures files { IfErr result (TellsOfFile F.File.Read.remaining settings.entry.now.files) }
+    ensures files { IfErr result (ShowsOfFile F.File.Read.remaining settings.entry.now.files) }
     ensures read_fault { result ≡ Err (SettingsRefusal.Script RunError.ReadFault)
         → R.has_failed reader.new ≡ true }
     ensures too_long { result ≡ Err (SettingsRefusal.Script RunError.ScriptTooLong)

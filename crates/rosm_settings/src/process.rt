@@ -4,8 +4,8 @@ ghost use Rattle.std.specs.Process.{exit_status};
 ghost use Rattle.profile.specs.Output.{Writes};
 ghost use Rattle.rosm_settings.specs.command_line.Settings.{settings_for};
 ghost use Rattle.command_shell.specs.declared.error.RunError.TheVariants.{ScriptTooLong};
-ghost use Rattle.rosm_settings.specs.Answering.{StopsWithScript, TellsOfFile, TellsTooMuch};
-ghost use Rattle.rosm_settings.specs.Endings.{IsSettingsRefusalOf, TellsEnding, TellsLine, refusal_status, status_of, words_refused};
+ghost use Rattle.rosm_settings.specs.Answering.{StopsWithScript, ShowsOfFile, ShowsTooMuch};
+ghost use Rattle.rosm_settings.specs.Endings.{IsSettingsRefusalOf, ShowsEnding, ShowsLine, refusal_status, status_of, words_refused};
 ghost use Rattle.rosm_settings.specs.Texts.{refusal_text};
 
 use crate::answering::run_to_stream;
@@ -97,16 +97,16 @@ where
     ensures stop { IfOk result
         (StopsWithScript R.File.Read.remaining R.Reader.Read.remaining settings.entry.now) }
     ensures refused { IfErr result (λ e. refusal_status e ≡ 4) }
-    ensures files { IfErr result (TellsOfFile R.File.Read.remaining settings.entry.now.files) }
-    ensures too_long { result ≡ Err (SettingsRefusal.Script ScriptTooLong) → TellsTooMuch
+    ensures files { IfErr result (ShowsOfFile R.File.Read.remaining settings.entry.now.files) }
+    ensures too_long { result ≡ Err (SettingsRefusal.Script ScriptTooLong) → ShowsTooMuch
         R.Reader.Read.remaining }
-    ensures quiet { OnErr result (errors.new ≡ errors.old) }
+    ensures silent { OnErr result (errors.new ≡ errors.old) }
 {
     let mut input = Watched::new(Device::new(rt.reader()));
     let (last, _) = run_to_stream(rt, settings, &mut input, io::writer(rt))?;
     if !input.has_given() && settings.files.len() > 0 {
-        // A line that can't be written leaves nothing to tell it by.
-        let _ = tell_line(errors, EMPTY_SCRIPT.as_bytes());
+        // A line that can't be written leaves nothing to show it by.
+        let _ = print_line(errors, EMPTY_SCRIPT.as_bytes());
     }
     Ok(last)
 }
@@ -118,35 +118,35 @@ pub fn exit_code<W: Sink>(
     ending: Result<Option<Stop>, SettingsRefusal<'_>>,
 ) -> ExitCode
     ensures status { exit_status result ≡ status_of ending.entry }
-    ensures line { TellsEnding W.contents W.has_failed errors.old errors.new ending.entry }
+    ensures line { ShowsEnding W.contents W.has_failed errors.old errors.new ending.entry }
 {
     match ending {
         Ok(last) => ExitCode::from(stop_status(last)),
         Err(refusal) => {
-            // A line that can't be written leaves nothing to tell it by.
-            let _ = tell_refusal(alloc, errors, &refusal);
+            // A line that can't be written leaves nothing to show it by.
+            let _ = print_refusal(alloc, errors, &refusal);
             ExitCode::from(refusal.status())
         }
     }
 }
 
 // The line of a refusal; without memory for its text, that of want of memory.
-fn tell_refusal<W: Sink>(
+fn print_refusal<W: Sink>(
     alloc: Global,
     errors: &mut W,
     refusal: &SettingsRefusal<'_>,
 ) -> Result<(), WriteFault>
     ensures line { OnOk result
-        (TellsLine (refusal_text refusal.now) (W.contents errors.old) (W.contents errors.new)) }
+        (ShowsLine (refusal_text refusal.now) (W.contents errors.old) (W.contents errors.new)) }
     ensures flag { OnErr result (W.has_failed errors.new ≡ true) }
 {
     match format!(in alloc; "{refusal}") {
-        Ok(text) => tell_line(errors, text.as_bytes()),
-        Err(_) => tell_line(errors, "out of memory".as_bytes()),
+        Ok(text) => print_line(errors, text.as_bytes()),
+        Err(_) => print_line(errors, "out of memory".as_bytes()),
     }
 }
 
-fn tell_line<W: Sink>(errors: &mut W, text: &[u8]) -> Result<(), WriteFault>
+fn print_line<W: Sink>(errors: &mut W, text: &[u8]) -> Result<(), WriteFault>
     ensures { Writes W.contents W.has_failed errors.old errors.new result
         (codes "rosm: " ++ (text.now ++ codes "\n")) }
 {

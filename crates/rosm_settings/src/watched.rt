@@ -1,4 +1,4 @@
-//! A source that can tell whether it has given anything.
+//! A source that can say whether it has given anything.
 
 use profile::{ReadFault, Source};
 

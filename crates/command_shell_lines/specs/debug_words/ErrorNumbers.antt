@@ -24,5 +24,5 @@ error_with_name (error ∷ rest) name = if bytes_eq (error_name error) name then
     else error_with_name rest name
 
 -- a number, or an error's name
-unfoldable pub error_told : List ℕ → Option ℕ
-error_told word = option_or (script_number word) (option_map error_code (error_with_name store_errors word))
+unfoldable pub error_shown : List ℕ → Option ℕ
+error_shown word = option_or (script_number word) (option_map error_code (error_with_name store_errors word))

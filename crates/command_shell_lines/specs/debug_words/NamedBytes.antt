@@ -6,7 +6,7 @@ use Rattle.command_shell_lines.specs.HexPairs.{onto_bytes}
 use Rattle.command_shell_lines.specs.Requests.{words}
 use Rattle.command_shell_lines.specs.debug_words.Spelling.{spelt_bytes}
 use Rattle.command_shell_lines.specs.debug_words.Texts.{between_quotes, byte_value, text_behind}
-use Rattle.command_shell_lines.specs.debug_words.Values.{value_told}
+use Rattle.command_shell_lines.specs.debug_words.Values.{value_shown}
 
 -- words that are numbers below 256, as bytes
 abbrev pub bytes_of_words : List (List ℕ) → Option (List ℕ)
@@ -21,7 +21,7 @@ bytes_of_text (first ∷ rest) = spelt_bytes (first ∷ rest)
 abbrev pub named_by : Option (List ℕ) → Option (List ℕ) → List ℕ → Option (List ℕ)
 named_by (Some raw) list text = bytes_of_text raw
 named_by None (Some list) text = bytes_of_words (words list)
-named_by None None text = option_map (to_le_bytes w32) (value_told text)
+named_by None None text = option_map (to_le_bytes w32) (value_shown text)
 
 -- the bytes that a text names, if it names any
 unfoldable pub named_bytes : List ℕ → Option (List ℕ)

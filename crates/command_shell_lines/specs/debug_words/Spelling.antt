@@ -42,7 +42,8 @@ bytes_after_step (Gives b) more = onto_bytes (Some b) (more Plain)
 
 abbrev pub spelt_bytes_from : EscapeState → List ℕ → Option (List ℕ)
 spelt_bytes_from state [] = if can_text_end state then Some [] else None
-spelt_bytes_from state (b ∷ rest) = bytes_after_step (escape_step state b) (λ next. spelt_bytes_from next rest)
+spelt_bytes_from state (b ∷ rest) = bytes_after_step (escape_step state b)
+    (λ next. spelt_bytes_from next rest)
 
 -- the bytes that a text stands for, or None where it isn't well spelt
 abbrev pub spelt_bytes : List ℕ → Option (List ℕ)
@@ -50,7 +51,7 @@ spelt_bytes raw = spelt_bytes_from Plain raw
 
 -- whether a text stands for these bytes
 abbrev pub are_these_bytes : Option (List ℕ) → List ℕ → Bool
-are_these_bytes (Some told) bytes = bytes_eq told bytes
+are_these_bytes (Some reported) bytes = bytes_eq reported bytes
 are_these_bytes None bytes = false
 
 abbrev pub is_spelling_of : List ℕ → List ℕ → Bool

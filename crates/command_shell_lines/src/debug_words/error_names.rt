@@ -1,7 +1,7 @@
 //! The error that a line names.
 
 ghost use Rattle.std.specs.Prelude.{◌≡◌};
-ghost use Rattle.command_shell_lines.specs.debug_words.ErrorNumbers.{store_errors, error_with_name, error_told};
+ghost use Rattle.command_shell_lines.specs.debug_words.ErrorNumbers.{store_errors, error_with_name, error_shown};
 
 use crate::number_of;
 use profile::{ErrorNumber, error_text};
@@ -48,10 +48,10 @@ const STORE_ERRORS: [ErrorNumber; 38] = [
     ErrorNumber::BadPointer,
 ];
 
-/// The number that a word tells: a number, or the name of a store call's error.
-#[tactic(auto, unfolding(crate::specs::debug_words::ErrorNumbers::error_told))]
-pub fn error_told(word: &[u8]) -> Option<u32>
-    ensures { result ≡ error_told word.now }
+/// The number that a word shows: a number, or the name of a store call's error.
+#[tactic(auto, unfolding(crate::specs::debug_words::ErrorNumbers::error_shown))]
+pub fn error_shown(word: &[u8]) -> Option<u32>
+    ensures { result ≡ error_shown word.now }
 {
     match number_of(word) {
         Some(number) => Some(number),

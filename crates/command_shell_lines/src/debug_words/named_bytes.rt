@@ -7,7 +7,7 @@ ghost use Rattle.command_shell_lines.specs.debug_words.Spelling.{spelt_bytes};
 
 use crate::debug_words::spelling::{is_well_spelt, spelt_bytes};
 use crate::debug_words::texts::{between_quotes, byte_value, text_behind};
-use crate::debug_words::values::value_told;
+use crate::debug_words::values::value_shown;
 use profile::text_lines::cut;
 use std::alloc::{AllocError, Global};
 
@@ -21,7 +21,7 @@ pub fn names_bytes(text: &[u8]) -> bool
     } else if let Some(list) = text_behind(b"BYTES ", text) {
         are_bytes(list)
     } else {
-        value_told(text).is_some()
+        value_shown(text).is_some()
     }
 }
 
@@ -82,7 +82,7 @@ pub fn bytes_named(alloc: Global, text: &[u8]) -> Result<Vec<u8>, AllocError>
     } else if let Some(list) = text_behind(b"BYTES ", text) {
         bytes_of_words(alloc, list)
     } else {
-        match value_told(text) {
+        match value_shown(text) {
             Some(value) => Vec::from_slice(alloc, &value.to_le_bytes()),
             None => Ok(Vec::new(alloc)),
         }

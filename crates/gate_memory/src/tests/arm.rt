@@ -2,7 +2,7 @@
 //! from the rules of the ARM2 data sheet.
 
 use address_map::AddressMap;
-use arm_step::{Cpu, Turn, step};
+use arm_step::{Cpu, StepEnd, step};
 use std::alloc::{AllocError, Global};
 use std::test::Fail;
 
@@ -47,7 +47,7 @@ fn is_stepped(
     let turn = step(&mut cpu, &mut memory);
     Ok(
         is_put
-            && turn == Turn::Done
+            && turn == StepEnd::Done
             && cpu.pc() == pc
             && cpu.register(0) == r0
             && cpu.register(1) == r1

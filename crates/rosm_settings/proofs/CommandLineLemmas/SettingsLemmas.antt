@@ -66,8 +66,8 @@ lent read (Some x) none first is empty = ap (λ (t : Option (List ℕ)). unwrap_
 -- the text of an option, as its matches lend it
 pub text_of-lent : {T : Type 0} (read : T → List ℕ) (o : Option T) (none : T) (r : T) (f : Found) (name : List ℕ)
     → r ≡ unwrap_or o none → option_map read o ≡ first_value f name → read none ≡ [] → read r ≡ option_text_of (rows_of f) name
-text_of-lent read o none r f name is told empty =
-    ap read is ∙ lent read o none (first_value f name) told empty
+text_of-lent read o none r f name is reported empty =
+    ap read is ∙ lent read o none (first_value f name) reported empty
     ∙ ap (λ (t : Option (List ℕ)). unwrap_or t []) (first_value-rows f name)
 
 -- ---- the words
@@ -110,7 +110,7 @@ module _ (a : App) (words : List (List ℕ)) (is : a ≡ rosm) where
         ∙ not_empty (kind_of e) (fault_of a words) (h (ap is_simple_and_free is ∙ rosm_is_free)) other,
   )
 
-  -- Words that are a line are refused for want of memory alone, and then no reason is told.
+  -- Words that are a line are refused for want of memory alone, and then no reason is shown.
   pub no_reason : {A E : Type 0} (e : Error) (r : Result A E) (P : A → Type 0)
       → (is_simple_and_free a ≡ true → HasKind (fault_of a words) e) → is_line words ≡ true
       → (is_memory (kind_of e) ≡ true → IsErr r) → IfOk r P
@@ -120,8 +120,8 @@ module _ (a : App) (words : List (List ℕ)) (is : a ≡ rosm) where
       by_kind : (b : Bool) → is_memory (kind_of e) ≡ b → P x
       by_kind true m = absurd (true≢false (sym (err m)))
       by_kind false m =
-          let told : Line ≡ refusal_of (kind_of e) = ap (λ (b : Bool). if b then Memory else Line) (sym m) in
-          let other : refusal_of (kind_of e) ≢ Memory = λ memory. line_alone (told ∙ memory) in
+          let reported : Line ≡ refusal_of (kind_of e) = ap (λ (b : Bool). if b then Memory else Line) (sym m) in
+          let other : refusal_of (kind_of e) ≢ Memory = λ memory. line_alone (reported ∙ memory) in
           absurd (true≢false (sym line ∙ (line_refused e h other).1))
 
 pub ruleset file_steps = (raw_values-rows)

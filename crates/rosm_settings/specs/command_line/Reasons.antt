@@ -1,4 +1,4 @@
--- What the user is told of a command line whose options are there, but have no number, or sizes
+-- What the user is shown of a command line whose options are there, but have no number, or sizes
 -- that no machine can have.
 use Rattle.std.specs.Prelude.{ℕ, ◌+◌, ◌-◌, ◌^◌, ◌==◌, nat_lt, List, [], ◌++◌, is_none, codes, if◌then◌else◌, unwrap_or, IfSome, ◌≡◌}
 use Rattle.std.specs.Fmt.{debug_str, decimal}
@@ -35,9 +35,9 @@ option_text_of rows name = unwrap_or (first_of name rows) []
 
 -- An option whose text is no number of at most so much; the text is quoted, where it is of ASCII
 -- characters alone.
-abbrev pub TellsBadNumber : List Row → List ℕ → ℕ → List ℕ → Type 0
-TellsBadNumber rows name most told = IfSome (debug_str (option_text_of rows name)) (λ quoted.
-    told ≡ codes "--" ++ (name ++ (codes " takes a number N of at most "
+abbrev pub ShowsBadNumber : List Row → List ℕ → ℕ → List ℕ → Type 0
+ShowsBadNumber rows name most reported = IfSome (debug_str (option_text_of rows name)) (λ quoted.
+    reported ≡ codes "--" ++ (name ++ (codes " takes a number N of at most "
     ++ (decimal most ++ (codes ", not " ++ quoted)))))
 
 -- an option by its name, and the largest number that it takes
@@ -56,5 +56,5 @@ wrong_option rows =
     if is_none (option_number 32 rows (codes "rma")) then size_limit (codes "rma") else
     record { name = codes "budget"; most = 2 ^ 64 - 1 }))
 
-abbrev pub TellsNumber : List Row → List ℕ → Type 0
-TellsNumber rows told = TellsBadNumber rows (wrong_option rows).name (wrong_option rows).most told
+abbrev pub ShowsNumber : List Row → List ℕ → Type 0
+ShowsNumber rows reported = ShowsBadNumber rows (wrong_option rows).name (wrong_option rows).most reported

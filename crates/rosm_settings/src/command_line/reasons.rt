@@ -3,7 +3,7 @@
 ghost use Rattle.std.specs.Prelude.{◌≡◌, true, map, IfOk, IsErr, string_bytes};
 ghost use Rattle.clap.specs.Words.{found_of, kind_of, rows_of};
 ghost use Rattle.rosm_settings.specs.command_line.Settings.{is_line, is_memory, rows_for};
-ghost use Rattle.rosm_settings.specs.command_line.Reasons.{TellsBadNumber, TellsNumber, few_pages_text, sizes_text, option_text_of, wrong_option};
+ghost use Rattle.rosm_settings.specs.command_line.Reasons.{ShowsBadNumber, ShowsNumber, few_pages_text, sizes_text, option_text_of, wrong_option};
 
 use crate::command_line::reading::{command, size};
 use clap::ArgMatches;
@@ -25,7 +25,7 @@ const HELP: &str = "the script is standard input, and each FILE is an image for 
 /// Memory ran out.
 pub fn line_reason(alloc: Global, words: &[&str]) -> Result<String, AllocError>
     ensures { is_line (map (λ w. w.now) words.now) ≡ true → IfOk result (λ reason.
-        TellsNumber (rows_for (map (λ w. w.now) words.now)) (string_bytes reason)) }
+        ShowsNumber (rows_for (map (λ w. w.now) words.now)) (string_bytes reason)) }
 {
     match command(alloc)?.try_get_matches_from(words) {
         Ok(matches) => number_reason(alloc, &matches),
@@ -92,7 +92,7 @@ fn few_pages(alloc: Global, pages: u32, app: u32, rma: u32) -> Result<String, Al
 }
 
 fn number_reason(alloc: Global, matches: &ArgMatches<'_>) -> Result<String, AllocError>
-    ensures { IfOk result (λ reason. TellsNumber (rows_of (found_of matches.now)) (string_bytes reason)) }
+    ensures { IfOk result (λ reason. ShowsNumber (rows_of (found_of matches.now)) (string_bytes reason)) }
 {
     let (name, most) = wrong_option(matches);
     bad_number(alloc, matches, name, most)
@@ -121,7 +121,7 @@ fn bad_number(
     most: u64,
 ) -> Result<String, AllocError>
     ensures { IfOk result (λ reason.
-        TellsBadNumber (rows_of (found_of matches.now)) name.now most (string_bytes reason)) }
+        ShowsBadNumber (rows_of (found_of matches.now)) name.now most (string_bytes reason)) }
 {
     let text = text_of(matches, name);
     format!(in alloc; "--{name} takes a number N of at most {most}, not {text:?}")

@@ -4,16 +4,16 @@ use Rattle.command_shell.specs.Session.{script_state}
 use Rattle.command_shell.proofs.CallLemmas.{call_ends, call_goes_on, fewer_steps, goes_left}
 use Rattle.command_shell.proofs.session.Session.finish.Goals as goal
 
-pub returns-in-Some-clause-told : goal.returns-in-Some-clause-told
-returns-in-Some-clause-told g c =
+pub returns-in-Some-clause-reported : goal.returns-in-Some-clause-reported
+returns-in-Some-clause-reported g c =
     let images = c.args.images.now in
     let start = script_state c.args.self.now images in
-    let now = script_state c.tell_end.new.self images in
-    call_ends c.tell_end.result (g.W.Sink.contents c.args.sink.now) (g.W.Sink.contents c.loop-end.sink)
-    (g.W.Sink.contents c.tell_end.new.sink)
+    let now = script_state c.print_end.new.self images in
+    call_ends c.print_end.result (g.W.Sink.contents c.args.sink.now) (g.W.Sink.contents c.loop-end.sink)
+    (g.W.Sink.contents c.print_end.new.sink)
     c.args.frames (script_state c.loop-end.self images) now c.in-Some.end (answer_after_steps c.args.frames start.left start)
     c.loop-end.invariant.text c.loop-end.invariant.state (sym (c.call_end.ensures images) ∙ c.in-Some.is)
-    (c.tell_end.ensures.told images)
+    (c.print_end.ensures.reported images)
 
 pub take_step-requires : goal.take_step-requires
 take_step-requires g c =

@@ -5,7 +5,7 @@ use Rattle.command_shell.specs.Session.{script_state}
 use Rattle.command_shell.proofs.CallLemmas.{steps_left}
 use Rattle.command_shell.proofs.session.Session.finish.Given as goal
 
--- what stands written, and what the steps that are left tell, are all that the call tells
+-- what stands written, and what the steps that are left show, are all that the call shows
 abbrev pub invariant-loop-end : goal.invariant-loop-end
 invariant-loop-end g l =
     let start = script_state l.fn.self l.images in
