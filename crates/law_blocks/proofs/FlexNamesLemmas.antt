@@ -10,6 +10,6 @@ pub mod Resized
 pub mod Runs
 pub mod Splices
 pub mod Telling
-pub mod Told
+pub mod Reported
 pub mod Unbroken
 pub mod Words

@@ -11,7 +11,7 @@ pub mod Room
 pub mod SlidLists
 pub mod SlidSound
 pub mod SlidStores
-pub mod SlidWorlds
+pub mod SlidModuleStates
 pub mod Spelled
 pub mod Spelling
 pub mod Turns

@@ -2,7 +2,7 @@
 -- file of its own.
 pub mod AreaLaws
 pub mod BlockLaws
-pub mod FitEstates
+pub mod FitAreaStores
 pub mod Fits
 pub mod FlexLaws
 pub mod ForgettingLaws

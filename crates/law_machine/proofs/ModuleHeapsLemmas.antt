@@ -3,5 +3,5 @@ pub mod Calls
 pub mod Carrying
 pub mod Giving
 pub mod Near
-pub mod Quiet
+pub mod Silent
 pub mod Planning

@@ -6,4 +6,4 @@ pub mod PlanKept
 pub mod States
 pub mod Steps
 pub mod Tidying
-pub mod Told
+pub mod Reported

@@ -1,4 +1,4 @@
--- The meaning of a source, told without passes. Begin with Programs and Refusals; Laws ties them to
+-- The meaning of a source, stated without passes. Begin with Programs and Refusals; Laws ties them to
 -- the passes.
 pub mod Laws
 pub mod Lists

@@ -1,3 +1,3 @@
--- What words made ready do. Begin with Effects, then Laws.
+-- What predecoded words do. Begin with Effects, then Laws.
 pub mod Effects
 pub mod Laws

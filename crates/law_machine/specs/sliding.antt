@@ -1,5 +1,5 @@
 -- Which steps of a machine are turns of its stores. Begin with Turns, then Laws.
 pub mod Laws
 pub mod MachineStores
-pub mod Told
+pub mod Reported
 pub mod Turns

@@ -1,4 +1,4 @@
-//! Laws: what an assembled program is, told without passes, by the pieces of its lines.
+//! Laws: what an assembled program is, stated without passes, by the pieces of its lines.
 #![tactic(auto)]
 
 pub mod laws;

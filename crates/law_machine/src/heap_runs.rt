@@ -8,6 +8,6 @@ pub mod moves;
 pub mod own_calls;
 pub mod pairs;
 
-pub use making::make_moves;
-pub use moves::{End, MachineMove, MachineMoves, Made, Reply};
+pub use making::make_events;
+pub use moves::{End, MachineEvent, MachineMoves, Made, Reply};
 pub use pairs::make_in_two;

@@ -23,9 +23,9 @@ use Rattle.flex_store.proofs.Reading.{spelled}
 use Rattle.flex_store.proofs.Standing.{standing_has, standing_same, standing_used}
 use Rattle.flex_store.proofs.Words.{contents_within, IsHeld, outside_behind}
 use Rattle.law_blocks.specs.flex.Laws.{AllocGoesByNumbers, AreBytes, IsLeftBy, IsSpelledState, with_anchor}
-use Rattle.law_blocks.specs.flex.Numbered.{Anchor, anchor_from, blocks_seen, IsAddedSeen, list_seen, anchor_place_of, place_told}
+use Rattle.law_blocks.specs.flex.Numbered.{Anchor, anchor_from, blocks_seen, IsAddedSeen, list_seen, anchor_place_of, place_shown}
 use Rattle.law_blocks.specs.flex.Seen.{seen_bytes}
-use Rattle.law_blocks.proofs.FlexLemmas.Lists.{byte_alike, byte_seen, held_standing, held_text, held_told, in_word, IsWordPlace, list_append, word_in}
+use Rattle.law_blocks.proofs.FlexLemmas.Lists.{byte_alike, byte_seen, held_standing, held_text, held_shown, in_word, IsWordPlace, list_append, word_in}
 use Rattle.law_blocks.proofs.FlexLemmas.Numbers.{from_front, from_none, from_standing}
 use Rattle.law_blocks.proofs.FlexLemmas.Relaying.{relaid_spelled}
 use Rattle.law_blocks.proofs.FlexLemmas.Seeing.{block_seen, standing_append, zeros_seen}
@@ -154,12 +154,12 @@ module _ (t u : FlexState) (s : FlexStore) (anchor size : ℕ) (sp : IsSpelledSt
   outer_same a (inr past) = from_none 0 s.start (s.blocks ++ news) a (inr (omega (arith, past, done.fits))) ∙ sym (from_none 0 s.start s.blocks a (inr (omega (arith, past, sp.fits))))
 
   front_list : list_seen new_mark new_place s.start (standing bytes_then s.start s.blocks)
-      ≡ place_told None (old_place anchor) (list_seen old_mark old_place s.start s.blocks)
+      ≡ place_shown None (old_place anchor) (list_seen old_mark old_place s.start s.blocks)
   front_list =
       held_standing new_mark new_place bytes_then s.start s.blocks
-      ∙ (held_told None anchor w.aligned (byte_seen old_mark t.bytes.at) (byte_seen new_mark bytes_then) old_place new_place s.start s.blocks sp.range.start_aligned
+      ∙ (held_shown None anchor w.aligned (byte_seen old_mark t.bytes.at) (byte_seen new_mark bytes_then) old_place new_place s.start s.blocks sp.range.start_aligned
       byte_front (λ a has. outer_same a (outside_behind t.bytes.mapped s.start s.end s.blocks a sp.words has)) word_place
-      ∙ ap (place_told None (old_place anchor)) (sym (held_text old_mark old_place t.bytes.at s.start s.blocks sp.whole sp.text)))
+      ∙ ap (place_shown None (old_place anchor)) (sym (held_text old_mark old_place t.bytes.at s.start s.blocks sp.whole sp.text)))
 
   -- the new block: none of its bytes is an anchor's
   none_new : (a : ℕ) → s.start + bytes_taken_by_all s.blocks ≤ a → a < s.end → new_mark a ≡ false

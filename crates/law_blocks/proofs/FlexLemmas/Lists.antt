@@ -12,7 +12,7 @@ use Rattle.flex_store.specs.State.{AreWhole}
 use Rattle.flex_store.proofs.Laying.{contents_between}
 use Rattle.flex_store.proofs.Reading.{IsSpelled, spelled}
 use Rattle.flex_store.proofs.Words.{contents_within, held_word, IsHeld}
-use Rattle.law_blocks.specs.flex.Numbered.{Anchor, anchor_from, Fixed, Inside, list_seen, place_told, SeenBlock, with_places, word_told}
+use Rattle.law_blocks.specs.flex.Numbered.{Anchor, anchor_from, Fixed, Inside, list_seen, place_shown, SeenBlock, with_places, word_shown}
 use Rattle.law_blocks.specs.flex.Seen.{seen_bytes}
 use Rattle.law_blocks.proofs.FlexLemmas.Numbers.{from_further, from_none, further}
 use Rattle.law_blocks.proofs.FlexLemmas.Seeing.{block_seen, own_between}
@@ -142,19 +142,19 @@ shifted w offset at i e = elim (cases_lt at w) [
   ]
 ]
 
-told_word : (s t : ℕ → Option ℕ) (byte : Option ℕ) (w at n offset i : ℕ) → at + offset ≡ w + i
+shown_word : (s t : ℕ → Option ℕ) (byte : Option ℕ) (w at n offset i : ℕ) → at + offset ≡ w + i
     → ((a : ℕ) → at ≤ a → a < at + n → t a ≡ (if in_range w 4 a then byte else s a))
-    → map t (range_with_len at n) ≡ word_told byte offset i (map s (range_with_len at n))
-told_word s t byte w at zero offset i e left = refl
-told_word s t byte w at (suc n) offset i e left =
-    let rest = told_word s t byte w (at + 1) n offset (i + 1) (omega (arith, e)) (λ a low high. left a (omega (arith, low)) (omega (arith, high))) in
+    → map t (range_with_len at n) ≡ word_shown byte offset i (map s (range_with_len at n))
+shown_word s t byte w at zero offset i e left = refl
+shown_word s t byte w at (suc n) offset i e left =
+    let rest = shown_word s t byte w (at + 1) n offset (i + 1) (omega (arith, e)) (λ a low high. left a (omega (arith, low)) (omega (arith, high))) in
     let here : t at ≡ (if in_range offset 4 i then byte else s at) =
     left at (omega arith) (omega arith) ∙ ap (λ (b : Bool). if b then byte else s at) (sym (shifted w offset at i e)) in
     λ k. here k ∷ rest k
 
-told_further : (byte : Option ℕ) (x : Anchor) (b : SeenBlock) (bs : List SeenBlock) → place_told byte (further 1 x) (b ∷ bs) ≡ b ∷ place_told byte x bs
-told_further byte (Fixed a) b bs = refl
-told_further byte (Inside n o) b bs = let e : 1 + n ≡ suc n = omega arith in ap (λ (k : ℕ). place_told byte (Inside k o) (b ∷ bs)) e
+shown_further : (byte : Option ℕ) (x : Anchor) (b : SeenBlock) (bs : List SeenBlock) → place_shown byte (further 1 x) (b ∷ bs) ≡ b ∷ place_shown byte x bs
+shown_further byte (Fixed a) b bs = refl
+shown_further byte (Inside n o) b bs = let e : 1 + n ≡ suc n = omega arith in ap (λ (k : ℕ). place_shown byte (Inside k o) (b ∷ bs)) e
 
 -- where the word may be: in contents of one of the blocks, or elsewhere
 abbrev pub IsWordPlace : ℕ → List Block → ℕ → Type 0
@@ -166,14 +166,14 @@ module _ (byte : Option ℕ) (w : ℕ) (aligned : w % 4 ≡ 0) (s t : ℕ → Op
   beside h n left out a low high = left a low high ∙ ap (λ (q : Bool). if q then byte else s a)
       (out_of_word w a (elim out [ inl before ↦ inr (omega (arith, before, low)) | inr past ↦ inl (omega (arith, past, high)) ]))
 
-  pub held_told : (h : ℕ) (bs : List Block) → h % 4 ≡ 0 → ((a : ℕ) → h ≤ a → a < h + bytes_taken_by_all bs → t a ≡ (if in_range w 4 a then byte else s a))
-      → ((a : ℕ) → has_anchor bs a ≡ true → Q a ≡ P a) → IsWordPlace h bs w → list_held t Q h bs ≡ place_told byte (anchor_from 0 h bs w) (list_held s P h bs)
-  held_told h bs word left places (inr out) =
+  pub held_shown : (h : ℕ) (bs : List Block) → h % 4 ≡ 0 → ((a : ℕ) → h ≤ a → a < h + bytes_taken_by_all bs → t a ≡ (if in_range w 4 a then byte else s a))
+      → ((a : ℕ) → has_anchor bs a ≡ true → Q a ≡ P a) → IsWordPlace h bs w → list_held t Q h bs ≡ place_shown byte (anchor_from 0 h bs w) (list_held s P h bs)
+  held_shown h bs word left places (inr out) =
       held_alike s t P Q h bs (beside h (bytes_taken_by_all bs) left out) places
-      ∙ ap (λ (x : Anchor). place_told byte x (list_held s P h bs))
+      ∙ ap (λ (x : Anchor). place_shown byte x (list_held s P h bs))
       (sym (from_none 0 h bs w (elim out [ inl before ↦ inl (omega (arith, before)) | inr past ↦ inr (omega (arith, past)) ])))
-  held_told h [] word left places (inl held) = absurd (false≢true held)
-  held_told h (b ∷ bs) word left places (inl held) =
+  held_shown h [] word left places (inl held) = absurd (false≢true held)
+  held_shown h (b ∷ bs) word left places (inl held) =
       let own : Q b.anchor ≡ P b.anchor = places b.anchor (or_left (nat_eq b.anchor b.anchor) (has_anchor bs b.anchor) (eq-eqb b.anchor b.anchor refl)) in
       let later : (a : ℕ) → has_anchor bs a ≡ true → Q a ≡ P a = λ a has. places a (or_right (nat_eq a b.anchor) (has_anchor bs a) has) in
       let behind : (a : ℕ) → h + bytes_taken_by b.size ≤ a → a < h + bytes_taken_by b.size + bytes_taken_by_all bs → t a ≡ (if in_range w 4 a then byte else s a) =
@@ -181,7 +181,7 @@ module _ (byte : Option ℕ) (w : ℕ) (aligned : w % 4 ≡ 0) (s t : ℕ → Op
       elim (cases_Bool (is_held_word h b w)) [
         | inl here ↦
             let at = held_word h b w here in
-            let bytes = told_word s t byte w (h + 8) b.size (w - (h + 8)) 0 (omega (arith, at.0)) (λ a low high. left a (omega (arith, low)) (omega (arith, high))) in
+            let bytes = shown_word s t byte w (h + 8) b.size (w - (h + 8)) 0 (omega (arith, at.0)) (λ a low high. left a (omega (arith, low)) (omega (arith, high))) in
             let rest = held_alike s t P Q (h + bytes_taken_by b.size) bs (beside (h + bytes_taken_by b.size) (bytes_taken_by_all bs) behind (inl (omega (arith, at.1)))) later in
             rw here (λ i. record { anchor = own i; bytes = bytes i } ∷ rest i)
         | inr other ↦
@@ -189,9 +189,9 @@ module _ (byte : Option ℕ) (w : ℕ) (aligned : w % 4 ≡ 0) (s t : ℕ → Op
             let in_rest : IsHeld (h + bytes_taken_by b.size) (bytes_taken_by_all bs) w = contents_within (h + bytes_taken_by b.size) bs w more in
             let bytes = map_alike s t (h + 8) b.size
             (beside (h + 8) b.size (λ a low high. left a (omega (arith, low)) (omega (arith, high))) (inr (omega (arith, in_rest.from)))) in
-            let rest = held_told (h + bytes_taken_by b.size) bs (omega (arith, word)) behind later (inl more) in
+            let rest = held_shown (h + bytes_taken_by b.size) bs (omega (arith, word)) behind later (inl more) in
             let first : SeenBlock = record { anchor = P b.anchor; bytes = map s (range_with_len (h + 8) b.size) } in
             rw other ((λ i. record { anchor = own i; bytes = bytes i } ∷ rest i)
-            ∙ (sym (told_further byte (anchor_from 0 (h + bytes_taken_by b.size) bs w) first (list_held s P (h + bytes_taken_by b.size) bs))
-            ∙ ap (λ (x : Anchor). place_told byte x (first ∷ list_held s P (h + bytes_taken_by b.size) bs)) (sym (from_further 1 0 (h + bytes_taken_by b.size) bs w))))
+            ∙ (sym (shown_further byte (anchor_from 0 (h + bytes_taken_by b.size) bs w) first (list_held s P (h + bytes_taken_by b.size) bs))
+            ∙ ap (λ (x : Anchor). place_shown byte x (first ∷ list_held s P (h + bytes_taken_by b.size) bs)) (sym (from_further 1 0 (h + bytes_taken_by b.size) bs w))))
       ]

@@ -22,10 +22,10 @@ use Rattle.flex_store.proofs.Releasing.{anchored_other}
 use Rattle.flex_store.proofs.Standing.{standing_has, standing_text, standing_used}
 use Rattle.flex_store.proofs.Words.{anchor_no_header, word_of, words_apart, words_left, words_right}
 use Rattle.law_blocks.specs.flex.Laws.{AreBytes, IsLeftBy, IsSpelledState, outside_without_anchor as gone_anchor}
-use Rattle.law_blocks.specs.flex.Numbered.{after_removal, Anchor, anchor_from, blocks_seen, IsRemovedSeen, list_seen, anchor_place_of, place_told, with_places}
+use Rattle.law_blocks.specs.flex.Numbered.{after_removal, Anchor, anchor_from, blocks_seen, IsRemovedSeen, list_seen, anchor_place_of, place_shown, with_places}
 use Rattle.law_blocks.specs.flex.Seen.{seen_bytes}
 use Rattle.law_blocks.proofs.FlexLemmas.Gone.{below_same, front_out, IsGone, none_front, none_own, outer_anchor, own_out, rest_same}
-use Rattle.law_blocks.proofs.FlexLemmas.Lists.{byte_alike, byte_seen, held_standing, held_text, held_told, in_word, IsWordPlace, list_append, list_length, list_rest, word_in}
+use Rattle.law_blocks.proofs.FlexLemmas.Lists.{byte_alike, byte_seen, held_standing, held_text, held_shown, in_word, IsWordPlace, list_append, list_length, list_rest, word_in}
 use Rattle.law_blocks.proofs.FlexLemmas.Numbers.{found, from_front, from_further, from_moved, from_none, from_past, from_standing, removal_above, removal_below, rest_place, none_behind, outer_place}
 use Rattle.law_blocks.proofs.FlexLemmas.OneBlock.{IsOneBlock, one_block}
 use Rattle.law_blocks.proofs.FlexLemmas.Relaying.{relaid_spelled}
@@ -218,12 +218,12 @@ module _ (t u : FlexState) (s : FlexStore) (anchor : ℕ) (front after : List Bl
       ∙ ap (after_removal (length front)) (sym (none_behind s.start s.end (front ++ b ∷ after) a known.fits past)))
 
   front_list : list_seen new_mark new_place s.start (standing bytes_then s.start front)
-      ≡ place_told (Some 0) (old_place b.anchor) (list_seen old_mark old_place s.start front)
+      ≡ place_shown (Some 0) (old_place b.anchor) (list_seen old_mark old_place s.start front)
   front_list =
       held_standing new_mark new_place bytes_then s.start front
-      ∙ (held_told (Some 0) b.anchor known.own_word (byte_seen old_mark t.bytes.at) (byte_seen new_mark bytes_then) old_place new_place s.start front sp.range.start_aligned
+      ∙ (held_shown (Some 0) b.anchor known.own_word (byte_seen old_mark t.bytes.at) (byte_seen new_mark bytes_then) old_place new_place s.start front sp.range.start_aligned
       byte_front (λ a has. outer_same a (front_out t.bytes.mapped s.start s.end front after b k is shifts places known.words refl moved a has)) own_at
-      ∙ (λ i. place_told (Some 0) (own_place_is i)
+      ∙ (λ i. place_shown (Some 0) (own_place_is i)
       (sym (held_text old_mark old_place t.bytes.at s.start front known.front_whole known.front_text) i)))
 
   rest_list : list_seen new_mark new_place (s.start + bytes_taken_by_all front) (standing bytes_then (s.start + bytes_taken_by_all front) news)
@@ -233,7 +233,7 @@ module _ (t u : FlexState) (s : FlexStore) (anchor : ℕ) (front after : List Bl
       k.old (s.start + bytes_taken_by_all front) after known.own_whole.1 known.after_text (bytes_held cleared (s.start + bytes_taken_by_all front) (blocks_text_of news)) marks_rest
       (λ j below none. stands (s.start + bytes_taken_by_all front + j) none) (λ a has. place_then a (gone_to shifts a) (places a has))
 
-  list_then : blocks_seen u.flex ≡ place_told (Some 0) (old_place b.anchor) (list_seen old_mark old_place s.start front)
+  list_then : blocks_seen u.flex ≡ place_shown (Some 0) (old_place b.anchor) (list_seen old_mark old_place s.start front)
       ++ with_places (after_removal (length front)) (list_seen old_mark old_place k.old after)
   list_then =
       ap (λ (v : FlexState). blocks_seen v.flex) done
@@ -253,7 +253,7 @@ module _ (t u : FlexState) (s : FlexStore) (anchor : ℕ) (front after : List Bl
         own = seen_bytes old_mark (s.start + bytes_taken_by_all front + 8) (contents b);
         rest = list_seen old_mark old_place k.old after;
         was = known.list_is;
-        now = list_then ∙ (λ i. place_told (Some 0) (known.place_is i) (list_seen old_mark old_place s.start front)
+        now = list_then ∙ (λ i. place_shown (Some 0) (known.place_is i) (list_seen old_mark old_place s.start front)
             ++ with_places (after_removal (sym n i)) (list_seen old_mark old_place k.old after));
       }
 

@@ -56,14 +56,14 @@ module _ (t u : FlexState) (s : FlexStore) (anchor : ℕ) (front after : List Bl
   header_is : header_place_in s anchor ≡ s.start + bytes_taken_by_all front
   header_is = ap (λ (l : List Block). s.start + bytes_taken_by_all l) p.front_is
 
-  told : (breaks_anchor (is_anchor_byte s) (s.start + bytes_taken_by_all front + 8) b.size place cut more ≡ false)
+  reported : (breaks_anchor (is_anchor_byte s) (s.start + bytes_taken_by_all front + 8) b.size place cut more ≡ false)
       × (let given : FlexState × Bool = (u, true) in flex_if_room t s front news ≡ given)
-  told = unbroken_by (breaks_anchor (is_anchor_byte s) (at + 8) b.size place cut more) (flex_if_room t s front news) u
+  reported = unbroken_by (breaks_anchor (is_anchor_byte s) (at + 8) b.size place cut more) (flex_if_room t s front news) u
       ((λ i. if breaks_anchor (is_anchor_byte s) (sym header_is i + 8) b.size place cut more then Err FlexHoldsAnchor else
       Ok (flex_if_room t s (sym p.front_is i) (new ∷ following (splice_shifts (sym header_is i) last b.size place cut more) (sym p.rest_is i)))) ∙ done)
 
   pub done_by : IsFitted t u s front news
-  done_by = fitted_by t u s front news (nat_le (s.start + bytes_taken_by_all (front ++ news)) s.end) refl told.1
+  done_by = fitted_by t u s front news (nat_le (s.start + bytes_taken_by_all (front ++ news)) s.end) refl reported.1
 
   known : IsOneBlock t s anchor front after b
   known = one_block t s anchor front after b sp p
@@ -85,7 +85,7 @@ module _ (t u : FlexState) (s : FlexStore) (anchor : ℕ) (front after : List Bl
   places x has =
       splice_placed s.start s.end at last front after b known.inner refl known.last_is sp.fits sp.range.start_aligned place cut more
       cut_fits place_fits
-      (λ y word own low high. unbroken s (at + 8) b.size place cut more y told.0 (omega (arith, known.at_aligned)) cut_fits some word
+      (λ y word own low high. unbroken s (at + 8) b.size place cut more y reported.0 (omega (arith, known.at_aligned)) cut_fits some word
       (ap (λ (l : List Block). has_anchor l y) p.list ∙ known.has_all y own) low high)
       x (word_of t.bytes.mapped s.start s.end (front ++ b ∷ after) x known.words (known.has_all x has)).aligned has
 

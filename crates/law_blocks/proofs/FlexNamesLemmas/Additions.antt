@@ -5,11 +5,11 @@ use Rattle.std.specs.Option.{option_and_then, option_map}
 use Rattle.std.proofs.lemmas.Bool.{cases_Bool, false≢true}
 use Rattle.law_blocks.specs.flex.Numbered.{Anchor, AreNumbered, Fixed, Inside, IsAddedSeen, IsBeforeBlock, SeenBlock}
 use Rattle.law_blocks.specs.flex_names.Laws.{AllocGoesByNames}
-use Rattle.law_blocks.specs.flex_names.Names.{At, shown_bytes_of, In, Name, number_from, number_named, place_named, same_name, same_place, told_named}
+use Rattle.law_blocks.specs.flex_names.Names.{At, shown_bytes_of, In, Name, number_from, number_named, place_named, same_name, same_place, shown_named}
 use Rattle.law_blocks.proofs.FlexNamesLemmas.Before.{deeper}
 use Rattle.law_blocks.proofs.FlexNamesLemmas.Found.{name_is, name_not, name_self, none_some, place_not, place_self, some_same, then_some}
 use Rattle.law_blocks.proofs.FlexNamesLemmas.Moving.{bytes_own, named_by_place, seen_block}
-use Rattle.law_blocks.proofs.FlexNamesLemmas.Told.{map_some, one_word, told_at, told_bytes, told_none, told_numbers, told_past, told_same}
+use Rattle.law_blocks.proofs.FlexNamesLemmas.Reported.{map_some, one_word, shown_at, shown_bytes, shown_none, shown_numbers, shown_past, shown_same}
 
 number_high : (n m : ℕ) (y : Anchor) (bs : List SeenBlock) → number_from n y bs ≡ Some m → m < n + length bs
 number_high n m y [] e = absurd (none_some m e)
@@ -25,7 +25,7 @@ named_high p (In z o) m e =
     let h : m < 0 + length p = number_high 0 m (Inside t.0 o) p t.1.1 in
     omega (arith, h)
 
--- a word that a name tells lies in one of the blocks, or elsewhere
+-- a word that a name shows lies in one of the blocks, or elsewhere
 word_before : (p : List SeenBlock) (y : Name) (x : Anchor) → place_named p y ≡ Some x → IsBeforeBlock (length p) x
 word_before p (At a) x e = subst (IsBeforeBlock (length p)) (some_same (Fixed a) x e) tt
 word_before p (In z o) x e =
@@ -66,10 +66,10 @@ added_bytes (suc m) (b ∷ bs) ys low = added_bytes m bs ys (omega (arith, low))
 
 module _ (p q : List SeenBlock) (x : Anchor) (size : ℕ) (name : Name) (numbered : AreNumbered 0 p) (named : place_named p name ≡ Some x)
     (by : IsAddedSeen x size p q) (new : number_named p name ≡ None) where
-  told : (y : Anchor) → number_from 0 y q ≡ number_from 0 y (p ++ seen_block x (replicate size (Some 0)) ∷ [])
-  told y = ap (number_from 0 y) by ∙ told_numbers None x 0 y p (seen_block x (replicate size (Some 0)) ∷ [])
+  reported : (y : Anchor) → number_from 0 y q ≡ number_from 0 y (p ++ seen_block x (replicate size (Some 0)) ∷ [])
+  reported y = ap (number_from 0 y) by ∙ shown_numbers None x 0 y p (seen_block x (replicate size (Some 0)) ∷ [])
 
-  -- the place of a word that a name tells
+  -- the place of a word that a name shows
   placed : (y : Name) (w : Anchor) → place_named p y ≡ Some w
       → number_from 0 w q ≡ (if same_name y name then Some (length p) else number_from 0 w p)
   placed y w at = elim (cases_Bool (same_name y name)) [
@@ -77,10 +77,10 @@ module _ (p q : List SeenBlock) (x : Anchor) (size : ℕ) (name : Name) (numbere
         let same : x ≡ w = some_same x w (sym named ∙ (ap (place_named p) (sym (name_is y name own)) ∙ at)) in
         let e : 0 + length p ≡ length p = omega arith in
         rw own (ap (λ (z : Anchor). number_from 0 z q) (sym same)
-        ∙ (told x ∙ (added_own 0 (seen_block x (replicate size (Some 0))) p (sym (named_by_place p name x named) ∙ new)
+        ∙ (reported x ∙ (added_own 0 (seen_block x (replicate size (Some 0))) p (sym (named_by_place p name x named) ∙ new)
         ∙ ap (λ (m : ℕ). let o : Option ℕ = Some m in o) e)))
     | inr other ↦
-        rw other (told w ∙ added_else 0 w (seen_block x (replicate size (Some 0))) p (place_not x w (λ same.
+        rw other (reported w ∙ added_else 0 w (seen_block x (replicate size (Some 0))) p (place_not x w (λ same.
         false≢true (sym other ∙ again (one_word p y name w at (named ∙ ap (λ (z : Anchor). let o : Option Anchor = Some z in o) same))))))
   ] where
     again : y ≡ name → same_name y name ≡ true
@@ -88,7 +88,7 @@ module _ (p q : List SeenBlock) (x : Anchor) (size : ℕ) (name : Name) (numbere
 
   in_new : (o : ℕ) → number_from 0 (Inside (length p) o) q ≡ None
   in_new o =
-      told (Inside (length p) o)
+      reported (Inside (length p) o)
       ∙ (added_else 0 (Inside (length p) o) (seen_block x (replicate size (Some 0))) p
       (place_not x (Inside (length p) o) (λ same. itself (subst (IsBeforeBlock (length p)) same (word_before p name x named))))
       ∙ none_later 0 (length p) o p numbered (omega arith)) where
@@ -114,20 +114,20 @@ module _ (p q : List SeenBlock) (x : Anchor) (size : ℕ) (name : Name) (numbere
       | inr other ↦ rw other (beside (number_named p z) refl)
     ]
 
-  bytes : (m : ℕ) → shown_bytes_of m q ≡ told_at None x m (shown_bytes_of m (p ++ seen_block x (replicate size (Some 0)) ∷ []))
-  bytes m = ap (shown_bytes_of m) by ∙ told_bytes None x m p (seen_block x (replicate size (Some 0)) ∷ []) (word_before p name x named)
+  bytes : (m : ℕ) → shown_bytes_of m q ≡ shown_at None x m (shown_bytes_of m (p ++ seen_block x (replicate size (Some 0)) ∷ []))
+  bytes m = ap (shown_bytes_of m) by ∙ shown_bytes None x m p (seen_block x (replicate size (Some 0)) ∷ []) (word_before p name x named)
 
   shows : (y : Name) (m : Option ℕ) → number_named p y ≡ m
-      → option_and_then (λ n. shown_bytes_of n q) m ≡ told_named None name y (option_and_then (λ n. shown_bytes_of n p) m)
-  shows y None is = sym (told_none None name y)
+      → option_and_then (λ n. shown_bytes_of n q) m ≡ shown_named None name y (option_and_then (λ n. shown_bytes_of n p) m)
+  shows y None is = sym (shown_none None name y)
   shows y (Some m) is =
-      bytes m ∙ (ap (told_at None x m) (added_bytes m p (seen_block x (replicate size (Some 0)) ∷ []) (named_high p y m is))
-      ∙ told_same p None name y x m (shown_bytes_of m p) named is)
+      bytes m ∙ (ap (shown_at None x m) (added_bytes m p (seen_block x (replicate size (Some 0)) ∷ []) (named_high p y m is))
+      ∙ shown_same p None name y x m (shown_bytes_of m p) named is)
 
   own_zeros : shown_bytes_of (length p) q ≡ Some (replicate size (Some 0))
   own_zeros =
       bytes (length p)
-      ∙ (told_past None x (length p) (length p) (shown_bytes_of (length p) (p ++ seen_block x (replicate size (Some 0)) ∷ [])) (word_before p name x named) (omega arith)
+      ∙ (shown_past None x (length p) (length p) (shown_bytes_of (length p) (p ++ seen_block x (replicate size (Some 0)) ∷ [])) (word_before p name x named) (omega arith)
       ∙ bytes_own p (seen_block x (replicate size (Some 0))) [])
 
 pub alloc_goes_by_names : AllocGoesByNames

@@ -39,7 +39,7 @@ module _ (x : Name) (place cut more : ℕ) where
         ap (λ (v : Name). In v o) (earlier w (omega (arith, low, d)) is) ∙ same
 
 -- The numbers of names after a splice, by those before it, where the block of a name has a number,
--- and where places of words in it and elsewhere have numbers as told.
+-- and where places of words in it and elsewhere have numbers as shown.
 module _ (p q : List SeenBlock) (x : Name) (k place cut more : ℕ) (own : number_named p x ≡ Some k)
     (fixed : (a : ℕ) → number_from 0 (Fixed a) q ≡ number_from 0 (Fixed a) p)
     (other : (m o : ℕ) → (m ≡ k → ⊥) → number_from 0 (Inside m o) q ≡ number_from 0 (Inside m o) p)

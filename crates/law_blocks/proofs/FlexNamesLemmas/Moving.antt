@@ -53,7 +53,7 @@ none_goes go y n (b ∷ bs) all = rw all.0 (none_goes go y (suc n) bs all.1)
 abbrev pub seen_block : Anchor → List (Option ℕ) → SeenBlock
 seen_block x l = record { anchor = x; bytes = l }
 
--- what a block shows tells nothing of numbers
+-- what a block shows shows nothing of numbers
 pub own_else : (n : ℕ) (y x : Anchor) (l m : List (Option ℕ)) (xs ys : List SeenBlock)
     → number_from n y (xs ++ seen_block x l ∷ ys) ≡ number_from n y (xs ++ seen_block x m ∷ ys)
 own_else n y x l m [] ys = refl
@@ -88,7 +88,7 @@ found_at n (c ∷ xs) b ys numbered =
     rw (place_not c.anchor b.anchor (λ same. elsewhere_in c.anchor xs b ys numbered.1.0 (sym same)))
     (found_at (suc n) xs b ys numbered.1.1 ∙ ap (λ (k : ℕ). let o : Option ℕ = Some k in o) e)
 
--- a name and the place that it tells
+-- a name and the place that it shows
 pub named_by_place : (p : List SeenBlock) (name : Name) (x : Anchor) → place_named p name ≡ Some x → number_named p name ≡ number_from 0 x p
 named_by_place p (At a) x e = ap (λ (y : Anchor). number_from 0 y p) (some_same (Fixed a) x e)
 named_by_place p (In y o) x e = by (number_named p y) e where

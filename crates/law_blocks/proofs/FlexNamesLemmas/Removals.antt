@@ -5,10 +5,10 @@ use Rattle.std.specs.Option.{option_and_then}
 use Rattle.std.proofs.lemmas.Bool.{cases_Bool, cases_lt, eq-eqb, eqb-true, false_from_ne_true, false≢true, le-ltb, lt-ltb, ne_eqb}
 use Rattle.law_blocks.specs.flex.Numbered.{after_removal, Anchor, AreNumbered, Fixed, Inside, IsBeforeBlock, IsRemovedSeen, SeenBlock, with_places}
 use Rattle.law_blocks.specs.flex_names.Laws.{ReleaseGoesByNames}
-use Rattle.law_blocks.specs.flex_names.Names.{At, shown_bytes_of, contents_named, In, Name, number_from, number_named, place_named, same_name, same_place, told_named}
+use Rattle.law_blocks.specs.flex_names.Names.{At, shown_bytes_of, contents_named, In, Name, number_from, number_named, place_named, same_name, same_place, shown_named}
 use Rattle.law_blocks.proofs.FlexNamesLemmas.Found.{elsewhere_none, name_is, name_self, one_name, place_is}
 use Rattle.law_blocks.proofs.FlexNamesLemmas.Moving.{bytes_with, Every, found_at, named_by_place, none_first, seen_block}
-use Rattle.law_blocks.proofs.FlexNamesLemmas.Told.{told_at, told_bytes, told_none, told_numbers, told_past, told_same}
+use Rattle.law_blocks.proofs.FlexNamesLemmas.Reported.{shown_at, shown_bytes, shown_none, shown_numbers, shown_past, shown_same}
 
 -- the number that a block has after that of a number went
 abbrev down : ℕ → ℕ → Option ℕ
@@ -142,7 +142,7 @@ module _ (p q : List SeenBlock) (x : Anchor) (name : Name) (numbered : AreNumber
   gone y out =
       let k = length by.front in
       ap (number_from 0 (after_removal k y)) by.now
-      ∙ (told_numbers (Some 0) x 0 (after_removal k y) by.front (with_places (after_removal k) by.rest)
+      ∙ (shown_numbers (Some 0) x 0 (after_removal k y) by.front (with_places (after_removal k) by.rest)
       ∙ (left_numbers k 0 y by.front (seen_block x by.own) by.rest (omega arith) (rw by.was at numbered) out (rw by.was at each_out)
       ∙ ap (λ (l : List SeenBlock). option_and_then (down k) (number_from 0 y l)) (sym by.was)))
 
@@ -177,23 +177,23 @@ module _ (p q : List SeenBlock) (x : Anchor) (name : Name) (numbered : AreNumber
     step (Some m) = within m o
 
   shows : (y : Name) → same_name y name ≡ false → (m : Option ℕ) → number_named p y ≡ m
-      → option_and_then (λ n. shown_bytes_of n q) (option_and_then (down (length by.front)) m) ≡ told_named (Some 0) name y (option_and_then (λ n. shown_bytes_of n p) m)
-  shows y apart None is = sym (told_none (Some 0) name y)
+      → option_and_then (λ n. shown_bytes_of n q) (option_and_then (down (length by.front)) m) ≡ shown_named (Some 0) name y (option_and_then (λ n. shown_bytes_of n p) m)
+  shows y apart None is = sym (shown_none (Some 0) name y)
   shows y apart (Some m) is =
       let k = length by.front in
       let before : IsBeforeBlock (0 + k) x = own_before 0 by.front (seen_block x by.own) by.rest (rw by.was at numbered) in
       let e : 0 + k ≡ k = omega arith in
-      go (subst (λ (n : ℕ). IsBeforeBlock n x) e before) ∙ told_same p (Some 0) name y x m (shown_bytes_of m p) named is where
+      go (subst (λ (n : ℕ). IsBeforeBlock n x) e before) ∙ shown_same p (Some 0) name y x m (shown_bytes_of m p) named is where
         at : (n : ℕ) → IsBeforeBlock (length by.front) x
-            → shown_bytes_of n q ≡ told_at (Some 0) x n (shown_bytes_of n (by.front ++ with_places (after_removal (length by.front)) by.rest))
-        at n before = ap (shown_bytes_of n) by.now ∙ told_bytes (Some 0) x n by.front (with_places (after_removal (length by.front)) by.rest) before
+            → shown_bytes_of n q ≡ shown_at (Some 0) x n (shown_bytes_of n (by.front ++ with_places (after_removal (length by.front)) by.rest))
+        at n before = ap (shown_bytes_of n) by.now ∙ shown_bytes (Some 0) x n by.front (with_places (after_removal (length by.front)) by.rest) before
 
-        go : IsBeforeBlock (length by.front) x → option_and_then (λ n. shown_bytes_of n q) (down (length by.front) m) ≡ told_at (Some 0) x m (shown_bytes_of m p)
+        go : IsBeforeBlock (length by.front) x → option_and_then (λ n. shown_bytes_of n q) (down (length by.front) m) ≡ shown_at (Some 0) x m (shown_bytes_of m p)
         go before =
             let k = length by.front in
             elim (cases_lt m k) [
               | inl low ↦
-                  rw (down_low k m low) (at m before ∙ ap (told_at (Some 0) x m)
+                  rw (down_low k m low) (at m before ∙ ap (shown_at (Some 0) x m)
                   (front_bytes m by.front (with_places (after_removal k) by.rest) (seen_block x by.own ∷ by.rest) low ∙ ap (shown_bytes_of m) (sym by.was)))
               | inr from ↦ elim (cases_lt k m) [
                 | inl high ↦
@@ -203,8 +203,8 @@ module _ (p q : List SeenBlock) (x : Anchor) (name : Name) (numbered : AreNumber
                     let below : down k m ≡ Some n = ap (down k) (sym more) ∙ down_high k n past in
                     let rest : shown_bytes_of n (by.front ++ with_places (after_removal k) by.rest) ≡ shown_bytes_of m p =
                     rest_bytes (after_removal k) n by.front (seen_block x by.own) by.rest past ∙ (ap (shown_bytes_of (suc n)) (sym by.was) ∙ ap (λ (i : ℕ). shown_bytes_of i p) more) in
-                    rw below (at n before ∙ (told_past (Some 0) x k n (shown_bytes_of n (by.front ++ with_places (after_removal k) by.rest)) before past
-                    ∙ (rest ∙ sym (told_past (Some 0) x k m (shown_bytes_of m p) before from))))
+                    rw below (at n before ∙ (shown_past (Some 0) x k n (shown_bytes_of n (by.front ++ with_places (after_removal k) by.rest)) before past
+                    ∙ (rest ∙ sym (shown_past (Some 0) x k m (shown_bytes_of m p) before from))))
                 | inr to ↦
                     let same : m ≡ k = omega (arith, from, to) in
                     let e : y ≡ name = one_name p y name k (is ∙ ap (λ (i : ℕ). let o : Option ℕ = Some i in o) same) own_number in

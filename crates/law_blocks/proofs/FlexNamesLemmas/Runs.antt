@@ -18,7 +18,7 @@ use Rattle.law_blocks.specs.flex.Numbered.{blocks_seen, anchor_place_of}
 use Rattle.law_blocks.proofs.FlexLemmas.Calls.{calls_go_by_numbers, no_room_changes_nothing}
 use Rattle.law_blocks.specs.flex_names.Laws.{IsCalledNamed}
 use Rattle.law_blocks.specs.flex_names.Names.{Name, place_named}
-use Rattle.law_blocks.specs.flex_names.Runs.{Apart, Called, FindsNoRoom, is_of_store, GoesByAnswer, IsLeftAlone, IsNameOf, IsFlexSpelled, IsFlexTurn, IsTurnNamed, flex_after_turn, RunsGoByNames, FlexTurn}
+use Rattle.law_blocks.specs.flex_names.Runs.{Apart, Called, FindsNoRoom, is_of_store, GoesByAnswer, IsLeftAlone, IsNameOf, IsFlexSpelled, IsFlexTurn, IsTurnNamed, flex_after_turn, RunsGoByNames, FlexStep}
 use Rattle.law_blocks.proofs.FlexNamesLemmas.Done.{done_calls_go_by_names}
 use Rattle.law_blocks.proofs.FlexNamesLemmas.Found.{some_same}
 use Rattle.law_blocks.proofs.FlexNamesLemmas.Words.{words_have_names}
@@ -90,7 +90,7 @@ no_room places t u (Extend anchor size) none = (no_room_changes_nothing t u).ext
 no_room places t u (MidExtend anchor at by) none = (no_room_changes_nothing t u).mid_extend anchor at by none
 
 -- what a turn leaves
-record IsTurned (t : FlexState) (x : FlexTurn) : Type 0 where
+record IsTurned (t : FlexState) (x : FlexStep) : Type 0 where
   named : IsTurnNamed t x
   spelled : IsFlexSpelled (flex_after_turn x)
   low : IsLow (flex_after_turn x)
@@ -126,7 +126,7 @@ called places t u call s own sp low word bytes done =
       low = λ a is. low a (sym (ap (λ (f : ℕ → Bool). f a) left.mapped) ∙ is);
     }
 
-turned : (t : FlexState) (x : FlexTurn) → IsFlexSpelled t → IsLow t → IsFlexTurn t x → IsTurned t x
+turned : (t : FlexState) (x : FlexStep) → IsFlexSpelled t → IsLow t → IsFlexTurn t x → IsTurned t x
 turned t (Called places call u) spelled low is = elim is.1.1 [
   | inl done ↦ called places t u call spelled.0 spelled.1.0 spelled.1.1 low is.0 is.1.0 done
   | inr none ↦

@@ -2,7 +2,7 @@
 use Rattle.std.proofs.Common.{◌≡◌, ℕ, zero, suc, ◌+◌, ◌<◌, ◌≤◌, false, List, [], ◌∷◌, length, Option, Some, arith, sym, ◌∙◌, ap, inl, inr, subst}
 use Rattle.std.proofs.lemmas.Bool.{cases_lt}
 use Rattle.law_blocks.specs.flex.Numbered.{Anchor, AreElsewhere, AreNumbered, Fixed, Inside, IsBeforeBlock, SeenBlock}
-use Rattle.law_blocks.specs.flex_names.Laws.{NamesTellBlocks}
+use Rattle.law_blocks.specs.flex_names.Laws.{NamesPrintBlocks}
 use Rattle.law_blocks.specs.flex_names.Names.{At, In, Name, number_from, number_named, same_place}
 use Rattle.law_blocks.proofs.FlexNamesLemmas.Found.{elsewhere_none, none_some, one_name, place_not, place_self}
 
@@ -40,7 +40,7 @@ name_below p numbered zero m fits low = absurd (omega (arith, low))
 name_below p numbered (suc n) m fits low =
     name_for p m (λ k less. name_below p numbered n k (omega (arith, fits)) (omega (arith, less, low))) (block_of 0 m p numbered (omega arith) (omega (arith, fits, low)))
 
-pub names_tell_blocks : NamesTellBlocks
-names_tell_blocks p numbered n low =
+pub names_print_blocks : NamesPrintBlocks
+names_print_blocks p numbered n low =
     let own : HasName p n = name_below p numbered (length p) n (omega arith) low in
     (own.0, (own.1, λ z e. one_name p z own.0 n e own.1))

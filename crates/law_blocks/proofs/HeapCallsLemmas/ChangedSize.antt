@@ -109,28 +109,28 @@ own_unmet h end len =
     ∙ or_from (shares_address at len h.start h.end) false
     (and_right (nat_lt 0 len && nat_lt 0 h.end) (nat_lt at (h.start + h.end) && nat_lt h.start (at + len)) past) refl
 
-others_as_told : (h : HeapList) (len : ℕ) (m : Bool) → 0 < len → list_any (λ r. shares_address (h.start + h.end) len r.at r.len) (others_met h m) ≡ m
-others_as_told h len true some =
+others_as_shown : (h : HeapList) (len : ℕ) (m : Bool) → 0 < len → list_any (λ r. shares_address (h.start + h.end) len r.at r.len) (others_met h m) ≡ m
+others_as_shown h len true some =
     rw (lt-ltb 0 len some, lt-ltb (h.start + h.end) (h.start + h.end + 1) (omega arith), lt-ltb (h.start + h.end) (h.start + h.end + len) (omega arith)) refl
-others_as_told h len false some = refl
+others_as_shown h len false some = refl
 
-obstructed_as_told : (w : Alone) (g : Growth) (end len : ℕ) → 0 < len
+obstructed_as_shown : (w : Alone) (g : Growth) (end len : ℕ) → 0 < len
     → is_obstructed w.heap.start end (w.heap.start + w.heap.end) len (store_with w g) ≡ g.meets
-obstructed_as_told w g end len some =
+obstructed_as_shown w g end len some =
     let at : ℕ = w.heap.start + w.heap.end in
     only (list_any (is_in_way w.heap.start end at len) (w.heap ∷ [])) (list_any (λ r. shares_address at len r.at r.len) (others_met w.heap g.meets))
     (anchor_among (λ a. false) at len) (own_unmet w.heap end len) (among_none (λ a. false) at len (λ a low high. refl))
-    ∙ others_as_told w.heap len g.meets some
+    ∙ others_as_shown w.heap len g.meets some
 
-overgrows_as_told : (w : Alone) (g : Growth) (end : ℕ) → w.heap.end < end → overgrows (store_with w g) w.heap end ≡ g.meets
-overgrows_as_told w g end more =
+overgrows_as_shown : (w : Alone) (g : Growth) (end : ℕ) → w.heap.end < end → overgrows (store_with w g) w.heap end ≡ g.meets
+overgrows_as_shown w g end more =
     let obstructed : Bool = is_obstructed w.heap.start end (w.heap.start + w.heap.end) (end - w.heap.end) (store_with w g) in
-    ap (λ (x : Bool). x && obstructed) (lt-ltb w.heap.end end more) ∙ obstructed_as_told w g end (end - w.heap.end) (omega (arith, more))
+    ap (λ (x : Bool). x && obstructed) (lt-ltb w.heap.end end more) ∙ obstructed_as_shown w g end (end - w.heap.end) (omega (arith, more))
 
 overgrows_same : (s : Store) (h : HeapList) (end : ℕ) (g : Growth) → (h.end < end → g ≡ growth_to s h end)
     → overgrows s h end ≡ overgrows (store_with (alone_in s h) g) h end
 overgrows_same s h end g is = elim (cases_lt h.end end) [
-  | inl more ↦ sym (ap (λ (x : Growth). x.meets) (is more)) ∙ sym (overgrows_as_told (alone_in s h) g end more)
+  | inl more ↦ sym (ap (λ (x : Growth). x.meets) (is more)) ∙ sym (overgrows_as_shown (alone_in s h) g end more)
   | inr less ↦ rw (le-ltb h.end end less) refl
 ]
 
@@ -143,9 +143,9 @@ grown_like s h end g is a here = elim (in_range-cases h.start h.end a) [
       let parts : (h.start ≤ a) × (a < h.start + end) = range_parts h.start end a here in
       let behind : h.start + h.end ≤ a = elim out.1 [ inl low ↦ absurd (omega (arith, parts.0)) | inr past ↦ past ] in
       let given : g.bytes a ≡ bytes_in (h.start + h.end) (end - h.end) s.bytes.at a = ap (λ (x : Growth). x.bytes a) (is (omega (arith, parts.1))) in
-      let told : bytes_in (h.start + h.end) (end - h.end) s.bytes.at a ≡ s.bytes.at a =
+      let reported : bytes_in (h.start + h.end) (end - h.end) s.bytes.at a ≡ s.bytes.at a =
       rw (le-leb (h.start + h.end) a behind, lt-ltb a (h.start + h.end + (end - h.end)) (omega (arith, parts.1))) refl in
-      rw out.0 (sym (given ∙ told))
+      rw out.0 (sym (given ∙ reported))
 ]
 
 pub found_alone : (w : Alone) (g : Growth) → find_heap w.heap.start (store_with w g).heaps ≡ Some w.heap

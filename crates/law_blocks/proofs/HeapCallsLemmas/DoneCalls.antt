@@ -39,9 +39,9 @@ done_bound : (A B : Type 0) (P : Store → Type 0) (k : A → B) (r : Result (St
 done_bound A B P k (Ok r) done = done
 done_bound A B P k (Err e) done = tt
 
-done_told : (A B : Type 0) (P : Store → Type 0) (s : Store) (k : A → B) (r : Result A ErrorNumber) → P s → OnDone B P (bind r (λ x. Ok (s, k x)))
-done_told A B P s k (Ok x) same = same
-done_told A B P s k (Err e) same = tt
+done_shown : (A B : Type 0) (P : Store → Type 0) (s : Store) (k : A → B) (r : Result A ErrorNumber) → P s → OnDone B P (bind r (λ x. Ok (s, k x)))
+done_shown A B P s k (Ok x) same = same
+done_shown A B P s k (Err e) same = tt
 
 -- a block that is moved from `block`, with what is left of its heap then
 abbrev pub moved_to : Store → HeapList → Claim → ℕ → ℕ → Store
@@ -237,7 +237,7 @@ by_reason : (P : Store → Type 0) (s : Store) (k : HeapList) (why : HeapReason)
     → find_heap k.start s.heaps ≡ Some k → LeaveBy P s k why block size → Answers P s k.start why block size
 by_reason P s k reason.Initialise block size on found leave = absurd (false≢true on)
 by_reason P s k reason.Describe block size on found leave =
-    done_told (ℕ × ℕ) (ℕ × ℕ) P s (λ r. r) (heap_description s k.start) (leave.same (λ total. refl))
+    done_shown (ℕ × ℕ) (ℕ × ℕ) P s (λ r. r) (heap_description s k.start) (leave.same (λ total. refl))
 by_reason P s k reason.Get block size on found leave =
     done_bound ℕ (ℕ × ℕ) P (λ n. (n, size)) (store_after_get s k.start size) (got_done P s k size found (λ items. leave.held items (λ total. refl)))
 by_reason P s k reason.Free block size on found leave =
@@ -249,7 +249,7 @@ by_reason P s k reason.ChangeSize block size on found leave =
     done_bound (Unit {0}) (ℕ × ℕ) P (λ _. (block, size)) (store_after_change s k.start size)
     (changed_done P s k size found (λ end clear. leave.ended end (λ total. refl) clear))
 by_reason P s k reason.BlockSize block size on found leave =
-    done_told ℕ (ℕ × ℕ) P s (λ n. (block, n)) (block_sized s k.start block) (leave.same (λ total. refl))
+    done_shown ℕ (ℕ × ℕ) P s (λ n. (block, n)) (block_sized s k.start block) (leave.same (λ total. refl))
 
 pub heap_done : (P : Store → Type 0) (s : Store) (k : HeapList) (why : HeapReason) (block size : ℕ) → is_on_heap why ≡ true
     → find_heap k.start s.heaps ≡ Some k → Leave P s k → Answers P s k.start why block size

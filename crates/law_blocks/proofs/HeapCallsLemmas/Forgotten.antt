@@ -103,12 +103,12 @@ same_freed s o why block size total from start found live frees l =
     let starts : l.from ≡ from = cc in
     subst (λ (n : ℕ). IsLost s block n from start) same (subst (λ (n : ℕ). IsLost s block l.total n start) starts l.lost)
 
-pub lost_told : (s : Store) (o k : HeapList) (why : HeapReason) (block size total from : ℕ) (items : List Item) → AreBoth s o k → FreesBytes o block total from
+pub lost_shown : (s : Store) (o k : HeapList) (why : HeapReason) (block size total from : ℕ) (items : List Item) → AreBoth s o k → FreesBytes o block total from
     → freed_from why block total size ≡ Some from
     → (find_heap k.start (store_holding (store_after_forget s block total from) o items).heaps ≡ None) ↔ IsForgotten s o.start why block size k.start
-lost_told s o k why block size total from items are given frees =
+lost_shown s o k why block size total from items are given frees =
     let v : Store = store_after_forget s block total from in
-    let tells : (find_heap k.start v.heaps ≡ None) ↔ IsLost s block total from k.start =
+    let shows : (find_heap k.start v.heaps ≡ None) ↔ IsLost s block total from k.start =
     forgotten_lost s o k block total from are.sound are.owner given.live given.past are.found in (
       λ none. record {
         owner = o;
@@ -117,9 +117,9 @@ lost_told s o k why block size total from items are given frees =
         live = given.live;
         from = from;
         frees = frees;
-        lost = tells.0 (listed_none o.start k.start items v.heaps none);
+        lost = shows.0 (listed_none o.start k.start items v.heaps none);
       },
-      λ l. none_listed o.start k.start items v.heaps (tells.1 (same_freed s o why block size total from k.start are.owner given.live frees l)),
+      λ l. none_listed o.start k.start items v.heaps (shows.1 (same_freed s o why block size total from k.start are.owner given.live frees l)),
     )
 
 -- a block that was moved held no heap
@@ -129,14 +129,14 @@ moved_none s o c why block size old new start found is frees l =
     let lost : IsLost s block old (block - 4 + new) start = same_freed s o why block size old (block - 4 + new) start found is.live frees l in
     both_ways (holds_heap s.heaps block (old - 4)) is.unheld (found_holds lost.heap.start block (old - 4) s.heaps lost.heap lost.found lost.starts)
 
-called_told : (s : Store) (o k : HeapList) (why : HeapReason) (block size : ℕ) → AreBoth s o k
+called_shown : (s : Store) (o k : HeapList) (why : HeapReason) (block size : ℕ) → AreBoth s o k
     → LeaveBy (λ t. (find_heap k.start t.heaps ≡ None) ↔ IsForgotten s o.start why block size k.start) s o why block size
-called_told s o k why block size are = record {
+called_shown s o k why block size are = record {
   same = λ none. still_there s s o.start why block size k.start (record { heap = k; is = are.found }) (frees_none s o.start why block size k.start none);
   held = λ items none.
       still_there s (store_holding s o items) o.start why block size k.start (found_listed o.start k.start items s.heaps k are.found)
       (frees_none s o.start why block size k.start none);
-  lost = λ total from items given frees. lost_told s o k why block size total from items are given frees;
+  lost = λ total from items given frees. lost_shown s o k why block size total from items are given frees;
   moved = λ c old new total items is given frees.
       let u : Store = moved_to s o c block old in
       let heap : IsHeapIn s.bytes o.start o.end o.items = found_heap s.bytes o.start s.heaps o are.sound.heaps are.owner in
@@ -157,7 +157,7 @@ calls_forget s t k heap why block size answer sound found is =
     (call_by P s heap why block size
     (λ on o start found'.
     subst (λ (p : ℕ). LeaveBy (λ u. (find_heap k.start u.heaps ≡ None) ↔ IsForgotten s p why block size k.start) s o why block size) start
-    (called_told s o k why block size (record { sound = sound; owner = found'; found = found })))
+    (called_shown s o k why block size (record { sound = sound; owner = found'; found = found })))
     (λ makes region none.
     still_there s (store_with_new_heap kind.Heap s heap size) heap why block size k.start
     (record { heap = k; is = found_more k.start s.heaps k (record { kind = kind.Heap; start = heap; end = size; items = [] }) found })

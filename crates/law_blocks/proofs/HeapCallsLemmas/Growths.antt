@@ -152,20 +152,20 @@ growths_meet s h end sound found outer more =
     (grown_alone h.start end new len s.heaps (in_none s h sound found outer)))
 
 -- a change of a heap's end, where the heap is found
-abbrev told : Store → HeapList → ℕ → ℕ → Result (Store × (ℕ × ℕ)) ErrorNumber
-told s h block change = bind (end_changed s h change (changed_by h.end change)) (λ r. Ok (r.0, (block, change)))
+abbrev reported : Store → HeapList → ℕ → ℕ → Result (Store × (ℕ × ℕ)) ErrorNumber
+reported s h block change = bind (end_changed s h change (changed_by h.end change)) (λ r. Ok (r.0, (block, change)))
 
 changed_is : (s : Store) (h : HeapList) (block change : ℕ) → find_heap h.start s.heaps ≡ Some h → has_own_size h.kind ≡ true
-    → call_on s h.start reason.ChangeSize block change ≡ told s h block change
+    → call_on s h.start reason.ChangeSize block change ≡ reported s h block change
 unfolding store_after_change
 changed_is s h block change found own = rw (found, own) refl
 
 refused_so : (s : Store) (h : HeapList) (block change : ℕ) → change % 4 ≡ 0 → is_heap_region s.bytes h.start (changed_by h.end change) ≡ true
-    → overgrows s h (changed_by h.end change) ≡ true → told s h block change ≡ Err HeapOverlaps
+    → overgrows s h (changed_by h.end change) ≡ true → reported s h block change ≡ Err HeapOverlaps
 refused_so s h block change whole region over = rw (eq-eqb (change % 4) 0 whole, region, over) refl
 
 passed_so : (s : Store) (h : HeapList) (block change : ℕ) → change % 4 ≡ 0 → is_heap_region s.bytes h.start (changed_by h.end change) ≡ true
-    → overgrows s h (changed_by h.end change) ≡ false → told s h block change ≡ Err HeapOverlaps → ⊥
+    → overgrows s h (changed_by h.end change) ≡ false → reported s h block change ≡ Err HeapOverlaps → ⊥
 passed_so s h block change whole region clear is =
     let is' = rw (eq-eqb (change % 4) 0 whole, region, clear) at is in
     elim (cases_Bool (nat_lt (changed_by h.end change) (16 + size_of h.items))) [
@@ -176,7 +176,7 @@ passed_so s h block change whole region clear is =
 pub growths_refused : GrowthsAreRefused
 growths_refused s h block change sound found own whole region more =
     let end : ℕ = changed_by h.end change in
-    let same : call_on s h.start reason.ChangeSize block change ≡ told s h block change = changed_is s h block change found own in
+    let same : call_on s h.start reason.ChangeSize block change ≡ reported s h block change = changed_is s h block change found own in
     elim (cases_Bool (overgrows s h end)) [
       | inl over ↦ (
         λ is may. both_ways (overgrows s h end) (unjudged s h sound found end more may) over,

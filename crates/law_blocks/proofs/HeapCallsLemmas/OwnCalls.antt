@@ -60,10 +60,10 @@ replied_alike h b (Err e) (Err f) alike = ap (λ (x : ErrorNumber). let t : Heap
 replied_alike h b (Ok r) (Err f) alike = absurd alike
 replied_alike h b (Err e) (Ok q) alike = absurd alike
 
--- a call that tells, and leaves the store
-told_alike : (A B : Type 0) (s u : Store) (h : HeapList) (k : A → B) (r q : Result A ErrorNumber) → AreTwins s u h → r ≡ q
+-- a call that shows, and leaves the store
+shown_alike : (A B : Type 0) (s u : Store) (h : HeapList) (k : A → B) (r q : Result A ErrorNumber) → AreTwins s u h → r ≡ q
     → AreAlike B h (bind r (λ x. Ok (s, k x))) (bind q (λ x. Ok (u, k x)))
-told_alike A B s u h k r q t same = subst (λ (q : Result A ErrorNumber). AreAlike B h (bind r (λ x. Ok (s, k x))) (bind q (λ x. Ok (u, k x)))) same (go r) where
+shown_alike A B s u h k r q t same = subst (λ (q : Result A ErrorNumber). AreAlike B h (bind r (λ x. Ok (s, k x))) (bind q (λ x. Ok (u, k x)))) same (go r) where
   go : (r : Result A ErrorNumber) → AreAlike B h (bind r (λ x. Ok (s, k x))) (bind r (λ x. Ok (u, k x)))
   go (Ok x) = (refl, λ w. alone_alike w s u h t.one.found t.two.found t.like)
   go (Err e) = refl
@@ -217,7 +217,7 @@ call_alike : (s u : Store) (h : HeapList) (why : HeapReason) (block size : ℕ) 
 call_alike s u h reason.Initialise block size t on other = absurd (false≢true on)
 call_alike s u h reason.ChangeSize block size t on other = absurd (false≢true (sym other))
 call_alike s u h reason.Describe block size t on other =
-    told_alike (ℕ × ℕ) (ℕ × ℕ) s u h (λ r. r) (heap_description s h.start) (heap_description u h.start) t (described_same s u h t)
+    shown_alike (ℕ × ℕ) (ℕ × ℕ) s u h (λ r. r) (heap_description s h.start) (heap_description u h.start) t (described_same s u h t)
 call_alike s u h reason.Get block size t on other =
     bound_alike ℕ (ℕ × ℕ) h (λ n. (n, size)) (store_after_get s h.start size) (store_after_get u h.start size)
     (by_both ℕ h _ _ _ _ (got_plain s h size t.one.found) (got_plain u h size t.two.found) (claimed_alike s u h (claim_in_items (total_for size) (h.end - 16) h.items) t))
@@ -227,7 +227,7 @@ call_alike s u h reason.Free block size t on other =
 call_alike s u h reason.Resize block size t on other =
     bound_alike ℕ (ℕ × ℕ) h (λ n. (n, size)) (store_after_resize s h.start block size) (store_after_resize u h.start block size) (resized_alike s u h block size t)
 call_alike s u h reason.BlockSize block size t on other =
-    told_alike ℕ (ℕ × ℕ) s u h (λ n. (block, n)) (block_sized s h.start block) (block_sized u h.start block) t
+    shown_alike ℕ (ℕ × ℕ) s u h (λ n. (block, n)) (block_sized s h.start block) (block_sized u h.start block) t
     (sized_plain s h block t.one (t.guests block).0 ∙ sym (sized_plain u h block t.two (t.guests block).1))
 
 -- the heap in a store, and in that which has it alone

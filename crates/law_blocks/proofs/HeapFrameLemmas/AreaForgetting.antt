@@ -24,17 +24,17 @@ use Rattle.os_heap.specs.Store.{IsSound, Store, find_heap}
 use Rattle.dynamic_areas.specs.declared.area.Area.{Area}
 use Rattle.dynamic_areas.specs.Areas.{find_area}
 use Rattle.dynamic_areas.specs.Changing.{pages_had, store_extended, store_more, with_heap_end}
-use Rattle.dynamic_areas.specs.Ground.{Estate, IsEstate}
+use Rattle.dynamic_areas.specs.Ground.{AreaStore, IsAreaStore}
 use Rattle.rma.specs.Calls.{area_pages, area_room, end_if_moved, end_in_place, grown_by, grown_in_place, grown_to, in_area, is_full, or_as_before, or_grown, pages_short, resized_or_grown, rma_base, rma_claimed, rma_extended, with_store}
 use Rattle.rma.specs.Images.{image_recorded, store_with_image}
 use Rattle.rma.specs.NewImages.{image_copied, image_made}
 use Rattle.law_blocks.proofs.HeapCallsLemmas.DoneCalls.{FreesBytes, MovesBlock, OnDone, got_done, moved_to, resized_done}
-use Rattle.law_blocks.proofs.HeapCallsLemmas.Forgotten.{AreBoth, lost_told, same_freed}
+use Rattle.law_blocks.proofs.HeapCallsLemmas.Forgotten.{AreBoth, lost_shown, same_freed}
 use Rattle.law_blocks.proofs.HeapCallsLemmas.Likeness.{with_last, with_list}
 use Rattle.law_blocks.proofs.HeapCallsLemmas.NoHeapInside.{forgot_unheld, found_holds, held_ended}
 use Rattle.law_blocks.specs.heap_calls.Forgotten.{IsForgotten, freed_from}
 use Rattle.law_blocks.specs.heap_calls.Laws.{IsNotForgotten}
-use Rattle.law_blocks.proofs.HeapFrameLemmas.AreaReleases.{HasArea, area_there, freed_told}
+use Rattle.law_blocks.proofs.HeapFrameLemmas.AreaReleases.{HasArea, area_there, freed_shown}
 use Rattle.law_blocks.specs.heap_frame.ForgettingLaws.{AreaCallsForgetHeaps}
 
 -- what starts at the module area's place is that heap
@@ -131,7 +131,7 @@ record IsBase (d : Store) (o k : HeapList) : Type 0 where
   totals : AreTotals o.items
   like : IsLike o d.heaps d.heaps
 
-base_of : (e : Estate) (k : HeapList) → IsEstate e → (has : HasArea e) → find_heap k.start e.store.heaps ≡ Some k → IsBase e.store has.known.heap k
+base_of : (e : AreaStore) (k : HeapList) → IsAreaStore e → (has : HasArea e) → find_heap k.start e.store.heaps ≡ Some k → IsBase e.store has.known.heap k
 base_of e k good has found =
     let s : Store = e.store in
     let o : HeapList = has.known.heap in
@@ -167,51 +167,51 @@ module _ (d : Store) (o k : HeapList) (base : IsBase d o k) where
   extended_like s count None like = ends_like s (4096 * (pages_had None + count)) like
   extended_like s count (Some a) like = ends_like (store_more s count (Some a)) (4096 * (a.pages + count)) like
 
-  abbrev OnGrown : Result Estate ErrorNumber → Type 0
+  abbrev OnGrown : Result AreaStore ErrorNumber → Type 0
   OnGrown (Ok g) = Like g.store
   OnGrown (Err f) = Unit {0}
 
-  by_like : (e : Estate) (count : ℕ) → Like e.store → OnGrown (grown_by e count)
+  by_like : (e : AreaStore) (count : ℕ) → Like e.store → OnGrown (grown_by e count)
   by_like e count like = elim (cases_Bool (nat_lt (area_room e) count)) [
     | inl short ↦ rw short tt
-    | inr enough ↦ rw enough (extended_like e.store count (find_area 1 e.land.areas) like)
+    | inr enough ↦ rw enough (extended_like e.store count (find_area 1 e.area_table.areas) like)
   ]
 
-  to_like : (e : Estate) (end : ℕ) → Like e.store → OnGrown (grown_to e end)
+  to_like : (e : AreaStore) (end : ℕ) → Like e.store → OnGrown (grown_to e end)
   unfolding grown_to
   to_like e end like = elim (cases_Bool (nat_le end (4096 * area_pages e))) [
     | inl enough ↦ rw enough like
     | inr short ↦ rw short (by_like e (pages_short e end) like)
   ]
 
-  before_like : (e : Estate) (r : Result Estate ErrorNumber) → Like e.store → OnGrown r → Like (or_as_before e r).store
+  before_like : (e : AreaStore) (r : Result AreaStore ErrorNumber) → Like e.store → OnGrown r → Like (or_as_before e r).store
   before_like e (Ok g) like grown = grown
   before_like e (Err f) like grown = like
 
   -- a call on the area's heap, done once more in the grown area where it found no room
-  abbrev OnEstate : (Store → Type 0) → Result (Estate × ℕ) ErrorNumber → Type 0
-  OnEstate P (Ok x) = P x.0.store
-  OnEstate P (Err f) = Unit {0}
+  abbrev OnAreaStore : (Store → Type 0) → Result (AreaStore × ℕ) ErrorNumber → Type 0
+  OnAreaStore P (Ok x) = P x.0.store
+  OnAreaStore P (Err f) = Unit {0}
 
-  in_told : (P : Store → Type 0) (e : Estate) (r : Result (Store × ℕ) ErrorNumber) → OnDone ℕ P r → OnEstate P (in_area e r)
-  in_told P e (Ok x) done = done
-  in_told P e (Err f) done = tt
+  in_shown : (P : Store → Type 0) (e : AreaStore) (r : Result (Store × ℕ) ErrorNumber) → OnDone ℕ P r → OnAreaStore P (in_area e r)
+  in_shown P e (Ok x) done = done
+  in_shown P e (Err f) done = tt
 
-  grown_told : (P : Store → Type 0) (call : Store → Result (Store × ℕ) ErrorNumber) (r : Result Estate ErrorNumber)
-      → ((s : Store) → Like s → OnDone ℕ P (call s)) → OnGrown r → OnEstate P (bind r (λ g. in_area g (call g.store)))
-  grown_told P call (Ok g) each like = in_told P g (call g.store) (each g.store like)
-  grown_told P call (Err f) each like = tt
+  grown_shown : (P : Store → Type 0) (call : Store → Result (Store × ℕ) ErrorNumber) (r : Result AreaStore ErrorNumber)
+      → ((s : Store) → Like s → OnDone ℕ P (call s)) → OnGrown r → OnAreaStore P (bind r (λ g. in_area g (call g.store)))
+  grown_shown P call (Ok g) each like = in_shown P g (call g.store) (each g.store like)
+  grown_shown P call (Err f) each like = tt
 
-  again_told : (P : Store → Type 0) (e : Estate) (end : ℕ) (call : Store → Result (Store × ℕ) ErrorNumber) → Like e.store
-      → ((s : Store) → Like s → OnDone ℕ P (call s)) → OnEstate P (or_grown e end call (call e.store))
-  again_told P e end call like each = elim (cases_Bool (is_full (call e.store))) [
-    | inl full ↦ rw full (grown_told P call (grown_to e end) each (to_like e end like))
-    | inr done ↦ rw done (in_told P e (call e.store) (each e.store like))
+  again_shown : (P : Store → Type 0) (e : AreaStore) (end : ℕ) (call : Store → Result (Store × ℕ) ErrorNumber) → Like e.store
+      → ((s : Store) → Like s → OnDone ℕ P (call s)) → OnAreaStore P (or_grown e end call (call e.store))
+  again_shown P e end call like each = elim (cases_Bool (is_full (call e.store))) [
+    | inl full ↦ rw full (grown_shown P call (grown_to e end) each (to_like e end like))
+    | inr done ↦ rw done (in_shown P e (call e.store) (each e.store like))
   ]
 
-  told_then : (P : Store → Type 0) (r : Result (Estate × ℕ) ErrorNumber) (x : Estate × ℕ) → OnEstate P r → r ≡ Ok x → P x.0.store
-  told_then P (Ok y) x done is = let same : y ≡ x = cc in subst (λ (z : Estate × ℕ). P z.0.store) same done
-  told_then P (Err f) x done is = absurd (cc)
+  shown_then : (P : Store → Type 0) (r : Result (AreaStore × ℕ) ErrorNumber) (x : AreaStore × ℕ) → OnAreaStore P r → r ≡ Ok x → P x.0.store
+  shown_then P (Ok y) x done is = let same : y ≡ x = cc in subst (λ (z : AreaStore × ℕ). P z.0.store) same done
+  shown_then P (Err f) x done is = absurd (cc)
 
   -- claims
   abbrev Stays : Store → Type 0
@@ -228,9 +228,9 @@ module _ (d : Store) (o k : HeapList) (base : IsBase d o k) where
       subst (λ (p : ℕ). OnDone ℕ Stays (store_after_get s p size)) base.start
       (got_done Stays s (with_last o like.end) size (placed s like) (λ items. found_listed o.start k.start items s.heaps ∙ like_there s like))
 
-  claimed_stays : (e : Estate) (size : ℕ) → Like e.store → OnEstate Stays (rma_claimed e size)
+  claimed_stays : (e : AreaStore) (size : ℕ) → Like e.store → OnAreaStore Stays (rma_claimed e size)
   unfolding rma_claimed
-  claimed_stays e size like = again_told Stays e (rma_base e.store + total_for size) (λ s. store_after_get s module_area_start size) like (got_stays size)
+  claimed_stays e size like = again_shown Stays e (rma_base e.store + total_for size) (λ s. store_after_get s module_area_start size) like (got_stays size)
 
   with_stays : (s : Store) (at : ℕ) (r : Result ℕ ErrorNumber) → Stays s → Stays (store_with_image s at r)
   with_stays s at (Ok len) stays = stays
@@ -240,21 +240,21 @@ module _ (d : Store) (o k : HeapList) (base : IsBase d o k) where
   unfolding image_recorded
   recorded_stays s at stays = with_stays s at (block_sized s module_area_start at) stays
 
-  image_stays : (put : Store → ℕ → Store) (r : Result (Estate × ℕ) ErrorNumber) → ((s : Store) (at : ℕ) → (put s at).heaps ≡ s.heaps) → OnEstate Stays r
-      → OnEstate Stays (bind r (λ c. Ok (with_store c.0 (image_recorded (put c.0.store c.1) c.1), c.1)))
+  image_stays : (put : Store → ℕ → Store) (r : Result (AreaStore × ℕ) ErrorNumber) → ((s : Store) (at : ℕ) → (put s at).heaps ≡ s.heaps) → OnAreaStore Stays r
+      → OnAreaStore Stays (bind r (λ c. Ok (with_store c.0 (image_recorded (put c.0.store c.1) c.1), c.1)))
   image_stays put (Ok c) same stays =
       recorded_stays (put c.0.store c.1) c.1 (ap (λ (hs : List HeapList). is_some (find_heap k.start hs)) (same c.0.store c.1) ∙ stays)
   image_stays put (Err f) same stays = tt
 
   -- changes of size
-  abbrev Told : ℕ → ℕ → Store → Type 0
-  Told block change t = (find_heap k.start t.heaps ≡ None) ↔ IsForgotten d o.start reason.Resize block change k.start
+  abbrev Reported : ℕ → ℕ → Store → Type 0
+  Reported block change t = (find_heap k.start t.heaps ≡ None) ↔ IsForgotten d o.start reason.Resize block change k.start
 
   frees_some : (A : Type 0) (block change : ℕ) → ((total : ℕ) → freed_from reason.Resize block total change ≡ None) → A
   frees_some A block change none = absurd (not_none _ (none 0))
 
   lost_like : (s : Store) (block change total from : ℕ) (items : List Item) → (like : Like s) → FreesBytes (with_last o like.end) block total from
-      → freed_from reason.Resize block total change ≡ Some from → Told block change (store_holding (store_after_forget s block total from) (with_last o like.end) items)
+      → freed_from reason.Resize block total change ≡ Some from → Reported block change (store_holding (store_after_forget s block total from) (with_last o like.end) items)
   lost_like s block change total from items like given frees =
       let v : Store = store_after_forget s block total from in
       let w : Store = store_after_forget d block total from in
@@ -264,16 +264,16 @@ module _ (d : Store) (o k : HeapList) (base : IsBase d o k) where
       ∙ ap (λ (n : ℕ). is_some (find_heap k.start (without_heaps_in n (block - 4 + total - n) d.heaps))) (like.lowest block (total - 4) from) in
       let same : is_some (find_heap k.start (heaps_with_items o.start items v.heaps)) ≡ is_some (find_heap k.start (heaps_with_items o.start items w.heaps)) =
       found_listed o.start k.start items v.heaps ∙ left ∙ sym (found_listed o.start k.start items w.heaps) in
-      let told : (find_heap k.start (heaps_with_items o.start items w.heaps) ≡ None) ↔ IsForgotten d o.start reason.Resize block change k.start =
-      lost_told d o k reason.Resize block change total from items base.both (record { live = given.live; past = given.past }) frees in (
-        λ none. told.0 (none_by (find_heap k.start (heaps_with_items o.start items v.heaps)) (find_heap k.start (heaps_with_items o.start items w.heaps)) same none),
-        λ lost. none_by (find_heap k.start (heaps_with_items o.start items w.heaps)) (find_heap k.start (heaps_with_items o.start items v.heaps)) (sym same) (told.1 lost),
+      let reported : (find_heap k.start (heaps_with_items o.start items w.heaps) ≡ None) ↔ IsForgotten d o.start reason.Resize block change k.start =
+      lost_shown d o k reason.Resize block change total from items base.both (record { live = given.live; past = given.past }) frees in (
+        λ none. reported.0 (none_by (find_heap k.start (heaps_with_items o.start items v.heaps)) (find_heap k.start (heaps_with_items o.start items w.heaps)) same none),
+        λ lost. none_by (find_heap k.start (heaps_with_items o.start items w.heaps)) (find_heap k.start (heaps_with_items o.start items v.heaps)) (sym same) (reported.1 lost),
       )
 
   moved_like : (s : Store) (block change : ℕ) (c : Claim) (old new total : ℕ) (items : List Item) → (like : Like s)
       → MovesBlock s (with_last o like.end) c block old new → FreesBytes (with_list (with_last o like.end) c.items) block total block
       → freed_from reason.Resize block old change ≡ Some (block - 4 + new)
-      → Told block change
+      → Reported block change
       (store_holding (store_after_forget (moved_to s (with_last o like.end) c block old) block total block) (with_list (with_last o like.end) c.items) items)
   moved_like s block change c old new total items like is given frees =
       let u : Store = moved_to s (with_last o like.end) c block old in
@@ -293,42 +293,42 @@ module _ (d : Store) (o k : HeapList) (base : IsBase d o k) where
       same_freed d o reason.Resize block change old (block - 4 + new) k.start base.both.owner is.live frees l in
       both_ways (holds_heap d.heaps block (old - 4)) (sym (like.holds block (old - 4)) ∙ is.unheld)
       (found_holds lost.heap.start block (old - 4) d.heaps lost.heap lost.found lost.starts)) in
-      subst (λ (v : Store). Told block change (store_holding v (with_list (with_last o like.end) c.items) items)) (sym same) (
+      subst (λ (v : Store). Reported block change (store_holding v (with_list (with_last o like.end) c.items) items)) (sym same) (
         λ gone. absurd (false≢true (sym (ap is_some gone) ∙ there)),
         λ l. absurd (kept l),
       )
 
-  resized_told : (block change : ℕ) (s : Store) → Like s → OnDone ℕ (Told block change) (store_after_resize s module_area_start block change)
-  resized_told block change s like =
-      subst (λ (p : ℕ). OnDone ℕ (Told block change) (store_after_resize s p block change)) base.start
-      (resized_done (Told block change) s (with_last o like.end) block change (placed s like) (record {
-        same = λ none. frees_some (Told block change s) block change none;
-        held = λ items none. frees_some (Told block change (store_holding s (with_last o like.end) items)) block change none;
+  resized_shown : (block change : ℕ) (s : Store) → Like s → OnDone ℕ (Reported block change) (store_after_resize s module_area_start block change)
+  resized_shown block change s like =
+      subst (λ (p : ℕ). OnDone ℕ (Reported block change) (store_after_resize s p block change)) base.start
+      (resized_done (Reported block change) s (with_last o like.end) block change (placed s like) (record {
+        same = λ none. frees_some (Reported block change s) block change none;
+        held = λ items none. frees_some (Reported block change (store_holding s (with_last o like.end) items)) block change none;
         lost = λ total from items given frees. lost_like s block change total from items like given frees;
         moved = λ c old new total items is given frees. moved_like s block change c old new total items like is given frees;
-        ended = λ end none clear. frees_some (Told block change (ending s (with_last o like.end) end)) block change none;
+        ended = λ end none clear. frees_some (Reported block change (ending s (with_last o like.end) end)) block change none;
       }))
 
-  or_grown_told : (e : Estate) (block change : ℕ) → Like e.store → OnEstate (Told block change) (resized_or_grown e block change)
-  or_grown_told e block change like =
-      again_told (Told block change) e (end_if_moved (rma_base e.store) change (block_sized e.store module_area_start block))
-      (λ s. store_after_resize s module_area_start block change) like (resized_told block change)
+  or_grown_shown : (e : AreaStore) (block change : ℕ) → Like e.store → OnAreaStore (Reported block change) (resized_or_grown e block change)
+  or_grown_shown e block change like =
+      again_shown (Reported block change) e (end_if_moved (rma_base e.store) change (block_sized e.store module_area_start block))
+      (λ s. store_after_resize s module_area_start block change) like (resized_shown block change)
 
-  extended_told : (e : Estate) (block change : ℕ) → Like e.store → OnEstate (Told block change) (rma_extended e block change)
+  extended_shown : (e : AreaStore) (block change : ℕ) → Like e.store → OnAreaStore (Reported block change) (rma_extended e block change)
   unfolding rma_extended
-  extended_told e block change like =
+  extended_shown e block change like =
       let end : ℕ = end_in_place (rma_base e.store) block change (block_sized e.store module_area_start block) in
-      or_grown_told (grown_in_place e block change) block change (before_like e (grown_to e end) like (to_like e end like))
+      or_grown_shown (grown_in_place e block change) block change (before_like e (grown_to e end) like (to_like e end like))
 
-made_stays : (e : Estate) (o k : HeapList) (base : IsBase e.store o k) (image : List ℕ)
-    → OnEstate e.store o k base (Stays e.store o k base) (image_made e image)
+made_stays : (e : AreaStore) (o k : HeapList) (base : IsBase e.store o k) (image : List ℕ)
+    → OnAreaStore e.store o k base (Stays e.store o k base) (image_made e image)
 unfolding image_made
 made_stays e o k base image =
     image_stays e.store o k base (λ s at. record s { bytes = with_bytes s.bytes at image }) (rma_claimed e (length image)) (λ s at. refl)
     (claimed_stays e.store o k base e (length image) base.like)
 
-copied_stays : (e : Estate) (o k : HeapList) (base : IsBase e.store o k) (from len : ℕ)
-    → OnEstate e.store o k base (Stays e.store o k base) (image_copied e from len)
+copied_stays : (e : AreaStore) (o k : HeapList) (base : IsBase e.store o k) (from len : ℕ)
+    → OnAreaStore e.store o k base (Stays e.store o k base) (image_copied e from len)
 unfolding image_copied
 copied_stays e o k base from len =
     image_stays e.store o k base (λ s at. record s { bytes = with_moved s.bytes from at len }) (rma_claimed e len) (λ s at. refl)
@@ -341,12 +341,12 @@ area_calls_forget d e k good found =
     let base : IsBase d.store o k = base_of d k good has found in
     let stays : Store → Type 0 = Stays d.store o k base in
     record {
-      claim = λ size block is. told_then d.store o k base stays (rma_claimed d size) (e, block) (claimed_stays d.store o k base d size base.like) is;
-      make_image = λ image at is. told_then d.store o k base stays (image_made d image) (e, at) (made_stays d o k base image) is;
-      copy_image = λ from len at is. told_then d.store o k base stays (image_copied d from len) (e, at) (copied_stays d o k base from len) is;
-      free = λ block is. freed_told d (e, tt) k block good found is;
+      claim = λ size block is. shown_then d.store o k base stays (rma_claimed d size) (e, block) (claimed_stays d.store o k base d size base.like) is;
+      make_image = λ image at is. shown_then d.store o k base stays (image_made d image) (e, at) (made_stays d o k base image) is;
+      copy_image = λ from len at is. shown_then d.store o k base stays (image_copied d from len) (e, at) (copied_stays d o k base from len) is;
+      free = λ block is. freed_shown d (e, tt) k block good found is;
       extend = λ block change new is.
           subst (λ (p : ℕ). (find_heap k.start e.store.heaps ≡ None) ↔ IsForgotten d.store p reason.Resize block change k.start) base.start
-          (told_then d.store o k base (Told d.store o k base block change) (rma_extended d block change) (e, new)
-          (extended_told d.store o k base d block change base.like) is);
+          (shown_then d.store o k base (Reported d.store o k base block change) (rma_extended d block change) (e, new)
+          (extended_shown d.store o k base d block change base.like) is);
     }

@@ -17,15 +17,15 @@ use Rattle.dynamic_areas.proofs.Loosened.{loose_ended}
 use Rattle.dynamic_areas.proofs.ModuleArea.{IsModuleArea, module_area_known}
 use Rattle.dynamic_areas.proofs.RoomLemmas.{found_number}
 use Rattle.dynamic_areas.specs.declared.area.Area.{Area}
-use Rattle.dynamic_areas.specs.Areas.{Land, find_area, with_areas, without_area}
-use Rattle.dynamic_areas.specs.Changing.{AreLoose, change_answer, change_of, store_after_end, is_growth, loose_pages, pages_asked, pages_had, land_after_remove, store_changed, store_emptied, store_extended, store_less, store_more, store_reduced, with_heap_end}
+use Rattle.dynamic_areas.specs.Areas.{AreaTable, find_area, with_areas, without_area}
+use Rattle.dynamic_areas.specs.Changing.{AreLoose, change_answer, change_of, store_after_end, is_growth, loose_pages, pages_asked, pages_had, area_table_after_remove, store_changed, store_emptied, store_extended, store_less, store_more, store_reduced, with_heap_end}
 use Rattle.dynamic_areas.specs.Creating.{pages_for}
-use Rattle.dynamic_areas.specs.Ground.{Estate}
+use Rattle.dynamic_areas.specs.Ground.{AreaStore}
 use Rattle.dynamic_areas.specs.Remapped.{with_pages_at, without_pages_at}
 use Rattle.law_blocks.proofs.HeapFrameLemmas.Growing.{ended_outside}
-use Rattle.law_blocks.proofs.HeapFrameLemmas.Guests.{estates_fit, guest_elsewhere, outside_keeps}
+use Rattle.law_blocks.proofs.HeapFrameLemmas.Guests.{area_stores_fit, guest_elsewhere, outside_keeps}
 use Rattle.law_blocks.specs.heap_frame.AreaLaws.{AreaCallsKeepHeap}
-use Rattle.law_blocks.specs.heap_frame.FitEstates.{IsFitEstate}
+use Rattle.law_blocks.specs.heap_frame.FitAreaStores.{IsFitAreaStore}
 use Rattle.law_blocks.specs.heap_frame.GuestLaws.{HasGuestHeap}
 use Rattle.law_blocks.proofs.HeapCallsLemmas.KeptHeaps.{found_past}
 use Rattle.law_blocks.specs.heap_calls.Laws.{IsNotForgotten, KeepsHeap}
@@ -63,11 +63,11 @@ loose_keeps h s area count loose found =
       anchors = λ a inside. refl;
     }
 
-module _ (d : Estate) (h : HeapList) (g : HasGuestHeap d h) where
+module _ (d : AreaStore) (h : HeapList) (g : HasGuestHeap d h) where
   -- the module area's heap gets another end
   end_keeps : (end : ℕ) → KeepsHeap h d.store (with_heap_end d.store end)
   end_keeps end =
-      let f : IsFitEstate d = estates_fit d g.estate in
+      let f : IsFitAreaStore d = area_stores_fit d g.area_store in
       let k : HeapList = f.store.heap in
       let start : k.start ≡ module_area_start = found_start module_area_start d.store.heaps k f.store.found in
       let still : IsNotForgotten (ending d.store k end) h.start =
@@ -97,27 +97,27 @@ module _ (d : Estate) (h : HeapList) (g : HasGuestHeap d h) where
   ]
 
   -- pages of the module area go once its heap ends below them
-  module_reduced : (count : ℕ) (a : Area) → find_area 1 d.land.areas ≡ Some a → count ≤ loose_pages d.store a
+  module_reduced : (count : ℕ) (a : Area) → find_area 1 d.area_table.areas ≡ Some a → count ≤ loose_pages d.store a
       → KeepsHeap h d.store (store_less (with_heap_end d.store (4096 * (a.pages - count))) count (Some a))
   module_reduced count a found fits =
       let s : Store = d.store in
       let end : ℕ = 4096 * (a.pages - count) in
-      let m : IsModuleArea s a = module_area_known s d.pool d.land a g.estate found in
+      let m : IsModuleArea s a = module_area_known s d.pool d.area_table a g.area_store found in
       let t : Store = ending s m.heap end in
       let is : with_heap_end s end ≡ t = ap (λ (o : Option HeapList). store_after_end s end o) m.found in
-      let loose : AreLoose t a count = loose_ended s t d.pool d.land a count m g.estate found fits refl refl refl in
+      let loose : AreLoose t a count = loose_ended s t d.pool d.area_table a count m g.area_store found fits refl refl refl in
       let ended : KeepsHeap h s t = subst (λ (u : Store). KeepsHeap h s u) is (end_keeps end) in
       subst (λ (u : Store). KeepsHeap h s (store_less u count (Some a))) (sym is)
       (heap_then h s t (store_less t count (Some a)) ended (loose_keeps h t a count loose ended.found))
 
-  reduced_keeps : (number count : ℕ) (a : Area) → find_area number d.land.areas ≡ Some a → count ≤ loose_pages d.store a
+  reduced_keeps : (number count : ℕ) (a : Area) → find_area number d.area_table.areas ≡ Some a → count ≤ loose_pages d.store a
       → KeepsHeap h d.store (store_reduced d.store number count (Some a))
   reduced_keeps number count a found fits = elim (cases_Bool (number == 1)) [
     | inr other ↦
-        let own : a.number ≡ number = found_number number d.land.areas a found in
+        let own : a.number ≡ number = found_number number d.area_table.areas a found in
         rw other (loose_keeps h d.store a count (loose_created d.store a count (λ is. eqb-false number 1 other (sym own ∙ is)) fits) g.found)
     | inl area ↦
-        let first : find_area 1 d.land.areas ≡ Some a = subst (λ (n : ℕ). find_area n d.land.areas ≡ Some a) (eqb-true number 1 area) found in
+        let first : find_area 1 d.area_table.areas ≡ Some a = subst (λ (n : ℕ). find_area n d.area_table.areas ≡ Some a) (eqb-true number 1 area) found in
         rw area (module_reduced count a first fits)
   ]
 
@@ -128,7 +128,7 @@ module _ (d : Estate) (h : HeapList) (g : HasGuestHeap d h) where
     | inl area ↦ rw area (end_keeps (4096 * (0 - count)))
   ]
 
-  changed_by_found : (number amount : ℕ) (o : Option Area) → find_area number d.land.areas ≡ o → is_growth amount ≡ false
+  changed_by_found : (number amount : ℕ) (o : Option Area) → find_area number d.area_table.areas ≡ o → is_growth amount ≡ false
       → KeepsHeap h d.store (store_reduced d.store number ((change_of d.store d.pool amount o).bytes / 4096) o)
   changed_by_found number amount None found shrinks = none_reduced number ((change_of d.store d.pool amount None).bytes / 4096)
   changed_by_found number amount (Some a) found shrinks =
@@ -138,31 +138,31 @@ module _ (d : Estate) (h : HeapList) (g : HasGuestHeap d h) where
       subst (λ (n : ℕ). KeepsHeap h d.store (store_reduced d.store number n (Some a))) (sym (ap (λ (b : ℕ). b / 4096) gone ∙ whole))
       (reduced_keeps number count a found (min-le_right (pages_asked amount) (loose_pages d.store a)))
 
-  changed_keeps : (e : Estate) (number amount : ℕ)
-      → e.store ≡ store_changed d.store d.land.areas number amount (change_answer d.land.areas d.store d.pool number amount).bytes
+  changed_keeps : (e : AreaStore) (number amount : ℕ)
+      → e.store ≡ store_changed d.store d.area_table.areas number amount (change_answer d.area_table.areas d.store d.pool number amount).bytes
       → KeepsHeap h d.store e.store
   unfolding change_answer
   changed_keeps e number amount store =
-      let found : Option Area = find_area number d.land.areas in
+      let found : Option Area = find_area number d.area_table.areas in
       subst (λ (t : Store). KeepsHeap h d.store t) (sym store) (elim (cases_Bool (is_growth amount)) [
         | inl grows ↦ rw grows (extended_keeps number ((change_of d.store d.pool amount found).bytes / 4096) found)
         | inr shrinks ↦ rw shrinks (changed_by_found number amount found refl shrinks)
       ])
 
   -- an area that went is not the module area, and all its pages could go
-  emptied_keeps : (number : ℕ) (a : Area) → find_area number d.land.areas ≡ Some a → (number == 1 || nat_lt (loose_pages d.store a) a.pages) ≡ false
+  emptied_keeps : (number : ℕ) (a : Area) → find_area number d.area_table.areas ≡ Some a → (number == 1 || nat_lt (loose_pages d.store a) a.pages) ≡ false
       → KeepsHeap h d.store (without_pages_at d.store a.base (4096 * a.pages))
   emptied_keeps number a found passed =
       let parts = or_parts (number == 1) (nat_lt (loose_pages d.store a) a.pages) passed in
-      let own : a.number ≡ number = found_number number d.land.areas a found in
+      let own : a.number ≡ number = found_number number d.area_table.areas a found in
       let other : a.number ≢ 1 = λ is. eqb-false number 1 parts.0 (sym own ∙ is) in
       let loose : AreLoose d.store a a.pages = loose_created d.store a a.pages other (ltb-false (loose_pages d.store a) a.pages parts.1) in
       let first : a.base + 4096 * (a.pages - a.pages) ≡ a.base = omega arith in
       subst (λ (at : ℕ). KeepsHeap h d.store (without_pages_at d.store at (4096 * a.pages))) first (loose_keeps h d.store a a.pages loose g.found)
 
-  removed_by : (number : ℕ) (left : Land) (o : Option Area) → find_area number d.land.areas ≡ o
+  removed_by : (number : ℕ) (left : AreaTable) (o : Option Area) → find_area number d.area_table.areas ≡ o
       → bind (ok_or o AreaUnknown) (λ a.
-      if number == 1 || nat_lt (loose_pages d.store a) a.pages then Err AreaInUse else Ok (with_areas d.land (without_area number d.land.areas))) ≡ Ok left
+      if number == 1 || nat_lt (loose_pages d.store a) a.pages then Err AreaInUse else Ok (with_areas d.area_table (without_area number d.area_table.areas))) ≡ Ok left
       → KeepsHeap h d.store (store_emptied d.store o)
   removed_by number left None found done = heap_same h d.store g.found
   removed_by number left (Some a) found done = elim (cases_Bool (number == 1 || nat_lt (loose_pages d.store a) a.pages)) [
@@ -170,11 +170,11 @@ module _ (d : Estate) (h : HeapList) (g : HasGuestHeap d h) where
     | inr passed ↦ emptied_keeps number a found passed
   ]
 
-  removed_keeps : (e : Estate) (number : ℕ) → land_after_remove d.land d.store number ≡ Ok e.land
-      → e.store ≡ store_emptied d.store (find_area number d.land.areas) → KeepsHeap h d.store e.store
-  unfolding land_after_remove
+  removed_keeps : (e : AreaStore) (number : ℕ) → area_table_after_remove d.area_table d.store number ≡ Ok e.area_table
+      → e.store ≡ store_emptied d.store (find_area number d.area_table.areas) → KeepsHeap h d.store e.store
+  unfolding area_table_after_remove
   removed_keeps e number done store =
-      subst (λ (t : Store). KeepsHeap h d.store t) (sym store) (removed_by number e.land (find_area number d.land.areas) refl done)
+      subst (λ (t : Store). KeepsHeap h d.store t) (sym store) (removed_by number e.area_table (find_area number d.area_table.areas) refl done)
 
 pub area_calls_keep : AreaCallsKeepHeap
 area_calls_keep d e h g = record {

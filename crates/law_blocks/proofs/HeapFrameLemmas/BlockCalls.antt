@@ -22,7 +22,7 @@ use Rattle.os_heap.specs.Store.{Store, find_heap, has_image}
 use Rattle.dynamic_areas.proofs.ModuleArea.{find_ended}
 use Rattle.dynamic_areas.specs.declared.area.Area.{Area}
 use Rattle.dynamic_areas.specs.Changing.{store_extended, store_more}
-use Rattle.dynamic_areas.specs.Ground.{Estate}
+use Rattle.dynamic_areas.specs.Ground.{AreaStore}
 use Rattle.rma.specs.Calls.{area_pages, area_room, grown_by, grown_to, in_area, is_full, pages_short, rma_base, rma_claimed, rma_freed, with_store}
 use Rattle.rma.specs.Images.{image_recorded, store_with_image}
 use Rattle.rma.specs.NewImages.{image_copied, image_made}
@@ -32,9 +32,9 @@ use Rattle.law_blocks.proofs.HeapFrameLemmas.Blocks.{AreSame, beside_same, held_
 use Rattle.law_blocks.proofs.HeapFrameLemmas.HeapCalls.{items_of_fit, unless_some}
 use Rattle.law_blocks.proofs.HeapFrameLemmas.Holding.{written_is_fit}
 use Rattle.law_blocks.proofs.HeapFrameLemmas.Lists.{HasRoomFor, HasRoomIfSome, released_room}
-use Rattle.law_blocks.proofs.HeapFrameLemmas.ModuleArea.{OnEstate, OnGrown, to_fit}
+use Rattle.law_blocks.proofs.HeapFrameLemmas.ModuleArea.{OnAreaStore, OnGrown, to_fit}
 use Rattle.law_blocks.specs.heap_frame.BlockLaws.{BlockCallsKeep, StayLive, WereLive, block_total, total_in}
-use Rattle.law_blocks.specs.heap_frame.FitEstates.{IsFitEstate}
+use Rattle.law_blocks.specs.heap_frame.FitAreaStores.{IsFitAreaStore}
 use Rattle.law_blocks.specs.heap_frame.Fits.{IsFitStore}
 
 -- a claim leaves all blocks, and makes one that was none
@@ -130,18 +130,18 @@ extended_same limit count s a f =
     let two : AreSame t (ending t f.heap (4096 * (a.pages + count))) = ended_same limit (4096 * (a.pages + count)) t f.heap g f.found in
     rw f.found (same_both s t (ending t f.heap (4096 * (a.pages + count))) one two)
 
-abbrev pub SameGrown : Estate → Result Estate ErrorNumber → Type 0
+abbrev pub SameGrown : AreaStore → Result AreaStore ErrorNumber → Type 0
 SameGrown e (Ok g) = AreSame e.store g.store
 SameGrown e (Err f) = Unit {0}
 
-pub by_same : (e : Estate) (count : ℕ) → IsFitEstate e → SameGrown e (grown_by e count)
+pub by_same : (e : AreaStore) (count : ℕ) → IsFitAreaStore e → SameGrown e (grown_by e count)
 by_same e count f = elim (cases_Bool (nat_lt (area_room e) count)) [
   | inl short ↦ rw short tt
   | inr enough ↦ rw enough (subst (λ (o : Option Area). AreSame e.store (store_extended e.store 1 count o)) (sym f.found)
       (extended_same (4096 * f.area.pages) count e.store f.area f.store))
 ]
 
-pub to_same : (e : Estate) (end : ℕ) → IsFitEstate e → SameGrown e (grown_to e end)
+pub to_same : (e : AreaStore) (end : ℕ) → IsFitAreaStore e → SameGrown e (grown_to e end)
 unfolding grown_to
 to_same e end f = elim (cases_Bool (nat_le end (4096 * area_pages e))) [
   | inl enough ↦ rw enough (same_all e.store)
@@ -149,15 +149,15 @@ to_same e end f = elim (cases_Bool (nat_le end (4096 * area_pages e))) [
 ]
 
 -- a claim in the module area
-abbrev MakesIn : ℕ → Estate → Estate × ℕ → Type 0
+abbrev MakesIn : ℕ → AreaStore → AreaStore × ℕ → Type 0
 MakesIn total e x = MakesBlock e.store x.0.store x.1 total
 
-in_makes : (total : ℕ) (e : Estate) (r : Result (Store × ℕ) ErrorNumber) → OnDone (MakesOne total e.store) r → OnEstate (MakesIn total e) (in_area e r)
+in_makes : (total : ℕ) (e : AreaStore) (r : Result (Store × ℕ) ErrorNumber) → OnDone (MakesOne total e.store) r → OnAreaStore (MakesIn total e) (in_area e r)
 in_makes total e (Ok x) done = done
 in_makes total e (Err f) done = tt
 
-after_makes : (total : ℕ) (d e : Estate) (r : Result (Estate × ℕ) ErrorNumber) → AreSame d.store e.store → OnEstate (MakesIn total e) r
-    → OnEstate (MakesIn total d) r
+after_makes : (total : ℕ) (d e : AreaStore) (r : Result (AreaStore × ℕ) ErrorNumber) → AreSame d.store e.store → OnAreaStore (MakesIn total e) r
+    → OnAreaStore (MakesIn total d) r
 after_makes total d e (Ok x) same done = record {
   stay = stay_both d.store e.store x.0.store (same_stay d.store e.store same) done.stay;
   none = sym (ap is_some (same.totals x.1)) ∙ done.none;
@@ -165,14 +165,14 @@ after_makes total d e (Ok x) same done = record {
 }
 after_makes total d e (Err f) same done = tt
 
-grown_makes : (e : Estate) (size : ℕ) (o : Result Estate ErrorNumber) → OnGrown e o → SameGrown e o
-    → OnEstate (MakesIn (total_for size) e) (bind o (λ g. in_area g (store_after_get g.store module_area_start size)))
+grown_makes : (e : AreaStore) (size : ℕ) (o : Result AreaStore ErrorNumber) → OnGrown e o → SameGrown e o
+    → OnAreaStore (MakesIn (total_for size) e) (bind o (λ g. in_area g (store_after_get g.store module_area_start size)))
 grown_makes e size (Err f) fit same = tt
 grown_makes e size (Ok g) fit same =
     after_makes (total_for size) e g (in_area g (store_after_get g.store module_area_start size)) same
     (in_makes (total_for size) g (store_after_get g.store module_area_start size) (got_makes (4096 * fit.fit.area.pages) size g.store fit.fit.store))
 
-claimed_makes : (e : Estate) (size : ℕ) → IsFitEstate e → OnEstate (MakesIn (total_for size) e) (rma_claimed e size)
+claimed_makes : (e : AreaStore) (size : ℕ) → IsFitAreaStore e → OnAreaStore (MakesIn (total_for size) e) (rma_claimed e size)
 unfolding rma_claimed
 claimed_makes e size f = elim (cases_Bool (is_full (store_after_get e.store module_area_start size))) [
   | inl full ↦
@@ -182,7 +182,7 @@ claimed_makes e size f = elim (cases_Bool (is_full (store_after_get e.store modu
 ]
 
 -- the new block gets bytes, and is recorded as an image
-abbrev StayIn : {A : Type 0} → Estate → Estate × A → Type 0
+abbrev StayIn : {A : Type 0} → AreaStore → AreaStore × A → Type 0
 StayIn e x = StayLive e.store x.0.store
 
 recorded_by : (s t : Store) (at : ℕ) (o : Result ℕ ErrorNumber) → StayLive s t → StayLive s (store_with_image t at o)
@@ -200,9 +200,9 @@ filled_stay s t c at total made kept block n live =
     let differs : block ≢ at = λ same. false≢true (sym made.none ∙ ap is_some (subst (λ (b : ℕ). block_total s b ≡ Some n) same live)) in
     (there.0, λ a inside. kept a (made.apart block n a there.0 differs inside) ∙ there.1 a inside)
 
-image_stay : (e : Estate) (len : ℕ) (o : Result (Estate × ℕ) ErrorNumber) (put : Store → ℕ → Bytes)
-    → ((s : Store) (at a : ℕ) → in_range at (total_for len - 4) a ≡ false → (put s at).at a ≡ s.bytes.at a) → OnEstate (MakesIn (total_for len) e) o
-    → OnEstate (StayIn e)
+image_stay : (e : AreaStore) (len : ℕ) (o : Result (AreaStore × ℕ) ErrorNumber) (put : Store → ℕ → Bytes)
+    → ((s : Store) (at a : ℕ) → in_range at (total_for len - 4) a ≡ false → (put s at).at a ≡ s.bytes.at a) → OnAreaStore (MakesIn (total_for len) e) o
+    → OnAreaStore (StayIn e)
     (bind o (λ c. Ok (with_store c.0 (image_recorded (record c.0.store { bytes = put c.0.store c.1 }) c.1), c.1)))
 image_stay e len (Err g) put kept done = tt
 image_stay e len (Ok c) put kept done =
@@ -215,30 +215,30 @@ part_out len at a out = false_from_ne_true (in_range at len a) (λ is.
     let parts : (at ≤ a) × (a < at + len) = range_parts at len a is in
     false≢true (sym out ∙ rw (le-leb at a parts.0, lt-ltb a (at + (total_for len - 4)) (omega (arith, parts.1))) refl))
 
-made_stay : (e : Estate) (image : List ℕ) → IsFitEstate e → OnEstate (StayIn e) (image_made e image)
+made_stay : (e : AreaStore) (image : List ℕ) → IsFitAreaStore e → OnAreaStore (StayIn e) (image_made e image)
 unfolding image_made
 made_stay e image f =
     image_stay e (length image) (rma_claimed e (length image)) (λ s at. with_bytes s.bytes at image)
     (λ s at a out. rw (part_out (length image) at a out) refl) (claimed_makes e (length image) f)
 
-copied_stay : (e : Estate) (from len : ℕ) → IsFitEstate e → OnEstate (StayIn e) (image_copied e from len)
+copied_stay : (e : AreaStore) (from len : ℕ) → IsFitAreaStore e → OnAreaStore (StayIn e) (image_copied e from len)
 unfolding image_copied
 copied_stay e from len f =
     image_stay e len (rma_claimed e len) (λ s at. with_moved s.bytes from at len) (λ s at a out. rw (part_out len at a out) refl)
     (claimed_makes e len f)
 
-done_in : (A : Type 0) (P : Estate × A → Type 0) (r : Result (Estate × A) ErrorNumber) (x : Estate × A) → OnEstate P r → r ≡ Ok x → P x
+done_in : (A : Type 0) (P : AreaStore × A → Type 0) (r : Result (AreaStore × A) ErrorNumber) (x : AreaStore × A) → OnAreaStore P r → r ≡ Ok x → P x
 done_in A P (Ok y) x done is = let same : y ≡ x = cc in subst P same done
 done_in A P (Err e) x done is = absurd (cc)
 
-abbrev pub WereIn : {A : Type 0} → Estate → Estate × A → Type 0
+abbrev pub WereIn : {A : Type 0} → AreaStore → AreaStore × A → Type 0
 WereIn e x = WereLive e.store x.0.store
 
-in_were : (A : Type 0) (e : Estate) (r : Result (Store × A) ErrorNumber) → OnDone (WereLiveIn e.store) r → OnEstate (WereIn e) (in_area e r)
+in_were : (A : Type 0) (e : AreaStore) (r : Result (Store × A) ErrorNumber) → OnDone (WereLiveIn e.store) r → OnAreaStore (WereIn e) (in_area e r)
 in_were A e (Ok x) done = done
 in_were A e (Err f) done = tt
 
-pub freed_were : (e : Estate) (block : ℕ) → IsFitEstate e → OnEstate (WereIn e) (rma_freed e block)
+pub freed_were : (e : AreaStore) (block : ℕ) → IsFitAreaStore e → OnAreaStore (WereIn e) (rma_freed e block)
 unfolding rma_freed
 freed_were e block f = in_were (Unit {0}) e (gave_back e.store module_area_start block) (gave_were (4096 * f.area.pages) block e.store f.store)
 

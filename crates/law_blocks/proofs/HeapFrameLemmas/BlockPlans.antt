@@ -6,7 +6,7 @@ use Rattle.profile.specs.declared.error.ErrorNumber.{ErrorNumber}
 use Rattle.address_map.specs.Bytes.{with_bytes_at, with_word_at}
 use Rattle.os_heap.specs.Calls.{gave_back}
 use Rattle.os_heap.specs.Store.{Store}
-use Rattle.dynamic_areas.specs.Ground.{Estate}
+use Rattle.dynamic_areas.specs.Ground.{AreaStore}
 use Rattle.rma.specs.Calls.{rma_freed}
 use Rattle.rma.specs.Images.{image_dropped, image_freed, or_kept}
 use Rattle.rma.proofs.FlexFrameLemmas.Heaps.{OnDone}
@@ -21,19 +21,19 @@ use Rattle.instances_table.specs.declared.plans.given.Given.{Given}
 use Rattle.instances_table.specs.plans.Carrying.{carry_of_plan, carried_by, carried_from}
 use Rattle.instances_table.specs.plans.Code.{private_of}
 use Rattle.instances_table.specs.plans.Plans.{Plan, actions_owed}
-use Rattle.instances.specs.world.World.{World, estate_after_free, image_gone, image_gone_of, image_gone_with, or_same, private_freed, private_word, world_after_remove, with_private, with_text}
-use Rattle.instances.specs.tidying.Slid.{world_slid}
-use Rattle.instances.specs.actions.Actions.{world_after_action, code_of, image_given}
+use Rattle.instances.specs.module_state.ModuleState.{ModuleState, area_store_after_free, image_gone, image_gone_of, image_gone_with, or_same, private_freed, private_word, module_state_after_remove, with_private, with_text}
+use Rattle.instances.specs.tidying.Slid.{module_state_slid}
+use Rattle.instances.specs.actions.Actions.{module_state_after_action, code_of, image_given}
 use Rattle.instances.specs.Turns.{module_doing}
 use Rattle.law_blocks.proofs.HeapFrameLemmas.BlockCalls.{WereIn, WereLiveIn, freed_were, gave_were}
 use Rattle.law_blocks.proofs.HeapFrameLemmas.Blocks.{AreSame, beside_same, same_all, same_were, were_both}
-use Rattle.law_blocks.proofs.HeapFrameLemmas.ModuleArea.{OnEstate, freed_fit, records_fit}
+use Rattle.law_blocks.proofs.HeapFrameLemmas.ModuleArea.{OnAreaStore, freed_fit, records_fit}
 use Rattle.law_blocks.proofs.HeapFrameLemmas.Plans.{acts_fit}
 use Rattle.law_blocks.proofs.HeapFrameLemmas.Words.{block_fit, or_same_fit}
 use Rattle.law_blocks.specs.heap_frame.BlockLaws.{HaveNoSlide, PlansKeepBlocks, WereLive}
-use Rattle.law_blocks.specs.heap_frame.FitEstates.{EstateStaysFit, IsFitEstate}
+use Rattle.law_blocks.specs.heap_frame.FitAreaStores.{AreaStoreStaysFit, IsFitAreaStore}
 use Rattle.law_blocks.specs.heap_frame.Fits.{IsFitStore}
-use Rattle.law_blocks.specs.heap_frame.PlanLaws.{AreActionsBelow, AreBelow, IsFitWorld, WorldStaysFit, slot_named}
+use Rattle.law_blocks.specs.heap_frame.PlanLaws.{AreActionsBelow, AreBelow, IsFitModuleState, ModuleStateStaysFit, slot_named}
 
 were_all : (s : Store) → WereLive s s
 were_all s = same_were s s (same_all s)
@@ -47,27 +47,27 @@ word_low f at value a less = rw (
   ne_eqb a (at + 3) (λ e. omega (arith, less, e)),
 ) refl
 
-word_same : (e : Estate) (slot value : ℕ) → IsFitEstate e → AreSame e.store (with_private e slot value).store
+word_same : (e : AreaStore) (slot value : ℕ) → IsFitAreaStore e → AreSame e.store (with_private e slot value).store
 word_same e slot value f =
     beside_same (4096 * f.area.pages) e.store (record { mapped = e.store.bytes.mapped; at = with_word_at e.store.bytes.at (private_of slot) value }) f.store
     (λ a low high. word_low e.store.bytes.at (private_of slot) value a (omega (arith, high)))
 
-pub text_same : (e : Estate) (text : List ℕ) → IsFitEstate e → AreSame e.store (with_text e text).store
+pub text_same : (e : AreaStore) (text : List ℕ) → IsFitAreaStore e → AreSame e.store (with_text e text).store
 text_same e text f =
     beside_same (4096 * f.area.pages) e.store (record { mapped = e.store.bytes.mapped; at = with_bytes_at e.store.bytes.at environment_text_start (text ++ 0 ∷ []) }) f.store
     (λ a low high. rw (lt-leb environment_text_start a (omega (arith, high))) refl)
 
 -- a private word's block goes
-or_same_were : (A : Type 0) (e : Estate) (r : Result (Estate × A) ErrorNumber) → OnEstate (WereIn e) r → WereLive e.store (or_same e r).store
+or_same_were : (A : Type 0) (e : AreaStore) (r : Result (AreaStore × A) ErrorNumber) → OnAreaStore (WereIn e) r → WereLive e.store (or_same e r).store
 or_same_were A e (Ok x) done = done
 or_same_were A e (Err g) done = were_all e.store
 
-block_were : (e : Estate) (slot : ℕ) → IsFitEstate e → WereLive e.store (private_freed e slot).store
+block_were : (e : AreaStore) (slot : ℕ) → IsFitAreaStore e → WereLive e.store (private_freed e slot).store
 unfolding private_freed
 block_were e slot f =
     let block : ℕ = private_word e slot in
-    let g : Estate = estate_after_free e block in
-    let fit : EstateStaysFit e g = or_same_fit (Unit {0}) e (rma_freed e block) f (freed_fit e block f) in
+    let g : AreaStore = area_store_after_free e block in
+    let fit : AreaStoreStaysFit e g = or_same_fit (Unit {0}) e (rma_freed e block) f (freed_fit e block f) in
     were_both e.store g.store (with_private g slot 0).store (or_same_were (Unit {0}) e (rma_freed e block) (freed_were e block f))
     (same_were g.store (with_private g slot 0).store (word_same g slot 0 fit.fit))
 
@@ -91,45 +91,45 @@ image_freed_were limit s at f =
     were_both s t (or_kept t (gave_back t module_area_start at)) (same_were s t (dropped_same s at))
     (or_kept_were t (gave_back t module_area_start at) (gave_were limit at t (dropped_fit limit s at f)))
 
-image_were : (e : Estate) (image : Image) → IsFitEstate e → WereLive e.store (image_gone e image).store
+image_were : (e : AreaStore) (image : Image) → IsFitAreaStore e → WereLive e.store (image_gone e image).store
 unfolding image_gone
 image_were e image f = elim (cases_Bool (is_in_module_area image.at)) [
   | inl inside ↦ rw inside (image_freed_were (4096 * f.area.pages) e.store image.at f.store)
   | inr beside ↦ rw beside (same_were e.store (image_dropped e.store image.at) (dropped_same e.store image.at))
 ]
 
-image_of_were : (e : Estate) (m : Module) (left : List Module) → IsFitEstate e → WereLive e.store (image_gone_of e m left).store
+image_of_were : (e : AreaStore) (m : Module) (left : List Module) → IsFitAreaStore e → WereLive e.store (image_gone_of e m left).store
 image_of_were e m [] f = image_were e m.image f
 image_of_were e m (k ∷ left) f = were_all e.store
 
-image_with_were : (e : Estate) (slot : ℕ) (modules : List Module) → IsFitEstate e → WereLive e.store (image_gone_with e slot modules).store
+image_with_were : (e : AreaStore) (slot : ℕ) (modules : List Module) → IsFitAreaStore e → WereLive e.store (image_gone_with e slot modules).store
 image_with_were e slot [] f = were_all e.store
 image_with_were e slot (m ∷ modules) f = elim (cases_Bool (has_instance slot m)) [
   | inl here ↦ rw here (image_of_were e m (module_without slot m) f)
   | inr other ↦ rw other (image_with_were e slot modules f)
 ]
 
-removed_were : (w : World) (slot : ℕ) → IsFitWorld w → slot < 64 → WereLive w.estate.store (world_after_remove w slot).estate.store
-unfolding world_after_remove
+removed_were : (w : ModuleState) (slot : ℕ) → IsFitModuleState w → slot < 64 → WereLive w.area_store.store (module_state_after_remove w slot).area_store.store
+unfolding module_state_after_remove
 removed_were w slot f few =
-    let e : Estate = private_freed w.estate slot in
-    let one : EstateStaysFit w.estate e = block_fit w.estate slot f.estate few in
-    were_both w.estate.store e.store (image_gone_with e slot w.modules).store (block_were w.estate slot f.estate)
+    let e : AreaStore = private_freed w.area_store slot in
+    let one : AreaStoreStaysFit w.area_store e = block_fit w.area_store slot f.area_store few in
+    were_both w.area_store.store e.store (image_gone_with e slot w.modules).store (block_were w.area_store slot f.area_store)
     (image_with_were e slot w.modules one.fit)
 
-acts_were : (w : World) (g : Given) (a : PlanAction) → IsFitWorld w → AreBelow (slot_named a) → HaveNoSlide (a ∷ [])
-    → WereLive w.estate.store (world_after_action world_slid g w a).estate.store
-acts_were w g (act.Finalise slot fatal) f below none = were_all w.estate.store
+acts_were : (w : ModuleState) (g : Given) (a : PlanAction) → IsFitModuleState w → AreBelow (slot_named a) → HaveNoSlide (a ∷ [])
+    → WereLive w.area_store.store (module_state_after_action module_state_slid g w a).area_store.store
+acts_were w g (act.Finalise slot fatal) f below none = were_all w.area_store.store
 acts_were w g (act.Remove slot) f below none = removed_were w slot f below.0
-acts_were w g (act.FreePrivate slot) f below none = block_were w.estate slot f.estate
+acts_were w g (act.FreePrivate slot) f below none = block_were w.area_store slot f.area_store
 acts_were w g (act.Insert slot) f below none =
-    same_were w.estate.store (with_private w.estate slot 0).store (word_same w.estate slot 0 f.estate)
+    same_were w.area_store.store (with_private w.area_store slot 0).store (word_same w.area_store slot 0 f.area_store)
 acts_were w g (act.Instantiate slot) f below none =
-    same_were w.estate.store (with_private w.estate slot 0).store (word_same w.estate slot 0 f.estate)
-acts_were w g act.GiveUp f below none = image_were w.estate (image_given g) f.estate
+    same_were w.area_store.store (with_private w.area_store slot 0).store (word_same w.area_store slot 0 f.area_store)
+acts_were w g act.GiveUp f below none = image_were w.area_store (image_given g) f.area_store
 acts_were w g act.Slide f below none = absurd none
 acts_were w g (act.Initialise slot) f below none =
-    same_were w.estate.store (with_text w.estate g.text.items).store (text_same w.estate g.text.items f.estate)
+    same_were w.area_store.store (with_text w.area_store g.text.items).store (text_same w.area_store g.text.items f.area_store)
 
 -- one after another, up to the next code
 none_first : (a : PlanAction) (actions : List PlanAction) → HaveNoSlide (a ∷ actions) → HaveNoSlide (a ∷ []) × HaveNoSlide actions
@@ -143,22 +143,22 @@ none_first act.Slide actions none = absurd none
 none_first (act.Initialise slot) actions none = (tt, none)
 
 abbrev GoOn : List PlanAction → Type 0
-GoOn actions = (w : World) (p : Plan) → IsFitWorld w → length p.given.text.items ≤ 255
-    → WereLive w.estate.store (carried_from module_doing actions w p).world.estate.store
+GoOn actions = (w : ModuleState) (p : Plan) → IsFitModuleState w → length p.given.text.items ≤ 255
+    → WereLive w.area_store.store (carried_from module_doing actions w p).module_state.area_store.store
 
-by_code : (w : World) (p : Plan) (a : PlanAction) (actions : List PlanAction) (o : Option Code) → IsFitWorld w → AreBelow (slot_named a)
+by_code : (w : ModuleState) (p : Plan) (a : PlanAction) (actions : List PlanAction) (o : Option Code) → IsFitModuleState w → AreBelow (slot_named a)
     → HaveNoSlide (a ∷ []) → length p.given.text.items ≤ 255 → GoOn actions
-    → WereLive w.estate.store (carried_by module_doing w p a actions o (carried_from module_doing actions)).world.estate.store
+    → WereLive w.area_store.store (carried_by module_doing w p a actions o (carried_from module_doing actions)).module_state.area_store.store
 by_code w p a actions (Some code) f below none few on = acts_were w p.given a f below none
 by_code w p a actions None f below none few on =
-    let v : World = world_after_action world_slid p.given w a in
+    let v : ModuleState = module_state_after_action module_state_slid p.given w a in
     let q : Plan = record p { actions = actions; instead = actions_owed p.instead a; runs = false } in
-    let one : WorldStaysFit w v = acts_fit w p.given a f below few in
-    were_both w.estate.store v.estate.store (carried_from module_doing actions v q).world.estate.store (acts_were w p.given a f below none)
-    (on v q (record { estate = one.estate.fit; slots = one.slots }) few)
+    let one : ModuleStateStaysFit w v = acts_fit w p.given a f below few in
+    were_both w.area_store.store v.area_store.store (carried_from module_doing actions v q).module_state.area_store.store (acts_were w p.given a f below none)
+    (on v q (record { area_store = one.area_store.fit; slots = one.slots }) few)
 
 from_were : (actions : List PlanAction) → AreActionsBelow actions → HaveNoSlide actions → GoOn actions
-from_were [] below none w p f few = were_all w.estate.store
+from_were [] below none w p f few = were_all w.area_store.store
 from_were (a ∷ actions) below none w p f few =
     let parts = none_first a actions none in
     by_code w p a actions (code_of w a) f below.0 parts.0 few (from_were actions below.1 parts.1)

@@ -13,13 +13,13 @@ use Rattle.dynamic_areas.proofs.GroundLemmas.{find_paged}
 use Rattle.dynamic_areas.proofs.ModuleArea.{find_ended}
 use Rattle.dynamic_areas.specs.declared.area.Area.{Area}
 use Rattle.dynamic_areas.specs.Areas.{find_area, area_with_pages, with_pages}
-use Rattle.dynamic_areas.specs.Changing.{growth_room, land_more, pages_had, store_extended, store_more}
-use Rattle.dynamic_areas.specs.Ground.{Estate}
+use Rattle.dynamic_areas.specs.Changing.{growth_room, area_table_more, pages_had, store_extended, store_more}
+use Rattle.dynamic_areas.specs.Ground.{AreaStore}
 use Rattle.law_blocks.proofs.HeapFrameLemmas.FoundHeaps.{ended_areas}
 use Rattle.law_blocks.proofs.HeapFrameLemmas.Holding.{area_of, stays_both, words_within, written_fit}
 use Rattle.law_blocks.proofs.HeapFrameLemmas.InnerHeaps.{ended_inner}
 use Rattle.law_blocks.specs.heap_frame.Fits.{IsFitStore, KeepsOutside, StaysFit}
-use Rattle.law_blocks.specs.heap_frame.FitEstates.{EstateStaysFit, IsFitEstate}
+use Rattle.law_blocks.specs.heap_frame.FitAreaStores.{AreaStoreStaysFit, IsFitAreaStore}
 use Rattle.law_blocks.proofs.HeapCallsLemmas.KeptHeaps.{found_past}
 
 -- the items of the heap that is found
@@ -73,16 +73,16 @@ extended_fit limit count s a f is most =
     let two : StaysFit new t (ending t f.heap new) = ended_fit limit new t f.heap one.fit f.found (omega (arith, is)) most in
     rw f.found (stays_both limit new s t (ending t f.heap new) one two)
 
--- an estate whose module area grew
-pub pages_fit : (e : Estate) (count : ℕ) (f : IsFitEstate e) (g : Estate) → 4096 * (f.area.pages + count) ≤ 0x400000
-    → g.store ≡ store_extended e.store 1 count (find_area 1 e.land.areas) → g.land ≡ land_more e.land 1 count → EstateStaysFit e g
-pages_fit e count f g most store land =
+-- an area store whose module area grew
+pub pages_fit : (e : AreaStore) (count : ℕ) (f : IsFitAreaStore e) (g : AreaStore) → 4096 * (f.area.pages + count) ≤ 0x400000
+    → g.store ≡ store_extended e.store 1 count (find_area 1 e.area_table.areas) → g.area_table ≡ area_table_more e.area_table 1 count → AreaStoreStaysFit e g
+pages_fit e count f g most store area_table =
     let a : Area = f.area in
     let store' : g.store ≡ store_extended e.store 1 count (Some a) = store ∙ ap (store_extended e.store 1 count) f.found in
-    let areas : g.land.areas ≡ with_pages 1 (a.pages + count) e.land.areas =
-    ap (λ l. l.areas) land ∙ ap (λ (o : Option Area). with_pages 1 (pages_had o + count) e.land.areas) f.found in
-    let found : find_area 1 g.land.areas ≡ Some (area_with_pages (a.pages + count) a) =
-    ap (find_area 1) areas ∙ find_paged 1 (a.pages + count) e.land.areas a f.found in
+    let areas : g.area_table.areas ≡ with_pages 1 (a.pages + count) e.area_table.areas =
+    ap (λ l. l.areas) area_table ∙ ap (λ (o : Option Area). with_pages 1 (pages_had o + count) e.area_table.areas) f.found in
+    let found : find_area 1 g.area_table.areas ≡ Some (area_with_pages (a.pages + count) a) =
+    ap (find_area 1) areas ∙ find_paged 1 (a.pages + count) e.area_table.areas a f.found in
     let there : StaysFit (4096 * (a.pages + count)) e.store g.store =
     subst (λ (t : Store). StaysFit (4096 * (a.pages + count)) e.store t) (sym store') (extended_fit (4096 * a.pages) count e.store a f.store refl most) in
     record {

@@ -19,32 +19,32 @@ use Rattle.dynamic_areas.proofs.RoomLemmas.{found_behind, found_room, in_window}
 use Rattle.dynamic_areas.proofs.SystemWrites.{system_clear}
 use Rattle.dynamic_areas.specs.declared.area.Area.{Area}
 use Rattle.dynamic_areas.specs.Areas.{find_area}
-use Rattle.dynamic_areas.specs.Ground.{Estate, IsEstate, is_fixed, is_in_area, is_land}
+use Rattle.dynamic_areas.specs.Ground.{AreaStore, IsAreaStore, is_fixed, is_in_area, is_area_table}
 use Rattle.dynamic_areas.specs.Rooms.{AreRooms, IsAreaRoom}
 use Rattle.law_blocks.specs.heap_frame.Fits.{is_module_byte}
-use Rattle.law_blocks.specs.heap_frame.GuestLaws.{EstatesAreFit, GuestHeapsLieOutside, HasGuestHeap, OutsideKeepsHeap}
+use Rattle.law_blocks.specs.heap_frame.GuestLaws.{AreaStoresAreFit, GuestHeapsLieOutside, HasGuestHeap, OutsideKeepsHeap}
 
--- area 1 of an estate, which is there
-record HasModuleArea (e : Estate) : Type 0 where
+-- area 1 of an area store, which is there
+record HasModuleArea (e : AreaStore) : Type 0 where
   area : Area
-  found : find_area 1 e.land.areas ≡ Some area
+  found : find_area 1 e.area_table.areas ≡ Some area
   known : IsModuleArea e.store area
   room : IsAreaRoom area
 
-module_area : (e : Estate) → IsEstate e → HasModuleArea e
-module_area e estate = of_area (find_area 1 e.land.areas) refl estate.ground.table.first where
-  of_area : (o : Option Area) → find_area 1 e.land.areas ≡ o → is_some o ≡ true → HasModuleArea e
+module_area : (e : AreaStore) → IsAreaStore e → HasModuleArea e
+module_area e area_store = of_area (find_area 1 e.area_table.areas) refl area_store.ground.table.first where
+  of_area : (o : Option Area) → find_area 1 e.area_table.areas ≡ o → is_some o ≡ true → HasModuleArea e
   of_area None none some = absurd (false≢true some)
   of_area (Some a) found some = record {
     area = a;
     found = found;
-    known = module_area_known e.store e.pool e.land a estate found;
-    room = found_room 1 e.land.areas a estate.ground.table.rooms found;
+    known = module_area_known e.store e.pool e.area_table a area_store found;
+    room = found_room 1 e.area_table.areas a area_store.ground.table.rooms found;
   }
 
-pub estates_fit : EstatesAreFit
-estates_fit e estate =
-    let m : HasModuleArea e = module_area e estate in
+pub area_stores_fit : AreaStoresAreFit
+area_stores_fit e area_store =
+    let m : HasModuleArea e = module_area e area_store in
     let maximum : m.area.maximum ≡ 4194304 = m.known.maximum in
     let within : 4096 * m.area.pages ≤ m.area.maximum = m.room.within in
     record {
@@ -58,7 +58,7 @@ estates_fit e estate =
         inside = omega (arith, m.known.spelled.inside, m.known.end);
         end = m.known.end;
         room = omega (arith, within, maximum);
-        place = estate.ground.sound.limits.place;
+        place = area_store.ground.sound.limits.place;
       };
     }
 
@@ -86,13 +86,13 @@ held_by (g ∷ areas) a rooms is = elim (or_cases (is_in_area a g) (list_any (is
 ]
 
 -- a guest's heap is clear of the module area's, or lies in a live block of that
-clear_or_within : (e : Estate) (h k : HeapList) → HasGuestHeap e h → find_heap module_area_start e.store.heaps ≡ Some k → k.kind ≡ Rma
+clear_or_within : (e : AreaStore) (h k : HeapList) → HasGuestHeap e h → find_heap module_area_start e.store.heaps ≡ Some k → k.kind ≡ Rma
     → AreClear k.start k.end h.start h.end ⊎ IsWithin k h
 clear_or_within e h k g found area =
     let s : Store = e.store in
     let start : k.start ≡ module_area_start = found_start module_area_start s.heaps k found in
     let own : find_heap k.start s.heaps ≡ Some k = subst (λ (p : ℕ). find_heap p s.heaps ≡ Some k) (sym start) found in
-    elim (found_other k h.start s.heaps h (are_others s.bytes k.start s.heaps k g.estate.ground.sound.heaps own) g.found) [
+    elim (found_other k h.start s.heaps h (are_others s.bytes k.start s.heaps k g.area_store.ground.sound.heaps own) g.found) [
       | inl same ↦ absurd (false≢true (sym (ap (λ (x : HeapList). has_own_size x.kind) same ∙ ap has_own_size area) ∙ g.own))
       | inr other ↦ elim other.1 [
         | inl clear ↦ inl clear
@@ -103,7 +103,7 @@ clear_or_within e h k g found area =
       ]
     ]
 
-module _ (e : Estate) (h : HeapList) (g : HasGuestHeap e h) (k : HeapList) (round : find_heap module_area_start e.store.heaps ≡ Some k)
+module _ (e : AreaStore) (h : HeapList) (g : HasGuestHeap e h) (k : HeapList) (round : find_heap module_area_start e.store.heaps ≡ Some k)
     (clear : AreClear k.start k.end h.start h.end) (a : ℕ) (inside : in_range h.start h.end a ≡ true) where
   in_module_area : (area : Area) → IsModuleArea e.store area → in_range module_area_start (4096 * area.pages) a ≡ true → ⊥
   in_module_area area m there =
@@ -112,11 +112,11 @@ module _ (e : Estate) (h : HeapList) (g : HasGuestHeap e h) (k : HeapList) (roun
       let here : in_range m.heap.start m.heap.end a ≡ true = rw (m.start, m.end) there in
       both_ways (in_range h.start h.end a) (clear a (subst (λ (x : HeapList). in_range x.start x.end a ≡ true) same here)) inside
 
-  in_area : IsHeldBy e.land.areas a → is_module_byte a ≡ true → ⊥
+  in_area : IsHeldBy e.area_table.areas a → is_module_byte a ≡ true → ⊥
   in_area held is = elim (cases_eq held.area.number 1) [
     | inl first ↦
-        let found : find_area 1 e.land.areas ≡ Some held.area = subst (λ (n : ℕ). find_area n e.land.areas ≡ Some held.area) first held.found in
-        let m : IsModuleArea e.store held.area = module_area_known e.store e.pool e.land held.area g.estate found in
+        let found : find_area 1 e.area_table.areas ≡ Some held.area = subst (λ (n : ℕ). find_area n e.area_table.areas ≡ Some held.area) first held.found in
+        let m : IsModuleArea e.store held.area = module_area_known e.store e.pool e.area_table held.area g.area_store found in
         in_module_area held.area m (subst (λ (p : ℕ). in_range p (4096 * held.area.pages) a ≡ true) m.base held.held)
     | inr other ↦
         let parts : (held.area.base ≤ a) × (a < held.area.base + 4096 * held.area.pages) = range_parts held.area.base (4096 * held.area.pages) a held.held in
@@ -124,42 +124,42 @@ module _ (e : Estate) (h : HeapList) (g : HasGuestHeap e h) (k : HeapList) (roun
         omega (arith, created_low held.area held.room other, parts.0, byte.1)
   ]
 
-  in_fixed : is_fixed e.land.sizes a ≡ true → is_module_byte a ≡ true → ⊥
+  in_fixed : is_fixed e.area_table.sizes a ≡ true → is_module_byte a ≡ true → ⊥
   in_fixed fixed is =
-      let good = g.estate.ground.sizes in
+      let good = g.area_store.ground.sizes in
       let byte : (module_area_start ≤ a) × (a < 0x01C03000) = range_parts module_area_start 0x403000 a is in
-      elim (or_cases (in_range application_start (4096 * e.land.sizes.app) a) (in_range system_start 0x3000 a) fixed) [
+      elim (or_cases (in_range application_start (4096 * e.area_table.sizes.app) a) (in_range system_start 0x3000 a) fixed) [
         | inl low ↦
-            let parts : (application_start ≤ a) × (a < application_start + 4096 * e.land.sizes.app) = range_parts application_start (4096 * e.land.sizes.app) a low in
+            let parts : (application_start ≤ a) × (a < application_start + 4096 * e.area_table.sizes.app) = range_parts application_start (4096 * e.area_table.sizes.app) a low in
             omega (arith, parts.1, byte.0, good.in_limit, good.has_room)
         | inr system ↦ both_ways (in_range h.start h.end a)
             (clear_of-found system_start 0x3000 h.start e.store.heaps h
-            (system_clear e.store.heaps e.store.others g.estate.ground.sound.placed g.system) g.found a system) inside
+            (system_clear e.store.heaps e.store.others g.area_store.ground.sound.placed g.system) g.found a system) inside
       ]
 
   outside : is_module_byte a ≡ false
   outside =
-      let heap : IsHeapIn e.store.bytes h.start h.end h.items = found_heap e.store.bytes h.start e.store.heaps h g.estate.ground.sound.heaps g.found in
+      let heap : IsHeapIn e.store.bytes h.start h.end h.items = found_heap e.store.bytes h.start e.store.heaps h g.area_store.ground.sound.heaps g.found in
       let parts : (h.start ≤ a) × (a < h.start + h.end) = range_parts h.start h.end a inside in
-      let land : is_land e.land a ≡ true = sym (g.estate.ground.land a) ∙ heap.mapped a parts.0 parts.1 in
+      let area_table : is_area_table e.area_table a ≡ true = sym (g.area_store.ground.area_table a) ∙ heap.mapped a parts.0 parts.1 in
       false_from_ne_true (is_module_byte a) (λ is.
-      elim (or_cases (is_fixed e.land.sizes a) (list_any (is_in_area a) e.land.areas) land) [
+      elim (or_cases (is_fixed e.area_table.sizes a) (list_any (is_in_area a) e.area_table.areas) area_table) [
         | inl fixed ↦ in_fixed fixed is
-        | inr held ↦ in_area (held_by e.land.areas a g.estate.ground.table.rooms held) is
+        | inr held ↦ in_area (held_by e.area_table.areas a g.area_store.ground.table.rooms held) is
       ])
 
 pub guests_outside : GuestHeapsLieOutside
 guests_outside e h g =
-    let m : HasModuleArea e = module_area e g.estate in
+    let m : HasModuleArea e = module_area e g.area_store in
     elim (clear_or_within e h m.known.heap g m.known.found m.known.kind) [
       | inl clear ↦ inl (λ a inside. outside e h g m.known.heap m.known.found clear a inside)
       | inr within ↦ inr (record { area = m.known.heap; round = m.known.found; found = g.found; within = within })
     ]
 
 -- it doesn't start where the module area does
-pub guest_elsewhere : (e : Estate) (h : HeapList) → HasGuestHeap e h → h.start ≢ module_area_start
+pub guest_elsewhere : (e : AreaStore) (h : HeapList) → HasGuestHeap e h → h.start ≢ module_area_start
 guest_elsewhere e h g same =
-    let m : HasModuleArea e = module_area e g.estate in
+    let m : HasModuleArea e = module_area e g.area_store in
     let there : find_heap module_area_start e.store.heaps ≡ Some h = subst (λ (p : ℕ). find_heap p e.store.heaps ≡ Some h) same g.found in
     let both : Some m.known.heap ≡ Some h = sym m.known.found ∙ there in
     let is : m.known.heap ≡ h = cc in
@@ -171,7 +171,7 @@ first_inside start end some = rw (le-leb start start (omega arith), lt-ltb start
 
 pub outside_keeps : OutsideKeepsHeap
 outside_keeps e t h g kept still =
-    let heap : IsHeapIn e.store.bytes h.start h.end h.items = found_heap e.store.bytes h.start e.store.heaps h g.estate.ground.sound.heaps g.found in
+    let heap : IsHeapIn e.store.bytes h.start h.end h.items = found_heap e.store.bytes h.start e.store.heaps h g.area_store.ground.sound.heaps g.found in
     record {
       found = kept.heaps h.start (guest_elsewhere e h g) (λ there. elim (guests_outside e h g) [
         | inl outside ↦ absurd (both_ways (is_module_byte h.start) (outside h.start (first_inside h.start h.end (omega (arith, heap.inside)))) there)

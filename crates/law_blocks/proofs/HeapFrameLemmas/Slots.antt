@@ -12,8 +12,8 @@ use Rattle.instances_table.specs.Lookup.{number_of_title}
 use Rattle.instances_table.specs.Modules.{Instance, Module, changed_at, has_instance, has_slot, number_passing, slots_of}
 use Rattle.instances.specs.actions.Actions.{image_given, with_another, with_new}
 use Rattle.instances.specs.tidying.Slid.{image_moved}
-use Rattle.address_map.specs.declared.follow.Move.{Move}
-use Rattle.law_blocks.proofs.SlidingLemmas.SlidWorlds.{slots_below}
+use Rattle.address_map.specs.declared.follow.BlockMove.{BlockMove}
+use Rattle.law_blocks.proofs.SlidingLemmas.SlidModuleStates.{slots_below}
 use Rattle.law_blocks.specs.heap_frame.PlanLaws.{AreActionsBelow, AreBelow, DoablePlansAreBelow, ModulesAreBelow}
 
 pub joined_below : (xs ys : List ℕ) → AreBelow xs → AreBelow ys → AreBelow (xs ++ ys)
@@ -102,7 +102,7 @@ pub another_below : (g : Given) (slot : ℕ) (modules : List Module) → slot < 
 another_below g slot modules few below = added_below (number_of_title g.header.title.items modules) g.name.items slot modules few below
 
 -- wherever images went
-pub moved_below : (moves : List Move) (modules : List Module) → AreBelow (slots_of modules) → AreBelow (slots_of (map (image_moved moves) modules))
+pub moved_below : (moves : List BlockMove) (modules : List Module) → AreBelow (slots_of modules) → AreBelow (slots_of (map (image_moved moves) modules))
 moved_below moves [] below = tt
 moved_below moves (m ∷ modules) below =
     joined_below (slots_in m.instances) (slots_of (map (image_moved moves) modules)) (front_below (slots_in m.instances) (slots_of modules) below)

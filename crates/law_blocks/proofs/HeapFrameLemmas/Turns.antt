@@ -7,7 +7,7 @@ use Rattle.profile.specs.declared.error.ErrorNumber.{ErrorNumber}
 use Rattle.os_heap_words.specs.lists.Heap.{HeapList}
 use Rattle.os_heap.specs.Calls.{has_own_size}
 use Rattle.os_heap.specs.Store.{Store}
-use Rattle.instances.specs.tidying.Slid.{world_slid}
+use Rattle.instances.specs.tidying.Slid.{module_state_slid}
 use Rattle.law_blocks.specs.sliding.Ground.{flex_state, spelled_store, store_flexed, with_flex_record}
 use Rattle.law_blocks.specs.flex.Laws.{IsOfWords}
 use Rattle.flex_store.proofs.LawLemmas.{Answers, same_answer}
@@ -19,17 +19,17 @@ use Rattle.flex_store.specs.declared.flex.Flex.{Flex}
 use Rattle.law_blocks.proofs.SlidingLemmas.Calling.{called_left, no_room, none_done}
 use Rattle.law_blocks.proofs.SlidingLemmas.Leaving.{IsCalledBy, store_at}
 use Rattle.law_blocks.specs.sliding.Meaning.{AreStores, Stores, store_in}
-use Rattle.law_blocks.specs.sliding.Turning.{Call, Init, Slide, flex_call_answer, stores_after_flex, stores_after_turn}
+use Rattle.law_blocks.specs.sliding.Turning.{Call, Init, Slide, flex_call_answer, stores_after_flex, stores_after_step}
 use Rattle.law_blocks.proofs.HeapFrameLemmas.FlexBesides.{HasAligned, IsStill}
 use Rattle.law_blocks.proofs.HeapFrameLemmas.FlexStill.{past_aligned}
 use Rattle.law_blocks.proofs.HeapFrameLemmas.FlexCalls.{call_beside, flex_init_keeps, spelled_aligned}
-use Rattle.law_blocks.proofs.HeapFrameLemmas.Guests.{estates_fit, guest_elsewhere, outside_keeps}
-use Rattle.law_blocks.proofs.HeapFrameLemmas.Plans.{slid_world_fit, slid_world_found}
+use Rattle.law_blocks.proofs.HeapFrameLemmas.Guests.{area_stores_fit, guest_elsewhere, outside_keeps}
+use Rattle.law_blocks.proofs.HeapFrameLemmas.Plans.{slid_module_state_fit, slid_module_state_found}
 use Rattle.law_blocks.proofs.HeapFrameLemmas.Slots.{modules_below}
 use Rattle.law_blocks.specs.heap_frame.FlexLaws.{IsFreeOfAnchors, NamesOutside}
 use Rattle.law_blocks.specs.heap_frame.GuestLaws.{HasGuestHeap}
 use Rattle.law_blocks.specs.heap_calls.Laws.{IsNotForgotten, KeepsHeap}
-use Rattle.law_blocks.specs.heap_frame.PlanLaws.{IsFitWorld, WorldStaysFit}
+use Rattle.law_blocks.specs.heap_frame.PlanLaws.{IsFitModuleState, ModuleStateStaysFit}
 use Rattle.law_blocks.specs.heap_frame.TurnLaws.{TurnsKeepHeap}
 
 heap_same : (h : HeapList) (s : Store) → IsFreeOfAnchors h s → KeepsHeap h s s
@@ -130,17 +130,17 @@ module _ (x : Stores) (h : HeapList) (are : AreStores x) (free : IsFreeOfAnchors
   init_keeps start end (Err e) is = heap_same h (store_in x) free
   init_keeps start end (Ok q) is = flex_init_keeps (store_in x) x.flex start end q.0 h free is
 
-  slide_keeps : (return_address : ℕ) → has_own_size h.kind ≡ true → KeepsHeap h (store_in x) (world_slid return_address x.world).estate.store
+  slide_keeps : (return_address : ℕ) → has_own_size h.kind ≡ true → KeepsHeap h (store_in x) (module_state_slid return_address x.module_state).area_store.store
   slide_keeps return_address own =
-      let g : HasGuestHeap x.world.estate h = record { estate = are.world.estate; system = are.world.system; found = free.found; own = own } in
-      let f : IsFitWorld x.world = record { estate = estates_fit x.world.estate are.world.estate; slots = modules_below x.world.modules are.modules } in
-      let slid : WorldStaysFit x.world (world_slid return_address x.world) = slid_world_fit return_address x.world f in
-      let still : IsNotForgotten (world_slid return_address x.world).estate.store h.start =
-      ap is_some (slid_world_found return_address x.world h.start (guest_elsewhere x.world.estate h g) ∙ free.found) in
-      outside_keeps x.world.estate (world_slid return_address x.world).estate.store h g slid.estate.outside (λ lies. still)
+      let g : HasGuestHeap x.module_state.area_store h = record { area_store = are.module_state.area_store; system = are.module_state.system; found = free.found; own = own } in
+      let f : IsFitModuleState x.module_state = record { area_store = area_stores_fit x.module_state.area_store are.module_state.area_store; slots = modules_below x.module_state.modules are.modules } in
+      let slid : ModuleStateStaysFit x.module_state (module_state_slid return_address x.module_state) = slid_module_state_fit return_address x.module_state f in
+      let still : IsNotForgotten (module_state_slid return_address x.module_state).area_store.store h.start =
+      ap is_some (slid_module_state_found return_address x.module_state h.start (guest_elsewhere x.module_state.area_store h g) ∙ free.found) in
+      outside_keeps x.module_state.area_store (module_state_slid return_address x.module_state).area_store.store h g slid.area_store.outside (λ lies. still)
 
 pub turns_keep : TurnsKeepHeap
-unfolding stores_after_turn
+unfolding stores_after_step
 turns_keep x (Init start end) h are free own out = init_keeps x h are free start end (flex_after_init (store_in x) (flex_state (store_in x) x.flex) start end) refl
 turns_keep x (Call call) h are free own out = call_keeps x h are free call (flex_call_answer (store_in x) x.flex call) out refl
 turns_keep x (Slide return_address) h are free own out = slide_keeps x h are free return_address own

@@ -8,28 +8,28 @@ use Rattle.address_map.specs.Bytes.{Bytes, in_range, with_bytes_at, with_word_at
 use Rattle.os_heap.proofs.Apart.{range_parts}
 use Rattle.os_heap.specs.Calls.{gave_back}
 use Rattle.os_heap.specs.Store.{Store}
-use Rattle.dynamic_areas.specs.Ground.{Estate}
+use Rattle.dynamic_areas.specs.Ground.{AreaStore}
 use Rattle.rma.specs.Calls.{rma_freed, with_store}
 use Rattle.rma.specs.Images.{image_dropped, image_freed, or_kept}
 use Rattle.rma.proofs.FlexFrameLemmas.Heaps.{OnDone}
 use Rattle.instances_table.specs.ModuleArea.{is_in_module_area}
 use Rattle.instances_table.specs.declared.parts.Image.{Image}
 use Rattle.instances_table.specs.plans.Code.{private_of}
-use Rattle.instances.specs.world.World.{estate_after_free, image_gone, or_same, private_freed, private_word, with_private, with_text}
+use Rattle.instances.specs.module_state.ModuleState.{area_store_after_free, image_gone, or_same, private_freed, private_word, with_private, with_text}
 use Rattle.law_blocks.proofs.HeapFrameLemmas.HeapCalls.{LeavesFit, gave_fit}
 use Rattle.law_blocks.proofs.HeapFrameLemmas.Holding.{keeps_all, stays_both, system_writes, written_fit}
-use Rattle.law_blocks.proofs.HeapFrameLemmas.ModuleArea.{IsAny, Leaves, OnEstate, fit_both, fit_same, freed_fit, records_fit, store_fit}
-use Rattle.law_blocks.specs.heap_frame.FitEstates.{EstateStaysFit, IsFitEstate}
+use Rattle.law_blocks.proofs.HeapFrameLemmas.ModuleArea.{IsAny, Leaves, OnAreaStore, fit_both, fit_same, freed_fit, records_fit, store_fit}
+use Rattle.law_blocks.specs.heap_frame.FitAreaStores.{AreaStoreStaysFit, IsFitAreaStore}
 use Rattle.law_blocks.specs.heap_frame.Fits.{IsFitStore, StaysFit, WritesThere}
 use Rattle.law_blocks.specs.heap_frame.PlanLaws.{WritesStayFit}
 
 -- bytes that are written in the module area or the system pages
-bytes_fit : (e : Estate) (c : Bytes) → IsFitEstate e → WritesThere e.store c → EstateStaysFit e (with_store e (record e.store { bytes = c }))
+bytes_fit : (e : AreaStore) (c : Bytes) → IsFitAreaStore e → WritesThere e.store c → AreaStoreStaysFit e (with_store e (record e.store { bytes = c }))
 bytes_fit e c f writes = store_fit e (record e.store { bytes = c }) f (written_fit (4096 * f.area.pages) e.store c f.store writes)
 
 -- and those in the system pages alone
-system_fit : (e : Estate) (c : Bytes) → IsFitEstate e → ((a : ℕ) → in_range system_start 0x3000 a ≡ false → c.at a ≡ e.store.bytes.at a)
-    → EstateStaysFit e (with_store e (record e.store { bytes = c }))
+system_fit : (e : AreaStore) (c : Bytes) → IsFitAreaStore e → ((a : ℕ) → in_range system_start 0x3000 a ≡ false → c.at a ≡ e.store.bytes.at a)
+    → AreaStoreStaysFit e (with_store e (record e.store { bytes = c }))
 system_fit e c f kept = bytes_fit e c f (system_writes (4096 * f.area.pages) e.store c f.store kept)
 
 -- a range within the system pages
@@ -58,12 +58,12 @@ word_apart f at value a low high out = elim (in_range-cases at 4 a) [
   ]
 ]
 
-pub word_fit : (e : Estate) (slot value : ℕ) → IsFitEstate e → slot < 64 → EstateStaysFit e (with_private e slot value)
+pub word_fit : (e : AreaStore) (slot value : ℕ) → IsFitAreaStore e → slot < 64 → AreaStoreStaysFit e (with_private e slot value)
 word_fit e slot value f few =
     system_fit e (record { mapped = e.store.bytes.mapped; at = with_word_at e.store.bytes.at (private_of slot) value }) f
     (λ a out. word_apart e.store.bytes.at (private_of slot) value a (omega arith) (omega (arith, few)) out)
 
-pub text_fit : (e : Estate) (text : List ℕ) → IsFitEstate e → length text ≤ 255 → EstateStaysFit e (with_text e text)
+pub text_fit : (e : AreaStore) (text : List ℕ) → IsFitAreaStore e → length text ≤ 255 → AreaStoreStaysFit e (with_text e text)
 text_fit e text f few =
     let all : List ℕ = text ++ 0 ∷ [] in
     let size : length all ≤ 256 = omega (arith, few, length-append text (0 ∷ [])) in
@@ -72,15 +72,15 @@ text_fit e text f few =
     rw apart refl)
 
 -- a block goes where it can be given back
-pub or_same_fit : (A : Type 0) (e : Estate) (r : Result (Estate × A) ErrorNumber) → IsFitEstate e → OnEstate (Leaves IsAny e) r → EstateStaysFit e (or_same e r)
+pub or_same_fit : (A : Type 0) (e : AreaStore) (r : Result (AreaStore × A) ErrorNumber) → IsFitAreaStore e → OnAreaStore (Leaves IsAny e) r → AreaStoreStaysFit e (or_same e r)
 or_same_fit A e (Ok x) f done = done.0
 or_same_fit A e (Err g) f done = fit_same e f
 
-pub block_fit : (e : Estate) (slot : ℕ) → IsFitEstate e → slot < 64 → EstateStaysFit e (private_freed e slot)
+pub block_fit : (e : AreaStore) (slot : ℕ) → IsFitAreaStore e → slot < 64 → AreaStoreStaysFit e (private_freed e slot)
 unfolding private_freed
 block_fit e slot f few =
-    let g : Estate = estate_after_free e (private_word e slot) in
-    let one : EstateStaysFit e g = or_same_fit (Unit {0}) e (rma_freed e (private_word e slot)) f (freed_fit e (private_word e slot) f) in
+    let g : AreaStore = area_store_after_free e (private_word e slot) in
+    let one : AreaStoreStaysFit e g = or_same_fit (Unit {0}) e (rma_freed e (private_word e slot)) f (freed_fit e (private_word e slot) f) in
     fit_both e g (with_private g slot 0) one (word_fit g slot 0 one.fit few)
 
 -- an image is none any more
@@ -101,7 +101,7 @@ gone_fit limit s at f =
     stays_both limit limit s t (or_kept t (gave_back t module_area_start at)) one
     (or_kept_fit limit t (gave_back t module_area_start at) one.fit (gave_fit limit module_area_start at t refl one.fit))
 
-pub image_gone_fit : (e : Estate) (image : Image) → IsFitEstate e → EstateStaysFit e (image_gone e image)
+pub image_gone_fit : (e : AreaStore) (image : Image) → IsFitAreaStore e → AreaStoreStaysFit e (image_gone e image)
 unfolding image_gone
 image_gone_fit e image f = elim (cases_Bool (is_in_module_area image.at)) [
   | inl inside ↦ rw inside (store_fit e (image_freed e.store image.at) f (gone_fit (4096 * f.area.pages) e.store image.at f.store))

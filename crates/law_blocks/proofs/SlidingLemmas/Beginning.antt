@@ -12,9 +12,9 @@ use Rattle.os_heap.proofs.Recorded.{IsClearOfAll, recorded_sound}
 use Rattle.os_heap.specs.Ranges.{are_bytes_mapped}
 use Rattle.os_heap.specs.Store.{IsClearOfHeaps, IsSound, Store, find_heap, is_image}
 use Rattle.os_heap_words.specs.lists.Heap.{HeapList}
-use Rattle.dynamic_areas.specs.Ground.{IsEstate}
+use Rattle.dynamic_areas.specs.Ground.{IsAreaStore}
 use Rattle.rma.specs.flex_frame.Keeping.{AreAnchorsFree}
-use Rattle.swi_dispatch_answers.proofs.FlexFrameLemmas.Worlds.{begun_world, beside_begun}
+use Rattle.swi_dispatch_answers.proofs.FlexFrameLemmas.ModuleStates.{begun_module_state, beside_begun}
 use Rattle.swi_dispatch_answers.specs.flex_frame.Ground.{flex_state, records_with, spelled_store, with_flex_record}
 use Rattle.flex_store.proofs.Recording.{last_recorded, range_clear_back}
 use Rattle.flex_store.proofs.Starting.{no_blocks}
@@ -28,16 +28,16 @@ use Rattle.flex_store.specs.State.{AreAnchorWords, AreInner, AreWhole}
 use Rattle.flex_store.specs.declared.flex.Extent.{Extent}
 use Rattle.flex_store.specs.declared.flex.Flex.{Flex}
 use Rattle.rma.proofs.ImageLemmas.{mapped_more}
-use Rattle.swi_dispatch_answers.proofs.FlexFrameLemmas.InstancesWorlds.{few_records}
+use Rattle.swi_dispatch_answers.proofs.FlexFrameLemmas.InstancesModuleStates.{few_records}
 use Rattle.instances_table.proofs.RoomLemmas.{few_modules}
-use Rattle.swi_dispatch_answers.specs.flex_frame.world.Sound.{count_beside}
-use Rattle.swi_dispatch_answers.specs.flex_frame.world.World.{World}
+use Rattle.swi_dispatch_answers.specs.flex_frame.module_state.Sound.{count_beside}
+use Rattle.swi_dispatch_answers.specs.flex_frame.module_state.ModuleState.{ModuleState}
 use Rattle.law_blocks.proofs.SlidingLemmas.Called.{words_said}
 use Rattle.law_blocks.proofs.SlidingLemmas.Calling.{IsFollowedBy, stays}
 use Rattle.law_blocks.specs.sliding.FlexStore.{IsFlexRangeSpelled, IsSpelledAt, IsUnmade, spelled_blocks}
 use Rattle.law_blocks.specs.sliding.Laws.{IsFollowed}
 use Rattle.law_blocks.specs.sliding.Meaning.{AreStores, PayloadPlace, Stores, area_names, payloads_in, contents_of, flex_padding, flex_seen, images_in, meaning_of, payloads, payload_place_in, seen_byte_at, store_in}
-use Rattle.law_blocks.specs.sliding.Turning.{Init, answer_of, answer_of_turn, init_answer, stores_after_flex, stores_after_turn, stores_with_flex}
+use Rattle.law_blocks.specs.sliding.Turning.{Init, answer_of, answer_of_turn, init_answer, stores_after_flex, stores_after_step, stores_with_flex}
 
 -- ranges that share no byte
 heaps_clear : (hs : List HeapList) (at len : ℕ) → list_any (λ h. shares_address at len h.start h.end) hs ≡ false → IsClearOfHeaps at len hs
@@ -155,27 +155,27 @@ module _ (x : Stores) (start end : ℕ) (are : AreStores x) (none : x.flex.exten
   }
 
   few : length (store_in x).others < 68
-  few = few_records x.world x.pending are.world (few_modules x.world.modules are.modules) are.one
+  few = few_records x.module_state x.pending are.module_state (few_modules x.module_state.modules are.modules) are.one
 
   sound : IsSound (store_in y)
   sound =
       subst IsSound (sym store)
-      (recorded_sound (store_in x) (flex_record start end) are.world.estate.ground.sound r.heaps r.others few)
+      (recorded_sound (store_in x) (flex_record start end) are.module_state.area_store.ground.sound r.heaps r.others few)
 
-  estate : IsEstate y.world.estate
+  area_store : IsAreaStore y.module_state.area_store
   unfolding y v store sound
-  estate =
-      let g = are.world.estate.ground in
+  area_store =
+      let g = are.module_state.area_store.ground in
       record {
         ground = record {
           sizes = g.sizes;
           table = g.table;
-          land = g.land;
+          area_table = g.area_table;
           pages = g.pages;
           ranges = mapped_more (store_in x).bytes.mapped (store_in x).others (flex_record start end) g.ranges r.there;
           sound = sound;
         };
-        heap = are.world.estate.heap;
+        heap = are.module_state.area_store.heap;
       }
 
   blocks : spelled_blocks (store_in y) e ≡ []
@@ -206,10 +206,10 @@ module _ (x : Stores) (start end : ℕ) (are : AreStores x) (none : x.flex.exten
   free = λ a is. absurd (false≢true is)
 
   stores : AreStores y
-  unfolding y v estate spelled free
+  unfolding y v area_store spelled free
   stores = record {
-    world = begun_world x.world (stores_with_flex x (with_flex_record (store_in x) start end) (with_flex_range (flex_state (store_in x) x.flex) start end)).world
-        x.pending start end (record { estate = estate; others = refl; modules = refl; first = first }) are.world;
+    module_state = begun_module_state x.module_state (stores_with_flex x (with_flex_record (store_in x) start end) (with_flex_range (flex_state (store_in x) x.flex) start end)).module_state
+        x.pending start end (record { area_store = area_store; others = refl; modules = refl; first = first }) are.module_state;
     flex = record { is = spelled; free = free; beside = beside_begun start end (store_in x).others ∙ ap suc first };
     modules = are.modules;
     memory = are.memory;
@@ -238,31 +238,31 @@ module _ (x : Stores) (start end : ℕ) (are : AreStores x) (none : x.flex.exten
   unfolding y v e blocks
   new_padding = ap paddings blocks
 
-  place : (w : World) (o : Option (List ℕ)) (a : ℕ) → o ≡ None
-      → (let p : Option PayloadPlace = if is_some o then payload_place_in a (find_heap module_area_start w.estate.store.heaps) else None in p ≡ None)
-  place w o a gone = ap (λ (q : Option (List ℕ)). let p : Option PayloadPlace = if is_some q then payload_place_in a (find_heap module_area_start w.estate.store.heaps) else None in p) gone
+  place : (w : ModuleState) (o : Option (List ℕ)) (a : ℕ) → o ≡ None
+      → (let p : Option PayloadPlace = if is_some o then payload_place_in a (find_heap module_area_start w.area_store.store.heaps) else None in p ≡ None)
+  place w o a gone = ap (λ (q : Option (List ℕ)). let p : Option PayloadPlace = if is_some q then payload_place_in a (find_heap module_area_start w.area_store.store.heaps) else None in p) gone
 
   same : meaning_of y ≡ meaning_of x
   unfolding meaning_of y v new_seen new_padding
   same = λ i. record {
     flex = (new_seen ∙ sym old_seen) i;
     padding = (new_padding ∙ sym old_padding) i;
-    places = λ a. (place y.world (contents_of y a) a (new a) ∙ sym (place x.world (contents_of x a) a (old a))) i;
+    places = λ a. (place y.module_state (contents_of y a) a (new a) ∙ sym (place x.module_state (contents_of x a) a (old a))) i;
     blocks = same_blocks (store_in x) (store_in y) (find_heap module_area_start (store_in x).heaps) (λ j a. sym (unmade.anchors a) j) refl i;
     images = images_more (store_in x).bytes.at start end (store_in x).others i;
-    names = area_names x.world;
+    names = area_names x.module_state;
   }
 
   pub init_done : IsFollowedBy (Init start end) (Ok true) x (stores_with_flex x (with_flex_record (store_in x) start end) (with_flex_range (flex_state (store_in x) x.flex) start end))
   unfolding meaning_of y v stores same
   init_done = record {
     rule = record { none = old_seen; same = same };
-    words = λ slot word says. words_said x.world slot word says;
+    words = λ slot word says. words_said x.module_state slot word says;
     modules = refl;
     stores = stores;
     mapped = refl;
     pool = refl;
-    land = refl;
+    area_table = refl;
     pending = refl;
   }
 
@@ -277,10 +277,10 @@ init_by : (x : Stores) (start end : ℕ) (r : Result (FlexState × Bool) ErrorNu
 init_by x start end (Err e) is are = stays (Init start end) (Err e) x are refl
 init_by x start end (Ok q) is are = init_is x start end q are (is_init (store_in x) x.flex.extent start end q is)
 
-pub init_followed : (x : Stores) (start end : ℕ) → AreStores x → IsFollowed (Init start end) x (stores_after_turn (Init start end) x)
-unfolding stores_after_turn answer_of_turn
+pub init_followed : (x : Stores) (start end : ℕ) → AreStores x → IsFollowed (Init start end) x (stores_after_step (Init start end) x)
+unfolding stores_after_step answer_of_turn
 init_followed x start end are =
     let f : IsFollowedBy (Init start end) (answer_of (init_answer (store_in x) x.flex start end)) x
     (stores_after_flex x (with_flex_record (store_in x) start end) (init_answer (store_in x) x.flex start end)) =
     init_by x start end (init_answer (store_in x) x.flex start end) refl are in
-    record { rule = f.rule; words = f.words; modules = f.modules; stores = f.stores; mapped = f.mapped; pool = f.pool; land = f.land; pending = f.pending }
+    record { rule = f.rule; words = f.words; modules = f.modules; stores = f.stores; mapped = f.mapped; pool = f.pool; area_table = f.area_table; pending = f.pending }

@@ -16,14 +16,14 @@ use Rattle.rma.proofs.FlexFrameLemmas.Writes.{system_keeps}
 use Rattle.rma.specs.flex_frame.Keeping.{IsFlexKept, KeepsFlex}
 use Rattle.flex_store.specs.Laws.{contents_in}
 use Rattle.instances_table.specs.plans.Code.{private_of}
-use Rattle.swi_dispatch_answers.specs.flex_frame.world.World.{private_word}
+use Rattle.swi_dispatch_answers.specs.flex_frame.module_state.ModuleState.{private_word}
 use Rattle.instances_table.proofs.RoomLemmas.{slots_once}
 use Rattle.instances_table.specs.Changes.{is_slot_held}
 use Rattle.law_blocks.proofs.SlidingLemmas.Called.{images_same, word_same}
 use Rattle.law_blocks.proofs.SlidingLemmas.Places.{payloads_alike}
 use Rattle.law_blocks.proofs.SlidingLemmas.Ranges.{recorded_apart}
 use Rattle.law_blocks.proofs.SlidingLemmas.SlidLists.{map_same}
-use Rattle.law_blocks.proofs.SlidingLemmas.SlidWorlds.{slots_below}
+use Rattle.law_blocks.proofs.SlidingLemmas.SlidModuleStates.{slots_below}
 use Rattle.law_blocks.proofs.SlidingLemmas.Spelled.{spelled_kept}
 use Rattle.law_blocks.specs.sliding.Besides.{StaysBehind, stores_with_bytes}
 use Rattle.law_blocks.specs.flex.Numbered.{blocks_seen}
@@ -49,7 +49,7 @@ module _ (x : Stores) (c : Bytes) (are : AreStores x)
 
   sound : IsSound s
   unfolding s
-  sound = are.world.estate.ground.sound
+  sound = are.module_state.area_store.ground.sound
 
   beyond : (a : ℕ) → in_range system_start 0x3000 a ≡ false → c.at a ≡ s.bytes.at a
   unfolding s
@@ -62,7 +62,7 @@ module _ (x : Stores) (c : Bytes) (are : AreStores x)
 
   kept : IsFlexKept s (record s { bytes = c })
   unfolding s sound KeepsFlex
-  kept = (system_keeps s c sound are.world.system beyond are.flex.free).0
+  kept = (system_keeps s c sound are.module_state.system beyond are.flex.free).0
 
   contents_stay : contents_of (stores_with_bytes x c) ≡ contents_of x
   unfolding s kept
@@ -83,7 +83,7 @@ module _ (x : Stores) (c : Bytes) (are : AreStores x)
       let heap : IsHeapIn s.bytes h.start h.end h.items = found_heap s.bytes module_area_start s.heaps h sound.heaps found in
       beyond a (false_from_ne_true (in_range system_start 0x3000 a) (λ is.
       both_ways (in_range h.start h.end a)
-      (clear_of_heap system_start 0x3000 module_area_start s.heaps h a (system_clear s.heaps s.others sound.placed are.world.system) found is)
+      (clear_of_heap system_start 0x3000 module_area_start s.heaps h a (system_clear s.heaps s.others sound.placed are.module_state.system) found is)
       (rw (le-leb h.start a (omega (arith, low)), lt-ltb a (h.start + h.end) (omega (arith, high, heap.inside))) refl)))
 
   blocks_by : (o : Option HeapList) → find_heap module_area_start s.heaps ≡ o → payloads_in (record s { bytes = c }) o ≡ payloads_in s o
@@ -94,7 +94,7 @@ module _ (x : Stores) (c : Bytes) (are : AreStores x)
       payloads_alike (seen_byte_at s.anchor s.bytes.at) (seen_byte_at s.anchor c.at) (h.start + 16) h.items heap.totals
       (λ a low high. ap (λ (b : ℕ). if s.anchor a then None else Some b) (heap_same h a found low high))
 
-  blocks_stay : area_blocks (stores_with_bytes x c).world ≡ area_blocks x.world
+  blocks_stay : area_blocks (stores_with_bytes x c).module_state ≡ area_blocks x.module_state
   unfolding s
   blocks_stay = blocks_by (find_heap module_area_start s.heaps) refl
 
@@ -102,9 +102,9 @@ module _ (x : Stores) (c : Bytes) (are : AreStores x)
   unfolding s sound
   image_byte r a image recorded inside =
       let differ : r ≡ system_pages_range → ⊥ = λ same. false≢true (sym (ap (λ (q : Region). is_image q.kind) same) ∙ image) in
-      beyond a (recorded_apart r system_pages_range s.others differ sound.apart recorded are.world.system a inside)
+      beyond a (recorded_apart r system_pages_range s.others differ sound.apart recorded are.module_state.system a inside)
 
-  images_stay : area_images (stores_with_bytes x c).world ≡ area_images x.world
+  images_stay : area_images (stores_with_bytes x c).module_state ≡ area_images x.module_state
   unfolding s
   images_stay = images_same s.bytes.at c.at s.others (λ r recorded image.
       map_same s.bytes.at c.at r.at r.at r.len (λ k less.
@@ -120,19 +120,19 @@ module _ (x : Stores) (c : Bytes) (are : AreStores x)
         | inl r ↦ absurd (omega (arith, r.1, few, less))
       ])))
 
-  few_slots : (slot : ℕ) → is_slot_held slot x.world.modules ≡ true → slot < 64
-  few_slots slot there = slots_below x.world.modules are.modules slot (omega (arith, slots_once x.world.modules are.modules slot there))
+  few_slots : (slot : ℕ) → is_slot_held slot x.module_state.modules ≡ true → slot < 64
+  few_slots slot there = slots_below x.module_state.modules are.modules slot (omega (arith, slots_once x.module_state.modules are.modules slot there))
 
-  names_stay : (slot : ℕ) → area_names (stores_with_bytes x c).world slot ≡ area_names x.world slot
+  names_stay : (slot : ℕ) → area_names (stores_with_bytes x c).module_state slot ≡ area_names x.module_state slot
   unfolding s
-  names_stay slot = elim (cases_Bool (is_slot_held slot x.world.modules)) [
+  names_stay slot = elim (cases_Bool (is_slot_held slot x.module_state.modules)) [
     | inr none ↦ rw none refl
     | inl there ↦ rw (there, private_stays slot (few_slots slot there)) refl
   ]
 
-  places_stay : area_places (contents_of (stores_with_bytes x c)) (stores_with_bytes x c).world ≡ area_places (contents_of x) x.world
+  places_stay : area_places (contents_of (stores_with_bytes x c)) (stores_with_bytes x c).module_state ≡ area_places (contents_of x) x.module_state
   unfolding contents_stay
-  places_stay = ap (λ (f : ℕ → Option (List ℕ)). area_places f x.world) contents_stay
+  places_stay = ap (λ (f : ℕ → Option (List ℕ)). area_places f x.module_state) contents_stay
 
   stays_behind : meaning_of (stores_with_bytes x c) ≡ meaning_of x
   unfolding meaning_of s contents_stay places_stay seen_stays padding_stays
@@ -145,8 +145,8 @@ module _ (x : Stores) (c : Bytes) (are : AreStores x)
     names = λ slot. names_stay slot i;
   }
 
-  words_stay : (slot : ℕ) → is_slot_held slot x.world.modules ≡ true
-      → private_word (stores_with_bytes x c).world.estate slot ≡ private_word x.world.estate slot
+  words_stay : (slot : ℕ) → is_slot_held slot x.module_state.modules ≡ true
+      → private_word (stores_with_bytes x c).module_state.area_store slot ≡ private_word x.module_state.area_store slot
   unfolding s
   words_stay slot there = private_stays slot (few_slots slot there)
 

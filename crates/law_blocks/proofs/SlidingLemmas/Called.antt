@@ -19,7 +19,7 @@ use Rattle.rma.specs.flex_frame.Keeping.{AreAnchorsFree, is_in_other_record}
 use Rattle.law_blocks.specs.flex.Laws.{outside_of}
 use Rattle.flex_store.specs.Runs.{Alloc, Extend, FlexCall, MidExtend, Release}
 use Rattle.instances_table.specs.plans.Code.{private_of}
-use Rattle.swi_dispatch_answers.specs.flex_frame.world.World.{World, private_word}
+use Rattle.swi_dispatch_answers.specs.flex_frame.module_state.ModuleState.{ModuleState, private_word}
 use Rattle.instances_table.proofs.RoomLemmas.{slots_once}
 use Rattle.instances_table.specs.Changes.{is_slot_held}
 use Rattle.instances_table.specs.Modules.{AreModules}
@@ -27,7 +27,7 @@ use Rattle.law_blocks.proofs.SlidingLemmas.CalledSeen.{anchor_word, seen_left, w
 use Rattle.law_blocks.proofs.SlidingLemmas.Places.{out_of_range, payloads_alike, payloads_seen}
 use Rattle.law_blocks.proofs.SlidingLemmas.Ranges.{outside_store}
 use Rattle.law_blocks.proofs.SlidingLemmas.SlidLists.{map_same}
-use Rattle.law_blocks.proofs.SlidingLemmas.SlidWorlds.{slots_below}
+use Rattle.law_blocks.proofs.SlidingLemmas.SlidModuleStates.{slots_below}
 use Rattle.law_blocks.specs.sliding.FlexStore.{IsSpelledAt}
 use Rattle.law_blocks.specs.sliding.Meaning.{BlockNumber, PayloadPlace, Stores, Value, area_blocks, area_images, area_names, area_places, area_word, payloads_in, contents_of, images_in, meaning_of, block_number_in, one_further, place_among, payload_place_in, seen_byte_at, store_in, word_said}
 use Rattle.law_blocks.specs.sliding.Rules.{AreAnchorsLeft, IsAnchored, IsAnchoredAlike, IsAnchorGone, with_place_seen}
@@ -38,13 +38,13 @@ said_value word value None is = cc
 said_value word value (Some k) is = absurd (let no : BlockNumber k ≡ Value value = is in cc)
 
 -- a private word that names no block
-pub words_said : (w : World) (slot word : ℕ) → area_names w slot ≡ Some (Value word) → private_word w.estate slot ≡ word
+pub words_said : (w : ModuleState) (slot word : ℕ) → area_names w slot ≡ Some (Value word) → private_word w.area_store slot ≡ word
 words_said w slot word says = elim (cases_Bool (is_slot_held slot w.modules)) [
   | inr none ↦ absurd (let no : None ≡ Some (Value word) = rw none at says in cc)
   | inl there ↦
-      let from : ℕ = private_word w.estate slot in
+      let from : ℕ = private_word w.area_store slot in
       let said : Some (area_word w from) ≡ Some (Value word) = rw there at says in
-      said_value from word (block_number_in from (find_heap module_area_start w.estate.store.heaps)) (cc)
+      said_value from word (block_number_in from (find_heap module_area_start w.area_store.store.heaps)) (cc)
 ]
 
 -- images whose bytes are what they were
@@ -93,13 +93,13 @@ unplaced a at (Live t ∷ xs) totals out =
 pub record IsCalledOn (call : FlexCall) (x y : Stores) : Type 0 where
   pub sound : IsSound (store_in x)
   pub system : IsRecorded system_pages_range (store_in x).others
-  pub modules : AreModules x.world.modules
+  pub modules : AreModules x.module_state.modules
   pub old : IsSpelledAt (store_in x) x.flex.extent
   pub old_free : AreAnchorsFree (store_in x)
   pub new_free : AreAnchorsFree (store_in y)
   pub others : (store_in y).others ≡ (store_in x).others
   pub heaps : (store_in y).heaps ≡ (store_in x).heaps
-  pub table : y.world.modules ≡ x.world.modules
+  pub table : y.module_state.modules ≡ x.module_state.modules
   pub aligned : (outside_of call).anchor % 4 ≡ 0
   pub had : is_some (contents_of x (outside_of call).anchor) ≡ (outside_of call).had
   pub stays : (a : ℕ) → is_in_flex_store (store_in x).others a ≡ false → (store_in x).anchor a ≡ false → (store_in y).anchor a ≡ false
@@ -128,7 +128,7 @@ module _ (call : FlexCall) (x y : Stores) (c : IsCalledOn call x y) where
       (unanchored s r a other c.old_free recorded inside)
       (unanchored t r a other c.new_free (subst (IsRecorded r) (sym c.others) recorded) inside)
 
-  pub images_left : area_images y.world ≡ area_images x.world
+  pub images_left : area_images y.module_state ≡ area_images x.module_state
   unfolding s t
   images_left =
       ap (images_in t.bytes.at) c.others
@@ -143,23 +143,23 @@ module _ (call : FlexCall) (x y : Stores) (c : IsCalledOn call x y) where
       record_left system_pages_range (private_of slot + k) refl c.system
       (rw (le-leb system_start (private_of slot + k) (omega arith), lt-ltb (private_of slot + k) (system_start + 0x3000) (omega (arith, few, less))) refl))
 
-  few_slots : (slot : ℕ) → is_slot_held slot x.world.modules ≡ true → slot < 64
-  few_slots slot there = slots_below x.world.modules c.modules slot (omega (arith, slots_once x.world.modules c.modules slot there))
+  few_slots : (slot : ℕ) → is_slot_held slot x.module_state.modules ≡ true → slot < 64
+  few_slots slot there = slots_below x.module_state.modules c.modules slot (omega (arith, slots_once x.module_state.modules c.modules slot there))
 
-  pub names_left : (slot : ℕ) → area_names y.world slot ≡ area_names x.world slot
+  pub names_left : (slot : ℕ) → area_names y.module_state slot ≡ area_names x.module_state slot
   unfolding s t
-  names_left slot = elim (cases_Bool (is_slot_held slot x.world.modules)) [
+  names_left slot = elim (cases_Bool (is_slot_held slot x.module_state.modules)) [
     | inr none ↦ rw (c.table, none) refl
     | inl there ↦ rw (c.table, there, c.heaps, private_left slot (few_slots slot there)) refl
   ]
 
-  pub words_left : (slot word : ℕ) → area_names x.world slot ≡ Some (Value word) → private_word y.world.estate slot ≡ word
+  pub words_left : (slot word : ℕ) → area_names x.module_state slot ≡ Some (Value word) → private_word y.module_state.area_store slot ≡ word
   unfolding s t
-  words_left slot word says = elim (cases_Bool (is_slot_held slot x.world.modules)) [
+  words_left slot word says = elim (cases_Bool (is_slot_held slot x.module_state.modules)) [
     | inr none ↦ absurd (let no : None ≡ Some (Value word) = rw none at says in cc)
     | inl there ↦
-        let from : ℕ = private_word x.world.estate slot in
-        let said : Some (area_word x.world from) ≡ Some (Value word) = rw there at says in
+        let from : ℕ = private_word x.module_state.area_store slot in
+        let said : Some (area_word x.module_state from) ≡ Some (Value word) = rw there at says in
         private_left slot (few_slots slot there) ∙ said_value from word (block_number_in from (find_heap module_area_start s.heaps)) (cc)
   ]
 
@@ -209,17 +209,17 @@ module _ (call : FlexCall) (x y : Stores) (c : IsCalledOn call x y) where
       (anchor_word s x.flex.extent anchor c.old some).0 (omega (arith, heap.aligned)) heap.totals
       (λ a low high. word_unseen s x.flex.extent anchor a c.old some)
 
-  -- the same of the two worlds
-  blocks_are : area_blocks y.world ≡ payloads_in t (find_heap module_area_start s.heaps)
+  -- the same of the two module states
+  blocks_are : area_blocks y.module_state ≡ payloads_in t (find_heap module_area_start s.heaps)
   unfolding s t
   blocks_are = ap (λ (hs : List HeapList). payloads_in t (find_heap module_area_start hs)) c.heaps
 
-  places_are : (a : ℕ) → area_places (contents_of y) y.world a ≡ area_places (contents_of y) x.world a
+  places_are : (a : ℕ) → area_places (contents_of y) y.module_state a ≡ area_places (contents_of y) x.module_state a
   unfolding s t
   places_are a = ap (λ (hs : List HeapList). let o : Option PayloadPlace = if is_some (contents_of y a) then payload_place_in a (find_heap module_area_start hs) else None in o) c.heaps
 
   place_by : (a : ℕ) (b : Bool) → is_some (contents_of y a) ≡ b
-      → area_places (contents_of y) y.world a ≡ (if b then payload_place_in a (find_heap module_area_start s.heaps) else None)
+      → area_places (contents_of y) y.module_state a ≡ (if b then payload_place_in a (find_heap module_area_start s.heaps) else None)
   unfolding s t places_are
   place_by a b is = places_are a ∙ ap (λ (q : Bool). let o : Option PayloadPlace = if q then payload_place_in a (find_heap module_area_start s.heaps) else None in o) is
 
@@ -243,11 +243,11 @@ module _ (call : FlexCall) (x y : Stores) (c : IsCalledOn call x y) where
   either_none true o none = none
   either_none false o none = refl
 
-  place_old : (a : ℕ) → is_in_flex_store s.others a ≡ true → area_places (contents_of x) x.world a ≡ None
+  place_old : (a : ℕ) → is_in_flex_store s.others a ≡ true → area_places (contents_of x) x.module_state a ≡ None
   unfolding s
   place_old a inside = either_none (is_some (contents_of x a)) (payload_place_in a (find_heap module_area_start s.heaps)) (in_store_none a (find_heap module_area_start s.heaps) refl inside)
 
-  place_new : (a : ℕ) → is_in_flex_store s.others a ≡ true → area_places (contents_of y) y.world a ≡ None
+  place_new : (a : ℕ) → is_in_flex_store s.others a ≡ true → area_places (contents_of y) y.module_state a ≡ None
   unfolding s
   place_new a inside = places_are a ∙ either_none (is_some (contents_of y a)) (payload_place_in a (find_heap module_area_start s.heaps)) (in_store_none a (find_heap module_area_start s.heaps) refl inside)
 
@@ -256,7 +256,7 @@ module _ (call : FlexCall) (x y : Stores) (c : IsCalledOn call x y) where
   marked_by false p q same = refl
 
   place_stays : (a : ℕ) → (outside_of call).mark a (is_some (contents_of x a)) ≡ is_some (contents_of x a)
-      → area_places (contents_of y) y.world a ≡ area_places (contents_of x) x.world a
+      → area_places (contents_of y) y.module_state a ≡ area_places (contents_of x) x.module_state a
   unfolding s
   place_stays a same = elim (cases_Bool (is_in_flex_store s.others a)) [
     | inl inside ↦ place_new a inside ∙ sym (place_old a inside)
@@ -278,7 +278,7 @@ unfolding meaning_of s
 anchors_left (Alloc anchor size) x y c =
     let h : Option HeapList = find_heap module_area_start (store_in x).heaps in
     let call : FlexCall = Alloc anchor size in
-    let now : area_places (contents_of y) y.world anchor ≡ payload_place_in anchor h = elim (cases_Bool (is_in_flex_store (store_in x).others anchor)) [
+    let now : area_places (contents_of y) y.module_state anchor ≡ payload_place_in anchor h = elim (cases_Bool (is_in_flex_store (store_in x).others anchor)) [
       | inl inside ↦ place_new call x y c anchor inside ∙ sym (in_store_none call x y c anchor h refl inside)
       | inr outside ↦ place_by call x y c anchor true (own_mark call x y c true outside (ap (λ (q : Bool). q || is_some (contents_of x anchor)) (eq-eqb anchor anchor refl)))
     ] in
@@ -286,21 +286,21 @@ anchors_left (Alloc anchor size) x y c =
       none = ap (λ (q : Bool). let p : Option PayloadPlace = if q then payload_place_in anchor h else None in p) c.had;
       others = λ a apart. place_stays call x y c a (ap (λ (q : Bool). q || is_some (contents_of x a)) (ne_eqb a anchor apart));
       blocks = blocks_are call x y c ∙ blocks_by call x y c None anchor h c.aligned refl (λ a old. refl)
-          ∙ ap (λ (p : Option PayloadPlace). with_place_seen None p (area_blocks x.world)) (sym now);
+          ∙ ap (λ (p : Option PayloadPlace). with_place_seen None p (area_blocks x.module_state)) (sym now);
     }
 anchors_left (Release anchor) x y c =
     let h : Option HeapList = find_heap module_area_start (store_in x).heaps in
     let call : FlexCall = Release anchor in
-    let was : area_places (contents_of x) x.world anchor ≡ payload_place_in anchor h = ap (λ (q : Bool). let o : Option PayloadPlace = if q then payload_place_in anchor h else None in o) c.had in
+    let was : area_places (contents_of x) x.module_state anchor ≡ payload_place_in anchor h = ap (λ (q : Bool). let o : Option PayloadPlace = if q then payload_place_in anchor h else None in o) c.had in
     record {
       none = elim (cases_Bool (is_in_flex_store (store_in x).others anchor)) [
         | inl inside ↦ place_new call x y c anchor inside
         | inr outside ↦ place_by call x y c anchor false (own_mark call x y c false outside (ap (λ (q : Bool). not q && is_some (contents_of x anchor)) (eq-eqb anchor anchor refl)))
       ];
       others = λ a apart. place_stays call x y c a (ap (λ (q : Bool). not q && is_some (contents_of x a)) (ne_eqb a anchor apart));
-      unseen = blocks_unseen call x y c anchor h c.had refl ∙ ap (λ (p : Option PayloadPlace). with_place_seen None p (area_blocks x.world)) (sym was);
+      unseen = blocks_unseen call x y c anchor h c.had refl ∙ ap (λ (p : Option PayloadPlace). with_place_seen None p (area_blocks x.module_state)) (sym was);
       blocks = blocks_are call x y c ∙ blocks_by call x y c (Some 0) anchor h c.aligned refl (λ a old. refl)
-          ∙ ap (λ (p : Option PayloadPlace). with_place_seen (Some 0) p (area_blocks x.world)) (sym was);
+          ∙ ap (λ (p : Option PayloadPlace). with_place_seen (Some 0) p (area_blocks x.module_state)) (sym was);
     }
 anchors_left (Extend anchor size) x y c = record {
   places = λ a. place_stays (Extend anchor size) x y c a refl;

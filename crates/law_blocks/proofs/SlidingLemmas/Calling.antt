@@ -5,7 +5,7 @@ use Rattle.std.proofs.lemmas.Bool.{cases_Bool, eqb-false, eqb-true, false≢true
 use Rattle.profile.specs.Outcome.{bind}
 use Rattle.profile.specs.declared.error.ErrorNumber.{ErrorNumber}
 use Rattle.os_heap.specs.Store.{IsSound, Store, is_in_flex_store}
-use Rattle.dynamic_areas.specs.Ground.{Estate, IsEstate}
+use Rattle.dynamic_areas.specs.Ground.{AreaStore, IsAreaStore}
 use Rattle.swi_dispatch_answers.specs.flex_frame.Ground.{flex_of, flex_state, records_with, spelled_store, store_flexed}
 use Rattle.law_blocks.proofs.FlexLemmas.Calls.{calls_go_by_numbers, no_room_changes_nothing}
 use Rattle.law_blocks.proofs.FlexLemmas.PaddingCalls.{padding_goes_by_numbers}
@@ -19,8 +19,8 @@ use Rattle.flex_store.specs.Runs.{Alloc, Extend, FlexCall, MidExtend, Release}
 use Rattle.flex_store.specs.declared.flex.Extent.{Extent}
 use Rattle.flex_store.specs.declared.flex.Flex.{Flex}
 use Rattle.rma.specs.Calls.{with_store}
-use Rattle.swi_dispatch_answers.proofs.FlexFrameLemmas.InstancesWorlds.{world_kept}
-use Rattle.swi_dispatch_answers.specs.flex_frame.world.World.{private_word}
+use Rattle.swi_dispatch_answers.proofs.FlexFrameLemmas.InstancesModuleStates.{module_state_kept}
+use Rattle.swi_dispatch_answers.specs.flex_frame.module_state.ModuleState.{private_word}
 use Rattle.law_blocks.proofs.SlidingLemmas.Called.{IsCalledOn, anchors_left, images_left, names_left, words_left, words_said}
 use Rattle.law_blocks.proofs.SlidingLemmas.Leaving.{IsAfter, IsBefore, IsCalledBy, after_called, same_flex, same_store, state_at, state_spelled, store_at}
 use Rattle.law_blocks.proofs.SlidingLemmas.CalledSeen.{byte_seen, byte_stays, mark_left, none_odd, some_is}
@@ -28,42 +28,42 @@ use Rattle.law_blocks.specs.sliding.FlexStore.{IsFlexRangeSpelled, IsSpelledAt, 
 use Rattle.law_blocks.specs.sliding.Laws.{IsFollowed, module_without_place}
 use Rattle.law_blocks.specs.sliding.Meaning.{AreStores, Stores, Value, contents_of, flex_padding, flex_seen, meaning_of, store_in}
 use Rattle.law_blocks.specs.sliding.Rules.{IsTurned}
-use Rattle.law_blocks.specs.sliding.Turning.{Call, StoreTurn, answer_of, answer_of_turn, flex_call_answer, stores_after_flex, anchor_place_by, anchor_place_of_turn, stores_after_turn, stores_with_flex}
+use Rattle.law_blocks.specs.sliding.Turning.{Call, FlexOrSlide, answer_of, answer_of_turn, flex_call_answer, stores_after_flex, anchor_place_by, anchor_place_of_turn, stores_after_step, stores_with_flex}
 
 -- what a turn with some answer leaves
-pub record IsFollowedBy (turn : StoreTurn) (answer : Result Bool ErrorNumber) (x y : Stores) : Type 0 where
+pub record IsFollowedBy (turn : FlexOrSlide) (answer : Result Bool ErrorNumber) (x y : Stores) : Type 0 where
   pub rule : IsTurned turn (anchor_place_of_turn turn x) answer (meaning_of x) (meaning_of y)
-  pub words : (slot word : ℕ) → (meaning_of x).names slot ≡ Some (Value word) → private_word y.world.estate slot ≡ word
-  pub modules : map module_without_place y.world.modules ≡ map module_without_place x.world.modules
+  pub words : (slot word : ℕ) → (meaning_of x).names slot ≡ Some (Value word) → private_word y.module_state.area_store slot ≡ word
+  pub modules : map module_without_place y.module_state.modules ≡ map module_without_place x.module_state.modules
   pub stores : AreStores y
   pub mapped : (store_in y).bytes.mapped ≡ (store_in x).bytes.mapped
-  pub pool : y.world.estate.pool ≡ x.world.estate.pool
-  pub land : y.world.estate.land ≡ x.world.estate.land
+  pub pool : y.module_state.area_store.pool ≡ x.module_state.area_store.pool
+  pub area_table : y.module_state.area_store.area_table ≡ x.module_state.area_store.area_table
   pub pending : y.pending ≡ x.pending
 
 -- a turn that leaves all as it is
-pub stays : (turn : StoreTurn) (answer : Result Bool ErrorNumber) (x : Stores) → AreStores x → IsTurned turn (anchor_place_of_turn turn x) answer (meaning_of x) (meaning_of x)
+pub stays : (turn : FlexOrSlide) (answer : Result Bool ErrorNumber) (x : Stores) → AreStores x → IsTurned turn (anchor_place_of_turn turn x) answer (meaning_of x) (meaning_of x)
     → IsFollowedBy turn answer x x
 unfolding meaning_of
 stays turn answer x are rule = record {
   rule = rule;
-  words = λ slot word says. words_said x.world slot word says;
+  words = λ slot word says. words_said x.module_state slot word says;
   modules = refl;
   stores = are;
   mapped = refl;
   pool = refl;
-  land = refl;
+  area_table = refl;
   pending = refl;
 }
 
--- an estate whose flex store changed
-pub estate_after : (e : Estate) (t : Store) → IsEstate e → t.bytes.mapped ≡ e.store.bytes.mapped → t.heaps ≡ e.store.heaps → t.others ≡ e.store.others
-    → IsSound t → IsEstate (with_store e t)
-estate_after e t good mapped heaps others sound = record {
+-- an area store whose flex store changed
+pub area_store_after : (e : AreaStore) (t : Store) → IsAreaStore e → t.bytes.mapped ≡ e.store.bytes.mapped → t.heaps ≡ e.store.heaps → t.others ≡ e.store.others
+    → IsSound t → IsAreaStore (with_store e t)
+area_store_after e t good mapped heaps others sound = record {
   ground = record {
     sizes = good.ground.sizes;
     table = good.ground.table;
-    land = λ x. ap (λ (p : ℕ → Bool). p x) mapped ∙ good.ground.land x;
+    area_table = λ x. ap (λ (p : ℕ → Bool). p x) mapped ∙ good.ground.area_table x;
     pages = good.ground.pages;
     ranges = rw (mapped, others) good.ground.ranges;
     sound = sound;
@@ -116,7 +116,7 @@ pub before : (x : Stores) (e : Extent) → AreStores x → x.flex.extent ≡ Som
 before x e are is = record {
   spelled = subst (IsSpelledAt (store_in x)) is are.flex.is;
   memory = are.memory;
-  sound = are.world.estate.ground.sound;
+  sound = are.module_state.area_store.ground.sound;
   free = are.flex.free;
   beside = are.flex.beside ∙ ap records_with is;
 }
@@ -148,8 +148,8 @@ module _ (x : Stores) (e : Extent) (call : FlexCall) (v : FlexState) (are : AreS
   stores : AreStores y
   unfolding y
   stores = record {
-    world = world_kept x.world (stores_with_flex x (store_in x) v).world x.pending are.world refl refl
-        (estate_after x.world.estate (store_flexed (store_in x) v) are.world.estate after.mapped refl refl after.sound);
+    module_state = module_state_kept x.module_state (stores_with_flex x (store_in x) v).module_state x.pending are.module_state refl refl
+        (area_store_after x.module_state.area_store (store_flexed (store_in x) v) are.module_state.area_store after.mapped refl refl after.sound);
     flex = after.flex;
     modules = are.modules;
     memory = after.memory;
@@ -179,8 +179,8 @@ module _ (x : Stores) (e : Extent) (call : FlexCall) (v : FlexState) (are : AreS
   on : IsCalledOn call x y
   unfolding y stores marks
   on = record {
-    sound = are.world.estate.ground.sound;
-    system = are.world.system;
+    sound = are.module_state.area_store.ground.sound;
+    system = are.module_state.system;
     modules = are.modules;
     old = are.flex.is;
     old_free = are.flex.free;
@@ -228,14 +228,14 @@ module _ (x : Stores) (e : Extent) (call : FlexCall) (v : FlexState) (are : AreS
     stores = stores;
     mapped = after.mapped;
     pool = refl;
-    land = refl;
+    area_table = refl;
     pending = refl;
   }
 
 -- where nothing was changed
 all_same : (x : Stores) (v : FlexState) → store_flexed (store_in x) v ≡ store_in x → flex_of v.flex ≡ x.flex → stores_with_flex x (store_in x) v ≡ x
 all_same x v store flex = λ i. record {
-  world = record { estate = record { store = store i; pool = x.world.estate.pool; land = x.world.estate.land }; modules = x.world.modules };
+  module_state = record { area_store = record { store = store i; pool = x.module_state.area_store.pool; area_table = x.module_state.area_store.area_table }; modules = x.module_state.modules };
   flex = flex i;
   pending = x.pending;
 }
@@ -270,9 +270,9 @@ call_by : (x : Stores) (call : FlexCall) (r : Result (FlexState × Bool) ErrorNu
 call_by x call (Err e) is are words = stays (Call call) (Err e) x are refl
 call_by x call (Ok q) is are words = done_by x call q.0 q.1 x.flex.extent are words refl is
 
-pub call_followed : (x : Stores) (call : FlexCall) → AreStores x → IsOfWords call → IsFollowed (Call call) x (stores_after_turn (Call call) x)
-unfolding stores_after_turn answer_of_turn
+pub call_followed : (x : Stores) (call : FlexCall) → AreStores x → IsOfWords call → IsFollowed (Call call) x (stores_after_step (Call call) x)
+unfolding stores_after_step answer_of_turn
 call_followed x call are words =
     let f : IsFollowedBy (Call call) (answer_of (flex_call_answer (store_in x) x.flex call)) x (stores_after_flex x (store_in x) (flex_call_answer (store_in x) x.flex call)) =
     call_by x call (flex_call_answer (store_in x) x.flex call) refl are words in
-    record { rule = f.rule; words = f.words; modules = f.modules; stores = f.stores; mapped = f.mapped; pool = f.pool; land = f.land; pending = f.pending }
+    record { rule = f.rule; words = f.words; modules = f.modules; stores = f.stores; mapped = f.mapped; pool = f.pool; area_table = f.area_table; pending = f.pending }

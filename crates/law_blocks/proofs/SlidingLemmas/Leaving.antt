@@ -25,7 +25,7 @@ use Rattle.flex_store.specs.Runs.{FlexCall}
 use Rattle.flex_store.specs.State.{AreAnchorWords, AreInner, AreWhole, IsFlexRange, IsText}
 use Rattle.flex_store.specs.declared.flex.Extent.{Extent}
 use Rattle.flex_store.specs.declared.flex.Flex.{Flex}
-use Rattle.swi_dispatch_answers.specs.flex_frame.world.Sound.{count_beside}
+use Rattle.swi_dispatch_answers.specs.flex_frame.module_state.Sound.{count_beside}
 use Rattle.law_blocks.specs.sliding.FlexStore.{HasFlexStore, IsFlexRangeSpelled, spelled_blocks}
 use Rattle.law_blocks.specs.sliding.Meaning.{IsMemory}
 

@@ -52,7 +52,7 @@ further : (byte : Option ℕ) (o : Option PayloadPlace) (b : List (Option ℕ)) 
 further byte None b bs = refl
 further byte (Some p) b bs = refl
 
--- The bytes of a word of whole blocks are seen as told, and all others as they were.
+-- The bytes of a word of whole blocks are seen as described, and all others as they were.
 pub payloads_seen : (f g : ℕ → Option ℕ) (byte : Option ℕ) (w at : ℕ) (xs : List Item) → w % 4 ≡ 0 → at % 4 ≡ 0 → AreTotals xs
     → ((a : ℕ) → at ≤ a → a < at + size_of xs → g a ≡ (if in_range w 4 a then byte else f a))
     → payloads g at xs ≡ with_place_seen byte (place_among w at xs) (payloads f at xs)

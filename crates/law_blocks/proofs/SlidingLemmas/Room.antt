@@ -75,10 +75,10 @@ roomy x e are is = record {
   flex = ap (λ (o : Option Extent). spelled_store (store_in x).bytes.at o) is;
 }
 
-told : (x : Stores) (e : Extent) (call : FlexCall) (answer : Bool) (u : FlexState) → AreStores x → IsRoomy x e
+reported : (x : Stores) (e : Extent) (call : FlexCall) (answer : Bool) (u : FlexState) → AreStores x → IsRoomy x e
     → IsFlexCallDone (flex_state (store_in x) x.flex) call answer u
     → answer ≡ nat_le (e.start + bytes_taken_by_all (blocks_after call (spelled_blocks (store_in x) e))) e.end
-told x e call answer u are room done =
+reported x e call answer u are room done =
     answers_are_room (flex_state (store_in x) x.flex) u (record { start = e.start; end = e.end; blocks = spelled_blocks (store_in x) e }) call answer
     (has_blocks (store_in x) x.flex.extent are.flex.is) room.flex room.spelled.fits done
 
@@ -89,7 +89,7 @@ alloc_room x e places u anchor size answer are is done =
     let all : bytes_taken_by_all (bs ++ new_block anchor size ∷ []) ≡ bytes_taken_by_all bs + (bytes_taken_by size + 0) = used-append bs (new_block anchor size ∷ []) in
     let total : bytes_taken_by_all bs ≡ e.used = room.spelled.used_is in
     let fits : e.start + bytes_taken_by_all bs ≤ e.end = room.spelled.fits in
-    answer_by answer (e.start + bytes_taken_by_all (bs ++ new_block anchor size ∷ [])) e.end (e.used + 8 + whole_words size) (e.end - e.start) (told x e (Alloc anchor size) answer u are room (places, done))
+    answer_by answer (e.start + bytes_taken_by_all (bs ++ new_block anchor size ∷ [])) e.end (e.used + 8 + whole_words size) (e.end - e.start) (reported x e (Alloc anchor size) answer u are room (places, done))
     (λ low. omega (arith, low, all, total, fits)) (λ low. omega (arith, low, all, total, fits))
 
 -- the block of an anchor that has contents
@@ -168,7 +168,7 @@ extend_room x e u anchor size old answer are is has done =
     sum ∙ ap (λ (n : ℕ). bytes_taken_by_all bs + bytes_taken_by n) new in
     let same : bytes_taken_by_all (blocks_after (Extend anchor size) bs) ≡ bytes_taken_by_all (with_block anchor (block_holding f.block (bytes_with_size old size)) bs) = ap bytes_taken_by_all after in
     answer_by answer (e.start + bytes_taken_by_all (blocks_after (Extend anchor size) bs)) e.end (e.used - whole_words (length old) + whole_words size) (e.end - e.start)
-    (told x e (Extend anchor size) answer u are room done)
+    (reported x e (Extend anchor size) answer u are room done)
     (λ low. room_by e.start e.end e.used (bytes_taken_by_all bs) (bytes_taken_by_all (blocks_after (Extend anchor size) bs))
     (whole_words (length old)) (whole_words size) room.spelled.used_is room.spelled.fits own (ap (λ (n : ℕ). n + bytes_taken_by (length old)) same ∙ sum') low)
     (λ low. room_back e.start e.end e.used (bytes_taken_by_all bs) (bytes_taken_by_all (blocks_after (Extend anchor size) bs))
@@ -207,7 +207,7 @@ mid_room x e u anchor at by old answer are is has done =
     used_changed x e anchor old (change old) f ∙ ap (λ (n : ℕ). bytes_taken_by_all bs + bytes_taken_by n) new in
     let same : bytes_taken_by_all (blocks_after (MidExtend anchor at by) bs) ≡ bytes_taken_by_all (with_block anchor (block_holding f.block (change old)) bs) = ap bytes_taken_by_all after in
     answer_by answer (e.start + bytes_taken_by_all (blocks_after (MidExtend anchor at by) bs)) e.end
-    (e.used - whole_words (length old) + whole_words (length old - cut_of by + more_of by)) (e.end - e.start) (told x e (MidExtend anchor at by) answer u are room done)
+    (e.used - whole_words (length old) + whole_words (length old - cut_of by + more_of by)) (e.end - e.start) (reported x e (MidExtend anchor at by) answer u are room done)
     (λ low. room_by e.start e.end e.used (bytes_taken_by_all bs) (bytes_taken_by_all (blocks_after (MidExtend anchor at by) bs))
     (whole_words (length old)) (whole_words (length old - cut_of by + more_of by)) room.spelled.used_is room.spelled.fits own (ap (λ (n : ℕ). n + bytes_taken_by (length old)) same ∙ sum) low)
     (λ low. room_back e.start e.end e.used (bytes_taken_by_all bs) (bytes_taken_by_all (blocks_after (MidExtend anchor at by) bs))

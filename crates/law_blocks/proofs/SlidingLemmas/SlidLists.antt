@@ -7,7 +7,7 @@ use Rattle.std.proofs.lemmas.Bool.{both_ways, cases_Bool, cases_lt, eq-eqb, eqb-
 use Rattle.address_map.specs.Bytes.{in_range}
 use Rattle.address_map.specs.Items.{size_of}
 use Rattle.address_map.specs.Moves.{moved_to}
-use Rattle.address_map.specs.declared.follow.Move.{Move}
+use Rattle.address_map.specs.declared.follow.BlockMove.{BlockMove}
 use Rattle.address_map.specs.declared.item.Item.{Item}
 use Rattle.address_map.specs.declared.item.Item.TheVariants.{Free, Live}
 use Rattle.os_heap_words.proofs.ListsLemmas.Reading.{total_facts}
@@ -142,7 +142,7 @@ module _ (mv anchor : ℕ → Bool) (old new : ℕ → ℕ) where
       let place : ℕ = item_place_after (mv (at + 4)) top at in
       let bounds : (top ≤ place) × (place ≤ at) = between (mv (at + 4)) top at c.low in
       let least = total_facts t c.totals.0 in
-      let ms : List Move = moves_of mv (place + t) (at + t) xs in
+      let ms : List BlockMove = moves_of mv (place + t) (at + t) xs in
       let to : moved_to (move_of at place ++ ms) (at + 4) ≡ place + 4 =
       first_moved at place ms (low_still mv (place + t) (at + t) xs (at + 4) (omega (arith, least.0))) in
       let byte : new (place + 4 + k) ≡ old (at + 4 + k) =
@@ -269,7 +269,7 @@ number_slid mv top at (Live t ∷ xs) b low totals some =
     let place : ℕ = item_place_after (mv (at + 4)) top at in
     let bounds : (top ≤ place) × (place ≤ at) = between (mv (at + 4)) top at low in
     let least = total_facts t totals.0 in
-    let ms : List Move = moves_of mv (place + t) (at + t) xs in
+    let ms : List BlockMove = moves_of mv (place + t) (at + t) xs in
     let zs : List Item = slid mv (place + t) (at + t) xs in
     elim (cases_Bool (at + 4 == b)) [
       | inl here ↦

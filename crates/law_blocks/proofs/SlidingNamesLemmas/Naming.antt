@@ -19,7 +19,7 @@ use Rattle.law_blocks.proofs.SlidingLemmas.Turns.{turns_follow}
 use Rattle.law_blocks.specs.sliding.Laws.{IsFollowed}
 use Rattle.law_blocks.specs.sliding.Meaning.{AreStores, Meaning, Stores, flex_seen, meaning_of, store_in}
 use Rattle.law_blocks.specs.sliding.Rules.{IsTurned}
-use Rattle.law_blocks.specs.sliding.Turning.{AreAllowed, Call, Init, IsTurnAllowed, Slide, StoreTurn, answer_of, answer_of_turn, flex_call_answer, stores_after_flex, anchor_place_by, anchor_place_of_turn, stores_after_turn, stores_with_flex}
+use Rattle.law_blocks.specs.sliding.Turning.{AreAllowed, Call, Init, IsTurnAllowed, Slide, FlexOrSlide, answer_of, answer_of_turn, flex_call_answer, stores_after_flex, anchor_place_by, anchor_place_of_turn, stores_after_step, stores_with_flex}
 use Rattle.law_blocks.specs.sliding_names.Named.{IsCallByNames, IsTurnByNames, TurnsGoByNames}
 
 -- a call that finds room
@@ -62,7 +62,7 @@ unfolding meaning_of
 done_by x call v true is are words rule = room_by x call v x.flex.extent are words refl is
 done_by x call v false is are words rule = ap (λ (m : Meaning). m.flex) rule
 
--- each turn by its answer: what is changed is told by the rule of the turn but for a call that
+-- each turn by its answer: what is changed is shown by the rule of the turn but for a call that
 -- finds room
 call_by : (x : Stores) (call : FlexCall) (r : Result (FlexState × Bool) ErrorNumber) → flex_call_answer (store_in x) x.flex call ≡ r → AreStores x → IsOfWords call
     → IsTurned (Call call) (anchor_place_of_turn (Call call) x) (answer_of r) (meaning_of x) (meaning_of (stores_after_flex x (store_in x) r))
@@ -77,17 +77,17 @@ init_by start end x (Err e) p q rule = ap (λ (m : Meaning). m.flex) rule
 init_by start end x (Ok false) p q rule = ap (λ (m : Meaning). m.flex) rule
 init_by start end x (Ok true) p q rule = (rule.none, ap (λ (m : Meaning). m.flex) rule.same ∙ rule.none)
 
-turn_named : (turn : StoreTurn) (x : Stores) → AreStores x → IsTurnAllowed x.pending turn → IsFollowed turn x (stores_after_turn turn x)
-    → IsTurnByNames turn (answer_of_turn turn x) (anchor_place_of_turn turn x) (meaning_of x).flex (meaning_of (stores_after_turn turn x)).flex
-unfolding answer_of_turn stores_after_turn
-turn_named (Init start end) x are may f = init_by start end (anchor_place_of_turn (Init start end) x) (answer_of_turn (Init start end) x) (meaning_of x) (meaning_of (stores_after_turn (Init start end) x)) f.rule
+turn_named : (turn : FlexOrSlide) (x : Stores) → AreStores x → IsTurnAllowed x.pending turn → IsFollowed turn x (stores_after_step turn x)
+    → IsTurnByNames turn (answer_of_turn turn x) (anchor_place_of_turn turn x) (meaning_of x).flex (meaning_of (stores_after_step turn x)).flex
+unfolding answer_of_turn stores_after_step
+turn_named (Init start end) x are may f = init_by start end (anchor_place_of_turn (Init start end) x) (answer_of_turn (Init start end) x) (meaning_of x) (meaning_of (stores_after_step (Init start end) x)) f.rule
 turn_named (Call call) x are may f = call_by x call (flex_call_answer (store_in x) x.flex call) refl are may f.rule
 turn_named (Slide return_address) x are may f = f.rule.flex
 
 pub turns_named : TurnsGoByNames
 turns_named x [] are may = tt
 turns_named x (turn ∷ turns) are may =
-    let f : IsFollowed turn x (stores_after_turn turn x) = (turns_follow x (turn ∷ []) are (may.0, tt)).0 in (
+    let f : IsFollowed turn x (stores_after_step turn x) = (turns_follow x (turn ∷ []) are (may.0, tt)).0 in (
       turn_named turn x are may.0 f,
-      turns_named (stores_after_turn turn x) turns f.stores (subst (λ (p : List Image). AreAllowed p turns) (sym f.pending) may.1),
+      turns_named (stores_after_step turn x) turns f.stores (subst (λ (p : List Image). AreAllowed p turns) (sym f.pending) may.1),
     )

@@ -161,7 +161,7 @@ pub record IsNoChange (t u : FlexState) : Type 0 where
 abbrev pub NoRoomChangesNothing : Type 0
 NoRoomChangesNothing = (t u : FlexState) → IsNoChange t u
 
--- Blocks that memory spells are told apart by their anchors' places, and each place is told by the
+-- Blocks that memory spells are told apart by their anchors' places, and each place is shown by the
 -- blocks before.
 abbrev pub AnchorsAreApart : Type 0
 AnchorsAreApart = (t : FlexState) (s : FlexStore) → IsSpelledState t s → AreNumbered 0 (blocks_seen (Some s))

@@ -51,23 +51,23 @@ abbrev pub with_places : (Anchor → Anchor) → List SeenBlock → List SeenBlo
 with_places go bs = map (λ b. record { anchor = go b.anchor; bytes = b.bytes }) bs
 
 -- The bytes of a block, of which the first is its byte `at`, with each of the four from `offset` on
--- seen as told; and blocks with those of a place.
-abbrev pub word_told : Option ℕ → ℕ → ℕ → List (Option ℕ) → List (Option ℕ)
-word_told byte offset at [] = []
-word_told byte offset at (x ∷ xs) = (if in_range offset 4 at then byte else x)
-    ∷ word_told byte offset (at + 1) xs
+-- seen as described; and blocks with those of a place.
+abbrev pub word_shown : Option ℕ → ℕ → ℕ → List (Option ℕ) → List (Option ℕ)
+word_shown byte offset at [] = []
+word_shown byte offset at (x ∷ xs) = (if in_range offset 4 at then byte else x)
+    ∷ word_shown byte offset (at + 1) xs
 
 abbrev pub blocks_after_store : Option ℕ → ℕ → ℕ → List SeenBlock → List SeenBlock
 blocks_after_store byte number offset [] = []
 blocks_after_store byte zero offset (b ∷ bs) = record {
   anchor = b.anchor;
-  bytes = word_told byte offset 0 b.bytes;
+  bytes = word_shown byte offset 0 b.bytes;
 } ∷ bs
 blocks_after_store byte (suc number) offset (b ∷ bs) = b ∷ blocks_after_store byte number offset bs
 
-abbrev pub place_told : Option ℕ → Anchor → List SeenBlock → List SeenBlock
-place_told byte (Fixed a) bs = bs
-place_told byte (Inside number offset) bs = blocks_after_store byte number offset bs
+abbrev pub place_shown : Option ℕ → Anchor → List SeenBlock → List SeenBlock
+place_shown byte (Fixed a) bs = bs
+place_shown byte (Inside number offset) bs = blocks_after_store byte number offset bs
 
 -- A splice of the block of some size whose anchor is at a place: it alone shows other bytes, and
 -- the anchors in it that lie after the place move with these.
@@ -87,11 +87,11 @@ pub record IsRemovedSeen (x : Anchor) (p q : List SeenBlock) : Type 0 where
   pub own : List (Option ℕ)
   pub rest : List SeenBlock
   pub was : p ≡ front ++ record { anchor = x; bytes = own } ∷ rest
-  pub now : q ≡ place_told (Some 0) x front ++ with_places (after_removal (length front)) rest
+  pub now : q ≡ place_shown (Some 0) x front ++ with_places (after_removal (length front)) rest
 
 -- A block of zeros comes after all others: its anchor is not seen where it lies in a block.
 abbrev pub IsAddedSeen : Anchor → ℕ → List SeenBlock → List SeenBlock → Type 0
-IsAddedSeen x size p q = q ≡ place_told None x p ++ record { anchor = x; bytes = replicate size (Some 0) }
+IsAddedSeen x size p q = q ≡ place_shown None x p ++ record { anchor = x; bytes = replicate size (Some 0) }
     ∷ []
 
 -- What a call that found room does to the blocks, where its anchor is at a place. A new size cuts

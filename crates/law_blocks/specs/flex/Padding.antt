@@ -38,7 +38,7 @@ pub record BlockAt (x : Anchor) (seen : List SeenBlock) : Type 0 where
   pub is : seen ≡ front ++ record { anchor = x; bytes = own } ∷ rest
 
 -- All blocks but the one whose anchor is at a place have the padding that they had. Of that one
--- `left` tells, by its size and the padding that it had: it has another, or it is gone.
+-- `left` shows, by its size and the padding that it had: it has another, or it is gone.
 pub record IsOwnPadding (x : Anchor) (seen : List SeenBlock) (left : ℕ → List ℕ → List (List ℕ))
     (p q : List (List ℕ)) : Type 0 where
   pub block : BlockAt x seen

@@ -4,7 +4,7 @@ use Rattle.std.specs.Prelude.{ℕ, Bool, ◌+◌, ◌-◌, ◌==◌, List, [], �
 use Rattle.flex_store.specs.Blocks.{Block, contents, FlexStore, bytes_taken_by}
 use Rattle.flex_store.specs.Calls.{is_anchor_byte}
 
--- these bytes, the first of them at `at`; `anchor` tells of each address whether it is one of an
+-- these bytes, the first of them at `at`; `anchor` says of each address whether it is one of an
 -- anchor's
 abbrev pub seen_bytes : (ℕ → Bool) → ℕ → List ℕ → List (Option ℕ)
 seen_bytes anchor at [] = []

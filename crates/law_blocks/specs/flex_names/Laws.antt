@@ -8,11 +8,11 @@ use Rattle.flex_store.specs.Runs.{Alloc, Extend, FlexCall, MidExtend, Release}
 use Rattle.law_blocks.specs.flex.Laws.{anchor_of_call, IsDoneIn, IsOfWords, IsSpelledState}
 use Rattle.law_blocks.specs.flex.Numbered.{Anchor, AreNumbered, blocks_seen, IsAddedSeen, IsCalledSeen, IsRemovedSeen, IsSplicedSeen, anchor_place_of, SeenBlock}
 use Rattle.law_blocks.specs.flex.Seen.{seen_spliced}
-use Rattle.law_blocks.specs.flex_names.Names.{contents_named, In, Name, name_before, number_named, place_named, same_name, told_named}
+use Rattle.law_blocks.specs.flex_names.Names.{contents_named, In, Name, name_before, number_named, place_named, same_name, shown_named}
 
 -- Each block has one name, and no other has it.
-abbrev pub NamesTellBlocks : Type 0
-NamesTellBlocks = (p : List SeenBlock) → AreNumbered 0 p → (n : ℕ) → n < length p
+abbrev pub NamesPrintBlocks : Type 0
+NamesPrintBlocks = (p : List SeenBlock) → AreNumbered 0 p → (n : ℕ) → n < length p
     → (y : Name) × ((number_named p y ≡ Some n) × ((z : Name) → number_named p z ≡ Some n → z ≡ y))
 
 -- A block of zeros comes at a name: the word of its anchor is seen no more where it lies in a
@@ -20,13 +20,13 @@ NamesTellBlocks = (p : List SeenBlock) → AreNumbered 0 p → (n : ℕ) → n <
 abbrev pub IsAddedNamed : Name → ℕ → List SeenBlock → List SeenBlock → Type 0
 IsAddedNamed name size p q =
     (y : Name) → contents_named q y ≡ (if same_name y name then Some (replicate size (Some 0))
-    else told_named None name y (contents_named p y))
+    else shown_named None name y (contents_named p y))
 
 -- The block of a name goes: the word of its anchor is 0 where it lies in a block, and else each
 -- name shows what it did.
 abbrev pub IsRemovedNamed : Name → List SeenBlock → List SeenBlock → Type 0
 IsRemovedNamed name p q = (y : Name) → contents_named q y
-    ≡ (if same_name y name then None else told_named (Some 0) name y (contents_named p y))
+    ≡ (if same_name y name then None else shown_named (Some 0) name y (contents_named p y))
 
 -- The block of a name shows the splice of what it showed, and each other name what that name showed
 -- which the block had before.

@@ -3,7 +3,7 @@
 -- whose anchor lies in another block by the name of that one, and how far into its contents it is.
 use Rattle.std.specs.Prelude.{ℕ, zero, suc, Bool, false, ◌+◌, ◌-◌, ◌==◌, ◌&&◌, nat_lt, List, [], ◌∷◌, Option, None, Some, if◌then◌else◌}
 use Rattle.std.specs.Option.{option_and_then, option_map}
-use Rattle.law_blocks.specs.flex.Numbered.{Anchor, Fixed, Inside, SeenBlock, word_told}
+use Rattle.law_blocks.specs.flex.Numbered.{Anchor, Fixed, Inside, SeenBlock, word_shown}
 
 pub data Name : Type 0 where
   At : ℕ → Name
@@ -31,7 +31,7 @@ abbrev pub number_named : List SeenBlock → Name → Option ℕ
 number_named bs (At a) = number_from 0 (Fixed a) bs
 number_named bs (In y o) = option_and_then (λ n. number_from 0 (Inside n o) bs) (number_named bs y)
 
--- the place of the word that a name tells, be it an anchor or not
+-- the place of the word that a name shows, be it an anchor or not
 abbrev pub place_named : List SeenBlock → Name → Option Anchor
 place_named bs (At a) = Some (Fixed a)
 place_named bs (In y o) = option_map (λ n. Inside n o) (number_named bs y)
@@ -45,11 +45,11 @@ shown_bytes_of (suc n) (b ∷ bs) = shown_bytes_of n bs
 abbrev pub contents_named : List SeenBlock → Name → Option (List (Option ℕ))
 contents_named bs y = option_and_then (λ n. shown_bytes_of n bs) (number_named bs y)
 
--- What blocks show, with each byte of the word of a name seen as told, where that word lies in a
+-- What blocks show, with each byte of the word of a name seen as described, where that word lies in a
 -- block.
-abbrev pub told_named : Option ℕ → Name → Name → Option (List (Option ℕ)) → Option (List (Option ℕ))
-told_named byte (At a) y shown = shown
-told_named byte (In z o) y shown = if same_name y z then option_map (word_told byte o 0) shown else shown
+abbrev pub shown_named : Option ℕ → Name → Name → Option (List (Option ℕ)) → Option (List (Option ℕ))
+shown_named byte (At a) y shown = shown
+shown_named byte (In z o) y shown = if same_name y z then option_map (word_shown byte o 0) shown else shown
 
 -- Where a word was before a splice of its block: none was there of the zeros that came.
 abbrev pub offset_before : ℕ → ℕ → ℕ → ℕ → Option ℕ

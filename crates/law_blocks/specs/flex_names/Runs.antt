@@ -32,25 +32,25 @@ pub record IsLeftAlone (t u : FlexState) (s : FlexStore) : Type 0 where
 -- One thing that is done, with the state that it leaves: a call, with the heaps and the ranges that
 -- there are then, or what leaves the store alone, as a refused call does, or a slide of other
 -- memory.
-pub data FlexTurn : Type 0 where
-  Called : Store → FlexCall → FlexState → FlexTurn
-  Apart : FlexState → FlexTurn
+pub data FlexStep : Type 0 where
+  Called : Store → FlexCall → FlexState → FlexStep
+  Apart : FlexState → FlexStep
 
-abbrev pub flex_after_turn : FlexTurn → FlexState
+abbrev pub flex_after_turn : FlexStep → FlexState
 flex_after_turn (Called places call u) = u
 flex_after_turn (Apart u) = u
 
-abbrev pub IsFlexTurn : FlexState → FlexTurn → Type 0
+abbrev pub IsFlexTurn : FlexState → FlexStep → Type 0
 IsFlexTurn t (Called places call u) = IsOfWords call × ((places.bytes ≡ t.bytes) ×
     (IsDoneIn places t call u ⊎ FindsNoRoom places t call u))
 IsFlexTurn t (Apart u) = (s : FlexStore) → t.flex ≡ Some s → IsLeftAlone t u s
 
 -- each of them is done in the state that the one before left
-abbrev pub AreTurns : FlexState → List FlexTurn → Type 0
+abbrev pub AreTurns : FlexState → List FlexStep → Type 0
 AreTurns t [] = Unit {0}
 AreTurns t (x ∷ xs) = IsFlexTurn t x × AreTurns (flex_after_turn x) xs
 
-abbrev pub left_at_last : FlexState → List FlexTurn → FlexState
+abbrev pub left_at_last : FlexState → List FlexStep → FlexState
 left_at_last t [] = t
 left_at_last t (x ∷ xs) = left_at_last (flex_after_turn x) xs
 
@@ -68,11 +68,11 @@ pub record GoesByAnswer (places : Store) (t : FlexState) (call : FlexCall) (u : 
   pub none : FindsNoRoom places t call u → u ≡ t
 
 -- And what leaves the store alone changes nothing that is seen.
-abbrev pub IsTurnNamed : FlexState → FlexTurn → Type 0
+abbrev pub IsTurnNamed : FlexState → FlexStep → Type 0
 IsTurnNamed t (Called places call u) = GoesByAnswer places t call u
 IsTurnNamed t (Apart u) = blocks_seen u.flex ≡ blocks_seen t.flex
 
-abbrev pub GoByNames : FlexState → List FlexTurn → Type 0
+abbrev pub GoByNames : FlexState → List FlexStep → Type 0
 GoByNames t [] = Unit {0}
 GoByNames t (x ∷ xs) = IsTurnNamed t x × GoByNames (flex_after_turn x) xs
 
@@ -83,7 +83,7 @@ IsFlexSpelled t = (s : FlexStore) × ((t.flex ≡ Some s) × IsSpelledState t s)
 -- Whatever is done, in whatever order: what names show changes by the rules of the calls alone, and
 -- memory spells what is left at last.
 abbrev pub RunsGoByNames : Type 0
-RunsGoByNames = (t : FlexState) (turns : List FlexTurn) → IsFlexSpelled t →
+RunsGoByNames = (t : FlexState) (turns : List FlexStep) → IsFlexSpelled t →
     ((a : ℕ) → t.bytes.mapped a ≡ true → a < 2 ^ 26) → AreTurns t turns
     → GoByNames t turns × IsFlexSpelled (left_at_last t turns)
 
@@ -94,7 +94,7 @@ on_anchor a (Release anchor) = Release a
 on_anchor a (Extend anchor size) = Extend a size
 on_anchor a (MidExtend anchor at by) = MidExtend a at by
 
--- What names show after a call is told by what they showed before, by the call's name and by what
+-- What names show after a call is shown by what they showed before, by the call's name and by what
 -- the call is given: wherever its word lies.
 abbrev pub NamesGoAlike : Type 0
 NamesGoAlike = (p q r z : List SeenBlock) (call : FlexCall) (a : ℕ) (name : Name) →

@@ -7,17 +7,17 @@ use Rattle.address_map.specs.Bytes.{in_range}
 use Rattle.os_heap_words.specs.lists.Heap.{HeapList}
 use Rattle.os_heap_words.specs.lists.Lists.{live_total}
 use Rattle.os_heap.specs.Store.{Store, find_heap}
-use Rattle.dynamic_areas.specs.Ground.{Estate}
+use Rattle.dynamic_areas.specs.Ground.{AreaStore}
 use Rattle.rma.specs.Calls.{rma_claimed, rma_freed}
 use Rattle.rma.specs.NewImages.{image_copied, image_made}
 use Rattle.instances_table.specs.declared.plans.action.PlanAction.{PlanAction}
 use Rattle.instances_table.specs.declared.plans.action.PlanAction.TheVariants as act
 use Rattle.instances_table.specs.plans.Carrying.{carry_of_plan}
 use Rattle.instances_table.specs.plans.Plans.{Plan}
-use Rattle.instances.specs.world.World.{World}
+use Rattle.instances.specs.module_state.ModuleState.{ModuleState}
 use Rattle.instances.specs.Turns.{module_doing}
-use Rattle.law_blocks.specs.heap_frame.FitEstates.{IsFitEstate}
-use Rattle.law_blocks.specs.heap_frame.PlanLaws.{AreActionsBelow, IsFitWorld}
+use Rattle.law_blocks.specs.heap_frame.FitAreaStores.{IsFitAreaStore}
+use Rattle.law_blocks.specs.heap_frame.PlanLaws.{AreActionsBelow, IsFitModuleState}
 
 abbrev pub total_in : ℕ → Option HeapList → Option ℕ
 total_in block None = None
@@ -45,14 +45,14 @@ WereLive s t =
     → (block_total s block ≡ Some total) × HoldsSame s t block total
 
 -- A claim leaves all blocks that were live, whatever the area grows by, and a release brings none.
-pub record BlockCallKeeps (d e : Estate) : Type 0 where
+pub record BlockCallKeeps (d e : AreaStore) : Type 0 where
   pub claim : (size block : ℕ) → rma_claimed d size ≡ Ok (e, block) → StayLive d.store e.store
   pub make_image : (image : List ℕ) (at : ℕ) → image_made d image ≡ Ok (e, at) → StayLive d.store e.store
   pub copy_image : (from len at : ℕ) → image_copied d from len ≡ Ok (e, at) → StayLive d.store e.store
   pub free : (block : ℕ) → rma_freed d block ≡ Ok (e, tt) → WereLive d.store e.store
 
 abbrev pub BlockCallsKeep : Type 0
-BlockCallsKeep = (d e : Estate) → IsFitEstate d → BlockCallKeeps d e
+BlockCallsKeep = (d e : AreaStore) → IsFitAreaStore d → BlockCallKeeps d e
 
 -- nothing slides
 abbrev pub HaveNoSlide : List PlanAction → Type 0
@@ -64,5 +64,7 @@ HaveNoSlide (other ∷ actions) = HaveNoSlide actions
 -- held.
 abbrev pub PlansKeepBlocks : Type 0
 PlansKeepBlocks =
-    (w : World) (p : Plan) → IsFitWorld w → AreActionsBelow p.actions → length p.given.text.items ≤ 255
-    → HaveNoSlide p.actions → WereLive w.estate.store (carry_of_plan module_doing w p).world.estate.store
+    (w : ModuleState) (p : Plan) → IsFitModuleState w → AreActionsBelow p.actions → length
+    p.given.text.items ≤ 255
+    → HaveNoSlide p.actions → WereLive w.area_store.store
+    (carry_of_plan module_doing w p).module_state.area_store.store

@@ -8,19 +8,19 @@ use Rattle.address_map.specs.Bytes.{word_start}
 use Rattle.address_map.specs.Items.{is_heap_word}
 use Rattle.os_heap_words.specs.lists.Heap.{HeapList}
 use Rattle.os_heap.specs.Store.{IsSound, find_heap}
-use Rattle.dynamic_areas.specs.Ground.{Estate, IsEstate}
+use Rattle.dynamic_areas.specs.Ground.{AreaStore, IsAreaStore}
 use Rattle.rma.specs.Calls.{rma_claimed, rma_extended, rma_freed}
 use Rattle.rma.specs.NewImages.{image_copied, image_made}
 use Rattle.instances_table.specs.declared.plans.action.PlanAction.{PlanAction}
 use Rattle.instances_table.specs.declared.plans.action.PlanAction.TheVariants as act
 use Rattle.instances_table.specs.declared.plans.given.Given.{Given}
-use Rattle.instances.specs.world.World.{World, private_freed, private_word}
-use Rattle.instances.specs.tidying.Slid.{world_slid}
-use Rattle.instances.specs.actions.Actions.{world_after_action}
+use Rattle.instances.specs.module_state.ModuleState.{ModuleState, private_freed, private_word}
+use Rattle.instances.specs.tidying.Slid.{module_state_slid}
+use Rattle.instances.specs.actions.Actions.{module_state_after_action}
 use Rattle.law_blocks.specs.heap_calls.Forgotten.{IsForgotten}
 use Rattle.law_blocks.specs.heap_calls.Laws.{IsNotForgotten}
 
-pub record AreaCallForgets (d e : Estate) (k : HeapList) : Type 0 where
+pub record AreaCallForgets (d e : AreaStore) (k : HeapList) : Type 0 where
   pub claim : (size block : ℕ) → rma_claimed d size ≡ Ok (e, block) → IsNotForgotten e.store k.start
   pub make_image : (image : List ℕ) (at : ℕ) → image_made d image ≡ Ok (e, at) →
       IsNotForgotten e.store k.start
@@ -33,24 +33,25 @@ pub record AreaCallForgets (d e : Estate) (k : HeapList) : Type 0 where
       IsForgotten d.store module_area_start reason.Resize block change k.start
 
 abbrev pub AreaCallsForgetHeaps : Type 0
-AreaCallsForgetHeaps = (d e : Estate) (k : HeapList) → IsEstate d → find_heap k.start d.store.heaps ≡ Some k →
+AreaCallsForgetHeaps = (d e : AreaStore) (k : HeapList) → IsAreaStore d → find_heap k.start d.store.heaps ≡
+    Some k →
     AreaCallForgets d e k
 
 -- The block that a private word names is given back, if it is one that can be.
-pub record GoesWithBlock (d : Estate) (slot start : ℕ) : Type 0 where
+pub record GoesWithBlock (d : AreaStore) (slot start : ℕ) : Type 0 where
   pub done : is_ok (rma_freed d (private_word d slot)) ≡ true
   pub forgotten : IsForgotten d.store module_area_start reason.Free (private_word d slot) 0 start
 
 abbrev pub RemovalsForgetHeaps : Type 0
 RemovalsForgetHeaps =
-    (d : Estate) (k : HeapList) (slot : ℕ) → IsEstate d → find_heap k.start d.store.heaps ≡ Some k
+    (d : AreaStore) (k : HeapList) (slot : ℕ) → IsAreaStore d → find_heap k.start d.store.heaps ≡ Some k
     → (find_heap k.start (private_freed d slot).store.heaps ≡ None) ↔ GoesWithBlock d slot k.start
 
 -- A release changes no byte but those of the words that the area's new list spells: a forgotten
 -- heap's bytes stay.
 abbrev pub ReleasesKeepBytes : Type 0
 ReleasesKeepBytes =
-    (d e : Estate) (g : HeapList) (block a : ℕ) → IsEstate d → IsSound e.store →
+    (d e : AreaStore) (g : HeapList) (block a : ℕ) → IsAreaStore d → IsSound e.store →
     rma_freed d block ≡ Ok (e, tt)
     → find_heap module_area_start e.store.heaps ≡ Some g →
     is_heap_word module_area_start g.items (word_start a) ≡ false →
@@ -66,6 +67,6 @@ gives_back other = false
 
 abbrev pub OtherActsForgetNone : Type 0
 OtherActsForgetNone =
-    (w : World) (g : Given) (a : PlanAction) (k : HeapList) → gives_back a ≡ false →
-    find_heap k.start w.estate.store.heaps ≡ Some k
-    → IsNotForgotten (world_after_action world_slid g w a).estate.store k.start
+    (w : ModuleState) (g : Given) (a : PlanAction) (k : HeapList) → gives_back a ≡ false →
+    find_heap k.start w.area_store.store.heaps ≡ Some k
+    → IsNotForgotten (module_state_after_action module_state_slid g w a).area_store.store k.start

@@ -4,17 +4,17 @@ use Rattle.std.specs.Prelude.{◌≡◌, true}
 use Rattle.os_heap_words.specs.lists.Heap.{HeapList}
 use Rattle.os_heap.specs.Calls.{has_own_size}
 use Rattle.law_blocks.specs.sliding.Meaning.{AreStores, Stores, store_in}
-use Rattle.law_blocks.specs.sliding.Turning.{Call, Init, Slide, StoreTurn, stores_after_turn}
+use Rattle.law_blocks.specs.sliding.Turning.{Call, Init, Slide, FlexOrSlide, stores_after_step}
 use Rattle.law_blocks.specs.heap_frame.FlexLaws.{IsFreeOfAnchors, NamesOutside}
 use Rattle.law_blocks.specs.heap_calls.Laws.{KeepsHeap}
 
-abbrev pub TurnsOutside : HeapList → StoreTurn → Type 0
+abbrev pub TurnsOutside : HeapList → FlexOrSlide → Type 0
 TurnsOutside h (Init start end) = Unit {0}
 TurnsOutside h (Call call) = NamesOutside h call
 TurnsOutside h (Slide return_address) = Unit {0}
 
 abbrev pub TurnsKeepHeap : Type 0
 TurnsKeepHeap =
-    (x : Stores) (turn : StoreTurn) (h : HeapList) → AreStores x → IsFreeOfAnchors h (store_in x)
+    (x : Stores) (turn : FlexOrSlide) (h : HeapList) → AreStores x → IsFreeOfAnchors h (store_in x)
     → has_own_size h.kind ≡ true → TurnsOutside h turn →
-    KeepsHeap h (store_in x) (store_in (stores_after_turn turn x))
+    KeepsHeap h (store_in x) (store_in (stores_after_step turn x))

@@ -3,7 +3,7 @@
 use Rattle.profile.specs.MemoryMap.{error_block_start}
 use Rattle.std.specs.Prelude.{ℕ, ◌≡◌, true, false}
 use Rattle.address_map.specs.Bytes.{Bytes, in_range}
-use Rattle.swi_dispatch_answers.specs.flex_frame.world.World.{private_word}
+use Rattle.swi_dispatch_answers.specs.flex_frame.module_state.ModuleState.{private_word}
 use Rattle.instances_table.specs.Changes.{is_slot_held}
 use Rattle.rma.specs.Calls.{with_store}
 use Rattle.law_blocks.specs.sliding.Meaning.{AreStores, Stores, meaning_of, store_in}
@@ -12,8 +12,8 @@ use Rattle.law_blocks.specs.sliding.Meaning.{AreStores, Stores, meaning_of, stor
 abbrev pub stores_with_bytes : Stores → Bytes → Stores
 stores_with_bytes x c =
     record x {
-      world = record x.world {
-        estate = with_store x.world.estate
+      module_state = record x.module_state {
+        area_store = with_store x.module_state.area_store
             (record (store_in x) { bytes = c });
       };
     }
@@ -21,8 +21,8 @@ stores_with_bytes x c =
 -- they mean the same, and the private words of instances are the same
 pub record IsSame (x y : Stores) : Type 0 where
   pub meaning : meaning_of y ≡ meaning_of x
-  pub words : (slot : ℕ) → is_slot_held slot x.world.modules ≡ true
-      → private_word y.world.estate slot ≡ private_word x.world.estate slot
+  pub words : (slot : ℕ) → is_slot_held slot x.module_state.modules ≡ true
+      → private_word y.module_state.area_store slot ≡ private_word x.module_state.area_store slot
 
 abbrev pub StaysBehind : Type 0
 StaysBehind =

@@ -1,4 +1,4 @@
--- The flex store of a machine, told of its store alone: its words spell the blocks, the anchors
+-- The flex store of a machine, shown of its store alone: its words spell the blocks, the anchors
 -- hold the addresses of the blocks' bytes, and just the words of headers and anchors are marked as
 -- such; no anchor lies in a recorded range but the store's own (Acorn C manual, "flex"; the layout
 -- is this project's own).
@@ -12,7 +12,7 @@ use Rattle.flex_store.specs.State.{AreAnchorWords, AreInner, AreWhole, IsFlexRan
 use Rattle.flex_store.specs.declared.flex.Extent.{Extent}
 use Rattle.flex_store.specs.declared.flex.Flex.{Flex}
 use Rattle.swi_dispatch_answers.specs.flex_frame.Ground.{records_with}
-use Rattle.swi_dispatch_answers.specs.flex_frame.world.Sound.{count_beside}
+use Rattle.swi_dispatch_answers.specs.flex_frame.module_state.Sound.{count_beside}
 
 -- the blocks that the words from the store's start on spell
 abbrev pub spelled_blocks : Store → Extent → List Block

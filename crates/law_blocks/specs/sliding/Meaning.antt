@@ -20,8 +20,8 @@ use Rattle.law_blocks.specs.flex.Padding.{all_paddings}
 use Rattle.instances_table.specs.Changes.{is_slot_held}
 use Rattle.instances_table.specs.declared.parts.Image.{Image}
 use Rattle.instances_table.specs.Modules.{AreModules}
-use Rattle.swi_dispatch_answers.specs.flex_frame.world.Sound.{IsWorld}
-use Rattle.swi_dispatch_answers.specs.flex_frame.world.World.{World, private_word}
+use Rattle.swi_dispatch_answers.specs.flex_frame.module_state.Sound.{IsModuleState}
+use Rattle.swi_dispatch_answers.specs.flex_frame.module_state.ModuleState.{ModuleState, private_word}
 use Rattle.swi_dispatch_answers.specs.flex_frame.tidying.Laws.{AreBytes}
 use Rattle.law_blocks.specs.sliding.FlexStore.{HasFlexStore}
 
@@ -29,12 +29,12 @@ use Rattle.law_blocks.specs.sliding.FlexStore.{HasFlexStore}
 -- that a call under way has recorded and not added to the modules yet: one while a load, an insert
 -- or a copy is under way, else none.
 pub record Stores : Type 0 where
-  pub world : World
+  pub module_state : ModuleState
   pub flex : Flex
   pub pending : List Image
 
 abbrev pub store_in : Stores → Store
-store_in x = x.world.estate.store
+store_in x = x.module_state.area_store.store
 
 -- memory holds bytes, and lies in whole words below 2 ^ 26
 pub record IsMemory (b : Bytes) : Type 0 where
@@ -44,9 +44,9 @@ pub record IsMemory (b : Bytes) : Type 0 where
 
 -- what holds of them between calls, and while one is under way
 pub record AreStores (x : Stores) : Type 0 where
-  pub world : IsWorld x.world x.pending
+  pub module_state : IsModuleState x.module_state x.pending
   pub flex : HasFlexStore (store_in x) x.flex
-  pub modules : AreModules x.world.modules
+  pub modules : AreModules x.module_state.modules
   pub memory : IsMemory (store_in x).bytes
   pub one : length x.pending ≤ 1
 
@@ -128,22 +128,23 @@ pub record Meaning : Type 0 where
   pub images : List (List ℕ)
   pub names : ℕ → Option PrivateWord
 
-abbrev pub area_blocks : World → List (List (Option ℕ))
-area_blocks w = payloads_in w.estate.store (find_heap module_area_start w.estate.store.heaps)
+abbrev pub area_blocks : ModuleState → List (List (Option ℕ))
+area_blocks w = payloads_in w.area_store.store (find_heap module_area_start w.area_store.store.heaps)
 
 -- the place of an anchor, of those that have contents
-abbrev pub area_places : (ℕ → Option (List ℕ)) → World → ℕ → Option PayloadPlace
+abbrev pub area_places : (ℕ → Option (List ℕ)) → ModuleState → ℕ → Option PayloadPlace
 area_places flex w a = if is_some (flex a) then payload_place_in a
-    (find_heap module_area_start w.estate.store.heaps) else None
+    (find_heap module_area_start w.area_store.store.heaps) else None
 
-abbrev pub area_images : World → List (List ℕ)
-area_images w = images_in w.estate.store.bytes.at w.estate.store.others
+abbrev pub area_images : ModuleState → List (List ℕ)
+area_images w = images_in w.area_store.store.bytes.at w.area_store.store.others
 
-abbrev pub area_word : World → ℕ → PrivateWord
-area_word w word = word_said word (block_number_in word (find_heap module_area_start w.estate.store.heaps))
+abbrev pub area_word : ModuleState → ℕ → PrivateWord
+area_word w word = word_said word (block_number_in word (find_heap module_area_start
+    w.area_store.store.heaps))
 
-abbrev pub area_names : World → ℕ → Option PrivateWord
-area_names w slot = if is_slot_held slot w.modules then Some (area_word w (private_word w.estate slot))
+abbrev pub area_names : ModuleState → ℕ → Option PrivateWord
+area_names w slot = if is_slot_held slot w.modules then Some (area_word w (private_word w.area_store slot))
     else None
 
 -- the contents of each anchor's block, if it has one
@@ -162,8 +163,8 @@ unfoldable pub meaning_of : Stores → Meaning
 meaning_of x = record {
   flex = flex_seen x;
   padding = flex_padding x;
-  places = area_places (contents_of x) x.world;
-  blocks = area_blocks x.world;
-  images = area_images x.world;
-  names = area_names x.world;
+  places = area_places (contents_of x) x.module_state;
+  blocks = area_blocks x.module_state;
+  images = area_images x.module_state;
+  names = area_names x.module_state;
 }

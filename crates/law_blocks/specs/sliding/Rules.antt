@@ -8,10 +8,10 @@ use Rattle.flex_store.specs.Runs.{Alloc, Extend, FlexCall, MidExtend, Release}
 use Rattle.law_blocks.specs.flex.Numbered.{Anchor, IsCalledSeen}
 use Rattle.law_blocks.specs.flex.Padding.{IsCalledPadding}
 use Rattle.law_blocks.specs.sliding.Meaning.{BlockNumber, Meaning, PayloadPlace, PrivateWord, Value}
-use Rattle.law_blocks.specs.sliding.Turning.{Call, Init, Slide, StoreTurn}
+use Rattle.law_blocks.specs.sliding.Turning.{Call, Init, Slide, FlexOrSlide}
 
 -- The bytes of a block, of which the first is its byte `at`, with each of the four from `offset` on
--- seen as told; and blocks with those of a place.
+-- seen as described; and blocks with those of a place.
 abbrev pub with_word_seen : Option ℕ → ℕ → ℕ → List (Option ℕ) → List (Option ℕ)
 with_word_seen byte offset at [] = []
 with_word_seen byte offset at (b ∷ bs) =
@@ -89,7 +89,7 @@ pub record IsMeaningSlid (p q : Meaning) : Type 0 where
 
 -- A turn, and the place of its anchor, if it has one. A call that was refused leaves all as it is,
 -- and so does one that finds no room.
-abbrev pub IsTurned : StoreTurn → Anchor → Result Bool ErrorNumber → Meaning → Meaning → Type 0
+abbrev pub IsTurned : FlexOrSlide → Anchor → Result Bool ErrorNumber → Meaning → Meaning → Type 0
 IsTurned turn x (Err e) p q = q ≡ p
 IsTurned turn x (Ok false) p q = q ≡ p
 IsTurned (Init start end) x (Ok true) p q = IsBegun p q

@@ -8,7 +8,7 @@ use Rattle.law_blocks.specs.flex.Numbered.{Anchor, SeenBlock}
 use Rattle.law_blocks.specs.flex_names.Laws.{IsCalledNamed}
 use Rattle.law_blocks.specs.flex_names.Names.{Name, place_named}
 use Rattle.law_blocks.specs.sliding.Meaning.{AreStores, Stores, meaning_of}
-use Rattle.law_blocks.specs.sliding.Turning.{AreAllowed, Call, Init, Slide, StoreTurn, answer_of_turn, anchor_place_of_turn, stores_after_turn}
+use Rattle.law_blocks.specs.sliding.Turning.{AreAllowed, Call, Init, Slide, FlexOrSlide, answer_of_turn, anchor_place_of_turn, stores_after_step}
 
 -- A call that finds room goes by its rule on the name of its word, which lies at a place.
 pub record IsCallByNames (call : FlexCall) (x : Anchor) (p q : List SeenBlock) : Type 0 where
@@ -20,7 +20,7 @@ pub record IsCallByNames (call : FlexCall) (x : Anchor) (p q : List SeenBlock) :
 -- refused, or answers that there is no room, changes nothing; one that answers that there is room
 -- goes by its rule. Flex_Init makes a store without blocks, where there was none. A slide keeps all
 -- blocks.
-abbrev pub IsTurnByNames : StoreTurn → Result Bool ErrorNumber → Anchor → List SeenBlock → List SeenBlock →
+abbrev pub IsTurnByNames : FlexOrSlide → Result Bool ErrorNumber → Anchor → List SeenBlock → List SeenBlock →
     Type 0
 IsTurnByNames turn (Err e) x p q = q ≡ p
 IsTurnByNames turn (Ok false) x p q = q ≡ p
@@ -29,14 +29,14 @@ IsTurnByNames (Call call) (Ok true) x p q = IsCallByNames call x p q
 IsTurnByNames (Slide return_address) (Ok true) x p q = q ≡ p
 
 -- each of some turns, on the flex blocks of the stores before it
-abbrev pub AreTurnsByNames : Stores → List StoreTurn → Type 0
+abbrev pub AreTurnsByNames : Stores → List FlexOrSlide → Type 0
 AreTurnsByNames x [] = Unit {0}
 AreTurnsByNames x (turn ∷ turns) =
     IsTurnByNames turn (answer_of_turn turn x) (anchor_place_of_turn turn x) (meaning_of x).flex
-    (meaning_of (stores_after_turn turn x)).flex
-    × AreTurnsByNames (stores_after_turn turn x) turns
+    (meaning_of (stores_after_step turn x)).flex
+    × AreTurnsByNames (stores_after_step turn x) turns
 
 -- Whatever is called and slid in whatever order, on the stores of any machine.
 abbrev pub TurnsGoByNames : Type 0
-TurnsGoByNames = (x : Stores) (turns : List StoreTurn) → AreStores x → AreAllowed x.pending turns →
+TurnsGoByNames = (x : Stores) (turns : List FlexOrSlide) → AreStores x → AreAllowed x.pending turns →
     AreTurnsByNames x turns

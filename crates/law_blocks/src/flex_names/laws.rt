@@ -1,11 +1,11 @@
 //! What each call does to the blocks, by their names.
 
-ghost use Rattle.law_blocks.specs.flex_names.Laws.{AllocGoesByNames, CallsGoByNames, DoneCallsGoByNames, NamesTellBlocks, ReleaseGoesByNames, SpliceGoesByNames, WordsHaveNames};
+ghost use Rattle.law_blocks.specs.flex_names.Laws.{AllocGoesByNames, CallsGoByNames, DoneCallsGoByNames, NamesPrintBlocks, ReleaseGoesByNames, SpliceGoesByNames, WordsHaveNames};
 ghost use Rattle.law_blocks.specs.flex_names.Runs.{NamesGoAlike, RunsGoByNames};
 
 /// Each block has one name, and no other has it.
-pub fn names_tell_blocks()
-    ensures { NamesTellBlocks }
+pub fn names_print_blocks()
+    ensures { NamesPrintBlocks }
 {}
 
 /// A splice of the block of a name shows there the splice of what it showed, and at each other name

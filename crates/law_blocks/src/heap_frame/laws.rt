@@ -5,7 +5,7 @@ ghost use Rattle.law_blocks.specs.heap_frame.AreaLaws.{AreaCallsKeepHeap};
 ghost use Rattle.law_blocks.specs.heap_frame.BlockLaws.{BlockCallsKeep, PlansKeepBlocks};
 ghost use Rattle.law_blocks.specs.heap_frame.FlexLaws.{FlexCallsKeepHeap, FlexInitKeepsHeap};
 ghost use Rattle.law_blocks.specs.heap_frame.ForgettingLaws.{AreaCallsForgetHeaps, OtherActsForgetNone, ReleasesKeepBytes, RemovalsForgetHeaps};
-ghost use Rattle.law_blocks.specs.heap_frame.GuestLaws.{EstatesAreFit, GuestHeapsLieOutside, OutsideKeepsHeap};
+ghost use Rattle.law_blocks.specs.heap_frame.GuestLaws.{AreaStoresAreFit, GuestHeapsLieOutside, OutsideKeepsHeap};
 ghost use Rattle.law_blocks.specs.heap_frame.HeapLaws.{HeapCallsStayFit};
 ghost use Rattle.law_blocks.specs.heap_frame.ModuleAreaLaws.{ModuleAreaCallsStayFit};
 ghost use Rattle.law_blocks.specs.heap_frame.PlanLaws.{
@@ -36,9 +36,9 @@ pub fn module_area_calls_stay_fit()
     ensures { ModuleAreaCallsStayFit }
 {}
 
-/// What holds of an estate between calls says enough of the module area for the midst of a step.
-pub fn estates_are_fit()
-    ensures { EstatesAreFit }
+/// What holds of an area store between calls says enough of the module area for the midst of a step.
+pub fn area_stores_are_fit()
+    ensures { AreaStoresAreFit }
 {}
 
 /// A heap that a guest made has no byte in the module area or in the system pages, or it lies in a

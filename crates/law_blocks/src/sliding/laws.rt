@@ -1,4 +1,4 @@
-//! Laws of flex calls and slides of the module area, told without addresses. Each is the contract
+//! Laws of flex calls and slides of the module area, stated without addresses. Each is the contract
 //! of a function that does nothing.
 
 ghost use Rattle.law_blocks.specs.sliding.Besides.{StaysBehind};

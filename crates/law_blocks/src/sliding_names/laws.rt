@@ -1,4 +1,4 @@
-//! A law of flex calls and slides of the module area, told by the names of flex blocks. It is the
+//! A law of flex calls and slides of the module area, shown by the names of flex blocks. It is the
 //! contract of a function that does nothing.
 
 ghost use Rattle.law_blocks.specs.sliding_names.Named.{TurnsGoByNames};

@@ -12,7 +12,7 @@ use Rattle.law_machine.proofs.AssembledLemmas.Parts.{piece_of}
 use Rattle.law_machine.proofs.AssembledLemmas.Splits.{Split, one_more, split_map}
 use Rattle.law_machine.proofs.AssembledLemmas.Tables.{entries_of, entry}
 
--- what the forms of pieces tell
+-- what the forms of pieces show
 total : List Form → ℕ
 total [] = 0
 total (f ∷ fs) = f.size + total fs

@@ -19,13 +19,13 @@ use Rattle.arm_core.specs.Listed.{listed_below, registers_of_list}
 use Rattle.arm_core.specs.State.{IsCore, State, register_in, slot_of}
 use Rattle.arm_core.specs.declared.psr.Mode.{Mode}
 use Rattle.arm_core.specs.declared.psr.Mode.TheVariants.{User}
-use Rattle.arm_core.specs.declared.turn.Turn.{Turn}
+use Rattle.arm_core.specs.declared.turn.StepEnd.{StepEnd}
 use Rattle.arm_core.proofs.Listing.{few_of_all}
 use Rattle.arm_step.specs.Blocks.{lowest, stepped_base, transferred_count, block_start, block_base, loads_status, bank_of, with_block_base, with_loaded, with_block_status, with_status_if, block_loaded, stores_new_base, block_value, block_values, block_stored, result_of_block_transfer}
 use Rattle.arm_step.specs.Step.{or_fault, result_of_action}
 use Rattle.arm_step.specs.Words.{words_loaded, words_stored}
-use Rattle.arm_ready.specs.Kinds.{goes_up, gap_below, MovesBlock}
-use Rattle.arm_ready.specs.ReadyWord.{ReadyWord}
+use Rattle.arm_predecode.specs.Kinds.{goes_up, gap_below, MovesBlock}
+use Rattle.arm_predecode.specs.OpValue.{OpValue}
 use Rattle.arm_run.specs.Blocked.{block_base_after, first_word, block_first, with_block_base_after}
 use Rattle.arm_run.specs.Moved.{with_base_if}
 use Rattle.arm_run.specs.Standing.{core_at}
@@ -49,11 +49,11 @@ ends_at n base IncrementBefore = refl
 ends_at n base DecrementAfter = refl
 ends_at n base DecrementBefore = refl
 
-counted_so : (r : ReadyWord) (l u w p : Bool) → MovesBlock l u w p r → transferred_count (block_transfer_in r.word) ≡ length (registers_of_list r.value)
+counted_so : (r : OpValue) (l u w p : Bool) → MovesBlock l u w p r → transferred_count (block_transfer_in r.word) ≡ length (registers_of_list r.value)
 counted_so r l u w p h = ap (λ (x : ℕ). length (registers_of_list x)) (sym h.list)
 
 -- the base that the word reads, with the count of the words
-first_so : (at : ℕ) (s : State) (l u w p : Bool) (r : ReadyWord) → IsCore s → MovesBlock l u w p r → block_start (core_at s at) (block_transfer_in r.word) ≡ block_first u s r
+first_so : (at : ℕ) (s : State) (l u w p : Bool) (r : OpValue) → IsCore s → MovesBlock l u w p r → block_start (core_at s at) (block_transfer_in r.word) ≡ block_first u s r
 first_so at s l u w p r core h =
     let mode : BlockMode = block_mode_of (field r.word 23 2) in
     let base : ℕ = register_in s.psr.mode s r.rn in
@@ -65,7 +65,7 @@ first_so at s l u w p r core h =
     ∙ ap (λ (k : ℕ). first_word u base k (gap_below mode)) (sym h.size)
     ∙ ap (λ (k : ℕ). first_word u base r.rs k) (sym h.gap)
 
-base_so : (at : ℕ) (s : State) (l u w p : Bool) (r : ReadyWord) → MovesBlock l u w p r
+base_so : (at : ℕ) (s : State) (l u w p : Bool) (r : OpValue) → MovesBlock l u w p r
     → with_block_base (with_next_pc (core_at s at)) (block_transfer_in r.word) (block_base (core_at s at) (block_transfer_in r.word)) ≡ core_at (with_block_base_after u w s r) (at + 1)
 base_so at s l u w p r h =
     let mode : BlockMode = block_mode_of (field r.word 23 2) in
@@ -85,12 +85,12 @@ base_so at s l u w p r h =
     ∙ ap (λ (k : ℕ). core_at (with_base_if w s k (block_base_after u base r.rs)) (at + 1)) (sym h.rn)
 
 -- without S no status is loaded, and the registers are those of the present mode
-present_bank : (t : State) (r : ReadyWord) (l u w p : Bool) → MovesBlock l u w p r → bank_of t (block_transfer_in r.word) ≡ t.psr.mode
+present_bank : (t : State) (r : OpValue) (l u w p : Bool) → MovesBlock l u w p r → bank_of t (block_transfer_in r.word) ≡ t.psr.mode
 present_bank t r l u w p h =
     let tr : BlockTransfer = block_transfer_in r.word in
     ap (λ (b : Bool). if b && not (b && (tr.loads && bit_of tr.list 15)) then User else t.psr.mode) h.plain
 
-status_left : (t : State) (ws : List ℕ) (r : ReadyWord) (l u w p : Bool) → MovesBlock l u w p r → with_block_status t (block_transfer_in r.word) ws ≡ t
+status_left : (t : State) (ws : List ℕ) (r : OpValue) (l u w p : Bool) → MovesBlock l u w p r → with_block_status t (block_transfer_in r.word) ws ≡ t
 status_left t ws r l u w p h =
     let tr : BlockTransfer = block_transfer_in r.word in
     let none : loads_status tr ≡ false = ap (λ (b : Bool). b && (tr.loads && bit_of tr.list 15)) h.plain in
@@ -116,9 +116,9 @@ blocks_load u w p r h owned s at b inside =
     ∙ ap (λ (x : State). with_loaded s.psr.mode x regs ws) (base_so at s true u w p r h)
     ∙ ap (λ (x : ℕ). with_loaded s.psr.mode (core_at (with_block_base_after u w s r) (at + 1)) (registers_of_list x) ws) (sym h.list)) in
     carried owned t b condition.Always (action.BlockTransfer tr) r h.does refl
-    ∙ ap (λ (l : Bool). let o : Result (State × Bytes) Turn = or_fault (if l then block_loaded t b tr else block_stored owned t b tr) in o) h.loads
-    ∙ ap (λ (x : Result (List ℕ) Fault). let o : Result (State × Bytes) Turn = or_fault (bind x f) in o) there
-    ∙ ap (λ (x : Result (State × Bytes) Fault). let o : Result (State × Bytes) Turn = or_fault x in o)
+    ∙ ap (λ (l : Bool). let o : Result (State × Bytes) StepEnd = or_fault (if l then block_loaded t b tr else block_stored owned t b tr) in o) h.loads
+    ∙ ap (λ (x : Result (List ℕ) Fault). let o : Result (State × Bytes) StepEnd = or_fault (bind x f) in o) there
+    ∙ ap (λ (x : Result (State × Bytes) Fault). let o : Result (State × Bytes) StepEnd = or_fault x in o)
     (bound_alike (words_loaded b (block_first u s r) (length (registers_of_list r.value))) f g core)
 
 -- the values that are stored, register by register
@@ -155,7 +155,7 @@ pc_unlisted k list listed low h = elim (cases_lt k 15) [
       absurd (cc)
 ]
 
-value_so : (at k : ℕ) (s : State) (u w : Bool) (r : ReadyWord) → MovesBlock false u w false r → bit_of r.value k ≡ true → k < 16
+value_so : (at k : ℕ) (s : State) (u w : Bool) (r : OpValue) → MovesBlock false u w false r → bit_of r.value k ≡ true → k < 16
     → block_value (core_at s at) (block_transfer_in r.word) k ≡ register_in s.psr.mode s k
 value_so at k s u w r h listed below =
     let t : State = core_at s at in
@@ -168,7 +168,7 @@ value_so at k s u w r h listed below =
     ∙ ap (λ (m : Mode). status_operand m t k 3) (present_bank t r false u w false h)
     ∙ status_read s at k 3 (pc_unlisted k r.value listed h.pc below)
 
-values_so : (at : ℕ) (s : State) (u w : Bool) (r : ReadyWord) → MovesBlock false u w false r
+values_so : (at : ℕ) (s : State) (u w : Bool) (r : OpValue) → MovesBlock false u w false r
     → block_values (core_at s at) (block_transfer_in r.word) ≡ map (register_in s.psr.mode s) (registers_of_list r.value)
 unfolding registers_of_list
 values_so at s u w r h =
@@ -187,8 +187,8 @@ blocks_store u w r h owned s at b inside =
     ap (λ (x : ℕ). words_stored owned b x (block_values t tr)) (first_so at s false u w false r inside h)
     ∙ ap (λ (vs : List ℕ). words_stored owned b (block_first u s r) vs) (values_so at s u w r h) in
     carried owned t b condition.Always (action.BlockTransfer tr) r h.does refl
-    ∙ ap (λ (l : Bool). let o : Result (State × Bytes) Turn = or_fault (if l then block_loaded t b tr else block_stored owned t b tr) in o) h.loads
-    ∙ ap (λ (x : Result Bytes Fault). let o : Result (State × Bytes) Turn = or_fault (bind x (λ c. after c (with_block_base (with_next_pc t) tr (block_base t tr)))) in o) there
-    ∙ ap (λ (x : Result (State × Bytes) Fault). let o : Result (State × Bytes) Turn = or_fault x in o)
+    ∙ ap (λ (l : Bool). let o : Result (State × Bytes) StepEnd = or_fault (if l then block_loaded t b tr else block_stored owned t b tr) in o) h.loads
+    ∙ ap (λ (x : Result Bytes Fault). let o : Result (State × Bytes) StepEnd = or_fault (bind x (λ c. after c (with_block_base (with_next_pc t) tr (block_base t tr)))) in o) there
+    ∙ ap (λ (x : Result (State × Bytes) Fault). let o : Result (State × Bytes) StepEnd = or_fault x in o)
     (bound_alike (words_stored owned b (block_first u s r) values) (λ c. after c (with_block_base (with_next_pc t) tr (block_base t tr)))
     (λ c. after c (core_at (with_block_base_after u w s r) (at + 1))) (λ c. ap (after c) (base_so at s false u w false r h)))

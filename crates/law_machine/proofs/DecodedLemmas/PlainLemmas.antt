@@ -12,10 +12,10 @@ use Rattle.arm_core.specs.Effect.{with_status}
 use Rattle.arm_core.specs.Operand.{rotated_immediate}
 use Rattle.arm_core.specs.Psr.{psr_bits}
 use Rattle.arm_core.specs.State.{State, register_in, with_register}
-use Rattle.arm_core.specs.declared.turn.Turn.{Turn}
+use Rattle.arm_core.specs.declared.turn.StepEnd.{StepEnd}
 use Rattle.arm_step.specs.Step.{result_of_action, result_of_word}
-use Rattle.arm_ready.specs.Kinds.{Branches}
-use Rattle.arm_ready.specs.ReadyWord.{ReadyWord}
+use Rattle.arm_predecode.specs.Kinds.{Branches}
+use Rattle.arm_predecode.specs.OpValue.{OpValue}
 use Rattle.arm_run.specs.Standing.{core_at}
 use Rattle.arm_run.proofs.Carried.{branches_to, carried, links_to, passes_on, passes_to}
 use Rattle.arm_run.proofs.Jumped.{moves_to, moves_with_status}
@@ -52,10 +52,10 @@ products_are_set adds r h owned s at b core = product_leads s _ adds _ r h refl 
 same_place : (s : State) (n : ℕ) → core_at s (n % 2 ^ 24) ≡ core_at s n
 same_place s n = with_counter s _ _ (omega arith)
 
-goes_there : (s : State) (n : ℕ) (b : Bytes) → (let x : Result (State × Bytes) Turn = Ok (core_at s (n % 2 ^ 24), b) in let y : Result (State × Bytes) Turn = Ok (core_at s n, b) in x ≡ y)
-goes_there s n b = ap (λ (t : State). let o : Result (State × Bytes) Turn = Ok (t, b) in o) (same_place s n)
+goes_there : (s : State) (n : ℕ) (b : Bytes) → (let x : Result (State × Bytes) StepEnd = Ok (core_at s (n % 2 ^ 24), b) in let y : Result (State × Bytes) StepEnd = Ok (core_at s n, b) in x ≡ y)
+goes_there s n b = ap (λ (t : State). let o : Result (State × Bytes) StepEnd = Ok (t, b) in o) (same_place s n)
 
-branch_by : (owned : ℕ → Bool) (s : State) (at : ℕ) (b : Bytes) (c : Condition) (r : ReadyWord) (holds : Bool) → Branches c false r → condition_holds c s.psr ≡ holds
+branch_by : (owned : ℕ → Bool) (s : State) (at : ℕ) (b : Bytes) (c : Condition) (r : OpValue) (holds : Bool) → Branches c false r → condition_holds c s.psr ≡ holds
     → result_of_word owned (core_at s at) b r.word ≡ Ok (core_at s (if holds then at + r.value else at + 1), b)
 branch_by owned s at b c r true h e = branches_to s at ((at + r.value) % 2 ^ 24) c r h refl e owned b ∙ goes_there s (at + r.value) b
 branch_by owned s at b c r false h e = passes_to s at c false r h e owned b

@@ -4,12 +4,12 @@ use Rattle.profile.specs.declared.swi.SwiName.{SwiName}
 use Rattle.profile.specs.declared.swi.SwiName.TheVariants as swi
 use Rattle.arm_core.specs.State.{State, register_of}
 use Rattle.os_heap.specs.Store.{Store}
-use Rattle.dynamic_areas.specs.Ground.{Estate}
-use Rattle.instances.specs.world.World.{World}
+use Rattle.dynamic_areas.specs.Ground.{AreaStore}
+use Rattle.instances.specs.module_state.ModuleState.{ModuleState}
 use Rattle.swi_dispatch_answers.specs.declared.refusal.Refusal.{Refusal}
 use Rattle.swi_dispatch_answers.specs.flex.Calls.{FlexMemory}
 use Rattle.swi_dispatch_guest.specs.Answers.{went_on}
-use Rattle.swi_dispatch_guest.specs.Calls.{call_answer, on_estate, on_flex, on_store, on_world, wrote_text_after, wrote_text_at}
+use Rattle.swi_dispatch_guest.specs.Calls.{call_answer, on_area_store, on_flex, on_store, on_module_state, wrote_text_after, wrote_text_at}
 use Rattle.swi_dispatch_guest.specs.MachineState.{MachineState, StepOutcome}
 
 abbrev pub IsLeft : MachineState → StepOutcome → Type 0
@@ -19,13 +19,13 @@ store_left : (s : MachineState) (next : ℕ) (r : Result (State × Store) Refusa
 store_left s next (Ok q) = refl
 store_left s next (Err e) = refl
 
-estate_left : (s : MachineState) (next : ℕ) (r : Result (State × Estate) Refusal) → IsLeft s (went_on s next (on_estate s r)).left
-estate_left s next (Ok q) = refl
-estate_left s next (Err e) = refl
+area_store_left : (s : MachineState) (next : ℕ) (r : Result (State × AreaStore) Refusal) → IsLeft s (went_on s next (on_area_store s r)).left
+area_store_left s next (Ok q) = refl
+area_store_left s next (Err e) = refl
 
-world_left : (s : MachineState) (next : ℕ) (r : Result (State × World) Refusal) → IsLeft s (went_on s next (on_world s r)).left
-world_left s next (Ok q) = refl
-world_left s next (Err e) = refl
+module_state_left : (s : MachineState) (next : ℕ) (r : Result (State × ModuleState) Refusal) → IsLeft s (went_on s next (on_module_state s r)).left
+module_state_left s next (Ok q) = refl
+module_state_left s next (Err e) = refl
 
 flex_left : (s : MachineState) (next : ℕ) (r : Result (State × FlexMemory) Refusal) → IsLeft s (went_on s next (on_flex s r)).left
 flex_left s next (Ok q) = refl
@@ -49,11 +49,11 @@ answer_left s next number (Some swi.NewLine) = refl
 answer_left s next number (Some swi.Exit) = flex_left s next _
 answer_left s next number (Some swi.EnterOs) = refl
 answer_left s next number (Some swi.Heap) = store_left s next _
-answer_left s next number (Some swi.Module) = world_left s next _
+answer_left s next number (Some swi.Module) = module_state_left s next _
 answer_left s next number (Some swi.ChangeDynamicArea) = refl
 answer_left s next number (Some swi.GenerateError) = refl
-answer_left s next number (Some swi.ReadDynamicArea) = estate_left s next _
-answer_left s next number (Some swi.DynamicArea) = estate_left s next _
+answer_left s next number (Some swi.ReadDynamicArea) = area_store_left s next _
+answer_left s next number (Some swi.DynamicArea) = area_store_left s next _
 answer_left s next number (Some swi.WriteI) = refl
 answer_left s next number (Some swi.FlexInit) = flex_left s next _
 answer_left s next number (Some swi.FlexAlloc) = flex_left s next _

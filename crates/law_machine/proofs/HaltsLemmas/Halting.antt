@@ -17,13 +17,13 @@ use Rattle.profile.specs.Reasons.{module_reason}
 use Rattle.address_map.specs.Bytes.{Bytes}
 use Rattle.arm_core.specs.declared.psr.Mode.TheVariants.{Supervisor}
 use Rattle.arm_core.specs.State.{State, register_in, register_of}
-use Rattle.arm_core.specs.declared.turn.Turn.{Turn}
-use Rattle.arm_core.specs.declared.turn.Turn.TheVariants as turn
+use Rattle.arm_core.specs.declared.turn.StepEnd.{StepEnd}
+use Rattle.arm_core.specs.declared.turn.StepEnd.TheVariants as turn
 use Rattle.image_loader.specs.Entries.{Entry}
 use Rattle.instances_table.specs.declared.plans.given.Given.{Given}
 use Rattle.instances_table.specs.plans.Carrying.{Carried}
 use Rattle.instances_table.specs.plans.Plans.{Plan, plan_after_code}
-use Rattle.instances.specs.world.World.{World}
+use Rattle.instances.specs.module_state.ModuleState.{ModuleState}
 use Rattle.instances_table.specs.declared.parts.Handler.{Handler}
 use Rattle.instances_table.specs.Lookup.{handler_of}
 use Rattle.swi_dispatch_answers.specs.Words.{host_string}
@@ -37,11 +37,11 @@ use Rattle.swi_dispatch_answers.specs.frames.Frames.{innermost_frame}
 use Rattle.swi_dispatch_plans.specs.ImagePlans.{instantiation_planned}
 use Rattle.swi_dispatch_plans.specs.ModulePlans.{clear_planned, delete_planned, reinit_planned, tidy_planned}
 use Rattle.swi_dispatch_plans.specs.Openings.{opening_asked}
-use Rattle.swi_dispatch_plans.specs.Trials.{world_carried}
+use Rattle.swi_dispatch_plans.specs.Trials.{module_state_carried}
 use Rattle.swi_dispatch_plans.specs.declared.openings.Opening.{Opening}
 use Rattle.instances.specs.declared.answers.Start.{Start}
 use Rattle.instances.specs.Reading.{start_found}
-use Rattle.swi_dispatch_guest.proofs.NextTurn.{awake_step}
+use Rattle.swi_dispatch_guest.proofs.NextTurn.{unhalted_step}
 use Rattle.swi_dispatch_guest.specs.declared.halt.Halt.{Halt}
 use Rattle.swi_dispatch_guest.specs.declared.halt.Halt.TheVariants as halt
 use Rattle.swi_dispatch_guest.specs.Additions.{Planned, copy_planned, insertion_planned, load_planned, named_load_planned, plan_alone}
@@ -49,7 +49,7 @@ use Rattle.swi_dispatch_guest.specs.Answers.{Answer, refusal_answer}
 use Rattle.swi_dispatch_guest.specs.Calls.{call_answer}
 use Rattle.swi_dispatch_guest.specs.Errors.{error_number}
 use Rattle.swi_dispatch_guest.specs.Gates.{call_ended_by, carried_on, come_back, ended_of, entered_if, entered_with, fault_ahead, state_after_plan, frame_closed, frame_left, gated_by, state_with_code_entered, outcome_left, plan_left, swi_left, unless_fault}
-use Rattle.swi_dispatch_guest.specs.MachineState.{MachineState, StepOutcome, machine_world, quiet, setting_of, with_world}
+use Rattle.swi_dispatch_guest.specs.MachineState.{MachineState, StepOutcome, machine_module_state, silent, setting_of, with_module_state}
 use Rattle.swi_dispatch_guest.specs.ModuleStart.{opened_at}
 use Rattle.swi_dispatch_guest.specs.Returns.{outcome_of_error, error_answered, gone_back, outcome_of_halt}
 use Rattle.swi_dispatch_guest.specs.Step.{outcome_of_planned, begun_alone, call_of, call_refused, outcome_of_call, called_by, outcome_of_answer, outcome_of_end, result_of_instruction, is_exit, machine_step, outcome_of_module_swi, module_entered, module_loaded, os_module_called, os_module_called_for, store_called, outcome_of_turn, unless_halted, without_x}
@@ -98,12 +98,12 @@ finished_kept s call None = refl
 
 carried_kept : (s : MachineState) (call : Call) (p : Plan) → (carried_on s call p).halt ≡ s.halt
 carried_kept s call p =
-    let c : Carried World = world_carried (machine_world s) p in
+    let c : Carried ModuleState = module_state_carried (machine_module_state s) p in
     finished_kept (state_with_code_entered s call c) call (ended_of c)
 
 begun_goes : (s : MachineState) (x : Bool) (next : ℕ) (enters : Bool) (r : Result Planned ErrorNumber) → Goes x s (outcome_of_planned s x next enters r)
 unfolding outcome_of_planned
-begun_goes s x next enters (Ok w) = inl (carried_kept (with_world s w.world) (call_of s x next enters) w.plan)
+begun_goes s x next enters (Ok w) = inl (carried_kept (with_module_state s w.module_state) (call_of s x next enters) w.plan)
 begun_goes s x next enters (Err e) = refused_goes s x next e
 
 module_entered_goes : (s : MachineState) (x : Bool) (next : ℕ) (r : Result Opening ErrorNumber) → Goes x s (module_entered s x next r)
@@ -220,7 +220,7 @@ swi_left_by s f true answered kept = erred_goes s f.call.is_x answered kept
 swi_left_by s f false answered kept = inl kept
 
 swi_left_goes : (s : MachineState) (f : Frame) → Goes false s (swi_left s f)
-swi_left_goes s f = swi_left_by s f s.cpu.psr.overflow (quiet (frame_closed s f)) refl
+swi_left_goes s f = swi_left_by s f s.cpu.psr.overflow (silent (frame_closed s f)) refl
 
 fault_goes : (s : MachineState) (o : Option ℕ) (t : MachineState) → t.halt ≡ s.halt → Goes false s (unless_fault s o t)
 fault_goes s None t kept = inl kept
@@ -230,7 +230,7 @@ plan_goes : (s : MachineState) (f : Frame) (kept : Option Plan) → Goes false s
 plan_goes s f None = inr (refl, (FetchUnmapped, refl))
 plan_goes s f (Some p) =
     let q : Plan = plan_after_code p (outcome_left s.cpu) in
-    fault_goes s (fault_ahead f.call (machine_world s) q) (carried_on (come_back s f) f.call q) (carried_kept (come_back s f) f.call q)
+    fault_goes s (fault_ahead f.call (machine_module_state s) q) (carried_on (come_back s f) f.call q) (carried_kept (come_back s f) f.call q)
 
 frame_goes : (s : MachineState) (f : Frame) (kind : FrameKind) (kept : Option Plan) → Goes false s (frame_left s f kind kept)
 frame_goes s f (frame.Swi number) kept = swi_left_goes s f
@@ -248,7 +248,7 @@ any_goes : (x : Bool) (s : MachineState) (o : StepOutcome) → Goes x s o → Go
 any_goes x s o (inl kept) = inl kept
 any_goes x s o (inr is) = inr (refl, is.1)
 
-turn_goes : (images : List Entry) (s : MachineState) (r : Result (State × Bytes) Turn)
+turn_goes : (images : List Entry) (s : MachineState) (r : Result (State × Bytes) StepEnd)
     → ((n : ℕ) × (r ≡ Err (turn.Swi n)) × (swi_of (without_x n) ≡ Some swi.Exit)) ⊎ Goes false s (outcome_of_turn images s r)
 turn_goes images s (Ok w) = inr (inl refl)
 turn_goes images s (Err turn.Done) = inr (inl refl)
@@ -260,21 +260,21 @@ turn_goes images s (Err (turn.Swi n)) = elim (exit_cases (swi_of (without_x n)))
 turn_goes images s (Err turn.Gate) = inr (gate_goes s (innermost_frame s.tables.frames))
 turn_goes images s (Err (turn.Fault f)) = inr (inr (refl, (f, refl)))
 
-exit_turned : (images : List Entry) (s : MachineState) (r : Result (State × Bytes) Turn) (n : ℕ) → r ≡ Err (turn.Swi n)
+exit_turned : (images : List Entry) (s : MachineState) (r : Result (State × Bytes) StepEnd) (n : ℕ) → r ≡ Err (turn.Swi n)
     → swi_of (without_x n) ≡ Some swi.Exit → outcome_of_turn images s r ≡ outcome_of_halt s halt.Exit
 exit_turned images s r n is name =
-    ap (λ (r : Result (State × Bytes) Turn). outcome_of_turn images s r) is
+    ap (λ (r : Result (State × Bytes) StepEnd). outcome_of_turn images s r) is
     ∙ called_exits images s (bit_of n 17) ((s.cpu.pc + 4) % 2 ^ 26) (without_x n) name
 
 -- what is halted as it was is so with the halt that it has
 as_it_was : (s : MachineState) (o : StepOutcome) (g h : Halt) → o ≡ outcome_of_halt s g → o.now.halt ≡ Some h → o ≡ stopped_as_it_was s h
 as_it_was s o g h is ends =
-    is ∙ ap (λ (k : Option Halt). let o : StepOutcome = quiet (record s { halt = k }) in o) (sym (ap (λ (o : StepOutcome). o.now.halt) is) ∙ ends)
+    is ∙ ap (λ (k : Option Halt). let o : StepOutcome = silent (record s { halt = k }) in o) (sym (ap (λ (o : StepOutcome). o.now.halt) is) ∙ ends)
 
 halts_by : (images : List Entry) (s : MachineState) (kept : Option Halt) (h : Halt) → s.halt ≡ kept
     → (unless_halted s kept (outcome_of_turn images s (result_of_instruction s))).now.halt ≡ Some h
     → unless_halted s kept (outcome_of_turn images s (result_of_instruction s)) ≡ stopped_as_it_was s h
-halts_by images s (Some k) h is ends = ap (λ (k : Option Halt). let o : StepOutcome = quiet (record s { halt = k }) in o) ends
+halts_by images s (Some k) h is ends = ap (λ (k : Option Halt). let o : StepOutcome = silent (record s { halt = k }) in o) ends
 halts_by images s None h is ends = elim (turn_goes images s (result_of_instruction s)) [
   | inl exit ↦ as_it_was s (outcome_of_turn images s (result_of_instruction s)) halt.Exit h (exit_turned images s (result_of_instruction s) exit.0 exit.1 exit.2) ends
   | inr goes ↦ elim goes [
@@ -288,20 +288,20 @@ unfolding machine_step
 halts_change_nothing images s h ends = halts_by images s s.halt h refl ends
 
 exits_by : (images : List Entry) (s : MachineState) → s.halt ≡ None → (outcome_of_turn images s (result_of_instruction s)).now.halt ≡ Some halt.Exit → Exits s
-exits_by images s awake ends = elim (turn_goes images s (result_of_instruction s)) [
+exits_by images s unhalted ends = elim (turn_goes images s (result_of_instruction s)) [
   | inl exit ↦ record { number = exit.0; is = exit.1; name = exit.2 }
   | inr goes ↦ elim goes [
-    | inl kept ↦ absurd (let none : Some halt.Exit ≡ None = sym ends ∙ (kept ∙ awake) in cc)
+    | inl kept ↦ absurd (let none : Some halt.Exit ≡ None = sym ends ∙ (kept ∙ unhalted) in cc)
     | inr stopped ↦
         absurd (let fault : Some halt.Exit ≡ Some (halt.Fault stopped.1.0) = sym ends ∙ ap (λ (o : StepOutcome). o.now.halt) stopped.1.1 in cc)
   ]
 ]
 
 pub exits_are_calls : ExitsAreCalls
-exits_are_calls images s awake = (
-  λ ends. exits_by images s awake (sym (ap (λ (o : StepOutcome). o.now.halt) (awake_step images s awake)) ∙ ends),
+exits_are_calls images s unhalted = (
+  λ ends. exits_by images s unhalted (sym (ap (λ (o : StepOutcome). o.now.halt) (unhalted_step images s unhalted)) ∙ ends),
   λ exit. ap (λ (o : StepOutcome). o.now.halt)
-      (awake_step images s awake ∙ exit_turned images s (result_of_instruction s) exit.number exit.is exit.name),
+      (unhalted_step images s unhalted ∙ exit_turned images s (result_of_instruction s) exit.number exit.is exit.name),
 )
 
 -- from outside
@@ -311,7 +311,7 @@ x_kept s o (inr is) = absurd (let no : true ≡ false = is.0 in cc)
 
 pub no_fault_from_outside : NoFaultFromOutside
 unfolding store_called module_loaded
-no_fault_from_outside images s number text awake =
+no_fault_from_outside images s number text unhalted =
     let n : ℕ = without_x (number % 2 ^ 24) in
     let after : StepOutcome = outcome_of_call images s true s.cpu.pc n in
     let plan : Result Planned ErrorNumber =
@@ -319,11 +319,11 @@ no_fault_from_outside images s number text awake =
     let loaded : StepOutcome = outcome_of_planned s true s.cpu.pc false plan in
     record {
       exit = λ name.
-          ap (λ (o : Option Halt). unless_halted s o after) awake ∙ called_exits images s true s.cpu.pc n name;
+          ap (λ (o : Option Halt). unless_halted s o after) unhalted ∙ called_exits images s true s.cpu.pc n name;
       call = λ other.
-          ap (λ (o : Option Halt). (unless_halted s o after).now.halt) awake
-          ∙ (x_kept s after (called_goes images s true s.cpu.pc n other) ∙ awake);
+          ap (λ (o : Option Halt). (unless_halted s o after).now.halt) unhalted
+          ∙ (x_kept s after (called_goes images s true s.cpu.pc n other) ∙ unhalted);
       load =
-          ap (λ (o : Option Halt). (unless_halted s o loaded).now.halt) awake
-          ∙ (x_kept s loaded (begun_goes s true s.cpu.pc false plan) ∙ awake);
+          ap (λ (o : Option Halt). (unless_halted s o loaded).now.halt) unhalted
+          ∙ (x_kept s loaded (begun_goes s true s.cpu.pc false plan) ∙ unhalted);
     }

@@ -13,7 +13,7 @@ use Rattle.arm_core.specs.declared.psr.Psr.{Psr}
 use Rattle.arm_core.specs.State.{State, register_of}
 use Rattle.image_loader.specs.Entries.{Entry}
 use Rattle.instances_table.specs.plans.Plans.{Plan}
-use Rattle.dynamic_areas.specs.Ground.{Estate}
+use Rattle.dynamic_areas.specs.Ground.{AreaStore}
 use Rattle.dynamic_areas.specs.Areas.{find_area}
 use Rattle.dynamic_areas.specs.declared.area.Area.{Area}
 use Rattle.swi_dispatch_answers.specs.Words.{host_string}
@@ -24,7 +24,7 @@ use Rattle.swi_dispatch_plans.specs.store.Areas.{area_changed, change_asked, cha
 use Rattle.swi_dispatch_guest.specs.declared.halt.Halt.{Halt}
 use Rattle.swi_dispatch_guest.specs.Additions.{Planned, copy_planned, insertion_planned, load_planned, named_load_planned}
 use Rattle.swi_dispatch_guest.specs.Calls.{area_changing, call_answer, with_guest}
-use Rattle.swi_dispatch_guest.specs.MachineState.{MachineState, machine_estate, quiet, setting_of}
+use Rattle.swi_dispatch_guest.specs.MachineState.{MachineState, machine_area_store, silent, setting_of}
 use Rattle.swi_dispatch_guest.specs.Returns.{error_answered}
 use Rattle.swi_dispatch_guest.specs.Step.{outcome_of_planned, begun_alone, outcome_of_call, outcome_of_answer, outcome_of_end, module_loaded, os_module_called, os_module_called_for, unless_halted}
 use Rattle.law_machine.proofs.HaltsLemmas.Refusing.{refused_as}
@@ -76,30 +76,30 @@ refused_plans_change_nothing images s next number e name is =
 
 pub refused_loads_change_nothing : RefusedLoadsChangeNothing
 unfolding module_loaded
-refused_loads_change_nothing images s text e awake is =
+refused_loads_change_nothing images s text e unhalted is =
     let plan : Result Planned ErrorNumber =
     bind (ok_or (host_string text) BadString) (λ words. load_planned images s words false) in
-    subst (λ (o : Option Halt). IsRefusal s s.cpu.pc (unless_halted s o (outcome_of_planned s true s.cpu.pc false plan)).now) (sym awake)
+    subst (λ (o : Option Halt). IsRefusal s s.cpu.pc (unless_halted s o (outcome_of_planned s true s.cpu.pc false plan)).now) (sym unhalted)
     (begun_refused s s.cpu.pc false plan e is)
 
 -- an error that comes after something was done
-left_status : (cpu : State) (e : Estate) (found : Option Area) (bytes : ℕ) → (change_left cpu e found bytes).0.psr ≡ cpu.psr
+left_status : (cpu : State) (e : AreaStore) (found : Option Area) (bytes : ℕ) → (change_left cpu e found bytes).0.psr ≡ cpu.psr
 left_status cpu e None bytes = refl
 left_status cpu e (Some a) bytes = refl
 
 late_refused : (caller : Psr) (u : MachineState) (next : ℕ) (e : ErrorNumber) → u.cpu.psr ≡ caller
-    → IsRefusal u next (error_answered caller (quiet u) next (refusal.System e)).now
+    → IsRefusal u next (error_answered caller (silent u) next (refusal.System e)).now
 late_refused caller u next e same =
-    subst (λ (p : Psr). IsRefusal u next (error_answered p (quiet u) next (refusal.System e)).now) same
+    subst (λ (p : Psr). IsRefusal u next (error_answered p (silent u) next (refusal.System e)).now) same
     (refused_as u next (refusal.System e))
 
-change_refused : (s : MachineState) (next : ℕ) (e : ErrorNumber) → (change_asked s.cpu (machine_estate s)).error ≡ Some e
-    → IsRefusal (with_guest s (area_changed s.cpu (machine_estate s))) next (outcome_of_answer s true (area_changing s next)).now
+change_refused : (s : MachineState) (next : ℕ) (e : ErrorNumber) → (change_asked s.cpu (machine_area_store s)).error ≡ Some e
+    → IsRefusal (with_guest s (area_changed s.cpu (machine_area_store s))) next (outcome_of_answer s true (area_changing s next)).now
 change_refused s next e is =
-    let u : MachineState = with_guest s (area_changed s.cpu (machine_estate s)) in
+    let u : MachineState = with_guest s (area_changed s.cpu (machine_area_store s)) in
     subst (λ (o : Option ErrorNumber). IsRefusal u next (outcome_of_end s true (area_changing s next) (option_map refusal.System o)).now) (sym is)
-    (late_refused s.cpu.psr u next e (left_status s.cpu (machine_estate s) (find_area (register_of s.cpu 0) s.tables.land.areas)
-    (change_asked s.cpu (machine_estate s)).bytes))
+    (late_refused s.cpu.psr u next e (left_status s.cpu (machine_area_store s) (find_area (register_of s.cpu 0) s.tables.area_table.areas)
+    (change_asked s.cpu (machine_area_store s)).bytes))
 
 pub erring_changes_move_pages : ErringChangesMovePages
 unfolding outcome_of_call call_answer

@@ -1,4 +1,4 @@
--- A store call that is refused leaves all but the block of its error, and what it tells in the
+-- A store call that is refused leaves all but the block of its error, and what it shows in the
 -- core.
 use Rattle.profile.specs.MemoryMap.{error_block_start}
 use Rattle.std.proofs.Common.{ℕ, Bool, true, false, ◌≡◌, ◌∙◌, ◌+◌, ◌*◌, ◌/◌, ◌%◌, ◌^◌, ◌==◌, ◌++◌, List, [], ◌∷◌, length, Option, Some, None, Result, Ok, Err, refl, sym, ap, subst, inl, inr, ◌⊎◌, ◌≤◌, ◌<◌, arith, get_or-set_other, get_or-set_same}
@@ -19,16 +19,16 @@ use Rattle.address_map.proofs.Stores.{in_range-cases}
 use Rattle.address_map.specs.Bytes.{Bytes, in_range, with_word_at}
 use Rattle.arm_core.specs.declared.psr.Mode.TheVariants.{Supervisor}
 use Rattle.arm_core.specs.declared.psr.Psr.{Psr}
-use Rattle.arm_core.specs.declared.turn.Turn.{Turn}
-use Rattle.arm_core.specs.declared.turn.Turn.TheVariants as turn
+use Rattle.arm_core.specs.declared.turn.StepEnd.{StepEnd}
+use Rattle.arm_core.specs.declared.turn.StepEnd.TheVariants as turn
 use Rattle.arm_core.specs.State.{State, register_in, register_of, slot_of, with_register}
 use Rattle.image_loader.specs.Entries.{Entry}
 use Rattle.instances_table.specs.declared.parts.Handler.{Handler}
 use Rattle.instances_table.specs.Lookup.{handler_of}
 use Rattle.os_heap.specs.Store.{Store}
 use Rattle.flex_store.proofs.Holding.{bytes_beside, word_beside}
-use Rattle.dynamic_areas.specs.Ground.{Estate}
-use Rattle.instances.specs.world.World.{World}
+use Rattle.dynamic_areas.specs.Ground.{AreaStore}
+use Rattle.instances.specs.module_state.ModuleState.{ModuleState}
 use Rattle.swi_dispatch_answers.specs.Errors.{memory_with_error}
 use Rattle.swi_dispatch_answers.specs.Returns.{return_word, state_after_return}
 use Rattle.swi_dispatch_answers.specs.declared.refusal.Refusal.{Refusal}
@@ -39,10 +39,10 @@ use Rattle.swi_dispatch_plans.specs.Openings.{opening_asked}
 use Rattle.swi_dispatch_plans.specs.declared.openings.Opening.{Opening}
 use Rattle.swi_dispatch_guest.proofs.GateReturns.{first_slot}
 use Rattle.swi_dispatch_guest.proofs.Kept.{short_name}
-use Rattle.swi_dispatch_guest.proofs.NextTurn.{awake_step, outside_call}
+use Rattle.swi_dispatch_guest.proofs.NextTurn.{unhalted_step, outside_call}
 use Rattle.swi_dispatch_guest.specs.Answers.{Answer, refusal_answer, went_on}
-use Rattle.swi_dispatch_guest.specs.Calls.{call_answer, generated_refusal, on_estate, on_flex, on_store, on_world, wrote_text_after, wrote_text_at}
-use Rattle.swi_dispatch_guest.specs.MachineState.{MachineState, StepOutcome, quiet, setting_of}
+use Rattle.swi_dispatch_guest.specs.Calls.{call_answer, generated_refusal, on_area_store, on_flex, on_store, on_module_state, wrote_text_after, wrote_text_at}
+use Rattle.swi_dispatch_guest.specs.MachineState.{MachineState, StepOutcome, silent, setting_of}
 use Rattle.swi_dispatch_guest.specs.ModuleStart.{opened_at}
 use Rattle.swi_dispatch_guest.specs.Returns.{gone_back}
 use Rattle.swi_dispatch_guest.specs.declared.halt.Halt.{Halt}
@@ -68,22 +68,22 @@ register_back : (caller : Psr) (cpu : State) (next k : ℕ) → (k ≡ 25 → �
 unfolding state_after_return
 register_back caller cpu next k other = get_or-set_other cpu.file 25 k (return_word caller next) 0 (λ same. other (omega (arith, same)))
 
-register_told : (cpu : State) (v k : ℕ) → (k ≡ 0 → ⊥) → slice_index (with_register cpu 0 v).file k ≡ slice_index cpu.file k
-register_told cpu v k other =
+register_shown : (cpu : State) (v k : ℕ) → (k ≡ 0 → ⊥) → slice_index (with_register cpu 0 v).file k ≡ slice_index cpu.file k
+register_shown cpu v k other =
     let at : slot_of cpu.psr.mode 0 ≡ 0 = first_slot cpu.psr.mode in
     get_or-set_other cpu.file (slot_of cpu.psr.mode 0) k v 0 (λ same. other (omega (arith, same, at)))
 
-told_length : (cpu : State) (v : ℕ) → length cpu.file ≡ 26 → length (with_register cpu 0 v).file ≡ 26
-told_length cpu v size = length-set cpu.file (slot_of cpu.psr.mode 0) v ∙ size
+shown_length : (cpu : State) (v : ℕ) → length cpu.file ≡ 26 → length (with_register cpu 0 v).file ≡ 26
+shown_length cpu v size = length-set cpu.file (slot_of cpu.psr.mode 0) v ∙ size
 
 -- the return address, which the guest goes on at
-link_told : (caller : Psr) (cpu : State) (next : ℕ) → length cpu.file ≡ 26
+link_shown : (caller : Psr) (cpu : State) (next : ℕ) → length cpu.file ≡ 26
     → register_in Supervisor (state_after_return caller cpu true next) 14 ≡ return_word caller next
 unfolding state_after_return
-link_told caller cpu next size = get_or-set_same cpu.file 25 (return_word caller next) 0 (omega (arith, size))
+link_shown caller cpu next size = get_or-set_same cpu.file 25 (return_word caller next) 0 (omega (arith, size))
 
-counter_told : (next : ℕ) → next % 4 ≡ 0 → next < 2 ^ 26 → next / 4 % 2 ^ 24 * 4 ≡ next
-counter_told next whole low = omega (arith, whole, low)
+counter_shown : (next : ℕ) → next % 4 ≡ 0 → next < 2 ^ 26 → next / 4 % 2 ^ 24 * 4 ≡ next
+counter_shown next whole low = omega (arith, whole, low)
 
 -- a refusal with the X bit
 pub refused_as : (s : MachineState) (next : ℕ) (e : Refusal) → IsRefusal s next (outcome_of_answer s true (refusal_answer s next e)).now
@@ -99,10 +99,10 @@ refused_as s next (refusal.System e) = record {
   tables = refl;
   halt = refl;
   registers = λ k other last.
-      register_back s.cpu.psr (with_register s.cpu 0 error_block_start) next k last ∙ register_told s.cpu error_block_start k other;
+      register_back s.cpu.psr (with_register s.cpu 0 error_block_start) next k last ∙ register_shown s.cpu error_block_start k other;
   status = refl;
-  link = λ size. link_told s.cpu.psr (with_register s.cpu 0 error_block_start) next (told_length s.cpu error_block_start size);
-  counter = λ whole low. counter_told next whole low;
+  link = λ size. link_shown s.cpu.psr (with_register s.cpu 0 error_block_start) next (shown_length s.cpu error_block_start size);
+  counter = λ whole low. counter_shown next whole low;
 }
 refused_as s next refusal.Own = record {
   bytes = λ a out. refl;
@@ -116,8 +116,8 @@ refused_as s next refusal.Own = record {
   halt = refl;
   registers = λ k other last. register_back s.cpu.psr s.cpu next k last;
   status = refl;
-  link = λ size. link_told s.cpu.psr s.cpu next size;
-  counter = λ whole low. counter_told next whole low;
+  link = λ size. link_shown s.cpu.psr s.cpu next size;
+  counter = λ whole low. counter_shown next whole low;
 }
 
 -- an answer without an error, or a refusal that changes nothing
@@ -125,43 +125,43 @@ abbrev IsClean : MachineState → ℕ → Answer → Type 0
 IsClean s next a = (a.error ≡ None) ⊎ ((e : Refusal) × (a ≡ refusal_answer s next e))
 
 -- what a call says of a refusal, by the X bit
-abbrev TellsRefusal : Bool → MachineState → ℕ → StepOutcome → Type 0
-TellsRefusal true s next o = o.now.cpu.psr.overflow ≡ true → IsRefusal s next o.now
-TellsRefusal false s next o = o.now.halt ≡ None → o.now.cpu.psr.overflow ≡ false
+abbrev ShowsRefusal : Bool → MachineState → ℕ → StepOutcome → Type 0
+ShowsRefusal true s next o = o.now.cpu.psr.overflow ≡ true → IsRefusal s next o.now
+ShowsRefusal false s next o = o.now.halt ≡ None → o.now.cpu.psr.overflow ≡ false
 
 halted_goes : (h : Halt) → Some h ≡ None → ⊥
 halted_goes h is = cc
 
-clear_tells : (x : Bool) (s : MachineState) (next : ℕ) (o : StepOutcome) → o.now.cpu.psr.overflow ≡ false → TellsRefusal x s next o
-clear_tells true s next o clear = λ set. absurd (false≢true (sym clear ∙ set))
-clear_tells false s next o clear = λ goes. clear
+clear_shows : (x : Bool) (s : MachineState) (next : ℕ) (o : StepOutcome) → o.now.cpu.psr.overflow ≡ false → ShowsRefusal x s next o
+clear_shows true s next o clear = λ set. absurd (false≢true (sym clear ∙ set))
+clear_shows false s next o clear = λ goes. clear
 
-refused_tells : (x : Bool) (s : MachineState) (next : ℕ) (e : Refusal) → TellsRefusal x s next (outcome_of_answer s x (refusal_answer s next e))
-refused_tells true s next e = λ set. refused_as s next e
-refused_tells false s next e = λ goes. absurd (halted_goes _ goes)
+refused_shows : (x : Bool) (s : MachineState) (next : ℕ) (e : Refusal) → ShowsRefusal x s next (outcome_of_answer s x (refusal_answer s next e))
+refused_shows true s next e = λ set. refused_as s next e
+refused_shows false s next e = λ goes. absurd (halted_goes _ goes)
 
-ended_tells : (x : Bool) (s : MachineState) (next : ℕ) (a : Answer) → IsClean s next a → TellsRefusal x s next (outcome_of_answer s x a)
+ended_shows : (x : Bool) (s : MachineState) (next : ℕ) (a : Answer) → IsClean s next a → ShowsRefusal x s next (outcome_of_answer s x a)
 unfolding state_after_return
-ended_tells x s next a (inl none) =
-    clear_tells x s next (outcome_of_answer s x a) (ap (λ (e : Option Refusal). (outcome_of_end s x a e).now.cpu.psr.overflow) none)
-ended_tells x s next a (inr is) =
-    subst (λ (b : Answer). TellsRefusal x s next (outcome_of_answer s x b)) (sym is.1) (refused_tells x s next is.0)
+ended_shows x s next a (inl none) =
+    clear_shows x s next (outcome_of_answer s x a) (ap (λ (e : Option Refusal). (outcome_of_end s x a e).now.cpu.psr.overflow) none)
+ended_shows x s next a (inr is) =
+    subst (λ (b : Answer). ShowsRefusal x s next (outcome_of_answer s x b)) (sym is.1) (refused_shows x s next is.0)
 
-call_tells : (x : Bool) (s : MachineState) (next : ℕ) (e : ErrorNumber) → TellsRefusal x s next (call_refused s x next e)
-call_tells x s next e = refused_tells x s next (refusal.System e)
+call_shows : (x : Bool) (s : MachineState) (next : ℕ) (e : ErrorNumber) → ShowsRefusal x s next (call_refused s x next e)
+call_shows x s next e = refused_shows x s next (refusal.System e)
 
 -- calls that run no module code
 store_clean : (s : MachineState) (next : ℕ) (r : Result (State × Store) Refusal) → IsClean s next (went_on s next (on_store s r))
 store_clean s next (Ok q) = inl refl
 store_clean s next (Err e) = inr (e, refl)
 
-estate_clean : (s : MachineState) (next : ℕ) (r : Result (State × Estate) Refusal) → IsClean s next (went_on s next (on_estate s r))
-estate_clean s next (Ok q) = inl refl
-estate_clean s next (Err e) = inr (e, refl)
+area_store_clean : (s : MachineState) (next : ℕ) (r : Result (State × AreaStore) Refusal) → IsClean s next (went_on s next (on_area_store s r))
+area_store_clean s next (Ok q) = inl refl
+area_store_clean s next (Err e) = inr (e, refl)
 
-world_clean : (s : MachineState) (next : ℕ) (r : Result (State × World) Refusal) → IsClean s next (went_on s next (on_world s r))
-world_clean s next (Ok q) = inl refl
-world_clean s next (Err e) = inr (e, refl)
+module_state_clean : (s : MachineState) (next : ℕ) (r : Result (State × ModuleState) Refusal) → IsClean s next (went_on s next (on_module_state s r))
+module_state_clean s next (Ok q) = inl refl
+module_state_clean s next (Err e) = inr (e, refl)
 
 flex_clean : (s : MachineState) (next : ℕ) (r : Result (State × FlexMemory) Refusal) → IsClean s next (went_on s next (on_flex s r))
 flex_clean s next (Ok q) = inl refl
@@ -186,11 +186,11 @@ answer_clean s next number (Some swi.NewLine) other = inl refl
 answer_clean s next number (Some swi.Exit) other = flex_clean s next _
 answer_clean s next number (Some swi.EnterOs) other = inl refl
 answer_clean s next number (Some swi.Heap) other = store_clean s next _
-answer_clean s next number (Some swi.Module) other = world_clean s next _
+answer_clean s next number (Some swi.Module) other = module_state_clean s next _
 answer_clean s next number (Some swi.ChangeDynamicArea) other = absurd (other refl)
 answer_clean s next number (Some swi.GenerateError) other = inr (generated_refusal s (register_of s.cpu 0), refl)
-answer_clean s next number (Some swi.ReadDynamicArea) other = estate_clean s next _
-answer_clean s next number (Some swi.DynamicArea) other = estate_clean s next _
+answer_clean s next number (Some swi.ReadDynamicArea) other = area_store_clean s next _
+answer_clean s next number (Some swi.DynamicArea) other = area_store_clean s next _
 answer_clean s next number (Some swi.WriteI) other = inl refl
 answer_clean s next number (Some swi.FlexInit) other = flex_clean s next _
 answer_clean s next number (Some swi.FlexAlloc) other = flex_clean s next _
@@ -209,86 +209,86 @@ back_clear : (s : MachineState) (next : ℕ) → (gone_back s.cpu.psr s false ne
 unfolding state_after_return
 back_clear s next = refl
 
-entered_tells : (x : Bool) (s : MachineState) (next : ℕ) (r : Result Opening ErrorNumber) → TellsRefusal x s next (module_entered s x next r)
-entered_tells x s next (Err e) = call_tells x s next e
-entered_tells x s next (Ok o) =
-    clear_tells x s next (module_entered s x next (Ok o))
+entered_shows : (x : Bool) (s : MachineState) (next : ℕ) (r : Result Opening ErrorNumber) → ShowsRefusal x s next (module_entered s x next r)
+entered_shows x s next (Err e) = call_shows x s next e
+entered_shows x s next (Ok o) =
+    clear_shows x s next (module_entered s x next (Ok o))
     (opened_clear (gone_back s.cpu.psr s false next) o.text.items o.start.slot o.start.at (back_clear s next))
 
 handler_clear : (cpu : State) (at number slot : ℕ) → (swi_entered cpu at number slot).psr.overflow ≡ false
 unfolding swi_entered
 handler_clear cpu at number slot = refl
 
-handler_tells : (x : Bool) (s : MachineState) (next number : ℕ) (o : Option Handler) → TellsRefusal x s next (outcome_of_module_swi s x next number o)
-handler_tells x s next number None = call_tells x s next SwiUnknown
-handler_tells x s next number (Some h) = elim (cases_Bool (length s.tables.frames == 32)) [
-  | inl full ↦ rw full (call_tells x s next FrameLimit)
-  | inr room ↦ rw room (clear_tells x s next (quiet (handler_entered s (call_of s x next false) number h)) (handler_clear s.cpu h.at number h.slot))
+handler_shows : (x : Bool) (s : MachineState) (next number : ℕ) (o : Option Handler) → ShowsRefusal x s next (outcome_of_module_swi s x next number o)
+handler_shows x s next number None = call_shows x s next SwiUnknown
+handler_shows x s next number (Some h) = elim (cases_Bool (length s.tables.frames == 32)) [
+  | inl full ↦ rw full (call_shows x s next FrameLimit)
+  | inr room ↦ rw room (clear_shows x s next (silent (handler_entered s (call_of s x next false) number h)) (handler_clear s.cpu h.at number h.slot))
 ]
 
-plain_tells : (x : Bool) (s : MachineState) (next number : ℕ) (o : Option SwiName) → (o ≡ Some swi.ChangeDynamicArea → ⊥)
-    → TellsRefusal x s next (outcome_of_answer s x (call_answer s next number o))
-plain_tells x s next number o other = ended_tells x s next (call_answer s next number o) (answer_clean s next number o other)
+plain_shows : (x : Bool) (s : MachineState) (next number : ℕ) (o : Option SwiName) → (o ≡ Some swi.ChangeDynamicArea → ⊥)
+    → ShowsRefusal x s next (outcome_of_answer s x (call_answer s next number o))
+plain_shows x s next number o other = ended_shows x s next (call_answer s next number o) (answer_clean s next number o other)
 
-module_tells : (images : List Entry) (x : Bool) (s : MachineState) (next number : ℕ) (o : Option ModuleReason) → may_run_code o ≡ false
-    → TellsRefusal x s next (os_module_called_for images s x next number o)
-module_tells images x s next number None may = plain_tells x s next number (Some swi.Module) (λ same. cc)
-module_tells images x s next number (Some reason.Run) may = absurd (true≢false may)
-module_tells images x s next number (Some reason.Load) may = absurd (true≢false may)
-module_tells images x s next number (Some reason.Enter) may = entered_tells x s next (opening_asked (setting_of s))
-module_tells images x s next number (Some reason.Reinit) may = absurd (true≢false may)
-module_tells images x s next number (Some reason.Delete) may = absurd (true≢false may)
-module_tells images x s next number (Some reason.DescribeArea) may = plain_tells x s next number (Some swi.Module) (λ same. cc)
-module_tells images x s next number (Some reason.Claim) may = plain_tells x s next number (Some swi.Module) (λ same. cc)
-module_tells images x s next number (Some reason.Free) may = plain_tells x s next number (Some swi.Module) (λ same. cc)
-module_tells images x s next number (Some reason.Tidy) may = absurd (true≢false may)
-module_tells images x s next number (Some reason.Clear) may = absurd (true≢false may)
-module_tells images x s next number (Some reason.Insert) may = absurd (true≢false may)
-module_tells images x s next number (Some reason.InsertCopy) may = absurd (true≢false may)
-module_tells images x s next number (Some reason.Info) may = plain_tells x s next number (Some swi.Module) (λ same. cc)
-module_tells images x s next number (Some reason.Extend) may = plain_tells x s next number (Some swi.Module) (λ same. cc)
-module_tells images x s next number (Some reason.Instantiate) may = absurd (true≢false may)
-module_tells images x s next number (Some reason.Rename) may = plain_tells x s next number (Some swi.Module) (λ same. cc)
-module_tells images x s next number (Some reason.Prefer) may = plain_tells x s next number (Some swi.Module) (λ same. cc)
-module_tells images x s next number (Some reason.Lookup) may = plain_tells x s next number (Some swi.Module) (λ same. cc)
+module_shows : (images : List Entry) (x : Bool) (s : MachineState) (next number : ℕ) (o : Option ModuleReason) → may_run_code o ≡ false
+    → ShowsRefusal x s next (os_module_called_for images s x next number o)
+module_shows images x s next number None may = plain_shows x s next number (Some swi.Module) (λ same. cc)
+module_shows images x s next number (Some reason.Run) may = absurd (true≢false may)
+module_shows images x s next number (Some reason.Load) may = absurd (true≢false may)
+module_shows images x s next number (Some reason.Enter) may = entered_shows x s next (opening_asked (setting_of s))
+module_shows images x s next number (Some reason.Reinit) may = absurd (true≢false may)
+module_shows images x s next number (Some reason.Delete) may = absurd (true≢false may)
+module_shows images x s next number (Some reason.DescribeArea) may = plain_shows x s next number (Some swi.Module) (λ same. cc)
+module_shows images x s next number (Some reason.Claim) may = plain_shows x s next number (Some swi.Module) (λ same. cc)
+module_shows images x s next number (Some reason.Free) may = plain_shows x s next number (Some swi.Module) (λ same. cc)
+module_shows images x s next number (Some reason.Tidy) may = absurd (true≢false may)
+module_shows images x s next number (Some reason.Clear) may = absurd (true≢false may)
+module_shows images x s next number (Some reason.Insert) may = absurd (true≢false may)
+module_shows images x s next number (Some reason.InsertCopy) may = absurd (true≢false may)
+module_shows images x s next number (Some reason.Info) may = plain_shows x s next number (Some swi.Module) (λ same. cc)
+module_shows images x s next number (Some reason.Extend) may = plain_shows x s next number (Some swi.Module) (λ same. cc)
+module_shows images x s next number (Some reason.Instantiate) may = absurd (true≢false may)
+module_shows images x s next number (Some reason.Rename) may = plain_shows x s next number (Some swi.Module) (λ same. cc)
+module_shows images x s next number (Some reason.Prefer) may = plain_shows x s next number (Some swi.Module) (λ same. cc)
+module_shows images x s next number (Some reason.Lookup) may = plain_shows x s next number (Some swi.Module) (λ same. cc)
 
-named_tells : (images : List Entry) (x : Bool) (s : MachineState) (next number : ℕ) (o : Option SwiName)
+named_shows : (images : List Entry) (x : Bool) (s : MachineState) (next number : ℕ) (o : Option SwiName)
     → may_err_late o (module_reason (register_of s.cpu 0)) ≡ false → (o ≡ Some swi.Exit → ⊥)
-    → TellsRefusal x s next (called_by images s x next number o)
+    → ShowsRefusal x s next (called_by images s x next number o)
 unfolding os_module_called
-named_tells images x s next number None late other = handler_tells x s next number (handler_of number s.tables.modules)
-named_tells images x s next number (Some swi.Exit) late other = absurd (other refl)
-named_tells images x s next number (Some swi.Module) late other = module_tells images x s next number (module_reason (register_of s.cpu 0)) late
-named_tells images x s next number (Some swi.ChangeDynamicArea) late other = absurd (true≢false late)
-named_tells images x s next number (Some swi.WriteC) late other = plain_tells x s next number (Some swi.WriteC) (λ same. cc)
-named_tells images x s next number (Some swi.WriteS) late other = plain_tells x s next number (Some swi.WriteS) (λ same. cc)
-named_tells images x s next number (Some swi.Write0) late other = plain_tells x s next number (Some swi.Write0) (λ same. cc)
-named_tells images x s next number (Some swi.NewLine) late other = plain_tells x s next number (Some swi.NewLine) (λ same. cc)
-named_tells images x s next number (Some swi.EnterOs) late other = plain_tells x s next number (Some swi.EnterOs) (λ same. cc)
-named_tells images x s next number (Some swi.Heap) late other = plain_tells x s next number (Some swi.Heap) (λ same. cc)
-named_tells images x s next number (Some swi.GenerateError) late other = plain_tells x s next number (Some swi.GenerateError) (λ same. cc)
-named_tells images x s next number (Some swi.ReadDynamicArea) late other = plain_tells x s next number (Some swi.ReadDynamicArea) (λ same. cc)
-named_tells images x s next number (Some swi.DynamicArea) late other = plain_tells x s next number (Some swi.DynamicArea) (λ same. cc)
-named_tells images x s next number (Some swi.WriteI) late other = plain_tells x s next number (Some swi.WriteI) (λ same. cc)
-named_tells images x s next number (Some swi.FlexInit) late other = plain_tells x s next number (Some swi.FlexInit) (λ same. cc)
-named_tells images x s next number (Some swi.FlexAlloc) late other = plain_tells x s next number (Some swi.FlexAlloc) (λ same. cc)
-named_tells images x s next number (Some swi.FlexFree) late other = plain_tells x s next number (Some swi.FlexFree) (λ same. cc)
-named_tells images x s next number (Some swi.FlexSize) late other = plain_tells x s next number (Some swi.FlexSize) (λ same. cc)
-named_tells images x s next number (Some swi.FlexExtend) late other = plain_tells x s next number (Some swi.FlexExtend) (λ same. cc)
-named_tells images x s next number (Some swi.FlexMidExtend) late other = plain_tells x s next number (Some swi.FlexMidExtend) (λ same. cc)
+named_shows images x s next number None late other = handler_shows x s next number (handler_of number s.tables.modules)
+named_shows images x s next number (Some swi.Exit) late other = absurd (other refl)
+named_shows images x s next number (Some swi.Module) late other = module_shows images x s next number (module_reason (register_of s.cpu 0)) late
+named_shows images x s next number (Some swi.ChangeDynamicArea) late other = absurd (true≢false late)
+named_shows images x s next number (Some swi.WriteC) late other = plain_shows x s next number (Some swi.WriteC) (λ same. cc)
+named_shows images x s next number (Some swi.WriteS) late other = plain_shows x s next number (Some swi.WriteS) (λ same. cc)
+named_shows images x s next number (Some swi.Write0) late other = plain_shows x s next number (Some swi.Write0) (λ same. cc)
+named_shows images x s next number (Some swi.NewLine) late other = plain_shows x s next number (Some swi.NewLine) (λ same. cc)
+named_shows images x s next number (Some swi.EnterOs) late other = plain_shows x s next number (Some swi.EnterOs) (λ same. cc)
+named_shows images x s next number (Some swi.Heap) late other = plain_shows x s next number (Some swi.Heap) (λ same. cc)
+named_shows images x s next number (Some swi.GenerateError) late other = plain_shows x s next number (Some swi.GenerateError) (λ same. cc)
+named_shows images x s next number (Some swi.ReadDynamicArea) late other = plain_shows x s next number (Some swi.ReadDynamicArea) (λ same. cc)
+named_shows images x s next number (Some swi.DynamicArea) late other = plain_shows x s next number (Some swi.DynamicArea) (λ same. cc)
+named_shows images x s next number (Some swi.WriteI) late other = plain_shows x s next number (Some swi.WriteI) (λ same. cc)
+named_shows images x s next number (Some swi.FlexInit) late other = plain_shows x s next number (Some swi.FlexInit) (λ same. cc)
+named_shows images x s next number (Some swi.FlexAlloc) late other = plain_shows x s next number (Some swi.FlexAlloc) (λ same. cc)
+named_shows images x s next number (Some swi.FlexFree) late other = plain_shows x s next number (Some swi.FlexFree) (λ same. cc)
+named_shows images x s next number (Some swi.FlexSize) late other = plain_shows x s next number (Some swi.FlexSize) (λ same. cc)
+named_shows images x s next number (Some swi.FlexExtend) late other = plain_shows x s next number (Some swi.FlexExtend) (λ same. cc)
+named_shows images x s next number (Some swi.FlexMidExtend) late other = plain_shows x s next number (Some swi.FlexMidExtend) (λ same. cc)
 
 pub refusals_change_nothing : RefusalsChangeNothing
 unfolding outcome_of_call
 refusals_change_nothing images s next number late other set = elim (exit_cases (swi_of number)) [
   | inl is ↦ absurd (other is.0)
-  | inr is ↦ rw is.1 (named_tells images true s next number (swi_of number) late other (rw is.1 at set))
+  | inr is ↦ rw is.1 (named_shows images true s next number (swi_of number) late other (rw is.1 at set))
 ]
 
 pub going_on_is_done : GoingOnIsDone
 unfolding outcome_of_call
 going_on_is_done images s next number late goes = elim (exit_cases (swi_of number)) [
   | inl is ↦ absurd (halted_goes halt.Exit (rw is.1 at goes))
-  | inr is ↦ rw is.1 (named_tells images false s next number (swi_of number) late is.0 (rw is.1 at goes))
+  | inr is ↦ rw is.1 (named_shows images false s next number (swi_of number) late is.0 (rw is.1 at goes))
 ]
 
 -- a call that goes on with V set, with X or without
@@ -309,19 +309,19 @@ set_refusal images false s next number late goes set =
 -- so for a step, and for a call from outside
 step_calls : (images : List Entry) (s : MachineState) (n : ℕ) → s.halt ≡ None → result_of_instruction s ≡ Err (turn.Swi n)
     → machine_step images s ≡ outcome_of_call images s (bit_of n 17) ((s.cpu.pc + 4) % 2 ^ 26) (without_x n)
-step_calls images s n awake is =
-    awake_step images s awake ∙ ap (λ (r : Result (State × Bytes) Turn). outcome_of_turn images s r) is
+step_calls images s n unhalted is =
+    unhalted_step images s unhalted ∙ ap (λ (r : Result (State × Bytes) StepEnd). outcome_of_turn images s r) is
 
 pub refused_steps_change_nothing : RefusedStepsChangeNothing
-refused_steps_change_nothing images s n awake is late goes set =
-    let call = step_calls images s n awake is in
+refused_steps_change_nothing images s n unhalted is late goes set =
+    let call = step_calls images s n unhalted is in
     subst (λ (o : StepOutcome). IsRefusal s ((s.cpu.pc + 4) % 2 ^ 26) o.now) (sym call)
     (set_refusal images (bit_of n 17) s ((s.cpu.pc + 4) % 2 ^ 26) (without_x n) late
     (sym (ap (λ (o : StepOutcome). o.now.halt) call) ∙ goes) (sym (ap (λ (o : StepOutcome). o.now.cpu.psr.overflow) call) ∙ set))
 
 pub refused_store_calls_change_nothing : RefusedStoreCallsChangeNothing
-refused_store_calls_change_nothing images s number awake late goes set =
-    let call = outside_call images s number awake in
+refused_store_calls_change_nothing images s number unhalted late goes set =
+    let call = outside_call images s number unhalted in
     subst (λ (o : StepOutcome). IsRefusal s s.cpu.pc o.now) (sym call)
     (set_refusal images true s s.cpu.pc (without_x (number % 2 ^ 24)) late
     (sym (ap (λ (o : StepOutcome). o.now.halt) call) ∙ goes) (sym (ap (λ (o : StepOutcome). o.now.cpu.psr.overflow) call) ∙ set))

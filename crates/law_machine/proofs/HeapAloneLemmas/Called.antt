@@ -32,8 +32,8 @@ use Rattle.swi_dispatch_plans.specs.store.Areas.{area_called, area_changed, area
 use Rattle.swi_dispatch_plans.specs.store.Heaps.{heap_called, heap_called_for}
 use Rattle.swi_dispatch_guest.specs.declared.halt.Halt.TheVariants as halt
 use Rattle.swi_dispatch_guest.specs.Answers.{Answer, refusal_answer, went_on}
-use Rattle.swi_dispatch_guest.specs.Calls.{call_answer, machine_flex, on_estate, on_flex, on_store, printable_at, with_guest, wrote_text_after, wrote_text_at}
-use Rattle.swi_dispatch_guest.specs.MachineState.{MachineState, StepOutcome, machine_estate, quiet}
+use Rattle.swi_dispatch_guest.specs.Calls.{call_answer, machine_flex, on_area_store, on_flex, on_store, printable_at, with_guest, wrote_text_after, wrote_text_at}
+use Rattle.swi_dispatch_guest.specs.MachineState.{MachineState, StepOutcome, machine_area_store, silent}
 use Rattle.swi_dispatch_guest.specs.Returns.{outcome_of_halt}
 use Rattle.swi_dispatch_guest.specs.Step.{call_of, call_refused, outcome_of_call, called_by, outcome_of_answer, handler_entered, is_exit, outcome_of_module_swi as handler_called}
 use Rattle.law_machine.proofs.HeapAloneLemmas.HeapAnswers.{Agree, heap_agrees}
@@ -55,7 +55,7 @@ IsHeapElsewhere s h other = Unit {0}
 -- the handler of a module's SWI is entered, unless too many frames are open
 abbrev handler_if : MachineState → Bool → ℕ → ℕ → Handler → Bool → StepOutcome
 handler_if s x next number handler full =
-    if full then call_refused s x next FrameLimit else quiet (handler_entered s (call_of s x next false) number handler)
+    if full then call_refused s x next FrameLimit else silent (handler_entered s (call_of s x next false) number handler)
 
 module _ (images : List Entry) (s : MachineState) (h : HeapList) (has : HasStore s) (found : find_heap h.start s.store.heaps ≡ Some h)
     (own : has_own_size h.kind ≡ true) (anchors : HeapHasNoAnchor s.store h) where
@@ -80,7 +80,7 @@ module _ (images : List Entry) (s : MachineState) (h : HeapList) (has : HasStore
   text_at next at None = same
   text_at next at (Some text) = λ _ _. same
 
-  read_went : (r : Result Extent ErrorNumber) → Went h s.store (on_estate s (bind (or_error r) (λ x. Ok (with_extent s.cpu x, machine_estate s))))
+  read_went : (r : Result Extent ErrorNumber) → Went h s.store (on_area_store s (bind (or_error r) (λ x. Ok (with_extent s.cpu x, machine_area_store s))))
   read_went (Ok x) = λ _ _. same
   read_went (Err e) = tt
 
@@ -107,10 +107,10 @@ module _ (images : List Entry) (s : MachineState) (h : HeapList) (has : HasStore
   unfolding heap_called
   heap_keeps next other = went_keeps next (on_store s (heap_called s.cpu s.store)) (heap_went (heap_reason (register_of s.cpu 0)) other)
 
-  read_keeps : (next : ℕ) → Keeps (went_on s next (on_estate s (area_read s.cpu (machine_estate s))))
+  read_keeps : (next : ℕ) → Keeps (went_on s next (on_area_store s (area_read s.cpu (machine_area_store s))))
   unfolding area_read
   read_keeps next =
-      went_keeps next (on_estate s (area_read s.cpu (machine_estate s))) (read_went (extent_asked s.tables.land.areas (register_of s.cpu 0)))
+      went_keeps next (on_area_store s (area_read s.cpu (machine_area_store s))) (read_went (extent_asked s.tables.area_table.areas (register_of s.cpu 0)))
 
   size_went : (r : Result ℕ ErrorNumber) → Went h s.store (on_flex s (bind (or_error r) (λ n. Ok (with_register s.cpu 0 n, machine_flex s))))
   size_went (Ok n) = λ _ _. same
@@ -135,14 +135,14 @@ module _ (images : List Entry) (s : MachineState) (h : HeapList) (has : HasStore
   flex_keeps next name flex outside =
       went_keeps next (on_flex s (flex_called s.cpu (machine_flex s) name)) (flex_went s h has found own name flex outside anchors)
 
-  area_keeps : (next : ℕ) → Keeps (went_on s next (on_estate s (area_called s.cpu (machine_estate s))))
+  area_keeps : (next : ℕ) → Keeps (went_on s next (on_area_store s (area_called s.cpu (machine_area_store s))))
   unfolding area_called
   area_keeps next =
-      went_keeps next (on_estate s (area_called s.cpu (machine_estate s))) (area_went s h has found own (area_reason (register_of s.cpu 0)))
+      went_keeps next (on_area_store s (area_called s.cpu (machine_area_store s))) (area_went s h has found own (area_reason (register_of s.cpu 0)))
 
   -- a change of an area may have changed something and err
   change_answers : (next : ℕ) (o : Option ErrorNumber)
-      → AnswerKeeps h s.store (with_guest s (area_changed s.cpu (machine_estate s))).store (option_map refusal.System o)
+      → AnswerKeeps h s.store (with_guest s (area_changed s.cpu (machine_area_store s))).store (option_map refusal.System o)
   change_answers next None = λ _ _. change_keeps s h has found own
   change_answers next (Some e) = change_keeps s h has found own
 
@@ -157,7 +157,7 @@ module _ (images : List Entry) (s : MachineState) (h : HeapList) (has : HasStore
   answer_keeps next number (Some swi.Heap) another other outside = heap_keeps next other
   answer_keeps next number (Some swi.Module) another other outside = absurd (true≢false another)
   answer_keeps next number (Some swi.ChangeDynamicArea) another other outside =
-      change_answers next (change_asked s.cpu (machine_estate s)).error
+      change_answers next (change_asked s.cpu (machine_area_store s)).error
   answer_keeps next number (Some swi.GenerateError) another other outside = same
   answer_keeps next number (Some swi.ReadDynamicArea) another other outside = read_keeps next
   answer_keeps next number (Some swi.DynamicArea) another other outside = area_keeps next

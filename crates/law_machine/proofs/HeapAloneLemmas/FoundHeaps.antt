@@ -1,6 +1,6 @@
 -- Which heaps are recorded after a move.
 use Rattle.profile.specs.MemoryMap.{module_area_start}
-use Rattle.swi_dispatch_guest.specs.Moves.{Call, Step, core_of, machine_with_words, machine_after_move, outside_name, swi_made, swi_of_turn}
+use Rattle.swi_dispatch_guest.specs.Moves.{Call, Step, core_of, machine_with_words, machine_after_event, outside_name, swi_made, swi_of_turn}
 use Rattle.std.proofs.Common.{ℕ, ◌≡◌, ◌≢◌, ◌+◌, ◌%◌, ◌^◌, ◌==◌, ◌||◌, ◌∙◌, Bool, true, false, length, List, is_some, Option, Some, None, Result, Ok, Err, refl, sym, ap, subst, inl, inr, if◌then◌else◌}
 use Rattle.std.proofs.lemmas.Bool.{both_ways, cases_Bool, false_from_ne_true, false≢true, or_parts, true≢false}
 use Rattle.profile.specs.Outcome.{bind}
@@ -14,8 +14,8 @@ use Rattle.profile.specs.declared.swi.SwiName.{SwiName}
 use Rattle.profile.specs.declared.swi.SwiName.TheVariants as swi
 use Rattle.address_map.specs.Bytes.{Bytes}
 use Rattle.arm_core.specs.State.{State, register_of, with_register}
-use Rattle.arm_core.specs.declared.turn.Turn.{Turn}
-use Rattle.arm_core.specs.declared.turn.Turn.TheVariants as turn
+use Rattle.arm_core.specs.declared.turn.StepEnd.{StepEnd}
+use Rattle.arm_core.specs.declared.turn.StepEnd.TheVariants as turn
 use Rattle.dynamic_areas.specs.Areas.{extent_asked}
 use Rattle.dynamic_areas.specs.declared.area.Extent.{Extent}
 use Rattle.swi_dispatch_answers.specs.flex_frame.Ground.{with_flex_record}
@@ -34,14 +34,14 @@ use Rattle.law_blocks.specs.heap_frame.Fits.{LiesInArea}
 use Rattle.swi_dispatch_answers.specs.Refusals.{or_error}
 use Rattle.swi_dispatch_answers.specs.declared.refusal.Refusal.{Refusal}
 use Rattle.swi_dispatch_answers.specs.declared.refusal.Refusal.TheVariants as refusal
-use Rattle.swi_dispatch_guest.specs.SwiDispatchFlexCalls.{fit_told, flex_called, memory_after_flex, state_in}
+use Rattle.swi_dispatch_guest.specs.SwiDispatchFlexCalls.{fit_shown, flex_called, memory_after_flex, state_in}
 use Rattle.swi_dispatch_plans.specs.store.Areas.{area_called, area_changed, area_read, with_extent}
 use Rattle.swi_dispatch_plans.specs.store.Heaps.{heap_called, heap_called_for}
 use Rattle.swi_dispatch_guest.specs.declared.halt.Halt.TheVariants as halt
-use Rattle.swi_dispatch_guest.proofs.NextTurn.{awake_step, outside_call}
+use Rattle.swi_dispatch_guest.proofs.NextTurn.{unhalted_step, outside_call}
 use Rattle.swi_dispatch_guest.specs.Answers.{Answer, refusal_answer, went_on}
-use Rattle.swi_dispatch_guest.specs.Calls.{call_answer, machine_flex, on_estate, on_flex, on_store, printable_at, with_guest, wrote_text_after, wrote_text_at}
-use Rattle.swi_dispatch_guest.specs.MachineState.{MachineState, StepOutcome, machine_estate, quiet}
+use Rattle.swi_dispatch_guest.specs.Calls.{call_answer, machine_flex, on_area_store, on_flex, on_store, printable_at, with_guest, wrote_text_after, wrote_text_at}
+use Rattle.swi_dispatch_guest.specs.MachineState.{MachineState, StepOutcome, machine_area_store, silent}
 use Rattle.swi_dispatch_guest.specs.Returns.{outcome_of_halt}
 use Rattle.swi_dispatch_guest.specs.Step.{call_of, call_refused, outcome_of_call, called_by, outcome_of_answer, outcome_of_end, handler_entered, result_of_instruction, is_exit, outcome_of_module_swi as handler_called, outcome_of_turn, without_x}
 use Rattle.law_machine.proofs.HeapAloneLemmas.HeapAnswers.{Agree, heap_agrees}
@@ -94,31 +94,31 @@ module _ (images : List Entry) (s : MachineState) (h : HeapList) (has : HasStore
   text_at next at None = same
   text_at next at (Some text) = same
 
-  read_by : (r : Result Extent ErrorNumber) → Stays h.start (on_estate s (bind (or_error r) (λ x. Ok (with_extent s.cpu x, machine_estate s))))
+  read_by : (r : Result Extent ErrorNumber) → Stays h.start (on_area_store s (bind (or_error r) (λ x. Ok (with_extent s.cpu x, machine_area_store s))))
   read_by (Ok x) = same
   read_by (Err e) = tt
 
-  read_stays : (next : ℕ) → IsNotForgotten (went_on s next (on_estate s (area_read s.cpu (machine_estate s)))).left.now.store h.start
+  read_stays : (next : ℕ) → IsNotForgotten (went_on s next (on_area_store s (area_read s.cpu (machine_area_store s)))).left.now.store h.start
   unfolding area_read
   read_stays next =
-      went next (on_estate s (area_read s.cpu (machine_estate s))) (read_by (extent_asked s.tables.land.areas (register_of s.cpu 0)))
+      went next (on_area_store s (area_read s.cpu (machine_area_store s))) (read_by (extent_asked s.tables.area_table.areas (register_of s.cpu 0)))
 
-  area_stays : (next : ℕ) → IsNotForgotten (went_on s next (on_estate s (area_called s.cpu (machine_estate s)))).left.now.store h.start
+  area_stays : (next : ℕ) → IsNotForgotten (went_on s next (on_area_store s (area_called s.cpu (machine_area_store s)))).left.now.store h.start
   unfolding area_called
   area_stays next =
-      went next (on_estate s (area_called s.cpu (machine_estate s)))
-      (left_stays (on_estate s (area_called s.cpu (machine_estate s))) (area_left s h has found own (area_reason (register_of s.cpu 0))))
+      went next (on_area_store s (area_called s.cpu (machine_area_store s)))
+      (left_stays (on_area_store s (area_called s.cpu (machine_area_store s))) (area_left s h has found own (area_reason (register_of s.cpu 0))))
 
   -- flex calls change no list of heaps
   fit_stays : (places : Store) (r : Result (FlexState × Bool) ErrorNumber) → places.heaps ≡ s.store.heaps
-      → Stays h.start (on_flex s (fit_told s.cpu (memory_after_flex places r)))
+      → Stays h.start (on_flex s (fit_shown s.cpu (memory_after_flex places r)))
   fit_stays places (Ok q) heaps = ap (λ (hs : List HeapList). is_some (find_heap h.start hs)) heaps ∙ same
   fit_stays places (Err e) heaps = tt
 
-  quiet_stays : (places : Store) (r : Result (FlexState × Unit {0}) ErrorNumber) → places.heaps ≡ s.store.heaps
+  silent_stays : (places : Store) (r : Result (FlexState × Unit {0}) ErrorNumber) → places.heaps ≡ s.store.heaps
       → Stays h.start (on_flex s (bind (or_error (memory_after_flex places r)) (λ q. Ok (s.cpu, q.0))))
-  quiet_stays places (Ok q) heaps = ap (λ (hs : List HeapList). is_some (find_heap h.start hs)) heaps ∙ same
-  quiet_stays places (Err e) heaps = tt
+  silent_stays places (Ok q) heaps = ap (λ (hs : List HeapList). is_some (find_heap h.start hs)) heaps ∙ same
+  silent_stays places (Err e) heaps = tt
 
   size_stays : (r : Result ℕ ErrorNumber) → Stays h.start (on_flex s (bind (or_error r) (λ n. Ok (with_register s.cpu 0 n, machine_flex s))))
   size_stays (Ok n) = same
@@ -127,10 +127,10 @@ module _ (images : List Entry) (s : MachineState) (h : HeapList) (has : HasStore
   flex_by : (name : Option SwiName) → Stays h.start (on_flex s (flex_called s.cpu (machine_flex s) name))
   unfolding flex_called
   flex_by (Some swi.FlexInit) =
-      quiet_stays (with_flex_record s.store (register_of s.cpu 0) (register_of s.cpu 1))
+      silent_stays (with_flex_record s.store (register_of s.cpu 0) (register_of s.cpu 1))
       (flex_after_init s.store (state_in (machine_flex s)) (register_of s.cpu 0) (register_of s.cpu 1)) refl
   flex_by (Some swi.FlexAlloc) = fit_stays s.store (flex_after_alloc s.store (state_in (machine_flex s)) (register_of s.cpu 0) (register_of s.cpu 1)) refl
-  flex_by (Some swi.FlexFree) = quiet_stays s.store (flex_after_release (state_in (machine_flex s)) (register_of s.cpu 0)) refl
+  flex_by (Some swi.FlexFree) = silent_stays s.store (flex_after_release (state_in (machine_flex s)) (register_of s.cpu 0)) refl
   flex_by (Some swi.FlexSize) = size_stays (flex_block_size (state_in (machine_flex s)) (register_of s.cpu 0))
   flex_by (Some swi.FlexExtend) = fit_stays s.store (flex_after_extend (state_in (machine_flex s)) (register_of s.cpu 0) (register_of s.cpu 1)) refl
   flex_by (Some swi.FlexMidExtend) =
@@ -140,8 +140,8 @@ module _ (images : List Entry) (s : MachineState) (h : HeapList) (has : HasStore
   flex_stays : (next : ℕ) (name : Option SwiName) → IsNotForgotten (went_on s next (on_flex s (flex_called s.cpu (machine_flex s) name))).left.now.store h.start
   flex_stays next name = went next (on_flex s (flex_called s.cpu (machine_flex s) name)) (flex_by name)
 
-  change_stays : IsNotForgotten (with_guest s (area_changed s.cpu (machine_estate s))).store h.start
-  change_stays = let kept : KeepsHeap h s.store (with_guest s (area_changed s.cpu (machine_estate s))).store = change_keeps s h has found own in ap is_some kept.found
+  change_stays : IsNotForgotten (with_guest s (area_changed s.cpu (machine_area_store s))).store h.start
+  change_stays = let kept : KeepsHeap h s.store (with_guest s (area_changed s.cpu (machine_area_store s))).store = change_keeps s h has found own in ap is_some kept.found
 
   answer_stays : (next number : ℕ) (name : Option SwiName) → is_module_name name ≡ false → is_heap_swi name ≡ false
       → IsNotForgotten (call_answer s next number name).left.now.store h.start
@@ -171,7 +171,7 @@ module _ (images : List Entry) (s : MachineState) (h : HeapList) (has : HasStore
   refused_stays x next e = answered x (refusal_answer s next (refusal.System e)) same
 
   handled_by : (x : Bool) (next number : ℕ) (handler : Handler) (full : Bool)
-      → IsNotForgotten (if full then call_refused s x next FrameLimit else quiet (handler_entered s (call_of s x next false) number handler)).now.store h.start
+      → IsNotForgotten (if full then call_refused s x next FrameLimit else silent (handler_entered s (call_of s x next false) number handler)).now.store h.start
   handled_by x next number handler true = refused_stays x next FrameLimit
   handled_by x next number handler false = same
 
@@ -203,21 +203,21 @@ module _ (images : List Entry) (s : MachineState) (h : HeapList) (has : HasStore
   heap_by : (why : HeapReason) (q : Result (State × Store) Refusal) (r : Result (Store × (ℕ × ℕ)) ErrorNumber) → Agree q r
       → heap_reason (register_of s.cpu 0) ≡ Some why
       → call_on s.store (register_of s.cpu 1) why (register_of s.cpu 2) (register_of s.cpu 3) ≡ r → Loses (on_store s q)
-  heap_by why (Ok q) (Ok r) agree told is = λ none. record {
+  heap_by why (Ok q) (Ok r) agree reported is = λ none. record {
     why = why;
-    is = told;
+    is = reported;
     forgotten = (calls_forget s.store r.0 h (register_of s.cpu 1) why (register_of s.cpu 2) (register_of s.cpu 3) r.1 (sound_store s has) found is).0
         (ap (λ (t : Store). find_heap h.start t.heaps) (sym agree.0) ∙ none);
   }
-  heap_by why (Err e) (Err number) agree told is = tt
-  heap_by why (Ok q) (Err number) agree told is = absurd agree
-  heap_by why (Err e) (Ok r) agree told is = absurd agree
+  heap_by why (Err e) (Err number) agree reported is = tt
+  heap_by why (Ok q) (Err number) agree reported is = absurd agree
+  heap_by why (Err e) (Ok r) agree reported is = absurd agree
 
   heap_loses : (o : Option HeapReason) → heap_reason (register_of s.cpu 0) ≡ o → Loses (on_store s (heap_called_for s.cpu s.store o))
-  heap_loses None told = tt
-  heap_loses (Some why) told =
+  heap_loses None reported = tt
+  heap_loses (Some why) reported =
       heap_by why (heap_called_for s.cpu s.store (Some why)) (call_on s.store (register_of s.cpu 1) why (register_of s.cpu 2) (register_of s.cpu 3))
-      (heap_agrees s.cpu has.size s.store why) told refl
+      (heap_agrees s.cpu has.size s.store why) reported refl
 
   not_lost : (t : Store) → IsNotForgotten t h.start → find_heap h.start t.heaps ≡ None → FreesHeap s.store s.cpu h.start
   not_lost t stays none = absurd (false≢true (sym (ap is_some none) ∙ stays))
@@ -240,7 +240,7 @@ module _ (images : List Entry) (s : MachineState) (h : HeapList) (has : HasStore
       heap_ended x next (ap (λ (o : StepOutcome). find_heap h.start o.now.store.heaps) (sym (call_goes s has images x next number name)) ∙ none)
 
   -- what a turn of the core asks for
-  pub turn_stays : (r : Result (State × Bytes) Turn) → swi_of_turn r ≢ Some swi.Heap → (is_module_name (swi_of_turn r) || is_at_gate r) ≡ false
+  pub turn_stays : (r : Result (State × Bytes) StepEnd) → swi_of_turn r ≢ Some swi.Heap → (is_module_name (swi_of_turn r) || is_at_gate r) ≡ false
       → IsNotForgotten (outcome_of_turn images s r).now.store h.start
   turn_stays (Ok w) other another = same
   turn_stays (Err turn.Done) other another = same
@@ -250,7 +250,7 @@ module _ (images : List Entry) (s : MachineState) (h : HeapList) (has : HasStore
   turn_stays (Err turn.Gate) other another = absurd (true≢false another)
   turn_stays (Err (turn.Fault f)) other another = same
 
-  pub turn_loses : (r : Result (State × Bytes) Turn) → swi_of_turn r ≡ Some swi.Heap → find_heap h.start (outcome_of_turn images s r).now.store.heaps ≡ None
+  pub turn_loses : (r : Result (State × Bytes) StepEnd) → swi_of_turn r ≡ Some swi.Heap → find_heap h.start (outcome_of_turn images s r).now.store.heaps ≡ None
       → FreesHeap s.store s.cpu h.start
   turn_loses (Ok w) name none = not_lost (outcome_of_turn images s (Ok w)).now.store same none
   turn_loses (Err turn.Done) name none = not_lost s.store same none
@@ -260,7 +260,7 @@ module _ (images : List Entry) (s : MachineState) (h : HeapList) (has : HasStore
 
 pub moves_forget_none : OtherMovesForgetNone
 moves_forget_none images s h Step has other another =
-    subst (λ (o : StepOutcome). IsNotForgotten o.now.store h.start) (sym (awake_step images s has.goes))
+    subst (λ (o : StepOutcome). IsNotForgotten o.now.store h.start) (sym (unhalted_step images s has.goes))
     (turn_stays images s h (has_store s has.state) has.found has.own (result_of_instruction s) other another)
 moves_forget_none images s h (Call number words) has other another =
     let u : MachineState = machine_with_words s words in
@@ -274,7 +274,7 @@ moves_forget_none images s h (Call number words) has other another =
 pub heap_calls_forget : HeapCallsForgetFreed
 heap_calls_forget images s h Step has name none =
     turn_loses images s h (has_store s has.state) has.found has.own (result_of_instruction s) name
-    (ap (λ (o : StepOutcome). find_heap h.start o.now.store.heaps) (sym (awake_step images s has.goes)) ∙ none)
+    (ap (λ (o : StepOutcome). find_heap h.start o.now.store.heaps) (sym (unhalted_step images s has.goes)) ∙ none)
 heap_calls_forget images s h (Call number words) has name none =
     let u : MachineState = machine_with_words s words in
     let store : HasStore s = has_store s has.state in
@@ -301,14 +301,14 @@ is_there t start there = by (find_heap start t.heaps) there where
 
 pub outer_stay : OuterHeapsStay
 outer_stay images s h m has outer = elim (cases_Bool (is_heap_swi (swi_made s m))) [
-  | inl heap ↦ is_there (machine_after_move images s m).store h.start (λ none.
+  | inl heap ↦ is_there (machine_after_event images s m).store h.start (λ none.
       let frees : FreesHeap s.store (core_of s m) h.start = heap_calls_forget images s h m has (heap_swi (swi_made s m) heap) none in
       let cpu : State = core_of s m in
       outer (forgotten_lies s.store h (register_of cpu 1) frees.why (register_of cpu 2) (register_of cpu 3)
       (sound_store s (has_store s has.state)) has.found frees.forgotten))
   | inr other ↦ elim (cases_Bool (is_module_move s m)) [
     | inl module_move ↦
-        let kept : KeepsHeap h s.store (machine_after_move images s m).store =
+        let kept : KeepsHeap h s.store (machine_after_event images s m).store =
         module_moves_keep images s h m has module_move (λ lies. absurd (outer (area_block s.store h lies))) in
         ap is_some kept.found
     | inr another ↦ moves_forget_none images s h m has (λ is. both_ways (is_heap_swi (swi_made s m)) other (ap is_heap_swi is)) another

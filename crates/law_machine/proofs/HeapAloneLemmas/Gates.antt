@@ -19,12 +19,12 @@ use Rattle.swi_dispatch_answers.specs.declared.frames.frame.FrameKind.TheVariant
 use Rattle.swi_dispatch_answers.specs.frames.Frames.{innermost_frame}
 use Rattle.swi_dispatch_guest.specs.declared.halt.Halt.TheVariants as halt
 use Rattle.swi_dispatch_guest.specs.Gates.{carried_on, come_back, entry_left, fault_ahead, frame_closed, frame_left, outcome_of_gate, gated_by, outcome_left, plan_left, unless_fault}
-use Rattle.swi_dispatch_guest.specs.MachineState.{MachineState, machine_world, quiet}
+use Rattle.swi_dispatch_guest.specs.MachineState.{MachineState, machine_module_state, silent}
 use Rattle.swi_dispatch_guest.specs.Returns.{outcome_of_error, outcome_of_halt}
 use Rattle.law_blocks.proofs.HeapFrameLemmas.Areas.{heap_same}
 use Rattle.law_blocks.proofs.HeapFrameLemmas.Slots.{doable_below}
-use Rattle.law_blocks.specs.heap_frame.PlanLaws.{IsFitWorld}
-use Rattle.law_machine.proofs.HeapAloneLemmas.ModuleHosts.{IsHost, KeepsRecorded, carried_out, fit_world, outside_stays}
+use Rattle.law_blocks.specs.heap_frame.PlanLaws.{IsFitModuleState}
+use Rattle.law_machine.proofs.HeapAloneLemmas.ModuleHosts.{IsHost, KeepsRecorded, carried_out, fit_module_state, outside_stays}
 use Rattle.law_machine.proofs.HeapAloneLemmas.ModulePlans.{IsFitPlan}
 use Rattle.instances.proofs.ActionsLemmas.Readying.{given_stays}
 
@@ -47,13 +47,13 @@ module _ (s : MachineState) (h : HeapList) (host : IsHost s h) where
   same : KeepsRecorded h s.store s.store
   same still = heap_same h s.store host.found
 
-  fit : IsFitWorld (machine_world s)
-  fit = fit_world s host.modules
+  fit : IsFitModuleState (machine_module_state s)
+  fit = fit_module_state s host.modules
 
   -- the plan that is carried on
-  settled_fit : (p : Plan) (o : CodeOutcome) → MayGoOn (machine_world s) (Some p) → length p.given.text.items ≤ 255 → IsFitPlan (plan_after_code p o)
+  settled_fit : (p : Plan) (o : CodeOutcome) → MayGoOn (machine_module_state s) (Some p) → length p.given.text.items ≤ 255 → IsFitPlan (plan_after_code p o)
   settled_fit p o going few =
-      let on : IsUnderWay (machine_world s) (plan_after_code p o) = going_back (machine_world s) p o host.modules.modules going.1 in
+      let on : IsUnderWay (machine_module_state s) (plan_after_code p o) = going_back (machine_module_state s) p o host.modules.modules going.1 in
       record {
         below = doable_below s.tables.modules (plan_after_code p o) host.modules.modules on.ready.doable;
         text = subst (λ (g : Given). length g.text.items ≤ 255) (sym (settled_given p o)) few;
@@ -66,16 +66,16 @@ module _ (s : MachineState) (h : HeapList) (host : IsHost s h) where
   entry_keeps : (f : Frame) (p : Plan) → IsFitPlan p → KeepsRecorded h s.store (entry_left s f p).now.store
   entry_keeps f p plan =
       let t : MachineState = carried_on (come_back s f) f.call p in
-      fault_keeps t (fault_ahead f.call (machine_world s) p) (outside_stays s h t.store host (carried_out (come_back s f) f.call p fit plan))
+      fault_keeps t (fault_ahead f.call (machine_module_state s) p) (outside_stays s h t.store host (carried_out (come_back s f) f.call p fit plan))
 
-  plan_keeps : (f : Frame) (o : Option Plan) → MayGoOn (machine_world s) o → IfSome o (λ (plan : Plan). length plan.given.text.items ≤ 255)
+  plan_keeps : (f : Frame) (o : Option Plan) → MayGoOn (machine_module_state s) o → IfSome o (λ (plan : Plan). length plan.given.text.items ≤ 255)
       → KeepsRecorded h s.store (plan_left s f o).now.store
   plan_keeps f None going few = same
   plan_keeps f (Some p) going few = entry_keeps f (plan_after_code p (outcome_left s.cpu)) (settled_fit p (outcome_left s.cpu) going few)
 
   -- a SWI of a module
   left_keeps : (f : Frame) (overflow x : Bool)
-      → KeepsRecorded h s.store (if overflow then outcome_of_error s x (quiet (frame_closed s f)) else quiet (frame_closed s f)).now.store
+      → KeepsRecorded h s.store (if overflow then outcome_of_error s x (silent (frame_closed s f)) else silent (frame_closed s f)).now.store
   left_keeps f false x = same
   left_keeps f true true = same
   left_keeps f true false = same

@@ -71,39 +71,39 @@ pub overflow_back : (caller : Psr) (cpu : State) (v : Bool) (next : ℕ) → (st
 unfolding state_after_return
 overflow_back caller cpu v next = refl
 
--- the call, and what the core is told of it
+-- the call, and what the core is shown of it
 abbrev pub Agree : Result (State × Store) Refusal → Result (Store × (ℕ × ℕ)) ErrorNumber → Type 0
 Agree (Ok q) (Ok r) = (q.1 ≡ r.0) × ((register_of q.0 2 ≡ r.1.0) × (register_of q.0 3 ≡ r.1.1))
 Agree (Err e) (Err number) = e ≡ refusal.System number
 Agree q r = ⊥
 
 module _ (cpu : State) (size : length cpu.file ≡ 26) where
-  agree_told : (A : Type 0) (k : A → Store × State) (l : A → Store × (ℕ × ℕ)) (r : Result A ErrorNumber)
+  agree_shown : (A : Type 0) (k : A → Store × State) (l : A → Store × (ℕ × ℕ)) (r : Result A ErrorNumber)
       → ((x : A) → ((k x).0 ≡ (l x).0) × ((register_of (k x).1 2 ≡ (l x).1.0) × (register_of (k x).1 3 ≡ (l x).1.1)))
       → Agree (bind (or_error r) (λ x. Ok ((k x).1, (k x).0))) (bind r (λ x. Ok (l x)))
-  agree_told A k l (Ok x) same = same x
-  agree_told A k l (Err e) same = refl
+  agree_shown A k l (Ok x) same = same x
+  agree_shown A k l (Err e) same = refl
 
   pub heap_agrees : (s : Store) (why : HeapReason)
       → Agree (heap_called_for cpu s (Some why)) (call_on s (register_of cpu 1) why (register_of cpu 2) (register_of cpu 3))
   heap_agrees s reason.Initialise =
-      agree_told (Store × Unit {0}) (λ r. (r.0, cpu)) (λ r. (r.0, (register_of cpu 2, register_of cpu 3))) (store_after_init s (register_of cpu 1) (register_of cpu 3))
+      agree_shown (Store × Unit {0}) (λ r. (r.0, cpu)) (λ r. (r.0, (register_of cpu 2, register_of cpu 3))) (store_after_init s (register_of cpu 1) (register_of cpu 3))
       (λ x. (refl, (refl, refl)))
   heap_agrees s reason.Describe =
-      agree_told (ℕ × ℕ) (λ r. (s, with_register (with_register cpu 2 r.0) 3 r.1)) (λ r. (s, r)) (heap_description s (register_of cpu 1))
+      agree_shown (ℕ × ℕ) (λ r. (s, with_register (with_register cpu 2 r.0) 3 r.1)) (λ r. (s, r)) (heap_description s (register_of cpu 1))
       (λ x. (refl, (two_beside (with_register cpu 2 x.0) x.1 ∙ two_set cpu x.0 size, three_set (with_register cpu 2 x.0) x.1 (set_length cpu 2 x.0 size))))
   heap_agrees s reason.Get =
-      agree_told (Store × ℕ) (λ r. (r.0, with_register cpu 2 r.1)) (λ r. (r.0, (r.1, register_of cpu 3))) (store_after_get s (register_of cpu 1) (register_of cpu 3))
+      agree_shown (Store × ℕ) (λ r. (r.0, with_register cpu 2 r.1)) (λ r. (r.0, (r.1, register_of cpu 3))) (store_after_get s (register_of cpu 1) (register_of cpu 3))
       (λ x. (refl, (two_set cpu x.1 size, three_beside cpu x.1)))
   heap_agrees s reason.Free =
-      agree_told (Store × Unit {0}) (λ r. (r.0, cpu)) (λ r. (r.0, (register_of cpu 2, register_of cpu 3))) (gave_back s (register_of cpu 1) (register_of cpu 2))
+      agree_shown (Store × Unit {0}) (λ r. (r.0, cpu)) (λ r. (r.0, (register_of cpu 2, register_of cpu 3))) (gave_back s (register_of cpu 1) (register_of cpu 2))
       (λ x. (refl, (refl, refl)))
   heap_agrees s reason.Resize =
-      agree_told (Store × ℕ) (λ r. (r.0, with_register cpu 2 r.1)) (λ r. (r.0, (r.1, register_of cpu 3)))
+      agree_shown (Store × ℕ) (λ r. (r.0, with_register cpu 2 r.1)) (λ r. (r.0, (r.1, register_of cpu 3)))
       (store_after_resize s (register_of cpu 1) (register_of cpu 2) (register_of cpu 3)) (λ x. (refl, (two_set cpu x.1 size, three_beside cpu x.1)))
   heap_agrees s reason.ChangeSize =
-      agree_told (Store × Unit {0}) (λ r. (r.0, cpu)) (λ r. (r.0, (register_of cpu 2, register_of cpu 3))) (store_after_change s (register_of cpu 1) (register_of cpu 3))
+      agree_shown (Store × Unit {0}) (λ r. (r.0, cpu)) (λ r. (r.0, (register_of cpu 2, register_of cpu 3))) (store_after_change s (register_of cpu 1) (register_of cpu 3))
       (λ x. (refl, (refl, refl)))
   heap_agrees s reason.BlockSize =
-      agree_told ℕ (λ n. (s, with_register cpu 3 n)) (λ n. (s, (register_of cpu 2, n))) (block_sized s (register_of cpu 1) (register_of cpu 2))
+      agree_shown ℕ (λ n. (s, with_register cpu 3 n)) (λ n. (s, (register_of cpu 2, n))) (block_sized s (register_of cpu 1) (register_of cpu 2))
       (λ x. (refl, (two_beside cpu x, three_set cpu x size)))

@@ -1,6 +1,6 @@
 -- Instructions change the bytes that they store to, and calls of OS_Heap none that live blocks hold
 -- but those of the heap called.
-use Rattle.swi_dispatch_guest.specs.Moves.{Call, Step, machine_with_words, machine_after_move, swi_of_turn}
+use Rattle.swi_dispatch_guest.specs.Moves.{Call, Step, machine_with_words, machine_after_event, swi_of_turn}
 use Rattle.std.proofs.Common.{ℕ, ◌≡◌, ◌≢◌, ◌==◌, ◌≤◌, ◌<◌, ◌-◌, ◌+◌, ◌%◌, ◌^◌, ◌∙◌, ◌⊎◌, Bool, true, false, List, Option, Some, None, Result, Ok, Err, refl, sym, ap, subst, inl, inr, arith, if◌then◌else◌}
 use Rattle.std.proofs.lemmas.Bool.{and_parts, cases_Bool, eqb-true, false_from_ne_true, false≢true, le-leb, lt-ltb}
 use Rattle.profile.specs.Outcome.{bind}
@@ -15,8 +15,8 @@ use Rattle.profile.specs.declared.swi.SwiName.TheVariants as swi
 use Rattle.address_map.specs.Bytes.{Bytes, in_range}
 use Rattle.arm_step.proofs.Framing.{step_keeps}
 use Rattle.arm_core.specs.State.{State, register_of}
-use Rattle.arm_core.specs.declared.turn.Turn.{Turn}
-use Rattle.arm_core.specs.declared.turn.Turn.TheVariants as turn
+use Rattle.arm_core.specs.declared.turn.StepEnd.{StepEnd}
+use Rattle.arm_core.specs.declared.turn.StepEnd.TheVariants as turn
 use Rattle.image_loader.specs.Entries.{Entry}
 use Rattle.os_heap_words.proofs.ListsLemmas.LiveBlocks.{LiveBytes, law_live_bytes}
 use Rattle.os_heap_words.specs.lists.Heap.{HeapList, IsHeapIn}
@@ -36,7 +36,7 @@ use Rattle.law_blocks.specs.heap_calls.Turns.{call_on}
 use Rattle.swi_dispatch_answers.specs.declared.refusal.Refusal.{Refusal}
 use Rattle.swi_dispatch_plans.specs.store.Heaps.{heap_called, heap_called_for}
 use Rattle.swi_dispatch_guest.proofs.Kept.{by_words}
-use Rattle.swi_dispatch_guest.proofs.NextTurn.{awake_step, outside_call}
+use Rattle.swi_dispatch_guest.proofs.NextTurn.{unhalted_step, outside_call}
 use Rattle.swi_dispatch_guest.specs.declared.halt.Halt.TheVariants as halt
 use Rattle.swi_dispatch_guest.specs.Answers.{went_on}
 use Rattle.swi_dispatch_guest.specs.Calls.{call_answer, on_store}
@@ -65,7 +65,7 @@ byte_done s w a is = elim (cases_Bool (is_stored s.cpu s.store.bytes a)) [
 
 pub instructions_change_stored : InstructionsChangeStored
 instructions_change_stored images s w a goes is =
-    let step : machine_step images s ≡ outcome_of_turn images s (Ok w) = awake_step images s goes ∙ ap (outcome_of_turn images s) is in
+    let step : machine_step images s ≡ outcome_of_turn images s (Ok w) = unhalted_step images s goes ∙ ap (outcome_of_turn images s) is in
     subst (λ (o : StepOutcome). (o.now.store.bytes.at a ≡ s.store.bytes.at a) ⊎ IsStoredPlain s a) (sym step) (byte_done s w a is)
 
 -- a byte of a block, in its heap's range
@@ -90,15 +90,15 @@ by_done : (A : Type 0) (P : Store → Type 0) (k : A → ℕ × ℕ) (r : Result
 by_done A P k (Ok x) keeps = keeps x refl
 by_done A P k (Err e) keeps = tt
 
-by_told : (A : Type 0) (P : Store → Type 0) (s : Store) (k : A → ℕ × ℕ) (r : Result A ErrorNumber) → P s → OnDone (ℕ × ℕ) P (bind r (λ x. Ok (s, k x)))
-by_told A P s k (Ok x) same = same
-by_told A P s k (Err e) same = tt
+by_shown : (A : Type 0) (P : Store → Type 0) (s : Store) (k : A → ℕ × ℕ) (r : Result A ErrorNumber) → P s → OnDone (ℕ × ℕ) P (bind r (λ x. Ok (s, k x)))
+by_shown A P s k (Ok x) same = same
+by_shown A P s k (Err e) same = tt
 
 call_keeps : (s : Store) (heap : ℕ) (why : HeapReason) (block size : ℕ) → IsSound s → OnDone (ℕ × ℕ) (Kept s heap) (call_on s heap why block size)
 call_keeps s heap reason.Initialise block size sound =
     by_done (Unit {0}) (Kept s heap) (λ _. (block, size)) (store_after_init s heap size) (λ x is sound'. (calls_keep s x.0 heap sound sound').init size is)
 call_keeps s heap reason.Describe block size sound =
-    by_told (ℕ × ℕ) (Kept s heap) s (λ r. r) (heap_description s heap) (λ _. same_payloads s heap)
+    by_shown (ℕ × ℕ) (Kept s heap) s (λ r. r) (heap_description s heap) (λ _. same_payloads s heap)
 call_keeps s heap reason.Get block size sound =
     by_done ℕ (Kept s heap) (λ n. (n, size)) (store_after_get s heap size) (λ x is sound'. (calls_keep s x.0 heap sound sound').get size x.1 is)
 call_keeps s heap reason.Free block size sound =
@@ -110,7 +110,7 @@ call_keeps s heap reason.ChangeSize block size sound =
     by_done (Unit {0}) (Kept s heap) (λ _. (block, size)) (store_after_change s heap size)
     (λ x is sound'. (calls_keep s x.0 heap sound sound').change_size size is)
 call_keeps s heap reason.BlockSize block size sound =
-    by_told ℕ (Kept s heap) s (λ n. (block, n)) (block_sized s heap block) (λ _. same_payloads s heap)
+    by_shown ℕ (Kept s heap) s (λ n. (block, n)) (block_sized s heap block) (λ _. same_payloads s heap)
 
 -- such a call leaves also each heap that the heap called does not lie in
 pub record HeapCallLeaves (s : Store) (heap : ℕ) (t : Store) : Type 0 where
@@ -194,7 +194,7 @@ module _ (s : MachineState) (has : HasStore s) where
   no_swi : (t : Store) → None ≡ Some swi.Heap → KeepsPayloads s.store t (register_of s.cpu 1)
   no_swi t is = absurd (false≢true (ap is_heap_swi is))
 
-  turn_keeps : (images : List Entry) (r : Result (State × Bytes) Turn) → swi_of_turn r ≡ Some swi.Heap → IsSound (outcome_of_turn images s r).now.store
+  turn_keeps : (images : List Entry) (r : Result (State × Bytes) StepEnd) → swi_of_turn r ≡ Some swi.Heap → IsSound (outcome_of_turn images s r).now.store
       → KeepsPayloads s.store (outcome_of_turn images s r).now.store (register_of s.cpu 1)
   turn_keeps images (Ok w) is sound = no_swi (outcome_of_turn images s (Ok w)).now.store is
   turn_keeps images (Err turn.Done) is sound = no_swi (outcome_of_turn images s (Err turn.Done)).now.store is
@@ -205,9 +205,9 @@ module _ (s : MachineState) (has : HasStore s) where
 
 pub heap_calls_keep : HeapCallsKeepLiveBytes
 heap_calls_keep images s Step state goes name after =
-    let step : machine_step images s ≡ outcome_of_turn images s (result_of_instruction s) = awake_step images s goes in
+    let step : machine_step images s ≡ outcome_of_turn images s (result_of_instruction s) = unhalted_step images s goes in
     let sound : IsSound (outcome_of_turn images s (result_of_instruction s)).now.store =
-    subst (λ (o : StepOutcome). IsSound o.now.store) step (sound_store (machine_after_move images s Step) (has_store (machine_after_move images s Step) after)) in
+    subst (λ (o : StepOutcome). IsSound o.now.store) step (sound_store (machine_after_event images s Step) (has_store (machine_after_event images s Step) after)) in
     subst (λ (o : StepOutcome). KeepsPayloads s.store o.now.store (register_of s.cpu 1)) (sym step)
     (turn_keeps s (has_store s state) images (result_of_instruction s) name sound)
 heap_calls_keep images s (Call number words) state goes name after =
@@ -216,7 +216,7 @@ heap_calls_keep images s (Call number words) state goes name after =
     let same : IsGiven s u = given_same s 0 words store.size in
     let call : store_called images u number ≡ outcome_of_call images u true u.cpu.pc (without_x (number % 2 ^ 24)) = outside_call images u number (given_goes s u same ∙ goes) in
     let sound : IsSound (outcome_of_call images u true u.cpu.pc (without_x (number % 2 ^ 24))).now.store =
-    subst (λ (o : StepOutcome). IsSound o.now.store) call (sound_store (machine_after_move images s (Call number words)) (has_store (machine_after_move images s (Call number words)) after)) in
+    subst (λ (o : StepOutcome). IsSound o.now.store) call (sound_store (machine_after_event images s (Call number words)) (has_store (machine_after_event images s (Call number words)) after)) in
     let kept : KeepsPayloads u.store (outcome_of_call images u true u.cpu.pc (without_x (number % 2 ^ 24))).now.store (register_of u.cpu 1) =
     (heap_call_leaves u (given_store s u store same) images true u.cpu.pc (without_x (number % 2 ^ 24)) name sound).payloads in
     subst (λ (t : Store). KeepsPayloads t (store_called images u number).now.store (register_of u.cpu 1)) (given_stays s u same)

@@ -11,22 +11,22 @@ use Rattle.arm_core.specs.State.{State, register_of, with_register}
 use Rattle.image_loader.specs.Entries.{Entry}
 use Rattle.os_heap.proofs.Found.{found_start}
 use Rattle.os_heap.specs.Store.{Store, find_heap}
-use Rattle.dynamic_areas.specs.Ground.{Estate}
+use Rattle.dynamic_areas.specs.Ground.{AreaStore}
 use Rattle.rma.specs.Calls.{rma_claimed, rma_freed}
-use Rattle.instances.specs.world.World.{World}
+use Rattle.instances.specs.module_state.ModuleState.{ModuleState}
 use Rattle.swi_dispatch_answers.specs.Refusals.{or_error}
 use Rattle.swi_dispatch_answers.specs.declared.refusal.Refusal.{Refusal}
 use Rattle.swi_dispatch_plans.specs.modules.Calls.{result_of_module_call as area_called, module_called_for as area_called_for}
 use Rattle.swi_dispatch_guest.specs.Answers.{went_on}
-use Rattle.swi_dispatch_guest.specs.Calls.{call_answer, on_world}
+use Rattle.swi_dispatch_guest.specs.Calls.{call_answer, on_module_state}
 use Rattle.swi_dispatch_guest.specs.Errors.{with_error}
-use Rattle.swi_dispatch_guest.specs.MachineState.{MachineState, machine_estate, machine_world}
+use Rattle.swi_dispatch_guest.specs.MachineState.{MachineState, machine_area_store, machine_module_state}
 use Rattle.swi_dispatch_guest.specs.Step.{outcome_of_answer, os_module_called, os_module_called_for}
 use Rattle.law_blocks.proofs.HeapFrameLemmas.Areas.{heap_same}
 use Rattle.law_blocks.proofs.HeapFrameLemmas.BlockCalls.{block_calls_keep}
-use Rattle.law_blocks.proofs.HeapFrameLemmas.Guests.{estates_fit}
+use Rattle.law_blocks.proofs.HeapFrameLemmas.Guests.{area_stores_fit}
 use Rattle.law_blocks.specs.heap_frame.BlockLaws.{StayLive, WereLive, total_in}
-use Rattle.law_blocks.specs.heap_frame.FitEstates.{IsFitEstate}
+use Rattle.law_blocks.specs.heap_frame.FitAreaStores.{IsFitAreaStore}
 use Rattle.law_machine.proofs.HeapAloneLemmas.Keeping.{error_kept, off_system}
 use Rattle.law_machine.proofs.HeapAloneLemmas.LiveBytes.{payload_inside}
 use Rattle.law_machine.proofs.HeapAloneLemmas.States.{HasStore, IsGiven, given_same, given_stays, given_store, has_store, sound_store}
@@ -40,11 +40,11 @@ were_same : (s t : Store) → WereLive s t → KeepsAreaBlocks s t
 were_same s t were h g block total new_total a found found' live live' here there = (were block new_total (ap (total_in block) found' ∙ live')).1 a there
 
 module _ (s : MachineState) (has : HasStore s) where
-  fit : IsFitEstate (machine_estate s)
-  fit = estates_fit (machine_estate s) has.estate
+  fit : IsFitAreaStore (machine_area_store s)
+  fit = area_stores_fit (machine_area_store s) has.area_store
 
-  abbrev Keeps : Result (State × World) Refusal → Type 0
-  Keeps (Ok q) = KeepsAreaBlocks s.store q.1.estate.store
+  abbrev Keeps : Result (State × ModuleState) Refusal → Type 0
+  Keeps (Ok q) = KeepsAreaBlocks s.store q.1.area_store.store
   Keeps (Err e) = Unit {0}
 
   error_keeps : (e : Refusal) → KeepsAreaBlocks s.store (with_error s e).store
@@ -54,37 +54,37 @@ module _ (s : MachineState) (has : HasStore s) where
       (error_kept h s.store s e (off_system s h has own) (heap_same h s.store own)).bytes a
       (payload_inside s.store h block total a (sound_store s has) own live here)
 
-  world_keeps : (x : Bool) (next : ℕ) (r : Result (State × World) Refusal) → Keeps r
-      → KeepsAreaBlocks s.store (outcome_of_answer s x (went_on s next (on_world s r))).now.store
-  world_keeps x next (Ok q) keeps = keeps
-  world_keeps true next (Err e) keeps = error_keeps e
-  world_keeps false next (Err e) keeps = λ h g block total new_total a found found' live live' here there. refl
+  module_state_keeps : (x : Bool) (next : ℕ) (r : Result (State × ModuleState) Refusal) → Keeps r
+      → KeepsAreaBlocks s.store (outcome_of_answer s x (went_on s next (on_module_state s r))).now.store
+  module_state_keeps x next (Ok q) keeps = keeps
+  module_state_keeps true next (Err e) keeps = error_keeps e
+  module_state_keeps false next (Err e) keeps = λ h g block total new_total a found found' live live' here there. refl
 
-  claim_keeps : (r : Result (Estate × ℕ) ErrorNumber) → rma_claimed (machine_estate s) (register_of s.cpu 3) ≡ r
-      → Keeps (bind (or_error r) (λ q. Ok (with_register s.cpu 2 q.1, record (machine_world s) { estate = q.0 })))
-  claim_keeps (Ok q) is = stay_same s.store q.0.store ((block_calls_keep (machine_estate s) q.0 fit).claim (register_of s.cpu 3) q.1 is)
+  claim_keeps : (r : Result (AreaStore × ℕ) ErrorNumber) → rma_claimed (machine_area_store s) (register_of s.cpu 3) ≡ r
+      → Keeps (bind (or_error r) (λ q. Ok (with_register s.cpu 2 q.1, record (machine_module_state s) { area_store = q.0 })))
+  claim_keeps (Ok q) is = stay_same s.store q.0.store ((block_calls_keep (machine_area_store s) q.0 fit).claim (register_of s.cpu 3) q.1 is)
   claim_keeps (Err e) is = tt
 
-  free_keeps : (r : Result (Estate × Unit {0}) ErrorNumber) → rma_freed (machine_estate s) (register_of s.cpu 2) ≡ r
-      → Keeps (bind (or_error r) (λ q. Ok (s.cpu, record (machine_world s) { estate = q.0 })))
-  free_keeps (Ok q) is = were_same s.store q.0.store ((block_calls_keep (machine_estate s) q.0 fit).free (register_of s.cpu 2) is)
+  free_keeps : (r : Result (AreaStore × Unit {0}) ErrorNumber) → rma_freed (machine_area_store s) (register_of s.cpu 2) ≡ r
+      → Keeps (bind (or_error r) (λ q. Ok (s.cpu, record (machine_module_state s) { area_store = q.0 })))
+  free_keeps (Ok q) is = were_same s.store q.0.store ((block_calls_keep (machine_area_store s) q.0 fit).free (register_of s.cpu 2) is)
   free_keeps (Err e) is = tt
 
-  claimed : Keeps (area_called_for s.cpu (machine_world s) (Some reason.Claim))
-  claimed = claim_keeps (rma_claimed (machine_estate s) (register_of s.cpu 3)) refl
+  claimed : Keeps (area_called_for s.cpu (machine_module_state s) (Some reason.Claim))
+  claimed = claim_keeps (rma_claimed (machine_area_store s) (register_of s.cpu 3)) refl
 
-  freed : Keeps (area_called_for s.cpu (machine_world s) (Some reason.Free))
-  freed = free_keeps (rma_freed (machine_estate s) (register_of s.cpu 2)) refl
+  freed : Keeps (area_called_for s.cpu (machine_module_state s) (Some reason.Free))
+  freed = free_keeps (rma_freed (machine_area_store s) (register_of s.cpu 2)) refl
 
-  area_keeps : (why : ModuleReason) → module_reason (register_of s.cpu 0) ≡ Some why → Keeps (area_called_for s.cpu (machine_world s) (Some why))
-      → Keeps (area_called s.cpu (machine_world s))
+  area_keeps : (why : ModuleReason) → module_reason (register_of s.cpu 0) ≡ Some why → Keeps (area_called_for s.cpu (machine_module_state s) (Some why))
+      → Keeps (area_called s.cpu (machine_module_state s))
   unfolding area_called
-  area_keeps why is keeps = subst (λ (o : Option ModuleReason). Keeps (area_called_for s.cpu (machine_world s) o)) (sym is) keeps
+  area_keeps why is keeps = subst (λ (o : Option ModuleReason). Keeps (area_called_for s.cpu (machine_module_state s) o)) (sym is) keeps
 
-  answer_keeps : (x : Bool) (next number : ℕ) → Keeps (area_called s.cpu (machine_world s))
+  answer_keeps : (x : Bool) (next number : ℕ) → Keeps (area_called s.cpu (machine_module_state s))
       → KeepsAreaBlocks s.store (outcome_of_answer s x (call_answer s next number (Some swi.Module))).now.store
   unfolding call_answer
-  answer_keeps x next number keeps = world_keeps x next (area_called s.cpu (machine_world s)) keeps
+  answer_keeps x next number keeps = module_state_keeps x next (area_called s.cpu (machine_module_state s)) keeps
 
   pub called_keeps : (images : List Entry) (x : Bool) (next number : ℕ)
       → (module_reason (register_of s.cpu 0) ≡ Some reason.Claim) ⊎ (module_reason (register_of s.cpu 0) ≡ Some reason.Free)

@@ -1,6 +1,6 @@
 -- Over any move, the blocks of a heap that a guest made, and in which no heap lies or is made, keep
 -- what they hold, but for what an instruction stores.
-use Rattle.swi_dispatch_guest.specs.Moves.{Call, Step, machine_with_words, machine_after_move, swi_of_turn}
+use Rattle.swi_dispatch_guest.specs.Moves.{Call, Step, machine_with_words, machine_after_event, swi_of_turn}
 use Rattle.std.proofs.Common.{ℕ, ◌≡◌, ◌≢◌, ◌-◌, ◌+◌, ◌%◌, ◌^◌, ◌∙◌, ◌⊎◌, Bool, true, false, List, Option, Some, Result, Ok, Err, refl, sym, ap, subst, inl, inr}
 use Rattle.std.proofs.lemmas.Bool.{cases_Bool, cases_eq, true≢false}
 use Rattle.profile.specs.SwiNames.{swi_of}
@@ -9,8 +9,8 @@ use Rattle.profile.specs.declared.swi.SwiName.{SwiName}
 use Rattle.profile.specs.declared.swi.SwiName.TheVariants as swi
 use Rattle.address_map.specs.Bytes.{Bytes, in_range}
 use Rattle.arm_core.specs.State.{State, register_of}
-use Rattle.arm_core.specs.declared.turn.Turn.{Turn}
-use Rattle.arm_core.specs.declared.turn.Turn.TheVariants as turn
+use Rattle.arm_core.specs.declared.turn.StepEnd.{StepEnd}
+use Rattle.arm_core.specs.declared.turn.StepEnd.TheVariants as turn
 use Rattle.image_loader.specs.Entries.{Entry}
 use Rattle.os_heap_words.specs.lists.Heap.{HeapList}
 use Rattle.os_heap_words.specs.lists.Lists.{live_total}
@@ -18,7 +18,7 @@ use Rattle.os_heap.specs.Calls.{OfHeap, has_own_size}
 use Rattle.os_heap.specs.Store.{IsSound, Store, find_heap}
 use Rattle.law_blocks.proofs.HeapCallsLemmas.NoHeapInside.{whole_recorded}
 use Rattle.law_blocks.specs.heap_calls.Laws.{HeapHasNoAnchor, HoldsNoHeap, IsLeftWhole}
-use Rattle.swi_dispatch_guest.proofs.NextTurn.{awake_step, outside_call}
+use Rattle.swi_dispatch_guest.proofs.NextTurn.{unhalted_step, outside_call}
 use Rattle.swi_dispatch_guest.specs.MachineState.{MachineState, StepOutcome}
 use Rattle.swi_dispatch_guest.specs.Step.{outcome_of_call, result_of_instruction, machine_step, store_called, outcome_of_turn, without_x}
 use Rattle.law_machine.proofs.HeapAloneLemmas.Gates.{gate_keeps}
@@ -64,7 +64,7 @@ module _ (images : List Entry) (s : MachineState) (h g : HeapList) (block total 
         (swi_keeps images s h has found own anchors host x next number (from_inside (swi_of number) s h away) (names_none (swi_of number) s h named) sound
         (whole (outcome_of_call images s x next number).now.store bare)).bytes a inside
 
-  pub turn_byte : (r : Result (State × Bytes) Turn) → result_of_instruction s ≡ r
+  pub turn_byte : (r : Result (State × Bytes) StepEnd) → result_of_instruction s ≡ r
       → (swi_of_turn r ≡ Some swi.FlexAlloc → in_range h.start h.end (register_of s.cpu 0) ≡ false)
       → IsSound (outcome_of_turn images s r).now.store → IsBareIn h g (outcome_of_turn images s r).now.store
       → ((outcome_of_turn images s r).now.store.bytes.at a ≡ s.store.bytes.at a) ⊎ IsStoredPlain s a
@@ -84,9 +84,9 @@ by_step s a A (inr stored) = inr (refl, stored)
 
 pub moves_keep : MovesKeepLiveBytes
 moves_keep images s h g Step block total new_total a has after named found bare live live' here there =
-    let step : machine_step images s ≡ outcome_of_turn images s (result_of_instruction s) = awake_step images s has.goes in
+    let step : machine_step images s ≡ outcome_of_turn images s (result_of_instruction s) = unhalted_step images s has.goes in
     let sound : IsSound (outcome_of_turn images s (result_of_instruction s)).now.store =
-    subst (λ (o : StepOutcome). IsSound o.now.store) step (sound_store (machine_after_move images s Step) (has_store (machine_after_move images s Step) after)) in
+    subst (λ (o : StepOutcome). IsSound o.now.store) step (sound_store (machine_after_event images s Step) (has_store (machine_after_event images s Step) after)) in
     let bare' : IsBareIn h g (outcome_of_turn images s (result_of_instruction s)).now.store = subst (λ (o : StepOutcome). IsBareIn h g o.now.store) step (found, bare) in
     by_step s a ((machine_step images s).now.store.bytes.at a ≡ s.store.bytes.at a)
     (subst (λ (o : StepOutcome). (o.now.store.bytes.at a ≡ s.store.bytes.at a) ⊎ IsStoredPlain s a) (sym step)
@@ -99,7 +99,7 @@ moves_keep images s h g (Call number words) block total new_total a has after na
     let stays : u.store ≡ s.store = given_stays s u same in
     let call : store_called images u number ≡ outcome_of_call images u true u.cpu.pc (without_x (number % 2 ^ 24)) = outside_call images u number (given_goes s u same ∙ has.goes) in
     let sound : IsSound (outcome_of_call images u true u.cpu.pc (without_x (number % 2 ^ 24))).now.store =
-    subst (λ (o : StepOutcome). IsSound o.now.store) call (sound_store (machine_after_move images s (Call number words)) (has_store (machine_after_move images s (Call number words)) after)) in
+    subst (λ (o : StepOutcome). IsSound o.now.store) call (sound_store (machine_after_event images s (Call number words)) (has_store (machine_after_event images s (Call number words)) after)) in
     let bare' : IsBareIn h g (outcome_of_call images u true u.cpu.pc (without_x (number % 2 ^ 24))).now.store =
     subst (λ (o : StepOutcome). IsBareIn h g o.now.store) call (found, bare) in
     let here_found : find_heap h.start u.store.heaps ≡ Some h = ap (λ (t : Store). find_heap h.start t.heaps) stays ∙ has.found in

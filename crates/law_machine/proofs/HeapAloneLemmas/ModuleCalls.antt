@@ -12,11 +12,11 @@ use Rattle.profile.specs.declared.swi.SwiName.TheVariants as swi
 use Rattle.arm_core.specs.State.{State, register_of, with_register}
 use Rattle.image_loader.specs.Entries.{Entry}
 use Rattle.os_heap_words.specs.lists.Heap.{HeapList}
-use Rattle.dynamic_areas.specs.Ground.{Estate}
+use Rattle.dynamic_areas.specs.Ground.{AreaStore}
 use Rattle.rma.specs.Calls.{rma_claimed, rma_extended, rma_freed}
 use Rattle.instances.proofs.GoingOn.{bound as bound_any}
 use Rattle.instances.specs.Reading.{instance_info}
-use Rattle.instances.specs.world.World.{World}
+use Rattle.instances.specs.module_state.ModuleState.{ModuleState}
 use Rattle.instances_table.specs.plans.Plans.{Plan}
 use Rattle.instances_table.specs.Changes.{preferring, modules_after_rename}
 use Rattle.instances_table.specs.Modules.{Module}
@@ -27,15 +27,15 @@ use Rattle.swi_dispatch_answers.specs.Words.{host_string}
 use Rattle.swi_dispatch_answers.specs.declared.refusal.Refusal.{Refusal}
 use Rattle.swi_dispatch_answers.specs.declared.refusal.Refusal.TheVariants as refusal
 use Rattle.swi_dispatch_plans.specs.modules.Calls.{result_of_module_call as area_called, module_called_for as area_called_for}
-use Rattle.swi_dispatch_plans.specs.modules.Naming.{instance_found, instance_preferred, instance_renamed, place_asked, with_told}
+use Rattle.swi_dispatch_plans.specs.modules.Naming.{instance_found, instance_preferred, instance_renamed, place_asked, with_shown}
 use Rattle.swi_dispatch_plans.specs.Openings.{opening_asked}
 use Rattle.swi_dispatch_plans.specs.declared.openings.Opening.{Opening}
 use Rattle.swi_dispatch_plans.specs.ImagePlans.{instantiation_planned}
 use Rattle.swi_dispatch_plans.specs.ModulePlans.{clear_planned, delete_planned, reinit_planned, tidy_planned}
 use Rattle.swi_dispatch_guest.specs.Additions.{Planned, copy_planned, insertion_planned, load_planned, named_load_planned, plan_alone}
 use Rattle.swi_dispatch_guest.specs.Answers.{refusal_answer, went_on}
-use Rattle.swi_dispatch_guest.specs.Calls.{call_answer, on_world}
-use Rattle.swi_dispatch_guest.specs.MachineState.{MachineState, StepOutcome, machine_world, quiet, setting_of, with_world}
+use Rattle.swi_dispatch_guest.specs.Calls.{call_answer, on_module_state}
+use Rattle.swi_dispatch_guest.specs.MachineState.{MachineState, StepOutcome, machine_module_state, silent, setting_of, with_module_state}
 use Rattle.swi_dispatch_guest.specs.Gates.{carried_on}
 use Rattle.swi_dispatch_guest.specs.ModuleStart.{module_opened}
 use Rattle.swi_dispatch_guest.specs.Returns.{gone_back}
@@ -43,77 +43,77 @@ use Rattle.swi_dispatch_guest.specs.Step.{outcome_of_planned, begun_alone, call_
 use Rattle.law_blocks.proofs.HeapFrameLemmas.Areas.{heap_same}
 use Rattle.law_blocks.proofs.HeapFrameLemmas.Holding.{keeps_all, keeps_both}
 use Rattle.law_blocks.proofs.HeapFrameLemmas.ModuleArea.{module_area_calls_fit}
-use Rattle.law_blocks.specs.heap_frame.FitEstates.{EstateStaysFit, IsFitEstate}
+use Rattle.law_blocks.specs.heap_frame.FitAreaStores.{AreaStoreStaysFit, IsFitAreaStore}
 use Rattle.law_blocks.specs.heap_frame.Fits.{KeepsOutside}
-use Rattle.law_blocks.specs.heap_frame.PlanLaws.{IsFitWorld}
+use Rattle.law_blocks.specs.heap_frame.PlanLaws.{IsFitModuleState}
 use Rattle.law_blocks.specs.heap_calls.Laws.{KeepsHeap}
 use Rattle.law_machine.proofs.HeapAloneLemmas.Keeping.{error_kept}
-use Rattle.law_machine.proofs.HeapAloneLemmas.ModuleHosts.{IsHost, KeepsRecorded, carried_out, fit_world, host_off, opened_out, outside_stays}
+use Rattle.law_machine.proofs.HeapAloneLemmas.ModuleHosts.{IsHost, KeepsRecorded, carried_out, fit_module_state, host_off, opened_out, outside_stays}
 use Rattle.law_machine.proofs.HeapAloneLemmas.ModulePlans.{IsFitPlan}
 use Rattle.law_machine.proofs.HeapAloneLemmas.PlansMade.{IsFitPlanned, alone_planned, clear_made, copy_made, delete_made, insertion_made, instantiation_made, load_made, named_load_made, opening_made, reinit_made, tidy_made}
 
--- calls that run no module code: what they leave of the world
-abbrev LeavesOut : World → State × World → Type 0
-LeavesOut w q = KeepsOutside w.estate.store q.1.estate.store
+-- calls that run no module code: what they leave of the module state
+abbrev LeavesOut : ModuleState → State × ModuleState → Type 0
+LeavesOut w q = KeepsOutside w.area_store.store q.1.area_store.store
 
-claimed_out : (cpu : State) (w : World) (r : Result (Estate × ℕ) ErrorNumber) → IfOk r (λ x. EstateStaysFit w.estate x.0)
-    → IfOk (bind (or_error r) (λ x. Ok (with_register cpu 2 x.1, record w { estate = x.0 }))) (LeavesOut w)
+claimed_out : (cpu : State) (w : ModuleState) (r : Result (AreaStore × ℕ) ErrorNumber) → IfOk r (λ x. AreaStoreStaysFit w.area_store x.0)
+    → IfOk (bind (or_error r) (λ x. Ok (with_register cpu 2 x.1, record w { area_store = x.0 }))) (LeavesOut w)
 claimed_out cpu w (Ok x) fit = fit.outside
 claimed_out cpu w (Err e) fit = tt
 
-freed_out : (cpu : State) (w : World) (r : Result (Estate × Unit {0}) ErrorNumber) → IfOk r (λ x. EstateStaysFit w.estate x.0)
-    → IfOk (bind (or_error r) (λ x. Ok (cpu, record w { estate = x.0 }))) (LeavesOut w)
+freed_out : (cpu : State) (w : ModuleState) (r : Result (AreaStore × Unit {0}) ErrorNumber) → IfOk r (λ x. AreaStoreStaysFit w.area_store x.0)
+    → IfOk (bind (or_error r) (λ x. Ok (cpu, record w { area_store = x.0 }))) (LeavesOut w)
 freed_out cpu w (Ok x) fit = fit.outside
 freed_out cpu w (Err e) fit = tt
 
-same_out : {A : Type 0} (w : World) (r : Result A ErrorNumber) (f : A → State) → IfOk (bind (or_error r) (λ a. Ok (f a, w))) (LeavesOut w)
-same_out w (Ok a) f = keeps_all w.estate.store
+same_out : {A : Type 0} (w : ModuleState) (r : Result A ErrorNumber) (f : A → State) → IfOk (bind (or_error r) (λ a. Ok (f a, w))) (LeavesOut w)
+same_out w (Ok a) f = keeps_all w.area_store.store
 same_out w (Err e) f = tt
 
-names_out : (cpu : State) (w : World) (r : Result (List Module) ErrorNumber)
+names_out : (cpu : State) (w : ModuleState) (r : Result (List Module) ErrorNumber)
     → IfOk (or_error (bind r (λ modules. Ok (cpu, record w { modules = modules })))) (LeavesOut w)
-names_out cpu w (Ok modules) = keeps_all w.estate.store
+names_out cpu w (Ok modules) = keeps_all w.area_store.store
 names_out cpu w (Err e) = tt
 
-found_out : {A : Type 0} (w : World) (r : Result A ErrorNumber) (f : A → State) → IfOk (or_error (bind r (λ a. Ok (f a, w)))) (LeavesOut w)
-found_out w (Ok a) f = keeps_all w.estate.store
+found_out : {A : Type 0} (w : ModuleState) (r : Result A ErrorNumber) (f : A → State) → IfOk (or_error (bind r (λ a. Ok (f a, w)))) (LeavesOut w)
+found_out w (Ok a) f = keeps_all w.area_store.store
 found_out w (Err e) f = tt
 
-module _ (cpu : State) (w : World) (fit : IsFitEstate w.estate) where
-  claim_fits : (r : Result (Estate × ℕ) ErrorNumber) → rma_claimed w.estate (register_of cpu 3) ≡ r → IfOk r (λ x. EstateStaysFit w.estate x.0)
-  claim_fits (Ok x) is = (module_area_calls_fit w.estate x.0 fit).claim (register_of cpu 3) x.1 is
+module _ (cpu : State) (w : ModuleState) (fit : IsFitAreaStore w.area_store) where
+  claim_fits : (r : Result (AreaStore × ℕ) ErrorNumber) → rma_claimed w.area_store (register_of cpu 3) ≡ r → IfOk r (λ x. AreaStoreStaysFit w.area_store x.0)
+  claim_fits (Ok x) is = (module_area_calls_fit w.area_store x.0 fit).claim (register_of cpu 3) x.1 is
   claim_fits (Err e) is = tt
 
-  free_fits : (r : Result (Estate × Unit {0}) ErrorNumber) → rma_freed w.estate (register_of cpu 2) ≡ r → IfOk r (λ x. EstateStaysFit w.estate x.0)
-  free_fits (Ok x) is = (module_area_calls_fit w.estate x.0 fit).free (register_of cpu 2) is
+  free_fits : (r : Result (AreaStore × Unit {0}) ErrorNumber) → rma_freed w.area_store (register_of cpu 2) ≡ r → IfOk r (λ x. AreaStoreStaysFit w.area_store x.0)
+  free_fits (Ok x) is = (module_area_calls_fit w.area_store x.0 fit).free (register_of cpu 2) is
   free_fits (Err e) is = tt
 
-  extend_fits : (r : Result (Estate × ℕ) ErrorNumber) → rma_extended w.estate (register_of cpu 2) (register_of cpu 3) ≡ r
-      → IfOk r (λ x. EstateStaysFit w.estate x.0)
-  extend_fits (Ok x) is = (module_area_calls_fit w.estate x.0 fit).extend (register_of cpu 2) (register_of cpu 3) x.1 is
+  extend_fits : (r : Result (AreaStore × ℕ) ErrorNumber) → rma_extended w.area_store (register_of cpu 2) (register_of cpu 3) ≡ r
+      → IfOk r (λ x. AreaStoreStaysFit w.area_store x.0)
+  extend_fits (Ok x) is = (module_area_calls_fit w.area_store x.0 fit).extend (register_of cpu 2) (register_of cpu 3) x.1 is
   extend_fits (Err e) is = tt
 
   renamed_out : IfOk (instance_renamed cpu w) (LeavesOut w)
   renamed_out =
-      bound_any (LeavesOut w) (or_error (string_in w.estate.store.bytes cpu 1)) _ (λ full.
-      bound_any (LeavesOut w) (or_error (string_in w.estate.store.bytes cpu 2)) _ (λ new.
+      bound_any (LeavesOut w) (or_error (string_in w.area_store.store.bytes cpu 1)) _ (λ full.
+      bound_any (LeavesOut w) (or_error (string_in w.area_store.store.bytes cpu 2)) _ (λ new.
       names_out cpu w (modules_after_rename w.modules full new)))
 
   preferred_out : IfOk (instance_preferred cpu w) (LeavesOut w)
   preferred_out =
-      bound_any (LeavesOut w) (or_error (string_in w.estate.store.bytes cpu 1)) _ (λ full. names_out cpu w (preferring w.modules full))
+      bound_any (LeavesOut w) (or_error (string_in w.area_store.store.bytes cpu 1)) _ (λ full. names_out cpu w (preferring w.modules full))
 
   looked_out : IfOk (instance_found cpu w) (LeavesOut w)
-  looked_out = bound_any (LeavesOut w) (or_error (string_in w.estate.store.bytes cpu 1)) _ (λ full. found_out w _ _)
+  looked_out = bound_any (LeavesOut w) (or_error (string_in w.area_store.store.bytes cpu 1)) _ (λ full. found_out w _ _)
 
   by_reason : (why : Option ModuleReason) → IfOk (area_called_for cpu w why) (LeavesOut w)
-  by_reason (Some reason.DescribeArea) = keeps_all w.estate.store
-  by_reason (Some reason.Claim) = claimed_out cpu w (rma_claimed w.estate (register_of cpu 3)) (claim_fits (rma_claimed w.estate (register_of cpu 3)) refl)
-  by_reason (Some reason.Free) = freed_out cpu w (rma_freed w.estate (register_of cpu 2)) (free_fits (rma_freed w.estate (register_of cpu 2)) refl)
-  by_reason (Some reason.Info) = same_out w (instance_info w.estate.store.bytes.at w.modules (place_asked cpu)) (with_told cpu)
+  by_reason (Some reason.DescribeArea) = keeps_all w.area_store.store
+  by_reason (Some reason.Claim) = claimed_out cpu w (rma_claimed w.area_store (register_of cpu 3)) (claim_fits (rma_claimed w.area_store (register_of cpu 3)) refl)
+  by_reason (Some reason.Free) = freed_out cpu w (rma_freed w.area_store (register_of cpu 2)) (free_fits (rma_freed w.area_store (register_of cpu 2)) refl)
+  by_reason (Some reason.Info) = same_out w (instance_info w.area_store.store.bytes.at w.modules (place_asked cpu)) (with_shown cpu)
   by_reason (Some reason.Extend) =
-      claimed_out cpu w (rma_extended w.estate (register_of cpu 2) (register_of cpu 3))
-      (extend_fits (rma_extended w.estate (register_of cpu 2) (register_of cpu 3)) refl)
+      claimed_out cpu w (rma_extended w.area_store (register_of cpu 2) (register_of cpu 3))
+      (extend_fits (rma_extended w.area_store (register_of cpu 2) (register_of cpu 3)) refl)
   by_reason (Some reason.Rename) = renamed_out
   by_reason (Some reason.Prefer) = preferred_out
   by_reason (Some reason.Lookup) = looked_out
@@ -140,8 +140,8 @@ module _ (s : MachineState) (h : HeapList) (host : IsHost s h) where
   abbrev Keeps : StepOutcome → Type 0
   Keeps o = KeepsRecorded h s.store o.now.store
 
-  fit : IsFitWorld (machine_world s)
-  fit = fit_world s host.modules
+  fit : IsFitModuleState (machine_module_state s)
+  fit = fit_module_state s host.modules
 
   error_keeps : (x : Bool) (next : ℕ) (e : Refusal) → KeepsHeap h s.store (outcome_of_answer s x (refusal_answer s next e)).now.store
   error_keeps true next e = error_kept h s.store s e (host_off s h host) same
@@ -150,24 +150,24 @@ module _ (s : MachineState) (h : HeapList) (host : IsHost s h) where
   pub refused_keeps : (x : Bool) (next : ℕ) (e : ErrorNumber) → KeepsHeap h s.store (call_refused s x next e).now.store
   refused_keeps x next e = error_keeps x next (refusal.System e)
 
-  world_keeps : (x : Bool) (next : ℕ) (r : Result (State × World) Refusal) → IfOk r (LeavesOut (machine_world s)) → Keeps (outcome_of_answer s x (went_on s next (on_world s r)))
-  world_keeps x next (Ok q) out = outside_stays s h q.1.estate.store host out
-  world_keeps x next (Err e) out = λ _. error_keeps x next e
+  module_state_keeps : (x : Bool) (next : ℕ) (r : Result (State × ModuleState) Refusal) → IfOk r (LeavesOut (machine_module_state s)) → Keeps (outcome_of_answer s x (went_on s next (on_module_state s r)))
+  module_state_keeps x next (Ok q) out = outside_stays s h q.1.area_store.store host out
+  module_state_keeps x next (Err e) out = λ _. error_keeps x next e
 
   area_keeps : (x : Bool) (next number : ℕ) → Keeps (outcome_of_answer s x (call_answer s next number (Some swi.Module)))
   unfolding call_answer
-  area_keeps x next number = world_keeps x next (area_called s.cpu (machine_world s)) (area_call_out s.cpu (machine_world s) fit.estate)
+  area_keeps x next number = module_state_keeps x next (area_called s.cpu (machine_module_state s)) (area_call_out s.cpu (machine_module_state s) fit.area_store)
 
   -- calls that may run module code
   begun_keeps : (x : Bool) (next : ℕ) (enters : Bool) (r : Result Planned ErrorNumber) → IfOk r (IsFitPlanned s) → Keeps (outcome_of_planned s x next enters r)
   unfolding outcome_of_planned
   begun_keeps x next enters (Err e) made = λ _. refused_keeps x next e
   begun_keeps x next enters (Ok w) made =
-      let t : MachineState = with_world s w.world in
+      let t : MachineState = with_module_state s w.module_state in
       let u : MachineState = carried_on t (call_of s x next enters) w.plan in
       let on : KeepsOutside t.store u.store =
-      carried_out t (call_of s x next enters) w.plan (record { estate = made.world.estate.fit; slots = made.world.slots }) made.plan in
-      outside_stays s h u.store host (keeps_both s.store t.store u.store made.world.estate.outside on)
+      carried_out t (call_of s x next enters) w.plan (record { area_store = made.module_state.area_store.fit; slots = made.module_state.slots }) made.plan in
+      outside_stays s h u.store host (keeps_both s.store t.store u.store made.module_state.area_store.outside on)
 
   alone_keeps : (x : Bool) (next : ℕ) (r : Result Plan ErrorNumber) → IfOk r IsFitPlan → Keeps (begun_alone s x next r)
   alone_keeps x next r made = begun_keeps x next false (bind r (λ p. Ok (plan_alone s p))) (alone_planned s r fit made)
@@ -176,7 +176,7 @@ module _ (s : MachineState) (h : HeapList) (host : IsHost s h) where
   entered_keeps x next (Err e) few = λ _. refused_keeps x next e
   entered_keeps x next (Ok o) few =
       let t : MachineState = module_opened (gone_back s.cpu.psr s false next) o in
-      outside_stays s h t.store host (opened_out (gone_back s.cpu.psr s false next) o.text.items o.start.slot o.start.at fit.estate few)
+      outside_stays s h t.store host (opened_out (gone_back s.cpu.psr s false next) o.text.items o.start.slot o.start.at fit.area_store few)
 
   module _ (images : List Entry) (x : Bool) (next number : ℕ) where
     reason_keeps : (why : Option ModuleReason) → Keeps (os_module_called_for images s x next number why)
@@ -214,7 +214,7 @@ module _ (s : MachineState) (h : HeapList) (host : IsHost s h) where
 
   -- a SWI of a module forgets none
   handled_by : (x : Bool) (next number : ℕ) (handler : Handler) (full : Bool)
-      → KeepsHeap h s.store (if full then call_refused s x next FrameLimit else quiet (handler_entered s (call_of s x next false) number handler)).now.store
+      → KeepsHeap h s.store (if full then call_refused s x next FrameLimit else silent (handler_entered s (call_of s x next false) number handler)).now.store
   handled_by x next number handler true = refused_keeps x next FrameLimit
   handled_by x next number handler false = same
 

@@ -60,15 +60,15 @@ module_swis_keep s h words x next number handler has =
     subst (λ (t : Store). KeepsHeap h t (outcome_of_module_swi (machine_with_words s words) x next number handler).now.store) a.stays
     (module_swi_keeps (machine_with_words s words) h a.host x next number handler)
 
-awake : (s : MachineState) (h : HeapList) (o : Option Halt) (a : StepOutcome) → find_heap h.start s.store.heaps ≡ Some h
+unhalted : (s : MachineState) (h : HeapList) (o : Option Halt) (a : StepOutcome) → find_heap h.start s.store.heaps ≡ Some h
     → KeepsRecorded h s.store a.now.store → KeepsRecorded h s.store (unless_halted s o a).now.store
-awake s h None a found kept = kept
-awake s h (Some why) a found kept = λ _. heap_same h s.store found
+unhalted s h None a found kept = kept
+unhalted s h (Some why) a found kept = λ _. heap_same h s.store found
 
 pub loads_keep : LoadsKeepHeap
 unfolding module_loaded
 loads_keep images s h text has =
-    awake s h s.halt (outcome_of_planned s true s.cpu.pc false (bind (ok_or (host_string text) BadString) (λ words. load_planned images s words false))) has.found
+    unhalted s h s.halt (outcome_of_planned s true s.cpu.pc false (bind (ok_or (host_string text) BadString) (λ words. load_planned images s words false))) has.found
     (loaded_keeps s h (host s h has) images true s.cpu.pc text)
 
 pub gates_keep : GatesKeepHeap

@@ -8,8 +8,8 @@ use Rattle.profile.specs.declared.swi.SwiName.{SwiName}
 use Rattle.profile.specs.declared.swi.SwiName.TheVariants as swi
 use Rattle.address_map.specs.Bytes.{Bytes}
 use Rattle.arm_core.specs.State.{State}
-use Rattle.arm_core.specs.declared.turn.Turn.{Turn}
-use Rattle.arm_core.specs.declared.turn.Turn.TheVariants as turn
+use Rattle.arm_core.specs.declared.turn.StepEnd.{StepEnd}
+use Rattle.arm_core.specs.declared.turn.StepEnd.TheVariants as turn
 use Rattle.image_loader.specs.Entries.{Entry}
 use Rattle.os_heap_words.specs.lists.Heap.{HeapList}
 use Rattle.os_heap.specs.Store.{Store}
@@ -38,21 +38,21 @@ module _ (images : List Entry) (s : MachineState) (h : HeapList) (here : IsHost 
   unfolding outcome_of_call
   module_called_keeps x next number is = named_keeps x next number (swi_of number) is
 
-  not_done : (r : Result (State × Bytes) Turn) → is_module_name (swi_of_turn r) ≡ true → KeepsRecorded h s.store (outcome_of_turn images s r).now.store
+  not_done : (r : Result (State × Bytes) StepEnd) → is_module_name (swi_of_turn r) ≡ true → KeepsRecorded h s.store (outcome_of_turn images s r).now.store
   not_done (Ok w) is = absurd (false≢true is)
   not_done (Err turn.Done) is = absurd (false≢true is)
   not_done (Err (turn.Swi n)) is = module_called_keeps (bit_of n 17) ((s.cpu.pc + 4) % 2 ^ 26) (without_x n) is
   not_done (Err turn.Gate) is = absurd (false≢true is)
   not_done (Err (turn.Fault f)) is = absurd (false≢true is)
 
-  at_gate : (r : Result (State × Bytes) Turn) → is_at_gate r ≡ true → KeepsRecorded h s.store (outcome_of_turn images s r).now.store
+  at_gate : (r : Result (State × Bytes) StepEnd) → is_at_gate r ≡ true → KeepsRecorded h s.store (outcome_of_turn images s r).now.store
   at_gate (Ok w) is = absurd (false≢true is)
   at_gate (Err turn.Done) is = absurd (false≢true is)
   at_gate (Err (turn.Swi n)) is = absurd (false≢true is)
   at_gate (Err turn.Gate) is = gate_keeps s h here
   at_gate (Err (turn.Fault f)) is = absurd (false≢true is)
 
-  turn_keeps : (r : Result (State × Bytes) Turn) → (is_module_name (swi_of_turn r) || is_at_gate r) ≡ true → KeepsRecorded h s.store (outcome_of_turn images s r).now.store
+  turn_keeps : (r : Result (State × Bytes) StepEnd) → (is_module_name (swi_of_turn r) || is_at_gate r) ≡ true → KeepsRecorded h s.store (outcome_of_turn images s r).now.store
   turn_keeps r is = elim (or_cases (is_module_name (swi_of_turn r)) (is_at_gate r) is) [
     | inl name ↦ not_done r name
     | inr gate ↦ at_gate r gate

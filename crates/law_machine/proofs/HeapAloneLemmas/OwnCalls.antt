@@ -1,5 +1,5 @@
 -- An own call of the heap answers one turn of it, and leaves what the turn leaves.
-use Rattle.swi_dispatch_guest.specs.Moves.{Call, Move, Step, machine_with_words, machine_after_move, outside_name}
+use Rattle.swi_dispatch_guest.specs.Moves.{Call, Move, Step, machine_with_words, machine_after_event, outside_name}
 use Rattle.swi_dispatch_guest.proofs.NextTurn.{outside_call}
 use Rattle.std.proofs.Common.{ℕ, ◌≡◌, ◌==◌, ◌∙◌, ◌%◌, ◌^◌, Bool, true, false, List, [], ◌∷◌, Option, Some, None, Result, Ok, Err, refl, sym, ap, subst, if◌then◌else◌}
 use Rattle.std.proofs.lemmas.Bool.{and_parts, eqb-true, false≢true}
@@ -31,7 +31,7 @@ use Rattle.swi_dispatch_guest.specs.Errors.{error_number, with_error}
 use Rattle.swi_dispatch_guest.specs.MachineState.{MachineState, StepOutcome}
 use Rattle.swi_dispatch_guest.specs.Returns.{outcome_of_halt}
 use Rattle.swi_dispatch_guest.specs.Step.{outcome_of_call, called_by, outcome_of_answer, is_exit, without_x}
-use Rattle.swi_dispatch_guest.specs.Parts.{IsState}
+use Rattle.swi_dispatch_guest.specs.GuestState.{IsState}
 use Rattle.law_machine.proofs.HeapAloneLemmas.HeapAnswers.{Agree, heap_agrees, overflow_back, three_back, two_back}
 use Rattle.law_machine.proofs.HeapAloneLemmas.Keeping.{error_kept, kept_alone, off_system}
 use Rattle.law_machine.proofs.HeapAloneLemmas.States.{HasStore, IsGiven, given_goes, given_same, given_stays, given_store, guest_heap, has_store, mapped_block}
@@ -50,8 +50,8 @@ pub record Stands (s : MachineState) (start : ℕ) (w : Alone) : Type 0 where
 pub record OwnCall (images : List Entry) (s : MachineState) (h : HeapList) (m : Move) : Type 0 where
   pub call : HeapCall
   pub asked : asked_by h.start s m ≡ call ∷ []
-  pub reply : reply_of_machine (machine_after_move images s m) ≡ (turn_of_call (alone_in s.store h) call).reply
-  pub stands : Stands (machine_after_move images s m) h.start (turn_of_call (alone_in s.store h) call).now
+  pub reply : reply_of_machine (machine_after_event images s m) ≡ (turn_of_call (alone_in s.store h) call).reply
+  pub stands : Stands (machine_after_event images s m) h.start (turn_of_call (alone_in s.store h) call).now
 
 -- the machine after it, by what the call on the heap comes to
 abbrev after : MachineState → ℕ → Result (State × Store) Refusal → MachineState
@@ -150,7 +150,7 @@ heap_is : (cpu : State) (s : Store) (why : HeapReason) → heap_reason (register
 unfolding heap_called
 heap_is cpu s why reason = ap (heap_called_for cpu s) reason
 
--- as own calls are told
+-- as own calls are shown
 pub heap_swi : (o : Option SwiName) → is_heap_swi o ≡ true → o ≡ Some swi.Heap
 heap_swi (Some swi.Heap) is = refl
 heap_swi None is = absurd (false≢true is)
@@ -195,14 +195,14 @@ own_by images s h number words has move name reason at =
     let block : ℕ = register_of u.cpu 2 in
     let size : ℕ = register_of u.cpu 3 in
     let call : HeapCall = call_given u.store h reason.why block size in
-    let t : MachineState = machine_after_move images s (Call number words) in
+    let t : MachineState = machine_after_event images s (Call number words) in
     let is : t ≡ after u next (heap_called_for u.cpu u.store (Some reason.why)) =
     ap (λ (o : StepOutcome). o.now) (outside_call images u number (given_goes s u same ∙ has.goes))
     ∙ called_is images u next (without_x (number % 2 ^ 24)) name
     ∙ ap (after u next) (heap_is u.cpu u.store reason.why reason.is) in
     let turn : heap_turn_of_result (alone_in u.store h) (call_on u.store h.start reason.why block size) ≡ turn_of_call (alone_in u.store h) call =
     own_turns u.store h reason.why block size guest reason.on in
-    let told : IsReplied t h (call_on u.store h.start reason.why block size) (alone_in u.store h) =
+    let reported : IsReplied t h (call_on u.store h.start reason.why block size) (alone_in u.store h) =
     subst (λ (x : MachineState). IsReplied x h (call_on u.store h.start reason.why block size) (alone_in u.store h)) (sym is)
     (own_replied u h (given_store s u store same) guest next reason.why reason.on at) in
     let by_turn : heap_turn_of_result (alone_in u.store h) (call_on u.store h.start reason.why block size) ≡ turn_of_call (alone_in s.store h) call =
@@ -213,9 +213,9 @@ own_by images s h number words has move name reason at =
           ap (λ (x : Store). heap_calls_of_swi x u.cpu (heap_reason (register_of u.cpu 0)) (find_heap h.start x.heaps)) (sym (given_stays s u same))
           ∙ ap (λ (o : Option HeapReason). heap_calls_of_swi u.store u.cpu o (find_heap h.start u.store.heaps)) reason.is
           ∙ ap (heap_calls_of_swi u.store u.cpu (Some reason.why)) guest.found;
-      reply = told.reply ∙ ap (λ (x : HeapTurn). x.reply) by_turn;
+      reply = reported.reply ∙ ap (λ (x : HeapTurn). x.reply) by_turn;
       stands = stands_left t h.start (turn_of_call (alone_in s.store h) call).now move.state move.goes
-          (subst (λ (x : HeapTurn). HeapLeft t.store h.start x.now) by_turn told.left);
+          (subst (λ (x : HeapTurn). HeapLeft t.store h.start x.now) by_turn reported.left);
     }
 
 pub own_call : (images : List Entry) (s : MachineState) (h : HeapList) (m : Move) → HasHeap s h → IsMoveDone images h.start s m

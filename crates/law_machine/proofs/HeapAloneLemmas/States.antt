@@ -6,21 +6,21 @@ use Rattle.arm_core.specs.State.{State}
 use Rattle.os_heap_words.specs.lists.Heap.{HeapList}
 use Rattle.os_heap.specs.Store.{IsSound, store_of}
 use Rattle.dynamic_areas.proofs.HeapCalls.{system_mapped}
-use Rattle.dynamic_areas.specs.Ground.{IsEstate, IsRecorded, system_pages_range}
+use Rattle.dynamic_areas.specs.Ground.{IsAreaStore, IsRecorded, system_pages_range}
 use Rattle.instances_table.specs.plans.Plans.{Plan}
 use Rattle.instances_table.specs.Modules.{AreModules}
 use Rattle.instances_table.specs.declared.parts.Image.{Image}
 use Rattle.swi_dispatch_answers.specs.flex_frame.Ground.{HasFlex}
-use Rattle.instances.specs.world.Sound.{AreSolid}
-use Rattle.instances.specs.world.World.{World}
+use Rattle.instances.specs.module_state.Sound.{AreSolid}
+use Rattle.instances.specs.module_state.ModuleState.{ModuleState}
 use Rattle.law_blocks.proofs.SlidingLemmas.Turns.{machines_have}
 use Rattle.law_blocks.specs.sliding.Meaning.{AreStores, Stores}
 use Rattle.instances.specs.Turns.{MayGoOn}
 use Rattle.instances.specs.actions.Pending.{is_pending, pending_of}
 use Rattle.law_blocks.specs.heap_calls.Laws.{AreImagesFull, IsGuestHeap}
 use Rattle.swi_dispatch_guest.proofs.FlexCalls.{pending_one}
-use Rattle.swi_dispatch_guest.specs.MachineState.{MachineState, machine_estate, machine_world}
-use Rattle.swi_dispatch_guest.specs.Parts.{IsGuest, IsState, Parts, parts_world, state_of}
+use Rattle.swi_dispatch_guest.specs.MachineState.{MachineState, machine_area_store, machine_module_state}
+use Rattle.swi_dispatch_guest.specs.GuestState.{IsGuest, IsState, GuestState, parts_module_state, state_of}
 use Rattle.law_machine.proofs.HeapAloneLemmas.HeapAnswers.{set_length}
 use Rattle.law_machine.specs.heap_alone.Laws.{HasHeap}
 use Rattle.swi_dispatch_guest.specs.Moves.{with_registers}
@@ -28,10 +28,10 @@ use Rattle.swi_dispatch_guest.specs.Writes.{machine_with_register}
 
 -- what flex calls act on
 abbrev pub stores_in : MachineState → List Image → Stores
-stores_in s pending = record { world = machine_world s; flex = s.tables.flex; pending = pending }
+stores_in s pending = record { module_state = machine_module_state s; flex = s.tables.flex; pending = pending }
 
 pub record HasStore (s : MachineState) : Type 0 where
-  pub estate : IsEstate (machine_estate s)
+  pub area_store : IsAreaStore (machine_area_store s)
   pub system : IsRecorded system_pages_range s.store.others
   pub images : AreImagesFull s.store.others
   pub pending : List Image
@@ -39,37 +39,37 @@ pub record HasStore (s : MachineState) : Type 0 where
   pub size : length s.cpu.file ≡ 26
 
 pub sound_store : (s : MachineState) → HasStore s → IsSound s.store
-sound_store s has = has.estate.ground.sound
+sound_store s has = has.area_store.ground.sound
 
 -- the block of the system's errors is there
 pub mapped_block : (s : MachineState) → HasStore s → s.store.bytes.mapped error_block_start ≡ true
-mapped_block s has = system_mapped s.store s.pool s.tables.land has.estate error_block_start refl
+mapped_block s has = system_mapped s.store s.pool s.tables.area_table has.area_store error_block_start refl
 
 images_full : (rs : List Region) → AreSolid rs → AreImagesFull rs
 images_full [] solid = tt
 images_full (r ∷ rs) solid = ((λ image. (solid.0 image).some), images_full rs solid.1)
 
-going_solid : (w : World) (plan : Option Plan) → MayGoOn w plan → AreSolid w.estate.store.others
+going_solid : (w : ModuleState) (plan : Option Plan) → MayGoOn w plan → AreSolid w.area_store.store.others
 going_solid w None going = going.solid
-going_solid w (Some p) going = going.1.world.solid
+going_solid w (Some p) going = going.1.module_state.solid
 
 pending_in : Option Plan → List Image
 pending_in None = []
 pending_in (Some q) = pending_of q
 
-stores_by : (p : Parts) (plan : Option Plan) → MayGoOn (parts_world p) plan → HasFlex p.map p.tables.flex → AreModules p.tables.modules
+stores_by : (p : GuestState) (plan : Option Plan) → MayGoOn (parts_module_state p) plan → HasFlex p.map p.tables.flex → AreModules p.tables.modules
     → AreStores (stores_in (state_of p) (pending_in plan))
 unfolding pending_in
-stores_by p None going flex modules = machines_have p.map p.tables.land p.tables.modules [] p.tables.flex going flex modules (lit≤ tt)
+stores_by p None going flex modules = machines_have p.map p.tables.area_table p.tables.modules [] p.tables.flex going flex modules (lit≤ tt)
 stores_by p (Some q) going flex modules =
-    machines_have p.map p.tables.land p.tables.modules (pending_of q) p.tables.flex going.1.world flex modules
+    machines_have p.map p.tables.area_table p.tables.modules (pending_of q) p.tables.flex going.1.module_state flex modules
     (pending_one (is_pending q.actions) q.given)
 
-parts_store : (p : Parts) → IsGuest p → HasStore (state_of p)
+parts_store : (p : GuestState) → IsGuest p → HasStore (state_of p)
 parts_store p machine = record {
-  estate = machine.well_formed.areas;
+  area_store = machine.well_formed.areas;
   system = machine.well_formed.system;
-  images = images_full (store_of p.map).others (going_solid (parts_world p) p.tables.plan machine.well_formed.modules);
+  images = images_full (store_of p.map).others (going_solid (parts_module_state p) p.tables.plan machine.well_formed.modules);
   pending = pending_in p.tables.plan;
   stores = stores_by p p.tables.plan machine.well_formed.modules machine.well_formed.flex machine.modules;
   size = machine.core.size;
@@ -98,7 +98,7 @@ given_same s n (v ∷ vs) size =
 pub given_store : (s t : MachineState) → HasStore s → IsGiven s t → HasStore t
 given_store s t has same =
     let on : HasStore (with_cpu s same.cpu) = record {
-      estate = has.estate;
+      area_store = has.area_store;
       system = has.system;
       images = has.images;
       pending = has.pending;

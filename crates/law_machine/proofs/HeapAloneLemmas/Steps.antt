@@ -1,5 +1,5 @@
 -- What a move that isn't a call on a heap leaves of it: all of it, where it leaves it whole.
-use Rattle.swi_dispatch_guest.specs.Moves.{Call, Move, Step, machine_with_words, machine_after_move, outside_name, swi_of_turn}
+use Rattle.swi_dispatch_guest.specs.Moves.{Call, Move, Step, machine_with_words, machine_after_event, outside_name, swi_of_turn}
 use Rattle.std.proofs.Common.{ℕ, ◌≡◌, ◌≢◌, ◌+◌, ◌%◌, ◌^◌, ◌==◌, ◌&&◌, ◌∙◌, Bool, true, false, List, Option, Some, None, Result, Ok, Err, refl, sym, ap, subst, inl, inr}
 use Rattle.std.proofs.lemmas.Bool.{and_parts, cases_Bool, eqb-true, false_from_ne_true}
 use Rattle.profile.specs.Reasons.{heap_reason}
@@ -10,15 +10,15 @@ use Rattle.profile.specs.declared.swi.SwiName.{SwiName}
 use Rattle.profile.specs.declared.swi.SwiName.TheVariants as swi
 use Rattle.address_map.specs.Bytes.{Bytes, in_range}
 use Rattle.arm_core.specs.State.{State, register_of}
-use Rattle.arm_core.specs.declared.turn.Turn.{Turn}
-use Rattle.arm_core.specs.declared.turn.Turn.TheVariants as turn
+use Rattle.arm_core.specs.declared.turn.StepEnd.{StepEnd}
+use Rattle.arm_core.specs.declared.turn.StepEnd.TheVariants as turn
 use Rattle.image_loader.specs.Entries.{Entry}
 use Rattle.os_heap_words.specs.lists.Heap.{HeapList}
 use Rattle.os_heap.specs.Calls.{has_own_size}
 use Rattle.os_heap.specs.Store.{IsSound, Store, find_heap, owned_in}
 use Rattle.law_blocks.proofs.HeapCallsLemmas.NoHeapInside.{whole_recorded}
 use Rattle.law_blocks.specs.heap_calls.Laws.{HeapHasNoAnchor, IsLeftWhole, KeepsHeap}
-use Rattle.swi_dispatch_guest.proofs.NextTurn.{awake_step, outside_call}
+use Rattle.swi_dispatch_guest.proofs.NextTurn.{unhalted_step, outside_call}
 use Rattle.swi_dispatch_guest.specs.MachineState.{MachineState, StepOutcome}
 use Rattle.swi_dispatch_guest.specs.Step.{outcome_of_call, result_of_instruction, machine_step, store_called, outcome_of_turn, without_x}
 use Rattle.law_machine.proofs.HeapAloneLemmas.Called.{IsElsewhere, IsHeapElsewhere, called_keeps}
@@ -78,7 +78,7 @@ module _ (images : List Entry) (s : MachineState) (h : HeapList) (has : HasStore
   ]
 
   -- what the instruction does, or what it asks for
-  turn_keeps : (r : Result (State × Bytes) Turn) → result_of_instruction s ≡ r
+  turn_keeps : (r : Result (State × Bytes) StepEnd) → result_of_instruction s ≡ r
       → ((a : ℕ) → in_range h.start h.end a ≡ true → is_stored s.cpu s.store.bytes a ≡ false)
       → (swi_of_turn r ≡ Some swi.Heap → register_of s.cpu 1 ≢ h.start)
       → (swi_of_turn r ≡ Some swi.FlexAlloc → in_range h.start h.end (register_of s.cpu 0) ≡ false)
@@ -97,12 +97,12 @@ module _ (images : List Entry) (s : MachineState) (h : HeapList) (has : HasStore
   turn_keeps (Err (turn.Fault f)) is stores calls named sound left = same
 
 pub move_keeps : (images : List Entry) (s : MachineState) (h : HeapList) (m : Move) → HasHeap s h → IsMoveDone images h.start s m
-    → is_own h.start s m ≡ false → KeepsHeap h s.store (machine_after_move images s m).store
+    → is_own h.start s m ≡ false → KeepsHeap h s.store (machine_after_event images s m).store
 move_keeps images s h Step has move other =
-    let step : machine_step images s ≡ outcome_of_turn images s (result_of_instruction s) = awake_step images s has.goes in
+    let step : machine_step images s ≡ outcome_of_turn images s (result_of_instruction s) = unhalted_step images s has.goes in
     let aside : IsAside s h Step = move.aside h has.found in
     let sound : IsSound (outcome_of_turn images s (result_of_instruction s)).now.store =
-    subst (λ (o : StepOutcome). IsSound o.now.store) step (sound_store (machine_after_move images s Step) (has_store (machine_after_move images s Step) move.state)) in
+    subst (λ (o : StepOutcome). IsSound o.now.store) step (sound_store (machine_after_event images s Step) (has_store (machine_after_event images s Step) move.state)) in
     let left : IsLeftWhole (outcome_of_turn images s (result_of_instruction s)).now.store h.start =
     subst (λ (o : StepOutcome). IsLeftWhole o.now.store h.start) step (move.left other) in
     subst (λ (o : StepOutcome). KeepsHeap h s.store o.now.store) (sym step)
@@ -114,7 +114,7 @@ move_keeps images s h (Call number words) has move other =
     let same : IsGiven s u = given_same s 0 words store.size in
     let call : store_called images u number ≡ outcome_of_call images u true u.cpu.pc (without_x (number % 2 ^ 24)) = outside_call images u number (given_goes s u same ∙ has.goes) in
     let sound : IsSound (outcome_of_call images u true u.cpu.pc (without_x (number % 2 ^ 24))).now.store =
-    subst (λ (o : StepOutcome). IsSound o.now.store) call (sound_store (machine_after_move images s (Call number words)) (has_store (machine_after_move images s (Call number words)) move.state)) in
+    subst (λ (o : StepOutcome). IsSound o.now.store) call (sound_store (machine_after_event images s (Call number words)) (has_store (machine_after_event images s (Call number words)) move.state)) in
     let left : IsLeftWhole (outcome_of_call images u true u.cpu.pc (without_x (number % 2 ^ 24))).now.store h.start =
     subst (λ (o : StepOutcome). IsLeftWhole o.now.store h.start) call (move.left other) in
     let found : find_heap h.start u.store.heaps ≡ Some h = ap (λ (t : Store). find_heap h.start t.heaps) (given_stays s u same) ∙ has.found in

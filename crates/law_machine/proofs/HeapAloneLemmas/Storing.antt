@@ -13,7 +13,7 @@ use Rattle.arm_decode.specs.declared.action.Action.TheVariants as action
 use Rattle.arm_decode.specs.declared.action.BlockTransfer.{BlockTransfer}
 use Rattle.arm_decode.specs.declared.action.Transfer.{Transfer}
 use Rattle.arm_decode.specs.declared.condition.Condition.{Condition}
-use Rattle.arm_core.specs.declared.turn.Turn.{Turn}
+use Rattle.arm_core.specs.declared.turn.StepEnd.{StepEnd}
 use Rattle.arm_core.specs.Listed.{registers_of_list}
 use Rattle.arm_step.specs.Blocks.{block_base, block_loaded, transferred_count, block_start, block_stored, result_of_block_transfer, block_value, block_values, with_block_base}
 use Rattle.arm_core.specs.Conditions.{condition_holds}
@@ -36,7 +36,7 @@ left_loaded : (A : Type 0) (b : Bytes) (a : ℕ) (k : A → State) (r : Result A
 left_loaded A b a k (Ok v) = refl
 left_loaded A b a k (Err f) = tt
 
-left_or : (b : Bytes) (a : ℕ) (r : Result (State × Bytes) Fault) → LeavesByte Fault b a r → LeavesByte Turn b a (or_fault r)
+left_or : (b : Bytes) (a : ℕ) (r : Result (State × Bytes) Fault) → LeavesByte Fault b a r → LeavesByte StepEnd b a (or_fault r)
 left_or b a (Ok w) same = same
 left_or b a (Err f) same = tt
 
@@ -95,7 +95,7 @@ block_left : (owned : ℕ → Bool) (s : State) (b : Bytes) (t : BlockTransfer) 
 unfolding result_of_block_transfer
 block_left owned s b t a out = block_by owned s b t a t.loads out
 
-acted_left : (owned : ℕ → Bool) (s : State) (b : Bytes) (i : Action) (a : ℕ) → stores_by s i a ≡ false → LeavesByte Turn b a (result_of_action owned s b i)
+acted_left : (owned : ℕ → Bool) (s : State) (b : Bytes) (i : Action) (a : ℕ) → stores_by s i a ≡ false → LeavesByte StepEnd b a (result_of_action owned s b i)
 unfolding result_of_action
 acted_left owned s b (action.Operate o) a out = refl
 acted_left owned s b (action.Multiply m) a out = refl
@@ -105,19 +105,19 @@ acted_left owned s b (action.Branch links distance) a out = refl
 acted_left owned s b (action.SoftwareInterrupt n) a out = tt
 
 decoded_left : (owned : ℕ → Bool) (s : State) (b : Bytes) (r : Result (Condition × Action) Fault) (a : ℕ) → stores_if_decoded s r a ≡ false
-    → LeavesByte Turn b a (acted_if_decoded owned s b r)
+    → LeavesByte StepEnd b a (acted_if_decoded owned s b r)
 decoded_left owned s b (Ok i) a out = acted_left owned s b i.1 a out
 decoded_left owned s b (Err f) a out = tt
 
 fetched_left : (owned : ℕ → Bool) (s : State) (b : Bytes) (r : Result ℕ Fault) (a : ℕ) → stores_if_fetched s r a ≡ false
-    → LeavesByte Turn b a (executed_if_fetched owned s b r)
+    → LeavesByte StepEnd b a (executed_if_fetched owned s b r)
 fetched_left owned s b (Ok w) a out = elim (cases_Bool (condition_holds (condition_in w) s.psr)) [
   | inl is ↦ rw is (decoded_left owned s b (instruction_of_word w) a (rw is at out))
   | inr fails ↦ rw fails refl
 ]
 fetched_left owned s b (Err f) a out = tt
 
-stepped_left : (owned : ℕ → Bool) (s : State) (b : Bytes) (a : ℕ) → is_stored s b a ≡ false → LeavesByte Turn b a (result_of_step owned s b)
+stepped_left : (owned : ℕ → Bool) (s : State) (b : Bytes) (a : ℕ) → is_stored s b a ≡ false → LeavesByte StepEnd b a (result_of_step owned s b)
 unfolding result_of_step is_stored
 stepped_left owned s b a out = elim (cases_Bool (s.pc == return_gate)) [
   | inl gate ↦ rw gate tt
@@ -125,4 +125,4 @@ stepped_left owned s b a out = elim (cases_Bool (s.pc == return_gate)) [
 ]
 
 pub step_past : StepsLeaveBytes
-step_past owned s t b c a is out = subst (LeavesByte Turn b a) is (stepped_left owned s b a out)
+step_past owned s t b c a is out = subst (LeavesByte StepEnd b a) is (stepped_left owned s b a out)

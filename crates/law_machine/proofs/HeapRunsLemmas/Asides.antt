@@ -6,7 +6,7 @@ use Rattle.image_loader.specs.Entries.{Entry}
 use Rattle.os_heap_words.specs.lists.Heap.{HeapList}
 use Rattle.swi_dispatch.specs.MachineState.{MachineState}
 use Rattle.law_machine.specs.heap_alone.Laws.{IsAside}
-use Rattle.swi_dispatch.specs.Moves.{Call, Move, Step, machine_after_move, outside_name}
+use Rattle.swi_dispatch.specs.Moves.{Call, Move, Step, machine_after_event, outside_name}
 use Rattle.law_machine.specs.heap_runs.Calls.{CallsStandAside, are_plain_calls, is_anchored}
 
 is_step : Move → Bool
@@ -27,4 +27,4 @@ stand_aside images start s [] plain = tt
 stand_aside images start s (Step ∷ ms) plain = absurd (false≢true plain)
 stand_aside images start s (Call number words ∷ ms) plain =
     let parts = and_parts (not (is_anchored (outside_name number))) (are_plain_calls ms) plain in
-    ((λ h found. call_aside s h number words parts.0), stand_aside images start (machine_after_move images s (Call number words)) ms parts.1)
+    ((λ h found. call_aside s h number words parts.0), stand_aside images start (machine_after_event images s (Call number words)) ms parts.1)

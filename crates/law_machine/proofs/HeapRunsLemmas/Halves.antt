@@ -1,5 +1,5 @@
 -- What a heap answers by itself over the moves of a list that were done.
-use Rattle.swi_dispatch.specs.Moves.{Move, machine_after_move}
+use Rattle.swi_dispatch.specs.Moves.{Move, machine_after_event}
 use Rattle.std.proofs.Common.{ℕ, ◌≡◌, ◌∙◌, List, [], ◌∷◌, map, Some, None, refl, sym, ap, subst}
 use Rattle.image_loader.specs.Entries.{Entry}
 use Rattle.os_heap_words.specs.lists.Heap.{HeapList}
@@ -21,7 +21,7 @@ moves_done : (images : List Entry) (start : ℕ) (s : MachineState) (moves : Lis
 moves_done images start s [] going aside whole = tt
 moves_done images start s (m ∷ ms) going aside whole = (
   record { aside = aside.0; left = whole.0; state = going.0.state; goes = going.0.goes },
-  moves_done images start (machine_after_move images s m) ms going.1 aside.1 whole.1,
+  moves_done images start (machine_after_event images s m) ms going.1 aside.1 whole.1,
 )
 
 found_at : (s : MachineState) (start : ℕ) (h : HeapList) → StateHasHeapAt s start h → find_heap h.start s.store.heaps ≡ Some h
@@ -65,13 +65,13 @@ are_alike one two first second = λ h k here there same.
     let v : Alone = alone_in two.state.store k in
     let cs : List HeapCall = calls_in one.images h.start one.state one.moves in
     let ds : List HeapCall = calls_in two.images k.start two.state two.moves in
-    let told : replies w cs ≡ replies v ds = ap (λ (x : Alone). replies x cs) same.heap ∙ ap (replies v) same.calls in
+    let reported : replies w cs ≡ replies v ds = ap (λ (x : Alone). replies x cs) same.heap ∙ ap (replies v) same.calls in
     record {
       alike = record {
-        answers = a.stands.answers ∙ told ∙ sym b.stands.answers;
+        answers = a.stands.answers ∙ reported ∙ sym b.stands.answers;
         heap =
             a.stands.heap ∙ ap (λ (x : Alone). Some (heap_after_calls x cs)) same.heap
             ∙ ap (λ (xs : List HeapCall). Some (heap_after_calls v xs)) same.calls ∙ sym b.stands.heap;
       };
-      answers = a.answers ∙ ap noted_all told ∙ sym b.answers;
+      answers = a.answers ∙ ap noted_all reported ∙ sym b.answers;
     }

@@ -13,7 +13,7 @@ use Rattle.arm_core.specs.State.{register_of, with_register}
 use Rattle.image_loader.specs.Entries.{Entry}
 use Rattle.os_heap.specs.Store.{Store}
 use Rattle.dynamic_areas.specs.Areas.{extent_asked}
-use Rattle.dynamic_areas.specs.Ground.{Estate}
+use Rattle.dynamic_areas.specs.Ground.{AreaStore}
 use Rattle.dynamic_areas.specs.declared.area.Extent.{Extent}
 use Rattle.flex_store.specs.Calls.{flex_block_size}
 use Rattle.instances_table.specs.Lookup.{handler_of}
@@ -25,9 +25,9 @@ use Rattle.swi_dispatch_answers.specs.flex.Calls.{flex_called, state_in}
 use Rattle.swi_dispatch_plans.specs.store.Areas.{area_called, area_read, with_extent}
 use Rattle.swi_dispatch_guest.specs.declared.halt.Halt.TheVariants as halt
 use Rattle.swi_dispatch_guest.specs.Answers.{Answer, refusal_answer, went_on}
-use Rattle.swi_dispatch_guest.specs.Calls.{call_answer, machine_flex, on_estate, on_flex, printable_at, wrote_text_after, wrote_text_at}
+use Rattle.swi_dispatch_guest.specs.Calls.{call_answer, machine_flex, on_area_store, on_flex, printable_at, wrote_text_after, wrote_text_at}
 use Rattle.swi_dispatch_guest.specs.Errors.{with_error}
-use Rattle.swi_dispatch_guest.specs.MachineState.{MachineState, StepOutcome, machine_estate, quiet}
+use Rattle.swi_dispatch_guest.specs.MachineState.{MachineState, StepOutcome, machine_area_store, silent}
 use Rattle.swi_dispatch_guest.specs.Returns.{outcome_of_halt}
 use Rattle.swi_dispatch_guest.specs.Step.{call_of, call_refused, outcome_of_call, called_by, outcome_of_answer, outcome_of_end, handler_entered, is_exit, outcome_of_module_swi as handler_called}
 use Rattle.law_machine.proofs.HeapAloneLemmas.Rows.{is_flex_call}
@@ -43,7 +43,7 @@ IsOther name = (is_module_name name ≡ false) × ((is_heap_swi name ≡ false) 
 -- A property of stores that holds where nothing is changed, of an error's block, and of what a call
 -- on areas leaves.
 module _ (s : MachineState) (P : Store → Type 0) (same : P s.store) (error : (t : MachineState) (e : Refusal) → P t.store → P (with_error t e).store)
-    (calls : (e : Estate) → AreaCallHas (machine_estate s) P e) where
+    (calls : (e : AreaStore) → AreaCallHas (machine_area_store s) P e) where
   abbrev Left : Answer → Type 0
   Left a = P a.left.now.store
 
@@ -67,14 +67,14 @@ module _ (s : MachineState) (P : Store → Type 0) (same : P s.store) (error : (
   text_at next at None = same
   text_at next at (Some text) = same
 
-  read_went : (r : Result Extent ErrorNumber) → HasWent P (on_estate s (bind (or_error r) (λ x. Ok (with_extent s.cpu x, machine_estate s))))
+  read_went : (r : Result Extent ErrorNumber) → HasWent P (on_area_store s (bind (or_error r) (λ x. Ok (with_extent s.cpu x, machine_area_store s))))
   read_went (Ok x) = same
   read_went (Err e) = tt
 
-  read_has : (next : ℕ) → Left (went_on s next (on_estate s (area_read s.cpu (machine_estate s))))
+  read_has : (next : ℕ) → Left (went_on s next (on_area_store s (area_read s.cpu (machine_area_store s))))
   unfolding area_read
   read_has next =
-      went_has next (on_estate s (area_read s.cpu (machine_estate s))) (read_went (extent_asked s.tables.land.areas (register_of s.cpu 0)))
+      went_has next (on_area_store s (area_read s.cpu (machine_area_store s))) (read_went (extent_asked s.tables.area_table.areas (register_of s.cpu 0)))
 
   size_went : (r : Result ℕ ErrorNumber) → HasWent P (on_flex s (bind (or_error r) (λ n. Ok (with_register s.cpu 0 n, machine_flex s))))
   size_went (Ok n) = same
@@ -108,7 +108,7 @@ module _ (s : MachineState) (P : Store → Type 0) (same : P s.store) (error : (
   answer_has next number (Some swi.GenerateError) other = same
   answer_has next number (Some swi.ReadDynamicArea) other = read_has next
   answer_has next number (Some swi.DynamicArea) other =
-      went_has next (on_estate s (area_called s.cpu (machine_estate s))) (area_has s P same calls)
+      went_has next (on_area_store s (area_called s.cpu (machine_area_store s))) (area_has s P same calls)
   answer_has next number (Some swi.WriteI) other = same
   answer_has next number (Some swi.FlexInit) other = absurd (true≢false other.1.1)
   answer_has next number (Some swi.FlexAlloc) other = absurd (true≢false other.1.1)
@@ -124,7 +124,7 @@ module _ (s : MachineState) (P : Store → Type 0) (same : P s.store) (error : (
 
   abbrev entered : Bool → ℕ → ℕ → Handler → Bool → StepOutcome
   entered x next number handler full =
-      if full then call_refused s x next FrameLimit else quiet (handler_entered s (call_of s x next false) number handler)
+      if full then call_refused s x next FrameLimit else silent (handler_entered s (call_of s x next false) number handler)
 
   entered_has : (x : Bool) (next number : ℕ) (handler : Handler) (full : Bool) → P (entered x next number handler full).now.store
   entered_has x next number handler true = refused_has x next FrameLimit

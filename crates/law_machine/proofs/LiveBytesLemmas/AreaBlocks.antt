@@ -16,13 +16,13 @@ use Rattle.dynamic_areas.proofs.RoomLemmas.{found_number}
 use Rattle.dynamic_areas.specs.declared.area.Area.{Area}
 use Rattle.dynamic_areas.specs.Areas.{find_area}
 use Rattle.dynamic_areas.specs.Changing.{AreLoose, store_after_end, loose_pages, store_extended, store_less, with_heap_end}
-use Rattle.dynamic_areas.specs.Ground.{Estate, IsEstate}
+use Rattle.dynamic_areas.specs.Ground.{AreaStore, IsAreaStore}
 use Rattle.dynamic_areas.specs.Remapped.{without_pages_at}
 use Rattle.law_blocks.proofs.HeapFrameLemmas.BlockCalls.{ended_same, extended_same}
 use Rattle.law_blocks.proofs.HeapFrameLemmas.Blocks.{AreSame}
-use Rattle.law_blocks.proofs.HeapFrameLemmas.Guests.{estates_fit}
+use Rattle.law_blocks.proofs.HeapFrameLemmas.Guests.{area_stores_fit}
 use Rattle.law_blocks.specs.heap_frame.BlockLaws.{total_in}
-use Rattle.law_blocks.specs.heap_frame.FitEstates.{IsFitEstate}
+use Rattle.law_blocks.specs.heap_frame.FitAreaStores.{IsFitAreaStore}
 use Rattle.law_machine.proofs.LiveBytesLemmas.AreaCases.{HoldsAfter, area_call_has}
 use Rattle.law_machine.proofs.LiveBytesLemmas.Growing.{same_kept, same_then}
 use Rattle.law_machine.specs.live_bytes.AreaLaws.{AreaCallsKeepBoth, KeepsBoth}
@@ -40,12 +40,12 @@ out_kept s h at len found totals clear block total new_total a live live' here t
     let out : in_range at len a ≡ false = clear a (omega (arith, place.low, parts.0)) (omega (arith, place.high, place.size, parts.1)) in
     rw out refl
 
-module _ (d : Estate) (good : IsEstate d) where
-  fit : IsFitEstate d
-  fit = estates_fit d good
+module _ (d : AreaStore) (good : IsAreaStore d) where
+  fit : IsFitAreaStore d
+  fit = area_stores_fit d good
 
   known : IsModuleArea d.store fit.area
-  known = module_area_known d.store d.pool d.land fit.area good fit.found
+  known = module_area_known d.store d.pool d.area_table fit.area good fit.found
 
   -- pages of another area
   loose_kept : (area : Area) (count : ℕ) → AreLoose d.store area count
@@ -60,16 +60,16 @@ module _ (d : Estate) (good : IsEstate d) where
       (rw (le-leb m.heap.start a low, lt-ltb a (m.heap.start + m.heap.end) (omega (arith, high, m.spelled.inside))) refl)))
 
   -- pages of the module area go once its heap ends below them
-  module_reduced : (count : ℕ) (a : Area) → find_area 1 d.land.areas ≡ Some a → count ≤ loose_pages d.store a
+  module_reduced : (count : ℕ) (a : Area) → find_area 1 d.area_table.areas ≡ Some a → count ≤ loose_pages d.store a
       → KeepsBoth d.store (store_less (with_heap_end d.store (4096 * (a.pages - count))) count (Some a))
   module_reduced count a found fits =
       let s : Store = d.store in
       let end : ℕ = 4096 * (a.pages - count) in
-      let m : IsModuleArea s a = module_area_known s d.pool d.land a good found in
+      let m : IsModuleArea s a = module_area_known s d.pool d.area_table a good found in
       let h : HeapList = m.heap in
       let t : Store = ending s h end in
       let is : with_heap_end s end ≡ t = ap (λ (o : Option HeapList). store_after_end s end o) m.found in
-      let below : 16 + size_of h.items ≤ end = heap_below s d.pool d.land a count m (found_number 1 d.land.areas a found) fits in
+      let below : 16 + size_of h.items ≤ end = heap_below s d.pool d.area_table a count m (found_number 1 d.area_table.areas a found) fits in
       let at : ℕ = a.base + 4096 * (a.pages - count) in
       let same : AreSame s t = ended_same (4096 * fit.area.pages) end s h fit.store m.found in
       let left : HeapList = record { kind = h.kind; start = h.start; end = end; items = h.items } in

@@ -22,16 +22,16 @@ use Rattle.os_heap.proofs.Resizing.{larger_where_none}
 use Rattle.os_heap.specs.Calls.{block_sized, store_after_copy, gave_back, handed_over, store_holding, holds_anchor, store_after_move, store_after_resize, resized_or_moved, unless_image}
 use Rattle.os_heap.specs.Forgetting.{store_after_forget, holds_heap}
 use Rattle.os_heap.specs.Store.{Store, find_heap, has_image}
-use Rattle.dynamic_areas.specs.Ground.{Estate}
+use Rattle.dynamic_areas.specs.Ground.{AreaStore}
 use Rattle.rma.specs.Calls.{end_if_moved, end_in_place, grown_in_place, grown_to, in_area, is_full, or_as_before, resized_or_grown, rma_base, rma_extended}
 use Rattle.law_blocks.proofs.HeapFrameLemmas.BlockCalls.{SameGrown, WereLiveIn, gave_were, to_same}
 use Rattle.law_blocks.proofs.HeapFrameLemmas.Blocks.{AreSame, held_total, same_all, same_both, unspelled}
 use Rattle.law_blocks.proofs.HeapFrameLemmas.HeapCalls.{items_of_fit, unless_some}
 use Rattle.law_blocks.proofs.HeapFrameLemmas.Holding.{forgot_is_fit, held_is_fit, written_is_fit}
 use Rattle.law_blocks.proofs.HeapFrameLemmas.Lists.{HasRoomIfSome, resized_room}
-use Rattle.law_blocks.proofs.HeapFrameLemmas.ModuleArea.{OnEstate, OnGrown, to_fit}
+use Rattle.law_blocks.proofs.HeapFrameLemmas.ModuleArea.{OnAreaStore, OnGrown, to_fit}
 use Rattle.law_blocks.specs.heap_frame.BlockLaws.{StayLive, WereLive, total_in}
-use Rattle.law_blocks.specs.heap_frame.FitEstates.{IsFitEstate}
+use Rattle.law_blocks.specs.heap_frame.FitAreaStores.{IsFitAreaStore}
 use Rattle.law_blocks.specs.heap_frame.Fits.{IsFitStore}
 use Rattle.law_machine.proofs.LiveBytesLemmas.Growing.{same_then}
 use Rattle.law_machine.specs.live_bytes.AreaLaws.{ExtendsKeepBlocks, KeepsBoth}
@@ -178,21 +178,21 @@ resized_kept limit block change s f =
     sized_kept limit s h block change old f found (unless_some (has_image block s.others) (live_total block (h.start + 16) h.items) old is)))
 
 -- with the growth of the area
-abbrev KeepsFrom : Store → Estate × ℕ → Type 0
+abbrev KeepsFrom : Store → AreaStore × ℕ → Type 0
 KeepsFrom s x = KeepsBoth s x.0.store
 
-in_kept : (s : Store) (e : Estate) (r : Result (Store × ℕ) ErrorNumber) → AreSame s e.store → OnDone (KeepsIn e.store) r → OnEstate (KeepsFrom s) (in_area e r)
+in_kept : (s : Store) (e : AreaStore) (r : Result (Store × ℕ) ErrorNumber) → AreSame s e.store → OnDone (KeepsIn e.store) r → OnAreaStore (KeepsFrom s) (in_area e r)
 in_kept s e (Ok x) same done = same_then s e.store x.0 same done
 in_kept s e (Err f) same done = tt
 
-grown_kept : (s : Store) (e : Estate) (block change : ℕ) (o : Result Estate ErrorNumber) → AreSame s e.store → OnGrown e o → SameGrown e o
-    → OnEstate (KeepsFrom s) (bind o (λ g. in_area g (store_after_resize g.store module_area_start block change)))
+grown_kept : (s : Store) (e : AreaStore) (block change : ℕ) (o : Result AreaStore ErrorNumber) → AreSame s e.store → OnGrown e o → SameGrown e o
+    → OnAreaStore (KeepsFrom s) (bind o (λ g. in_area g (store_after_resize g.store module_area_start block change)))
 grown_kept s e block change (Err f) same fit grown = tt
 grown_kept s e block change (Ok g) same fit grown =
     in_kept s g (store_after_resize g.store module_area_start block change) (same_both s e.store g.store same grown)
     (resized_kept (4096 * fit.fit.area.pages) block change g.store fit.fit.store)
 
-or_grown_kept : (s : Store) (e : Estate) (block change : ℕ) → AreSame s e.store → IsFitEstate e → OnEstate (KeepsFrom s) (resized_or_grown e block change)
+or_grown_kept : (s : Store) (e : AreaStore) (block change : ℕ) → AreSame s e.store → IsFitAreaStore e → OnAreaStore (KeepsFrom s) (resized_or_grown e block change)
 or_grown_kept s e block change same f = elim (cases_Bool (is_full (store_after_resize e.store module_area_start block change))) [
   | inl full ↦
       let end : ℕ = end_if_moved (rma_base e.store) change (block_sized e.store module_area_start block) in
@@ -200,23 +200,23 @@ or_grown_kept s e block change same f = elim (cases_Bool (is_full (store_after_r
   | inr found ↦ rw found (in_kept s e (store_after_resize e.store module_area_start block change) same (resized_kept (4096 * f.area.pages) block change e.store f.store))
 ]
 
--- the estate in which the block's own place has grown, where it could
-before_same : (e : Estate) (o : Result Estate ErrorNumber) → SameGrown e o → AreSame e.store (or_as_before e o).store
+-- the area store in which the block's own place has grown, where it could
+before_same : (e : AreaStore) (o : Result AreaStore ErrorNumber) → SameGrown e o → AreSame e.store (or_as_before e o).store
 before_same e (Ok g) grown = grown
 before_same e (Err f) grown = same_all e.store
 
-before_fit : (e : Estate) (o : Result Estate ErrorNumber) → IsFitEstate e → OnGrown e o → IsFitEstate (or_as_before e o)
+before_fit : (e : AreaStore) (o : Result AreaStore ErrorNumber) → IsFitAreaStore e → OnGrown e o → IsFitAreaStore (or_as_before e o)
 before_fit e (Ok g) f grown = grown.fit
 before_fit e (Err g) f grown = f
 
-extended_kept : (e : Estate) (block change : ℕ) → IsFitEstate e → OnEstate (KeepsFrom e.store) (rma_extended e block change)
+extended_kept : (e : AreaStore) (block change : ℕ) → IsFitAreaStore e → OnAreaStore (KeepsFrom e.store) (rma_extended e block change)
 unfolding rma_extended
 extended_kept e block change f =
     let end : ℕ = end_in_place (rma_base e.store) block change (block_sized e.store module_area_start block) in
     or_grown_kept e.store (grown_in_place e block change) block change (before_same e (grown_to e end) (to_same e end f))
     (before_fit e (grown_to e end) f (to_fit e end f))
 
-done_in : (P : Estate × ℕ → Type 0) (r : Result (Estate × ℕ) ErrorNumber) (x : Estate × ℕ) → OnEstate P r → r ≡ Ok x → P x
+done_in : (P : AreaStore × ℕ → Type 0) (r : Result (AreaStore × ℕ) ErrorNumber) (x : AreaStore × ℕ) → OnAreaStore P r → r ≡ Ok x → P x
 done_in P (Ok y) x done is = let same : y ≡ x = cc in subst P same done
 done_in P (Err e) x done is = absurd (cc)
 

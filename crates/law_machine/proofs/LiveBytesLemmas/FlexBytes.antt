@@ -13,7 +13,7 @@ use Rattle.law_blocks.proofs.HeapFrameLemmas.FlexStill.{call_still, none_after}
 use Rattle.law_blocks.proofs.HeapFrameLemmas.FlexCalls.{beside_in}
 use Rattle.law_blocks.proofs.HeapFrameLemmas.Turns.{call_is_done, called_aligned}
 use Rattle.law_blocks.specs.sliding.Meaning.{AreStores, Stores, store_in}
-use Rattle.law_blocks.specs.sliding.Turning.{flex_call_answer, stores_after_flex, stores_after_turn}
+use Rattle.law_blocks.specs.sliding.Turning.{flex_call_answer, stores_after_flex, stores_after_step}
 use Rattle.law_machine.specs.live_bytes.FlexLaws.{FlexCallsChangeAnchors, IsAnchorByte}
 
 module _ (a : ℕ) where
@@ -62,7 +62,7 @@ init_same x start end (Ok q) same = same
 init_same x start end (Err e) same = refl
 
 pub flex_calls_change : FlexCallsChangeAnchors
-unfolding stores_after_turn flex_after_init
+unfolding stores_after_step flex_after_init
 flex_calls_change x a are = record {
   calls = λ call out. call_byte a x are out call (flex_call_answer (store_in x) x.flex call) refl;
   init = λ start end. ap (λ (b : Bytes). b.at a)

@@ -16,26 +16,26 @@ use Rattle.profile.specs.declared.swi.SwiName.{SwiName}
 use Rattle.profile.specs.declared.swi.SwiName.TheVariants as swi
 use Rattle.address_map.specs.Bytes.{Bytes, in_range}
 use Rattle.arm_core.specs.State.{State, register_of}
-use Rattle.arm_core.specs.declared.turn.Turn.{Turn}
-use Rattle.arm_core.specs.declared.turn.Turn.TheVariants as turn
+use Rattle.arm_core.specs.declared.turn.StepEnd.{StepEnd}
+use Rattle.arm_core.specs.declared.turn.StepEnd.TheVariants as turn
 use Rattle.image_loader.specs.Entries.{Entry}
 use Rattle.os_heap.specs.Calls.{store_after_init, block_sized, store_after_change, heap_description, gave_back, store_after_get, store_after_resize}
 use Rattle.os_heap.specs.Store.{IsSound, Store, is_in_flex_store}
-use Rattle.dynamic_areas.specs.Ground.{Estate}
+use Rattle.dynamic_areas.specs.Ground.{AreaStore}
 use Rattle.rma.proofs.FlexFrameLemmas.Heaps.{heap_calls_keep}
 use Rattle.rma.specs.flex_frame.Keeping.{AreAnchorsFree, KeepsFlex}
 use Rattle.rma.specs.flex_frame.Laws.{HeapCallKeeps}
 use Rattle.law_blocks.proofs.HeapCallsLemmas.DoneCalls.{OnDone}
 use Rattle.law_blocks.specs.heap_calls.Turns.{call_on}
 use Rattle.law_blocks.proofs.HeapFrameLemmas.Holding.{keeps_all, keeps_both, system_outside}
-use Rattle.law_blocks.specs.heap_frame.FitEstates.{IsFitEstate}
+use Rattle.law_blocks.specs.heap_frame.FitAreaStores.{IsFitAreaStore}
 use Rattle.law_blocks.specs.heap_frame.Fits.{KeepsOutside, is_module_byte}
-use Rattle.law_blocks.specs.heap_frame.PlanLaws.{IsFitWorld}
+use Rattle.law_blocks.specs.heap_frame.PlanLaws.{IsFitModuleState}
 use Rattle.instances_table.specs.plans.Plans.{Plan, plan_after_code}
 use Rattle.swi_dispatch_answers.specs.declared.refusal.Refusal.{Refusal}
 use Rattle.swi_dispatch_answers.specs.declared.refusal.Refusal.TheVariants as refusal
 use Rattle.swi_dispatch_plans.specs.store.Heaps.{heap_called, heap_called_for}
-use Rattle.swi_dispatch_guest.proofs.NextTurn.{awake_step, outside_call}
+use Rattle.swi_dispatch_guest.proofs.NextTurn.{unhalted_step, outside_call}
 use Rattle.swi_dispatch_guest.specs.declared.halt.Halt.{Halt}
 use Rattle.swi_dispatch_guest.specs.declared.halt.Halt.TheVariants as halt
 use Rattle.swi_dispatch_answers.specs.Words.{host_string}
@@ -44,20 +44,20 @@ use Rattle.swi_dispatch_guest.specs.Answers.{went_on}
 use Rattle.swi_dispatch_guest.specs.Calls.{call_answer, on_store}
 use Rattle.swi_dispatch_guest.specs.Errors.{with_error}
 use Rattle.swi_dispatch_guest.specs.Gates.{carried_on, come_back, outcome_of_gate, outcome_left}
-use Rattle.swi_dispatch_guest.specs.MachineState.{MachineState, StepOutcome, machine_estate, machine_world, with_world}
+use Rattle.swi_dispatch_guest.specs.MachineState.{MachineState, StepOutcome, machine_area_store, machine_module_state, with_module_state}
 use Rattle.swi_dispatch_guest.specs.Returns.{gone_back, outcome_of_halt}
 use Rattle.swi_dispatch_guest.specs.Step.{outcome_of_planned as call_begun, outcome_of_call, called_by, outcome_of_answer, result_of_instruction, is_exit, machine_step, os_module_called, store_called, outcome_of_turn, without_x}
 use Rattle.law_machine.proofs.HeapAloneLemmas.HeapAnswers.{Agree, heap_agrees}
 use Rattle.law_machine.proofs.HeapAloneLemmas.LiveBytes.{byte_done}
 use Rattle.law_machine.proofs.HeapAloneLemmas.ModuleCalls.{area_call_out}
-use Rattle.law_machine.proofs.HeapAloneLemmas.ModuleHosts.{HasModules, carried_out, fit_world, opened_out}
+use Rattle.law_machine.proofs.HeapAloneLemmas.ModuleHosts.{HasModules, carried_out, fit_module_state, opened_out}
 use Rattle.law_machine.proofs.HeapAloneLemmas.OwnCalls.{heap_swi}
 use Rattle.law_machine.proofs.HeapAloneLemmas.PlansMade.{IsFitPlanned, load_made}
 use Rattle.law_machine.proofs.HeapAloneLemmas.Rows.{is_flex_call}
 use Rattle.law_machine.proofs.HeapAloneLemmas.States.{IsGiven, given_goes, given_same, given_stays, has_store, sound_store}
 use Rattle.law_machine.specs.heap_alone.ByteLaws.{IsStoredPlain}
-use Rattle.swi_dispatch_guest.specs.Moves.{Call, Step, machine_with_words, machine_after_move, outside_name, swi_of_turn}
-use Rattle.swi_dispatch_guest.specs.Parts.{IsState}
+use Rattle.swi_dispatch_guest.specs.Moves.{Call, Step, machine_with_words, machine_after_event, outside_name, swi_of_turn}
+use Rattle.swi_dispatch_guest.specs.GuestState.{IsState}
 use Rattle.law_machine.specs.heap_alone.ModuleMoves.{is_module_name}
 use Rattle.law_machine.specs.heap_alone.Moves.{is_heap_swi}
 use Rattle.law_machine.proofs.LiveBytesLemmas.Answers.{other_has}
@@ -74,7 +74,7 @@ use Rattle.law_machine.specs.live_bytes.AreaLaws.{AreaCallHas}
 use Rattle.instances.proofs.GoingOn.{bound as bound_any}
 
 -- an error's block lies in the system pages
-error_out : (s : MachineState) (e : Refusal) → IsFitEstate (machine_estate s) → KeepsOutside s.store (with_error s e).store
+error_out : (s : MachineState) (e : Refusal) → IsFitAreaStore (machine_area_store s) → KeepsOutside s.store (with_error s e).store
 error_out s refusal.Own fit = keeps_all s.store
 error_out s (refusal.System e) fit =
     system_outside (4096 * fit.area.pages) s.store (with_error s (refusal.System e)).store.bytes fit.store (error_off s (refusal.System e))
@@ -87,19 +87,19 @@ any_planned (Some (Err e)) = tt
 -- calls of OS_Module, and steps in which module code comes back, write the module area and the
 -- system pages alone
 module _ (s : MachineState) (has : HasModules s) where
-  fit : IsFitWorld (machine_world s)
-  fit = fit_world s has
+  fit : IsFitModuleState (machine_module_state s)
+  fit = fit_module_state s has
 
   outside_over : HoldsOver s (KeepsOutside s.store) (λ w. Unit {0})
   outside_over = record {
     same = keeps_all s.store;
-    error = λ e. error_out s e fit.estate;
-    area = area_call_out s.cpu (machine_world s) fit.estate;
+    error = λ e. error_out s e fit.area_store;
+    area = area_call_out s.cpu (machine_module_state s) fit.area_store;
     carried = λ call w made any.
-        let t : MachineState = with_world s w.world in
-        keeps_both s.store t.store (carried_on t call w.plan).store made.world.estate.outside
-        (carried_out t call w.plan (record { estate = made.world.estate.fit; slots = made.world.slots }) made.plan);
-    opened = λ next o few. opened_out (gone_back s.cpu.psr s false next) o.text.items o.start.slot o.start.at fit.estate few;
+        let t : MachineState = with_module_state s w.module_state in
+        keeps_both s.store t.store (carried_on t call w.plan).store made.module_state.area_store.outside
+        (carried_out t call w.plan (record { area_store = made.module_state.area_store.fit; slots = made.module_state.slots }) made.plan);
+    opened = λ next o few. opened_out (gone_back s.cpu.psr s false next) o.text.items o.start.slot o.start.at fit.area_store few;
   }
 
   pub os_module_out : (images : List Entry) (x : Bool) (next number : ℕ) → KeepsOutside s.store (os_module_called images s x next number).now.store
@@ -122,7 +122,7 @@ module _ (s : MachineState) (has : HasModules s) where
 
   goes_out : (o : Option Plan) → Goes s has (KeepsOutside s.store) (keeps_all s.store) o
   goes_out None = tt
-  goes_out (Some p) = λ f plan. carried_out (come_back s f) f.call (plan_after_code p (outcome_left s.cpu)) (fit_world s has) plan
+  goes_out (Some p) = λ f plan. carried_out (come_back s f) f.call (plan_after_code p (outcome_left s.cpu)) (fit_module_state s has) plan
 
   pub gate_out : KeepsOutside s.store (outcome_of_gate s).now.store
   gate_out = gate_has s has (KeepsOutside s.store) (keeps_all s.store) (goes_out s.tables.plan)
@@ -135,18 +135,18 @@ module _ (images : List Entry) (s : MachineState) (has : HasHeaps s) (a : ℕ) (
   Stays t = t.bytes.at a ≡ s.store.bytes.at a
 
   off : in_range system_start 0x3000 a ≡ false
-  off = flex_off (machine_estate s) has.modules.store.estate has.modules.store.system a flex
+  off = flex_off (machine_area_store s) has.modules.store.area_store has.modules.store.system a flex
 
   out : is_module_byte a ≡ false
-  out = flex_outside (machine_estate s) has.modules.store.estate has.modules.store.system a flex
+  out = flex_outside (machine_area_store s) has.modules.store.area_store has.modules.store.system a flex
 
   error_stays : (t : MachineState) (e : Refusal) → Stays t.store → Stays (with_error t e).store
   error_stays t e stays = error_off t e a off ∙ stays
 
-  areas_stay : (e : Estate) → AreaCallHas (machine_estate s) Stays e
+  areas_stay : (e : AreaStore) → AreaCallHas (machine_area_store s) Stays e
   areas_stay e =
-      area_call_has (machine_estate s) has.modules.store.estate Stays
-      (flex_after (machine_estate s) has.modules.store.estate has.modules.store.system a flex) e
+      area_call_has (machine_area_store s) has.modules.store.area_store Stays
+      (flex_after (machine_area_store s) has.modules.store.area_store has.modules.store.system a flex) e
 
   -- OS_Heap
   abbrev Kept : Store → Type 0
@@ -164,9 +164,9 @@ module _ (images : List Entry) (s : MachineState) (has : HasHeaps s) (a : ℕ) (
   by_done A k (Ok x) keeps = keeps x refl
   by_done A k (Err e) keeps = tt
 
-  by_told : (A : Type 0) (k : A → ℕ × ℕ) (r : Result A ErrorNumber) → OnDone (ℕ × ℕ) Kept (bind r (λ x. Ok (s.store, k x)))
-  by_told A k (Ok x) = λ sound. refl
-  by_told A k (Err e) = tt
+  by_shown : (A : Type 0) (k : A → ℕ × ℕ) (r : Result A ErrorNumber) → OnDone (ℕ × ℕ) Kept (bind r (λ x. Ok (s.store, k x)))
+  by_shown A k (Ok x) = λ sound. refl
+  by_shown A k (Err e) = tt
 
   keeps : (heap : ℕ) (t : Store) → IsSound t → HeapCallKeeps s.store t heap
   keeps heap t sound = heap_calls_keep s.store t heap (sound_store s has.modules.store) sound
@@ -175,7 +175,7 @@ module _ (images : List Entry) (s : MachineState) (has : HasHeaps s) (a : ℕ) (
   heap_kept heap reason.Initialise block size =
       by_done (Unit {0}) (λ _. (block, size)) (store_after_init s.store heap size) (λ x is sound.
       flex_frame x.0 ((keeps heap x.0 sound).init size (Ok x.1) (gives (Unit {0}) s.store (store_after_init s.store heap size) x is)))
-  heap_kept heap reason.Describe block size = by_told (ℕ × ℕ) (λ r. r) (heap_description s.store heap)
+  heap_kept heap reason.Describe block size = by_shown (ℕ × ℕ) (λ r. r) (heap_description s.store heap)
   heap_kept heap reason.Get block size =
       by_done ℕ (λ n. (n, size)) (store_after_get s.store heap size) (λ x is sound.
       flex_frame x.0 ((keeps heap x.0 sound).get size (Ok x.1) (gives ℕ s.store (store_after_get s.store heap size) x is)))
@@ -188,7 +188,7 @@ module _ (images : List Entry) (s : MachineState) (has : HasHeaps s) (a : ℕ) (
   heap_kept heap reason.ChangeSize block size =
       by_done (Unit {0}) (λ _. (block, size)) (store_after_change s.store heap size) (λ x is sound.
       flex_frame x.0 ((keeps heap x.0 sound).change_size size (Ok x.1) (gives (Unit {0}) s.store (store_after_change s.store heap size) x is)))
-  heap_kept heap reason.BlockSize block size = by_told ℕ (λ n. (block, n)) (block_sized s.store heap block)
+  heap_kept heap reason.BlockSize block size = by_shown ℕ (λ n. (block, n)) (block_sized s.store heap block)
 
   abbrev HeapWent : Result MachineState Refusal → Type 0
   HeapWent (Ok t) = Kept t.store
@@ -273,18 +273,18 @@ module _ (images : List Entry) (s : MachineState) (has : HasHeaps s) (a : ℕ) (
     ]
   ]
 
-  abbrev TurnStays : Result (State × Bytes) Turn → Store → Type 0
+  abbrev TurnStays : Result (State × Bytes) StepEnd → Store → Type 0
   TurnStays r t = Stays t ⊎ (IsStoredPlain s a ⊎ (is_flex_name (swi_of_turn r) ≡ true))
 
   from_call : (n : ℕ) (t : Store) → Stays t ⊎ (is_flex_name (swi_of (without_x n)) ≡ true) → TurnStays (Err (turn.Swi n)) t
   from_call n t (inl stays) = inl stays
   from_call n t (inr call) = inr (inr call)
 
-  from_stored : (r : Result (State × Bytes) Turn) (t : Store) → Stays t ⊎ IsStoredPlain s a → TurnStays r t
+  from_stored : (r : Result (State × Bytes) StepEnd) (t : Store) → Stays t ⊎ IsStoredPlain s a → TurnStays r t
   from_stored r t (inl stays) = inl stays
   from_stored r t (inr stored) = inr (inl stored)
 
-  pub turn_stays : (r : Result (State × Bytes) Turn) → result_of_instruction s ≡ r → IsSound (outcome_of_turn images s r).now.store → TurnStays r (outcome_of_turn images s r).now.store
+  pub turn_stays : (r : Result (State × Bytes) StepEnd) → result_of_instruction s ≡ r → IsSound (outcome_of_turn images s r).now.store → TurnStays r (outcome_of_turn images s r).now.store
   turn_stays (Ok w) is sound = from_stored (Ok w) (outcome_of_turn images s (Ok w)).now.store (byte_done s w a is)
   turn_stays (Err turn.Done) is sound = inl refl
   turn_stays (Err (turn.Swi n)) is sound =
@@ -292,22 +292,22 @@ module _ (images : List Entry) (s : MachineState) (has : HasHeaps s) (a : ℕ) (
   turn_stays (Err turn.Gate) is sound = inl ((gate_out s has.modules).bytes a out)
   turn_stays (Err (turn.Fault f)) is sound = inl refl
 
-step_stays : (images : List Entry) (s : MachineState) (a : ℕ) (o : Option Halt) → s.halt ≡ o → IsState s → IsState (machine_after_move images s Step)
+step_stays : (images : List Entry) (s : MachineState) (a : ℕ) (o : Option Halt) → s.halt ≡ o → IsState s → IsState (machine_after_event images s Step)
     → is_in_flex_store s.store.others a ≡ true
-    → ((machine_after_move images s Step).store.bytes.at a ≡ s.store.bytes.at a)
+    → ((machine_after_event images s Step).store.bytes.at a ≡ s.store.bytes.at a)
     ⊎ (((Step ≡ Step) × IsStoredPlain s a) ⊎ (is_flex_name (swi_of_turn (result_of_instruction s)) ≡ true))
 step_stays images s a (Some h) is state after flex = inl (ap (λ (o : StepOutcome). o.now.store.bytes.at a) (step_halted images s h is))
 step_stays images s a None goes state after flex =
-    let step : machine_step images s ≡ outcome_of_turn images s (result_of_instruction s) = awake_step images s goes in
+    let step : machine_step images s ≡ outcome_of_turn images s (result_of_instruction s) = unhalted_step images s goes in
     let sound : IsSound (outcome_of_turn images s (result_of_instruction s)).now.store =
-    subst (λ (o : StepOutcome). IsSound o.now.store) step (sound_store (machine_after_move images s Step) (has_store (machine_after_move images s Step) after)) in
+    subst (λ (o : StepOutcome). IsSound o.now.store) step (sound_store (machine_after_event images s Step) (has_store (machine_after_event images s Step) after)) in
     subst (λ (o : StepOutcome). (o.now.store.bytes.at a ≡ s.store.bytes.at a)
     ⊎ (((Step ≡ Step) × IsStoredPlain s a) ⊎ (is_flex_name (swi_of_turn (result_of_instruction s)) ≡ true))) (sym step)
     (named_step _ _ _ (turn_stays images s (has_heaps s state) a flex (result_of_instruction s) refl sound))
 
 call_from_outside : (images : List Entry) (s : MachineState) (number : ℕ) (words : List ℕ) (a : ℕ) (o : Option Halt) → s.halt ≡ o → IsState s
-    → IsState (machine_after_move images s (Call number words)) → is_in_flex_store s.store.others a ≡ true
-    → ((machine_after_move images s (Call number words)).store.bytes.at a ≡ s.store.bytes.at a)
+    → IsState (machine_after_event images s (Call number words)) → is_in_flex_store s.store.others a ≡ true
+    → ((machine_after_event images s (Call number words)).store.bytes.at a ≡ s.store.bytes.at a)
     ⊎ (((Call number words ≡ Step) × IsStoredPlain s a) ⊎ (is_flex_name (outside_name number) ≡ true))
 call_from_outside images s number words a (Some h) is state after flex =
     let u : MachineState = machine_with_words s words in
@@ -320,7 +320,7 @@ call_from_outside images s number words a None goes state after flex =
     let o : StepOutcome = outcome_of_call images u true u.cpu.pc (without_x (number % 2 ^ 24)) in
     let call : store_called images u number ≡ o = outside_call images u number (given_goes s u same ∙ goes) in
     let sound : IsSound o.now.store =
-    subst (λ (o : StepOutcome). IsSound o.now.store) call (sound_store (machine_after_move images s (Call number words)) (has_store (machine_after_move images s (Call number words)) after)) in
+    subst (λ (o : StepOutcome). IsSound o.now.store) call (sound_store (machine_after_event images s (Call number words)) (has_store (machine_after_event images s (Call number words)) after)) in
     let flex' : is_in_flex_store u.store.others a ≡ true = subst (λ (t : Store). is_in_flex_store t.others a ≡ true) (sym stays) flex in
     let byte = call_stays images u (given_heaps s u (has_heaps s state) same) a flex' true u.cpu.pc (without_x (number % 2 ^ 24)) sound in
     subst (λ (p : StepOutcome). (p.now.store.bytes.at a ≡ s.store.bytes.at a)

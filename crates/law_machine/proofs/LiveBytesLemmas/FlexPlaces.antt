@@ -25,15 +25,15 @@ use Rattle.law_blocks.specs.sliding.FlexStore.{HasFlexStore, IsFlexRangeSpelled,
 use Rattle.swi_dispatch_answers.specs.Words.{host_string}
 use Rattle.swi_dispatch_guest.specs.declared.halt.Halt.{Halt}
 use Rattle.swi_dispatch_guest.specs.Additions.{load_planned}
-use Rattle.swi_dispatch_guest.specs.MachineState.{MachineState, StepOutcome, machine_estate}
+use Rattle.swi_dispatch_guest.specs.MachineState.{MachineState, StepOutcome, machine_area_store}
 use Rattle.swi_dispatch_guest.specs.Step.{outcome_of_planned, outcome_of_call, result_of_instruction, machine_step, module_loaded, store_called, outcome_of_turn, unless_halted, without_x}
 use Rattle.law_machine.proofs.HeapAloneLemmas.States.{HasStore, IsGiven, given_same, has_store, sound_store}
 use Rattle.law_machine.specs.heap_alone.ByteLaws.{IsStoredPlain}
-use Rattle.swi_dispatch_guest.specs.Moves.{Call, Move, Step, machine_with_words, machine_after_move, swi_made}
-use Rattle.swi_dispatch_guest.specs.Parts.{IsState}
+use Rattle.swi_dispatch_guest.specs.Moves.{Call, Move, Step, machine_with_words, machine_after_event, swi_made}
+use Rattle.swi_dispatch_guest.specs.GuestState.{IsState}
 use Rattle.law_machine.proofs.LiveBytesLemmas.FlexMoves.{flex_bytes_stay, loaded_out}
 use Rattle.law_machine.proofs.LiveBytesLemmas.FlexStays.{flex_outside}
-use Rattle.law_machine.proofs.LiveBytesLemmas.FlexTables.{Same, awake_same, called_same, loaded_same, turn_same}
+use Rattle.law_machine.proofs.LiveBytesLemmas.FlexTables.{Same, unhalted_same, called_same, loaded_same, turn_same}
 use Rattle.law_machine.proofs.LiveBytesLemmas.Heaps.{HasHeaps, has_heaps}
 use Rattle.law_machine.specs.live_bytes.Changes.{is_flex_name}
 use Rattle.law_machine.specs.live_bytes.FlexPlaces.{FlexStoreStays, KeepsFlexStore, LoadsKeepFlexStore, may_change_flex}
@@ -147,19 +147,19 @@ header_byte s m t a other (inr (inl stored)) word = absurd (false≢true (sym st
 header_byte s m t a other (inr (inr flex)) word = absurd (no_flex (swi_made s m) other flex)
 
 -- where it is
-tables_stay : (images : List Entry) (s : MachineState) (m : Move) → IsState s → may_change_flex (swi_made s m) ≡ false → Same s (machine_after_move images s m)
+tables_stay : (images : List Entry) (s : MachineState) (m : Move) → IsState s → may_change_flex (swi_made s m) ≡ false → Same s (machine_after_event images s m)
 unfolding machine_step store_called
-tables_stay images s Step state other = awake_same s s.halt (outcome_of_turn images s (result_of_instruction s)) (turn_same s images (result_of_instruction s) other)
+tables_stay images s Step state other = unhalted_same s s.halt (outcome_of_turn images s (result_of_instruction s)) (turn_same s images (result_of_instruction s) other)
 tables_stay images s (Call number words) state other =
     let u : MachineState = machine_with_words s words in
     let same : IsGiven s u = given_same s 0 words (has_store s state).size in
-    awake_same u u.halt (outcome_of_call images u true u.cpu.pc (without_x (number % 2 ^ 24))) (called_same images u true u.cpu.pc (without_x (number % 2 ^ 24)) other)
+    unhalted_same u u.halt (outcome_of_call images u true u.cpu.pc (without_x (number % 2 ^ 24))) (called_same images u true u.cpu.pc (without_x (number % 2 ^ 24)) other)
     ∙ ap (λ (x : MachineState). x.tables.flex) same.is
 
-awake_stays : (s : MachineState) (o : Option Halt) (a : ℕ) (x : StepOutcome) → x.now.store.bytes.at a ≡ s.store.bytes.at a
+unhalted_stays : (s : MachineState) (o : Option Halt) (a : ℕ) (x : StepOutcome) → x.now.store.bytes.at a ≡ s.store.bytes.at a
     → (unless_halted s o x).now.store.bytes.at a ≡ s.store.bytes.at a
-awake_stays s None a x same = same
-awake_stays s (Some why) a x same = refl
+unhalted_stays s None a x same = same
+unhalted_stays s (Some why) a x same = refl
 
 -- So the store stays where the words of its headers do.
 kept_store : (s t : MachineState) → HasStore s → HasStore t → t.tables.flex ≡ s.tables.flex → HeadersStay s.store t.store → KeepsFlexStore s t
@@ -175,7 +175,7 @@ kept_store s t one two extent kept =
 
 pub flex_store_stays : FlexStoreStays
 flex_store_stays images s m state after other =
-    let t : MachineState = machine_after_move images s m in
+    let t : MachineState = machine_after_event images s m in
     let one : HasStore s = has_store s state in
     let two : HasStore t = has_store t after in
     kept_store s t one two (tables_stay images s m state other) (λ a header word.
@@ -187,9 +187,9 @@ loaded_stays : (images : List Entry) (s : MachineState) (text : List ℕ) (a : �
 unfolding module_loaded
 loaded_stays images s text a state flex =
     let has : HasHeaps s = has_heaps s state in
-    let out : is_module_byte a ≡ false = flex_outside (machine_estate s) has.modules.store.estate has.modules.store.system a flex in
+    let out : is_module_byte a ≡ false = flex_outside (machine_area_store s) has.modules.store.area_store has.modules.store.system a flex in
     let o : StepOutcome = outcome_of_planned s true s.cpu.pc false (bind (ok_or (host_string text) BadString) (λ words. load_planned images s words false)) in
-    awake_stays s s.halt a o ((loaded_out s has.modules images true s.cpu.pc text).bytes a out)
+    unhalted_stays s s.halt a o ((loaded_out s has.modules images true s.cpu.pc text).bytes a out)
 
 pub loads_keep_flex_store : LoadsKeepFlexStore
 loads_keep_flex_store images s text state after =

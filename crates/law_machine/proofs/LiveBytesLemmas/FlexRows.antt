@@ -14,10 +14,10 @@ use Rattle.flex_store.specs.Calls.{FlexState, flex_after_alloc, flex_after_init,
 use Rattle.flex_store.specs.Runs.{Alloc, Extend, FlexCall, MidExtend, Release}
 use Rattle.swi_dispatch_answers.specs.flex_frame.Ground.{flex_state, with_flex_record}
 use Rattle.law_blocks.specs.sliding.Meaning.{Stores, store_in}
-use Rattle.law_blocks.specs.sliding.Turning.{Call, Init, stores_after_flex, stores_after_turn}
+use Rattle.law_blocks.specs.sliding.Turning.{Call, Init, stores_after_flex, stores_after_step}
 use Rattle.swi_dispatch_answers.specs.Refusals.{or_error}
 use Rattle.swi_dispatch_answers.specs.declared.refusal.Refusal.{Refusal}
-use Rattle.swi_dispatch_answers.specs.flex.Calls.{fit_told, flex_called, memory_after_flex as memory_left}
+use Rattle.swi_dispatch_answers.specs.flex.Calls.{fit_shown, flex_called, memory_after_flex as memory_left}
 use Rattle.swi_dispatch_guest.specs.Answers.{went_on}
 use Rattle.swi_dispatch_guest.specs.Calls.{call_answer, machine_flex, on_flex}
 use Rattle.swi_dispatch_guest.specs.MachineState.{MachineState}
@@ -36,14 +36,14 @@ module _ (s : MachineState) (has : HasStore s) (a : ℕ) (off : in_range system_
   Same t = t.bytes.at a ≡ s.store.bytes.at a
 
   init_went : (start end : ℕ) (r : Result (FlexState × Unit {0}) ErrorNumber)
-      → stores_after_turn (Init start end) (stores_in s has.pending) ≡ stores_after_flex (stores_in s has.pending) (with_flex_record s.store start end) (bind r (λ q. Ok (q.0, true)))
+      → stores_after_step (Init start end) (stores_in s has.pending) ≡ stores_after_flex (stores_in s has.pending) (with_flex_record s.store start end) (bind r (λ q. Ok (q.0, true)))
       → HasWent Same (on_flex s (bind (or_error (memory_left (with_flex_record s.store start end) r)) (λ q. Ok (s.cpu, q.0))))
   init_went start end (Ok q) same =
       subst (λ (y : Stores). Same (store_in y)) same ((flex_calls_change (stores_in s has.pending) a has.stores).init start end)
   init_went start end (Err f) same = tt
 
   init_made : HasWent Same (on_flex s (flex_called s.cpu (machine_flex s) (Some swi.FlexInit)))
-  unfolding flex_called stores_after_turn
+  unfolding flex_called stores_after_step
   init_made =
       init_went (register_of s.cpu 0) (register_of s.cpu 1)
       (flex_after_init s.store (flex_state s.store s.tables.flex) (register_of s.cpu 0) (register_of s.cpu 1)) refl
@@ -70,25 +70,25 @@ module _ (s : MachineState) (has : HasStore s) (a : ℕ) (out : is_in_flex_store
   may_by name t is (inl same) = inl same
   may_by name t is (inr anchor) = inr (is, anchor)
 
-  call_may : (name : Option SwiName) (call : FlexCall) → is_flex_name name ≡ true → MayAnchor name (store_in (stores_after_turn (Call call) (stores_in s has.pending)))
+  call_may : (name : Option SwiName) (call : FlexCall) → is_flex_name name ≡ true → MayAnchor name (store_in (stores_after_step (Call call) (stores_in s has.pending)))
   call_may name call is =
-      may_by name (store_in (stores_after_turn (Call call) (stores_in s has.pending))) is
+      may_by name (store_in (stores_after_step (Call call) (stores_in s has.pending))) is
       ((flex_calls_change (stores_in s has.pending) a has.stores).calls call out)
 
   fit_went : (name : Option SwiName) (call : FlexCall) (r : Result (FlexState × Bool) ErrorNumber) → is_flex_name name ≡ true
-      → stores_after_turn (Call call) (stores_in s has.pending) ≡ stores_after_flex (stores_in s has.pending) s.store r
-      → FlexWent name (on_flex s (fit_told s.cpu (memory_left s.store r)))
+      → stores_after_step (Call call) (stores_in s has.pending) ≡ stores_after_flex (stores_in s has.pending) s.store r
+      → FlexWent name (on_flex s (fit_shown s.cpu (memory_left s.store r)))
   fit_went name call (Ok q) is same = subst (λ (y : Stores). MayAnchor name (store_in y)) same (call_may name call is)
   fit_went name call (Err f) is same = tt
 
   release_went : (name : Option SwiName) (anchor : ℕ) (r : Result (FlexState × Unit {0}) ErrorNumber) → is_flex_name name ≡ true
-      → stores_after_turn (Call (Release anchor)) (stores_in s has.pending) ≡ stores_after_flex (stores_in s has.pending) s.store (bind r (λ q. Ok (q.0, true)))
+      → stores_after_step (Call (Release anchor)) (stores_in s has.pending) ≡ stores_after_flex (stores_in s has.pending) s.store (bind r (λ q. Ok (q.0, true)))
       → FlexWent name (on_flex s (bind (or_error (memory_left s.store r)) (λ q. Ok (s.cpu, q.0))))
   release_went name anchor (Ok q) is same = subst (λ (y : Stores). MayAnchor name (store_in y)) same (call_may name (Release anchor) is)
   release_went name anchor (Err f) is same = tt
 
   flex_went : (name : Option SwiName) → is_flex_name name ≡ true → FlexWent name (on_flex s (flex_called s.cpu (machine_flex s) name))
-  unfolding flex_called stores_after_turn
+  unfolding flex_called stores_after_step
   flex_went (Some swi.FlexAlloc) flex =
       fit_went (Some swi.FlexAlloc) (Alloc (register_of s.cpu 0) (register_of s.cpu 1))
       (flex_after_alloc s.store (flex_state s.store s.tables.flex) (register_of s.cpu 0) (register_of s.cpu 1)) refl refl

@@ -18,7 +18,7 @@ use Rattle.dynamic_areas.proofs.ModuleArea.{IsModuleArea, module_area_known}
 use Rattle.dynamic_areas.specs.declared.area.Area.{Area}
 use Rattle.dynamic_areas.specs.Areas.{find_area}
 use Rattle.dynamic_areas.specs.Changing.{AreLoose, store_after_end, loose_pages, store_less, with_heap_end}
-use Rattle.dynamic_areas.specs.Ground.{AreRangesMapped, Estate, IsEstate, IsRecorded, is_fixed, is_in_area, is_land, system_pages_range}
+use Rattle.dynamic_areas.specs.Ground.{AreRangesMapped, AreaStore, IsAreaStore, IsRecorded, is_fixed, is_in_area, is_area_table, system_pages_range}
 use Rattle.law_blocks.proofs.HeapFrameLemmas.Guests.{IsHeldBy, created_low, held_by}
 use Rattle.law_blocks.specs.heap_frame.Fits.{is_module_byte}
 use Rattle.law_machine.proofs.LiveBytesLemmas.AreaCases.{HoldsAfter}
@@ -58,22 +58,22 @@ flex_mapped mapped (r ∷ rs) a all is = elim (or_cases (is_flex_store r.kind &&
       all.0 a byte.0 byte.1
 ]
 
-module _ (e : Estate) (good : IsEstate e) (system : IsRecorded system_pages_range e.store.others) (a : ℕ) (flex : is_in_flex_store e.store.others a ≡ true) where
+module _ (e : AreaStore) (good : IsAreaStore e) (system : IsRecorded system_pages_range e.store.others) (a : ℕ) (flex : is_in_flex_store e.store.others a ≡ true) where
   pub flex_off : in_range system_start 0x3000 a ≡ false
   flex_off = off_system e.store.others a good.ground.sound.apart system flex
 
   -- no byte of the module area's heap
-  out_of_heap : (area : Area) → find_area 1 e.land.areas ≡ Some area → in_range module_area_start (4096 * area.pages) a ≡ true → ⊥
+  out_of_heap : (area : Area) → find_area 1 e.area_table.areas ≡ Some area → in_range module_area_start (4096 * area.pages) a ≡ true → ⊥
   out_of_heap area found there =
-      let m : IsModuleArea e.store area = module_area_known e.store e.pool e.land area good found in
+      let m : IsModuleArea e.store area = module_area_known e.store e.pool e.area_table area good found in
       both_ways (in_range m.heap.start m.heap.end a)
       (header_outside module_area_start e.store.heaps e.store.others m.heap a good.ground.sound.placed m.found flex) (rw (m.start, m.end) there)
 
-  in_area : IsHeldBy e.land.areas a → is_module_byte a ≡ true → ⊥
+  in_area : IsHeldBy e.area_table.areas a → is_module_byte a ≡ true → ⊥
   in_area held is = elim (cases_eq held.area.number 1) [
     | inl first ↦
-        let found : find_area 1 e.land.areas ≡ Some held.area = subst (λ (n : ℕ). find_area n e.land.areas ≡ Some held.area) first held.found in
-        let m : IsModuleArea e.store held.area = module_area_known e.store e.pool e.land held.area good found in
+        let found : find_area 1 e.area_table.areas ≡ Some held.area = subst (λ (n : ℕ). find_area n e.area_table.areas ≡ Some held.area) first held.found in
+        let m : IsModuleArea e.store held.area = module_area_known e.store e.pool e.area_table held.area good found in
         out_of_heap held.area found (subst (λ (p : ℕ). in_range p (4096 * held.area.pages) a ≡ true) m.base held.held)
     | inr other ↦
         let parts : (held.area.base ≤ a) × (a < held.area.base + 4096 * held.area.pages) = range_parts held.area.base (4096 * held.area.pages) a held.held in
@@ -81,24 +81,24 @@ module _ (e : Estate) (good : IsEstate e) (system : IsRecorded system_pages_rang
         omega (arith, created_low held.area held.room other, parts.0, byte.1)
   ]
 
-  in_fixed : is_fixed e.land.sizes a ≡ true → is_module_byte a ≡ true → ⊥
+  in_fixed : is_fixed e.area_table.sizes a ≡ true → is_module_byte a ≡ true → ⊥
   in_fixed fixed is =
       let sizes = good.ground.sizes in
       let byte : (module_area_start ≤ a) × (a < 0x01C03000) = range_parts module_area_start 0x403000 a is in
-      elim (or_cases (in_range application_start (4096 * e.land.sizes.app) a) (in_range system_start 0x3000 a) fixed) [
+      elim (or_cases (in_range application_start (4096 * e.area_table.sizes.app) a) (in_range system_start 0x3000 a) fixed) [
         | inl low ↦
-            let parts : (application_start ≤ a) × (a < application_start + 4096 * e.land.sizes.app) = range_parts application_start (4096 * e.land.sizes.app) a low in
+            let parts : (application_start ≤ a) × (a < application_start + 4096 * e.area_table.sizes.app) = range_parts application_start (4096 * e.area_table.sizes.app) a low in
             omega (arith, parts.1, byte.0, sizes.in_limit, sizes.has_room)
         | inr there ↦ both_ways (in_range system_start 0x3000 a) flex_off there
       ]
 
   pub flex_outside : is_module_byte a ≡ false
   flex_outside =
-      let land : is_land e.land a ≡ true = sym (good.ground.land a) ∙ flex_mapped e.store.bytes.mapped e.store.others a good.ground.ranges flex in
+      let area_table : is_area_table e.area_table a ≡ true = sym (good.ground.area_table a) ∙ flex_mapped e.store.bytes.mapped e.store.others a good.ground.ranges flex in
       false_from_ne_true (is_module_byte a) (λ is.
-      elim (or_cases (is_fixed e.land.sizes a) (list_any (is_in_area a) e.land.areas) land) [
+      elim (or_cases (is_fixed e.area_table.sizes a) (list_any (is_in_area a) e.area_table.areas) area_table) [
         | inl fixed ↦ in_fixed fixed is
-        | inr held ↦ in_area (held_by e.land.areas a good.ground.table.rooms held) is
+        | inr held ↦ in_area (held_by e.area_table.areas a good.ground.table.rooms held) is
       ])
 
   -- the words of the module area's heap are written
@@ -113,15 +113,15 @@ module _ (e : Estate) (good : IsEstate e) (system : IsRecorded system_pages_rang
   abbrev Stays : Store → Type 0
   Stays t = t.bytes.at a ≡ e.store.bytes.at a
 
-  shrunk_stays : (count : ℕ) (area : Area) → find_area 1 e.land.areas ≡ Some area → count ≤ loose_pages e.store area
+  shrunk_stays : (count : ℕ) (area : Area) → find_area 1 e.area_table.areas ≡ Some area → count ≤ loose_pages e.store area
       → Stays (store_less (with_heap_end e.store (4096 * (area.pages - count))) count (Some area))
   shrunk_stays count area found fits =
       let s : Store = e.store in
       let end : ℕ = 4096 * (area.pages - count) in
-      let m : IsModuleArea s area = module_area_known s e.pool e.land area good found in
+      let m : IsModuleArea s area = module_area_known s e.pool e.area_table area good found in
       let t : Store = ending s m.heap end in
       let is : with_heap_end s end ≡ t = ap (λ (o : Option HeapList). store_after_end s end o) m.found in
-      let loose : AreLoose t area count = loose_ended s t e.pool e.land area count m good found fits refl refl refl in
+      let loose : AreLoose t area count = loose_ended s t e.pool e.area_table area count m good found fits refl refl refl in
       let out : in_range (area.base + 4096 * (area.pages - count)) (4096 * count) a ≡ false =
       flex_clear (area.base + 4096 * (area.pages - count)) (4096 * count) s.others a loose.ranges flex in
       subst (λ (u : Store). Stays (store_less u count (Some area))) (sym is) (rw out (words_same area m end))
@@ -131,7 +131,7 @@ module _ (e : Estate) (good : IsEstate e) (system : IsRecorded system_pages_rang
     same = refl;
     more = λ at len. refl;
     grown = λ count area found.
-        let m : IsModuleArea e.store area = module_area_known e.store e.pool e.land area good found in
+        let m : IsModuleArea e.store area = module_area_known e.store e.pool e.area_table area good found in
         rw m.found (words_same area m (4096 * (area.pages + count)));
     loose = λ area count loose.
         rw (flex_clear (area.base + 4096 * (area.pages - count)) (4096 * count) e.store.others a loose.ranges flex) refl;

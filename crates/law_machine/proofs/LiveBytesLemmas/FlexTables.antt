@@ -16,14 +16,14 @@ use Rattle.profile.specs.declared.swi.SwiName.TheVariants as swi
 use Rattle.address_map.specs.Bytes.{Bytes}
 use Rattle.arm_core.specs.State.{State, register_in, register_of, with_register}
 use Rattle.arm_core.specs.declared.psr.Mode.TheVariants.{Supervisor}
-use Rattle.arm_core.specs.declared.turn.Turn.{Turn}
-use Rattle.arm_core.specs.declared.turn.Turn.TheVariants as turn
+use Rattle.arm_core.specs.declared.turn.StepEnd.{StepEnd}
+use Rattle.arm_core.specs.declared.turn.StepEnd.TheVariants as turn
 use Rattle.image_loader.specs.Entries.{Entry}
 use Rattle.os_heap.specs.Store.{Store}
-use Rattle.dynamic_areas.specs.Ground.{Estate}
+use Rattle.dynamic_areas.specs.Ground.{AreaStore}
 use Rattle.flex_store.specs.Calls.{flex_block_size}
 use Rattle.flex_store.specs.declared.flex.Flex.{Flex}
-use Rattle.instances.specs.world.World.{World}
+use Rattle.instances.specs.module_state.ModuleState.{ModuleState}
 use Rattle.instances_table.specs.plans.Carrying.{Carried}
 use Rattle.instances_table.specs.plans.Plans.{Plan, plan_after_code}
 use Rattle.instances_table.specs.declared.plans.code.Code.{Code}
@@ -42,7 +42,7 @@ use Rattle.swi_dispatch_answers.specs.declared.frames.frame.FrameKind.TheVariant
 use Rattle.swi_dispatch_answers.specs.frames.Frames.{innermost_frame}
 use Rattle.swi_dispatch_plans.specs.modules.Calls.{result_of_module_call as area_called}
 use Rattle.swi_dispatch_plans.specs.Openings.{opening_asked}
-use Rattle.swi_dispatch_plans.specs.Trials.{world_carried}
+use Rattle.swi_dispatch_plans.specs.Trials.{module_state_carried}
 use Rattle.swi_dispatch_plans.specs.declared.openings.Opening.{Opening}
 use Rattle.instances.specs.declared.answers.Start.{Start}
 use Rattle.instances.specs.Reading.{start_found}
@@ -52,10 +52,10 @@ use Rattle.swi_dispatch_guest.specs.declared.halt.Halt.{Halt}
 use Rattle.swi_dispatch_guest.specs.declared.halt.Halt.TheVariants as halt
 use Rattle.swi_dispatch_guest.specs.Additions.{Planned, load_planned}
 use Rattle.swi_dispatch_guest.specs.Answers.{Answer, refusal_answer, went_on}
-use Rattle.swi_dispatch_guest.specs.Calls.{call_answer, machine_flex, on_estate, on_flex, on_store, on_world, printable_at, wrote_text_after, wrote_text_at}
+use Rattle.swi_dispatch_guest.specs.Calls.{call_answer, machine_flex, on_area_store, on_flex, on_store, on_module_state, printable_at, wrote_text_after, wrote_text_at}
 use Rattle.swi_dispatch_guest.specs.Errors.{with_error}
 use Rattle.swi_dispatch_guest.specs.Gates.{call_ended_by, carried_on, come_back, ended_of, entered_if, entered_with, fault_ahead, state_after_plan, frame_closed, frame_left, outcome_of_gate, gated_by, state_with_code_entered, outcome_left, plan_left, unless_fault}
-use Rattle.swi_dispatch_guest.specs.MachineState.{MachineState, StepOutcome, machine_estate, machine_world, quiet, setting_of, with_world}
+use Rattle.swi_dispatch_guest.specs.MachineState.{MachineState, StepOutcome, machine_area_store, machine_module_state, silent, setting_of, with_module_state}
 use Rattle.swi_dispatch_guest.specs.ModuleStart.{opened_at}
 use Rattle.swi_dispatch_guest.specs.Returns.{outcome_of_error, gone_back, outcome_of_halt}
 use Rattle.swi_dispatch_guest.specs.Step.{outcome_of_planned, call_of, outcome_of_call, called_by, outcome_of_answer, outcome_of_end, handler_entered, is_exit, outcome_of_module_swi as handler_called, module_entered, module_loaded, os_module_called, os_module_called_for, outcome_of_turn, unless_halted, without_x}
@@ -91,13 +91,13 @@ module _ (s : MachineState) where
   store_went (Ok q) = refl
   store_went (Err e) = tt
 
-  estate_went : (r : Result (State × Estate) Refusal) → Went (on_estate s r)
-  estate_went (Ok q) = refl
-  estate_went (Err e) = tt
+  area_store_went : (r : Result (State × AreaStore) Refusal) → Went (on_area_store s r)
+  area_store_went (Ok q) = refl
+  area_store_went (Err e) = tt
 
-  world_went : (r : Result (State × World) Refusal) → Went (on_world s r)
-  world_went (Ok q) = refl
-  world_went (Err e) = tt
+  module_state_went : (r : Result (State × ModuleState) Refusal) → Went (on_module_state s r)
+  module_state_went (Ok q) = refl
+  module_state_went (Err e) = tt
 
   text_after : (next : ℕ) (o : Option (List ℕ)) → Same (wrote_text_after s next o).left.now
   text_after next None = refl
@@ -135,13 +135,13 @@ module _ (s : MachineState) where
   answer_same next number (Some swi.EnterOs) other = refl
   answer_same next number (Some swi.Heap) other = went_same next (on_store s (heap_called s.cpu s.store)) (store_went (heap_called s.cpu s.store))
   answer_same next number (Some swi.Module) other =
-      went_same next (on_world s (area_called s.cpu (machine_world s))) (world_went (area_called s.cpu (machine_world s)))
+      went_same next (on_module_state s (area_called s.cpu (machine_module_state s))) (module_state_went (area_called s.cpu (machine_module_state s)))
   answer_same next number (Some swi.ChangeDynamicArea) other = refl
   answer_same next number (Some swi.GenerateError) other = refl
   answer_same next number (Some swi.ReadDynamicArea) other =
-      went_same next (on_estate s (area_read s.cpu (machine_estate s))) (estate_went (area_read s.cpu (machine_estate s)))
+      went_same next (on_area_store s (area_read s.cpu (machine_area_store s))) (area_store_went (area_read s.cpu (machine_area_store s)))
   answer_same next number (Some swi.DynamicArea) other =
-      went_same next (on_estate s (area_work s.cpu (machine_estate s))) (estate_went (area_work s.cpu (machine_estate s)))
+      went_same next (on_area_store s (area_work s.cpu (machine_area_store s))) (area_store_went (area_work s.cpu (machine_area_store s)))
   answer_same next number (Some swi.WriteI) other = refl
   answer_same next number (Some swi.FlexInit) other = absurd (true≢false other)
   answer_same next number (Some swi.FlexAlloc) other = absurd (true≢false other)
@@ -156,7 +156,7 @@ module _ (s : MachineState) where
 
   -- a SWI of a module
   entered_same : (x : Bool) (next number : ℕ) (handler : Handler) (full : Bool)
-      → Same (if full then outcome_of_answer s x (refusal_answer s next (refusal.System FrameLimit)) else quiet (handler_entered s (call_of s x next false) number handler)).now
+      → Same (if full then outcome_of_answer s x (refusal_answer s next (refusal.System FrameLimit)) else silent (handler_entered s (call_of s x next false) number handler)).now
   entered_same x next number handler true = call_refused_same x next (refusal.System FrameLimit)
   entered_same x next number handler false = refl
 
@@ -181,20 +181,20 @@ back_same : (s : MachineState) (call : Call) (g : Given) (first : Option ℕ) �
 back_same s call g (Some r0) = refl
 back_same s call g None = if_same (gone_back call.caller s false call.next) call.enters g
 
-finished_same : (s : MachineState) (call : Call) (w : World) (q : Plan) (o : Option Code)
-    → (let c : Carried World = record { world = w; rest = q; code = o } in Same s (state_after_plan (state_with_code_entered s call c) call (ended_of c)))
+finished_same : (s : MachineState) (call : Call) (w : ModuleState) (q : Plan) (o : Option Code)
+    → (let c : Carried ModuleState = record { module_state = w; rest = q; code = o } in Same s (state_after_plan (state_with_code_entered s call c) call (ended_of c)))
 finished_same s call w q (Some code) = refl
-finished_same s call w q None = back_same (state_with_code_entered s call (record { world = w; rest = q; code = None })) call q.given q.first
+finished_same s call w q None = back_same (state_with_code_entered s call (record { module_state = w; rest = q; code = None })) call q.given q.first
 
 carried_same : (s : MachineState) (call : Call) (p : Plan) → Same s (carried_on s call p)
 carried_same s call p =
-    let c : Carried World = world_carried (machine_world s) p in
-    finished_same s call c.world c.rest c.code
+    let c : Carried ModuleState = module_state_carried (machine_module_state s) p in
+    finished_same s call c.module_state c.rest c.code
 
 begun_same : (s : MachineState) (x : Bool) (next : ℕ) (enters : Bool) (r : Result Planned ErrorNumber) → Same s (outcome_of_planned s x next enters r).now
 unfolding outcome_of_planned
 begun_same s x next enters (Err e) = call_refused_same s x next (refusal.System e)
-begun_same s x next enters (Ok w) = carried_same (with_world s w.world) (call_of s x next enters) w.plan
+begun_same s x next enters (Ok w) = carried_same (with_module_state s w.module_state) (call_of s x next enters) w.plan
 
 module_entered_same : (s : MachineState) (x : Bool) (next : ℕ) (r : Result Opening ErrorNumber) → Same s (module_entered s x next r).now
 module_entered_same s x next (Err e) = call_refused_same s x next (refusal.System e)
@@ -253,9 +253,9 @@ module _ (s : MachineState) where
   plan_same f None = refl
   plan_same f (Some p) =
       let q : Plan = plan_after_code p (outcome_left s.cpu) in
-      fault_same (carried_on (come_back s f) f.call q) (fault_ahead f.call (machine_world s) q) (carried_same (come_back s f) f.call q)
+      fault_same (carried_on (come_back s f) f.call q) (fault_ahead f.call (machine_module_state s) q) (carried_same (come_back s f) f.call q)
 
-  swi_same : (f : Frame) (overflow x : Bool) → Same s (if overflow then outcome_of_error s x (quiet (frame_closed s f)) else quiet (frame_closed s f)).now
+  swi_same : (f : Frame) (overflow x : Bool) → Same s (if overflow then outcome_of_error s x (silent (frame_closed s f)) else silent (frame_closed s f)).now
   swi_same f false x = refl
   swi_same f true true = refl
   swi_same f true false = refl
@@ -275,19 +275,19 @@ module _ (s : MachineState) where
   gate_same : Same s (outcome_of_gate s).now
   gate_same = innermost_same (innermost_frame s.tables.frames)
 
-  pub turn_same : (images : List Entry) (r : Result (State × Bytes) Turn) → may_change_flex (swi_of_turn r) ≡ false → Same s (outcome_of_turn images s r).now
+  pub turn_same : (images : List Entry) (r : Result (State × Bytes) StepEnd) → may_change_flex (swi_of_turn r) ≡ false → Same s (outcome_of_turn images s r).now
   turn_same images (Ok w) other = refl
   turn_same images (Err turn.Done) other = refl
   turn_same images (Err (turn.Swi n)) other = called_same images s (bit_of n 17) ((s.cpu.pc + 4) % 2 ^ 26) (without_x n) other
   turn_same images (Err turn.Gate) other = gate_same
   turn_same images (Err (turn.Fault f)) other = refl
 
-  pub awake_same : (o : Option Halt) (a : StepOutcome) → Same s a.now → Same s (unless_halted s o a).now
-  awake_same None a same = same
-  awake_same (Some why) a same = refl
+  pub unhalted_same : (o : Option Halt) (a : StepOutcome) → Same s a.now → Same s (unless_halted s o a).now
+  unhalted_same None a same = same
+  unhalted_same (Some why) a same = refl
 
   pub loaded_same : (images : List Entry) (text : List ℕ) → Same s (module_loaded images s text).now
   unfolding module_loaded
   loaded_same images text =
       let o : StepOutcome = outcome_of_planned s true s.cpu.pc false (bind (ok_or (host_string text) BadString) (λ words. load_planned images s words false)) in
-      awake_same s.halt o (begun_same s true s.cpu.pc false _)
+      unhalted_same s.halt o (begun_same s true s.cpu.pc false _)

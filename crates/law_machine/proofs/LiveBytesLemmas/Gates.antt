@@ -17,17 +17,17 @@ use Rattle.swi_dispatch_answers.specs.declared.frames.frame.FrameKind.TheVariant
 use Rattle.swi_dispatch_answers.specs.frames.Frames.{innermost_frame}
 use Rattle.swi_dispatch_guest.specs.declared.halt.Halt.TheVariants as halt
 use Rattle.swi_dispatch_guest.specs.Gates.{carried_on, come_back, fault_ahead, frame_closed, frame_left, outcome_of_gate, gated_by, outcome_left, plan_left, unless_fault}
-use Rattle.swi_dispatch_guest.specs.MachineState.{MachineState, machine_world, quiet}
+use Rattle.swi_dispatch_guest.specs.MachineState.{MachineState, machine_module_state, silent}
 use Rattle.swi_dispatch_guest.specs.Returns.{outcome_of_error, outcome_of_halt}
 use Rattle.law_blocks.proofs.HeapFrameLemmas.Slots.{doable_below}
 use Rattle.law_machine.proofs.HeapAloneLemmas.Gates.{settled_given}
 use Rattle.law_machine.proofs.HeapAloneLemmas.ModuleHosts.{HasModules}
 use Rattle.law_machine.proofs.HeapAloneLemmas.ModulePlans.{IsFitPlan}
 
-settled_fit : (s : MachineState) (p : Plan) (o : CodeOutcome) → HasModules s → MayGoOn (machine_world s) (Some p) → length p.given.text.items ≤ 255
+settled_fit : (s : MachineState) (p : Plan) (o : CodeOutcome) → HasModules s → MayGoOn (machine_module_state s) (Some p) → length p.given.text.items ≤ 255
     → IsFitPlan (plan_after_code p o)
 settled_fit s p o has going few =
-    let on : IsUnderWay (machine_world s) (plan_after_code p o) = going_back (machine_world s) p o has.modules going.1 in
+    let on : IsUnderWay (machine_module_state s) (plan_after_code p o) = going_back (machine_module_state s) p o has.modules going.1 in
     record {
       below = doable_below s.tables.modules (plan_after_code p o) has.modules on.ready.doable;
       text = subst (λ (g : Given). length g.text.items ≤ 255) (sym (settled_given p o)) few;
@@ -45,16 +45,16 @@ module _ (s : MachineState) (has : HasModules s) (P : Store → Type 0) (same : 
   fault_has t None left = left
   fault_has t (Some number) left = same
 
-  plan_has : (f : Frame) (o : Option Plan) → MayGoOn (machine_world s) o → IfSome o (λ (plan : Plan). length plan.given.text.items ≤ 255)
+  plan_has : (f : Frame) (o : Option Plan) → MayGoOn (machine_module_state s) o → IfSome o (λ (plan : Plan). length plan.given.text.items ≤ 255)
       → Goes o → P (plan_left s f o).now.store
   plan_has f None going few goes = same
   plan_has f (Some p) going few goes =
       let q : Plan = plan_after_code p (outcome_left s.cpu) in
-      fault_has (carried_on (come_back s f) f.call q) (fault_ahead f.call (machine_world s) q)
+      fault_has (carried_on (come_back s f) f.call q) (fault_ahead f.call (machine_module_state s) q)
       (goes f (settled_fit s p (outcome_left s.cpu) has going few))
 
   -- a SWI of a module
-  left_has : (f : Frame) (overflow x : Bool) → P (if overflow then outcome_of_error s x (quiet (frame_closed s f)) else quiet (frame_closed s f)).now.store
+  left_has : (f : Frame) (overflow x : Bool) → P (if overflow then outcome_of_error s x (silent (frame_closed s f)) else silent (frame_closed s f)).now.store
   left_has f false x = same
   left_has f true true = same
   left_has f true false = same

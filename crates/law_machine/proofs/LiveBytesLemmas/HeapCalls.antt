@@ -37,7 +37,7 @@ module _ (s : MachineState) (has : HasStore s) (a : ℕ) (off : in_range system_
   refused_leaves true next e = λ sound. inl (error_off s e a off)
   refused_leaves false next e = λ sound. inl refl
 
-  -- a call that is done: what it answers in R2, and that V tells so
+  -- a call that is done: what it answers in R2, and that V shows so
   done_leaves : (why : HeapReason) (next : ℕ) (q : State × Store) (r : Store × (ℕ × ℕ)) → heap_reason (register_of s.cpu 0) ≡ Some why
       → (q.1 ≡ r.0) × ((register_of q.0 2 ≡ r.1.0) × (register_of q.0 3 ≡ r.1.1))
       → ((r.0.bytes.at a ≡ s.store.bytes.at a) ⊎ IsWrittenFor why s.store r.0 (register_of s.cpu 1) (register_of s.cpu 2) (register_of s.cpu 3) r.1.0 a)

@@ -17,7 +17,7 @@ use Rattle.os_heap.specs.Store.{StandAreas, Store, find_heap, heap_in, heaps_in,
 use Rattle.law_blocks.specs.heap_frame.BlockLaws.{total_in}
 use Rattle.law_blocks.specs.heap_calls.Laws.{IsNotForgotten, KeepsHeap}
 use Rattle.swi_dispatch_guest.specs.MachineState.{MachineState}
-use Rattle.swi_dispatch_guest.specs.Parts.{IsGuest, IsState, Parts, state_of}
+use Rattle.swi_dispatch_guest.specs.GuestState.{IsGuest, IsState, GuestState, state_of}
 use Rattle.law_machine.proofs.HeapAloneLemmas.LiveBytes.{payload_inside}
 use Rattle.law_machine.proofs.HeapAloneLemmas.ModuleHosts.{HasModules, IsHost, given_modules, has_modules}
 use Rattle.law_machine.proofs.HeapAloneLemmas.States.{IsGiven, given_stays, sound_store}
@@ -62,7 +62,7 @@ pub record HasHeaps (s : MachineState) : Type 0 where
   pub modules : HasModules s
   pub kinds : (start : ℕ) (h : HeapList) → find_heap start s.store.heaps ≡ Some h → (has_own_size h.kind ≡ true) ⊎ (start ≡ module_area_start)
 
-parts_heaps : (p : Parts) → IsGuest p → HasModules (state_of p) → HasHeaps (state_of p)
+parts_heaps : (p : GuestState) → IsGuest p → HasModules (state_of p) → HasHeaps (state_of p)
 unfolding store_of
 parts_heaps p machine has = record {
   modules = has;

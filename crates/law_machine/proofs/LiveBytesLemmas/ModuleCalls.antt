@@ -11,7 +11,7 @@ use Rattle.profile.specs.declared.swi.SwiName.TheVariants as swi
 use Rattle.arm_core.specs.State.{State, register_of}
 use Rattle.image_loader.specs.Entries.{Entry}
 use Rattle.os_heap.specs.Store.{Store}
-use Rattle.instances.specs.world.World.{World}
+use Rattle.instances.specs.module_state.ModuleState.{ModuleState}
 use Rattle.instances_table.specs.plans.Plans.{Plan}
 use Rattle.swi_dispatch_answers.specs.declared.refusal.Refusal.{Refusal}
 use Rattle.swi_dispatch_answers.specs.declared.refusal.Refusal.TheVariants as refusal
@@ -23,15 +23,15 @@ use Rattle.swi_dispatch_plans.specs.ImagePlans.{instantiation_planned}
 use Rattle.swi_dispatch_plans.specs.ModulePlans.{clear_planned, delete_planned, reinit_planned, tidy_planned}
 use Rattle.swi_dispatch_guest.specs.Additions.{Planned, copy_planned, insertion_planned, named_load_planned, plan_alone}
 use Rattle.swi_dispatch_guest.specs.Answers.{refusal_answer, went_on}
-use Rattle.swi_dispatch_guest.specs.Calls.{call_answer, on_world}
+use Rattle.swi_dispatch_guest.specs.Calls.{call_answer, on_module_state}
 use Rattle.swi_dispatch_guest.specs.Errors.{with_error}
 use Rattle.swi_dispatch_guest.specs.Gates.{carried_on}
-use Rattle.swi_dispatch_guest.specs.MachineState.{MachineState, machine_world, setting_of, with_world}
+use Rattle.swi_dispatch_guest.specs.MachineState.{MachineState, machine_module_state, setting_of, with_module_state}
 use Rattle.swi_dispatch_guest.specs.ModuleStart.{module_opened}
 use Rattle.swi_dispatch_guest.specs.Returns.{gone_back}
 use Rattle.swi_dispatch_guest.specs.Step.{outcome_of_planned, begun_alone, call_of, call_refused, outcome_of_answer, module_entered, os_module_called, os_module_called_for}
-use Rattle.law_blocks.specs.heap_frame.PlanLaws.{IsFitWorld}
-use Rattle.law_machine.proofs.HeapAloneLemmas.ModuleHosts.{HasModules, fit_world}
+use Rattle.law_blocks.specs.heap_frame.PlanLaws.{IsFitModuleState}
+use Rattle.law_machine.proofs.HeapAloneLemmas.ModuleHosts.{HasModules, fit_module_state}
 use Rattle.law_machine.proofs.HeapAloneLemmas.ModulePlans.{IsFitPlan}
 use Rattle.law_machine.proofs.HeapAloneLemmas.PlansMade.{IsFitPlanned, alone_planned, clear_made, copy_made, delete_made, insertion_made, instantiation_made, named_load_made, opening_made, reinit_made, tidy_made}
 
@@ -57,13 +57,13 @@ Planning Q None = Unit {0}
 pub record HoldsOver (s : MachineState) (P : Store → Type 0) (Q : Planned → Type 0) : Type 0 where
   pub same : P s.store
   pub error : (e : Refusal) → P (with_error s e).store
-  pub area : IfOk (area_called s.cpu (machine_world s)) (λ (q : State × World). P q.1.estate.store)
-  pub carried : (call : Call) (w : Planned) → IsFitPlanned s w → Q w → P (carried_on (with_world s w.world) call w.plan).store
+  pub area : IfOk (area_called s.cpu (machine_module_state s)) (λ (q : State × ModuleState). P q.1.area_store.store)
+  pub carried : (call : Call) (w : Planned) → IsFitPlanned s w → Q w → P (carried_on (with_module_state s w.module_state) call w.plan).store
   pub opened : (next : ℕ) (o : Opening) → length o.text.items ≤ 255 → P (module_opened (gone_back s.cpu.psr s false next) o).store
 
 module _ (s : MachineState) (has : HasModules s) (P : Store → Type 0) (Q : Planned → Type 0) (holds : HoldsOver s P Q) where
-  fit : IsFitWorld (machine_world s)
-  fit = fit_world s has
+  fit : IsFitModuleState (machine_module_state s)
+  fit = fit_module_state s has
 
   error_has : (x : Bool) (next : ℕ) (e : Refusal) → P (outcome_of_answer s x (refusal_answer s next e)).now.store
   error_has true next e = holds.error e
@@ -72,14 +72,14 @@ module _ (s : MachineState) (has : HasModules s) (P : Store → Type 0) (Q : Pla
   refused_has : (x : Bool) (next : ℕ) (e : ErrorNumber) → P (call_refused s x next e).now.store
   refused_has x next e = error_has x next (refusal.System e)
 
-  world_has : (x : Bool) (next : ℕ) (r : Result (State × World) Refusal) → IfOk r (λ (q : State × World). P q.1.estate.store)
-      → P (outcome_of_answer s x (went_on s next (on_world s r))).now.store
-  world_has x next (Ok q) left = left
-  world_has x next (Err e) left = error_has x next e
+  module_state_has : (x : Bool) (next : ℕ) (r : Result (State × ModuleState) Refusal) → IfOk r (λ (q : State × ModuleState). P q.1.area_store.store)
+      → P (outcome_of_answer s x (went_on s next (on_module_state s r))).now.store
+  module_state_has x next (Ok q) left = left
+  module_state_has x next (Err e) left = error_has x next e
 
   area_has : (x : Bool) (next number : ℕ) → P (outcome_of_answer s x (call_answer s next number (Some swi.Module))).now.store
   unfolding call_answer
-  area_has x next number = world_has x next (area_called s.cpu (machine_world s)) holds.area
+  area_has x next number = module_state_has x next (area_called s.cpu (machine_module_state s)) holds.area
 
   pub begun_has : (x : Bool) (next : ℕ) (enters : Bool) (r : Result Planned ErrorNumber) → IfOk r (IsFitPlanned s) → IfOk r Q → P (outcome_of_planned s x next enters r).now.store
   unfolding outcome_of_planned

@@ -9,15 +9,15 @@ use Rattle.profile.specs.declared.swi.SwiName.{SwiName}
 use Rattle.profile.specs.declared.swi.SwiName.TheVariants as swi
 use Rattle.address_map.specs.Bytes.{Bytes, in_range}
 use Rattle.arm_core.specs.State.{State}
-use Rattle.arm_core.specs.declared.turn.Turn.{Turn}
-use Rattle.arm_core.specs.declared.turn.Turn.TheVariants as turn
+use Rattle.arm_core.specs.declared.turn.StepEnd.{StepEnd}
+use Rattle.arm_core.specs.declared.turn.StepEnd.TheVariants as turn
 use Rattle.image_loader.specs.Entries.{Entry}
 use Rattle.os_heap.proofs.Anchored.{header_outside}
 use Rattle.os_heap.specs.Store.{IsSound, Store, find_heap, is_in_flex_store}
-use Rattle.swi_dispatch_guest.proofs.NextTurn.{awake_step, outside_call}
+use Rattle.swi_dispatch_guest.proofs.NextTurn.{unhalted_step, outside_call}
 use Rattle.swi_dispatch_guest.specs.declared.halt.Halt.{Halt}
 use Rattle.swi_dispatch_guest.specs.declared.halt.Halt.TheVariants as halt
-use Rattle.swi_dispatch_guest.specs.MachineState.{MachineState, StepOutcome, quiet}
+use Rattle.swi_dispatch_guest.specs.MachineState.{MachineState, StepOutcome, silent}
 use Rattle.swi_dispatch_guest.specs.Returns.{outcome_of_halt}
 use Rattle.swi_dispatch_guest.specs.Step.{outcome_of_call, called_by, result_of_instruction, is_exit, machine_step, store_called, outcome_of_turn, unless_halted, without_x}
 use Rattle.law_machine.proofs.HeapAloneLemmas.Gates.{gate_keeps}
@@ -30,8 +30,8 @@ use Rattle.law_machine.proofs.HeapAloneLemmas.Rows.{is_flex_call}
 use Rattle.law_machine.proofs.HeapAloneLemmas.States.{IsGiven, given_goes, given_same, given_stays, has_store, sound_store}
 use Rattle.law_machine.specs.heap_alone.ByteLaws.{IsStoredPlain}
 use Rattle.law_machine.specs.heap_alone.ModuleMoves.{is_at_gate, is_module_name}
-use Rattle.swi_dispatch_guest.specs.Moves.{Call, Step, machine_with_words, machine_after_move, outside_name, swi_of_turn}
-use Rattle.swi_dispatch_guest.specs.Parts.{IsState}
+use Rattle.swi_dispatch_guest.specs.Moves.{Call, Step, machine_with_words, machine_after_event, outside_name, swi_of_turn}
+use Rattle.swi_dispatch_guest.specs.GuestState.{IsState}
 use Rattle.law_machine.specs.heap_alone.Moves.{is_heap_swi}
 use Rattle.law_machine.proofs.LiveBytesLemmas.Carried.{gate_were}
 use Rattle.law_machine.proofs.LiveBytesLemmas.Extending.{were_kept}
@@ -183,10 +183,10 @@ module _ (images : List Entry) (s : MachineState) (has : HasHeaps s) (start a : 
   abbrev next_of : ℕ
   next_of = (s.cpu.pc + 4) % 2 ^ 26
 
-  abbrev turn_slides : Result (State × Bytes) Turn → Bool
+  abbrev turn_slides : Result (State × Bytes) StepEnd → Bool
   turn_slides r = (is_module_name (swi_of_turn r) && begins_tidy s next_of) || (is_at_gate r && slides_on s.cpu s.tables.plan)
 
-  abbrev TurnChanges : Result (State × Bytes) Turn → MachineState → Type 0
+  abbrev TurnChanges : Result (State × Bytes) StepEnd → MachineState → Type 0
   TurnChanges r t =
       (t.store.bytes.at a ≡ s.store.bytes.at a)
       ⊎ (IsStoredPlain s a ⊎ (((is_flex_name (swi_of_turn r) ≡ true) × IsAnchorByte s.store t.store a)
@@ -198,7 +198,7 @@ module _ (images : List Entry) (s : MachineState) (has : HasHeaps s) (start a : 
   from_call n t (inr (inr (inl slid))) = inr (inr (inr (inl (slid.0, or_left (tidies next_of (without_x n)) false slid.1))))
   from_call n t (inr (inr (inr inner))) = inr (inr (inr (inr inner)))
 
-  from_stored : (r : Result (State × Bytes) Turn) (t : MachineState) → (t.store.bytes.at a ≡ s.store.bytes.at a) ⊎ IsStoredPlain s a → TurnChanges r t
+  from_stored : (r : Result (State × Bytes) StepEnd) (t : MachineState) → (t.store.bytes.at a ≡ s.store.bytes.at a) ⊎ IsStoredPlain s a → TurnChanges r t
   from_stored r t (inl same) = inl same
   from_stored r t (inr stored) = inr (inl stored)
 
@@ -223,7 +223,7 @@ module _ (images : List Entry) (s : MachineState) (has : HasHeaps s) (start a : 
   from_gate t (inl same) = inl same
   from_gate t (inr slid) = inr (inr (inr (inl (slid.0, slid.1))))
 
-  pub turn_byte : (r : Result (State × Bytes) Turn) → result_of_instruction s ≡ r → IsSound (outcome_of_turn images s r).now.store
+  pub turn_byte : (r : Result (State × Bytes) StepEnd) → result_of_instruction s ≡ r → IsSound (outcome_of_turn images s r).now.store
       → IsByteHeld s.store (outcome_of_turn images s r).now.store start a → TurnChanges r (outcome_of_turn images s r).now
   turn_byte (Ok w) is sound held = from_stored (Ok w) (outcome_of_turn images s (Ok w)).now (byte_done s w a is)
   turn_byte (Err turn.Done) is sound held = inl refl
@@ -235,11 +235,11 @@ module _ (images : List Entry) (s : MachineState) (has : HasHeaps s) (start a : 
   turn_byte (Err (turn.Fault f)) is sound held = inl refl
 
 -- where the machine is halted nothing happens
-pub step_halted : (images : List Entry) (s : MachineState) (h : Halt) → s.halt ≡ Some h → machine_step images s ≡ quiet s
+pub step_halted : (images : List Entry) (s : MachineState) (h : Halt) → s.halt ≡ Some h → machine_step images s ≡ silent s
 unfolding machine_step
 step_halted images s h is = ap (λ (o : Option Halt). unless_halted s o (outcome_of_turn images s (result_of_instruction s))) is
 
-pub call_halted : (images : List Entry) (s : MachineState) (number : ℕ) (h : Halt) → s.halt ≡ Some h → store_called images s number ≡ quiet s
+pub call_halted : (images : List Entry) (s : MachineState) (number : ℕ) (h : Halt) → s.halt ≡ Some h → store_called images s number ≡ silent s
 unfolding store_called
 call_halted images s number h is =
     ap (λ (o : Option Halt). unless_halted s o (outcome_of_call images s true s.cpu.pc (without_x (number % 2 ^ 24)))) is
@@ -253,22 +253,22 @@ pub named_call : (A B C : Type 0) → A ⊎ C → A ⊎ (B ⊎ C)
 named_call A B C (inl same) = inl same
 named_call A B C (inr other) = inr (inr other)
 
-step_stays : (images : List Entry) (s : MachineState) (start a : ℕ) (o : Option Halt) → s.halt ≡ o → IsState s → IsState (machine_after_move images s Step)
-    → IsByteHeld s.store (machine_after_move images s Step).store start a
-    → ((machine_after_move images s Step).store.bytes.at a ≡ s.store.bytes.at a) ⊎ MayChange s (machine_after_move images s Step) Step start a
+step_stays : (images : List Entry) (s : MachineState) (start a : ℕ) (o : Option Halt) → s.halt ≡ o → IsState s → IsState (machine_after_event images s Step)
+    → IsByteHeld s.store (machine_after_event images s Step).store start a
+    → ((machine_after_event images s Step).store.bytes.at a ≡ s.store.bytes.at a) ⊎ MayChange s (machine_after_event images s Step) Step start a
 step_stays images s start a (Some h) is state after held = inl (ap (λ (o : StepOutcome). o.now.store.bytes.at a) (step_halted images s h is))
 step_stays images s start a None goes state after held =
-    let step : machine_step images s ≡ outcome_of_turn images s (result_of_instruction s) = awake_step images s goes in
+    let step : machine_step images s ≡ outcome_of_turn images s (result_of_instruction s) = unhalted_step images s goes in
     let sound : IsSound (outcome_of_turn images s (result_of_instruction s)).now.store =
-    subst (λ (o : StepOutcome). IsSound o.now.store) step (sound_store (machine_after_move images s Step) (has_store (machine_after_move images s Step) after)) in
+    subst (λ (o : StepOutcome). IsSound o.now.store) step (sound_store (machine_after_event images s Step) (has_store (machine_after_event images s Step) after)) in
     let held' : IsByteHeld s.store (outcome_of_turn images s (result_of_instruction s)).now.store start a =
     subst (λ (o : StepOutcome). IsByteHeld s.store o.now.store start a) step held in
     subst (λ (o : StepOutcome). (o.now.store.bytes.at a ≡ s.store.bytes.at a) ⊎ MayChange s o.now Step start a) (sym step)
     (named_step _ _ _ (turn_byte images s (has_heaps s state) start a (result_of_instruction s) refl sound held'))
 
 call_stays : (images : List Entry) (s : MachineState) (number : ℕ) (words : List ℕ) (start a : ℕ) (o : Option Halt) → s.halt ≡ o → IsState s
-    → IsState (machine_after_move images s (Call number words)) → IsByteHeld s.store (machine_after_move images s (Call number words)).store start a
-    → ((machine_after_move images s (Call number words)).store.bytes.at a ≡ s.store.bytes.at a) ⊎ MayChange s (machine_after_move images s (Call number words)) (Call number words) start a
+    → IsState (machine_after_event images s (Call number words)) → IsByteHeld s.store (machine_after_event images s (Call number words)).store start a
+    → ((machine_after_event images s (Call number words)).store.bytes.at a ≡ s.store.bytes.at a) ⊎ MayChange s (machine_after_event images s (Call number words)) (Call number words) start a
 call_stays images s number words start a (Some h) is state after held =
     let u : MachineState = machine_with_words s words in
     let same : IsGiven s u = given_same s 0 words (has_store s state).size in
@@ -280,7 +280,7 @@ call_stays images s number words start a None goes state after held =
     let o : StepOutcome = outcome_of_call images u true u.cpu.pc (without_x (number % 2 ^ 24)) in
     let call : store_called images u number ≡ o = outside_call images u number (given_goes s u same ∙ goes) in
     let sound : IsSound o.now.store =
-    subst (λ (o : StepOutcome). IsSound o.now.store) call (sound_store (machine_after_move images s (Call number words)) (has_store (machine_after_move images s (Call number words)) after)) in
+    subst (λ (o : StepOutcome). IsSound o.now.store) call (sound_store (machine_after_event images s (Call number words)) (has_store (machine_after_event images s (Call number words)) after)) in
     let held' : IsByteHeld u.store o.now.store start a =
     subst (λ (t : Store). IsByteHeld t o.now.store start a) (sym stays) (subst (λ (o : StepOutcome). IsByteHeld s.store o.now.store start a) call held) in
     let byte = call_byte images u (given_heaps s u (has_heaps s state) same) start a true u.cpu.pc (without_x (number % 2 ^ 24)) sound held' in

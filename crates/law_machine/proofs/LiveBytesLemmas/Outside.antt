@@ -15,7 +15,7 @@ use Rattle.swi_dispatch_guest.specs.declared.halt.Halt.{Halt}
 use Rattle.swi_dispatch_guest.specs.Additions.{load_planned}
 use Rattle.swi_dispatch_guest.specs.MachineState.{MachineState, StepOutcome, with_memory}
 use Rattle.swi_dispatch_guest.specs.Step.{outcome_of_planned, module_loaded, unless_halted}
-use Rattle.swi_dispatch_guest.specs.Parts.{IsState}
+use Rattle.swi_dispatch_guest.specs.GuestState.{IsState}
 use Rattle.swi_dispatch_guest.specs.Writes.{machine_after_poke}
 use Rattle.image_loader.specs.Entries.{Entry}
 use Rattle.law_machine.proofs.HeapAloneLemmas.ModuleCalls.{loaded_keeps}
@@ -26,15 +26,15 @@ use Rattle.law_machine.proofs.LiveBytesLemmas.Rows.{all_same}
 use Rattle.law_machine.specs.live_bytes.Changes.{LoadsKeepLiveBytes, PokesChangeOneWord}
 use Rattle.swi_dispatch_answers.proofs.FlexFrameLemmas.Kept.{whole_word}
 
-awake : (s : MachineState) (o : Option Halt) (a : StepOutcome) → KeepsBlocks s.store a.now.store → KeepsBlocks s.store (unless_halted s o a).now.store
-awake s None a kept = kept
-awake s (Some why) a kept = all_same s.store
+unhalted : (s : MachineState) (o : Option Halt) (a : StepOutcome) → KeepsBlocks s.store a.now.store → KeepsBlocks s.store (unless_halted s o a).now.store
+unhalted s None a kept = kept
+unhalted s (Some why) a kept = all_same s.store
 
 loaded_keep : (images : List Entry) (s : MachineState) (text : List ℕ) → IsState s → KeepsBlocks s.store (module_loaded images s text).now.store
 unfolding module_loaded
 loaded_keep images s text state =
     let o : StepOutcome = outcome_of_planned s true s.cpu.pc false (bind (ok_or (host_string text) BadString) (λ words. load_planned images s words false)) in
-    awake s s.halt o
+    unhalted s s.halt o
     (all_kept s o.now.store (has_heaps s state) (λ h host still. loaded_keeps s h host images true s.cpu.pc text (λ lies. still))
     (loaded_both s (has_heaps s state).modules images true s.cpu.pc text))
 

@@ -8,14 +8,14 @@ use Rattle.address_map.specs.Bytes.{in_range, with_word_at}
 use Rattle.image_loader.specs.Entries.{Entry}
 use Rattle.os_heap_words.specs.lists.Heap.{HeapList}
 use Rattle.os_heap.specs.Store.{Store}
-use Rattle.dynamic_areas.specs.Ground.{Estate}
+use Rattle.dynamic_areas.specs.Ground.{AreaStore}
 use Rattle.law_blocks.proofs.HeapFrameLemmas.Areas.{area_calls_keep}
 use Rattle.law_blocks.specs.heap_frame.AreaLaws.{AreaCallKeepsHeap}
 use Rattle.swi_dispatch_answers.specs.declared.refusal.Refusal.{Refusal}
 use Rattle.swi_dispatch_answers.specs.declared.refusal.Refusal.TheVariants as refusal
 use Rattle.swi_dispatch_guest.proofs.Kept.{outside_bytes, outside_word, short_name}
 use Rattle.swi_dispatch_guest.specs.Errors.{with_error}
-use Rattle.swi_dispatch_guest.specs.MachineState.{MachineState, machine_estate}
+use Rattle.swi_dispatch_guest.specs.MachineState.{MachineState, machine_area_store}
 use Rattle.swi_dispatch_guest.specs.Step.{outcome_of_call}
 use Rattle.law_machine.proofs.HeapAloneLemmas.Keeping.{off_system}
 use Rattle.law_machine.proofs.HeapAloneLemmas.LiveBytes.{payload_inside}
@@ -45,18 +45,18 @@ module _ (s : MachineState) (has : HasHeaps s) where
       ∙ kept h g block total new_total a found found' live live' here there
 
   -- areas: the heaps that guests made, and the module area's
-  guests : (e : Estate) (h : HeapList) → IsHost s h → AreaCallKeepsHeap h (machine_estate s) e
-  guests e h host = area_calls_keep (machine_estate s) e h (record {
-    estate = host.modules.store.estate;
+  guests : (e : AreaStore) (h : HeapList) → IsHost s h → AreaCallKeepsHeap h (machine_area_store s) e
+  guests e h host = area_calls_keep (machine_area_store s) e h (record {
+    area_store = host.modules.store.area_store;
     system = host.modules.store.system;
     found = host.found;
     own = host.own;
   })
 
-  both : (e : Estate) → AreaCallHas (machine_estate s) (KeepsBoth s.store) e
-  both e = area_calls_keep_both (machine_estate s) e has.modules.store.estate
+  both : (e : AreaStore) → AreaCallHas (machine_area_store s) (KeepsBoth s.store) e
+  both e = area_calls_keep_both (machine_area_store s) e has.modules.store.area_store
 
-  areas_all : (e : Estate) → AreaCallHas (machine_estate s) (KeepsBlocks s.store) e
+  areas_all : (e : AreaStore) → AreaCallHas (machine_area_store s) (KeepsBlocks s.store) e
   areas_all e = record {
     create = λ w name made done store.
         all_kept s e.store has (λ h host _. (guests e h host).create w name made done store) ((both e).create w name made done store);

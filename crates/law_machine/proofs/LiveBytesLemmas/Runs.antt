@@ -6,7 +6,7 @@ use Rattle.swi_dispatch_guest.specs.declared.halt.Halt.{Halt}
 use Rattle.swi_dispatch_guest.specs.MachineState.{MachineState}
 use Rattle.swi_dispatch_guest.specs.Run.{Run, go_on, is_among, ran, run_unless_halted}
 use Rattle.swi_dispatch_guest.specs.Step.{machine_step}
-use Rattle.swi_dispatch_guest.specs.Moves.{Step, machine_after_move}
+use Rattle.swi_dispatch_guest.specs.Moves.{Step, machine_after_event}
 use Rattle.law_machine.proofs.LiveBytesLemmas.Moves.{live_bytes_stay}
 use Rattle.law_machine.specs.live_bytes.Runs.{IsStepped, LiveBytesStayOver, RunsAreSteps}
 
@@ -14,7 +14,7 @@ pub stay_over : LiveBytesStayOver
 stay_over images s [] start a state held = inl refl
 stay_over images s (m ∷ ms) start a state held = elim (live_bytes_stay images s m start a state held.0.0 held.0.1) [
   | inr may ↦ inr (inl may)
-  | inl same ↦ elim (stay_over images (machine_after_move images s m) ms start a held.0.0 held.1) [
+  | inl same ↦ elim (stay_over images (machine_after_event images s m) ms start a held.0.0 held.1) [
     | inl rest ↦ inl (rest ∙ same)
     | inr later ↦ inr (inr later)
   ]
@@ -26,7 +26,7 @@ unless_halted images s (Some h) r stepped = record { count = 0; is = refl }
 unless_halted images s None r stepped = stepped
 
 goes_on : (images : List Entry) (breaks : List ℕ) (s : MachineState) (o : Option Halt) (rest : MachineState → Run)
-    → IsStepped images (machine_after_move images s Step) (rest (machine_after_move images s Step)).now → IsStepped images s (go_on breaks (machine_step images s) o rest).now
+    → IsStepped images (machine_after_event images s Step) (rest (machine_after_event images s Step)).now → IsStepped images s (go_on breaks (machine_step images s) o rest).now
 goes_on images breaks s (Some h) rest stepped = record { count = 1; is = refl }
 goes_on images breaks s None rest stepped = elim (cases_Bool (is_among breaks (machine_step images s).now.cpu.pc)) [
   | inl there ↦ rw there (record { count = 1; is = refl })
@@ -38,4 +38,4 @@ unfolding ran
 runs_are_steps images breaks zero s = unless_halted images s s.halt _ (record { count = 0; is = refl })
 runs_are_steps images breaks (suc n) s =
     unless_halted images s s.halt _
-    (goes_on images breaks s (machine_step images s).now.halt (ran images breaks n) (runs_are_steps images breaks n (machine_after_move images s Step)))
+    (goes_on images breaks s (machine_step images s).now.halt (ran images breaks n) (runs_are_steps images breaks n (machine_after_event images s Step)))

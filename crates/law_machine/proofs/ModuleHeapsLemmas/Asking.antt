@@ -6,7 +6,7 @@ use Rattle.os_heap_words.specs.lists.Heap.{HeapList}
 use Rattle.os_heap.specs.Store.{Store}
 use Rattle.instances.specs.Reading.{start_found}
 use Rattle.instances.specs.declared.answers.Start.{Start}
-use Rattle.instances.specs.world.World.{World}
+use Rattle.instances.specs.module_state.ModuleState.{ModuleState}
 use Rattle.instances_table.specs.plans.Carrying.{Carried}
 use Rattle.instances_table.specs.plans.Plans.{Plan}
 use Rattle.instances_table.specs.declared.plans.code.Code.{Code}
@@ -14,36 +14,36 @@ use Rattle.instances_table.specs.declared.plans.given.Given.{Given}
 use Rattle.swi_dispatch_answers.specs.declared.frames.call.Call.{Call}
 use Rattle.swi_dispatch_answers.specs.declared.refusal.Refusal.{Refusal}
 use Rattle.swi_dispatch_answers.specs.declared.refusal.Refusal.TheVariants as refusal
-use Rattle.swi_dispatch_plans.specs.Trials.{world_carried}
+use Rattle.swi_dispatch_plans.specs.Trials.{module_state_carried}
 use Rattle.swi_dispatch_guest.specs.Errors.{with_error}
 use Rattle.swi_dispatch_guest.specs.Gates.{call_ended_by, carried_on, ended_of, entered_if, entered_with, state_after_plan, state_with_code_entered}
-use Rattle.swi_dispatch_guest.specs.MachineState.{MachineState, machine_estate, machine_world}
+use Rattle.swi_dispatch_guest.specs.MachineState.{MachineState, machine_area_store, machine_module_state}
 use Rattle.swi_dispatch_guest.specs.ModuleStart.{opened_at}
 use Rattle.swi_dispatch_guest.specs.Returns.{gone_back}
 use Rattle.law_blocks.proofs.HeapFrameLemmas.Guests.{guest_elsewhere}
 use Rattle.law_blocks.specs.heap_frame.GuestLaws.{HasGuestHeap}
 use Rattle.law_machine.proofs.HeapAloneLemmas.ModuleHosts.{IsHost}
 use Rattle.law_machine.specs.module_heaps.GivenUp.{ForgetsGivenUp}
-use Rattle.law_machine.proofs.ModuleHeapsLemmas.Giving.{IsTold}
+use Rattle.law_machine.proofs.ModuleHeapsLemmas.Giving.{IsShown}
 
-pub guest_of : (s : MachineState) (k : HeapList) → IsHost s k → HasGuestHeap (machine_estate s) k
+pub guest_of : (s : MachineState) (k : HeapList) → IsHost s k → HasGuestHeap (machine_area_store s) k
 guest_of s k host = record {
-  estate = host.modules.store.estate;
+  area_store = host.modules.store.area_store;
   system = host.modules.store.system;
   found = host.found;
   own = host.own;
 }
 
 pub elsewhere : (s : MachineState) (k : HeapList) → IsHost s k → k.start ≢ module_area_start
-elsewhere s k host = guest_elsewhere (machine_estate s) k (guest_of s k host)
+elsewhere s k host = guest_elsewhere (machine_area_store s) k (guest_of s k host)
 
--- what is told of a heap says when it is forgotten
-pub told_both_ways : (k : HeapList) (s t : Store) → IsTold k s t → ForgetsGivenUp k s t
-told_both_ways k s t (inl stays) = (
+-- what is shown of a heap says when it is forgotten
+pub shown_both_ways : (k : HeapList) (s t : Store) → IsShown k s t → ForgetsGivenUp k s t
+shown_both_ways k s t (inl stays) = (
   λ none. absurd (let no : None ≡ Some k = sym none ∙ stays.found in cc),
   λ given. absurd (let no : None ≡ Some given.total = sym given.gone ∙ stays.blocks given.block given.total given.live given.inside in cc),
 )
-told_both_ways k s t (inr goes) = (λ none. goes.given, λ given. goes.none)
+shown_both_ways k s t (inr goes) = (λ none. goes.given, λ given. goes.none)
 
 -- what changes no heap
 pub error_heaps : (s : MachineState) (e : Refusal) → (with_error s e).store.heaps ≡ s.store.heaps
@@ -67,13 +67,13 @@ ended_heaps s call g (Some r0) = refl
 ended_heaps s call g None = if_heaps (gone_back call.caller s false call.next) call.enters g
 
 -- a call that is carried on leaves the heaps of its plan
-by_code_heaps : (s : MachineState) (call : Call) (w : World) (q : Plan) (o : Option Code)
-    → (let c : Carried World = record { world = w; rest = q; code = o } in
-    (state_after_plan (state_with_code_entered s call c) call (ended_of c)).store.heaps ≡ w.estate.store.heaps)
+by_code_heaps : (s : MachineState) (call : Call) (w : ModuleState) (q : Plan) (o : Option Code)
+    → (let c : Carried ModuleState = record { module_state = w; rest = q; code = o } in
+    (state_after_plan (state_with_code_entered s call c) call (ended_of c)).store.heaps ≡ w.area_store.store.heaps)
 by_code_heaps s call w q (Some code) = refl
-by_code_heaps s call w q None = ended_heaps (state_with_code_entered s call (record { world = w; rest = q; code = None })) call q.given q.first
+by_code_heaps s call w q None = ended_heaps (state_with_code_entered s call (record { module_state = w; rest = q; code = None })) call q.given q.first
 
-pub carried_heaps : (s : MachineState) (call : Call) (p : Plan) → (carried_on s call p).store.heaps ≡ (world_carried (machine_world s) p).world.estate.store.heaps
+pub carried_heaps : (s : MachineState) (call : Call) (p : Plan) → (carried_on s call p).store.heaps ≡ (module_state_carried (machine_module_state s) p).module_state.area_store.store.heaps
 carried_heaps s call p =
-    let c : Carried World = world_carried (machine_world s) p in
-    by_code_heaps s call c.world c.rest c.code
+    let c : Carried ModuleState = module_state_carried (machine_module_state s) p in
+    by_code_heaps s call c.module_state c.rest c.code

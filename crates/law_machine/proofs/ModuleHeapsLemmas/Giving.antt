@@ -86,20 +86,20 @@ pub record GoesAway (k : HeapList) (s t : Store) : Type 0 where
   pub none : find_heap k.start t.heaps ≡ None
   pub given : IsGivenUp s t k.start
 
-abbrev pub IsTold : HeapList → Store → Store → Type 0
-IsTold k s t = StaysPut k s t ⊎ GoesAway k s t
+abbrev pub IsShown : HeapList → Store → Store → Type 0
+IsShown k s t = StaysPut k s t ⊎ GoesAway k s t
 
 -- No block comes, and no heap.
 pub record GivesUp (k : HeapList) (s t : Store) : Type 0 where
   pub totals : (block n : ℕ) → block_total t block ≡ Some n → block_total s block ≡ Some n
   pub lost : find_heap k.start s.heaps ≡ None → find_heap k.start t.heaps ≡ None
-  pub told : find_heap k.start s.heaps ≡ Some k → IsTold k s t
+  pub reported : find_heap k.start s.heaps ≡ Some k → IsShown k s t
 
 pub same_gives : (k : HeapList) (s t : Store) → t.heaps ≡ s.heaps → GivesUp k s t
 same_gives k s t same = record {
   totals = λ block n live. ap (λ (hs : List HeapList). total_in block (find_heap module_area_start hs)) (sym same) ∙ live;
   lost = λ none. ap (find_heap k.start) same ∙ none;
-  told = λ found. inl (record {
+  reported = λ found. inl (record {
     found = ap (find_heap k.start) same ∙ found;
     blocks = λ block total live inside. ap (λ (hs : List HeapList). total_in block (find_heap module_area_start hs)) same ∙ live;
   });
@@ -115,8 +115,8 @@ pub gives_both : (k : HeapList) (s t u : Store) → GivesUp k s t → GivesUp k 
 gives_both k s t u one two = record {
   totals = λ block n live. one.totals block n (two.totals block n live);
   lost = λ none. two.lost (one.lost none);
-  told = λ found. elim (one.told found) [
-    | inl stays ↦ elim (two.told stays.found) [
+  reported = λ found. elim (one.reported found) [
+    | inl stays ↦ elim (two.reported stays.found) [
       | inl more ↦ inl (record {
         found = more.found;
         blocks = λ block total live inside. more.blocks block total (stays.blocks block total live inside) inside;
@@ -211,8 +211,8 @@ module _ (limit : ℕ) (k : HeapList) (other : k.start ≢ module_area_start) (s
     | inr out ↦ out_found out ∙ none
   ]
 
-  told_after : find_heap k.start s.heaps ≡ Some k → IsTold k s after
-  told_after there = elim (cases_Bool (in_range block (total - 4) k.start)) [
+  shown_after : find_heap k.start s.heaps ≡ Some k → IsShown k s after
+  shown_after there = elim (cases_Bool (in_range block (total - 4) k.start)) [
     | inl inside ↦ inr (record {
       none = in_none inside;
       given = record { block = block; total = total; live = was_total; gone = went; inside = inside };
@@ -233,7 +233,7 @@ module _ (limit : ℕ) (k : HeapList) (other : k.start ≢ module_area_start) (s
   released_gives totals' = record {
     totals = λ b n now. (release_were limit block total s h items f found totals' live is b n now).0;
     lost = lost_after;
-    told = told_after;
+    reported = shown_after;
   }
 
 abbrev pub GivesUpIn : {A : Type 0} → HeapList → Store → Store × A → Type 0

@@ -10,7 +10,7 @@ use Rattle.os_heap_words.specs.lists.Lists.{live_total}
 use Rattle.os_heap.proofs.Apart.{range_parts}
 use Rattle.os_heap.proofs.Found.{found_heap, found_start}
 use Rattle.os_heap.specs.Store.{Store}
-use Rattle.dynamic_areas.specs.Ground.{Estate}
+use Rattle.dynamic_areas.specs.Ground.{AreaStore}
 use Rattle.law_blocks.proofs.HeapFrameLemmas.Guests.{guests_outside}
 use Rattle.law_blocks.specs.heap_frame.BlockLaws.{StayLive, block_total, total_in}
 use Rattle.law_blocks.specs.heap_frame.Fits.{IsFitStore, LiesInArea, is_module_byte}
@@ -49,10 +49,10 @@ one_of_two limit a block total other n s f live live' inside low high = elim (ca
       ])
 ]
 
-module _ (limit : ℕ) (e : Estate) (k : HeapList) (t : Store) (guest : HasGuestHeap e k) (f : IsFitStore limit t) (stay : StayLive e.store t) (block total : ℕ)
+module _ (limit : ℕ) (e : AreaStore) (k : HeapList) (t : Store) (guest : HasGuestHeap e k) (f : IsFitStore limit t) (stay : StayLive e.store t) (block total : ℕ)
     (live : block_total t block ≡ Some total) (inside : in_range block (total - 4) k.start ≡ true) where
   heap : IsHeapIn e.store.bytes k.start k.end k.items
-  heap = found_heap e.store.bytes k.start e.store.heaps k guest.estate.ground.sound.heaps guest.found
+  heap = found_heap e.store.bytes k.start e.store.heaps k guest.area_store.ground.sound.heaps guest.found
 
   within_area : is_module_byte k.start ≡ true
   within_area =

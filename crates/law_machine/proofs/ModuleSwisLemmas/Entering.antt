@@ -7,7 +7,7 @@ use Rattle.std.proofs.lemmas.List.{length-set}
 use Rattle.profile.specs.Word.{bit_of}
 use Rattle.profile.specs.declared.swi.SwiName.{SwiName}
 use Rattle.arm_core.specs.declared.psr.Mode.TheVariants.{Supervisor}
-use Rattle.arm_core.specs.declared.turn.Turn.TheVariants as turn
+use Rattle.arm_core.specs.declared.turn.StepEnd.TheVariants as turn
 use Rattle.arm_core.specs.State.{State, register_in}
 use Rattle.image_loader.specs.Entries.{Entry}
 use Rattle.instances_table.specs.plans.Code.{private_of}
@@ -17,7 +17,7 @@ use Rattle.instances_table.specs.Modules.{Module}
 use Rattle.swi_dispatch_answers.specs.declared.frames.frame.FrameKind.TheVariants.{Swi}
 use Rattle.swi_dispatch_answers.specs.frames.Entering.{state_after_entry, swi_entered}
 use Rattle.swi_dispatch_answers.specs.frames.Frames.{frame_of}
-use Rattle.swi_dispatch_guest.proofs.NextTurn.{awake_step}
+use Rattle.swi_dispatch_guest.proofs.NextTurn.{unhalted_step}
 use Rattle.swi_dispatch_guest.specs.MachineState.{MachineState, StepOutcome}
 use Rattle.swi_dispatch_guest.specs.Step.{call_of, called_by, handler_entered, outcome_of_call, outcome_of_module_swi, outcome_of_turn, result_of_instruction, without_x}
 use Rattle.law_machine.specs.module_swis.Swis.{HandlesSwi, IsModuleSwi, IsSwiEntered, SwiStepsEnterPreferred, SwisEnterPreferred}
@@ -67,9 +67,9 @@ handled number ms m handles =
     ap (handled_at ms) (found_first number ms handles.place first) ∙ ap (option_map handled_in) handles.there
 
 -- R12 of the code
-word_told : (cpu : State) (at number slot : ℕ) → length cpu.file ≡ 26 → register_in Supervisor (swi_entered cpu at number slot) 12 ≡ private_of slot
+word_shown : (cpu : State) (at number slot : ℕ) → length cpu.file ≡ 26 → register_in Supervisor (swi_entered cpu at number slot) 12 ≡ private_of slot
 unfolding swi_entered
-word_told cpu at number slot size =
+word_shown cpu at number slot size =
     let entered : State = state_after_entry cpu at in
     let one : length entered.file ≡ 26 = length-set cpu.file 25 _ ∙ size in
     let two : length (slice_set entered.file 11 (number % 64)) ≡ 26 = length-set entered.file 11 (number % 64) ∙ one in
@@ -86,7 +86,7 @@ module _ (images : List Entry) (s : MachineState) (x : Bool) (next number : ℕ)
     takes_errors = refl;
     caller = refl;
     goes_on = refl;
-    word = word_told s.cpu (handled_in m).at number m.preferred is.registers;
+    word = word_shown s.cpu (handled_in m).at number m.preferred is.registers;
   }
 
   by_handler : IsSwiEntered s x next number m (outcome_of_module_swi s x next number (Some (handled_in m))).now
@@ -114,5 +114,5 @@ by_turn images s n m turned is = rw turned (by_call images s (bit_of n 17) ((s.c
 
 pub swi_steps_enter : SwiStepsEnterPreferred
 swi_steps_enter images s n m goes turned is =
-    subst (λ (o : StepOutcome). IsSwiEntered s (bit_of n 17) ((s.cpu.pc + 4) % 2 ^ 26) (without_x n) m o.now) (sym (awake_step images s goes))
+    subst (λ (o : StepOutcome). IsSwiEntered s (bit_of n 17) ((s.cpu.pc + 4) % 2 ^ 26) (without_x n) m o.now) (sym (unhalted_step images s goes))
     (by_turn images s n m turned is)

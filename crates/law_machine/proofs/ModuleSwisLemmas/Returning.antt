@@ -14,9 +14,9 @@ use Rattle.swi_dispatch_answers.specs.frames.Frames.{frames_after_close, innermo
 use Rattle.swi_dispatch_answers.specs.frames.Leaving.{first_restored, left, state_with_saved_words}
 use Rattle.swi_dispatch_answers.specs.declared.frames.frame.Frame.{Frame}
 use Rattle.swi_dispatch_guest.proofs.GateReturns.{swi_went}
-use Rattle.swi_dispatch_guest.proofs.NextTurn.{awake_step}
+use Rattle.swi_dispatch_guest.proofs.NextTurn.{unhalted_step}
 use Rattle.swi_dispatch_guest.specs.Gates.{frame_closed, outcome_of_gate}
-use Rattle.swi_dispatch_guest.specs.MachineState.{MachineState, StepOutcome, quiet}
+use Rattle.swi_dispatch_guest.specs.MachineState.{MachineState, StepOutcome, silent}
 use Rattle.swi_dispatch_guest.specs.Step.{machine_step, outcome_of_turn, result_of_instruction}
 use Rattle.law_machine.specs.module_swis.Swis.{ComesBackWell, IsSwiDone, SwisGoBack}
 
@@ -78,8 +78,8 @@ swis_go_back images s below f number back =
     let stack : (register_in Supervisor s.cpu 13 == f.stack) ≡ true = eq-eqb (register_in Supervisor s.cpu 13) f.stack back.stack in
     let swi : is_swi f.kind ≡ true = ap is_swi back.kind in
     let taken : (s.cpu.psr.overflow && not f.call.is_x) ≡ false = ap (λ (b : Bool). b && not f.call.is_x) back.well in
-    let went : quiet (frame_closed s f) ≡ outcome_of_gate s =
-    swi_went s f (quiet (frame_closed s f)) (innermost_there s.tables.frames below f back.innermost) stack swi taken refl in
+    let went : silent (frame_closed s f) ≡ outcome_of_gate s =
+    swi_went s f (silent (frame_closed s f)) (innermost_there s.tables.frames below f back.innermost) stack swi taken refl in
     let gate : outcome_of_turn images s (result_of_instruction s) ≡ outcome_of_gate s = ap (outcome_of_turn images s) back.gate in
-    let is : quiet (frame_closed s f) ≡ machine_step images s = went ∙ sym gate ∙ sym (awake_step images s back.goes) in
+    let is : silent (frame_closed s f) ≡ machine_step images s = went ∙ sym gate ∙ sym (unhalted_step images s back.goes) in
     subst (λ (o : StepOutcome). IsSwiDone below f o.now) is (done_by s below f number back)

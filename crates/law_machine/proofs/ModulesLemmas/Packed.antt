@@ -2,7 +2,7 @@
 use Rattle.std.proofs.Common.{List, ℕ, Bool, [], ◌∷◌, ◌++◌, ◌≡◌, ◌≢◌, ◌≤◌, ◌+◌, ◌-◌, ◌==◌, ◌∙◌, true, refl, sym, ap, inl, inr, Some, None, arith}
 use Rattle.std.proofs.lemmas.Bool.{cases_Bool, cases_eq, eq-eqb, eqb-true, ne_eqb}
 use Rattle.address_map.specs.Moves.{moved_to}
-use Rattle.address_map.specs.declared.follow.Move.{Move}
+use Rattle.address_map.specs.declared.follow.BlockMove.{BlockMove}
 use Rattle.address_map.specs.declared.item.Item.{Item}
 use Rattle.address_map.specs.declared.item.Item.TheVariants.{Free, Live}
 use Rattle.os_heap_words.proofs.ListsLemmas.Reading.{total_facts}
@@ -37,7 +37,7 @@ packed mv top at (Live u ∷ xs) b t low totals live moves =
     let place : ℕ = item_place_after (mv (at + 4)) top at in
     let bounds : (top ≤ place) × (place ≤ at) = between (mv (at + 4)) top at low in
     let least = total_facts u totals.0 in
-    let ms : List Move = moves_of mv (place + u) (at + u) xs in
+    let ms : List BlockMove = moves_of mv (place + u) (at + u) xs in
     let zs : List Item = slid mv (place + u) (at + u) xs in
     elim (cases_eq (at + 4) b) [
       | inl here ↦

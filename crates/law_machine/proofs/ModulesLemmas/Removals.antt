@@ -64,7 +64,7 @@ module _ (title : List ℕ) (slot : ℕ) (n : Module) (ms : List Module) where
   own_left : (o : Option Instance) (left : List Instance) → has_title title n ≡ true → module_titled title ms ≡ None
       → ((left ≡ []) × (o ≡ None)) ⊎ ((oldest : Instance) × ((others : List Instance) × ((left ≡ oldest ∷ others) × (o ≡ Some oldest))))
       → IsLeftOf slot n o (module_titled title (still slot n left ++ ms))
-  own_left o left is none told = elim told [
+  own_left o left is none reported = elim reported [
     | inl gone ↦ rw (gone.0, gone.1) none
     | inr stays ↦ rw (stays.1.1.0, stays.1.1.1, is) (record {
       still = λ other. rw (ne_eqb n.preferred slot other) refl;
@@ -90,14 +90,14 @@ removed title slot (n ∷ ms) m titles slots is = elim (cases_Bool (has_instance
             let both : Some n ≡ Some m = rw here at is in
             let same : n ≡ m = cc in
             let none : number_passing (has_title title) ms ≡ 0 = (let most = rw here at titles in omega (arith, most)) in
-            let told : IsLeftOf slot n (oldest_other slot n) (module_titled title (still slot n left ++ ms)) =
+            let reported : IsLeftOf slot n (oldest_other slot n) (module_titled title (still slot n left ++ ms)) =
             own_left title slot n ms (oldest_other slot n) left here (none_titled title ms none)
             (elim (are_left slot n.instances few holds) [
               | inl gone ↦ inl gone
               | inr stays ↦ inr (stays.oldest, (stays.others, (stays.left_is, stays.found)))
             ]) in
             rw (holds, sym same) (record {
-              own = λ has. told;
+              own = λ has. reported;
               other = λ lacks. absurd (both_ways (has_instance slot n) lacks holds);
             })
         | inr away ↦

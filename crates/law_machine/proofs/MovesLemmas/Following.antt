@@ -7,39 +7,39 @@ use Rattle.profile.specs.declared.swi.SwiName.{SwiName}
 use Rattle.profile.specs.declared.swi.SwiName.TheVariants as swi
 use Rattle.address_map.specs.Bytes.{Bytes}
 use Rattle.arm_core.specs.State.{IsCore, State, register_of}
-use Rattle.arm_core.specs.declared.turn.Turn.{Turn as CoreTurn}
-use Rattle.arm_core.specs.declared.turn.Turn.TheVariants as turn
+use Rattle.arm_core.specs.declared.turn.StepEnd.{StepEnd as CoreTurn}
+use Rattle.arm_core.specs.declared.turn.StepEnd.TheVariants as turn
 use Rattle.image_loader.specs.Entries.{Entry}
 use Rattle.instances_table.specs.plans.Plans.{Plan}
 use Rattle.swi_dispatch_guest.specs.declared.halt.Halt.{Halt}
 use Rattle.swi_dispatch_guest.specs.MachineState.{MachineState}
-use Rattle.swi_dispatch_guest.specs.Parts.{IsState, state_of}
+use Rattle.swi_dispatch_guest.specs.GuestState.{IsState, state_of}
 use Rattle.swi_dispatch_guest.specs.Step.{outcome_of_call, result_of_instruction, machine_step, store_called, outcome_of_turn, unless_halted, without_x}
-use Rattle.swi_dispatch_guest.specs.Moves.{Call, Move, Step, machine_with_words, machine_after_move, swi_of_turn, with_registers}
+use Rattle.swi_dispatch_guest.specs.Moves.{Call, Move, Step, machine_with_words, machine_after_event, swi_of_turn, with_registers}
 use Rattle.swi_dispatch_guest.specs.Writes.{machine_with_register}
 use Rattle.law_blocks.specs.sliding.Meaning.{AreStores, Meaning, Stores, meaning_of}
 use Rattle.law_blocks.specs.sliding.Rules.{IsTurned}
-use Rattle.law_blocks.specs.sliding.Turning.{Call as FlexTurn, Init, Slide, StoreTurn, answer_of_turn, anchor_place_of_turn, stores_after_turn as stores_turned}
+use Rattle.law_blocks.specs.sliding.Turning.{Call as FlexStep, Init, Slide, FlexOrSlide, answer_of_turn, anchor_place_of_turn, stores_after_step as stores_turned}
 use Rattle.law_blocks.proofs.SlidingNamesLemmas.Naming.{turns_named}
 use Rattle.law_blocks.specs.sliding_names.Named.{IsTurnByNames}
 use Rattle.law_machine.proofs.SlidingLemmas.Flex.{allowed}
 use Rattle.law_machine.proofs.SlidingLemmas.Lawful.{calls_are, tidies_go}
 use Rattle.law_machine.proofs.SlidingLemmas.PlanKept.{plans_kept, plans_kept_outside}
 use Rattle.law_machine.proofs.SlidingLemmas.States.{states_have}
-use Rattle.law_machine.proofs.SlidingLemmas.Told.{flex_calls_tell_room}
+use Rattle.law_machine.proofs.SlidingLemmas.Reported.{flex_calls_print_room}
 use Rattle.law_machine.specs.sliding.Laws.{TidyGoesOn, IsMachineTurn}
 use Rattle.law_machine.specs.sliding.MachineStores.{stores_of}
 use Rattle.law_machine.specs.sliding.Turns.{FlexSwi, IsTidyKept, IsTurnMade, flex_name, flex_turn}
 use Rattle.law_machine.specs.moves.Laws.{IsFlexMove, IsMoveFollowed, IsMoveKnown, MovesFollowRules}
 
 -- what a turn of the stores does by names
-refused_named : (turn : StoreTurn) (x : Stores) (e : ErrorNumber) (p q : Meaning) → IsTurned turn (anchor_place_of_turn turn x) (Err e) p q
+refused_named : (turn : FlexOrSlide) (x : Stores) (e : ErrorNumber) (p q : Meaning) → IsTurned turn (anchor_place_of_turn turn x) (Err e) p q
     → IsTurnByNames turn (Err e) (anchor_place_of_turn turn x) p.flex q.flex
 refused_named (Init start end) x e p q rule = ap (λ (m : Meaning). m.flex) rule
-refused_named (FlexTurn call) x e p q rule = ap (λ (m : Meaning). m.flex) rule
+refused_named (FlexStep call) x e p q rule = ap (λ (m : Meaning). m.flex) rule
 refused_named (Slide return_address) x e p q rule = ap (λ (m : Meaning). m.flex) rule
 
-named_by : (turn : StoreTurn) (x y : Stores) (answer : Result Bool ErrorNumber)
+named_by : (turn : FlexOrSlide) (x y : Stores) (answer : Result Bool ErrorNumber)
     → IsTurned turn (anchor_place_of_turn turn x) answer (meaning_of x) (meaning_of y)
     → ((room : Bool) → answer ≡ Ok room → y ≡ stores_turned turn x)
     → IsTurnByNames turn answer (anchor_place_of_turn turn x) (meaning_of x).flex (meaning_of (stores_turned turn x)).flex
@@ -72,8 +72,8 @@ module _ (images : List Entry) (s t : MachineState) (x : Bool) (next number : �
       record {
         made = made;
         named = named_by (flex_turn f s.cpu) (stores_of s) (stores_of t) (answer_of_turn (flex_turn f s.cpu) (stores_of s)) made.followed.rule made.exact named;
-        told = λ room tells is.
-            ap (λ (u : MachineState). register_of u.cpu 0) after ∙ flex_calls_tell_room images f s x next number room core.size name tells is;
+        reported = λ room shows is.
+            ap (λ (u : MachineState). register_of u.cpu 0) after ∙ flex_calls_print_room images f s x next number room core.size name shows is;
       }
 
 -- a call from outside is made on a machine of which registers alone are others
@@ -95,18 +95,18 @@ no_step : (number : ℕ) (words : List ℕ) → Call number words ≡ Step → �
 no_step number words same = cc
 
 call_after : (images : List Entry) (s : MachineState) (number : ℕ) (words : List ℕ) → s.halt ≡ None
-    → machine_after_move images s (Call number words)
+    → machine_after_event images s (Call number words)
     ≡ (outcome_of_call images (machine_with_words s words) true (machine_with_words s words).cpu.pc (without_x (number % 2 ^ 24))).now
 unfolding store_called
-call_after images s number words awake =
+call_after images s number words unhalted =
     ap (λ (o : Option Halt). (unless_halted (machine_with_words s words) o (outcome_of_call images (machine_with_words s words) true (machine_with_words s words).cpu.pc (without_x (number % 2 ^ 24)))).now)
-    (given_halt s 0 words ∙ awake)
+    (given_halt s 0 words ∙ unhalted)
 
 call_followed : (images : List Entry) (s : MachineState) (number : ℕ) (words : List ℕ) → IsMoveKnown images s (Call number words)
-    → IsMoveFollowed s (Call number words) (machine_after_move images s (Call number words))
+    → IsMoveFollowed s (Call number words) (machine_after_event images s (Call number words))
 call_followed images s number words known =
     let u : MachineState = machine_with_words s words in
-    let t : MachineState = machine_after_move images s (Call number words) in
+    let t : MachineState = machine_after_event images s (Call number words) in
     let n : ℕ = without_x (number % 2 ^ 24) in
     let after = call_after images s number words known.goes in
     record {
@@ -130,26 +130,26 @@ step_swi (Err turn.Gate) name is = absurd (let no : None ≡ Some name = is in c
 step_swi (Err (turn.Fault f)) name is = absurd (let no : None ≡ Some name = is in cc)
 
 step_after : (images : List Entry) (s : MachineState) (n : ℕ) → s.halt ≡ None → result_of_instruction s ≡ Err (turn.Swi n)
-    → machine_after_move images s Step ≡ (outcome_of_call images s (bit_of n 17) ((s.cpu.pc + 4) % 2 ^ 26) (without_x n)).now
+    → machine_after_event images s Step ≡ (outcome_of_call images s (bit_of n 17) ((s.cpu.pc + 4) % 2 ^ 26) (without_x n)).now
 unfolding machine_step
-step_after images s n awake is =
-    ap (λ (o : Option Halt). (unless_halted s o (outcome_of_turn images s (result_of_instruction s))).now) awake
+step_after images s n unhalted is =
+    ap (λ (o : Option Halt). (unless_halted s o (outcome_of_turn images s (result_of_instruction s))).now) unhalted
     ∙ ap (λ (r : Result (State × Bytes) CoreTurn). (outcome_of_turn images s r).now) is
 
 goes_by : (images : List Entry) (s t : MachineState) (return_address : ℕ) → IsState s → IsState t → s.halt ≡ None → result_of_instruction s ≡ Err turn.Gate
     → IsTidyKept return_address s.tables.plan → t ≡ (machine_step images s).now → TidyGoesOn return_address s t
-goes_by images s t return_address state left awake gate tidy after =
+goes_by images s t return_address state left unhalted gate tidy after =
     let back : s ≡ state_of state.parts = sym state.is in
     subst (λ (u : MachineState). TidyGoesOn return_address u t) state.is
     (subst (λ (u : MachineState). TidyGoesOn return_address (state_of state.parts) u) left.is
     (tidies_go images state.parts left.parts return_address state.machine left.machine
-    (subst (λ (u : MachineState). u.halt ≡ None) back awake) (subst (λ (u : MachineState). result_of_instruction u ≡ Err turn.Gate) back gate)
+    (subst (λ (u : MachineState). u.halt ≡ None) back unhalted) (subst (λ (u : MachineState). result_of_instruction u ≡ Err turn.Gate) back gate)
     (subst (λ (u : MachineState). IsTidyKept return_address u.tables.plan) back tidy)
     (left.is ∙ (after ∙ ap (λ (u : MachineState). (machine_step images u).now) back))))
 
-step_followed : (images : List Entry) (s : MachineState) → IsMoveKnown images s Step → IsMoveFollowed s Step (machine_after_move images s Step)
+step_followed : (images : List Entry) (s : MachineState) → IsMoveKnown images s Step → IsMoveFollowed s Step (machine_after_event images s Step)
 step_followed images s known =
-    let t : MachineState = machine_after_move images s Step in
+    let t : MachineState = machine_after_event images s Step in
     let next : ℕ = (s.cpu.pc + 4) % 2 ^ 26 in
     record {
       flex = λ f made.
@@ -165,10 +165,10 @@ step_followed images s known =
           subst (IsTidyKept return_address) (sym same) tidy;
     }
 
-move_followed : (images : List Entry) (s : MachineState) (m : Move) → IsMoveKnown images s m → IsMoveFollowed s m (machine_after_move images s m)
+move_followed : (images : List Entry) (s : MachineState) (m : Move) → IsMoveKnown images s m → IsMoveFollowed s m (machine_after_event images s m)
 move_followed images s (Call number words) known = call_followed images s number words known
 move_followed images s Step known = step_followed images s known
 
 pub moves_follow : MovesFollowRules
 moves_follow images s [] known = tt
-moves_follow images s (m ∷ ms) known = (move_followed images s m known.0, moves_follow images (machine_after_move images s m) ms known.1)
+moves_follow images s (m ∷ ms) known = (move_followed images s m known.0, moves_follow images (machine_after_event images s m) ms known.1)

@@ -12,15 +12,15 @@ use Rattle.os_heap.proofs.Apart.{range_parts}
 use Rattle.os_heap.proofs.Found.{found_start, with_other_end}
 use Rattle.os_heap.specs.Calls.{block_sized, gave_back, store_after_get, store_after_resize}
 use Rattle.os_heap.specs.Store.{Store, find_heap}
-use Rattle.dynamic_areas.specs.Ground.{Estate}
+use Rattle.dynamic_areas.specs.Ground.{AreaStore}
 use Rattle.rma.specs.Calls.{end_if_moved, end_in_place, grown_in_place, grown_to, in_area, is_full, or_as_before, resized_or_grown, rma_base, rma_claimed, rma_extended, rma_freed, with_store}
 use Rattle.rma.specs.Images.{image_recorded, store_with_image}
 use Rattle.rma.specs.NewImages.{image_copied, image_made}
 use Rattle.rma.proofs.FlexFrameLemmas.Heaps.{OnDone}
 use Rattle.law_blocks.proofs.HeapFrameLemmas.AreaReleases.{area_there}
-use Rattle.law_blocks.proofs.HeapFrameLemmas.Guests.{estates_fit}
-use Rattle.law_blocks.proofs.HeapFrameLemmas.ModuleArea.{OnEstate, OnGrown as OnFit, to_fit}
-use Rattle.law_blocks.specs.heap_frame.FitEstates.{IsFitEstate}
+use Rattle.law_blocks.proofs.HeapFrameLemmas.Guests.{area_stores_fit}
+use Rattle.law_blocks.proofs.HeapFrameLemmas.ModuleArea.{OnAreaStore, OnGrown as OnFit, to_fit}
+use Rattle.law_blocks.specs.heap_frame.FitAreaStores.{IsFitAreaStore}
 use Rattle.law_machine.proofs.OtherBytesLemmas.AreaGrowth.{IsBase, IsGrown, OnGrown, base_of, before_grown, not_grown, to_grown}
 use Rattle.law_machine.proofs.OtherBytesLemmas.AreaLists.{IsMovedIn, LeavesIn, Resizes, ResizesIn, got_leaves, gave_leaves, resized_leaves}
 use Rattle.law_machine.specs.other_bytes.AreaWrites.{AreaCallsKeepOthers, IsAreaWord, IsOfMovedAreaBlock}
@@ -45,7 +45,7 @@ only_words d t a (inr (inl word)) = inr word
 only_words d t a (inr (inr none)) = absurd none
 
 module _ (d : Store) (o : HeapList) (base : IsBase d o) (a : ℕ) where
-  -- the word that tells the heap's end is one of its words
+  -- the word that shows the heap's end is one of its words
   end_word : (t : Store) (h : HeapList) → find_heap module_area_start t.heaps ≡ Some h → in_range (o.start + 12) 4 a ≡ true → IsAreaWord t a
   end_word t h found is =
       let parts : (o.start + 12 ≤ a) × (a < o.start + 12 + 4) = range_parts (o.start + 12) 4 a is in
@@ -71,23 +71,23 @@ module _ (d : Store) (o : HeapList) (base : IsBase d o) (a : ℕ) where
   finish g t h M N grown found more (inr (inl word)) = inr (inl (record { list = h; found = found; word = word }))
   finish g t h M N grown found more (inr (inr other)) = inr (inr (more other))
 
-  abbrev StaysIn : {A : Type 0} → Type 0 → Estate × A → Type 0
+  abbrev StaysIn : {A : Type 0} → Type 0 → AreaStore × A → Type 0
   StaysIn M x = Stays d x.0.store a M
 
   -- claims and releases
-  in_stays : (A : Type 0) (limit : ℕ) (e : Estate) (r : Result (Store × A) ErrorNumber) → IsGrown d o base e.store → OnDone (LeavesIn limit e.store a ⊥) r
-      → OnEstate (StaysIn ⊥) (in_area e r)
+  in_stays : (A : Type 0) (limit : ℕ) (e : AreaStore) (r : Result (Store × A) ErrorNumber) → IsGrown d o base e.store → OnDone (LeavesIn limit e.store a ⊥) r
+      → OnAreaStore (StaysIn ⊥) (in_area e r)
   in_stays A limit e (Ok x) grown left = finish e.store x.0 left.heap ⊥ ⊥ grown left.found (λ none. none) left.byte
   in_stays A limit e (Err f) grown left = tt
 
-  grown_got : (e : Estate) (size : ℕ) (r : Result Estate ErrorNumber) → OnFit e r → OnGrown d o base r
-      → OnEstate (StaysIn ⊥) (bind r (λ g. in_area g (store_after_get g.store module_area_start size)))
+  grown_got : (e : AreaStore) (size : ℕ) (r : Result AreaStore ErrorNumber) → OnFit e r → OnGrown d o base r
+      → OnAreaStore (StaysIn ⊥) (bind r (λ g. in_area g (store_after_get g.store module_area_start size)))
   grown_got e size (Err f) fit grown = tt
   grown_got e size (Ok g) fit grown =
       let limit : ℕ = 4096 * fit.fit.area.pages in
       in_stays ℕ limit g (store_after_get g.store module_area_start size) grown (got_leaves limit size a g.store ⊥ fit.fit.store)
 
-  claimed_stays : (e : Estate) (size : ℕ) → IsFitEstate e → IsGrown d o base e.store → OnEstate (StaysIn ⊥) (rma_claimed e size)
+  claimed_stays : (e : AreaStore) (size : ℕ) → IsFitAreaStore e → IsGrown d o base e.store → OnAreaStore (StaysIn ⊥) (rma_claimed e size)
   unfolding rma_claimed
   claimed_stays e size f grown = elim (cases_Bool (is_full (store_after_get e.store module_area_start size))) [
     | inl full ↦
@@ -98,7 +98,7 @@ module _ (d : Store) (o : HeapList) (base : IsBase d o) (a : ℕ) where
         rw found (in_stays ℕ limit e (store_after_get e.store module_area_start size) grown (got_leaves limit size a e.store ⊥ f.store))
   ]
 
-  freed_stays : (e : Estate) (block : ℕ) → IsFitEstate e → IsGrown d o base e.store → OnEstate (StaysIn ⊥) (rma_freed e block)
+  freed_stays : (e : AreaStore) (block : ℕ) → IsFitAreaStore e → IsGrown d o base e.store → OnAreaStore (StaysIn ⊥) (rma_freed e block)
   unfolding rma_freed
   freed_stays e block f grown =
       let limit : ℕ = 4096 * f.area.pages in
@@ -125,24 +125,24 @@ module _ (d : Store) (o : HeapList) (base : IsBase d o) (a : ℕ) where
         byte = there.byte;
       }
 
-  abbrev Extends : ℕ → ℕ → Estate × ℕ → Type 0
+  abbrev Extends : ℕ → ℕ → AreaStore × ℕ → Type 0
   Extends block change x = Stays d x.0.store a (IsOfMovedAreaBlock d x.0.store block change a)
 
-  in_extends : (limit block change : ℕ) (e : Estate) (r : Result (Store × ℕ) ErrorNumber) → IsGrown d o base e.store
-      → OnDone (ResizesIn limit e.store block change a) r → OnEstate (Extends block change) (in_area e r)
+  in_extends : (limit block change : ℕ) (e : AreaStore) (r : Result (Store × ℕ) ErrorNumber) → IsGrown d o base e.store
+      → OnDone (ResizesIn limit e.store block change a) r → OnAreaStore (Extends block change) (in_area e r)
   in_extends limit block change e (Ok x) grown left =
       finish e.store x.0 left.leaves.heap (IsMovedIn left.old block change limit a) (IsOfMovedAreaBlock d x.0 block change a) grown left.leaves.found
       (moved_of e.store x.0 limit block change grown left) left.leaves.byte
   in_extends limit block change e (Err f) grown left = tt
 
-  grown_extends : (e : Estate) (block change : ℕ) (r : Result Estate ErrorNumber) → OnFit e r → OnGrown d o base r
-      → OnEstate (Extends block change) (bind r (λ g. in_area g (store_after_resize g.store module_area_start block change)))
+  grown_extends : (e : AreaStore) (block change : ℕ) (r : Result AreaStore ErrorNumber) → OnFit e r → OnGrown d o base r
+      → OnAreaStore (Extends block change) (bind r (λ g. in_area g (store_after_resize g.store module_area_start block change)))
   grown_extends e block change (Err f) fit grown = tt
   grown_extends e block change (Ok g) fit grown =
       let limit : ℕ = 4096 * fit.fit.area.pages in
       in_extends limit block change g (store_after_resize g.store module_area_start block change) grown (resized_leaves limit block change a g.store fit.fit.store)
 
-  or_grown_extends : (e : Estate) (block change : ℕ) → IsFitEstate e → IsGrown d o base e.store → OnEstate (Extends block change) (resized_or_grown e block change)
+  or_grown_extends : (e : AreaStore) (block change : ℕ) → IsFitAreaStore e → IsGrown d o base e.store → OnAreaStore (Extends block change) (resized_or_grown e block change)
   or_grown_extends e block change f grown = elim (cases_Bool (is_full (store_after_resize e.store module_area_start block change))) [
     | inl full ↦
         let end : ℕ = end_if_moved (rma_base e.store) change (block_sized e.store module_area_start block) in
@@ -152,11 +152,11 @@ module _ (d : Store) (o : HeapList) (base : IsBase d o) (a : ℕ) where
         rw found (in_extends limit block change e (store_after_resize e.store module_area_start block change) grown (resized_leaves limit block change a e.store f.store))
   ]
 
-  before_fit : (e : Estate) (r : Result Estate ErrorNumber) → IsFitEstate e → OnFit e r → IsFitEstate (or_as_before e r)
+  before_fit : (e : AreaStore) (r : Result AreaStore ErrorNumber) → IsFitAreaStore e → OnFit e r → IsFitAreaStore (or_as_before e r)
   before_fit e (Ok g) f fit = fit.fit
   before_fit e (Err g) f fit = f
 
-  extended_stays : (e : Estate) (block change : ℕ) → IsFitEstate e → IsGrown d o base e.store → OnEstate (Extends block change) (rma_extended e block change)
+  extended_stays : (e : AreaStore) (block change : ℕ) → IsFitAreaStore e → IsGrown d o base e.store → OnAreaStore (Extends block change) (rma_extended e block change)
   unfolding rma_extended
   extended_stays e block change f grown =
       let end : ℕ = end_in_place (rma_base e.store) block change (block_sized e.store module_area_start block) in
@@ -183,30 +183,30 @@ module _ (d : Store) (o : HeapList) (base : IsBase d o) (a : ℕ) where
     beside same (inr (inl word)) = inr (inl (record { list = word.list; found = word.found; word = word.word }))
     beside same (inr (inr none)) = absurd none
 
-  abbrev Fills : ℕ → Estate × ℕ → Type 0
+  abbrev Fills : ℕ → AreaStore × ℕ → Type 0
   Fills len x = Stays d x.0.store a (in_range x.1 len a ≡ true)
 
-  image_fills : (len : ℕ) (r : Result (Estate × ℕ) ErrorNumber) (put : Store → ℕ → Bytes)
-      → ((s : Store) (at : ℕ) → in_range at len a ≡ false → (put s at).at a ≡ s.bytes.at a) → OnEstate (StaysIn ⊥) r
-      → OnEstate (Fills len) (bind r (λ c. Ok (with_store c.0 (image_recorded (record c.0.store { bytes = put c.0.store c.1 }) c.1), c.1)))
+  image_fills : (len : ℕ) (r : Result (AreaStore × ℕ) ErrorNumber) (put : Store → ℕ → Bytes)
+      → ((s : Store) (at : ℕ) → in_range at len a ≡ false → (put s at).at a ≡ s.bytes.at a) → OnAreaStore (StaysIn ⊥) r
+      → OnAreaStore (Fills len) (bind r (λ c. Ok (with_store c.0 (image_recorded (record c.0.store { bytes = put c.0.store c.1 }) c.1), c.1)))
   image_fills len (Err f) put kept done = tt
   image_fills len (Ok c) put kept done =
       recorded (record c.0.store { bytes = put c.0.store c.1 }) c.1 (in_range c.1 len a ≡ true)
       (filled c.0.store (put c.0.store c.1) c.1 len (kept c.0.store c.1) done)
 
-  made_fills : (e : Estate) (image : List ℕ) → IsFitEstate e → IsGrown d o base e.store → OnEstate (Fills (length image)) (image_made e image)
+  made_fills : (e : AreaStore) (image : List ℕ) → IsFitAreaStore e → IsGrown d o base e.store → OnAreaStore (Fills (length image)) (image_made e image)
   unfolding image_made
   made_fills e image f grown =
       image_fills (length image) (rma_claimed e (length image)) (λ s at. with_bytes s.bytes at image) (λ s at out. rw out refl)
       (claimed_stays e (length image) f grown)
 
-  copied_fills : (e : Estate) (from len : ℕ) → IsFitEstate e → IsGrown d o base e.store → OnEstate (Fills len) (image_copied e from len)
+  copied_fills : (e : AreaStore) (from len : ℕ) → IsFitAreaStore e → IsGrown d o base e.store → OnAreaStore (Fills len) (image_copied e from len)
   unfolding image_copied
   copied_fills e from len f grown =
       image_fills len (rma_claimed e len) (λ s at. with_moved s.bytes from at len) (λ s at out. rw out refl) (claimed_stays e len f grown)
 
 -- what a call is known to leave, of one that left this
-of_done : (A : Type 0) (P : Estate × A → Type 0) (r : Result (Estate × A) ErrorNumber) (x : Estate × A) → r ≡ Ok x → OnEstate P r → P x
+of_done : (A : Type 0) (P : AreaStore × A → Type 0) (r : Result (AreaStore × A) ErrorNumber) (x : AreaStore × A) → r ≡ Ok x → OnAreaStore P r → P x
 of_done A P (Ok y) x is done = let same : y ≡ x = cc in subst P same done
 of_done A P (Err f) x is done = absurd (cc)
 
@@ -214,7 +214,7 @@ pub area_calls_keep_others : AreaCallsKeepOthers
 area_calls_keep_others d e a good small =
     let o : HeapList = (area_there d good).known.heap in
     let base : IsBase d.store o = base_of d good small in
-    let f : IsFitEstate d = estates_fit d good in
+    let f : IsFitAreaStore d = area_stores_fit d good in
     let grown : IsGrown d.store o base d.store = not_grown d.store o base in
     record {
       claim = λ size block is.

@@ -1,4 +1,4 @@
--- Where the module area grows, the word changes that tells its heap's end, and no other byte.
+-- Where the module area grows, the word changes that shows its heap's end, and no other byte.
 use Rattle.profile.specs.MemoryMap.{heap_name, module_area_start}
 use Rattle.std.proofs.Common.{ℕ, ◌≡◌, ◌+◌, ◌-◌, ◌*◌, ◌∙◌, false, Option, Some, None, Result, Ok, Err, refl, sym, subst, inl, inr}
 use Rattle.std.specs.Prelude.{nat_le, nat_lt}
@@ -14,7 +14,7 @@ use Rattle.os_heap.specs.Store.{Store, find_heap}
 use Rattle.dynamic_areas.specs.declared.area.Area.{Area}
 use Rattle.dynamic_areas.specs.Areas.{find_area}
 use Rattle.dynamic_areas.specs.Changing.{pages_had, store_extended, store_more, with_heap_end}
-use Rattle.dynamic_areas.specs.Ground.{Estate, IsEstate}
+use Rattle.dynamic_areas.specs.Ground.{AreaStore, IsAreaStore}
 use Rattle.rma.specs.Calls.{area_pages, area_room, grown_by, grown_to, or_as_before, pages_short}
 use Rattle.instances.specs.tidying.Laws.{AreBytes}
 use Rattle.law_machine.proofs.HeapAloneLemmas.Storing.{word_past}
@@ -27,7 +27,7 @@ pub record IsBase (d : Store) (o : HeapList) : Type 0 where
   pub spelled : IsHeapIn d.bytes o.start o.end o.items
   pub small : AreBytes d.bytes.at
 
-pub base_of : (e : Estate) (good : IsEstate e) → AreBytes e.store.bytes.at → IsBase e.store (area_there e good).known.heap
+pub base_of : (e : AreaStore) (good : IsAreaStore e) → AreBytes e.store.bytes.at → IsBase e.store (area_there e good).known.heap
 base_of e good small =
     let has : HasArea e = area_there e good in
     record { start = has.known.start; place = has.known.found; spelled = has.known.spelled; small = small }
@@ -66,23 +66,23 @@ module _ (d : Store) (o : HeapList) (base : IsBase d o) where
   extended_grown s count (Some a) grown =
       end_grown (store_more s count (Some a)) (4096 * (a.pages + count)) (record { end = grown.end; place = grown.place; bytes = grown.bytes })
 
-  abbrev pub OnGrown : Result Estate ErrorNumber → Type 0
+  abbrev pub OnGrown : Result AreaStore ErrorNumber → Type 0
   OnGrown (Ok g) = IsGrown g.store
   OnGrown (Err f) = Unit {0}
 
-  by_grown : (e : Estate) (count : ℕ) → IsGrown e.store → OnGrown (grown_by e count)
+  by_grown : (e : AreaStore) (count : ℕ) → IsGrown e.store → OnGrown (grown_by e count)
   by_grown e count grown = elim (cases_Bool (nat_lt (area_room e) count)) [
     | inl short ↦ rw short tt
-    | inr enough ↦ rw enough (extended_grown e.store count (find_area 1 e.land.areas) grown)
+    | inr enough ↦ rw enough (extended_grown e.store count (find_area 1 e.area_table.areas) grown)
   ]
 
-  pub to_grown : (e : Estate) (end : ℕ) → IsGrown e.store → OnGrown (grown_to e end)
+  pub to_grown : (e : AreaStore) (end : ℕ) → IsGrown e.store → OnGrown (grown_to e end)
   unfolding grown_to
   to_grown e end grown = elim (cases_Bool (nat_le end (4096 * area_pages e))) [
     | inl enough ↦ rw enough grown
     | inr short ↦ rw short (by_grown e (pages_short e end) grown)
   ]
 
-  pub before_grown : (e : Estate) (r : Result Estate ErrorNumber) → IsGrown e.store → OnGrown r → IsGrown (or_as_before e r).store
+  pub before_grown : (e : AreaStore) (r : Result AreaStore ErrorNumber) → IsGrown e.store → OnGrown r → IsGrown (or_as_before e r).store
   before_grown e (Ok g) was grown = grown
   before_grown e (Err f) was grown = was

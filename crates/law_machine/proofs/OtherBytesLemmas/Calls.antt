@@ -24,8 +24,8 @@ use Rattle.swi_dispatch_answers.specs.flex.Calls.{flex_called, state_in}
 use Rattle.swi_dispatch_plans.specs.store.Areas.{area_called, area_read, with_extent}
 use Rattle.swi_dispatch_guest.specs.declared.halt.Halt.TheVariants as halt
 use Rattle.swi_dispatch_guest.specs.Answers.{went_on}
-use Rattle.swi_dispatch_guest.specs.Calls.{call_answer, generated_refusal, machine_flex, on_estate, on_flex, printable_at, wrote_text_after, wrote_text_at}
-use Rattle.swi_dispatch_guest.specs.MachineState.{MachineState, StepOutcome, machine_estate, quiet}
+use Rattle.swi_dispatch_guest.specs.Calls.{call_answer, generated_refusal, machine_flex, on_area_store, on_flex, printable_at, wrote_text_after, wrote_text_at}
+use Rattle.swi_dispatch_guest.specs.MachineState.{MachineState, StepOutcome, machine_area_store, silent}
 use Rattle.swi_dispatch_guest.specs.Returns.{outcome_of_halt}
 use Rattle.swi_dispatch_guest.specs.Step.{call_of, call_refused, called_by, handler_entered, is_exit, outcome_of_answer, outcome_of_call, outcome_of_module_swi}
 use Rattle.law_machine.proofs.HeapAloneLemmas.ModuleHosts.{HasModules}
@@ -56,13 +56,13 @@ module _ (s : MachineState) (has : HasStore s) (a : ℕ) where
   text_at x next at None = refused s has a Nothing x next (refusal.System BadString)
   text_at x next at (Some text) = inl refl
 
-  read_went : (r : Result Extent ErrorNumber) → Went s a Nothing (on_estate s (bind (or_error r) (λ x. Ok (with_extent s.cpu x, machine_estate s))))
+  read_went : (r : Result Extent ErrorNumber) → Went s a Nothing (on_area_store s (bind (or_error r) (λ x. Ok (with_extent s.cpu x, machine_area_store s))))
   read_went (Ok x) = inl refl
   read_went (Err e) = tt
 
-  read_made : Went s a Nothing (on_estate s (area_read s.cpu (machine_estate s)))
+  read_made : Went s a Nothing (on_area_store s (area_read s.cpu (machine_area_store s)))
   unfolding area_read
-  read_made = read_went (extent_asked s.tables.land.areas (register_of s.cpu 0))
+  read_made = read_went (extent_asked s.tables.area_table.areas (register_of s.cpu 0))
 
   size_went : (r : Result ℕ ErrorNumber) → Went s a Nothing (on_flex s (bind (or_error r) (λ n. Ok (with_register s.cpu 0 n, machine_flex s))))
   size_went (Ok n) = inl refl
@@ -115,8 +115,8 @@ module _ (images : List Entry) (s : MachineState) (has : HasModules s) (a : ℕ)
       (refused s has.store a Nothing x next (generated_refusal s (register_of s.cpu 0)))
   answer_ends (Some swi.ReadDynamicArea) other =
       none (answered (Some swi.ReadDynamicArea)) (Some swi.ReadDynamicArea)
-      (nothing_went s has.store a x next (on_estate s (area_read s.cpu (machine_estate s))) (read_made s has.store a))
-  answer_ends (Some swi.DynamicArea) other = λ sound. went s has.store a (PageRow s has.store a) x next (on_estate s (area_called s.cpu (machine_estate s))) (area_went s has.store a)
+      (nothing_went s has.store a x next (on_area_store s (area_read s.cpu (machine_area_store s))) (read_made s has.store a))
+  answer_ends (Some swi.DynamicArea) other = λ sound. went s has.store a (PageRow s has.store a) x next (on_area_store s (area_called s.cpu (machine_area_store s))) (area_went s has.store a)
   answer_ends (Some swi.WriteI) other = none (answered (Some swi.WriteI)) (Some swi.WriteI) (inl refl)
   answer_ends (Some swi.FlexInit) other =
       none (answered (Some swi.FlexInit)) (Some swi.FlexInit)
@@ -141,7 +141,7 @@ module _ (images : List Entry) (s : MachineState) (has : HasModules s) (a : ℕ)
   refused_ends f = none (call_refused s x next f).now None (refused s has.store a Nothing x next (refusal.System f))
 
   abbrev entered : Handler → Bool → StepOutcome
-  entered handler full = if full then call_refused s x next FrameLimit else quiet (handler_entered s (call_of s x next false) number handler)
+  entered handler full = if full then call_refused s x next FrameLimit else silent (handler_entered s (call_of s x next false) number handler)
 
   entered_ends : (handler : Handler) (full : Bool) → CallEnds None (entered handler full).now
   entered_ends handler true = refused_ends FrameLimit

@@ -11,9 +11,9 @@ use Rattle.flex_store.specs.Calls.{FlexState, flex_after_alloc, flex_after_exten
 use Rattle.flex_store.specs.Runs.{Alloc, Extend, FlexCall, MidExtend, Release}
 use Rattle.flex_store.specs.declared.flex.Flex.{Flex}
 use Rattle.law_blocks.specs.sliding.Meaning.{Stores, store_in}
-use Rattle.law_blocks.specs.sliding.Turning.{Init, flex_call_answer, stores_after_flex, stores_after_turn}
+use Rattle.law_blocks.specs.sliding.Turning.{Init, flex_call_answer, stores_after_flex, stores_after_step}
 use Rattle.swi_dispatch_answers.specs.Refusals.{or_error}
-use Rattle.swi_dispatch_answers.specs.flex.Calls.{fit_told, flex_called, memory_after_flex as memory_left}
+use Rattle.swi_dispatch_answers.specs.flex.Calls.{fit_shown, flex_called, memory_after_flex as memory_left}
 use Rattle.swi_dispatch_guest.specs.Calls.{machine_flex, on_flex}
 use Rattle.swi_dispatch_guest.specs.MachineState.{MachineState}
 use Rattle.law_machine.proofs.HeapAloneLemmas.States.{HasStore, stores_in}
@@ -45,7 +45,7 @@ module _ (s : MachineState) (has : HasStore s) (a : ℕ) where
   row_of v call (inr (inr text)) = inr (inr (flex_text v call text))
 
   fit_went : (call : FlexCall) (r : Result (FlexState × Bool) ErrorNumber) → flex_call_answer s.store s.tables.flex call ≡ r
-      → Went s a (Row call) (on_flex s (fit_told s.cpu (memory_left s.store r)))
+      → Went s a (Row call) (on_flex s (fit_shown s.cpu (memory_left s.store r)))
   fit_went call (Ok q) is = row_of q.0 call (flex_calls_keep_others (stores_in s has.pending) call q.0 q.1 a has.stores is)
   fit_went call (Err f) is = tt
 
@@ -58,7 +58,7 @@ module _ (s : MachineState) (has : HasStore s) (a : ℕ) where
   release_went anchor (Err f) is = tt
 
   init_went : (start end : ℕ) (r : Result (FlexState × Unit {0}) ErrorNumber) (R : Store → Flex → Type 0)
-      → stores_after_turn (Init start end) (stores_in s has.pending)
+      → stores_after_step (Init start end) (stores_in s has.pending)
       ≡ stores_after_flex (stores_in s has.pending) (with_flex_record s.store start end) (bind r (λ q. Ok (q.0, true)))
       → Went s a R (on_flex s (bind (or_error (memory_left (with_flex_record s.store start end) r)) (λ q. Ok (s.cpu, q.0))))
   init_went start end (Ok q) R same =
@@ -66,7 +66,7 @@ module _ (s : MachineState) (has : HasStore s) (a : ℕ) where
   init_went start end (Err f) R same = tt
 
   pub init_made : (R : Store → Flex → Type 0) → Went s a R (on_flex s (flex_called s.cpu (machine_flex s) (Some swi.FlexInit)))
-  unfolding flex_called stores_after_turn
+  unfolding flex_called stores_after_step
   init_made R =
       init_went (register_of s.cpu 0) (register_of s.cpu 1)
       (flex_after_init s.store (flex_state s.store s.tables.flex) (register_of s.cpu 0) (register_of s.cpu 1)) R refl

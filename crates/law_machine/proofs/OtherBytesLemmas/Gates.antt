@@ -16,11 +16,11 @@ use Rattle.swi_dispatch_answers.specs.declared.frames.frame.FrameKind.TheVariant
 use Rattle.swi_dispatch_answers.specs.frames.Frames.{innermost_frame}
 use Rattle.swi_dispatch_guest.specs.declared.halt.Halt.TheVariants as halt
 use Rattle.swi_dispatch_guest.specs.Gates.{carried_on, come_back, fault_ahead, frame_closed, frame_left, gated_by, outcome_left, outcome_of_gate, plan_left, unless_fault}
-use Rattle.swi_dispatch_guest.specs.MachineState.{MachineState, machine_world, quiet}
+use Rattle.swi_dispatch_guest.specs.MachineState.{MachineState, machine_module_state, silent}
 use Rattle.swi_dispatch_guest.specs.Returns.{outcome_of_error, outcome_of_halt}
 use Rattle.law_blocks.proofs.HeapFrameLemmas.Slots.{doable_below}
 use Rattle.law_machine.proofs.HeapAloneLemmas.Gates.{settled_given}
-use Rattle.law_machine.proofs.HeapAloneLemmas.ModuleHosts.{HasModules, fit_world}
+use Rattle.law_machine.proofs.HeapAloneLemmas.ModuleHosts.{HasModules, fit_module_state}
 use Rattle.law_machine.proofs.HeapAloneLemmas.ModulePlans.{IsFitPlan}
 use Rattle.law_machine.proofs.OtherBytesLemmas.Plans.{carried_written}
 use Rattle.law_machine.specs.other_bytes.MoveWrites.{IsOfGate}
@@ -33,23 +33,23 @@ module _ (s : MachineState) (has : HasModules s) (a : ℕ) where
   carried_back : (f : Frame) (p : Plan) (o : Option ℕ)
       → (let q : Plan = plan_after_code p (outcome_left s.cpu) in
       IsFitPlan q → Back (Some f) (Some p) (unless_fault s o (carried_on (come_back s f) f.call q)).now.store)
-  carried_back f p None plan = carried_written (come_back s f) f.call (plan_after_code p (outcome_left s.cpu)) a (fit_world s has) plan
+  carried_back f p None plan = carried_written (come_back s f) f.call (plan_after_code p (outcome_left s.cpu)) a (fit_module_state s has) plan
   carried_back f p (Some number) plan = inl refl
 
-  plan_back : (f : Frame) (o : Option Plan) → MayGoOn (machine_world s) o → IfSome o (λ (plan : Plan). length plan.given.text.items ≤ 255)
+  plan_back : (f : Frame) (o : Option Plan) → MayGoOn (machine_module_state s) o → IfSome o (λ (plan : Plan). length plan.given.text.items ≤ 255)
       → Back (Some f) o (plan_left s f o).now.store
   plan_back f None going few = inl refl
   plan_back f (Some p) going few =
       let o : CodeOutcome = outcome_left s.cpu in
       let q : Plan = plan_after_code p o in
-      let on : IsUnderWay (machine_world s) q = going_back (machine_world s) p o has.modules going.1 in
-      carried_back f p (fault_ahead f.call (machine_world s) q) (record {
+      let on : IsUnderWay (machine_module_state s) q = going_back (machine_module_state s) p o has.modules going.1 in
+      carried_back f p (fault_ahead f.call (machine_module_state s) q) (record {
         below = doable_below s.tables.modules q has.modules on.ready.doable;
         text = subst (λ (g : Given). length g.text.items ≤ 255) (sym (settled_given p o)) few;
       })
 
   -- a SWI of a module
-  left_back : (f : Frame) (overflow x : Bool) → (if overflow then outcome_of_error s x (quiet (frame_closed s f)) else quiet (frame_closed s f)).now.store ≡ s.store
+  left_back : (f : Frame) (overflow x : Bool) → (if overflow then outcome_of_error s x (silent (frame_closed s f)) else silent (frame_closed s f)).now.store ≡ s.store
   left_back f false x = refl
   left_back f true true = refl
   left_back f true false = refl

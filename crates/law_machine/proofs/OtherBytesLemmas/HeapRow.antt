@@ -30,7 +30,7 @@ module _ (s : MachineState) (has : HasStore s) (a : ℕ) where
   refused_ends true next e = λ sound. elim (error_byte s s.cpu.psr next a e (mapped_block s has) has.size) [ inl kept ↦ inl kept | inr own ↦ inr (inl own) ]
   refused_ends false next e = λ sound. inl refl
 
-  -- a call that is done: what it answers in R2, and that V tells so
+  -- a call that is done: what it answers in R2, and that V shows so
   done_ends : (why : HeapReason) (next : ℕ) (q : State × Store) (r : Store × (ℕ × ℕ)) → heap_reason (register_of s.cpu 0) ≡ Some why
       → (q.1 ≡ r.0) × ((register_of q.0 2 ≡ r.1.0) × (register_of q.0 3 ≡ r.1.1))
       → ((r.0.bytes.at a ≡ s.store.bytes.at a) ⊎ IsWrittenFor why s.store r.0 (register_of s.cpu 1) (register_of s.cpu 2) (register_of s.cpu 3) r.1.0 a)

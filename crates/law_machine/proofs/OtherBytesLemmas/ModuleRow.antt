@@ -12,12 +12,12 @@ use Rattle.arm_core.specs.State.{State, register_of, with_register}
 use Rattle.image_loader.specs.Entries.{Entry}
 use Rattle.os_heap.specs.Store.{Store}
 use Rattle.flex_store.specs.declared.flex.Flex.{Flex}
-use Rattle.dynamic_areas.specs.Ground.{Estate, IsEstate}
+use Rattle.dynamic_areas.specs.Ground.{AreaStore, IsAreaStore}
 use Rattle.rma.specs.Calls.{rma_claimed, rma_extended, rma_freed}
 use Rattle.instances.proofs.GoingOn.{bound as bound_any}
 use Rattle.instances.specs.Reading.{instance_info}
 use Rattle.instances.specs.tidying.Laws.{AreBytes}
-use Rattle.instances.specs.world.World.{World}
+use Rattle.instances.specs.module_state.ModuleState.{ModuleState}
 use Rattle.instances_table.specs.plans.Plans.{Plan}
 use Rattle.instances_table.specs.Changes.{modules_after_rename, preferring}
 use Rattle.instances_table.specs.Modules.{Module}
@@ -26,7 +26,7 @@ use Rattle.swi_dispatch_answers.specs.Strings.{string_in}
 use Rattle.swi_dispatch_answers.specs.declared.refusal.Refusal.{Refusal}
 use Rattle.swi_dispatch_answers.specs.declared.refusal.Refusal.TheVariants as refusal
 use Rattle.swi_dispatch_plans.specs.modules.Calls.{module_called_for, result_of_module_call}
-use Rattle.swi_dispatch_plans.specs.modules.Naming.{instance_found, instance_preferred, instance_renamed, place_asked, with_told}
+use Rattle.swi_dispatch_plans.specs.modules.Naming.{instance_found, instance_preferred, instance_renamed, place_asked, with_shown}
 use Rattle.swi_dispatch_plans.specs.ImagePlans.{instantiation_planned}
 use Rattle.swi_dispatch_plans.specs.ModulePlans.{clear_planned, delete_planned, reinit_planned, tidy_planned}
 use Rattle.swi_dispatch_plans.specs.Openings.{opening_asked}
@@ -34,16 +34,16 @@ use Rattle.swi_dispatch_plans.specs.declared.openings.Opening.{Opening}
 use Rattle.swi_dispatch_answers.specs.declared.frames.call.Call.{Call}
 use Rattle.swi_dispatch_guest.specs.Additions.{Planned, copy_planned, insertion_planned, load_planned, named_load_planned, plan_alone}
 use Rattle.swi_dispatch_guest.specs.Answers.{refusal_answer, went_on}
-use Rattle.swi_dispatch_guest.specs.Calls.{call_answer, on_world}
+use Rattle.swi_dispatch_guest.specs.Calls.{call_answer, on_module_state}
 use Rattle.swi_dispatch_guest.specs.Gates.{carried_on}
-use Rattle.swi_dispatch_guest.specs.MachineState.{MachineState, machine_estate, machine_world, setting_of, with_world}
+use Rattle.swi_dispatch_guest.specs.MachineState.{MachineState, machine_area_store, machine_module_state, setting_of, with_module_state}
 use Rattle.swi_dispatch_guest.specs.Returns.{gone_back}
 use Rattle.swi_dispatch_guest.specs.Step.{begun_alone, call_of, call_refused, module_entered, os_module_called, os_module_called_for, outcome_of_answer, outcome_of_planned}
 use Rattle.law_machine.proofs.HeapAloneLemmas.HeapAnswers.{overflow_back}
-use Rattle.law_machine.proofs.HeapAloneLemmas.ModuleHosts.{HasModules, fit_world}
+use Rattle.law_machine.proofs.HeapAloneLemmas.ModuleHosts.{HasModules, fit_module_state}
 use Rattle.law_machine.proofs.HeapAloneLemmas.ModulePlans.{IsFitPlan}
 use Rattle.law_machine.proofs.HeapAloneLemmas.PlansMade.{IsFitPlanned, alone_planned, clear_made, copy_made, delete_made, insertion_made, instantiation_made, load_made, named_load_made, reinit_made, tidy_made}
-use Rattle.law_blocks.specs.heap_frame.PlanLaws.{IsFitWorld}
+use Rattle.law_blocks.specs.heap_frame.PlanLaws.{IsFitModuleState}
 use Rattle.law_machine.proofs.OtherBytesLemmas.AreaCalls.{area_calls_keep_others}
 use Rattle.law_machine.proofs.OtherBytesLemmas.Ending.{Ends, Nothing, refused}
 use Rattle.law_machine.proofs.OtherBytesLemmas.Plans.{PlansAt, carried_written, copy_plans, insertion_plans, load_plans, named_load_plans, opened_text}
@@ -52,30 +52,30 @@ use Rattle.law_machine.specs.other_bytes.AreaWrites.{IsAreaWord, IsOfMovedAreaBl
 use Rattle.law_machine.specs.other_bytes.MoveWrites.{IsDone, IsErrorByte, IsOfLoad, IsOfModuleCall, IsOfPlan, IsOfPlannedCall}
 
 module _ (s : MachineState) (has : HasModules s) (a : ℕ) where
-  fit : IsFitWorld (machine_world s)
-  fit = fit_world s has
+  fit : IsFitModuleState (machine_module_state s)
+  fit = fit_module_state s has
 
-  good : IsEstate (machine_estate s)
-  good = has.store.estate
+  good : IsAreaStore (machine_area_store s)
+  good = has.store.area_store
 
   small : AreBytes s.store.bytes.at
   small = has.store.stores.memory.bytes
 
   -- a call that has a plan begins
   begun_then : (makes : Bool) (call : Call) (u : Planned)
-      → ((carried_on (with_world s u.world) call u.plan).store.bytes.at a ≡ u.world.estate.store.bytes.at a)
-      ⊎ (IsWrittenByActions u.plan.given u.world u.plan.actions a ⊎ ((call.enters ≡ true) × IsTextByte u.plan.given.text.items a))
+      → ((carried_on (with_module_state s u.module_state) call u.plan).store.bytes.at a ≡ u.module_state.area_store.store.bytes.at a)
+      ⊎ (IsWrittenByActions u.plan.given u.module_state u.plan.actions a ⊎ ((call.enters ≡ true) × IsTextByte u.plan.given.text.items a))
       → PlansAt s a makes u
-      → ((carried_on (with_world s u.world) call u.plan).store.bytes.at a ≡ s.store.bytes.at a) ⊎ IsOfPlan makes call.enters u a
+      → ((carried_on (with_module_state s u.module_state) call u.plan).store.bytes.at a ≡ s.store.bytes.at a) ⊎ IsOfPlan makes call.enters u a
   begun_then makes call u (inl kept) (inl same) = inl (kept ∙ same)
   begun_then makes call u (inl kept) (inr image) = inr (inl image)
   begun_then makes call u (inr written) before = inr (inr written)
 
   begun_by : (makes : Bool) (call : Call) (u : Planned) → IsFitPlanned s u → PlansAt s a makes u
-      → ((carried_on (with_world s u.world) call u.plan).store.bytes.at a ≡ s.store.bytes.at a) ⊎ IsOfPlan makes call.enters u a
+      → ((carried_on (with_module_state s u.module_state) call u.plan).store.bytes.at a ≡ s.store.bytes.at a) ⊎ IsOfPlan makes call.enters u a
   begun_by makes call u made plans =
       begun_then makes call u
-      (carried_written (with_world s u.world) call u.plan a (record { estate = made.world.estate.fit; slots = made.world.slots }) made.plan) plans
+      (carried_written (with_module_state s u.module_state) call u.plan a (record { area_store = made.module_state.area_store.fit; slots = made.module_state.slots }) made.plan) plans
 
   planned_ends : (R : Store → Flex → Type 0) (x : Bool) (next : ℕ) (makes enters : Bool) (r : Result Planned ErrorNumber) → IfOk r (IsFitPlanned s)
       → IfOk r (PlansAt s a makes) → ((u : Planned) → r ≡ Ok u → IsOfPlan makes enters u a → (t : Store) (f : Flex) → R t f)
@@ -83,7 +83,7 @@ module _ (s : MachineState) (has : HasModules s) (a : ℕ) where
   unfolding outcome_of_planned
   planned_ends R x next makes enters (Err e) made plans row = refused s has.store a R x next (refusal.System e)
   planned_ends R x next makes enters (Ok u) made plans row =
-      let t : MachineState = carried_on (with_world s u.world) (call_of s x next enters) u.plan in
+      let t : MachineState = carried_on (with_module_state s u.module_state) (call_of s x next enters) u.plan in
       elim (begun_by makes (call_of s x next enters) u made plans) [
         | inl same ↦ inl same
         | inr byte ↦ inr (inr (row u refl byte t.store t.tables.flex))
@@ -106,15 +106,15 @@ module _ (s : MachineState) (has : HasModules s) (a : ℕ) where
     row_of (Some reason.Extend) t done row = (done, row)
     row_of other t done row = absurd row
 
-    abbrev Left : Option ModuleReason → State × World → Type 0
-    Left why q = (q.1.estate.store.bytes.at a ≡ s.store.bytes.at a) ⊎ AreaRow why q.1.estate.store
+    abbrev Left : Option ModuleReason → State × ModuleState → Type 0
+    Left why q = (q.1.area_store.store.bytes.at a ≡ s.store.bytes.at a) ⊎ AreaRow why q.1.area_store.store
 
-    abbrev w : World
-    w = machine_world s
+    abbrev w : ModuleState
+    w = machine_module_state s
 
-    told_left : (A : Type 0) (why : Option ModuleReason) (r : Result A ErrorNumber) (f : A → State) → IfOk (bind (or_error r) (λ x. Ok (f x, w))) (Left why)
-    told_left A why (Ok x) f = inl refl
-    told_left A why (Err e) f = tt
+    shown_left : (A : Type 0) (why : Option ModuleReason) (r : Result A ErrorNumber) (f : A → State) → IfOk (bind (or_error r) (λ x. Ok (f x, w))) (Left why)
+    shown_left A why (Ok x) f = inl refl
+    shown_left A why (Err e) f = tt
 
     names_left : (why : Option ModuleReason) (r : Result (List Module) ErrorNumber)
         → IfOk (or_error (bind r (λ modules. Ok (s.cpu, record w { modules = modules })))) (Left why)
@@ -125,43 +125,43 @@ module _ (s : MachineState) (has : HasModules s) (a : ℕ) where
     found_left A why (Ok x) f = inl refl
     found_left A why (Err e) f = tt
 
-    claimed_left : (r : Result (Estate × ℕ) ErrorNumber) → rma_claimed w.estate (register_of s.cpu 3) ≡ r
-        → IfOk (bind (or_error r) (λ x. Ok (with_register s.cpu 2 x.1, record w { estate = x.0 }))) (Left (Some reason.Claim))
-    claimed_left (Ok x) is = (area_calls_keep_others w.estate x.0 a good small).claim (register_of s.cpu 3) x.1 is
+    claimed_left : (r : Result (AreaStore × ℕ) ErrorNumber) → rma_claimed w.area_store (register_of s.cpu 3) ≡ r
+        → IfOk (bind (or_error r) (λ x. Ok (with_register s.cpu 2 x.1, record w { area_store = x.0 }))) (Left (Some reason.Claim))
+    claimed_left (Ok x) is = (area_calls_keep_others w.area_store x.0 a good small).claim (register_of s.cpu 3) x.1 is
     claimed_left (Err e) is = tt
 
-    freed_left : (r : Result (Estate × Unit {0}) ErrorNumber) → rma_freed w.estate (register_of s.cpu 2) ≡ r
-        → IfOk (bind (or_error r) (λ x. Ok (s.cpu, record w { estate = x.0 }))) (Left (Some reason.Free))
-    freed_left (Ok x) is = (area_calls_keep_others w.estate x.0 a good small).free (register_of s.cpu 2) is
+    freed_left : (r : Result (AreaStore × Unit {0}) ErrorNumber) → rma_freed w.area_store (register_of s.cpu 2) ≡ r
+        → IfOk (bind (or_error r) (λ x. Ok (s.cpu, record w { area_store = x.0 }))) (Left (Some reason.Free))
+    freed_left (Ok x) is = (area_calls_keep_others w.area_store x.0 a good small).free (register_of s.cpu 2) is
     freed_left (Err e) is = tt
 
-    extended_left : (r : Result (Estate × ℕ) ErrorNumber) → rma_extended w.estate (register_of s.cpu 2) (register_of s.cpu 3) ≡ r
-        → IfOk (bind (or_error r) (λ x. Ok (with_register s.cpu 2 x.1, record w { estate = x.0 }))) (Left (Some reason.Extend))
-    extended_left (Ok x) is = (area_calls_keep_others w.estate x.0 a good small).extend (register_of s.cpu 2) (register_of s.cpu 3) x.1 is
+    extended_left : (r : Result (AreaStore × ℕ) ErrorNumber) → rma_extended w.area_store (register_of s.cpu 2) (register_of s.cpu 3) ≡ r
+        → IfOk (bind (or_error r) (λ x. Ok (with_register s.cpu 2 x.1, record w { area_store = x.0 }))) (Left (Some reason.Extend))
+    extended_left (Ok x) is = (area_calls_keep_others w.area_store x.0 a good small).extend (register_of s.cpu 2) (register_of s.cpu 3) x.1 is
     extended_left (Err e) is = tt
 
     renamed_left : IfOk (instance_renamed s.cpu w) (Left (Some reason.Rename))
     renamed_left =
-        bound_any (Left (Some reason.Rename)) (or_error (string_in w.estate.store.bytes s.cpu 1)) _ (λ full.
-        bound_any (Left (Some reason.Rename)) (or_error (string_in w.estate.store.bytes s.cpu 2)) _ (λ new.
+        bound_any (Left (Some reason.Rename)) (or_error (string_in w.area_store.store.bytes s.cpu 1)) _ (λ full.
+        bound_any (Left (Some reason.Rename)) (or_error (string_in w.area_store.store.bytes s.cpu 2)) _ (λ new.
         names_left (Some reason.Rename) (modules_after_rename w.modules full new)))
 
     preferred_left : IfOk (instance_preferred s.cpu w) (Left (Some reason.Prefer))
     preferred_left =
-        bound_any (Left (Some reason.Prefer)) (or_error (string_in w.estate.store.bytes s.cpu 1)) _ (λ full.
+        bound_any (Left (Some reason.Prefer)) (or_error (string_in w.area_store.store.bytes s.cpu 1)) _ (λ full.
         names_left (Some reason.Prefer) (preferring w.modules full))
 
     looked_left : IfOk (instance_found s.cpu w) (Left (Some reason.Lookup))
     looked_left =
-        bound_any (Left (Some reason.Lookup)) (or_error (string_in w.estate.store.bytes s.cpu 1)) _ (λ full.
+        bound_any (Left (Some reason.Lookup)) (or_error (string_in w.area_store.store.bytes s.cpu 1)) _ (λ full.
         found_left _ (Some reason.Lookup) _ _)
 
     by_reason : (why : Option ModuleReason) → IfOk (module_called_for s.cpu w why) (Left why)
     by_reason (Some reason.DescribeArea) = inl refl
-    by_reason (Some reason.Claim) = claimed_left (rma_claimed w.estate (register_of s.cpu 3)) refl
-    by_reason (Some reason.Free) = freed_left (rma_freed w.estate (register_of s.cpu 2)) refl
-    by_reason (Some reason.Info) = told_left _ (Some reason.Info) (instance_info w.estate.store.bytes.at w.modules (place_asked s.cpu)) (with_told s.cpu)
-    by_reason (Some reason.Extend) = extended_left (rma_extended w.estate (register_of s.cpu 2) (register_of s.cpu 3)) refl
+    by_reason (Some reason.Claim) = claimed_left (rma_claimed w.area_store (register_of s.cpu 3)) refl
+    by_reason (Some reason.Free) = freed_left (rma_freed w.area_store (register_of s.cpu 2)) refl
+    by_reason (Some reason.Info) = shown_left _ (Some reason.Info) (instance_info w.area_store.store.bytes.at w.modules (place_asked s.cpu)) (with_shown s.cpu)
+    by_reason (Some reason.Extend) = extended_left (rma_extended w.area_store (register_of s.cpu 2) (register_of s.cpu 3)) refl
     by_reason (Some reason.Rename) = renamed_left
     by_reason (Some reason.Prefer) = preferred_left
     by_reason (Some reason.Lookup) = looked_left
@@ -182,12 +182,12 @@ module _ (s : MachineState) (has : HasModules s) (a : ℕ) where
     by_refusal why t (inr (inl own)) = inr (inl own)
     by_refusal why t (inr (inr never)) = absurd never
 
-    world_ends : (why : Option ModuleReason) (x : Bool) (r : Result (State × World) Refusal) → IfOk r (Left why)
-        → EndsBy why (outcome_of_answer s x (went_on s next (on_world s r))).now
-    world_ends why x (Ok q) (inl same) = inl same
-    world_ends why x (Ok q) (inr row) =
-        inr (inr (row_of why (outcome_of_answer s x (went_on s next (on_world s (Ok q)))).now (overflow_back s.cpu.psr q.0 false next) row))
-    world_ends why x (Err e) left = by_refusal why (outcome_of_answer s x (refusal_answer s next e)).now (refused s has.store a Nothing x next e)
+    module_state_ends : (why : Option ModuleReason) (x : Bool) (r : Result (State × ModuleState) Refusal) → IfOk r (Left why)
+        → EndsBy why (outcome_of_answer s x (went_on s next (on_module_state s r))).now
+    module_state_ends why x (Ok q) (inl same) = inl same
+    module_state_ends why x (Ok q) (inr row) =
+        inr (inr (row_of why (outcome_of_answer s x (went_on s next (on_module_state s (Ok q)))).now (overflow_back s.cpu.psr q.0 false next) row))
+    module_state_ends why x (Err e) left = by_refusal why (outcome_of_answer s x (refusal_answer s next e)).now (refused s has.store a Nothing x next e)
 
     refused_ends : (why : Option ModuleReason) (x : Bool) (e : ErrorNumber) → EndsBy why (call_refused s x next e).now
     refused_ends why x e = by_refusal why (call_refused s x next e).now (refused s has.store a Nothing x next (refusal.System e))
@@ -219,7 +219,7 @@ module _ (s : MachineState) (has : HasModules s) (a : ℕ) where
     unfolding call_answer result_of_module_call
     area_ends why x number is =
         subst (λ (o : Option ModuleReason). EndsBy o (outcome_of_answer s x (call_answer s next number (Some swi.Module))).now) is
-        (world_ends (module_reason (register_of s.cpu 0)) x (module_called_for s.cpu w (module_reason (register_of s.cpu 0)))
+        (module_state_ends (module_reason (register_of s.cpu 0)) x (module_called_for s.cpu w (module_reason (register_of s.cpu 0)))
         (by_reason (module_reason (register_of s.cpu 0))))
 
     reason_ends : (why : Option ModuleReason) (x : Bool) (number : ℕ) → module_reason (register_of s.cpu 0) ≡ why

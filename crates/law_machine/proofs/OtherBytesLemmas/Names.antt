@@ -4,11 +4,11 @@ use Rattle.std.proofs.Common.{ℕ, ◌≡◌, ◌+◌, ◌≤◌, ◌<◌, ◌�
 use Rattle.std.proofs.lemmas.Bool.{cases_eq}
 use Rattle.address_map.specs.Bytes.{in_range, word_at}
 use Rattle.address_map.specs.Moves.{moved_to}
-use Rattle.address_map.specs.declared.follow.Move.{Move}
+use Rattle.address_map.specs.declared.follow.BlockMove.{BlockMove}
 use Rattle.os_heap_words.specs.lists.Heap.{HeapList}
 use Rattle.os_heap.proofs.Apart.{range_parts}
 use Rattle.os_heap.specs.Store.{find_heap}
-use Rattle.dynamic_areas.specs.Ground.{Estate}
+use Rattle.dynamic_areas.specs.Ground.{AreaStore}
 use Rattle.rma.proofs.HeapSlideLemmas.Records.{slid_in}
 use Rattle.rma.specs.Calls.{with_store}
 use Rattle.rma.specs.heap_slide.Slide.{is_listed, slid_bytes, with_slid}
@@ -17,8 +17,8 @@ use Rattle.instances_table.specs.Modules.{slots_of}
 use Rattle.instances.proofs.TidyingLemmas.NameLemmas.{heap_small, slid_small, tidy_keeps_names}
 use Rattle.instances.specs.tidying.Laws.{AreBytes}
 use Rattle.instances.specs.tidying.Movable.{movable_blocks}
-use Rattle.instances.specs.tidying.Slid.{moves_in, private_words_of, words_moved, world_slid, world_slid_in}
-use Rattle.instances.specs.world.World.{World, private_word, with_private}
+use Rattle.instances.specs.tidying.Slid.{moves_in, private_words_of, words_moved, module_state_slid, module_state_slid_in}
+use Rattle.instances.specs.module_state.ModuleState.{ModuleState, private_word, with_private}
 use Rattle.law_blocks.proofs.FlexLemmas.Small.{word_small}
 use Rattle.law_machine.specs.other_bytes.ActionWrites.{TidiesKeepWords}
 
@@ -44,27 +44,27 @@ word_parts f g p a small other same inside =
     ]
 
 -- after a tidy memory holds bytes
-words_small : (moves : List Move) (slots : List ℕ) (e : Estate) → AreBytes e.store.bytes.at → AreBytes (words_moved moves slots e).store.bytes.at
+words_small : (moves : List BlockMove) (slots : List ℕ) (e : AreaStore) → AreBytes e.store.bytes.at → AreBytes (words_moved moves slots e).store.bytes.at
 words_small moves [] e small = small
 words_small moves (slot ∷ slots) e small =
     let value : ℕ = moved_to moves (private_word e slot) in
     words_small moves slots (with_private e slot value) (word_small e.store.bytes.at (private_of slot) value small)
 
-slid_small_in : (return_address : ℕ) (w : World) (o : Option HeapList) → AreBytes w.estate.store.bytes.at
-    → AreBytes (world_slid_in return_address w o).estate.store.bytes.at
+slid_small_in : (return_address : ℕ) (w : ModuleState) (o : Option HeapList) → AreBytes w.area_store.store.bytes.at
+    → AreBytes (module_state_slid_in return_address w o).area_store.store.bytes.at
 slid_small_in return_address w None small = small
 slid_small_in return_address w (Some h) small =
-    let movable : List ℕ = movable_blocks w.estate.store w.modules (private_words_of w) return_address h in
-    let copied : ℕ → ℕ = slid_bytes (is_listed movable) (h.start + 16) (h.start + 16) h.items w.estate.store.bytes.at in
-    words_small (moves_in h movable) (slots_of w.modules) (with_store w.estate (with_slid w.estate.store h movable))
+    let movable : List ℕ = movable_blocks w.area_store.store w.modules (private_words_of w) return_address h in
+    let copied : ℕ → ℕ = slid_bytes (is_listed movable) (h.start + 16) (h.start + 16) h.items w.area_store.store.bytes.at in
+    words_small (moves_in h movable) (slots_of w.modules) (with_store w.area_store (with_slid w.area_store.store h movable))
     (heap_small copied h.start h.end (slid_in h movable)
-    (slid_small (is_listed movable) (h.start + 16) (h.start + 16) h.items w.estate.store.bytes.at small))
+    (slid_small (is_listed movable) (h.start + 16) (h.start + 16) h.items w.area_store.store.bytes.at small))
 
-tidied_small : (return_address : ℕ) (w : World) → AreBytes w.estate.store.bytes.at → AreBytes (world_slid return_address w).estate.store.bytes.at
-unfolding world_slid
-tidied_small return_address w small = slid_small_in return_address w (find_heap module_area_start w.estate.store.heaps) small
+tidied_small : (return_address : ℕ) (w : ModuleState) → AreBytes w.area_store.store.bytes.at → AreBytes (module_state_slid return_address w).area_store.store.bytes.at
+unfolding module_state_slid
+tidied_small return_address w small = slid_small_in return_address w (find_heap module_area_start w.area_store.store.heaps) small
 
 pub tidies_keep_words : TidiesKeepWords
-tidies_keep_words return_address w slot a world modules small held stays byte =
-    word_parts w.estate.store.bytes.at (world_slid return_address w).estate.store.bytes.at (private_of slot) a small
-    (tidied_small return_address w small) (tidy_keeps_names return_address w world modules small slot held ∙ stays) byte
+tidies_keep_words return_address w slot a module_state modules small held stays byte =
+    word_parts w.area_store.store.bytes.at (module_state_slid return_address w).area_store.store.bytes.at (private_of slot) a small
+    (tidied_small return_address w small) (tidy_keeps_names return_address w module_state modules small slot held ∙ stays) byte

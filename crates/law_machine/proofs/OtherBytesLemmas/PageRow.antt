@@ -11,10 +11,10 @@ use Rattle.arm_core.specs.State.{State, register_of}
 use Rattle.os_heap.specs.Store.{Store}
 use Rattle.flex_store.specs.declared.flex.Flex.{Flex}
 use Rattle.dynamic_areas.proofs.SystemPages.{change_keeps_system}
-use Rattle.dynamic_areas.specs.Areas.{Land, area_in, areas_after_renumber, find_area, next_number, with_areas}
-use Rattle.dynamic_areas.specs.Changing.{land_after_remove, store_emptied}
-use Rattle.dynamic_areas.specs.Creating.{area_wanted, land_after_create, pages_for}
-use Rattle.dynamic_areas.specs.Ground.{Estate}
+use Rattle.dynamic_areas.specs.Areas.{AreaTable, area_in, areas_after_renumber, find_area, next_number, with_areas}
+use Rattle.dynamic_areas.specs.Changing.{area_table_after_remove, store_emptied}
+use Rattle.dynamic_areas.specs.Creating.{area_wanted, area_table_after_create, pages_for}
+use Rattle.dynamic_areas.specs.Ground.{AreaStore}
 use Rattle.dynamic_areas.specs.Remapped.{with_pages_at}
 use Rattle.dynamic_areas.specs.declared.area.Area.{Area}
 use Rattle.dynamic_areas.specs.declared.area.Created.{Created}
@@ -23,10 +23,10 @@ use Rattle.swi_dispatch_answers.specs.Refusals.{or_error, system_error}
 use Rattle.swi_dispatch_answers.specs.Strings.{string_at}
 use Rattle.swi_dispatch_answers.specs.declared.refusal.Refusal.{Refusal}
 use Rattle.swi_dispatch_answers.specs.declared.refusal.Refusal.TheVariants as refusal
-use Rattle.swi_dispatch_plans.specs.store.Areas.{area_called, area_called_for, area_changed, area_made, area_named, area_resized, change_asked, change_left, wanted_of, with_land}
-use Rattle.swi_dispatch_guest.specs.Calls.{area_changing, on_estate, with_guest}
+use Rattle.swi_dispatch_plans.specs.store.Areas.{area_called, area_called_for, area_changed, area_made, area_named, area_resized, change_asked, change_left, wanted_of, with_area_table}
+use Rattle.swi_dispatch_guest.specs.Calls.{area_changing, on_area_store, with_guest}
 use Rattle.swi_dispatch_guest.specs.Errors.{with_error}
-use Rattle.swi_dispatch_guest.specs.MachineState.{MachineState, machine_estate}
+use Rattle.swi_dispatch_guest.specs.MachineState.{MachineState, machine_area_store}
 use Rattle.swi_dispatch_guest.specs.Step.{outcome_of_answer, outcome_of_end}
 use Rattle.law_machine.proofs.HeapAloneLemmas.HeapAnswers.{set_length}
 use Rattle.law_machine.proofs.HeapAloneLemmas.States.{HasStore, mapped_block}
@@ -40,49 +40,49 @@ unmapped_after u refusal.Own a gone = gone
 unmapped_after u (refusal.System e) a gone = gone
 
 module _ (s : MachineState) (has : HasStore s) (a : ℕ) where
-  abbrev e : Estate
-  e = machine_estate s
+  abbrev e : AreaStore
+  e = machine_area_store s
 
-  calls : (left : Estate) → PageCallWrites e left a
-  calls left = page_calls_keep_others e left a has.estate has.stores.memory.bytes
+  calls : (left : AreaStore) → PageCallWrites e left a
+  calls left = page_calls_keep_others e left a has.area_store has.stores.memory.bytes
 
   -- those that make areas and remove them
   abbrev pub PageRow : Store → Flex → Type 0
   PageRow t f = IsUnmapped t a
 
-  created_went : (w : Wanted) (name : List ℕ) (r : Result (Land × Created) ErrorNumber) → land_after_create s.tables.land s.pool w name ≡ r
-      → Went s a PageRow (on_estate s (bind (or_error r) (λ q. Ok (area_made s.cpu e w q))))
-  created_went w name (Ok q) is = inl ((calls (with_land (with_pages_at s.store q.1.base (4096 * pages_for w.size)) q.0)).create w name q.1 is refl)
+  created_went : (w : Wanted) (name : List ℕ) (r : Result (AreaTable × Created) ErrorNumber) → area_table_after_create s.tables.area_table s.pool w name ≡ r
+      → Went s a PageRow (on_area_store s (bind (or_error r) (λ q. Ok (area_made s.cpu e w q))))
+  created_went w name (Ok q) is = inl ((calls (with_area_table (with_pages_at s.store q.1.base (4096 * pages_for w.size)) q.0)).create w name q.1 is refl)
   created_went w name (Err f) is = tt
 
-  unnamed_went : (r : Result Area ErrorNumber) → Went s a PageRow (on_estate s (bind (or_error r) (λ x. system_error BadString)))
+  unnamed_went : (r : Result Area ErrorNumber) → Went s a PageRow (on_area_store s (bind (or_error r) (λ x. system_error BadString)))
   unnamed_went (Ok x) = tt
   unnamed_went (Err f) = tt
 
-  named_went : (w : Wanted) (o : Option (List ℕ)) → Went s a PageRow (on_estate s (area_named s.cpu e w o))
-  named_went w None = unnamed_went (area_wanted s.tables.land s.pool w (codes "?"))
-  named_went w (Some name) = created_went w name (land_after_create s.tables.land s.pool w name) refl
+  named_went : (w : Wanted) (o : Option (List ℕ)) → Went s a PageRow (on_area_store s (area_named s.cpu e w o))
+  named_went w None = unnamed_went (area_wanted s.tables.area_table s.pool w (codes "?"))
+  named_went w (Some name) = created_went w name (area_table_after_create s.tables.area_table s.pool w name) refl
 
-  removed_went : (number : ℕ) (r : Result Land ErrorNumber) → land_after_remove s.tables.land s.store number ≡ r
-      → Went s a PageRow (on_estate s (bind (or_error r) (λ l. Ok (s.cpu, with_land (store_emptied s.store (find_area number s.tables.land.areas)) l))))
-  removed_went number (Ok l) is = (calls (with_land (store_emptied s.store (find_area number s.tables.land.areas)) l)).remove number is refl
+  removed_went : (number : ℕ) (r : Result AreaTable ErrorNumber) → area_table_after_remove s.tables.area_table s.store number ≡ r
+      → Went s a PageRow (on_area_store s (bind (or_error r) (λ l. Ok (s.cpu, with_area_table (store_emptied s.store (find_area number s.tables.area_table.areas)) l))))
+  removed_went number (Ok l) is = (calls (with_area_table (store_emptied s.store (find_area number s.tables.area_table.areas)) l)).remove number is refl
   removed_went number (Err f) is = tt
 
-  told_went : (A : Type 0) (k : A → State) (l : A → Land) (r : Result A ErrorNumber)
-      → Went s a PageRow (on_estate s (bind (or_error r) (λ x. Ok (k x, record e { land = l x }))))
-  told_went A k l (Ok x) = inl refl
-  told_went A k l (Err f) = tt
+  shown_went : (A : Type 0) (k : A → State) (l : A → AreaTable) (r : Result A ErrorNumber)
+      → Went s a PageRow (on_area_store s (bind (or_error r) (λ x. Ok (k x, record e { area_table = l x }))))
+  shown_went A k l (Ok x) = inl refl
+  shown_went A k l (Err f) = tt
 
-  area_for : (o : Option AreaReason) → Went s a PageRow (on_estate s (area_called_for s.cpu e o))
+  area_for : (o : Option AreaReason) → Went s a PageRow (on_area_store s (area_called_for s.cpu e o))
   area_for (Some area.Create) = named_went (wanted_of s.cpu) (string_at s.store.bytes (register_of s.cpu 8))
-  area_for (Some area.Remove) = removed_went (register_of s.cpu 1) (land_after_remove s.tables.land s.store (register_of s.cpu 1)) refl
-  area_for (Some area.Info) = told_went Area _ (λ _. s.tables.land) (area_in s.tables.land.areas (register_of s.cpu 1))
-  area_for (Some area.Enumerate) = told_went ℕ _ (λ _. s.tables.land) (next_number s.tables.land.areas (register_of s.cpu 1))
+  area_for (Some area.Remove) = removed_went (register_of s.cpu 1) (area_table_after_remove s.tables.area_table s.store (register_of s.cpu 1)) refl
+  area_for (Some area.Info) = shown_went Area _ (λ _. s.tables.area_table) (area_in s.tables.area_table.areas (register_of s.cpu 1))
+  area_for (Some area.Enumerate) = shown_went ℕ _ (λ _. s.tables.area_table) (next_number s.tables.area_table.areas (register_of s.cpu 1))
   area_for (Some area.Renumber) =
-      told_went (List Area) _ (λ areas. with_areas s.tables.land areas) (areas_after_renumber s.tables.land.areas (register_of s.cpu 1) (register_of s.cpu 2))
+      shown_went (List Area) _ (λ areas. with_areas s.tables.area_table areas) (areas_after_renumber s.tables.area_table.areas (register_of s.cpu 1) (register_of s.cpu 2))
   area_for None = tt
 
-  pub area_went : Went s a PageRow (on_estate s (area_called s.cpu (machine_estate s)))
+  pub area_went : Went s a PageRow (on_area_store s (area_called s.cpu (machine_area_store s)))
   unfolding area_called
   area_went = area_for (area_reason (register_of s.cpu 0))
 
@@ -99,7 +99,7 @@ module _ (s : MachineState) (has : HasStore s) (a : ℕ) where
       (calls (area_resized s.cpu e (register_of s.cpu 0) (register_of s.cpu 1) (change_asked s.cpu e).bytes).1).change (register_of s.cpu 0) (register_of s.cpu 1) refl
 
   changed : Changed (with_guest s (area_changed s.cpu e)).store
-  changed = change_for (find_area (register_of s.cpu 0) s.tables.land.areas)
+  changed = change_for (find_area (register_of s.cpu 0) s.tables.area_table.areas)
 
   row_after : (u : MachineState) (f : Refusal) → (IsUnmapped u.store a ⊎ ((register_of s.cpu 0 ≡ 1) × IsAreaEndByte a))
       → IsUnmapped (with_error u f).store a ⊎ ((register_of s.cpu 0 ≡ 1) × IsAreaEndByte a)
@@ -111,18 +111,18 @@ module _ (s : MachineState) (has : HasStore s) (a : ℕ) where
   size_for None = has.size
   size_for (Some x) = set_length s.cpu 1 (change_asked s.cpu e).bytes has.size
 
-  mapped_for : (o : Option Area) → find_area (register_of s.cpu 0) s.tables.land.areas ≡ o
+  mapped_for : (o : Option Area) → find_area (register_of s.cpu 0) s.tables.area_table.areas ≡ o
       → (change_left s.cpu e o (change_asked s.cpu e).bytes).1.store.bytes.mapped error_block_start ≡ true
   mapped_for None found = mapped_block s has
   mapped_for (Some x) found =
-      change_keeps_system s.store s.pool s.tables.land (register_of s.cpu 0) (register_of s.cpu 1) x error_block_start has.estate found refl
+      change_keeps_system s.store s.pool s.tables.area_table (register_of s.cpu 0) (register_of s.cpu 1) x error_block_start has.area_store found refl
 
   change_by : (x : Bool) (next : ℕ) (o : Option Refusal) → Changed (with_guest s (area_changed s.cpu e)).store
       → Ends s a ChangeRow (outcome_of_end s x (area_changing s next) o).now
   change_by x next None (inl same) = inl same
   change_by x next None (inr row) = inr (inr row)
   change_by false next (Some f) row = inl refl
-  change_by true next (Some f) row = elim (error_byte (with_guest s (area_changed s.cpu e)) s.cpu.psr next a f (mapped_for (find_area (register_of s.cpu 0) s.tables.land.areas) refl) (size_for (find_area (register_of s.cpu 0) s.tables.land.areas))) [
+  change_by true next (Some f) row = elim (error_byte (with_guest s (area_changed s.cpu e)) s.cpu.psr next a f (mapped_for (find_area (register_of s.cpu 0) s.tables.area_table.areas) refl) (size_for (find_area (register_of s.cpu 0) s.tables.area_table.areas))) [
     | inr own ↦ inr (inl own)
     | inl kept ↦ elim row [
       | inl same ↦ inl (kept ∙ same)

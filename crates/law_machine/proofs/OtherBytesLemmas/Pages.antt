@@ -81,10 +81,10 @@ page_calls_keep_others d e a good small =
       create = λ w name made done store. ap (λ (t : Store). t.bytes.at a) store;
       remove = λ number done store.
           subst (λ (t : Store). (t.bytes.at a ≡ d.store.bytes.at a) ⊎ IsUnmapped t a) (sym store)
-          (emptied_byte d.store (find_area number d.land.areas) a);
+          (emptied_byte d.store (find_area number d.area_table.areas) a);
       change = λ number amount store.
-          let bytes : ℕ = (change_answer d.land.areas d.store d.pool number amount).bytes in
-          let found : Option Area = find_area number d.land.areas in
+          let bytes : ℕ = (change_answer d.area_table.areas d.store d.pool number amount).bytes in
+          let found : Option Area = find_area number d.area_table.areas in
           subst (λ (t : Store). Pages d.store o base a number t) (sym store) (elim (cases_Bool (is_growth amount)) [
             | inl grows ↦ rw grows (extended_pages d.store o base a number (bytes / 4096) found)
             | inr shrinks ↦ rw shrinks (reduced_pages d.store o base a number (bytes / 4096) found)

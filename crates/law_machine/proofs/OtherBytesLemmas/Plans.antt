@@ -4,7 +4,7 @@ use Rattle.std.specs.Prelude.{IfOk}
 use Rattle.profile.specs.declared.error.ErrorNumber.{ErrorNumber}
 use Rattle.address_map.specs.Bytes.{bytes_between, in_range}
 use Rattle.image_loader.specs.Entries.{Entry}
-use Rattle.dynamic_areas.specs.Ground.{Estate, IsEstate}
+use Rattle.dynamic_areas.specs.Ground.{AreaStore, IsAreaStore}
 use Rattle.rma.specs.Copies.{may_be_copied}
 use Rattle.rma.specs.NewImages.{image_copied, image_made, may_be_in_place}
 use Rattle.image_loader.specs.module_header.Header.{header_of}
@@ -12,11 +12,11 @@ use Rattle.instances.proofs.GoingOn.{bound as bound_any}
 use Rattle.instances.specs.Adding.{copying, good_header, inserting, loading, slot_for}
 use Rattle.instances.specs.Reading.{start_found}
 use Rattle.instances.specs.Turns.{module_doing}
-use Rattle.instances.specs.actions.Actions.{world_after_action}
+use Rattle.instances.specs.actions.Actions.{module_state_after_action}
 use Rattle.instances.specs.declared.answers.Start.{Start}
 use Rattle.instances.specs.tidying.Laws.{AreBytes}
-use Rattle.instances.specs.tidying.Slid.{world_slid}
-use Rattle.instances.specs.world.World.{World}
+use Rattle.instances.specs.tidying.Slid.{module_state_slid}
+use Rattle.instances.specs.module_state.ModuleState.{ModuleState}
 use Rattle.instances_table.specs.plans.Carrying.{Carried, carried_by, carried_from, carry_of_plan}
 use Rattle.instances_table.specs.plans.Plans.{Plan, actions_owed}
 use Rattle.instances_table.specs.declared.plans.action.PlanAction.{PlanAction}
@@ -24,15 +24,15 @@ use Rattle.instances_table.specs.declared.plans.code.Code.{Code}
 use Rattle.instances_table.specs.declared.plans.given.Given.{Given}
 use Rattle.swi_dispatch_answers.specs.declared.frames.call.Call.{Call}
 use Rattle.swi_dispatch_plans.specs.ImagePlans.{copy_asked, insertion_asked, load_asked}
-use Rattle.swi_dispatch_plans.specs.Setting.{string_asked}
-use Rattle.swi_dispatch_plans.specs.Trials.{world_carried}
+use Rattle.swi_dispatch_plans.specs.PlannerInput.{string_asked}
+use Rattle.swi_dispatch_plans.specs.Trials.{module_state_carried}
 use Rattle.swi_dispatch_guest.specs.Additions.{Planned, copy_planned, insertion_planned, load_planned, named_load_planned, planned_of}
 use Rattle.swi_dispatch_guest.specs.Gates.{call_ended_by, carried_on, ended_of, entered_if, entered_with, state_after_plan, state_with_code_entered}
-use Rattle.swi_dispatch_guest.specs.MachineState.{MachineState, machine_estate, machine_world, setting_of}
+use Rattle.swi_dispatch_guest.specs.MachineState.{MachineState, machine_area_store, machine_module_state, setting_of}
 use Rattle.swi_dispatch_guest.specs.ModuleStart.{opened_at}
 use Rattle.swi_dispatch_guest.specs.Returns.{gone_back}
 use Rattle.law_machine.proofs.HeapAloneLemmas.ModulePlans.{IsFitPlan, bound, bound_if, bound_short}
-use Rattle.law_blocks.specs.heap_frame.PlanLaws.{IsFitWorld}
+use Rattle.law_blocks.specs.heap_frame.PlanLaws.{IsFitModuleState}
 use Rattle.law_machine.proofs.OtherBytesLemmas.Actions.{plans_keep_others}
 use Rattle.law_machine.proofs.OtherBytesLemmas.AreaCalls.{area_calls_keep_others}
 use Rattle.law_machine.proofs.OtherBytesLemmas.Releases.{text_written}
@@ -42,19 +42,19 @@ use Rattle.law_machine.specs.other_bytes.AreaWrites.{IsAreaWord}
 -- what holds of what a plan is given holds of what is left of it
 module _ (P : Given → Type 0) where
   abbrev Keeps : List PlanAction → Type 0
-  Keeps actions = (w : World) (p : Plan) → P p.given → P (carried_from module_doing actions w p).rest.given
+  Keeps actions = (w : ModuleState) (p : Plan) → P p.given → P (carried_from module_doing actions w p).rest.given
 
-  keeps_by : (w : World) (p : Plan) (one : PlanAction) (others : List PlanAction) (o : Option Code) → Keeps others → P p.given
+  keeps_by : (w : ModuleState) (p : Plan) (one : PlanAction) (others : List PlanAction) (o : Option Code) → Keeps others → P p.given
       → P (carried_by module_doing w p one others o (carried_from module_doing others)).rest.given
   keeps_by w p one others (Some code) on holds = holds
   keeps_by w p one others None on holds =
-      on (world_after_action world_slid p.given w one) (record p { actions = others; instead = actions_owed p.instead one; runs = false }) holds
+      on (module_state_after_action module_state_slid p.given w one) (record p { actions = others; instead = actions_owed p.instead one; runs = false }) holds
 
   keeps_from : (actions : List PlanAction) → Keeps actions
   keeps_from [] w p holds = holds
   keeps_from (one ∷ others) w p holds = keeps_by w p one others (module_doing.code_of w one) (keeps_from others) holds
 
-  keeps_given : (w : World) (p : Plan) → P p.given → P (carry_of_plan module_doing w p).rest.given
+  keeps_given : (w : ModuleState) (p : Plan) → P p.given → P (carry_of_plan module_doing w p).rest.given
   unfolding carry_of_plan
   keeps_given w p holds = keeps_from p.actions w p holds
 
@@ -62,7 +62,7 @@ module _ (P : Given → Type 0) where
 pub opened_text : (s : MachineState) (text : List ℕ) (slot : ℕ) (o : Option ℕ) (a : ℕ)
     → ((opened_at s text slot o).store.bytes.at a ≡ s.store.bytes.at a) ⊎ IsTextByte text a
 opened_text s text slot None a = inl refl
-opened_text s text slot (Some at) a = text_written (machine_estate s) text a
+opened_text s text slot (Some at) a = text_written (machine_area_store s) text a
 
 entered_text : (s : MachineState) (text : List ℕ) (r : Result Start ErrorNumber) (a : ℕ)
     → ((entered_with s text r).store.bytes.at a ≡ s.store.bytes.at a) ⊎ IsTextByte text a
@@ -85,15 +85,15 @@ ended_text s call g (Some r0) a = inl refl
 ended_text s call g None a = if_text (gone_back call.caller s false call.next) call.enters g a
 
 -- a call that is carried on
-abbrev gone : MachineState → Call → Carried World → MachineState
+abbrev gone : MachineState → Call → Carried ModuleState → MachineState
 gone s call c = state_after_plan (state_with_code_entered s call c) call (ended_of c)
 
-gone_text : (s : MachineState) (call : Call) (w : World) (q : Plan) (o : Option Code) (a : ℕ)
-    → (let c : Carried World = record { world = w; rest = q; code = o } in
-    ((gone s call c).store.bytes.at a ≡ w.estate.store.bytes.at a) ⊎ ((call.enters ≡ true) × IsTextByte q.given.text.items a))
+gone_text : (s : MachineState) (call : Call) (w : ModuleState) (q : Plan) (o : Option Code) (a : ℕ)
+    → (let c : Carried ModuleState = record { module_state = w; rest = q; code = o } in
+    ((gone s call c).store.bytes.at a ≡ w.area_store.store.bytes.at a) ⊎ ((call.enters ≡ true) × IsTextByte q.given.text.items a))
 gone_text s call w q (Some code) a = inl refl
 gone_text s call w q None a =
-    ended_text (state_with_code_entered s call (record { world = w; rest = q; code = None })) call q.given q.first a
+    ended_text (state_with_code_entered s call (record { module_state = w; rest = q; code = None })) call q.given q.first a
 
 carried_then : (x y z : ℕ) (A B : Type 0) → (x ≡ y) ⊎ B → (y ≡ z) ⊎ A → (x ≡ z) ⊎ (A ⊎ B)
 carried_then x y z A B (inl same) (inl kept) = inl (same ∙ kept)
@@ -101,39 +101,39 @@ carried_then x y z A B (inl same) (inr written) = inr (inl written)
 carried_then x y z A B (inr text) before = inr (inr text)
 
 -- the text of the call that is carried on
-same_text : (w : World) (p : Plan) → (carry_of_plan module_doing w p).rest.given.text.items ≡ p.given.text.items
+same_text : (w : ModuleState) (p : Plan) → (carry_of_plan module_doing w p).rest.given.text.items ≡ p.given.text.items
 same_text w p = keeps_given (λ (g : Given). g.text.items ≡ p.given.text.items) w p refl
 
-pub carried_written : (s : MachineState) (call : Call) (p : Plan) (a : ℕ) → IsFitWorld (machine_world s) → IsFitPlan p
+pub carried_written : (s : MachineState) (call : Call) (p : Plan) (a : ℕ) → IsFitModuleState (machine_module_state s) → IsFitPlan p
     → ((carried_on s call p).store.bytes.at a ≡ s.store.bytes.at a)
-    ⊎ (IsWrittenByActions p.given (machine_world s) p.actions a ⊎ ((call.enters ≡ true) × IsTextByte p.given.text.items a))
+    ⊎ (IsWrittenByActions p.given (machine_module_state s) p.actions a ⊎ ((call.enters ≡ true) × IsTextByte p.given.text.items a))
 carried_written s call p a fit plan =
-    let c : Carried World = world_carried (machine_world s) p in
-    let text = subst (λ (words : List ℕ). ((carried_on s call p).store.bytes.at a ≡ c.world.estate.store.bytes.at a) ⊎ ((call.enters ≡ true) × IsTextByte words a))
-    (same_text (machine_world s) p) (gone_text s call c.world c.rest c.code a) in
-    carried_then ((carried_on s call p).store.bytes.at a) (c.world.estate.store.bytes.at a) (s.store.bytes.at a)
-    (IsWrittenByActions p.given (machine_world s) p.actions a) ((call.enters ≡ true) × IsTextByte p.given.text.items a) text
-    (plans_keep_others (machine_world s) p a fit plan.below plan.text)
+    let c : Carried ModuleState = module_state_carried (machine_module_state s) p in
+    let text = subst (λ (words : List ℕ). ((carried_on s call p).store.bytes.at a ≡ c.module_state.area_store.store.bytes.at a) ⊎ ((call.enters ≡ true) × IsTextByte words a))
+    (same_text (machine_module_state s) p) (gone_text s call c.module_state c.rest c.code a) in
+    carried_then ((carried_on s call p).store.bytes.at a) (c.module_state.area_store.store.bytes.at a) (s.store.bytes.at a)
+    (IsWrittenByActions p.given (machine_module_state s) p.actions a) ((call.enters ≡ true) × IsTextByte p.given.text.items a) text
+    (plans_keep_others (machine_module_state s) p a fit plan.below plan.text)
 
 -- calls that add a module: a new image gets its bytes in a block, and one in place keeps them
-module _ (w : World) (a : ℕ) where
-  abbrev Adds : Bool → World → Plan → Type 0
-  Adds makes v p = (v.estate.store.bytes.at a ≡ w.estate.store.bytes.at a)
-      ⊎ ((makes ≡ true) × (IsAreaWord v.estate.store a ⊎ (in_range p.given.image p.given.len a ≡ true)))
+module _ (w : ModuleState) (a : ℕ) where
+  abbrev Adds : Bool → ModuleState → Plan → Type 0
+  Adds makes v p = (v.area_store.store.bytes.at a ≡ w.area_store.store.bytes.at a)
+      ⊎ ((makes ≡ true) × (IsAreaWord v.area_store.store a ⊎ (in_range p.given.image p.given.len a ≡ true)))
 
-  abbrev Added : Bool → World × Plan → Type 0
+  abbrev Added : Bool → ModuleState × Plan → Type 0
   Added makes r = Adds makes r.0 r.1
 
-  abbrev Fills : ℕ → Estate × ℕ → Type 0
-  Fills len made = (made.0.store.bytes.at a ≡ w.estate.store.bytes.at a) ⊎ (IsAreaWord made.0.store a ⊎ (in_range made.1 len a ≡ true))
+  abbrev Fills : ℕ → AreaStore × ℕ → Type 0
+  Fills len made = (made.0.store.bytes.at a ≡ w.area_store.store.bytes.at a) ⊎ (IsAreaWord made.0.store a ⊎ (in_range made.1 len a ≡ true))
 
-  module _ (good : IsEstate w.estate) (small : AreBytes w.estate.store.bytes.at) where
-    made_fills : (image : List ℕ) (r : Result (Estate × ℕ) ErrorNumber) → image_made w.estate image ≡ r → IfOk r (Fills (length image))
-    made_fills image (Ok made) is = (area_calls_keep_others w.estate made.0 a good small).make_image image made.1 is
+  module _ (good : IsAreaStore w.area_store) (small : AreBytes w.area_store.store.bytes.at) where
+    made_fills : (image : List ℕ) (r : Result (AreaStore × ℕ) ErrorNumber) → image_made w.area_store image ≡ r → IfOk r (Fills (length image))
+    made_fills image (Ok made) is = (area_calls_keep_others w.area_store made.0 a good small).make_image image made.1 is
     made_fills image (Err f) is = tt
 
-    copied_fills : (at len : ℕ) (r : Result (Estate × ℕ) ErrorNumber) → image_copied w.estate at len ≡ r → IfOk r (Fills len)
-    copied_fills at len (Ok made) is = (area_calls_keep_others w.estate made.0 a good small).copy_image at len made.1 is
+    copied_fills : (at len : ℕ) (r : Result (AreaStore × ℕ) ErrorNumber) → image_copied w.area_store at len ≡ r → IfOk r (Fills len)
+    copied_fills at len (Ok made) is = (area_calls_keep_others w.area_store made.0 a good small).copy_image at len made.1 is
     copied_fills at len (Err f) is = tt
 
     loading_adds : (image text : List ℕ) → IfOk (loading w image text) (Added true)
@@ -142,40 +142,40 @@ module _ (w : World) (a : ℕ) where
         bound_short (Added true) text _ (λ few.
         bound_any (Added true) (good_header (header_of image)) _ (λ header.
         bound_any (Added true) (slot_for w.modules header) _ (λ slot.
-        bound (Fills (length image)) (Added true) (image_made w.estate image) _
-        (made_fills image (image_made w.estate image) refl) (λ made fills. elim fills [ inl same ↦ inl same | inr written ↦ inr (refl, written) ]))))
+        bound (Fills (length image)) (Added true) (image_made w.area_store image) _
+        (made_fills image (image_made w.area_store image) refl) (λ made fills. elim fills [ inl same ↦ inl same | inr written ↦ inr (refl, written) ]))))
 
     copying_adds : (at len : ℕ) → IfOk (copying w at len) (Added true)
     unfolding copying
     copying_adds at len =
-        bound_if (Added true) (not (may_be_copied w.estate at len)) _ _
-        (bound_any (Added true) (good_header (header_of (bytes_between w.estate.store.bytes.at at len))) _ (λ header.
+        bound_if (Added true) (not (may_be_copied w.area_store at len)) _ _
+        (bound_any (Added true) (good_header (header_of (bytes_between w.area_store.store.bytes.at at len))) _ (λ header.
         bound_any (Added true) (slot_for w.modules header) _ (λ slot.
-        bound (Fills len) (Added true) (image_copied w.estate at len) _
-        (copied_fills at len (image_copied w.estate at len) refl) (λ made fills. elim fills [ inl same ↦ inl same | inr written ↦ inr (refl, written) ]))))
+        bound (Fills len) (Added true) (image_copied w.area_store at len) _
+        (copied_fills at len (image_copied w.area_store at len) refl) (λ made fills. elim fills [ inl same ↦ inl same | inr written ↦ inr (refl, written) ]))))
 
   inserting_adds : (at len : ℕ) → IfOk (inserting w at len) (Added false)
   unfolding inserting
   inserting_adds at len =
-      bound_if (Added false) (not (may_be_in_place w.estate.store at len)) _ _
-      (bound_any (Added false) (good_header (header_of (bytes_between w.estate.store.bytes.at at len))) _ (λ header.
+      bound_if (Added false) (not (may_be_in_place w.area_store.store at len)) _ _
+      (bound_any (Added false) (good_header (header_of (bytes_between w.area_store.store.bytes.at at len))) _ (λ header.
       bound_any (Added false) (slot_for w.modules header) _ (λ slot. inl refl)))
 
 -- the same as a machine plans them
 abbrev pub PlansAt : MachineState → ℕ → Bool → Planned → Type 0
-PlansAt s a makes w = Adds (machine_world s) a makes w.world w.plan
+PlansAt s a makes w = Adds (machine_module_state s) a makes w.module_state w.plan
 
-added_planned : (s : MachineState) (a : ℕ) (makes : Bool) (r : Result (World × Plan) ErrorNumber) → IfOk r (Added (machine_world s) a makes)
+added_planned : (s : MachineState) (a : ℕ) (makes : Bool) (r : Result (ModuleState × Plan) ErrorNumber) → IfOk r (Added (machine_module_state s) a makes)
     → IfOk (planned_of r) (PlansAt s a makes)
 added_planned s a makes (Ok w) added = added
 added_planned s a makes (Err e) added = tt
 
-module _ (s : MachineState) (a : ℕ) (good : IsEstate (machine_estate s)) (small : AreBytes s.store.bytes.at) where
+module _ (s : MachineState) (a : ℕ) (good : IsAreaStore (machine_area_store s)) (small : AreBytes s.store.bytes.at) where
   pub load_plans : (images : List Entry) (words : List ℕ) (enters : Bool) → IfOk (load_planned images s words enters) (PlansAt s a true)
   unfolding load_planned
   load_plans images words enters =
       bound_any (PlansAt s a true) (load_asked images (setting_of s) words enters) _ (λ l.
-      added_planned s a true (loading (machine_world s) l.image l.text) (loading_adds (machine_world s) a good small l.image l.text))
+      added_planned s a true (loading (machine_module_state s) l.image l.text) (loading_adds (machine_module_state s) a good small l.image l.text))
 
   pub named_load_plans : (images : List Entry) (enters : Bool) → IfOk (named_load_planned images s enters) (PlansAt s a true)
   named_load_plans images enters =
@@ -185,10 +185,10 @@ module _ (s : MachineState) (a : ℕ) (good : IsEstate (machine_estate s)) (smal
   unfolding copy_planned
   copy_plans =
       bound_any (PlansAt s a true) (copy_asked (setting_of s)) _ (λ range.
-      added_planned s a true (copying (machine_world s) range.at range.len) (copying_adds (machine_world s) a good small range.at range.len))
+      added_planned s a true (copying (machine_module_state s) range.at range.len) (copying_adds (machine_module_state s) a good small range.at range.len))
 
 pub insertion_plans : (s : MachineState) (a : ℕ) → IfOk (insertion_planned s) (PlansAt s a false)
 unfolding insertion_planned
 insertion_plans s a =
     bound_any (PlansAt s a false) (insertion_asked (setting_of s)) _ (λ range.
-    added_planned s a false (inserting (machine_world s) range.at range.len) (inserting_adds (machine_world s) a range.at range.len))
+    added_planned s a false (inserting (machine_module_state s) range.at range.len) (inserting_adds (machine_module_state s) a range.at range.len))

@@ -9,8 +9,8 @@ use Rattle.address_map.specs.declared.region.Kind.TheVariants.{Rma}
 use Rattle.os_heap_words.proofs.ListsLemmas.Payloads.{heap_beside}
 use Rattle.os_heap.specs.Store.{store_of}
 use Rattle.swi_dispatch_guest.specs.MachineState.{MachineState, machine_start}
-use Rattle.swi_dispatch_guest.specs.Moves.{machine_after_move, moved_all}
-use Rattle.swi_dispatch_guest.specs.Parts.{IsState, Parts, state_of}
+use Rattle.swi_dispatch_guest.specs.Moves.{machine_after_event, moved_all}
+use Rattle.swi_dispatch_guest.specs.GuestState.{IsState, GuestState, state_of}
 use Rattle.law_machine.proofs.OtherBytesLemmas.Moves.{other_bytes_stay}
 use Rattle.law_machine.specs.other_bytes.MoveWrites.{MayWrite, MayWriteOver, NewPagesAreZero, OtherBytesStayOver, ProgramsKeepOthers, StartsAreZero}
 
@@ -22,7 +22,7 @@ both_kept x y z A B before (inr later) = inr (inr later)
 pub stay_over : OtherBytesStayOver
 stay_over images s [] a state states = inl refl
 stay_over images s (m ∷ ms) a state states =
-    let t : MachineState = machine_after_move images s m in
+    let t : MachineState = machine_after_event images s m in
     both_kept (s.store.bytes.at a) (t.store.bytes.at a) ((moved_all images t ms).store.bytes.at a) (MayWrite images s t m a) (MayWriteOver images t ms a)
     (other_bytes_stay images s m a state states.0) (stay_over images t ms a states.0 states.1)
 
@@ -33,7 +33,7 @@ programs_keep_others s program a = elim (cases_Bool (in_range application_start 
 ]
 
 -- what isn't mapped counts as 0
-zero_by : (p : Parts) (a : ℕ) → (state_of p).store.bytes.mapped a ≡ false → (state_of p).store.bytes.at a ≡ 0
+zero_by : (p : GuestState) (a : ℕ) → (state_of p).store.bytes.mapped a ≡ false → (state_of p).store.bytes.at a ≡ 0
 unfolding store_of
 zero_by p a none = byte_at-unmapped p.map a none
 

@@ -5,7 +5,7 @@ use Rattle.std.proofs.lemmas.Bool.{cases_Bool, cases_eq, eq-eqb, ne_eqb, or_left
 use Rattle.address_map.specs.Bytes.{in_range, with_moved_at, word_start}
 use Rattle.address_map.specs.Items.{is_heap_word}
 use Rattle.address_map.specs.Moves.{moved_to}
-use Rattle.address_map.specs.declared.follow.Move.{Move}
+use Rattle.address_map.specs.declared.follow.BlockMove.{BlockMove}
 use Rattle.address_map.specs.declared.item.Item.{Item}
 use Rattle.address_map.specs.declared.item.Item.TheVariants.{Free, Live}
 use Rattle.os_heap_words.proofs.ListsLemmas.Payloads.{heap_beside}
@@ -16,7 +16,7 @@ use Rattle.os_heap.proofs.Apart.{range_parts}
 use Rattle.os_heap.proofs.Found.{found_start}
 use Rattle.os_heap.specs.Store.{Store, find_heap}
 use Rattle.dynamic_areas.specs.Calls.{OfHeap}
-use Rattle.dynamic_areas.specs.Ground.{Estate}
+use Rattle.dynamic_areas.specs.Ground.{AreaStore}
 use Rattle.rma.proofs.HeapSlideLemmas.LawLemmas.{slid_totals}
 use Rattle.rma.proofs.HeapSlideLemmas.Places.{between, first_moved, low_still, one_moved, some_low}
 use Rattle.rma.proofs.HeapSlideLemmas.Records.{slid_in}
@@ -27,10 +27,10 @@ use Rattle.instances_table.specs.Modules.{slots_of}
 use Rattle.instances.proofs.TidyingLemmas.LawLemmas.{heap_after}
 use Rattle.instances.specs.tidying.Laws.{tidy_moves, tidy_moves_in}
 use Rattle.instances.specs.tidying.Movable.{movable_blocks}
-use Rattle.instances.specs.tidying.Slid.{moves_in, private_words_of, words_moved, world_moved, world_slid, world_slid_in}
-use Rattle.instances.specs.world.World.{World, private_word, with_private}
+use Rattle.instances.specs.tidying.Slid.{moves_in, private_words_of, words_moved, module_state_moved, module_state_slid, module_state_slid_in}
+use Rattle.instances.specs.module_state.ModuleState.{ModuleState, private_word, with_private}
 use Rattle.law_blocks.proofs.HeapFrameLemmas.Holding.{area_of}
-use Rattle.law_blocks.specs.heap_frame.FitEstates.{IsFitEstate}
+use Rattle.law_blocks.specs.heap_frame.FitAreaStores.{IsFitAreaStore}
 use Rattle.law_machine.proofs.OtherBytesLemmas.Releases.{word_written}
 use Rattle.law_machine.specs.other_bytes.ActionWrites.{IsOfHeldSlot, IsOfSlidBlock, IsPrivateByte}
 use Rattle.law_machine.specs.other_bytes.AreaWrites.{IsAreaWord}
@@ -59,7 +59,7 @@ module _ (mv : ℕ → Bool) (a : ℕ) where
       let place : ℕ = item_place_after (mv (at + 4)) top at in
       let bounds : (top ≤ place) × (place ≤ at) = between (mv (at + 4)) top at low in
       let least = total_facts t totals.0 in
-      let ms : List Move = moves_of mv (place + t) (at + t) xs in
+      let ms : List BlockMove = moves_of mv (place + t) (at + t) xs in
       elim (cases_Bool (in_range place t a)) [
         | inr outside ↦ inl (rw outside refl)
         | inl inside ↦ elim (cases_eq place at) [
@@ -83,7 +83,7 @@ module _ (mv : ℕ → Bool) (a : ℕ) where
       → (let place : ℕ = item_place_after (mv (at + 4)) top at in IsCopied mv (place + t) (at + t) xs a → IsCopied mv top at (Live t ∷ xs) a)
   later_copied top at t xs totals copied =
       let place : ℕ = item_place_after (mv (at + 4)) top at in
-      let ms : List Move = moves_of mv (place + t) (at + t) xs in
+      let ms : List BlockMove = moves_of mv (place + t) (at + t) xs in
       let least = total_facts t totals.0 in
       let far : at + t + 4 ≤ copied.block = some_low copied.block (at + t) copied.total xs copied.live in
       let other : at + 4 ≢ copied.block = λ same. omega (arith, far, same, least.0) in
@@ -119,7 +119,7 @@ record IsOfSlots (slots : List ℕ) (a : ℕ) : Type 0 where
   held : is_used slot slots ≡ true
   byte : IsPrivateByte slot a
 
-words_written : (moves : List Move) (slots : List ℕ) (e : Estate) (a : ℕ) → ((words_moved moves slots e).store.bytes.at a ≡ e.store.bytes.at a) ⊎ IsOfSlots slots a
+words_written : (moves : List BlockMove) (slots : List ℕ) (e : AreaStore) (a : ℕ) → ((words_moved moves slots e).store.bytes.at a ≡ e.store.bytes.at a) ⊎ IsOfSlots slots a
 words_written moves [] e a = inl refl
 words_written moves (slot ∷ slots) e a =
     let value : ℕ = moved_to moves (private_word e slot) in
@@ -131,14 +131,14 @@ words_written moves (slot ∷ slots) e a =
       ]
     ]
 
-module _ (return_address : ℕ) (w : World) (a : ℕ) (fit : IsFitEstate w.estate) where
-  abbrev Slides : World → Type 0
-  Slides v = (v.estate.store.bytes.at a ≡ w.estate.store.bytes.at a)
-      ⊎ (IsAreaWord v.estate.store a ⊎ (IsOfSlidBlock return_address w a ⊎ IsOfHeldSlot w a))
+module _ (return_address : ℕ) (w : ModuleState) (a : ℕ) (fit : IsFitAreaStore w.area_store) where
+  abbrev Slides : ModuleState → Type 0
+  Slides v = (v.area_store.store.bytes.at a ≡ w.area_store.store.bytes.at a)
+      ⊎ (IsAreaWord v.area_store.store a ⊎ (IsOfSlidBlock return_address w a ⊎ IsOfHeldSlot w a))
 
-  module _ (h : HeapList) (found : find_heap module_area_start w.estate.store.heaps ≡ Some h) where
+  module _ (h : HeapList) (found : find_heap module_area_start w.area_store.store.heaps ≡ Some h) where
     abbrev movable : List ℕ
-    movable = movable_blocks w.estate.store w.modules (private_words_of w) return_address h
+    movable = movable_blocks w.area_store.store w.modules (private_words_of w) return_address h
 
     abbrev Copied : Type 0
     Copied = IsCopied (is_listed movable) (h.start + 16) (h.start + 16) h.items a
@@ -150,15 +150,15 @@ module _ (return_address : ℕ) (w : World) (a : ℕ) (fit : IsFitEstate w.estat
           block = copied.block;
           total = copied.total;
           live = subst (OfHeap (λ g. live_total copied.block (g.start + 16) g.items ≡ Some copied.total)) (sym found) copied.live;
-          moves = subst (λ (ms : List Move). moved_to ms copied.block ≢ copied.block) (sym moves) copied.moves;
-          byte = subst (λ (ms : List Move). in_range (moved_to ms copied.block - 4) copied.total a ≡ true) (sym moves) copied.byte;
+          moves = subst (λ (ms : List BlockMove). moved_to ms copied.block ≢ copied.block) (sym moves) copied.moves;
+          byte = subst (λ (ms : List BlockMove). in_range (moved_to ms copied.block - 4) copied.total a ≡ true) (sym moves) copied.byte;
         }
 
     -- the heap's own slide
-    slid_byte : ((with_slid w.estate.store h movable).bytes.at a ≡ w.estate.store.bytes.at a)
+    slid_byte : ((with_slid w.area_store.store h movable).bytes.at a ≡ w.area_store.store.bytes.at a)
         ⊎ ((is_heap_word h.start (slid_in h movable) (word_start a) ≡ true) ⊎ Copied)
     slid_byte =
-        let s : Store = w.estate.store in
+        let s : Store = w.area_store.store in
         let first : ℕ = h.start + 16 in
         let start : h.start ≡ module_area_start = found_start module_area_start s.heaps h found in
         let aligned : h.start % 4 ≡ 0 = rw start refl in
@@ -174,10 +174,10 @@ module _ (return_address : ℕ) (w : World) (a : ℕ) (fit : IsFitEstate w.estat
           ]
         ]
 
-    moved_by : (with_slid w.estate.store h movable).bytes.at a ≡ (world_moved w h movable).estate.store.bytes.at a
-        → ((with_slid w.estate.store h movable).bytes.at a ≡ w.estate.store.bytes.at a)
+    moved_by : (with_slid w.area_store.store h movable).bytes.at a ≡ (module_state_moved w h movable).area_store.store.bytes.at a
+        → ((with_slid w.area_store.store h movable).bytes.at a ≡ w.area_store.store.bytes.at a)
         ⊎ ((is_heap_word h.start (slid_in h movable) (word_start a) ≡ true) ⊎ Copied)
-        → Slides (world_moved w h movable)
+        → Slides (module_state_moved w h movable)
     moved_by kept (inl same) = inl (sym kept ∙ same)
     moved_by kept (inr (inl word)) = inr (inl (record {
       list = record { kind = h.kind; start = h.start; end = h.end; items = slid_in h movable };
@@ -186,17 +186,17 @@ module _ (return_address : ℕ) (w : World) (a : ℕ) (fit : IsFitEstate w.estat
     }))
     moved_by kept (inr (inr copied)) = inr (inr (inl (slid_block copied)))
 
-    moved_written : Slides (world_moved w h movable)
+    moved_written : Slides (module_state_moved w h movable)
     moved_written =
-        elim (words_written (moves_in h movable) (slots_of w.modules) (with_store w.estate (with_slid w.estate.store h movable)) a) [
+        elim (words_written (moves_in h movable) (slots_of w.modules) (with_store w.area_store (with_slid w.area_store.store h movable)) a) [
           | inl kept ↦ moved_by (sym kept) slid_byte
           | inr held ↦ inr (inr (inr (record { slot = held.slot; held = held.held; byte = held.byte })))
         ]
 
-  slid_where : (o : Option HeapList) → find_heap module_area_start w.estate.store.heaps ≡ o → Slides (world_slid_in return_address w o)
+  slid_where : (o : Option HeapList) → find_heap module_area_start w.area_store.store.heaps ≡ o → Slides (module_state_slid_in return_address w o)
   slid_where None found = inl refl
   slid_where (Some h) found = moved_written h found
 
-  pub slid_written : Slides (world_slid return_address w)
-  unfolding world_slid
-  slid_written = slid_where (find_heap module_area_start w.estate.store.heaps) refl
+  pub slid_written : Slides (module_state_slid return_address w)
+  unfolding module_state_slid
+  slid_written = slid_where (find_heap module_area_start w.area_store.store.heaps) refl

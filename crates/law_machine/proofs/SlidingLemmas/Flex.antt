@@ -22,7 +22,7 @@ use Rattle.swi_dispatch_answers.specs.Errors.{memory_with_error}
 use Rattle.swi_dispatch_answers.specs.Refusals.{or_error}
 use Rattle.swi_dispatch_answers.specs.declared.refusal.Refusal.{Refusal}
 use Rattle.swi_dispatch_answers.specs.declared.refusal.Refusal.TheVariants as refusal
-use Rattle.swi_dispatch_answers.specs.flex.Calls.{FlexMemory, fit_told, flex_called, memory_after_flex as memory_left}
+use Rattle.swi_dispatch_answers.specs.flex.Calls.{FlexMemory, fit_shown, flex_called, memory_after_flex as memory_left}
 use Rattle.swi_dispatch_guest.proofs.Kept.{short_name}
 use Rattle.swi_dispatch_guest.specs.declared.halt.Halt.TheVariants as halt
 use Rattle.swi_dispatch_guest.specs.Answers.{went_on}
@@ -35,14 +35,14 @@ use Rattle.law_blocks.proofs.SlidingLemmas.Turns.{turns_follow}
 use Rattle.law_blocks.specs.sliding.Laws.{IsFollowed, module_without_place}
 use Rattle.law_blocks.specs.sliding.Meaning.{AreStores, Meaning, Stores, meaning_of}
 use Rattle.law_blocks.specs.sliding.Rules.{IsTurned}
-use Rattle.law_blocks.specs.sliding.Turning.{Call, Init, Slide, StoreTurn, answer_of, IsTurnAllowed, answer_of_turn, stores_after_flex, anchor_place_of_turn, stores_after_turn}
+use Rattle.law_blocks.specs.sliding.Turning.{Call, Init, Slide, FlexOrSlide, answer_of, IsTurnAllowed, answer_of_turn, stores_after_flex, anchor_place_of_turn, stores_after_step}
 use Rattle.law_machine.proofs.SlidingLemmas.Behind.{IsBehind, held_word, still_behind, written_outside}
 use Rattle.law_machine.specs.sliding.MachineStores.{stores_of}
 use Rattle.law_machine.specs.sliding.Turns.{Allocated, StoresAreStill, Extended, FlexSwi, Freed, IsTurnMade, MadeStore, MidExtended, flex_name, flex_turn}
 
 -- the stores with what a call leaves of memory and of the flex store
 abbrev with_both : Stores → FlexMemory → Stores
-with_both x m = record x { world = record x.world { estate = with_store x.world.estate m.store }; flex = m.flex }
+with_both x m = record x { module_state = record x.module_state { area_store = with_store x.module_state.area_store m.store }; flex = m.flex }
 
 -- the call and the turn agree
 abbrev Agrees : Stores → Result (State × FlexMemory) Refusal → Result Bool ErrorNumber → Stores → Type 0
@@ -51,7 +51,7 @@ Agrees x (Err e) (Err number) y = (e ≡ refusal.System number) × (y ≡ x)
 Agrees x q r y = ⊥
 
 fit_agrees : (cpu : State) (x : Stores) (s : Store) (r : Result (FlexState × Bool) ErrorNumber)
-    → Agrees x (fit_told cpu (memory_left s r)) (answer_of r) (stores_after_flex x s r)
+    → Agrees x (fit_shown cpu (memory_left s r)) (answer_of r) (stores_after_flex x s r)
 fit_agrees cpu x s (Ok q) = refl
 fit_agrees cpu x s (Err e) = (refl, refl)
 
@@ -68,8 +68,8 @@ unanswered_agrees cpu x s (Err e) = (refl, refl)
 
 agrees : (f : FlexSwi) (s : MachineState)
     → Agrees (stores_of s) (flex_called s.cpu (machine_flex s) (Some (flex_name f))) (answer_of_turn (flex_turn f s.cpu) (stores_of s))
-    (stores_after_turn (flex_turn f s.cpu) (stores_of s))
-unfolding flex_called answer_of_turn stores_after_turn
+    (stores_after_step (flex_turn f s.cpu) (stores_of s))
+unfolding flex_called answer_of_turn stores_after_step
 agrees MadeStore s =
     unanswered_agrees s.cpu (stores_of s) (with_flex_record s.store (register_of s.cpu 0) (register_of s.cpu 1))
     (flex_after_init s.store (flex_state s.store s.tables.flex) (register_of s.cpu 0) (register_of s.cpu 1))
@@ -126,26 +126,26 @@ allowed Freed cpu pending core = tt
 allowed Extended cpu pending core = tt
 allowed MidExtended cpu pending core = core.words (slot_of cpu.psr.mode 2)
 
-turn_law : (f : FlexSwi) (cpu : State) (x : Stores) → IsCore cpu → AreStores x → IsFollowed (flex_turn f cpu) x (stores_after_turn (flex_turn f cpu) x)
+turn_law : (f : FlexSwi) (cpu : State) (x : Stores) → IsCore cpu → AreStores x → IsFollowed (flex_turn f cpu) x (stores_after_step (flex_turn f cpu) x)
 turn_law f cpu x core are = (turns_follow x (flex_turn f cpu ∷ []) are (allowed f cpu x.pending core, tt)).0
 
-refused_rule : (turn : StoreTurn) (x : Stores) (e : ErrorNumber) (p q : Meaning) → q ≡ p → IsTurned turn (anchor_place_of_turn turn x) (Err e) p q
+refused_rule : (turn : FlexOrSlide) (x : Stores) (e : ErrorNumber) (p q : Meaning) → q ≡ p → IsTurned turn (anchor_place_of_turn turn x) (Err e) p q
 refused_rule (Init start end) x e p q same = same
 refused_rule (Call call) x e p q same = same
 refused_rule (Slide return_address) x e p q same = same
 
 -- a refused call leaves what the stores mean
-still_followed : (turn : StoreTurn) (e : ErrorNumber) (x y : Stores) → answer_of_turn turn x ≡ Err e → StoresAreStill x y → IsFollowed turn x y
+still_followed : (turn : FlexOrSlide) (e : ErrorNumber) (x y : Stores) → answer_of_turn turn x ≡ Err e → StoresAreStill x y → IsFollowed turn x y
 unfolding meaning_of
 still_followed turn e x y refused still = record {
   rule = subst (λ (a : Result Bool ErrorNumber). IsTurned turn (anchor_place_of_turn turn x) a (meaning_of x) (meaning_of y)) (sym refused)
       (refused_rule turn x e (meaning_of x) (meaning_of y) still.meaning);
-  words = λ slot word says. still.words slot (held_word x slot word says) ∙ words_said x.world slot word says;
+  words = λ slot word says. still.words slot (held_word x slot word says) ∙ words_said x.module_state slot word says;
   modules = ap (map module_without_place) still.modules;
   stores = still.stores;
   mapped = still.mapped;
   pool = still.pool;
-  land = still.land;
+  area_table = still.area_table;
   pending = still.pending;
 }
 
@@ -164,12 +164,12 @@ error_behind s t false next e after = record {
   outside = λ a out. refl;
 }
 
-module _ (turn : StoreTurn) (s t : MachineState) (is_x : Bool) (next : ℕ) (are : AreStores (stores_of s)) (new : AreStores (stores_of t))
-    (law : IsFollowed turn (stores_of s) (stores_after_turn turn (stores_of s))) where
-  made_by : (r : Result (State × FlexMemory) Refusal) (answer : Result Bool ErrorNumber) → Agrees (stores_of s) r answer (stores_after_turn turn (stores_of s))
+module _ (turn : FlexOrSlide) (s t : MachineState) (is_x : Bool) (next : ℕ) (are : AreStores (stores_of s)) (new : AreStores (stores_of t))
+    (law : IsFollowed turn (stores_of s) (stores_after_step turn (stores_of s))) where
+  made_by : (r : Result (State × FlexMemory) Refusal) (answer : Result Bool ErrorNumber) → Agrees (stores_of s) r answer (stores_after_step turn (stores_of s))
       → answer_of_turn turn (stores_of s) ≡ answer → t ≡ (outcome_of_answer s is_x (went_on s next (on_flex s r))).now → IsTurnMade turn s t
   made_by (Ok q) (Ok room) agree is after =
-      let same : stores_of t ≡ stores_after_turn turn (stores_of s) = ap stores_of after ∙ agree in
+      let same : stores_of t ≡ stores_after_step turn (stores_of s) = ap stores_of after ∙ agree in
       record {
         followed = subst (IsFollowed turn (stores_of s)) (sym same) law;
         exact = λ other is_other. same;

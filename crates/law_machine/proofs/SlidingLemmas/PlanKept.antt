@@ -13,12 +13,12 @@ use Rattle.profile.specs.declared.swi.SwiName.TheVariants as swi
 use Rattle.profile.specs.Reasons.{module_reason}
 use Rattle.address_map.specs.Bytes.{Bytes}
 use Rattle.arm_core.specs.State.{State, register_of}
-use Rattle.arm_core.specs.declared.turn.Turn.{Turn}
-use Rattle.arm_core.specs.declared.turn.Turn.TheVariants as turn
+use Rattle.arm_core.specs.declared.turn.StepEnd.{StepEnd}
+use Rattle.arm_core.specs.declared.turn.StepEnd.TheVariants as turn
 use Rattle.image_loader.specs.Entries.{Entry, bytes_of_image}
 use Rattle.os_heap.specs.Store.{Store}
-use Rattle.dynamic_areas.specs.Ground.{Estate}
-use Rattle.instances.specs.world.World.{World}
+use Rattle.dynamic_areas.specs.Ground.{AreaStore}
+use Rattle.instances.specs.module_state.ModuleState.{ModuleState}
 use Rattle.instances_table.specs.declared.parts.Handler.{Handler}
 use Rattle.instances_table.specs.Lookup.{handler_of}
 use Rattle.swi_dispatch_answers.specs.declared.refusal.Refusal.{Refusal}
@@ -27,7 +27,7 @@ use Rattle.swi_dispatch_answers.specs.flex.Calls.{FlexMemory}
 use Rattle.swi_dispatch_plans.specs.ImagePlans.{Loading, copy_asked, image_header_in, insertion_asked, instantiation_planned, load_asked, may_add, may_load, may_replace, range_asked, well_named}
 use Rattle.swi_dispatch_plans.specs.ModulePlans.{clear_planned, delete_planned, may_begin_alone, may_finalise, reinit_planned, tidy_planned}
 use Rattle.swi_dispatch_plans.specs.Openings.{opening_asked}
-use Rattle.swi_dispatch_plans.specs.Setting.{Setting, string_asked}
+use Rattle.swi_dispatch_plans.specs.PlannerInput.{PlannerInput, string_asked}
 use Rattle.swi_dispatch_plans.specs.declared.image_plans.ImageRange.{ImageRange}
 use Rattle.instances.specs.Adding.{good_header, instantiation}
 use Rattle.instances.specs.Plans.{clearing, deletion, reinitialisation, tidying}
@@ -46,8 +46,8 @@ use Rattle.swi_dispatch_guest.specs.declared.halt.Halt.{Halt}
 use Rattle.swi_dispatch_guest.specs.declared.halt.Halt.TheVariants as halt
 use Rattle.swi_dispatch_guest.specs.Additions.{Planned, copied_range_planned, copy_planned, image_planned, insertion_planned, load_planned, named_load_planned, plan_alone, range_planned}
 use Rattle.swi_dispatch_guest.specs.Answers.{Answer, went_on}
-use Rattle.swi_dispatch_guest.specs.Calls.{call_answer, on_estate, on_flex, on_store, on_world, wrote_text_after, wrote_text_at}
-use Rattle.swi_dispatch_guest.specs.MachineState.{MachineState, StepOutcome, machine_estate, setting_of}
+use Rattle.swi_dispatch_guest.specs.Calls.{call_answer, on_area_store, on_flex, on_store, on_module_state, wrote_text_after, wrote_text_at}
+use Rattle.swi_dispatch_guest.specs.MachineState.{MachineState, StepOutcome, machine_area_store, setting_of}
 use Rattle.swi_dispatch_guest.specs.ModuleStart.{opened_at}
 use Rattle.swi_dispatch_guest.specs.Returns.{gone_back, outcome_of_halt}
 use Rattle.swi_dispatch_guest.specs.Step.{outcome_of_planned, begun_alone, call_refused, outcome_of_call, called_by, outcome_of_answer, outcome_of_end, result_of_instruction, is_exit, machine_step, outcome_of_module_swi, module_entered, module_loaded, os_module_called, os_module_called_for, store_called, outcome_of_turn, unless_halted, without_x}
@@ -75,13 +75,13 @@ store_keeps : (s : MachineState) (next : ℕ) (r : Result (State × Store) Refus
 store_keeps s next (Ok q) = refl
 store_keeps s next (Err e) = refl
 
-estate_keeps : (s : MachineState) (next : ℕ) (r : Result (State × Estate) Refusal) → Keeps s (went_on s next (on_estate s r)).left
-estate_keeps s next (Ok q) = refl
-estate_keeps s next (Err e) = refl
+area_store_keeps : (s : MachineState) (next : ℕ) (r : Result (State × AreaStore) Refusal) → Keeps s (went_on s next (on_area_store s r)).left
+area_store_keeps s next (Ok q) = refl
+area_store_keeps s next (Err e) = refl
 
-world_keeps : (s : MachineState) (next : ℕ) (r : Result (State × World) Refusal) → Keeps s (went_on s next (on_world s r)).left
-world_keeps s next (Ok q) = refl
-world_keeps s next (Err e) = refl
+module_state_keeps : (s : MachineState) (next : ℕ) (r : Result (State × ModuleState) Refusal) → Keeps s (went_on s next (on_module_state s r)).left
+module_state_keeps s next (Ok q) = refl
+module_state_keeps s next (Err e) = refl
 
 flex_keeps : (s : MachineState) (next : ℕ) (r : Result (State × FlexMemory) Refusal) → Keeps s (went_on s next (on_flex s r)).left
 flex_keeps s next (Ok q) = refl
@@ -105,11 +105,11 @@ answer_keeps s next number (Some swi.NewLine) = refl
 answer_keeps s next number (Some swi.Exit) = flex_keeps s next _
 answer_keeps s next number (Some swi.EnterOs) = refl
 answer_keeps s next number (Some swi.Heap) = store_keeps s next _
-answer_keeps s next number (Some swi.Module) = world_keeps s next _
+answer_keeps s next number (Some swi.Module) = module_state_keeps s next _
 answer_keeps s next number (Some swi.ChangeDynamicArea) = refl
 answer_keeps s next number (Some swi.GenerateError) = refl
-answer_keeps s next number (Some swi.ReadDynamicArea) = estate_keeps s next _
-answer_keeps s next number (Some swi.DynamicArea) = estate_keeps s next _
+answer_keeps s next number (Some swi.ReadDynamicArea) = area_store_keeps s next _
+answer_keeps s next number (Some swi.DynamicArea) = area_store_keeps s next _
 answer_keeps s next number (Some swi.WriteI) = refl
 answer_keeps s next number (Some swi.FlexInit) = flex_keeps s next _
 answer_keeps s next number (Some swi.FlexAlloc) = flex_keeps s next _
@@ -131,56 +131,56 @@ first_err : {A B : Type 0} (r : Result A ErrorNumber) (f : A → Result B ErrorN
 first_err (Ok a) f is = absurd is
 first_err (Err e) f is = tt
 
-finalise_err : (slots : List ℕ) (st : Setting) → is_some st.plan ≡ true → IsErr (may_finalise slots st)
+finalise_err : (slots : List ℕ) (st : PlannerInput) → is_some st.plan ≡ true → IsErr (may_finalise slots st)
 unfolding may_finalise
 finalise_err slots st kept = rw kept tt
 
-alone_err : (st : Setting) → is_some st.plan ≡ true → IsErr (may_begin_alone st)
+alone_err : (st : PlannerInput) → is_some st.plan ≡ true → IsErr (may_begin_alone st)
 unfolding may_begin_alone
 alone_err st kept = rw kept tt
 
-reinit_err : (st : Setting) → is_some st.plan ≡ true → IsErr (reinit_planned st)
+reinit_err : (st : PlannerInput) → is_some st.plan ≡ true → IsErr (reinit_planned st)
 unfolding reinit_planned
 reinit_err st kept =
-    let rest : List ℕ → Result Plan ErrorNumber = λ words. reinitialisation st.world.modules (name_part words) (text_part words) in
+    let rest : List ℕ → Result Plan ErrorNumber = λ words. reinitialisation st.module_state.modules (name_part words) (text_part words) in
     later_err (string_asked st 1)
-    (λ words. bind (slot_meant st.world.modules (name_part words)) (λ slot. bind (may_finalise (slot ∷ []) st) (λ _. rest words)))
-    (λ words. later_err (slot_meant st.world.modules (name_part words)) (λ slot. bind (may_finalise (slot ∷ []) st) (λ _. rest words))
+    (λ words. bind (slot_meant st.module_state.modules (name_part words)) (λ slot. bind (may_finalise (slot ∷ []) st) (λ _. rest words)))
+    (λ words. later_err (slot_meant st.module_state.modules (name_part words)) (λ slot. bind (may_finalise (slot ∷ []) st) (λ _. rest words))
     (λ slot. first_err (may_finalise (slot ∷ []) st) (λ _. rest words) (finalise_err (slot ∷ []) st kept)))
 
-delete_err : (st : Setting) → is_some st.plan ≡ true → IsErr (delete_planned st)
+delete_err : (st : PlannerInput) → is_some st.plan ≡ true → IsErr (delete_planned st)
 unfolding delete_planned
 delete_err st kept =
-    let rest : List ℕ → Result Plan ErrorNumber = λ name. deletion st.world.modules name in
+    let rest : List ℕ → Result Plan ErrorNumber = λ name. deletion st.module_state.modules name in
     later_err (string_asked st 1)
-    (λ name. bind (slot_meant st.world.modules name) (λ slot. bind (may_finalise (slot ∷ []) st) (λ _. rest name)))
-    (λ name. later_err (slot_meant st.world.modules name) (λ slot. bind (may_finalise (slot ∷ []) st) (λ _. rest name))
+    (λ name. bind (slot_meant st.module_state.modules name) (λ slot. bind (may_finalise (slot ∷ []) st) (λ _. rest name)))
+    (λ name. later_err (slot_meant st.module_state.modules name) (λ slot. bind (may_finalise (slot ∷ []) st) (λ _. rest name))
     (λ slot. first_err (may_finalise (slot ∷ []) st) (λ _. rest name) (finalise_err (slot ∷ []) st kept)))
 
-tidy_err : (st : Setting) (next : ℕ) → is_some st.plan ≡ true → IsErr (tidy_planned st next)
+tidy_err : (st : PlannerInput) (next : ℕ) → is_some st.plan ≡ true → IsErr (tidy_planned st next)
 unfolding tidy_planned
 tidy_err st next kept =
-    first_err (may_begin_alone st) (λ _. let r : Result Plan ErrorNumber = Ok (tidying st.world.modules next) in r) (alone_err st kept)
+    first_err (may_begin_alone st) (λ _. let r : Result Plan ErrorNumber = Ok (tidying st.module_state.modules next) in r) (alone_err st kept)
 
-clear_err : (st : Setting) → is_some st.plan ≡ true → IsErr (clear_planned st)
+clear_err : (st : PlannerInput) → is_some st.plan ≡ true → IsErr (clear_planned st)
 unfolding clear_planned
 clear_err st kept =
-    first_err (may_begin_alone st) (λ _. let r : Result Plan ErrorNumber = Ok (clearing st.world.modules) in r) (alone_err st kept)
+    first_err (may_begin_alone st) (λ _. let r : Result Plan ErrorNumber = Ok (clearing st.module_state.modules) in r) (alone_err st kept)
 
-instantiation_err : (st : Setting) → is_some st.plan ≡ true → IsErr (instantiation_planned st)
+instantiation_err : (st : PlannerInput) → is_some st.plan ≡ true → IsErr (instantiation_planned st)
 unfolding instantiation_planned
 instantiation_err st kept =
-    let rest : List ℕ → Result Plan ErrorNumber = λ words. instantiation st.world.modules (name_part words) (text_part words) in
+    let rest : List ℕ → Result Plan ErrorNumber = λ words. instantiation st.module_state.modules (name_part words) (text_part words) in
     later_err (string_asked st 1)
     (λ words. bind (well_named (rest words)) (λ _. bind (may_finalise [] st) (λ _. rest words)))
     (λ words. later_err (well_named (rest words)) (λ _. bind (may_finalise [] st) (λ _. rest words))
     (λ u. first_err (may_finalise [] st) (λ _. rest words) (finalise_err [] st kept)))
 
-may_load_err : (alone : Bool) (title : List ℕ) (st : Setting) → is_some st.plan ≡ true → IsErr (may_load alone title st)
+may_load_err : (alone : Bool) (title : List ℕ) (st : PlannerInput) → is_some st.plan ≡ true → IsErr (may_load alone title st)
 may_load_err true title st kept = alone_err st kept
-may_load_err false title st kept = finalise_err (slots_of (modules_of_title title st.world.modules)) st kept
+may_load_err false title st kept = finalise_err (slots_of (modules_of_title title st.module_state.modules)) st kept
 
-load_asked_err : (images : List Entry) (st : Setting) (words : List ℕ) (alone : Bool) → is_some st.plan ≡ true
+load_asked_err : (images : List Entry) (st : PlannerInput) (words : List ℕ) (alone : Bool) → is_some st.plan ≡ true
     → IsErr (load_asked images st words alone)
 unfolding load_asked
 load_asked_err images st words alone kept =
@@ -211,10 +211,10 @@ unless_err false e r is = is
 range_err : (s : MachineState) (range : ImageRange) → is_some s.tables.plan ≡ true
     → (let r : Result ImageRange ErrorNumber = bind (may_add (setting_of s) range) (λ _. Ok range) in IsErr r)
 range_err s range kept =
-    let st : Setting = setting_of s in
+    let st : PlannerInput = setting_of s in
     first_err (may_add st range) (λ _. let r : Result ImageRange ErrorNumber = Ok range in r)
     (later_err (good_header (image_header_in st range.at range.len)) (λ header. may_replace header.title.items st)
-    (λ header. finalise_err (slots_of (modules_of_title header.title.items st.world.modules)) st kept))
+    (λ header. finalise_err (slots_of (modules_of_title header.title.items st.module_state.modules)) st kept))
 
 insertion_err : (s : MachineState) → is_some s.tables.plan ≡ true → IsErr (insertion_planned s)
 unfolding insertion_planned insertion_asked
@@ -229,8 +229,8 @@ unfolding copy_planned copy_asked
 copy_err s kept =
     let range : ImageRange = range_asked (setting_of s) in
     let given : Result ImageRange ErrorNumber = bind (may_add (setting_of s) range) (λ _. Ok range) in
-    first_err (either_err (not (may_be_copied (machine_estate s) range.at range.len)) BadPointer given) (λ r. copied_range_planned s r.at r.len)
-    (unless_err (not (may_be_copied (machine_estate s) range.at range.len)) BadPointer given (range_err s range kept))
+    first_err (either_err (not (may_be_copied (machine_area_store s) range.at range.len)) BadPointer given) (λ r. copied_range_planned s r.at r.len)
+    (unless_err (not (may_be_copied (machine_area_store s) range.at range.len)) BadPointer given (range_err s range kept))
 
 -- calls that would run module code
 begun_keeps : (s : MachineState) (x : Bool) (next : ℕ) (enters : Bool) (r : Result Planned ErrorNumber) → IsErr r → Keeps s (outcome_of_planned s x next enters r)
@@ -317,7 +317,7 @@ halted_keeps : (s : MachineState) (o : Option Halt) (a : StepOutcome) → Keeps 
 halted_keeps s (Some h) a kept = refl
 halted_keeps s None a kept = kept
 
-turn_keeps : (images : List Entry) (s : MachineState) (r : Result (State × Bytes) Turn) → is_some s.tables.plan ≡ true
+turn_keeps : (images : List Entry) (s : MachineState) (r : Result (State × Bytes) StepEnd) → is_some s.tables.plan ≡ true
     → (r ≡ Err turn.Gate → ⊥) → Keeps s (outcome_of_turn images s r)
 turn_keeps images s (Ok w) kept other = refl
 turn_keeps images s (Err turn.Done) kept other = refl

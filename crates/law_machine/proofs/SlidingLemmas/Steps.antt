@@ -23,28 +23,28 @@ use Rattle.instances_table.specs.declared.plans.code.Outcome.TheVariants.{Well, 
 use Rattle.instances_table.specs.declared.plans.given.Given.{Given}
 use Rattle.instances_table.specs.plans.Carrying.{Carried, carry_of_plan}
 use Rattle.instances_table.specs.plans.Plans.{Plan, first_action, plan_after_code}
-use Rattle.instances.specs.tidying.Slid.{world_slid}
+use Rattle.instances.specs.tidying.Slid.{module_state_slid}
 use Rattle.instances_table.specs.Modules.{slots_of}
-use Rattle.instances.specs.world.World.{World}
+use Rattle.instances.specs.module_state.ModuleState.{ModuleState}
 use Rattle.instances.specs.Plans.{tidying}
 use Rattle.instances.specs.Turns.{calls_module}
 use Rattle.instances.specs.actions.Pending.{is_pending, pending_by}
 use Rattle.swi_dispatch_plans.specs.ModulePlans.{may_begin_alone, tidy_planned}
-use Rattle.swi_dispatch_plans.specs.Setting.{Setting}
-use Rattle.swi_dispatch_plans.specs.Trials.{world_carried}
+use Rattle.swi_dispatch_plans.specs.PlannerInput.{PlannerInput}
+use Rattle.swi_dispatch_plans.specs.Trials.{module_state_carried}
 use Rattle.swi_dispatch_answers.specs.declared.frames.frame.Frame.{Frame}
 use Rattle.swi_dispatch_answers.specs.declared.frames.frame.FrameKind.{FrameKind}
 use Rattle.swi_dispatch_answers.specs.declared.frames.frame.FrameKind.TheVariants.{Swi, Entry as EntryFrame}
 use Rattle.swi_dispatch_answers.specs.frames.Frames.{innermost_frame}
 use Rattle.swi_dispatch_guest.specs.declared.halt.Halt.TheVariants as halt
 use Rattle.swi_dispatch_guest.specs.Gates.{carried_on, come_back, fault_ahead, frame_closed, frame_left, outcome_of_gate, gated_by, kept_by, outcome_left, plan_left, unless_fault}
-use Rattle.swi_dispatch_guest.specs.MachineState.{MachineState, machine_world, quiet, setting_of}
+use Rattle.swi_dispatch_guest.specs.MachineState.{MachineState, machine_module_state, silent, setting_of}
 use Rattle.swi_dispatch_guest.specs.Returns.{outcome_of_error, outcome_of_halt}
 use Rattle.swi_dispatch_guest.specs.Step.{outcome_of_planned, begun_alone, call_of, outcome_of_call, called_by, is_exit, os_module_called, os_module_called_for}
 use Rattle.law_blocks.proofs.SlidingLemmas.Turns.{turns_follow}
 use Rattle.law_blocks.specs.sliding.Laws.{IsFollowed}
 use Rattle.law_blocks.specs.sliding.Meaning.{AreStores, Stores}
-use Rattle.law_blocks.specs.sliding.Turning.{Slide, stores_after_turn}
+use Rattle.law_blocks.specs.sliding.Turning.{Slide, stores_after_step}
 use Rattle.law_machine.proofs.SlidingLemmas.Behind.{IsTexted, behind_from, followed_behind, still_behind, texted_then}
 use Rattle.law_machine.proofs.SlidingLemmas.Carrying.{IsCarriedOn, carried_so}
 use Rattle.law_machine.proofs.SlidingLemmas.Tidying.{IsInitialised, IsOnItsWay, Waits, all_tidying, initialised, owed_too, slide_ahead, tidied, tidy_settles}
@@ -63,18 +63,18 @@ kept_slid q (Some code) none = none
 
 -- the slide as a turn
 slide_law : (return_address : ℕ) (x : Stores) → AreStores x → x.pending ≡ []
-    → IsFollowed (Slide return_address) x (record x { world = world_slid return_address x.world })
-unfolding stores_after_turn
+    → IsFollowed (Slide return_address) x (record x { module_state = module_state_slid return_address x.module_state })
+unfolding stores_after_step
 slide_law return_address x are none = (turns_follow x (Slide return_address ∷ []) are (none, tt)).0
 
-module _ (return_address : ℕ) (s t : MachineState) (g : Given) (c : Carried World) (are : AreStores (stores_of s)) (new : AreStores (stores_of t))
+module _ (return_address : ℕ) (s t : MachineState) (g : Given) (c : Carried ModuleState) (are : AreStores (stores_of s)) (new : AreStores (stores_of t))
     (none : pending_in s.tables.plan ≡ []) (on : IsCarriedOn s t c) where
-  waits_still : Waits return_address g (machine_world s) c → IsTidied return_address s t
+  waits_still : Waits return_address g (machine_module_state s) c → IsTidied return_address s t
   waits_still waits =
       let plan : t.tables.plan ≡ Some c.rest = on.plan ∙ ap (kept_by c.rest) waits.entered in
       let pending : pending_in t.tables.plan ≡ pending_in s.tables.plan =
       ap pending_in plan ∙ ap (λ (b : Bool). pending_by b c.rest.given []) (tidy_settles c.rest.actions waits.tidy.actions) ∙ sym none in
-      let texted : IsTexted (machine_world s) (machine_world t) = subst (λ (w : World). IsTexted w (machine_world t)) waits.world on.texted in
+      let texted : IsTexted (machine_module_state s) (machine_module_state t) = subst (λ (w : ModuleState). IsTexted w (machine_module_state t)) waits.module_state on.texted in
       let ahead : is_to_slide t.tables.plan ≡ true = ap is_to_slide plan ∙ slide_ahead c.rest.actions waits.tidy.actions in
       record {
         waits = λ is. (
@@ -84,22 +84,22 @@ module _ (return_address : ℕ) (s t : MachineState) (g : Given) (c : Carried Wo
         slides = λ is. absurd (false≢true (sym is ∙ ahead));
       }
 
-  has_slid : IsInitialised g (world_slid return_address (machine_world s)) c → IsTidied return_address s t
+  has_slid : IsInitialised g (module_state_slid return_address (machine_module_state s)) c → IsTidied return_address s t
   has_slid done =
       let pending : pending_in t.tables.plan ≡ pending_in s.tables.plan =
       ap pending_in on.plan ∙ kept_pending c.rest c.code done.settled ∙ sym none in
       let slid : is_to_slide t.tables.plan ≡ false = ap is_to_slide on.plan ∙ kept_slid c.rest c.code done.slid in
-      let y : Stores = record (stores_of s) { world = world_slid return_address (machine_world s) } in
+      let y : Stores = record (stores_of s) { module_state = module_state_slid return_address (machine_module_state s) } in
       record {
         waits = λ is. absurd (false≢true (sym slid ∙ is));
         slides = λ is.
             followed_behind (Slide return_address) (stores_of s) y (stores_of t) (slide_law return_address (stores_of s) are none)
             (behind_from y (stores_of t)
-            (texted_then (world_slid return_address (machine_world s)) c.world (machine_world t) done.texted on.texted) on.flex pending)
+            (texted_then (module_state_slid return_address (machine_module_state s)) c.module_state (machine_module_state t) done.texted on.texted) on.flex pending)
             new;
       }
 
-  pub tidied_by : IsOnItsWay return_address g (machine_world s) c → IsTidied return_address s t
+  pub tidied_by : IsOnItsWay return_address g (machine_module_state s) c → IsTidied return_address s t
   tidied_by (inl waits) = waits_still waits
   tidied_by (inr done) = has_slid done
 
@@ -108,19 +108,19 @@ record IsTidyPlan (return_address : ℕ) (p : Plan) : Type 0 where
   tidy : IsTidy return_address p
   text : length p.given.text.items ≤ 255
 
-given_on : (return_address : ℕ) (g : Given) (w : World) (c : Carried World) → IsOnItsWay return_address g w c → c.rest.given ≡ g
+given_on : (return_address : ℕ) (g : Given) (w : ModuleState) (c : Carried ModuleState) → IsOnItsWay return_address g w c → c.rest.given ≡ g
 given_on return_address g w c (inl waits) = waits.given
 given_on return_address g w c (inr done) = done.given
 
-on_its_way : (return_address : ℕ) (p : Plan) (w : World) → IsTidyPlan return_address p → IsOnItsWay return_address p.given w (world_carried w p)
+on_its_way : (return_address : ℕ) (p : Plan) (w : ModuleState) → IsTidyPlan return_address p → IsOnItsWay return_address p.given w (module_state_carried w p)
 unfolding carry_of_plan
 on_its_way return_address p w is = tidied return_address p.actions is.tidy.actions w p refl is.tidy.instead is.tidy.return is.text
 
-short_on : (return_address : ℕ) (p : Plan) (w : World) (is : IsTidyPlan return_address p)
-    → length (world_carried w p).rest.given.text.items ≤ 255
+short_on : (return_address : ℕ) (p : Plan) (w : ModuleState) (is : IsTidyPlan return_address p)
+    → length (module_state_carried w p).rest.given.text.items ≤ 255
 short_on return_address p w is =
     subst (λ (g : Given). length g.text.items ≤ 255)
-    (sym (given_on return_address p.given w (world_carried w p) (on_its_way return_address p w is))) is.text
+    (sym (given_on return_address p.given w (module_state_carried w p) (on_its_way return_address p w is))) is.text
 
 -- the begin
 none_kept : (o : Option Plan) → is_some o ≡ false → o ≡ None
@@ -132,10 +132,10 @@ planned_by : (b : Bool) (q p : Plan)
 planned_by true q p is = absurd (cc)
 planned_by false q p is = (refl, let same : Ok q ≡ Ok p = is in cc)
 
-planned_is : (st : Setting) (next : ℕ) (p : Plan) → tidy_planned st next ≡ Ok p → (st.plan ≡ None) × (tidying st.world.modules next ≡ p)
+planned_is : (st : PlannerInput) (next : ℕ) (p : Plan) → tidy_planned st next ≡ Ok p → (st.plan ≡ None) × (tidying st.module_state.modules next ≡ p)
 unfolding tidy_planned may_begin_alone
 planned_is st next p is =
-    let by = planned_by (is_some st.plan || nat_lt 0 (length st.frames)) (tidying st.world.modules next) p is in
+    let by = planned_by (is_some st.plan || nat_lt 0 (length st.frames)) (tidying st.module_state.modules next) p is in
     (none_kept st.plan (or_parts (is_some st.plan) (nat_lt 0 (length st.frames)) by.0).0, by.1)
 
 begins_as : (images : List Entry) (s : MachineState) (x : Bool) (next number : ℕ) (p : Plan) → swi_of number ≡ Some swi.Module
@@ -156,14 +156,14 @@ begins images s t x next number p are new name reason planned after =
       tidy = record { actions = all_tidying (slots_of s.tables.modules) (slots_of s.tables.modules); instead = tt; return = refl };
       text = lit≤ tt;
     }) in
-    let c : Carried World = world_carried (machine_world s) p in
+    let c : Carried ModuleState = module_state_carried (machine_module_state s) p in
     let on : IsCarriedOn s t c = subst (λ (u : MachineState). IsCarriedOn s u c) (sym (after ∙ begins_as images s x next number p name reason planned))
-    (carried_so s (call_of s x next false) c (short_on next p (machine_world s) plan)) in
-    tidied_by next s t p.given c are new (ap pending_in is.0) on (on_its_way next p (machine_world s) plan)
+    (carried_so s (call_of s x next false) c (short_on next p (machine_module_state s) plan)) in
+    tidied_by next s t p.given c are new (ap pending_in is.0) on (on_its_way next p (machine_module_state s) plan)
 
 -- a machine of which nothing moved but the core and its frames
 record IsUnmoved (s t : MachineState) : Type 0 where
-  world : machine_world t ≡ machine_world s
+  module_state : machine_module_state t ≡ machine_module_state s
   plan : t.tables.plan ≡ s.tables.plan
   flex : t.tables.flex ≡ s.tables.flex
 
@@ -175,47 +175,47 @@ same_still x are = record {
   stores = are;
   mapped = refl;
   pool = refl;
-  land = refl;
+  area_table = refl;
   pending = refl;
 }
 
 unmoved_still : (s t : MachineState) → AreStores (stores_of s) → IsUnmoved s t → StoresAreStill (stores_of s) (stores_of t)
 unmoved_still s t are un =
-    let same : stores_of t ≡ stores_of s = λ i. record { world = un.world i; flex = un.flex i; pending = pending_in (un.plan i) } in
+    let same : stores_of t ≡ stores_of s = λ i. record { module_state = un.module_state i; flex = un.flex i; pending = pending_in (un.plan i) } in
     subst (StoresAreStill (stores_of s)) (sym same) (same_still (stores_of s) are)
 
 -- the gate
 module _ (s : MachineState) (p : Plan) (kept : s.tables.plan ≡ Some p)
-    (short : length (world_carried (machine_world s) (plan_after_code p (outcome_left s.cpu))).rest.given.text.items ≤ 255) where
-  abbrev c : Carried World
-  c = world_carried (machine_world s) (plan_after_code p (outcome_left s.cpu))
+    (short : length (module_state_carried (machine_module_state s) (plan_after_code p (outcome_left s.cpu))).rest.given.text.items ≤ 255) where
+  abbrev c : Carried ModuleState
+  c = module_state_carried (machine_module_state s) (plan_after_code p (outcome_left s.cpu))
 
   abbrev Left : MachineState → Type 0
   Left t = IsUnmoved s t ⊎ IsCarriedOn s t c
 
   fault_left : (f : Frame) (o : Option ℕ) → Left (unless_fault s o (carried_on (come_back s f) f.call (plan_after_code p (outcome_left s.cpu)))).now
-  fault_left f (Some number) = inl (record { world = refl; plan = refl; flex = refl })
+  fault_left f (Some number) = inl (record { module_state = refl; plan = refl; flex = refl })
   fault_left f None =
-      let on = carried_so (come_back s f) f.call (world_carried (machine_world s) (plan_after_code p (outcome_left s.cpu))) short in
+      let on = carried_so (come_back s f) f.call (module_state_carried (machine_module_state s) (plan_after_code p (outcome_left s.cpu))) short in
       inr (record { texted = on.texted; plan = on.plan; flex = on.flex })
 
   swi_left_by : (f : Frame) (overflow is_x : Bool)
-      → IsUnmoved s (if overflow then outcome_of_error s is_x (quiet (frame_closed s f)) else quiet (frame_closed s f)).now
-  swi_left_by f true true = record { world = refl; plan = refl; flex = refl }
-  swi_left_by f true false = record { world = refl; plan = refl; flex = refl }
-  swi_left_by f false is_x = record { world = refl; plan = refl; flex = refl }
+      → IsUnmoved s (if overflow then outcome_of_error s is_x (silent (frame_closed s f)) else silent (frame_closed s f)).now
+  swi_left_by f true true = record { module_state = refl; plan = refl; flex = refl }
+  swi_left_by f true false = record { module_state = refl; plan = refl; flex = refl }
+  swi_left_by f false is_x = record { module_state = refl; plan = refl; flex = refl }
 
   kind_left : (f : Frame) (k : FrameKind) → Left (frame_left s f k s.tables.plan).now
   kind_left f (Swi number) = inl (swi_left_by f s.cpu.psr.overflow f.call.is_x)
   kind_left f (EntryFrame kind) =
       subst (λ (o : Option Plan). Left (plan_left s f o).now) (sym kept)
-      (fault_left f (fault_ahead f.call (machine_world s) (plan_after_code p (outcome_left s.cpu))))
+      (fault_left f (fault_ahead f.call (machine_module_state s) (plan_after_code p (outcome_left s.cpu))))
 
   gate_by : (o : Option Frame) → Left (gated_by s o).now
-  gate_by None = inl (record { world = refl; plan = refl; flex = refl })
+  gate_by None = inl (record { module_state = refl; plan = refl; flex = refl })
   gate_by (Some f) = elim (cases_Bool (register_in Supervisor s.cpu 13 == f.stack)) [
     | inl good ↦ rw good (kind_left f f.kind)
-    | inr bad ↦ rw bad (inl (record { world = refl; plan = refl; flex = refl }))
+    | inr bad ↦ rw bad (inl (record { module_state = refl; plan = refl; flex = refl }))
   ]
 
   gate_left : Left (outcome_of_gate s).now
@@ -291,17 +291,17 @@ module _ (return_address : ℕ) (s t : MachineState) (p : Plan) (at : IsAtGate r
       subst (λ (o : CodeOutcome). IsTidyPlan return_address (plan_after_code p o)) (sym well)
       (subst (λ (r : Plan). IsTidyPlan return_address (plan_after_code r Well)) runs_so
       (rest_by return_address p p.actions at.tidy.actions at.tidy.instead at.tidy.return at.text at.calls)) in
-      let w : World = machine_world s in
-      let left = subst (λ (u : MachineState). IsUnmoved s u ⊎ IsCarriedOn s u (world_carried w q)) (sym after)
+      let w : ModuleState = machine_module_state s in
+      let left = subst (λ (u : MachineState). IsUnmoved s u ⊎ IsCarriedOn s u (module_state_carried w q)) (sym after)
       (gate_left s p at.kept (short_on return_address q w rest)) in
       elim left [
         | inl un ↦ unmoved_tidied un
-        | inr on ↦ tidied_by return_address s t q.given (world_carried w q) are new none_pending_yet on (on_its_way return_address q w rest)
+        | inr on ↦ tidied_by return_address s t q.given (module_state_carried w q) are new none_pending_yet on (on_its_way return_address q w rest)
       ]
 
-  given_up : (q : Plan) → IsGivenUp p q → IsInitialised q.given (machine_world s) (world_carried (machine_world s) q)
+  given_up : (q : Plan) → IsGivenUp p q → IsInitialised q.given (machine_module_state s) (module_state_carried (machine_module_state s) q)
   unfolding carry_of_plan
-  given_up q up = initialised q.actions up.actions (machine_world s) q refl (subst (λ (g : Given). length g.text.items ≤ 255) (sym up.given) at.text)
+  given_up q up = initialised q.actions up.actions (machine_module_state s) q refl (subst (λ (g : Given). length g.text.items ≤ 255) (sym up.given) at.text)
 
   goes_refused : (r0 : ℕ) → outcome_left s.cpu ≡ Refused r0 → StoresAreStill (stores_of s) (stores_of t)
   goes_refused r0 refused =
@@ -310,18 +310,18 @@ module _ (return_address : ℕ) (s t : MachineState) (p : Plan) (at : IsAtGate r
       subst (λ (o : CodeOutcome). IsGivenUp p (plan_after_code p o)) (sym refused)
       (subst (λ (r : Plan). IsGivenUp p (plan_after_code r (Refused r0))) runs_so
       (refused_by p p.actions r0 at.tidy.actions at.tidy.instead at.calls)) in
-      let w : World = machine_world s in
-      let done : IsInitialised q.given w (world_carried w q) = given_up q up in
+      let w : ModuleState = machine_module_state s in
+      let done : IsInitialised q.given w (module_state_carried w q) = given_up q up in
       let short = subst (λ (g : Given). length g.text.items ≤ 255) (sym (done.given ∙ up.given)) at.text in
-      let left = subst (λ (u : MachineState). IsUnmoved s u ⊎ IsCarriedOn s u (world_carried w q)) (sym after) (gate_left s p at.kept short) in
+      let left = subst (λ (u : MachineState). IsUnmoved s u ⊎ IsCarriedOn s u (module_state_carried w q)) (sym after) (gate_left s p at.kept short) in
       elim left [
         | inl un ↦ unmoved_still s t are un
         | inr on ↦
-            let c : Carried World = world_carried w q in
+            let c : Carried ModuleState = module_state_carried w q in
             let pending : pending_in t.tables.plan ≡ pending_in s.tables.plan =
             ap pending_in on.plan ∙ kept_pending c.rest c.code done.settled ∙ sym none_pending_yet in
             still_behind (stores_of s) (stores_of t) are new
-            (behind_from (stores_of s) (stores_of t) (texted_then w c.world (machine_world t) done.texted on.texted) on.flex pending)
+            (behind_from (stores_of s) (stores_of t) (texted_then w c.module_state (machine_module_state t) done.texted on.texted) on.flex pending)
       ]
 
   pub goes : TidyGoesOn return_address s t

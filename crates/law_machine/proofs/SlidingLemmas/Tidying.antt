@@ -9,8 +9,8 @@ use Rattle.instances_table.specs.declared.plans.given.Given.{Given}
 use Rattle.instances_table.specs.plans.Calls.{finalise_all, initialise_all}
 use Rattle.instances_table.specs.plans.Carrying.{Carried, carried_by, carried_from}
 use Rattle.instances_table.specs.plans.Plans.{Plan, actions_owed}
-use Rattle.instances.specs.tidying.Slid.{world_slid}
-use Rattle.instances.specs.world.World.{World, with_text}
+use Rattle.instances.specs.tidying.Slid.{module_state_slid}
+use Rattle.instances.specs.module_state.ModuleState.{ModuleState, with_text}
 use Rattle.instances.specs.Turns.{module_doing}
 use Rattle.instances.specs.actions.Codes.{code_among}
 use Rattle.instances.specs.actions.Pending.{is_pending}
@@ -86,15 +86,15 @@ all_tidying [] others = all_initialised others
 all_tidying (slot ∷ slots) others = all_tidying slots others
 
 -- initialisations
-pub record IsInitialised (g : Given) (w : World) (c : Carried World) : Type 0 where
-  pub texted : IsTexted w c.world
+pub record IsInitialised (g : Given) (w : ModuleState) (c : Carried ModuleState) : Type 0 where
+  pub texted : IsTexted w c.module_state
   pub slid : list_any is_slide c.rest.actions ≡ false
   pub settled : is_pending c.rest.actions ≡ false
   pub given : c.rest.given ≡ g
 
-initialised_by : (slot : ℕ) (others : List PlanAction) (w : World) (p : Plan) (o : Option Code) → AreInitialisations others
+initialised_by : (slot : ℕ) (others : List PlanAction) (w : ModuleState) (p : Plan) (o : Option Code) → AreInitialisations others
     → length p.given.text.items ≤ 255
-    → ((v : World) (q : Plan) → q.actions ≡ others → length q.given.text.items ≤ 255
+    → ((v : ModuleState) (q : Plan) → q.actions ≡ others → length q.given.text.items ≤ 255
     → IsInitialised q.given v (carried_from module_doing others v q))
     → IsInitialised p.given w (carried_by module_doing w p (act.Initialise slot) others o (carried_from module_doing others))
 initialised_by slot others w p (Some code) are few later = record {
@@ -104,17 +104,17 @@ initialised_by slot others w p (Some code) are few later = record {
   given = refl;
 }
 initialised_by slot others w p None are few later =
-    let v : World = record w { estate = with_text w.estate p.given.text.items } in
+    let v : ModuleState = record w { area_store = with_text w.area_store p.given.text.items } in
     let q : Plan = record p { actions = others; instead = p.instead; runs = false } in
     let r : IsInitialised p.given v (carried_from module_doing others v q) = later v q refl few in
     record {
-      texted = texted_then w v (carried_from module_doing others v q).world (text_texted w p.given.text.items few) r.texted;
+      texted = texted_then w v (carried_from module_doing others v q).module_state (text_texted w p.given.text.items few) r.texted;
       slid = r.slid;
       settled = r.settled;
       given = r.given;
     }
 
-pub initialised : (actions : List PlanAction) → AreInitialisations actions → (w : World) (p : Plan) → p.actions ≡ actions
+pub initialised : (actions : List PlanAction) → AreInitialisations actions → (w : ModuleState) (p : Plan) → p.actions ≡ actions
     → length p.given.text.items ≤ 255 → IsInitialised p.given w (carried_from module_doing actions w p)
 initialised [] are w p same few = record {
   texted = texted_same w;
@@ -133,23 +133,23 @@ initialised (act.GiveUp ∷ others) are w p same few = absurd are
 initialised (act.Slide ∷ others) are w p same few = absurd are
 
 -- a whole tidy
-pub record Waits (return_address : ℕ) (g : Given) (w : World) (c : Carried World) : Type 0 where
-  pub world : c.world ≡ w
+pub record Waits (return_address : ℕ) (g : Given) (w : ModuleState) (c : Carried ModuleState) : Type 0 where
+  pub module_state : c.module_state ≡ w
   pub code : Code
   pub entered : c.code ≡ Some code
   pub tidy : IsTidy return_address c.rest
   pub given : c.rest.given ≡ g
 
-abbrev pub IsOnItsWay : ℕ → Given → World → Carried World → Type 0
-IsOnItsWay return_address g w c = Waits return_address g w c ⊎ IsInitialised g (world_slid return_address w) c
+abbrev pub IsOnItsWay : ℕ → Given → ModuleState → Carried ModuleState → Type 0
+IsOnItsWay return_address g w c = Waits return_address g w c ⊎ IsInitialised g (module_state_slid return_address w) c
 
-finalised_by : (return_address slot : ℕ) (fatal : Bool) (others : List PlanAction) (w : World) (p : Plan) (o : Option Code) → AreTidying others
+finalised_by : (return_address slot : ℕ) (fatal : Bool) (others : List PlanAction) (w : ModuleState) (p : Plan) (o : Option Code) → AreTidying others
     → AreInitialisations p.instead → p.given.return_address ≡ return_address
-    → ((v : World) (q : Plan) → q.actions ≡ others → AreInitialisations q.instead → q.given ≡ p.given
+    → ((v : ModuleState) (q : Plan) → q.actions ≡ others → AreInitialisations q.instead → q.given ≡ p.given
     → IsOnItsWay return_address q.given v (carried_from module_doing others v q))
     → IsOnItsWay return_address p.given w (carried_by module_doing w p (act.Finalise slot fatal) others o (carried_from module_doing others))
 finalised_by return_address slot fatal others w p (Some code) are instead return later = inl (record {
-  world = refl;
+  module_state = refl;
   code = code;
   entered = refl;
   tidy = record { actions = are; instead = instead; return = return };
@@ -159,17 +159,17 @@ finalised_by return_address slot fatal others w p None are instead return later 
     let q : Plan = record p { actions = others; instead = actions_owed p.instead (act.Finalise slot fatal); runs = false } in
     later w q refl (owed_too p.instead slot fatal instead) refl
 
-slid_then : (return_address : ℕ) (others : List PlanAction) (w : World) (p : Plan) → AreInitialisations others
+slid_then : (return_address : ℕ) (others : List PlanAction) (w : ModuleState) (p : Plan) → AreInitialisations others
     → p.given.return_address ≡ return_address → length p.given.text.items ≤ 255
-    → IsInitialised p.given (world_slid return_address w) (carried_from module_doing (act.Slide ∷ others) w p)
+    → IsInitialised p.given (module_state_slid return_address w) (carried_from module_doing (act.Slide ∷ others) w p)
 unfolding code_among
 slid_then return_address others w p are return few =
     let q : Plan = record p { actions = others; instead = p.instead; runs = false } in
-    let v : World = world_slid p.given.return_address w in
-    subst (λ (r : ℕ). IsInitialised p.given (world_slid r w) (carried_from module_doing others v q)) return
+    let v : ModuleState = module_state_slid p.given.return_address w in
+    subst (λ (r : ℕ). IsInitialised p.given (module_state_slid r w) (carried_from module_doing others v q)) return
     (initialised others are v q refl few)
 
-pub tidied : (return_address : ℕ) (actions : List PlanAction) → AreTidying actions → (w : World) (p : Plan) → p.actions ≡ actions
+pub tidied : (return_address : ℕ) (actions : List PlanAction) → AreTidying actions → (w : ModuleState) (p : Plan) → p.actions ≡ actions
     → AreInitialisations p.instead → p.given.return_address ≡ return_address → length p.given.text.items ≤ 255
     → IsOnItsWay return_address p.given w (carried_from module_doing actions w p)
 tidied return_address (act.Finalise slot fatal ∷ others) are w p same instead return few =

@@ -1,4 +1,4 @@
--- What each line of a source gives to a program: its piece, which is told by the line's text, the
+-- What each line of a source gives to a program: its piece, which is shown by the line's text, the
 -- place where it begins and the addresses of labels.
 use Rattle.std.specs.Prelude.{ℕ, ◌≡◌, ◌≢◌, List, [], ◌∷◌, ◌++◌, length, Option, Some}
 use Rattle.std.specs.List.{flat_map}

@@ -18,7 +18,7 @@ use Rattle.swi_dispatch_plans.specs.ModulePlans.{clear_planned, delete_planned, 
 use Rattle.swi_dispatch_plans.specs.store.Areas.{area_changed, change_asked}
 use Rattle.swi_dispatch_guest.specs.Additions.{Planned, copy_planned, insertion_planned, load_planned, named_load_planned}
 use Rattle.swi_dispatch_guest.specs.Calls.{with_guest}
-use Rattle.swi_dispatch_guest.specs.MachineState.{MachineState, machine_estate, setting_of}
+use Rattle.swi_dispatch_guest.specs.MachineState.{MachineState, machine_area_store, setting_of}
 use Rattle.swi_dispatch_guest.specs.Step.{outcome_of_call, module_loaded}
 use Rattle.law_machine.specs.halts.Refusals.{IsRefusal}
 
@@ -39,7 +39,7 @@ plan_error images s next (Some reason.InsertCopy) = error_of (copy_planned s)
 plan_error images s next (Some reason.Instantiate) = error_of (instantiation_planned (setting_of s))
 plan_error images s next other = None
 
--- Such a call that is refused so changes nothing but what each refusal tells: its plan isn't begun.
+-- Such a call that is refused so changes nothing but what each refusal shows: its plan isn't begun.
 abbrev pub RefusedPlansChangeNothing : Type 0
 RefusedPlansChangeNothing =
     (images : List Entry) (s : MachineState) (next number : ℕ) (e : ErrorNumber) →
@@ -55,11 +55,11 @@ RefusedLoadsChangeNothing =
     ≡ Some e
     → IsRefusal s s.cpu.pc (module_loaded images s text).now
 
--- OS_ChangeDynamicArea that errs has moved the pages that it could, and told in R1 how many bytes did: of the machine with
--- that it changes nothing but what each refusal tells.
+-- OS_ChangeDynamicArea that errs has moved the pages that it could, and shown in R1 how many bytes did: of the machine with
+-- that it changes nothing but what each refusal shows.
 abbrev pub ErringChangesMovePages : Type 0
 ErringChangesMovePages =
     (images : List Entry) (s : MachineState) (next number : ℕ) (e : ErrorNumber)
-    → swi_of number ≡ Some swi.ChangeDynamicArea → (change_asked s.cpu (machine_estate s)).error ≡ Some e
-    → IsRefusal (with_guest s (area_changed s.cpu (machine_estate s))) next
+    → swi_of number ≡ Some swi.ChangeDynamicArea → (change_asked s.cpu (machine_area_store s)).error ≡ Some e
+    → IsRefusal (with_guest s (area_changed s.cpu (machine_area_store s))) next
     (outcome_of_call images s true next number).now

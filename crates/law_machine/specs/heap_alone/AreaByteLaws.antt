@@ -13,7 +13,7 @@ use Rattle.os_heap.specs.Store.{Store, find_heap}
 use Rattle.swi_dispatch_guest.specs.MachineState.{MachineState}
 use Rattle.swi_dispatch_guest.specs.Step.{os_module_called}
 use Rattle.swi_dispatch_guest.specs.Moves.{machine_with_words}
-use Rattle.swi_dispatch_guest.specs.Parts.{IsState}
+use Rattle.swi_dispatch_guest.specs.GuestState.{IsState}
 
 -- Each block of the module area that is live in both stores holds the same in both, as far as it
 -- holds it in both.

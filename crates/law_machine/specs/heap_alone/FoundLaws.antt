@@ -15,19 +15,19 @@ use Rattle.law_blocks.specs.heap_calls.Laws.{IsNotForgotten, LiesInBlock}
 use Rattle.swi_dispatch_guest.specs.MachineState.{MachineState}
 use Rattle.law_machine.specs.heap_alone.ModuleLaws.{HasAnyHeap}
 use Rattle.law_machine.specs.heap_alone.ModuleMoves.{is_module_move}
-use Rattle.swi_dispatch_guest.specs.Moves.{Move, core_of, machine_after_move, swi_made}
+use Rattle.swi_dispatch_guest.specs.Moves.{Move, core_of, machine_after_event, swi_made}
 
 abbrev pub OuterHeapsStay : Type 0
 OuterHeapsStay =
     (images : List Entry) (s : MachineState) (h : HeapList) (m : Move) → HasAnyHeap s h →
     (LiesInBlock s.store h → ⊥)
-    → IsNotForgotten (machine_after_move images s m).store h.start
+    → IsNotForgotten (machine_after_event images s m).store h.start
 
 abbrev pub OtherMovesForgetNone : Type 0
 OtherMovesForgetNone =
     (images : List Entry) (s : MachineState) (h : HeapList) (m : Move) → HasAnyHeap s h →
     swi_made s m ≢ Some swi.Heap → is_module_move s m ≡ false
-    → IsNotForgotten (machine_after_move images s m).store h.start
+    → IsNotForgotten (machine_after_event images s m).store h.start
 
 -- OS_Heap, called with these registers, frees bytes of a block with which a heap goes.
 pub record FreesHeap (s : Store) (cpu : State) (start : ℕ) : Type 0 where
@@ -39,5 +39,5 @@ abbrev pub HeapCallsForgetFreed : Type 0
 HeapCallsForgetFreed =
     (images : List Entry) (s : MachineState) (h : HeapList) (m : Move) → HasAnyHeap s h →
     swi_made s m ≡ Some swi.Heap
-    → find_heap h.start (machine_after_move images s m).store.heaps ≡ None →
+    → find_heap h.start (machine_after_event images s m).store.heaps ≡ None →
     FreesHeap s.store (core_of s m) h.start

@@ -1,6 +1,6 @@
 -- A guest's heap stands alone: whatever else a machine does, short of making a heap in it or
 -- freeing the block that it lies in, calls on the heap answer by the heap's own list and bytes.
-use Rattle.swi_dispatch_guest.specs.Moves.{Move, Step, core_of, machine_after_move, moved_all, swi_made}
+use Rattle.swi_dispatch_guest.specs.Moves.{Move, Step, core_of, machine_after_event, moved_all, swi_made}
 use Rattle.std.specs.Prelude.{ℕ, ◌≡◌, ◌≢◌, true, false, Option, Some, None, option_map, List, [], ◌∷◌}
 use Rattle.profile.specs.declared.swi.SwiName.TheVariants as swi
 use Rattle.address_map.specs.Bytes.{in_range}
@@ -13,7 +13,7 @@ use Rattle.law_blocks.specs.heap_calls.Alone.{Alone, alone_in}
 use Rattle.law_blocks.specs.heap_calls.Laws.{HeapHasNoAnchor, HoldsNoHeap, IsLeftWhole}
 use Rattle.law_blocks.specs.heap_calls.Turns.{heap_after_calls, replies}
 use Rattle.swi_dispatch_guest.specs.MachineState.{MachineState}
-use Rattle.swi_dispatch_guest.specs.Parts.{IsState}
+use Rattle.swi_dispatch_guest.specs.GuestState.{IsState}
 use Rattle.law_machine.specs.heap_alone.Moves.{answers_in, calls_in, is_own}
 use Rattle.law_machine.specs.heap_alone.Storing.{is_stored}
 
@@ -40,14 +40,14 @@ pub record IsAside (s : MachineState) (h : HeapList) (m : Move) : Type 0 where
 -- none forgets it, and none makes a heap in it.
 pub record IsMoveDone (images : List Entry) (start : ℕ) (s : MachineState) (m : Move) : Type 0 where
   pub aside : (h : HeapList) → find_heap start s.store.heaps ≡ Some h → IsAside s h m
-  pub left : is_own start s m ≡ false → IsLeftWhole (machine_after_move images s m).store start
-  pub state : IsState (machine_after_move images s m)
-  pub goes : (machine_after_move images s m).halt ≡ None
+  pub left : is_own start s m ≡ false → IsLeftWhole (machine_after_event images s m).store start
+  pub state : IsState (machine_after_event images s m)
+  pub goes : (machine_after_event images s m).halt ≡ None
 
 abbrev pub AreMovesDone : List Entry → ℕ → MachineState → List Move → Type 0
 AreMovesDone images start s [] = Unit {0}
 AreMovesDone images start s (m ∷ ms) = IsMoveDone images start s m ×
-    AreMovesDone images start (machine_after_move images s m) ms
+    AreMovesDone images start (machine_after_event images s m) ms
 
 -- the heap alone, if there is one at an address
 abbrev pub alone_at : ℕ → Store → Option Alone
@@ -77,8 +77,8 @@ pub record MachinesAnswerAlike (images images' : List Entry) (s t : MachineState
   pub heap : alone_at h.start (moved_all images s moves).store
       ≡ alone_at k.start (moved_all images' t moves').store
 
-abbrev pub WorldsAnswerAlike : Type 0
-WorldsAnswerAlike =
+abbrev pub ModuleStatesAnswerAlike : Type 0
+ModuleStatesAnswerAlike =
     (images images' : List Entry) (s t : MachineState) (h k : HeapList) (moves moves' : List Move)
     → HasHeap s h → AreMovesDone images h.start s moves → HasHeap t k → AreMovesDone images' k.start t moves'
     → alone_in s.store h ≡ alone_in t.store k → calls_in images h.start s moves

@@ -13,8 +13,8 @@ use Rattle.law_blocks.specs.heap_frame.Fits.{LiesInArea}
 use Rattle.swi_dispatch_guest.specs.Gates.{outcome_of_gate}
 use Rattle.swi_dispatch_guest.specs.MachineState.{MachineState}
 use Rattle.swi_dispatch_guest.specs.Step.{outcome_of_module_swi, module_loaded, os_module_called}
-use Rattle.swi_dispatch_guest.specs.Moves.{Move, machine_with_words, machine_after_move}
-use Rattle.swi_dispatch_guest.specs.Parts.{IsState}
+use Rattle.swi_dispatch_guest.specs.Moves.{Move, machine_with_words, machine_after_event}
+use Rattle.swi_dispatch_guest.specs.GuestState.{IsState}
 use Rattle.law_machine.specs.heap_alone.ModuleMoves.{is_module_move}
 
 -- A machine that isn't halted, with a heap that a guest made, whatever lies in it.
@@ -61,5 +61,5 @@ abbrev pub ModuleMovesKeepHeap : Type 0
 ModuleMovesKeepHeap =
     (images : List Entry) (s : MachineState) (h : HeapList) (m : Move) → HasAnyHeap s h →
     is_module_move s m ≡ true
-    → (LiesInArea s.store h → IsNotForgotten (machine_after_move images s m).store h.start) →
-    KeepsHeap h s.store (machine_after_move images s m).store
+    → (LiesInArea s.store h → IsNotForgotten (machine_after_event images s m).store h.start) →
+    KeepsHeap h s.store (machine_after_event images s m).store

@@ -4,8 +4,8 @@ use Rattle.profile.specs.declared.swi.SwiName.{SwiName}
 use Rattle.profile.specs.declared.swi.SwiName.TheVariants as swi
 use Rattle.address_map.specs.Bytes.{Bytes}
 use Rattle.arm_core.specs.State.{State}
-use Rattle.arm_core.specs.declared.turn.Turn.{Turn}
-use Rattle.arm_core.specs.declared.turn.Turn.TheVariants as turn
+use Rattle.arm_core.specs.declared.turn.StepEnd.{StepEnd}
+use Rattle.arm_core.specs.declared.turn.StepEnd.TheVariants as turn
 use Rattle.swi_dispatch_guest.specs.MachineState.{MachineState}
 use Rattle.swi_dispatch_guest.specs.Step.{result_of_instruction}
 use Rattle.swi_dispatch_guest.specs.Moves.{Call, Move, Step, swi_made}
@@ -14,7 +14,7 @@ abbrev pub is_module_name : Option SwiName → Bool
 is_module_name (Some swi.Module) = true
 is_module_name other = false
 
-abbrev pub is_at_gate : Result (State × Bytes) Turn → Bool
+abbrev pub is_at_gate : Result (State × Bytes) StepEnd → Bool
 is_at_gate (Err turn.Gate) = true
 is_at_gate other = false
 

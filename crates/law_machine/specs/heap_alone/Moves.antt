@@ -1,7 +1,7 @@
 -- Moves of a machine: store calls that a user makes from outside, and steps. Which of them are
 -- calls on one heap, what they ask and what they answer (RISC OS 3 Programmer's Reference Manual,
 -- "OS_Heap", reasons 1 to 6: the heap in R1, a block in R2, a size in R3).
-use Rattle.swi_dispatch_guest.specs.Moves.{Call, Move, Step, machine_with_words, machine_after_move, outside_name}
+use Rattle.swi_dispatch_guest.specs.Moves.{Call, Move, Step, machine_with_words, machine_after_event, outside_name}
 use Rattle.std.specs.Prelude.{ℕ, ◌+◌, ◌==◌, ◌&&◌, ◌++◌, Bool, true, false, Option, Some, None, List, [], ◌∷◌, if◌then◌else◌}
 use Rattle.profile.specs.Reasons.{heap_reason}
 use Rattle.profile.specs.declared.reason.HeapReason.{HeapReason}
@@ -56,10 +56,10 @@ abbrev pub calls_in : List Entry → ℕ → MachineState → List Move → List
 calls_in images start s [] = []
 calls_in images start s (m ∷ ms) =
     (if is_own start s m then asked_by start s m else [])
-    ++ calls_in images start (machine_after_move images s m) ms
+    ++ calls_in images start (machine_after_event images s m) ms
 
 abbrev pub answers_in : List Entry → ℕ → MachineState → List Move → List Reply
 answers_in images start s [] = []
 answers_in images start s (m ∷ ms) =
-    (if is_own start s m then reply_of_machine (machine_after_move images s m) ∷ [] else [])
-    ++ answers_in images start (machine_after_move images s m) ms
+    (if is_own start s m then reply_of_machine (machine_after_event images s m) ∷ [] else [])
+    ++ answers_in images start (machine_after_event images s m) ms

@@ -1,6 +1,6 @@
 -- A list of moves made on a machine: how far it was made, what the machine then is, and what the
 -- heap at an address answered, which is what it answers by itself.
-use Rattle.swi_dispatch.specs.Moves.{Move, machine_after_move, moved_all}
+use Rattle.swi_dispatch.specs.Moves.{Move, machine_after_event, moved_all}
 use Rattle.std.specs.Prelude.{ℕ, ◌≡◌, ◌≤◌, ◌<◌, ◌+◌, ◌-◌, true, false, Option, Some, None, option_map, List, [], ◌∷◌, length, take}
 use Rattle.profile.specs.declared.stop.Stop.{Stop}
 use Rattle.image_loader.specs.Entries.{Entry}
@@ -12,7 +12,7 @@ use Rattle.law_blocks.specs.heap_calls.Laws.{HeapHasNoAnchor, HoldsNoHeap, IsLef
 use Rattle.law_blocks.specs.heap_calls.Turns.{replies}
 use Rattle.swi_dispatch.specs.SwiDispatchGuestHalt.{Halt}
 use Rattle.swi_dispatch.specs.MachineState.{MachineState, stop_of}
-use Rattle.swi_dispatch.specs.Parts.{IsState}
+use Rattle.swi_dispatch.specs.GuestState.{IsState}
 use Rattle.law_machine.specs.heap_alone.Laws.{IsAside, MachineHeapStandsAlone}
 use Rattle.law_machine.specs.heap_alone.Moves.{answers_in, calls_in, is_own}
 use Rattle.law_machine.specs.declared.heap_runs.moves.End.{End}
@@ -40,8 +40,8 @@ pub record StateGoesOn (s : MachineState) : Type 0 where
 -- Each move of a list goes on in such a state.
 abbrev pub AreGoing : List Entry → MachineState → List Move → Type 0
 AreGoing images s [] = Unit {0}
-AreGoing images s (m ∷ ms) = StateGoesOn (machine_after_move images s m) ×
-    AreGoing images (machine_after_move images s m) ms
+AreGoing images s (m ∷ ms) = StateGoesOn (machine_after_event images s m) ×
+    AreGoing images (machine_after_event images s m) ms
 
 -- A heap that a guest made stands at an address, and no anchor and no heap lies in it.
 pub record StateHasHeapAt (s : MachineState) (start : ℕ) (h : HeapList) : Type 0 where
@@ -56,26 +56,26 @@ abbrev pub AreAside : List Entry → ℕ → MachineState → List Move → Type
 AreAside images start s [] = Unit {0}
 AreAside images start s (m ∷ ms) =
     ((h : HeapList) → find_heap start s.store.heaps ≡ Some h → IsAside s h m) ×
-    AreAside images start (machine_after_move images s m) ms
+    AreAside images start (machine_after_event images s m) ms
 
 -- Each that is no call on that heap from outside leaves it whole: none forgets it, and none makes a
 -- heap in it.
 abbrev pub LeaveWhole : List Entry → ℕ → MachineState → List Move → Type 0
 LeaveWhole images start s [] = Unit {0}
 LeaveWhole images start s (m ∷ ms) =
-    (is_own start s m ≡ false → IsLeftWhole (machine_after_move images s m).store start) ×
-    LeaveWhole images start (machine_after_move images s m) ms
+    (is_own start s m ≡ false → IsLeftWhole (machine_after_event images s m).store start) ×
+    LeaveWhole images start (machine_after_event images s m) ms
 
 -- The heap answered what it answers by itself, and is what its own calls alone leave of it.
 pub record IsByItself (images : List Entry) (s : MachineState) (h : HeapList) (moves : List Move)
-    (told : List Reply) : Type 0 where
+    (reported : List Reply) : Type 0 where
   pub stands : MachineHeapStandsAlone images s h moves
-  pub answers : told ≡ noted_all (replies (alone_in s.store h) (calls_in images h.start s moves))
+  pub answers : reported ≡ noted_all (replies (alone_in s.store h) (calls_in images h.start s moves))
 
 abbrev pub StandsByItself : List Entry → ℕ → MachineState → List Move → List Reply → Type 0
-StandsByItself images start s moves told =
+StandsByItself images start s moves reported =
     (h : HeapList) → StateHasHeapAt s start h → AreAside images start s moves →
-    LeaveWhole images start s moves → IsByItself images s h moves told
+    LeaveWhole images start s moves → IsByItself images s h moves reported
 
 -- Why it ended, after so many of all moves: the last of these asked for one answer more than there
 -- is room for, or the machine is halted.
@@ -86,11 +86,11 @@ EndsBy (end.Halted stop) count all asked most halt = (count ≤ all) × (option_
 
 -- A list of moves, made from one state on as far as it was, to another.
 pub record AreMade (images : List Entry) (start : ℕ) (s t : MachineState) (moves : List Move) (most count : ℕ)
-    (end : End) (told : List Reply) : Type 0 where
+    (end : End) (reported : List Reply) : Type 0 where
   pub begins : 0 < count → s.halt ≡ None
   pub goes : AreGoing images s (done_of end count moves)
   pub machine : t ≡ moved_all images s (made_of end count moves)
-  pub answers : told ≡ noted_all (answers_in images start s (done_of end count moves))
-  pub alone : StandsByItself images start s (done_of end count moves) told
+  pub answers : reported ≡ noted_all (answers_in images start s (done_of end count moves))
+  pub alone : StandsByItself images start s (done_of end count moves) reported
   pub ends : EndsBy end count (length moves) (length (answers_in images start s
       (made_of end count moves))) most t.halt

@@ -6,13 +6,13 @@ use Rattle.os_heap.specs.Store.{Store}
 use Rattle.dynamic_areas.specs.declared.area.Created.{Created}
 use Rattle.dynamic_areas.specs.declared.area.Wanted.{Wanted}
 use Rattle.dynamic_areas.specs.Areas.{find_area}
-use Rattle.dynamic_areas.specs.Changing.{change_answer, land_after_remove, store_changed, store_emptied}
-use Rattle.dynamic_areas.specs.Creating.{land_after_create, pages_for}
-use Rattle.dynamic_areas.specs.Ground.{Estate, IsEstate}
+use Rattle.dynamic_areas.specs.Changing.{change_answer, area_table_after_remove, store_changed, store_emptied}
+use Rattle.dynamic_areas.specs.Creating.{area_table_after_create, pages_for}
+use Rattle.dynamic_areas.specs.Ground.{AreaStore, IsAreaStore}
 use Rattle.dynamic_areas.specs.Remapped.{with_pages_at}
 use Rattle.rma.specs.Calls.{rma_extended}
 use Rattle.law_blocks.specs.heap_frame.BlockLaws.{block_total}
-use Rattle.law_blocks.specs.heap_frame.FitEstates.{IsFitEstate}
+use Rattle.law_blocks.specs.heap_frame.FitAreaStores.{IsFitAreaStore}
 
 -- A block of the module area that is live in both stores holds the same in both, as far as it holds
 -- it in both.
@@ -25,20 +25,20 @@ KeepsBoth s t =
 -- whatever the area grows by, and wherever the block that changes gets its bytes
 abbrev pub ExtendsKeepBlocks : Type 0
 ExtendsKeepBlocks =
-    (d e : Estate) (block change new : ℕ) → IsFitEstate d → rma_extended d block change ≡ Ok (e, new)
+    (d e : AreaStore) (block change new : ℕ) → IsFitAreaStore d → rma_extended d block change ≡ Ok (e, new)
     → KeepsBoth d.store e.store
 
 -- What each call on a dynamic area leaves that is done, one on the module area too, has a property
 -- of stores.
-pub record AreaCallHas (d : Estate) (P : Store → Type 0) (e : Estate) : Type 0 where
+pub record AreaCallHas (d : AreaStore) (P : Store → Type 0) (e : AreaStore) : Type 0 where
   pub create : (w : Wanted) (name : List ℕ) (made : Created) →
-      land_after_create d.land d.pool w name ≡ Ok (e.land, made)
+      area_table_after_create d.area_table d.pool w name ≡ Ok (e.area_table, made)
       → e.store ≡ with_pages_at d.store made.base (4096 * pages_for w.size) → P e.store
-  pub remove : (number : ℕ) → land_after_remove d.land d.store number ≡ Ok e.land
-      → e.store ≡ store_emptied d.store (find_area number d.land.areas) → P e.store
+  pub remove : (number : ℕ) → area_table_after_remove d.area_table d.store number ≡ Ok e.area_table
+      → e.store ≡ store_emptied d.store (find_area number d.area_table.areas) → P e.store
   pub change : (number amount : ℕ)
-      → (let bytes : ℕ = (change_answer d.land.areas d.store d.pool number amount).bytes in
-      e.store ≡ store_changed d.store d.land.areas number amount bytes) → P e.store
+      → (let bytes : ℕ = (change_answer d.area_table.areas d.store d.pool number amount).bytes in
+      e.store ≡ store_changed d.store d.area_table.areas number amount bytes) → P e.store
 
 abbrev pub AreaCallsKeepBoth : Type 0
-AreaCallsKeepBoth = (d e : Estate) → IsEstate d → AreaCallHas d (KeepsBoth d.store) e
+AreaCallsKeepBoth = (d e : AreaStore) → IsAreaStore d → AreaCallHas d (KeepsBoth d.store) e

@@ -25,8 +25,8 @@ use Rattle.swi_dispatch_guest.specs.Gates.{outcome_left}
 use Rattle.swi_dispatch_guest.specs.MachineState.{MachineState, setting_of}
 use Rattle.swi_dispatch_guest.specs.Step.{result_of_instruction, module_loaded}
 use Rattle.law_machine.specs.heap_alone.ByteLaws.{IsStoredPlain}
-use Rattle.swi_dispatch_guest.specs.Moves.{Call, Move, Step, core_of, machine_with_words, machine_after_move, outside_name, swi_made}
-use Rattle.swi_dispatch_guest.specs.Parts.{IsState}
+use Rattle.swi_dispatch_guest.specs.Moves.{Call, Move, Step, core_of, machine_with_words, machine_after_event, outside_name, swi_made}
+use Rattle.swi_dispatch_guest.specs.GuestState.{IsState}
 use Rattle.swi_dispatch_guest.specs.Writes.{machine_after_poke}
 use Rattle.law_machine.specs.heap_alone.ModuleMoves.{is_at_gate, is_module_name}
 use Rattle.law_machine.specs.live_bytes.FlexLaws.{IsAnchorByte}
@@ -113,19 +113,19 @@ MayChange s t m start a =
 abbrev pub LiveBytesStay : Type 0
 LiveBytesStay =
     (images : List Entry) (s : MachineState) (m : Move) (start a : ℕ) → IsState s →
-    IsState (machine_after_move images s m)
-    → IsByteHeld s.store (machine_after_move images s m).store start a
-    → ((machine_after_move images s m).store.bytes.at a ≡ s.store.bytes.at a) ⊎
-    MayChange s (machine_after_move images s m) m start a
+    IsState (machine_after_event images s m)
+    → IsByteHeld s.store (machine_after_event images s m).store start a
+    → ((machine_after_event images s m).store.bytes.at a ≡ s.store.bytes.at a) ⊎
+    MayChange s (machine_after_event images s m) m start a
 
 -- Of the bytes of the flex store none changes over any move but these calls, a tidy neither, unless
 -- an instruction stores there.
 abbrev pub FlexBytesStay : Type 0
 FlexBytesStay =
     (images : List Entry) (s : MachineState) (m : Move) (a : ℕ) → IsState s →
-    IsState (machine_after_move images s m)
+    IsState (machine_after_event images s m)
     → is_in_flex_store s.store.others a ≡ true
-    → ((machine_after_move images s m).store.bytes.at a ≡ s.store.bytes.at a)
+    → ((machine_after_event images s m).store.bytes.at a ≡ s.store.bytes.at a)
     ⊎ (((m ≡ Step) × IsStoredPlain s a) ⊎ (is_flex_name (swi_made s m) ≡ true))
 
 -- A module that is loaded from outside changes none at all.

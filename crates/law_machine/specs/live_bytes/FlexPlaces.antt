@@ -10,8 +10,8 @@ use Rattle.flex_store.specs.declared.blocks.FlexBlock.{FlexBlock}
 use Rattle.swi_dispatch_answers.specs.flex_frame.Ground.{spelled_store}
 use Rattle.swi_dispatch_guest.specs.MachineState.{MachineState}
 use Rattle.swi_dispatch_guest.specs.Step.{module_loaded}
-use Rattle.swi_dispatch_guest.specs.Moves.{Move, machine_after_move, swi_made}
-use Rattle.swi_dispatch_guest.specs.Parts.{IsState}
+use Rattle.swi_dispatch_guest.specs.Moves.{Move, machine_after_event, swi_made}
+use Rattle.swi_dispatch_guest.specs.GuestState.{IsState}
 use Rattle.law_machine.specs.live_bytes.Changes.{is_flex_name}
 
 -- the flex calls that may change the store, the one that makes it too
@@ -35,8 +35,8 @@ pub record KeepsFlexStore (s t : MachineState) : Type 0 where
 abbrev pub FlexStoreStays : Type 0
 FlexStoreStays =
     (images : List Entry) (s : MachineState) (m : Move) → IsState s →
-    IsState (machine_after_move images s m) → may_change_flex (swi_made s m) ≡ false
-    → KeepsFlexStore s (machine_after_move images s m)
+    IsState (machine_after_event images s m) → may_change_flex (swi_made s m) ≡ false
+    → KeepsFlexStore s (machine_after_event images s m)
 
 -- a module that is loaded from outside
 abbrev pub LoadsKeepFlexStore : Type 0

@@ -46,7 +46,7 @@ IsWrittenFor reason.Resize s t heap block size new a = IsHeadByte t heap a ⊎
 IsWrittenFor reason.ChangeSize s t heap block size new a = IsHeadByte t heap a
 IsWrittenFor reason.BlockSize s t heap block size new a = ⊥
 
--- The call was done, which V tells, and the byte is one that it writes: the heap is in R1, a block
+-- The call was done, which V shows, and the byte is one that it writes: the heap is in R1, a block
 -- in R2, a size or a change of one in R3, and R2 answers where the block is then.
 pub record IsWrittenByCall (cpu : State) (s : Store) (t : MachineState) (a : ℕ) : Type 0 where
   pub done : t.cpu.psr.overflow ≡ false

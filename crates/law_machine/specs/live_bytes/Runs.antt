@@ -3,24 +3,24 @@ use Rattle.std.specs.Prelude.{ℕ, zero, suc, ◌≡◌, ◌⊎◌, List, [], �
 use Rattle.image_loader.specs.Entries.{Entry}
 use Rattle.swi_dispatch_guest.specs.MachineState.{MachineState}
 use Rattle.swi_dispatch_guest.specs.Run.{ran}
-use Rattle.swi_dispatch_guest.specs.Moves.{Move, Step, machine_after_move, moved_all}
-use Rattle.swi_dispatch_guest.specs.Parts.{IsState}
+use Rattle.swi_dispatch_guest.specs.Moves.{Move, Step, machine_after_event, moved_all}
+use Rattle.swi_dispatch_guest.specs.GuestState.{IsState}
 use Rattle.law_machine.specs.live_bytes.Changes.{IsByteHeld, MayChange}
 
 -- Each move leads to a machine's state, and the byte is held from each state to the next.
 abbrev pub IsHeldOver : List Entry → MachineState → List Move → ℕ → ℕ → Type 0
 IsHeldOver images s [] start a = Unit {0}
 IsHeldOver images s (m ∷ ms) start a =
-    (IsState (machine_after_move images s m) × IsByteHeld s.store
-    (machine_after_move images s m).store start a)
-    × IsHeldOver images (machine_after_move images s m) ms start a
+    (IsState (machine_after_event images s m) × IsByteHeld s.store
+    (machine_after_event images s m).store start a)
+    × IsHeldOver images (machine_after_event images s m) ms start a
 
 -- one of the moves may change it
 abbrev pub MayChangeOver : List Entry → MachineState → List Move → ℕ → ℕ → Type 0
 MayChangeOver images s [] start a = ⊥
 MayChangeOver images s (m ∷ ms) start a =
-    MayChange s (machine_after_move images s m) m start a ⊎
-    MayChangeOver images (machine_after_move images s m) ms start a
+    MayChange s (machine_after_event images s m) m start a ⊎
+    MayChangeOver images (machine_after_event images s m) ms start a
 
 abbrev pub LiveBytesStayOver : Type 0
 LiveBytesStayOver =

@@ -17,7 +17,7 @@ use Rattle.os_heap.specs.Store.{Store, find_heap}
 use Rattle.rma.specs.Calls.{rma_extended}
 use Rattle.instances_table.specs.plans.Plans.{Plan, plan_after_code}
 use Rattle.swi_dispatch_guest.specs.Gates.{outcome_left, outcome_of_gate}
-use Rattle.swi_dispatch_guest.specs.MachineState.{MachineState, machine_estate}
+use Rattle.swi_dispatch_guest.specs.MachineState.{MachineState, machine_area_store}
 use Rattle.swi_dispatch_guest.specs.Moves.{machine_with_words}
 use Rattle.swi_dispatch_guest.specs.Step.{module_loaded, os_module_called}
 use Rattle.law_blocks.specs.heap_calls.Forgotten.{IsForgotten}
@@ -56,7 +56,7 @@ ModuleCallsForgetGivenUp =
 
 -- OS_Module 13 can be done, and frees bytes of the block in R2 with which a heap goes.
 pub record IsCutOff (s : MachineState) (start : ℕ) : Type 0 where
-  pub done : is_ok (rma_extended (machine_estate s) (register_of s.cpu 2) (register_of s.cpu 3)) ≡ true
+  pub done : is_ok (rma_extended (machine_area_store s) (register_of s.cpu 2) (register_of s.cpu 3)) ≡ true
   pub forgotten : IsForgotten s.store module_area_start heap_reason.Resize (register_of s.cpu 2)
       (register_of s.cpu 3) start
 

@@ -5,7 +5,7 @@ use Rattle.std.specs.Prelude.{ℕ, ◌≡◌, ◌≢◌, ◌<◌, ◌+◌, ◌-�
 use Rattle.profile.specs.SwiNames.{swi_of}
 use Rattle.profile.specs.Word.{bit_of}
 use Rattle.arm_core.specs.declared.psr.Mode.TheVariants.{Supervisor}
-use Rattle.arm_core.specs.declared.turn.Turn.TheVariants as turn
+use Rattle.arm_core.specs.declared.turn.StepEnd.TheVariants as turn
 use Rattle.arm_core.specs.Psr.{psr_bits}
 use Rattle.arm_core.specs.State.{register_in}
 use Rattle.image_loader.specs.Entries.{Entry}
@@ -69,7 +69,7 @@ pub record ComesBackWell (s : MachineState) (below : List Frame) (f : Frame) (nu
   pub whole : f.call.next % 4 ≡ 0
   pub low : f.call.next < 2 ^ 26
 
--- The caller goes on: R14 of supervisor mode tells with what status it called, and where it goes on.
+-- The caller goes on: R14 of supervisor mode shows with what status it called, and where it goes on.
 pub record IsSwiDone (below : List Frame) (f : Frame) (t : MachineState) : Type 0 where
   pub link : register_in Supervisor t.cpu 14 ≡ psr_bits f.call.caller + f.call.next
   pub counter : t.cpu.pc ≡ f.call.next

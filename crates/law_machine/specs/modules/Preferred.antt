@@ -36,4 +36,5 @@ pub record IsRemovedFrom (slot : ℕ) (m : Module) (n : Option Module) : Type 0 
 
 abbrev pub RemovalsPreferOldest : Type 0
 RemovalsPreferOldest = (modules : List Module) (title : List ℕ) (slot : ℕ) (m : Module) → AreModules modules
-    → module_titled title modules ≡ Some m → IsRemovedFrom slot m (module_titled title (without_instance slot modules))
+    → module_titled title modules ≡ Some m → IsRemovedFrom slot m
+    (module_titled title (without_instance slot modules))

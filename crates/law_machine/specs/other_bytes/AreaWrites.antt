@@ -8,7 +8,7 @@ use Rattle.address_map.specs.Items.{is_heap_word}
 use Rattle.os_heap_words.specs.lists.Heap.{HeapList}
 use Rattle.os_heap_words.specs.lists.Lists.{Claim, changed_by, claim_in_items, live_total, round_up_8}
 use Rattle.os_heap.specs.Store.{Store, find_heap}
-use Rattle.dynamic_areas.specs.Ground.{Estate, IsEstate}
+use Rattle.dynamic_areas.specs.Ground.{AreaStore, IsAreaStore}
 use Rattle.rma.specs.Calls.{rma_claimed, rma_extended, rma_freed}
 use Rattle.rma.specs.NewImages.{image_copied, image_made}
 use Rattle.instances.specs.tidying.Laws.{AreBytes}
@@ -36,7 +36,7 @@ pub record IsOfMovedAreaBlock (s t : Store) (block change a : ℕ) : Type 0 wher
 -- A call leaves the byte as it was, or is one that writes it. So a cut leaves what it cuts off, a
 -- growth what comes to the block, and a new image what fills up its block; the pages that the area
 -- grows by are as they are mapped.
-pub record AreaCallWrites (d e : Estate) (a : ℕ) : Type 0 where
+pub record AreaCallWrites (d e : AreaStore) (a : ℕ) : Type 0 where
   pub claim : (size block : ℕ) → rma_claimed d size ≡ Ok (e, block)
       → (e.store.bytes.at a ≡ d.store.bytes.at a) ⊎ IsAreaWord e.store a
   pub free : (block : ℕ) → rma_freed d block ≡ Ok (e, tt)
@@ -52,4 +52,5 @@ pub record AreaCallWrites (d e : Estate) (a : ℕ) : Type 0 where
       ⊎ (IsAreaWord e.store a ⊎ (in_range at len a ≡ true))
 
 abbrev pub AreaCallsKeepOthers : Type 0
-AreaCallsKeepOthers = (d e : Estate) (a : ℕ) → IsEstate d → AreBytes d.store.bytes.at → AreaCallWrites d e a
+AreaCallsKeepOthers = (d e : AreaStore) (a : ℕ) → IsAreaStore d → AreBytes d.store.bytes.at → AreaCallWrites
+    d e a

@@ -15,8 +15,8 @@ use Rattle.profile.specs.declared.swi.SwiName.{SwiName}
 use Rattle.profile.specs.declared.swi.SwiName.TheVariants as swi
 use Rattle.address_map.specs.Bytes.{Bytes, in_range}
 use Rattle.arm_core.specs.State.{State, register_of}
-use Rattle.arm_core.specs.declared.turn.Turn.{Turn}
-use Rattle.arm_core.specs.declared.turn.Turn.TheVariants as turn
+use Rattle.arm_core.specs.declared.turn.StepEnd.{StepEnd}
+use Rattle.arm_core.specs.declared.turn.StepEnd.TheVariants as turn
 use Rattle.image_loader.specs.Entries.{Entry}
 use Rattle.swi_dispatch_answers.specs.flex_frame.Ground.{spelled_store}
 use Rattle.flex_store.specs.Blocks.{FlexStore}
@@ -34,9 +34,9 @@ use Rattle.swi_dispatch_plans.specs.declared.openings.Opening.{Opening}
 use Rattle.swi_dispatch_guest.specs.Additions.{Planned, copy_planned, insertion_planned, load_planned, named_load_planned, plan_alone}
 use Rattle.swi_dispatch_guest.specs.Errors.{error_number}
 use Rattle.swi_dispatch_guest.specs.Gates.{outcome_left}
-use Rattle.swi_dispatch_guest.specs.MachineState.{MachineState, machine_start, machine_world, setting_of}
-use Rattle.swi_dispatch_guest.specs.Moves.{Call, Move, Step, machine_after_move, machine_with_words, moved_all, outside_name, swi_made}
-use Rattle.swi_dispatch_guest.specs.Parts.{IsState}
+use Rattle.swi_dispatch_guest.specs.MachineState.{MachineState, machine_start, machine_module_state, setting_of}
+use Rattle.swi_dispatch_guest.specs.Moves.{Call, Move, Step, machine_after_event, machine_with_words, moved_all, outside_name, swi_made}
+use Rattle.swi_dispatch_guest.specs.GuestState.{IsState}
 use Rattle.swi_dispatch_guest.specs.Step.{module_loaded, result_of_instruction}
 use Rattle.swi_dispatch_guest.specs.Writes.{with_program}
 use Rattle.law_machine.specs.heap_alone.ByteLaws.{IsStoredPlain}
@@ -48,7 +48,7 @@ use Rattle.law_machine.specs.other_bytes.AreaWrites.{IsAreaWord, IsOfMovedAreaBl
 use Rattle.law_machine.specs.other_bytes.FlexWrites.{header_of_call}
 use Rattle.law_machine.specs.other_bytes.PageWrites.{IsAreaEndByte, IsUnmapped}
 
--- The call was refused, which V tells, by an error of the system: R0 points to the block of errors,
+-- The call was refused, which V shows, by an error of the system: R0 points to the block of errors,
 -- where its number stands then. The byte is of that word, of the error's text, or of the zero after
 -- it.
 pub record IsErrorByte (t : MachineState) (a : ℕ) : Type 0 where
@@ -62,9 +62,12 @@ pub record IsErrorByte (t : MachineState) (a : ℕ) : Type 0 where
 abbrev pub IsPlanned : List Entry → MachineState → ℕ → ModuleReason → Planned → Type 0
 IsPlanned images s next reason.Run w = named_load_planned images s true ≡ Ok w
 IsPlanned images s next reason.Load w = named_load_planned images s false ≡ Ok w
-IsPlanned images s next reason.Reinit w = bind (reinit_planned (setting_of s)) (λ p. Ok (plan_alone s p)) ≡ Ok w
-IsPlanned images s next reason.Delete w = bind (delete_planned (setting_of s)) (λ p. Ok (plan_alone s p)) ≡ Ok w
-IsPlanned images s next reason.Tidy w = bind (tidy_planned (setting_of s) next) (λ p. Ok (plan_alone s p)) ≡ Ok w
+IsPlanned images s next reason.Reinit w = bind (reinit_planned (setting_of s)) (λ p. Ok (plan_alone s p)) ≡
+    Ok w
+IsPlanned images s next reason.Delete w = bind (delete_planned (setting_of s)) (λ p. Ok (plan_alone s p)) ≡
+    Ok w
+IsPlanned images s next reason.Tidy w = bind (tidy_planned (setting_of s) next) (λ p. Ok (plan_alone s p)) ≡
+    Ok w
 IsPlanned images s next reason.Clear w = bind (clear_planned (setting_of s)) (λ p. Ok (plan_alone s p)) ≡ Ok w
 IsPlanned images s next reason.Insert w = insertion_planned s ≡ Ok w
 IsPlanned images s next reason.InsertCopy w = copy_planned s ≡ Ok w
@@ -88,9 +91,9 @@ enters_module other = false
 -- do up to the first module code; and the text, if the module is entered.
 abbrev pub IsOfPlan : Bool → Bool → Planned → ℕ → Type 0
 IsOfPlan makes enters w a =
-    ((makes ≡ true) × (IsAreaWord w.world.estate.store a
+    ((makes ≡ true) × (IsAreaWord w.module_state.area_store.store a
     ⊎ (in_range w.plan.given.image w.plan.given.len a ≡ true)))
-    ⊎ (IsWrittenByActions w.plan.given w.world w.plan.actions a
+    ⊎ (IsWrittenByActions w.plan.given w.module_state w.plan.actions a
     ⊎ ((enters ≡ true) × IsTextByte w.plan.given.text.items a))
 
 pub record IsOfPlannedCall (images : List Entry) (s : MachineState) (next : ℕ) (why : ModuleReason) (a : ℕ) :
@@ -105,7 +108,7 @@ pub record IsOfOpening (s : MachineState) (a : ℕ) : Type 0 where
   pub asked : opening_asked (setting_of s) ≡ Ok opening
   pub byte : IsTextByte opening.text.items a
 
--- a call that was done, which V tells
+-- a call that was done, which V shows
 abbrev pub IsDone : MachineState → Type 0
 IsDone t = t.cpu.psr.overflow ≡ false
 
@@ -160,12 +163,12 @@ IsOfCall images s next other t a = ⊥
 abbrev pub IsOfGate : MachineState → Option Frame → Option Plan → ℕ → Type 0
 IsOfGate s (Some f) (Some p) a =
     (let q : Plan = plan_after_code p (outcome_left s.cpu) in
-    IsWrittenByActions q.given (machine_world s) q.actions a
+    IsWrittenByActions q.given (machine_module_state s) q.actions a
     ⊎ ((f.call.enters ≡ true) × IsTextByte q.given.text.items a))
 IsOfGate s frame plan a = ⊥
 
 -- is the instruction one that makes a call?
-abbrev pub is_at_call : Result (State × Bytes) Turn → Bool
+abbrev pub is_at_call : Result (State × Bytes) StepEnd → Bool
 is_at_call (Err (turn.Swi number)) = true
 is_at_call other = false
 
@@ -178,7 +181,8 @@ MayWrite images s t (Call number words) a =
     IsErrorByte t a ⊎ IsOfCall images u u.cpu.pc (outside_name number) t a)
 MayWrite images s t Step a =
     IsStoredPlain s a
-    ⊎ (((is_at_gate (result_of_instruction s) ≡ true) × IsOfGate s (innermost_frame s.tables.frames) s.tables.plan a)
+    ⊎ (((is_at_gate (result_of_instruction s) ≡ true) × IsOfGate s (innermost_frame s.tables.frames)
+    s.tables.plan a)
     ⊎ ((is_at_call (result_of_instruction s) ≡ true) × (IsErrorByte t a
     ⊎ IsOfCall images s ((s.cpu.pc + 4) % 2 ^ 26) (swi_made s Step) t a)))
 
@@ -187,9 +191,9 @@ MayWrite images s t Step a =
 abbrev pub OtherBytesStay : Type 0
 OtherBytesStay =
     (images : List Entry) (s : MachineState) (m : Move) (a : ℕ) → IsState s →
-    IsState (machine_after_move images s m)
-    → ((machine_after_move images s m).store.bytes.at a ≡ s.store.bytes.at a)
-    ⊎ MayWrite images s (machine_after_move images s m) m a
+    IsState (machine_after_event images s m)
+    → ((machine_after_event images s m).store.bytes.at a ≡ s.store.bytes.at a)
+    ⊎ MayWrite images s (machine_after_event images s m) m a
 
 -- A module that is loaded from outside writes what reason 1 of OS_Module does, with a string that
 -- is given.
@@ -209,14 +213,14 @@ LoadsKeepOthers =
 -- may have written it.
 abbrev pub AreStates : List Entry → MachineState → List Move → Type 0
 AreStates images s [] = Unit {0}
-AreStates images s (m ∷ ms) = IsState (machine_after_move images s m) ×
-    AreStates images (machine_after_move images s m) ms
+AreStates images s (m ∷ ms) = IsState (machine_after_event images s m) ×
+    AreStates images (machine_after_event images s m) ms
 
 abbrev pub MayWriteOver : List Entry → MachineState → List Move → ℕ → Type 0
 MayWriteOver images s [] a = ⊥
 MayWriteOver images s (m ∷ ms) a =
-    MayWrite images s (machine_after_move images s m) m a
-    ⊎ MayWriteOver images (machine_after_move images s m) ms a
+    MayWrite images s (machine_after_event images s m) m a
+    ⊎ MayWriteOver images (machine_after_event images s m) ms a
 
 abbrev pub OtherBytesStayOver : Type 0
 OtherBytesStayOver =
@@ -235,9 +239,9 @@ ProgramsKeepOthers =
 abbrev pub NewPagesAreZero : Type 0
 NewPagesAreZero =
     (images : List Entry) (s : MachineState) (m : Move) (a : ℕ) → IsState s →
-    IsState (machine_after_move images s m) → s.store.bytes.mapped a ≡ false
-    → ((machine_after_move images s m).store.bytes.at a ≡ 0)
-    ⊎ MayWrite images s (machine_after_move images s m) m a
+    IsState (machine_after_event images s m) → s.store.bytes.mapped a ≡ false
+    → ((machine_after_event images s m).store.bytes.at a ≡ 0)
+    ⊎ MayWrite images s (machine_after_event images s m) m a
 
 -- At a machine's start all bytes are 0 but those of the module area's descriptor.
 abbrev pub StartsAreZero : Type 0

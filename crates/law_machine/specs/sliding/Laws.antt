@@ -6,14 +6,14 @@ use Rattle.profile.specs.declared.reason.ModuleReason.TheVariants as reason
 use Rattle.profile.specs.Reasons.{module_reason}
 use Rattle.profile.specs.SwiNames.{swi_of}
 use Rattle.arm_core.specs.State.{register_of}
-use Rattle.arm_core.specs.declared.turn.Turn.TheVariants as turn
+use Rattle.arm_core.specs.declared.turn.StepEnd.TheVariants as turn
 use Rattle.image_loader.specs.Entries.{Entry}
 use Rattle.instances_table.specs.declared.plans.code.Outcome.TheVariants.{Well, Refused}
 use Rattle.instances_table.specs.plans.Plans.{Plan}
 use Rattle.swi_dispatch_plans.specs.ModulePlans.{tidy_planned}
 use Rattle.swi_dispatch_guest.specs.Gates.{outcome_left}
 use Rattle.swi_dispatch_guest.specs.MachineState.{MachineState, setting_of}
-use Rattle.swi_dispatch_guest.specs.Parts.{IsGuest, Parts, state_of}
+use Rattle.swi_dispatch_guest.specs.GuestState.{IsGuest, GuestState, state_of}
 use Rattle.swi_dispatch_guest.specs.Step.{outcome_of_call, result_of_instruction, machine_step, module_loaded, store_called, without_x}
 use Rattle.law_machine.specs.sliding.MachineStores.{stores_of}
 use Rattle.law_machine.specs.sliding.Turns.{StoresAreStill, FlexSwi, IsTidied, IsTidyKept, IsTurnMade, flex_name, flex_turn}
@@ -28,14 +28,14 @@ pub record IsMachineTurn (next number : ℕ) (s t : MachineState) : Type 0 where
 
 abbrev pub CallsAreTurns : Type 0
 CallsAreTurns =
-    (images : List Entry) (p q : Parts) (x : Bool) (next number : ℕ) → IsGuest p → IsGuest q
+    (images : List Entry) (p q : GuestState) (x : Bool) (next number : ℕ) → IsGuest p → IsGuest q
     → state_of q ≡ (outcome_of_call images (state_of p) x next number).now →
     IsMachineTurn next number (state_of p) (state_of q)
 
 -- So are the steps of a machine whose instruction is such a call.
 abbrev pub StepsAreTurns : Type 0
 StepsAreTurns =
-    (images : List Entry) (p q : Parts) (n : ℕ) → IsGuest p → IsGuest q
+    (images : List Entry) (p q : GuestState) (n : ℕ) → IsGuest p → IsGuest q
     → p.halt ≡ None → result_of_instruction (state_of p) ≡ Err (turn.Swi n)
     → state_of q ≡ (machine_step images (state_of p)).now
     → IsMachineTurn ((p.cpu.pc + 4) % 2 ^ 26) (without_x n) (state_of p) (state_of q)
@@ -43,7 +43,7 @@ StepsAreTurns =
 -- And the calls that a user makes from outside.
 abbrev pub StoreCallsAreTurns : Type 0
 StoreCallsAreTurns =
-    (images : List Entry) (p q : Parts) (number : ℕ) → IsGuest p → IsGuest q → p.halt ≡ None
+    (images : List Entry) (p q : GuestState) (number : ℕ) → IsGuest p → IsGuest q → p.halt ≡ None
     → state_of q ≡ (store_called images (state_of p) number).now
     → IsMachineTurn p.cpu.pc (without_x (number % 2 ^ 24)) (state_of p) (state_of q)
 
@@ -55,7 +55,7 @@ pub record TidyGoesOn (return_address : ℕ) (s t : MachineState) : Type 0 where
 
 abbrev pub TidiesGoOn : Type 0
 TidiesGoOn =
-    (images : List Entry) (p q : Parts) (return_address : ℕ) → IsGuest p → IsGuest q
+    (images : List Entry) (p q : GuestState) (return_address : ℕ) → IsGuest p → IsGuest q
     → p.halt ≡ None → result_of_instruction (state_of p) ≡ Err turn.Gate
     → IsTidyKept return_address p.tables.plan
     → state_of q ≡ (machine_step images (state_of p)).now →

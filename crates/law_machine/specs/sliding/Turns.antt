@@ -10,12 +10,12 @@ use Rattle.instances_table.specs.declared.plans.action.PlanAction.{PlanAction}
 use Rattle.instances_table.specs.declared.plans.action.PlanAction.TheVariants as act
 use Rattle.instances_table.specs.plans.Plans.{Plan}
 use Rattle.instances_table.specs.Changes.{is_slot_held}
-use Rattle.instances.specs.world.World.{private_word}
+use Rattle.instances.specs.module_state.ModuleState.{private_word}
 use Rattle.flex_store.specs.Runs.{Alloc, Extend, MidExtend, Release}
 use Rattle.swi_dispatch_guest.specs.MachineState.{MachineState}
 use Rattle.law_blocks.specs.sliding.Laws.{IsFollowed}
 use Rattle.law_blocks.specs.sliding.Meaning.{AreStores, Stores, meaning_of, store_in}
-use Rattle.law_blocks.specs.sliding.Turning.{Call, Init, Slide, StoreTurn, answer_of_turn, stores_after_turn}
+use Rattle.law_blocks.specs.sliding.Turning.{Call, Init, Slide, FlexOrSlide, answer_of_turn, stores_after_step}
 use Rattle.law_machine.specs.sliding.MachineStores.{stores_of}
 
 -- the flex calls that change the store
@@ -34,7 +34,7 @@ flex_name Extended = swi.FlexExtend
 flex_name MidExtended = swi.FlexMidExtend
 
 -- each as a turn of what its registers have
-abbrev pub flex_turn : FlexSwi → State → StoreTurn
+abbrev pub flex_turn : FlexSwi → State → FlexOrSlide
 flex_turn MadeStore cpu = Init (register_of cpu 0) (register_of cpu 1)
 flex_turn Allocated cpu = Call (Alloc (register_of cpu 0) (register_of cpu 1))
 flex_turn Freed cpu = Call (Release (register_of cpu 0))
@@ -43,23 +43,23 @@ flex_turn MidExtended cpu = Call (MidExtend (register_of cpu 0) (register_of cpu
 
 -- The machine's stores follow the turn. Where it wasn't refused they are just those that it leaves.
 -- What is left of a call on modules that is under way stays.
-pub record IsTurnMade (turn : StoreTurn) (s t : MachineState) : Type 0 where
+pub record IsTurnMade (turn : FlexOrSlide) (s t : MachineState) : Type 0 where
   pub followed : IsFollowed turn (stores_of s) (stores_of t)
   pub exact : (room : Bool) → answer_of_turn turn (stores_of s) ≡ Ok room →
-      stores_of t ≡ stores_after_turn turn (stores_of s)
+      stores_of t ≡ stores_after_step turn (stores_of s)
   pub plan : t.tables.plan ≡ s.tables.plan
 
 -- Stores that mean what those before them do. The private words of instances are the same, and the
 -- modules.
 pub record StoresAreStill (x y : Stores) : Type 0 where
   pub meaning : meaning_of y ≡ meaning_of x
-  pub words : (slot : ℕ) → is_slot_held slot x.world.modules ≡ true
-      → private_word y.world.estate slot ≡ private_word x.world.estate slot
-  pub modules : y.world.modules ≡ x.world.modules
+  pub words : (slot : ℕ) → is_slot_held slot x.module_state.modules ≡ true
+      → private_word y.module_state.area_store slot ≡ private_word x.module_state.area_store slot
+  pub modules : y.module_state.modules ≡ x.module_state.modules
   pub stores : AreStores y
   pub mapped : (store_in y).bytes.mapped ≡ (store_in x).bytes.mapped
-  pub pool : y.world.estate.pool ≡ x.world.estate.pool
-  pub land : y.world.estate.land ≡ x.world.estate.land
+  pub pool : y.module_state.area_store.pool ≡ x.module_state.area_store.pool
+  pub area_table : y.module_state.area_store.area_table ≡ x.module_state.area_store.area_table
   pub pending : y.pending ≡ x.pending
 
 -- What is left of a tidy that has not slid yet: finalisations, the slide, and initialisations; or

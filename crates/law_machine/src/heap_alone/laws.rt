@@ -4,7 +4,7 @@
 ghost use Rattle.law_machine.specs.heap_alone.AreaByteLaws.{ClaimsKeepLiveBytes};
 ghost use Rattle.law_machine.specs.heap_alone.ByteLaws.{HeapCallsKeepLiveBytes, InstructionsChangeStored, MovesKeepLiveBytes};
 ghost use Rattle.law_machine.specs.heap_alone.FoundLaws.{HeapCallsForgetFreed, OtherMovesForgetNone, OuterHeapsStay};
-ghost use Rattle.law_machine.specs.heap_alone.Laws.{MachineHeapsStandAlone, WorldsAnswerAlike};
+ghost use Rattle.law_machine.specs.heap_alone.Laws.{MachineHeapsStandAlone, ModuleStatesAnswerAlike};
 ghost use Rattle.law_machine.specs.heap_alone.ModuleLaws.{
   GatesKeepHeap,
   LoadsKeepHeap,
@@ -28,8 +28,8 @@ pub fn heaps_stand_alone()
 {}
 
 /// So two machines in which the heap alone is the same and is asked the same answer alike.
-pub fn worlds_answer_alike()
-    ensures { WorldsAnswerAlike }
+pub fn module_states_answer_alike()
+    ensures { ModuleStatesAnswerAlike }
 {}
 
 /// Each call of OS_Module keeps a heap that a guest made, whether it is done or refused; so does a

@@ -1,14 +1,14 @@
 //! A list of moves on one machine.
 
-ghost use Rattle.swi_dispatch.specs.Moves.{machine_with_words, machine_after_move};
+ghost use Rattle.swi_dispatch.specs.Moves.{machine_with_words, machine_after_event};
 ghost use Rattle.std.specs.Prelude.{◌≡◌, ◌==◌, ◌≤◌, ◌&&◌, ◌++◌, true, false, length};
 ghost use Rattle.swi_dispatch.specs.Value.{IsMachine};
 ghost use Rattle.law_machine.specs.heap_alone.Moves.{is_own};
 ghost use Rattle.law_machine.specs.heap_runs.Making.{AreMade};
-ghost use Rattle.law_machine.specs.heap_runs.Moves.{reply_if, written_move_of, written_all};
-ghost use Rattle.swi_dispatch.specs.Parts.{state_of};
+ghost use Rattle.law_machine.specs.heap_runs.Moves.{reply_if, written_event_of, written_all};
+ghost use Rattle.swi_dispatch.specs.GuestState.{state_of};
 
-use crate::heap_runs::moves::{End, MachineMove, MachineMoves, Made, Reply};
+use crate::heap_runs::moves::{End, MachineEvent, MachineMoves, Made, Reply};
 use crate::heap_runs::own_calls::{is_own_call, reply_of};
 use arrayvec::ArrayVec;
 use image_loader::Images;
@@ -17,7 +17,7 @@ use swi_dispatch::Machine;
 /// Makes the moves in turn, until the machine is halted or there is no room for an answer. If a
 /// guest's heap with no anchor and no heap in it stands at `start`, and the moves leave it to
 /// itself, neither forget it nor make a heap in it, then what it answers is what it answers alone.
-pub fn make_moves<const MOST: usize>(machine: &mut Machine, moves: &MachineMoves) -> Made<MOST>
+pub fn make_events<const MOST: usize>(machine: &mut Machine, moves: &MachineMoves) -> Made<MOST>
     ensures made { AreMade moves.now.images.now moves.now.start (state_of machine.old.guest)
         (state_of machine.new.guest)
         (written_all moves.now.list.now) MOST result.count result.end result.answers.items }
@@ -35,7 +35,7 @@ pub fn make_moves<const MOST: usize>(machine: &mut Machine, moves: &MachineMoves
         };
     }
     for (count, next) in moves.list.iter().enumerate() {
-        let is_own = make_move(machine, moves.images, moves.start, next);
+        let is_own = make_event(machine, moves.images, moves.start, next);
         if let Some(stop) = machine.stop() {
             return Made {
                 count: count + 1,
@@ -59,22 +59,22 @@ pub fn make_moves<const MOST: usize>(machine: &mut Machine, moves: &MachineMoves
 }
 
 /// Makes one move, and answers whether it is a call on the heap at `start`.
-fn make_move(machine: &mut Machine, images: &Images, start: u32, next: &MachineMove) -> bool
-    ensures state { state_of machine.new.guest ≡ machine_after_move images.now (state_of machine.old.guest)
-        (written_move_of next.now) }
-    ensures own { result ≡ is_own start (state_of machine.old.guest) (written_move_of next.now) }
+fn make_event(machine: &mut Machine, images: &Images, start: u32, next: &MachineEvent) -> bool
+    ensures state { state_of machine.new.guest ≡ machine_after_event images.now (state_of machine.old.guest)
+        (written_event_of next.now) }
+    ensures own { result ≡ is_own start (state_of machine.old.guest) (written_event_of next.now) }
     ensures fresh { machine.new.is_fresh ≡ false }
     ensures sizes { machine.new.sizes ≡ machine.old.sizes }
     ensures known { IsMachine machine.new }
 {
     let is_own = match next {
-        MachineMove::Call(number, words) => {
+        MachineEvent::Call(number, words) => {
             set_registers(machine, words);
             let is_own = is_own_call(machine.cpu(), *number, start);
             machine.store_call(images, *number);
             is_own
         }
-        MachineMove::Step => {
+        MachineEvent::Step => {
             machine.step(images);
             false
         }

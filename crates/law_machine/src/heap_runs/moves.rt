@@ -9,7 +9,7 @@ pub const GIVEN_REGISTERS: usize = 9;
 
 /// A move of a machine.
 #[derive(Clone, Copy, Debug)]
-pub enum MachineMove {
+pub enum MachineEvent {
     /// A store call from outside: its number, and the words of R0 to R8.
     Call(u32, [u32; GIVEN_REGISTERS]),
     /// A step: an instruction, a SWI or a return of module code.
@@ -22,7 +22,7 @@ pub struct MachineMoves<'a> {
     pub images: &'a Images,
     /// Where the heap starts.
     pub start: u32,
-    pub list: &'a [MachineMove],
+    pub list: &'a [MachineEvent],
 }
 
 /// What a heap answers to a call of OS_Heap on it.

@@ -5,7 +5,7 @@ ghost use Rattle.std.specs.Prelude.{◌≡◌, ◌&&◌};
 ghost use Rattle.swi_dispatch.specs.Step.{without_x};
 ghost use Rattle.law_machine.specs.heap_alone.Moves.{is_swi_to, is_for_heap, is_heap_swi, reply_of_machine};
 ghost use Rattle.law_machine.specs.heap_runs.Moves.{written_reply_of};
-ghost use Rattle.swi_dispatch.specs.Parts.{state_of};
+ghost use Rattle.swi_dispatch.specs.GuestState.{state_of};
 
 use crate::heap_runs::moves::Reply;
 use arm_step::Cpu;

@@ -5,9 +5,9 @@ ghost use Rattle.swi_dispatch.specs.Value.{IsMachine};
 ghost use Rattle.law_machine.specs.heap_runs.Making.{AreMade, done_of};
 ghost use Rattle.law_machine.specs.heap_runs.Moves.{written_all};
 ghost use Rattle.law_machine.specs.heap_runs.Pairs.{AreAlike};
-ghost use Rattle.swi_dispatch.specs.Parts.{state_of};
+ghost use Rattle.swi_dispatch.specs.GuestState.{state_of};
 
-use crate::heap_runs::making::make_moves;
+use crate::heap_runs::making::make_events;
 use crate::heap_runs::moves::{MachineMoves, Made};
 use swi_dispatch::Machine;
 
@@ -46,6 +46,6 @@ pub fn make_in_two<const MOST: usize>(
     ensures one_known { IsMachine one.new }
     ensures two_known { IsMachine two.new }
 {
-    let first = make_moves(one, moves);
-    (first, make_moves(two, others))
+    let first = make_events(one, moves);
+    (first, make_events(two, others))
 }

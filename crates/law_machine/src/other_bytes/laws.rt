@@ -24,7 +24,7 @@ pub fn area_calls_keep_others()
 {}
 
 /// A call that makes a dynamic area writes nothing; one that changes an area or removes it writes
-/// the word that tells the module area's end, if it is that area, and pages that go count as 0.
+/// the word that shows the module area's end, if it is that area, and pages that go count as 0.
 pub fn page_calls_keep_others()
     ensures { PageCallsKeepOthers }
 {}

@@ -3,7 +3,7 @@
 
 ghost use Rattle.law_machine.specs.sliding.Laws.{CallsAreTurns, StepsAreTurns, PlansStay, PlansStayFromOutside, TidiesGoOn, StoreCallsAreTurns};
 ghost use Rattle.law_machine.specs.sliding.MachineStores.{StatesHaveStores};
-ghost use Rattle.law_machine.specs.sliding.Told.{FlexCallsTellRoom};
+ghost use Rattle.law_machine.specs.sliding.Reported.{FlexCallsPrintRoom};
 
 /// What the laws over stores ask for holds of the stores of every machine.
 pub fn states_have_stores()
@@ -43,7 +43,7 @@ pub fn plans_stay_from_outside()
     ensures { PlansStayFromOutside }
 {}
 
-/// A flex call that tells whether there was room does so by the turn of the stores that it is.
-pub fn flex_calls_tell_room()
-    ensures { FlexCallsTellRoom }
+/// A flex call that says whether there was room does so by the turn of the stores that it is.
+pub fn flex_calls_print_room()
+    ensures { FlexCallsPrintRoom }
 {}

@@ -1,4 +1,4 @@
-use Rattle.law_machine.proofs.ModuleHeapsLemmas.Quiet.{calls_forget_none, gates_forget_none}
+use Rattle.law_machine.proofs.ModuleHeapsLemmas.Silent.{calls_forget_none, gates_forget_none}
 use Rattle.law_machine.proofs.module_heaps.laws.other_calls_forget_none.Goals as goal
 
 pub returns-clause-calls : goal.returns-clause-calls

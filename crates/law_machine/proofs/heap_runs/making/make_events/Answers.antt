@@ -2,8 +2,8 @@ use Rattle.std.proofs.Common.{◌≡◌, ◌≤◌, ◌<◌, ◌+◌, ◌∙◌,
 use Rattle.swi_dispatch.proofs.RunLoop.{halt-none}
 use Rattle.law_machine.proofs.HeapRunsLemmas.Ends.{fresh_after, fresh_before, ends_full, ends_halted, ends_whole, goes_on, last_of, under_first, under_last}
 use Rattle.law_machine.specs.heap_runs.Moves.{written_all}
-use Rattle.law_machine.proofs.heap_runs.making.make_moves.Goals as goal
-use Rattle.swi_dispatch.specs.Parts.{state_of}
+use Rattle.law_machine.proofs.heap_runs.making.make_events.Goals as goal
+use Rattle.swi_dispatch.specs.GuestState.{state_of}
 
 pub loop-count-init : goal.loop-count-init
 loop-count-init g c =
@@ -20,35 +20,35 @@ loop-count-init g c =
 pub returns-in-Some-stop-clause-made : goal.returns-in-Some-stop-clause-made
 returns-in-Some-stop-clause-made g c =
     let last = last_of c.args.moves.now.images.now c.args.moves.now.start (state_of c.args.machine.now.guest) (state_of c.loop-count.machine.guest)
-    (state_of c.make_move-is_own.new.machine.guest) c.args.moves.now.list.now c.loop-count.count _ c.loop-count.answers.items
-    c.loop-count.invariant.begins c.loop-count.invariant.under c.loop-count-test.true c.make_move-is_own.ensures.state in
+    (state_of c.make_event-is_own.new.machine.guest) c.args.moves.now.list.now c.loop-count.count _ c.loop-count.answers.items
+    c.loop-count.invariant.begins c.loop-count.invariant.under c.loop-count-test.true c.make_event-is_own.ensures.state in
     ends_halted _ _ _ _ _ _ _ _ _ _ last c.in-Some-stop.stop (sym c.stop-in-loop-count.ensures.halt ∙ c.in-Some-stop.is)
 
 pub returns-then-not-note-clause-made : goal.returns-then-not-note-clause-made
 returns-then-not-note-clause-made g c =
     let last = last_of c.args.moves.now.images.now c.args.moves.now.start (state_of c.args.machine.now.guest) (state_of c.loop-count.machine.guest)
-    (state_of c.make_move-is_own.new.machine.guest) c.args.moves.now.list.now c.loop-count.count _ c.loop-count.answers.items
-    c.loop-count.invariant.begins c.loop-count.invariant.under c.loop-count-test.true c.make_move-is_own.ensures.state in
-    ends_full _ _ _ _ _ _ _ _ _ _ last (sym c.make_move-is_own.ensures.own ∙ c.note.ensures.own c.if-not-note.true)
+    (state_of c.make_event-is_own.new.machine.guest) c.args.moves.now.list.now c.loop-count.count _ c.loop-count.answers.items
+    c.loop-count.invariant.begins c.loop-count.invariant.under c.loop-count-test.true c.make_event-is_own.ensures.state in
+    ends_full _ _ _ _ _ _ _ _ _ _ last (sym c.make_event-is_own.ensures.own ∙ c.note.ensures.own c.if-not-note.true)
     (c.note.ensures.full c.if-not-note.true) (halt-none _ _ c.stop-in-loop-count.ensures.halt c.in_default-stop.is)
     c.note.new.answers.items (c.note.ensures.same c.if-not-note.true)
 
 pub loop-count-preserved : goal.loop-count-preserved
 loop-count-preserved g c =
     let last = last_of c.args.moves.now.images.now c.args.moves.now.start (state_of c.args.machine.now.guest) (state_of c.loop-count.machine.guest)
-    (state_of c.make_move-is_own.new.machine.guest) c.args.moves.now.list.now c.loop-count.count _ c.loop-count.answers.items
-    c.loop-count.invariant.begins c.loop-count.invariant.under c.loop-count-test.true c.make_move-is_own.ensures.state in
-    let goes : (state_of c.make_move-is_own.new.machine.guest).halt ≡ None = halt-none _ _ c.stop-in-loop-count.ensures.halt c.in_default-stop.is in
+    (state_of c.make_event-is_own.new.machine.guest) c.args.moves.now.list.now c.loop-count.count _ c.loop-count.answers.items
+    c.loop-count.invariant.begins c.loop-count.invariant.under c.loop-count-test.true c.make_event-is_own.ensures.state in
+    let goes : (state_of c.make_event-is_own.new.machine.guest).halt ≡ None = halt-none _ _ c.stop-in-loop-count.ensures.halt c.in_default-stop.is in
     record {
-      under = under_last _ _ _ _ _ _ g.row.MOST _ _ _ last c.make_move-is_own.result c.make_move-is_own.ensures.own
-          (goes_on c.make_move-is_own.new.machine c.make_move-is_own.ensures.known goes) c.note.new.answers.items
+      under = under_last _ _ _ _ _ _ g.row.MOST _ _ _ last c.make_event-is_own.result c.make_event-is_own.ensures.own
+          (goes_on c.make_event-is_own.new.machine c.make_event-is_own.ensures.known goes) c.note.new.answers.items
           (c.note.ensures.noted c.if-not-note.false);
       begins = c.loop-count.invariant.begins;
-      machine = c.make_move-is_own.ensures.known;
+      machine = c.make_event-is_own.ensures.known;
       goes = goes;
-      fresh = fresh_after c.args.machine.now.is_fresh c.make_move-is_own.new.machine.is_fresh (c.loop-count.count + 1)
-          c.make_move-is_own.ensures.fresh (omega arith);
-      sizes = c.make_move-is_own.ensures.sizes ∙ c.loop-count.invariant.sizes;
+      fresh = fresh_after c.args.machine.now.is_fresh c.make_event-is_own.new.machine.is_fresh (c.loop-count.count + 1)
+          c.make_event-is_own.ensures.fresh (omega arith);
+      sizes = c.make_event-is_own.ensures.sizes ∙ c.loop-count.invariant.sizes;
     }
 
 pub returns-clause-made : goal.returns-clause-made

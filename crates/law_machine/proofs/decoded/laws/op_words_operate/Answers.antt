@@ -1,5 +1,5 @@
 use Rattle.law_machine.proofs.DecodedLemmas.PlainLemmas.{immediates_operate, registers_operate, shifts_operate}
-use Rattle.law_machine.proofs.decoded.laws.ready_words_operate.Goals as goal
+use Rattle.law_machine.proofs.decoded.laws.op_words_operate.Goals as goal
 
 pub returns-clause-immediate : goal.returns-clause-immediate
 returns-clause-immediate c = immediates_operate

@@ -1,5 +1,5 @@
 use Rattle.law_machine.proofs.DecodedLemmas.BlockLemmas.{blocks_load, blocks_store}
-use Rattle.law_machine.proofs.decoded.laws.ready_words_move_blocks.Goals as goal
+use Rattle.law_machine.proofs.decoded.laws.op_words_move_blocks.Goals as goal
 
 pub returns-clause-load : goal.returns-clause-load
 returns-clause-load c = blocks_load

@@ -1,5 +1,5 @@
 use Rattle.law_machine.proofs.DecodedLemmas.PlainLemmas.{interrupts_turn, unmet_conditions_pass}
-use Rattle.law_machine.proofs.decoded.laws.ready_words_turn_or_pass.Goals as goal
+use Rattle.law_machine.proofs.decoded.laws.op_words_turn_or_pass.Goals as goal
 
 pub returns-clause-turn : goal.returns-clause-turn
 returns-clause-turn c = interrupts_turn

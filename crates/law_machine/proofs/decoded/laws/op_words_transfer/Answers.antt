@@ -1,5 +1,5 @@
 use Rattle.law_machine.proofs.DecodedLemmas.TransferLemmas.{numbers_transfer, registers_transfer, words_beside_load}
-use Rattle.law_machine.proofs.decoded.laws.ready_words_transfer.Goals as goal
+use Rattle.law_machine.proofs.decoded.laws.op_words_transfer.Goals as goal
 
 pub returns-clause-number : goal.returns-clause-number
 returns-clause-number c = numbers_transfer

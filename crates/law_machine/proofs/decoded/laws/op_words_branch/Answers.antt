@@ -1,5 +1,5 @@
 use Rattle.law_machine.proofs.DecodedLemmas.PlainLemmas.{branches_lead, links_lead, jumps_lead}
-use Rattle.law_machine.proofs.decoded.laws.ready_words_branch.Goals as goal
+use Rattle.law_machine.proofs.decoded.laws.op_words_branch.Goals as goal
 
 pub returns-clause-branch : goal.returns-clause-branch
 returns-clause-branch c = branches_lead

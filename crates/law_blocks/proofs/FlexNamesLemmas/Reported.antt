@@ -1,11 +1,11 @@
--- Blocks of which one word is seen as told: their numbers, and what they show by name.
+-- Blocks of which one word is seen as described: their numbers, and what they show by name.
 use Rattle.std.proofs.Common.{◌≡◌, ℕ, Bool, zero, suc, ◌<◌, ◌≤◌, nat_eq, List, [], ◌∷◌, ◌++◌, length, Option, None, Some, arith, refl, sym, ◌∙◌, ap, inl, inr}
 use Rattle.std.specs.Prelude.{if◌then◌else◌}
 use Rattle.std.specs.Option.{option_map}
 use Rattle.std.proofs.lemmas.Bool.{cases_Bool, eq-eqb, eqb-true, false_from_ne_true, false≢true, ne_eqb}
 use Rattle.law_blocks.proofs.FlexLemmas.Apart.{fixed_inside, fixed_same, inside_number, inside_offset}
-use Rattle.law_blocks.specs.flex.Numbered.{Anchor, blocks_after_store, Fixed, Inside, IsBeforeBlock, place_told, SeenBlock, word_told}
-use Rattle.law_blocks.specs.flex_names.Names.{At, shown_bytes_of, In, Name, number_from, number_named, place_named, same_name, same_place, told_named}
+use Rattle.law_blocks.specs.flex.Numbered.{Anchor, blocks_after_store, Fixed, Inside, IsBeforeBlock, place_shown, SeenBlock, word_shown}
+use Rattle.law_blocks.specs.flex_names.Names.{At, shown_bytes_of, In, Name, number_from, number_named, place_named, same_name, same_place, shown_named}
 use Rattle.law_blocks.proofs.FlexNamesLemmas.Found.{name_is, name_self, none_some, one_name, some_same}
 
 block_numbers : (byte : Option ℕ) (m o n : ℕ) (y : Anchor) (bs ys : List SeenBlock) → number_from n y (blocks_after_store byte m o bs ++ ys) ≡ number_from n y (bs ++ ys)
@@ -16,23 +16,23 @@ block_numbers byte (suc m) o n y (b ∷ bs) ys = elim (cases_Bool (same_place b.
   | inr other ↦ rw other (block_numbers byte m o (suc n) y bs ys)
 ]
 
-pub told_numbers : (byte : Option ℕ) (x : Anchor) (n : ℕ) (y : Anchor) (bs ys : List SeenBlock) → number_from n y (place_told byte x bs ++ ys) ≡ number_from n y (bs ++ ys)
-told_numbers byte (Fixed a) n y bs ys = refl
-told_numbers byte (Inside m o) n y bs ys = block_numbers byte m o n y bs ys
+pub shown_numbers : (byte : Option ℕ) (x : Anchor) (n : ℕ) (y : Anchor) (bs ys : List SeenBlock) → number_from n y (place_shown byte x bs ++ ys) ≡ number_from n y (bs ++ ys)
+shown_numbers byte (Fixed a) n y bs ys = refl
+shown_numbers byte (Inside m o) n y bs ys = block_numbers byte m o n y bs ys
 
--- what the block of a number shows, where a word is seen as told
-abbrev pub told_at : Option ℕ → Anchor → ℕ → Option (List (Option ℕ)) → Option (List (Option ℕ))
-told_at byte (Fixed a) m shown = shown
-told_at byte (Inside n o) m shown = if nat_eq m n then option_map (word_told byte o 0) shown else shown
+-- what the block of a number shows, where a word is seen as described
+abbrev pub shown_at : Option ℕ → Anchor → ℕ → Option (List (Option ℕ)) → Option (List (Option ℕ))
+shown_at byte (Fixed a) m shown = shown
+shown_at byte (Inside n o) m shown = if nat_eq m n then option_map (word_shown byte o 0) shown else shown
 
 block_bytes : (byte : Option ℕ) (n o m : ℕ) (bs ys : List SeenBlock) → n < length bs
-    → shown_bytes_of m (blocks_after_store byte n o bs ++ ys) ≡ told_at byte (Inside n o) m (shown_bytes_of m (bs ++ ys))
+    → shown_bytes_of m (blocks_after_store byte n o bs ++ ys) ≡ shown_at byte (Inside n o) m (shown_bytes_of m (bs ++ ys))
 block_bytes byte n o m [] ys low = absurd (omega (arith, low))
 block_bytes byte zero o zero (b ∷ bs) ys low = refl
 block_bytes byte zero o (suc m) (b ∷ bs) ys low = rw (ne_eqb (suc m) 0 (omega arith)) refl
 block_bytes byte (suc n) o zero (b ∷ bs) ys low = rw (ne_eqb 0 (suc n) (omega arith)) refl
 block_bytes byte (suc n) o (suc m) (b ∷ bs) ys low =
-    block_bytes byte n o m bs ys (omega (arith, low)) ∙ ap (λ (t : Bool). if t then option_map (word_told byte o 0) (shown_bytes_of m (bs ++ ys)) else shown_bytes_of m (bs ++ ys)) (same n m) where
+    block_bytes byte n o m bs ys (omega (arith, low)) ∙ ap (λ (t : Bool). if t then option_map (word_shown byte o 0) (shown_bytes_of m (bs ++ ys)) else shown_bytes_of m (bs ++ ys)) (same n m) where
       same : (n m : ℕ) → nat_eq m n ≡ nat_eq (suc m) (suc n)
       same n m = elim (cases_Bool (nat_eq m n)) [
         | inl is ↦ let e : m ≡ n = eqb-true m n is in rw is (sym (eq-eqb (suc m) (suc n) (omega (arith, e))))
@@ -41,14 +41,14 @@ block_bytes byte (suc n) o (suc m) (b ∷ bs) ys low =
             false≢true (sym not ∙ eq-eqb m n (omega (arith, e))))))
       ]
 
-pub told_bytes : (byte : Option ℕ) (x : Anchor) (m : ℕ) (bs ys : List SeenBlock) → IsBeforeBlock (length bs) x
-    → shown_bytes_of m (place_told byte x bs ++ ys) ≡ told_at byte x m (shown_bytes_of m (bs ++ ys))
-told_bytes byte (Fixed a) m bs ys before = refl
-told_bytes byte (Inside n o) m bs ys before = block_bytes byte n o m bs ys before
+pub shown_bytes : (byte : Option ℕ) (x : Anchor) (m : ℕ) (bs ys : List SeenBlock) → IsBeforeBlock (length bs) x
+    → shown_bytes_of m (place_shown byte x bs ++ ys) ≡ shown_at byte x m (shown_bytes_of m (bs ++ ys))
+shown_bytes byte (Fixed a) m bs ys before = refl
+shown_bytes byte (Inside n o) m bs ys before = block_bytes byte n o m bs ys before
 
-pub told_past : (byte : Option ℕ) (x : Anchor) (k m : ℕ) (shown : Option (List (Option ℕ))) → IsBeforeBlock k x → k ≤ m → told_at byte x m shown ≡ shown
-told_past byte (Fixed a) k m shown before past = refl
-told_past byte (Inside n o) k m shown before past = rw (ne_eqb m n (omega (arith, before, past))) refl
+pub shown_past : (byte : Option ℕ) (x : Anchor) (k m : ℕ) (shown : Option (List (Option ℕ))) → IsBeforeBlock k x → k ≤ m → shown_at byte x m shown ≡ shown
+shown_past byte (Fixed a) k m shown before past = refl
+shown_past byte (Inside n o) k m shown before past = rw (ne_eqb m n (omega (arith, before, past))) refl
 
 -- a name by the place of its word
 pub map_some : {A B : Type 0} (f : A → B) (o : Option A) (y : B) → option_map f o ≡ Some y → (x : A) × ((o ≡ Some x) × (f x ≡ y))
@@ -72,14 +72,14 @@ one_word p (In y o) (In z r) x e f =
     let holder : y ≡ z = one_name p y z s.0 s.1.0 (t.1.0 ∙ ap (λ (m : ℕ). let k : Option ℕ = Some m in k) (sym number)) in
     λ i. In (holder i) (offset i)
 
--- The block of a number and of a name shows the same, each byte of the word as told.
-pub told_same : (p : List SeenBlock) (byte : Option ℕ) (name y : Name) (x : Anchor) (m : ℕ) (shown : Option (List (Option ℕ))) → place_named p name ≡ Some x
-    → number_named p y ≡ Some m → told_at byte x m shown ≡ told_named byte name y shown
-told_same p byte (At a) y x m shown named is = ap (λ (w : Anchor). told_at byte w m shown) (sym (some_same (Fixed a) x named))
-told_same p byte (In z o) y x m shown named is =
+-- The block of a number and of a name shows the same, each byte of the word as shown.
+pub shown_same : (p : List SeenBlock) (byte : Option ℕ) (name y : Name) (x : Anchor) (m : ℕ) (shown : Option (List (Option ℕ))) → place_named p name ≡ Some x
+    → number_named p y ≡ Some m → shown_at byte x m shown ≡ shown_named byte name y shown
+shown_same p byte (At a) y x m shown named is = ap (λ (w : Anchor). shown_at byte w m shown) (sym (some_same (Fixed a) x named))
+shown_same p byte (In z o) y x m shown named is =
     let t = map_some (λ n. Inside n o) (number_named p z) x named in
-    ap (λ (w : Anchor). told_at byte w m shown) (sym t.1.1)
-    ∙ ap (λ (b : Bool). if b then option_map (word_told byte o 0) shown else shown) (same t.0 t.1.0) where
+    ap (λ (w : Anchor). shown_at byte w m shown) (sym t.1.1)
+    ∙ ap (λ (b : Bool). if b then option_map (word_shown byte o 0) shown else shown) (same t.0 t.1.0) where
       same : (n : ℕ) → number_named p z ≡ Some n → nat_eq m n ≡ same_name y z
       same n at = elim (cases_Bool (same_name y z)) [
         | inl here ↦
@@ -90,7 +90,7 @@ told_same p byte (In z o) y x m shown named is =
             false≢true (sym other ∙ (ap (λ (w : Name). same_name w z) e ∙ name_self z))))
       ]
 
--- nothing is told of a name that no block has
-pub told_none : (byte : Option ℕ) (name y : Name) → told_named byte name y None ≡ None
-told_none byte (At a) y = refl
-told_none byte (In z o) y = elim (cases_Bool (same_name y z)) [ inl here ↦ rw here refl | inr other ↦ rw other refl ]
+-- nothing is shown of a name that no block has
+pub shown_none : (byte : Option ℕ) (name y : Name) → shown_named byte name y None ≡ None
+shown_none byte (At a) y = refl
+shown_none byte (In z o) y = elim (cases_Bool (same_name y z)) [ inl here ↦ rw here refl | inr other ↦ rw other refl ]
