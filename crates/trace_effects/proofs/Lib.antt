@@ -1,6 +1,6 @@
 pub mod ChangesLemmas
 pub mod StoreWordsLemmas
-pub mod ToldWordsLemmas
-pub mod ToldRegistersLemmas
+pub mod ShownWordsLemmas
+pub mod ShownRegistersLemmas
 pub mod RecordTextLemmas
 pub mod WordTextLemmas

@@ -1,7 +1,7 @@
 -- Which store calls leave the machine's store as it is, whatever they answer (RISC OS 3 Programmer's
 -- Reference Manual): those that print, ask, make an error, change the mode or end the guest, those of a
 -- reason that isn't known, and those that the machine hasn't itself: a module's code is entered then.
--- An error that goes back stands in the system's error block, and is told by itself.
+-- An error that goes back stands in the system's error block, and is shown by itself.
 use Rattle.std.specs.Prelude.{ℕ, Bool, true, false, Option, Some, None}
 use Rattle.profile.specs.Reasons.{area_reason, heap_reason, module_reason}
 use Rattle.profile.specs.SwiNames.{swi_of}

@@ -1,4 +1,4 @@
--- What a step finds, of what a trace tells. Begin with Cause.
+-- What a step finds, of what a trace shows. Begin with Cause.
 pub mod Cause
 pub mod Effects
 pub mod Leaving
@@ -7,6 +7,6 @@ pub mod Stored
 pub mod changes
 pub mod record_text
 pub mod store_words
-pub mod told_words
-pub mod told_registers
+pub mod shown_words
+pub mod shown_registers
 pub mod word_text

@@ -1,4 +1,4 @@
-//! What a step finds, of what a trace tells: the word at the program counter, the words of memory
+//! What a step finds, of what a trace shows: the word at the program counter, the words of memory
 //! that its instruction loads and stores to, and whether a store call leaves the store as it is.
 //!
 //! Promise: what is listed of a step is all that it changes, and each of that did change.
@@ -10,10 +10,10 @@ pub mod effects;
 pub mod leaving;
 pub mod loaded;
 pub mod record_text;
+pub mod shown_registers;
+pub mod shown_words;
 pub mod store_words;
 pub mod stored;
-pub mod told_registers;
-pub mod told_words;
 pub mod word_text;
 
 pub use cause::{Cause, called_swi};

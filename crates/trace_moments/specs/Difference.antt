@@ -4,6 +4,6 @@ use Rattle.std.specs.Prelude.{◌≡◌, ◌≢◌, Option, unwrap_or, IfSome}
 
 -- Whoever has the old value, and puts what is said in its place, has the new one; and what is said isn't
 -- the old one.
-pub record IsDifference {X : Type 0} (old new : X) (told : Option X) : Type 0 where
-  pub replays : unwrap_or told old ≡ new
-  pub differs : IfSome told (λ x. old ≢ x)
+pub record IsDifference {X : Type 0} (old new : X) (reported : Option X) : Type 0 where
+  pub replays : unwrap_or reported old ≡ new
+  pub differs : IfSome reported (λ x. old ≢ x)

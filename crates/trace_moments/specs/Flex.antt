@@ -37,6 +37,6 @@ pub record IsFlexChange (old new : ℕ → Option FlexBlock) (c : FlexChange) : 
   pub differs : c.was ≢ c.is
 
 -- All that differ, and nothing else.
-pub record AreFlexChanges (old new : ℕ → Option FlexBlock) (told : List FlexChange) : Type 0 where
-  pub replay : (anchor : ℕ) → flex_blocks_after told old anchor ≡ new anchor
-  pub differ : All (IsFlexChange old new) told
+pub record AreFlexChanges (old new : ℕ → Option FlexBlock) (reported : List FlexChange) : Type 0 where
+  pub replay : (anchor : ℕ) → flex_blocks_after reported old anchor ≡ new anchor
+  pub differ : All (IsFlexChange old new) reported

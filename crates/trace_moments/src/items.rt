@@ -2,7 +2,7 @@
 
 ghost use Rattle.std.specs.Prelude.{ℕ, ◌≡◌, ◌<◌, ◌^◌, ◌++◌, IfOk, OnOk};
 ghost use Rattle.os_heap.specs.Store.{IsSound, store_of};
-ghost use Rattle.trace_store_text.specs.items.Changes.{is_same_item, item_change_at, item_changes, item_told};
+ghost use Rattle.trace_store_text.specs.items.Changes.{is_same_item, item_change_at, item_changes, item_shown};
 ghost use Rattle.trace_store_text.specs.items.Laws.{with_item_changes};
 ghost use Rattle.trace_store_text.specs.items.Places.{item_there, placed_items};
 
@@ -25,11 +25,11 @@ pub fn all_changed_items(
 ) -> Result<Vec<ItemChange>, AllocError>
     requires old { IsSound (store_of before.now) }
     requires new { IsSound (store_of after.now) }
-    ensures told { IfOk result (λ told. told.items
+    ensures reported { IfOk result (λ reported. reported.items
         ≡ item_changes (store_of before.now) (store_of after.now) heap) }
-    ensures replays { IfOk result (λ told. (a : ℕ) → a < 2 ^ 26
+    ensures replays { IfOk result (λ reported. (a : ℕ) → a < 2 ^ 26
         → item_there (placed_items (store_of after.now) heap) a
-        ≡ with_item_changes told.items (item_there (placed_items (store_of before.now) heap)) a) }
+        ≡ with_item_changes reported.items (item_there (placed_items (store_of before.now) heap)) a) }
 {
     let mut olds = ItemWalk::of(before, heap);
     let mut news = ItemWalk::of(after, heap);
@@ -65,7 +65,7 @@ fn add_item(
     item: Option<Item>,
     is_new: bool,
 ) -> Result<(), AllocError>
-    ensures { OnOk result (changes.new.items ≡ changes.old.items ++ item_told at item is_new) }
+    ensures { OnOk result (changes.new.items ≡ changes.old.items ++ item_shown at item is_new) }
 {
     if let Some(item) = item {
         changes.push(ItemChange { at, item, is_new })?;

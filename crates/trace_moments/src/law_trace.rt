@@ -1,4 +1,4 @@
-//! Laws of traces: what an instruction does to memory is told, and a call of which nothing is told does
+//! Laws of traces: what an instruction does to memory is shown, and a call of which nothing is shown does
 //! nothing to it.
 #![tactic(auto)]
 

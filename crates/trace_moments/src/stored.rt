@@ -6,7 +6,7 @@ ghost use Rattle.trace_effects.specs.Loaded.{loaded_words};
 use address_map::AddressMap;
 use arm_core::Cpu;
 use std::alloc::{AllocError, Global};
-use trace_effects::told_words::ToldWord;
+use trace_effects::shown_words::ShownWord;
 use trace_effects::{Cause, StoredWords};
 
 /// The words that the instruction at a core's program counter loads, if it loads any, of which LDRB
@@ -32,14 +32,14 @@ pub fn words_at(
     alloc: Global,
     memory: &AddressMap,
     words: StoredWords,
-) -> Result<Vec<ToldWord>, AllocError>
+) -> Result<Vec<ShownWord>, AllocError>
     requires { words.count ≤ 16 }
 {
     let mut all = Vec::new(alloc);
     let mut at = words.at;
     for _words in 0..words.count {
         let word = memory.load_word(at).unwrap_or(0);
-        all.push(ToldWord {
+        all.push(ShownWord {
             at,
             old: word,
             new: word,
@@ -52,13 +52,13 @@ pub fn words_at(
 /// Words as they were, with what stands there now.
 pub fn stored_changes(
     alloc: Global,
-    olds: &[ToldWord],
+    olds: &[ShownWord],
     memory: &AddressMap,
-) -> Result<Vec<ToldWord>, AllocError> {
+) -> Result<Vec<ShownWord>, AllocError> {
     let mut changes = Vec::new(alloc);
     for old in olds {
         let new = memory.load_word(old.at).unwrap_or(0);
-        changes.push(ToldWord { new, ..*old })?;
+        changes.push(ShownWord { new, ..*old })?;
     }
     Ok(changes)
 }

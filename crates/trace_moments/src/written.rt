@@ -4,7 +4,7 @@ use arm_core::{Cpu, Mode, Psr};
 use arm_decode::{Action, BlockTransfer, Operate, Register, Transfer, decode};
 use profile::{AreaReason, HeapReason, ModuleReason, SwiName};
 use trace_effects::Cause;
-use trace_effects::told_registers::WrittenRegisters;
+use trace_effects::shown_registers::WrittenRegisters;
 
 /// The number of the link register.
 const LINK: u32 = 14;

@@ -1,11 +1,11 @@
--- What is kept of some changes tells the lines of all.
+-- What is kept of some changes shows the lines of all.
 use Rattle.std.proofs.Common.{◌≡◌, ℕ, Bool, List, [], ◌++◌, refl, sym, ap, ◌∙◌}
 use Rattle.std.proofs.lemmas.List.{append-nil}
 use Rattle.address_map.specs.Bytes.{Bytes}
 use Rattle.os_heap.specs.Store.{Store}
 use Rattle.trace_effects.specs.declared.store_words.changes.WordChange.{WordChange}
 use Rattle.trace_effects.specs.declared.store_words.changes.WordChanges.{WordChanges}
-use Rattle.trace_effects.specs.store_words.Words.{IsSummary, all_changes, is_told}
+use Rattle.trace_effects.specs.store_words.Words.{IsSummary, all_changes, is_shown_elsewhere}
 use Rattle.trace_store_text.specs.items.Changes.{IsItemSummary}
 use Rattle.trace_store_text.specs.declared.items.changes.ItemChange.{ItemChange}
 use Rattle.trace_store_text.specs.declared.items.changes.ItemChanges.{ItemChanges}
@@ -21,12 +21,12 @@ lines_kept kept all is =
     rw (first, count) refl
 
 pub store_lines_kept : (has_error : Bool) (s s' : Store) (b b' : Bytes) (kept : WordChanges) → b ≡ s.bytes → b' ≡ s'.bytes
-    → IsSummary kept (all_changes (is_told has_error) b b') → changed_word_lines has_error s s' ≡ summary_lines kept
+    → IsSummary kept (all_changes (is_shown_elsewhere has_error) b b') → changed_word_lines has_error s s' ≡ summary_lines kept
 unfolding changed_word_lines
 store_lines_kept has_error s s' b b' kept old new is =
-    ap (λ (x : Bytes). word_lines (all_changes (is_told has_error) x s'.bytes)) (sym old)
-    ∙ (ap (λ (x : Bytes). word_lines (all_changes (is_told has_error) b x)) (sym new)
-    ∙ lines_kept kept (all_changes (is_told has_error) b b') is)
+    ap (λ (x : Bytes). word_lines (all_changes (is_shown_elsewhere has_error) x s'.bytes)) (sym old)
+    ∙ (ap (λ (x : Bytes). word_lines (all_changes (is_shown_elsewhere has_error) b x)) (sym new)
+    ∙ lines_kept kept (all_changes (is_shown_elsewhere has_error) b b') is)
 
 pub item_lines_kept : (heap : ℕ) (kept : ItemChanges) (all : List ItemChange) → IsItemSummary kept all → item_lines heap all ≡ item_summary_lines heap kept
 unfolding item_lines

@@ -26,12 +26,14 @@ gone_block_line b = codes "                  block anchor " ++ (hex_word b.ancho
 
 -- `block anchor 00009004 at 0000A008 size 5 new`
 unfoldable pub new_block_line : FlexBlock → List ℕ
-new_block_line b = codes "                  block anchor " ++ (hex_word b.anchor ++ (codes " at " ++ (hex_word b.at
+new_block_line b = codes "                  block anchor " ++
+    (hex_word b.anchor ++ (codes " at " ++ (hex_word b.at
     ++ (codes " size " ++ (decimal b.size ++ codes " new\n")))))
 
 -- `block anchor 00009004 at 0000A008 size 5 was 0000A01C 5`
 unfoldable pub other_block_line : FlexBlock → FlexBlock → List ℕ
-other_block_line old b = codes "                  block anchor " ++ (hex_word b.anchor ++ (codes " at " ++ (hex_word b.at
+other_block_line old b = codes "                  block anchor " ++
+    (hex_word b.anchor ++ (codes " at " ++ (hex_word b.at
     ++ (codes " size " ++ (decimal b.size ++ (codes " was " ++ (hex_word old.at ++ (codes " "
     ++ (decimal old.size ++ codes "\n")))))))))
 
@@ -51,7 +53,8 @@ abbrev pub kept_block_lines : List FlexBlock → FlexBlock → List ℕ
 kept_block_lines before b = flat_map block_change_line (kept_block before b)
 
 abbrev pub flex_change_lines : List FlexBlock → List FlexBlock → List ℕ
-flex_change_lines before after = flat_map (gone_block_lines after) before ++ flat_map (kept_block_lines before) after
+flex_change_lines before after = flat_map (gone_block_lines after) before ++ flat_map
+    (kept_block_lines before) after
 
 unfoldable pub flex_lines : Bytes → Flex → Bytes → Flex → List ℕ
 flex_lines b f b' f' = store_line f.extent f'.extent

@@ -57,7 +57,8 @@ abbrev pub lines_of_heaps : (ℕ → List ℕ) → List HeapList → List ℕ
 lines_of_heaps lines heaps = flat_map (λ (h : HeapList). lines h.start) heaps
 
 unfoldable pub heap_lines : Store → Store → List ℕ
-heap_lines s s' = lines_of_heaps (gone_heap_lines s') s.heaps ++ lines_of_heaps (kept_heap_lines s s') s'.heaps
+heap_lines s s' = lines_of_heaps (gone_heap_lines s') s.heaps ++ lines_of_heaps (kept_heap_lines s s')
+    s'.heaps
 
 -- the same by the recorded ranges
 abbrev pub lines_of_region : (ℕ → List ℕ) → Region → List ℕ

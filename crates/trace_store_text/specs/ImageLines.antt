@@ -9,7 +9,8 @@ use Rattle.os_heap.specs.Store.{Store, is_image}
 
 -- `image 01800014 76 new`
 unfoldable pub image_line : List ℕ → Region → List ℕ
-image_line verb r = codes "                  image " ++ (hex_word r.at ++ (codes " " ++ (decimal r.len ++ verb)))
+image_line verb r = codes "                  image " ++ (hex_word r.at ++
+    (codes " " ++ (decimal r.len ++ verb)))
 
 abbrev pub is_same_image : Region → Region → Bool
 is_same_image r other = is_image other.kind && (other.at == r.at && other.len == r.len)

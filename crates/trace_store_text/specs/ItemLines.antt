@@ -22,7 +22,7 @@ unfoldable pub item_line : ℕ → ItemChange → List ℕ
 item_line heap c = codes "                  heap " ++ (hex_word heap ++ (verb_and_use c.is_new c.item
     ++ (hex_word c.at ++ (codes " " ++ (decimal (total_of c.item) ++ codes "\n")))))
 
--- the lines of some items, of which the first are told
+-- the lines of some items, of which the first are shown
 unfoldable pub item_lines : ℕ → List ItemChange → List ℕ
 item_lines heap changes = flat_map (item_line heap) (take 64 changes)
     ++ more_line (codes " lines more\n") (length changes - 64)

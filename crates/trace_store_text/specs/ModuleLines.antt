@@ -21,7 +21,8 @@ new_instance_line x at = codes "                  module " ++ (x.title.items ++ 
 
 -- `module Dbl%Base at 01800014 was 0180003C`
 unfoldable pub moved_instance_line : InstanceMark → ℕ → ℕ → List ℕ
-moved_instance_line x was at = codes "                  module " ++ (x.title.items ++ (codes "%" ++ (x.name.items
+moved_instance_line x was at = codes "                  module " ++
+    (x.title.items ++ (codes "%" ++ (x.name.items
     ++ (codes " at " ++ (hex_word at ++ (codes " was " ++ (hex_word was ++ codes "\n")))))))
 
 abbrev pub instance_line_by : InstanceMark → Option ℕ → Option ℕ → List ℕ

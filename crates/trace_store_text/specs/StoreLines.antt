@@ -2,16 +2,16 @@
 use Rattle.std.specs.Prelude.{ℕ, Bool, List, ◌++◌}
 use Rattle.trace_effects.specs.store_words.Copies.{KeptStore}
 use Rattle.os_heap.specs.Store.{Store}
-use Rattle.trace_effects.specs.store_words.Words.{all_changes, is_told}
+use Rattle.trace_effects.specs.store_words.Words.{all_changes, is_shown_elsewhere}
 use Rattle.trace_store_text.specs.FlexLines.{flex_lines}
 use Rattle.trace_store_text.specs.HeapLines.{heap_lines}
 use Rattle.trace_store_text.specs.ImageLines.{image_lines}
 use Rattle.trace_store_text.specs.ModuleLines.{module_lines}
 use Rattle.trace_store_text.specs.WordLines.{word_lines}
 
--- the words, but those of the error block where an error is told
+-- the words, but those of the error block where an error is shown
 unfoldable pub changed_word_lines : Bool → Store → Store → List ℕ
-changed_word_lines has_error s s' = word_lines (all_changes (is_told has_error) s.bytes s'.bytes)
+changed_word_lines has_error s s' = word_lines (all_changes (is_shown_elsewhere has_error) s.bytes s'.bytes)
 
 unfoldable pub store_lines : Bool → KeptStore → KeptStore → List ℕ
 store_lines has_error k k' = image_lines k.store k'.store ++ (module_lines k.modules k'.modules

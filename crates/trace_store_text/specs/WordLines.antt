@@ -19,10 +19,12 @@ count_line what more = codes "                  .. " ++ (decimal more ++ what)
 unfoldable pub more_line : List ℕ → ℕ → List ℕ
 more_line what more = if more == 0 then [] else count_line what more
 
--- the lines of some words, of which the first are told
+-- the lines of some words, of which the first are shown
 unfoldable pub word_lines : List WordChange → List ℕ
-word_lines changes = flat_map word_line (take 16 changes) ++ more_line (codes " words more\n") (length changes - 16)
+word_lines changes = flat_map word_line (take 16 changes) ++ more_line (codes " words more\n")
+    (length changes - 16)
 
 -- the same by what is kept of them
 abbrev pub summary_lines : WordChanges → List ℕ
-summary_lines kept = flat_map word_line kept.first.items ++ more_line (codes " words more\n") (kept.count - 16)
+summary_lines kept = flat_map word_line kept.first.items ++ more_line (codes " words more\n")
+    (kept.count - 16)

@@ -1,4 +1,4 @@
--- Instances of modules as a trace tells them. Begin with Changes.
+-- Instances of modules as a trace shows them. Begin with Changes.
 pub mod Changes
 pub mod Laws
 pub mod Marks

@@ -13,7 +13,7 @@ use address_map::{AddressMap, Item};
 use itoa::Buffer;
 use profile::{HexText, Sink, WriteFault, push_parts};
 
-/// How many items of a heap are told.
+/// How many items of a heap are shown.
 const MOST_LINES: u32 = 64;
 
 /// Writes a line for each item of the heap that starts at an address that is gone or new, and how

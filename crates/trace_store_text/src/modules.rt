@@ -1,4 +1,4 @@
-//! Instances of modules as a trace tells them, and which of them a store call made, moved, took away
+//! Instances of modules as a trace shows them, and which of them a store call made, moved, took away
 //! and preferred.
 #![tactic(auto)]
 

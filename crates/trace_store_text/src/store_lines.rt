@@ -2,7 +2,7 @@
 
 ghost use Rattle.std.specs.Prelude.{◌≡◌};
 ghost use Rattle.profile.specs.Output.{Writes};
-ghost use Rattle.debugger.specs.Parts.{state_of};
+ghost use Rattle.debugger.specs.GuestState.{state_of};
 ghost use Rattle.trace_effects.specs.store_words.Copies.{kept_in, kept_of};
 ghost use Rattle.trace_store_text.specs.FlexLines.{flex_lines};
 ghost use Rattle.trace_store_text.specs.HeapLines.{heap_lines};

@@ -9,7 +9,7 @@ use itoa::Buffer;
 use profile::{HexText, Sink, WriteFault, push_parts};
 use trace_effects::store_words::{WordChange, WordChanges};
 
-/// How many words are told.
+/// How many words are shown.
 const MOST_WORDS: u32 = 16;
 
 /// Writes a line for each of the words that are kept, and how many there are more.
@@ -51,7 +51,7 @@ fn push_change<W: Sink>(sink: &mut W, change: &WordChange) -> Result<(), WriteFa
     )
 }
 
-/// Writes how many more there are of what isn't told, if there are any.
+/// Writes how many more there are of what isn't shown, if there are any.
 #[tactic(auto, unfolding(crate::specs::WordLines::more_line))]
 pub fn push_more<W: Sink>(sink: &mut W, more: u32, what: &[u8]) -> Result<(), WriteFault>
     ensures { Writes W.contents W.has_failed sink.old sink.new result (more_line what.now more) }

@@ -10,54 +10,54 @@ use Rattle.trace_effects.specs.declared.store_words.changes.WordChanges.{WordCha
 use Rattle.trace_effects.specs.store_words.Words.{IsSummary, word_change_at, word_changes_below, has_word_changed, word_change}
 use Rattle.trace_effects.proofs.StoreWordsLemmas.WordLemmas.{never_with}
 
-pub suc_below : (told : ℕ → Bool) (b b' : Bytes) (n : ℕ) → word_changes_below told b b' (suc n) ≡ word_changes_below told b b' n ++ word_change_at told b b' (4 * n)
+pub suc_below : (reported : ℕ → Bool) (b b' : Bytes) (n : ℕ) → word_changes_below reported b b' (suc n) ≡ word_changes_below reported b b' n ++ word_change_at reported b b' (4 * n)
 unfolding word_changes_below
-suc_below told b b' n = refl
+suc_below reported b b' n = refl
 
-pub none_yet : (told : ℕ → Bool) (b b' : Bytes) → word_changes_below told b b' 0 ≡ []
+pub none_yet : (reported : ℕ → Bool) (b b' : Bytes) → word_changes_below reported b b' 0 ≡ []
 unfolding word_changes_below
-none_yet told b b' = refl
+none_yet reported b b' = refl
 
-next_below : (told : ℕ → Bool) (b b' : Bytes) (n : ℕ) → word_changes_below told b b' (n + 1) ≡ word_changes_below told b b' n ++ word_change_at told b b' (4 * n)
-next_below told b b' n = let next : n + 1 ≡ suc n = omega arith in ap (word_changes_below told b b') next ∙ suc_below told b b' n
+next_below : (reported : ℕ → Bool) (b b' : Bytes) (n : ℕ) → word_changes_below reported b b' (n + 1) ≡ word_changes_below reported b b' n ++ word_change_at reported b b' (4 * n)
+next_below reported b b' n = let next : n + 1 ≡ suc n = omega arith in ap (word_changes_below reported b b') next ∙ suc_below reported b b' n
 
-nothing_here : (told : ℕ → Bool) (b b' : Bytes) (n : ℕ) → word_change_at told b b' (4 * n) ≡ [] → word_changes_below told b b' (n + 1) ≡ word_changes_below told b b' n
-nothing_here told b b' n none =
-    next_below told b b' n ∙ (ap (λ more. word_changes_below told b b' n ++ more) none ∙ append-nil (word_changes_below told b b' n))
+nothing_here : (reported : ℕ → Bool) (b b' : Bytes) (n : ℕ) → word_change_at reported b b' (4 * n) ≡ [] → word_changes_below reported b b' (n + 1) ≡ word_changes_below reported b b' n
+nothing_here reported b b' n none =
+    next_below reported b b' n ∙ (ap (λ more. word_changes_below reported b b' n ++ more) none ∙ append-nil (word_changes_below reported b b' n))
 
-pub unchanged_here : (told : ℕ → Bool) (b b' : Bytes) (n : ℕ) → has_word_changed b b' (4 * n) ≡ false → word_changes_below told b b' (n + 1) ≡ word_changes_below told b b' n
-unchanged_here told b b' n same = nothing_here told b b' n (rw same refl)
+pub unchanged_here : (reported : ℕ → Bool) (b b' : Bytes) (n : ℕ) → has_word_changed b b' (4 * n) ≡ false → word_changes_below reported b b' (n + 1) ≡ word_changes_below reported b b' n
+unchanged_here reported b b' n same = nothing_here reported b b' n (rw same refl)
 
-pub told_here : (told : ℕ → Bool) (b b' : Bytes) (n : ℕ) → told (4 * n) ≡ true → word_changes_below told b b' (n + 1) ≡ word_changes_below told b b' n
-told_here told b b' n is = nothing_here told b b' n (rw (is, never_with (has_word_changed b b' (4 * n)) _ refl) refl)
+pub shown_here : (reported : ℕ → Bool) (b b' : Bytes) (n : ℕ) → reported (4 * n) ≡ true → word_changes_below reported b b' (n + 1) ≡ word_changes_below reported b b' n
+shown_here reported b b' n is = nothing_here reported b b' n (rw (is, never_with (has_word_changed b b' (4 * n)) _ refl) refl)
 
-changed_here : (told : ℕ → Bool) (b b' : Bytes) (n : ℕ) → has_word_changed b b' (4 * n) ≡ true → told (4 * n) ≡ false
-    → word_changes_below told b b' (n + 1) ≡ word_changes_below told b b' n ++ word_change b b' (4 * n) ∷ []
-changed_here told b b' n is untold =
-    next_below told b b' n ∙ ap (λ more. word_changes_below told b b' n ++ more) (rw (is, untold) refl)
+changed_here : (reported : ℕ → Bool) (b b' : Bytes) (n : ℕ) → has_word_changed b b' (4 * n) ≡ true → reported (4 * n) ≡ false
+    → word_changes_below reported b b' (n + 1) ≡ word_changes_below reported b b' n ++ word_change b b' (4 * n) ∷ []
+changed_here reported b b' n is untold =
+    next_below reported b b' n ∙ ap (λ more. word_changes_below reported b b' n ++ more) (rw (is, untold) refl)
 
 -- words of which none differs
-pub unchanged_ahead : (told : ℕ → Bool) (b b' : Bytes) (n k : ℕ) → ((j : ℕ) → j < k → has_word_changed b b' (4 * (n + j)) ≡ false)
-    → word_changes_below told b b' (n + k) ≡ word_changes_below told b b' n
-unchanged_ahead told b b' n zero same = let e : n + 0 ≡ n = omega arith in ap (word_changes_below told b b') e
-unchanged_ahead told b b' n (suc k) same =
+pub unchanged_ahead : (reported : ℕ → Bool) (b b' : Bytes) (n k : ℕ) → ((j : ℕ) → j < k → has_word_changed b b' (4 * (n + j)) ≡ false)
+    → word_changes_below reported b b' (n + k) ≡ word_changes_below reported b b' n
+unchanged_ahead reported b b' n zero same = let e : n + 0 ≡ n = omega arith in ap (word_changes_below reported b b') e
+unchanged_ahead reported b b' n (suc k) same =
     let e : n + suc k ≡ n + k + 1 = omega arith in
-    ap (word_changes_below told b b') e
-    ∙ (unchanged_here told b b' (n + k) (same k (omega arith)) ∙ unchanged_ahead told b b' n k (λ j below. same j (omega (arith, below))))
+    ap (word_changes_below reported b b') e
+    ∙ (unchanged_here reported b b' (n + k) (same k (omega arith)) ∙ unchanged_ahead reported b b' n k (λ j below. same j (omega (arith, below))))
 
 -- a page of which no word differs
-pub page_passed : (told : ℕ → Bool) (b b' : Bytes) (page : ℕ) → ((j : ℕ) → j < 1024 → has_word_changed b b' (4 * (1024 * page + j)) ≡ false)
-    → word_changes_below told b b' (1024 * (page + 1)) ≡ word_changes_below told b b' (1024 * page)
-page_passed told b b' page same =
+pub page_passed : (reported : ℕ → Bool) (b b' : Bytes) (page : ℕ) → ((j : ℕ) → j < 1024 → has_word_changed b b' (4 * (1024 * page + j)) ≡ false)
+    → word_changes_below reported b b' (1024 * (page + 1)) ≡ word_changes_below reported b b' (1024 * page)
+page_passed reported b b' page same =
     let e : 1024 * (page + 1) ≡ 1024 * page + 1024 = omega arith in
-    ap (word_changes_below told b b') e ∙ unchanged_ahead told b b' (1024 * page) 1024 same
+    ap (word_changes_below reported b b') e ∙ unchanged_ahead reported b b' (1024 * page) 1024 same
 
-pub few_changes : (told : ℕ → Bool) (b b' : Bytes) (n : ℕ) → length (word_changes_below told b b' n) ≤ n
-few_changes told b b' zero = let none = ap length (none_yet told b b') in omega (arith, none)
-few_changes told b b' (suc n) =
-    let before = few_changes told b b' n in
-    let more = ap length (suc_below told b b' n) ∙ length-append (word_changes_below told b b' n) (word_change_at told b b' (4 * n)) in
-    let one = at_most_one (has_word_changed b b' (4 * n) && not (told (4 * n))) (word_change b b' (4 * n)) in
+pub few_changes : (reported : ℕ → Bool) (b b' : Bytes) (n : ℕ) → length (word_changes_below reported b b' n) ≤ n
+few_changes reported b b' zero = let none = ap length (none_yet reported b b') in omega (arith, none)
+few_changes reported b b' (suc n) =
+    let before = few_changes reported b b' n in
+    let more = ap length (suc_below reported b b' n) ∙ length-append (word_changes_below reported b b' n) (word_change_at reported b b' (4 * n)) in
+    let one = at_most_one (has_word_changed b b' (4 * n) && not (reported (4 * n))) (word_change b b' (4 * n)) in
     omega (arith, before, more, one) where
       at_most_one : (listed : Bool) (c : WordChange) → length (if listed then c ∷ [] else []) ≤ 1
       at_most_one true c = omega arith
@@ -68,29 +68,29 @@ pub same_summary : (kept : WordChanges) (all more : List WordChange) → more �
 same_summary kept all more same is = subst (λ (changes : List WordChange). IsSummary kept changes) (sym same) is
 
 -- the same that is kept, of the same words
-pub kept_on : (told : ℕ → Bool) (b b' : Bytes) (kept kept' : WordChanges) (n m : ℕ) → kept' ≡ kept → m ≡ n
-    → IsSummary kept (word_changes_below told b b' n) → IsSummary kept' (word_changes_below told b b' m)
-kept_on told b b' kept kept' n m same at is =
-    subst (λ (k : WordChanges). IsSummary k (word_changes_below told b b' m)) (sym same)
-    (subst (λ (i : ℕ). IsSummary kept (word_changes_below told b b' i)) (sym at) is)
+pub kept_on : (reported : ℕ → Bool) (b b' : Bytes) (kept kept' : WordChanges) (n m : ℕ) → kept' ≡ kept → m ≡ n
+    → IsSummary kept (word_changes_below reported b b' n) → IsSummary kept' (word_changes_below reported b b' m)
+kept_on reported b b' kept kept' n m same at is =
+    subst (λ (k : WordChanges). IsSummary k (word_changes_below reported b b' m)) (sym same)
+    (subst (λ (i : ℕ). IsSummary kept (word_changes_below reported b b' i)) (sym at) is)
 
-pub kept_here : (told : ℕ → Bool) (m n : AddressMap) (number old new : ℕ) (there : Option ℕ) (kept kept' : WordChanges)
+pub kept_here : (reported : ℕ → Bool) (m n : AddressMap) (number old new : ℕ) (there : Option ℕ) (kept kept' : WordChanges)
     → old ≡ word_at (byte_at m) (4 * number) → new ≡ word_at (byte_at n) (4 * number) → old ≢ new
-    → there ≡ place n (4 * number) → is_some there ≡ true → told (4 * number) ≡ false
-    → IsSummary kept (word_changes_below told (bytes_of m) (bytes_of n) number)
+    → there ≡ place n (4 * number) → is_some there ≡ true → reported (4 * number) ≡ false
+    → IsSummary kept (word_changes_below reported (bytes_of m) (bytes_of n) number)
     → ((all : List WordChange) → IsSummary kept all → IsSummary kept' (all ++ record { at = 4 * number; old = old; new = new } ∷ []))
-    → IsSummary kept' (word_changes_below told (bytes_of m) (bytes_of n) (number + 1))
-kept_here told m n number old new there kept kept' is_old is_new differs is_there some untold before add =
+    → IsSummary kept' (word_changes_below reported (bytes_of m) (bytes_of n) (number + 1))
+kept_here reported m n number old new there kept kept' is_old is_new differs is_there some untold before add =
     let mapped : is_some (place n (4 * number)) ≡ true = sym (ap is_some is_there) ∙ some in
     let unlike : word_at (byte_at m) (4 * number) ≢ word_at (byte_at n) (4 * number) = λ e. differs (is_old ∙ (e ∙ sym is_new)) in
     let is : has_word_changed (bytes_of m) (bytes_of n) (4 * number) ≡ true =
     rw (mapped, ne_eqb (word_at (byte_at m) (4 * number)) (word_at (byte_at n) (4 * number)) unlike) refl in
     let change : record { at = 4 * number; old = old; new = new } ≡ word_change (bytes_of m) (bytes_of n) (4 * number) = rw (is_old, is_new) refl in
-    same_summary kept' (word_changes_below told (bytes_of m) (bytes_of n) number ++ record { at = 4 * number; old = old; new = new } ∷ [])
-    (word_changes_below told (bytes_of m) (bytes_of n) (number + 1))
-    (changed_here told (bytes_of m) (bytes_of n) number is untold
-    ∙ ap (λ (c : WordChange). word_changes_below told (bytes_of m) (bytes_of n) number ++ c ∷ []) (sym change))
-    (add (word_changes_below told (bytes_of m) (bytes_of n) number) before)
+    same_summary kept' (word_changes_below reported (bytes_of m) (bytes_of n) number ++ record { at = 4 * number; old = old; new = new } ∷ [])
+    (word_changes_below reported (bytes_of m) (bytes_of n) (number + 1))
+    (changed_here reported (bytes_of m) (bytes_of n) number is untold
+    ∙ ap (λ (c : WordChange). word_changes_below reported (bytes_of m) (bytes_of n) number ++ c ∷ []) (sym change))
+    (add (word_changes_below reported (bytes_of m) (bytes_of n) number) before)
 
 -- the first of some changes, with one change more
 pub first_pushed : (first all : List WordChange) (c : WordChange) → length first < 16 → first ≡ take 16 all → first ++ c ∷ [] ≡ take 16 (all ++ c ∷ [])

@@ -82,8 +82,8 @@ same_store m n at same marks = λ i. stored (λ a. is_some ((same i).place a)) (
   }
 
 -- a machine's memory has few pages
-pub few_pages : (m : MachineValue) → IsMachine m → AreasCountPages → page_total m.guest.map ≡ m.guest.tables.land.sizes.pages
-few_pages m is count = count m.guest.map m.guest.tables.land is.guest.well_formed.areas
+pub few_pages : (m : MachineValue) → IsMachine m → AreasCountPages → page_total m.guest.map ≡ m.guest.tables.area_table.sizes.pages
+few_pages m is count = count m.guest.map m.guest.tables.area_table is.guest.well_formed.areas
 
-pub in_limit : (m : MachineValue) → IsMachine m → m.guest.tables.land.sizes.pages ≤ 1024
+pub in_limit : (m : MachineValue) → IsMachine m → m.guest.tables.area_table.sizes.pages ≤ 1024
 in_limit m is = is.guest.well_formed.areas.ground.sizes.in_limit

@@ -9,27 +9,27 @@ use Rattle.address_map.proofs.Bytes.{byte_at-lt, is_mapped-page}
 use Rattle.address_map.proofs.Spans.{mapped_below}
 use Rattle.os_heap.proofs.Frame.{store_bytes}
 use Rattle.swi_dispatch.specs.MachineState.{MachineState}
-use Rattle.swi_dispatch.specs.Parts.{IsState}
+use Rattle.swi_dispatch.specs.GuestState.{IsState}
 use Rattle.trace_effects.specs.declared.store_words.changes.WordChange.{WordChange}
 use Rattle.trace_effects.specs.store_words.Laws.{ExplainsBytes, IsWordChange, ListsChanges}
-use Rattle.trace_effects.specs.store_words.Words.{all_changes, word_change_at, word_changes_below, has_word_changed, is_told, word_change}
+use Rattle.trace_effects.specs.store_words.Words.{all_changes, word_change_at, word_changes_below, has_word_changed, is_shown_elsewhere, word_change}
 use Rattle.trace_effects.proofs.StoreWordsLemmas.ChangeLemmas.{none_yet, suc_below}
 
-listed : (told : ℕ → Bool) (b b' : Bytes) (a : ℕ) → has_word_changed b b' a ≡ true → told a ≡ false → Contains (word_change_at told b b' a) (word_change b b' a)
-listed told b b' a is untold = rw (is, untold) (Contains-push [] (word_change b b' a))
+listed : (reported : ℕ → Bool) (b b' : Bytes) (a : ℕ) → has_word_changed b b' a ≡ true → reported a ≡ false → Contains (word_change_at reported b b' a) (word_change b b' a)
+listed reported b b' a is untold = rw (is, untold) (Contains-push [] (word_change b b' a))
 
-complete_below : (told : ℕ → Bool) (b b' : Bytes) (n k : ℕ) → k < n → has_word_changed b b' (4 * k) ≡ true → told (4 * k) ≡ false
-    → Contains (word_changes_below told b b' n) (word_change b b' (4 * k))
-complete_below told b b' zero k inside is untold = absurd (omega (arith, inside))
-complete_below told b b' (suc n) k inside is untold =
-    rw (suc_below told b b' n)
+complete_below : (reported : ℕ → Bool) (b b' : Bytes) (n k : ℕ) → k < n → has_word_changed b b' (4 * k) ≡ true → reported (4 * k) ≡ false
+    → Contains (word_changes_below reported b b' n) (word_change b b' (4 * k))
+complete_below reported b b' zero k inside is untold = absurd (omega (arith, inside))
+complete_below reported b b' (suc n) k inside is untold =
+    rw (suc_below reported b b' n)
     (elim (cases_lt k n) [
-      | inl lower ↦ Contains-append_left (word_changes_below told b b' n) (word_change_at told b b' (4 * n)) (word_change b b' (4 * k))
-          (complete_below told b b' n k lower is untold)
+      | inl lower ↦ Contains-append_left (word_changes_below reported b b' n) (word_change_at reported b b' (4 * n)) (word_change b b' (4 * k))
+          (complete_below reported b b' n k lower is untold)
       | inr upper ↦
           let same : k ≡ n = omega arith in
-          Contains-append_right (word_changes_below told b b' n) (word_change_at told b b' (4 * n)) (word_change b b' (4 * k))
-          (subst (λ (i : ℕ). Contains (word_change_at told b b' (4 * i)) (word_change b b' (4 * k))) same (listed told b b' (4 * k) is untold))
+          Contains-append_right (word_changes_below reported b b' n) (word_change_at reported b b' (4 * n)) (word_change b b' (4 * k))
+          (subst (λ (i : ℕ). Contains (word_change_at reported b b' (4 * i)) (word_change b b' (4 * k))) same (listed reported b b' (4 * k) is untold))
     ])
 
 -- words are the same only where all their bytes are
@@ -59,18 +59,18 @@ words_differ b b' a small small' differs same =
     let e : a - a % 4 + a % 4 ≡ a = omega arith in
     differs (ap b.at (sym e) ∙ (bytes_alike b b' (word_start a) (a % 4) small small' same (omega arith) ∙ ap b'.at e))
 
-explained : (told : ℕ → Bool) (m n : AddressMap) (a : ℕ) → is_mapped n a ≡ true → byte_at m a ≢ byte_at n a → told (word_start a) ≡ false
-    → Contains (all_changes told (bytes_of m) (bytes_of n)) (word_change (bytes_of m) (bytes_of n) (word_start a))
-explained told m n a mapped differs untold =
+explained : (reported : ℕ → Bool) (m n : AddressMap) (a : ℕ) → is_mapped n a ≡ true → byte_at m a ≢ byte_at n a → reported (word_start a) ≡ false
+    → Contains (all_changes reported (bytes_of m) (bytes_of n)) (word_change (bytes_of m) (bytes_of n) (word_start a))
+explained reported m n a mapped differs untold =
     let start : word_start a ≡ 4 * (a / 4) = omega arith in
     let there : is_mapped n (word_start a) ≡ true = is_mapped-page n (word_start a) a (omega arith) ∙ mapped in
     let unlike = words_differ (bytes_of m) (bytes_of n) a (byte_at-lt m) (byte_at-lt n) differs in
     let is : has_word_changed (bytes_of m) (bytes_of n) (word_start a) ≡ true =
     rw (there, ne_eqb (word_at (byte_at m) (word_start a)) (word_at (byte_at n) (word_start a)) unlike) refl in
     let limit = mapped_below n a mapped in
-    subst (λ (at : ℕ). Contains (all_changes told (bytes_of m) (bytes_of n)) (word_change (bytes_of m) (bytes_of n) at)) (sym start)
-    (complete_below told (bytes_of m) (bytes_of n) 16777216 (a / 4) (omega (arith, limit))
-    (ap (has_word_changed (bytes_of m) (bytes_of n)) (sym start) ∙ is) (ap told (sym start) ∙ untold))
+    subst (λ (at : ℕ). Contains (all_changes reported (bytes_of m) (bytes_of n)) (word_change (bytes_of m) (bytes_of n) at)) (sym start)
+    (complete_below reported (bytes_of m) (bytes_of n) 16777216 (a / 4) (omega (arith, limit))
+    (ap (has_word_changed (bytes_of m) (bytes_of n)) (sym start) ∙ is) (ap reported (sym start) ∙ untold))
 
 -- the bytes of a machine's state are those of a memory
 state_bytes : (s : MachineState) (is : IsState s) → s.store.bytes ≡ bytes_of is.parts.map
@@ -80,9 +80,9 @@ pub explains : ExplainsBytes
 explains s s' has_error a is is' mapped differs =
     let old = state_bytes s is in
     let new = state_bytes s' is' in
-    elim (cases_Bool (is_told has_error (word_start a))) [
-      | inl told ↦ inr told
-      | inr untold ↦ inl (rw (old, new) (explained (is_told has_error) is.parts.map is'.parts.map a
+    elim (cases_Bool (is_shown_elsewhere has_error (word_start a))) [
+      | inl reported ↦ inr reported
+      | inr untold ↦ inl (rw (old, new) (explained (is_shown_elsewhere has_error) is.parts.map is'.parts.map a
           (sym (ap (λ (b : Bytes). b.mapped a) new) ∙ mapped)
           (λ e. differs (ap (λ (b : Bytes). b.at a) old ∙ (e ∙ sym (ap (λ (b : Bytes). b.at a) new)))) untold))
     ]
@@ -99,13 +99,13 @@ one_in d c h =
 unlike : (x y : ℕ) → not (x == y) ≡ true → x ≢ y
 unlike x y is same = false≢true (sym (ap not (eq-eqb x y same)) ∙ is)
 
-at_word : (told : ℕ → Bool) (s s' : MachineState) (a : ℕ) (c : WordChange) → Contains (word_change_at told s.store.bytes s'.store.bytes a) c
+at_word : (reported : ℕ → Bool) (s s' : MachineState) (a : ℕ) (c : WordChange) → Contains (word_change_at reported s.store.bytes s'.store.bytes a) c
     → IsWordChange s s' c
-at_word told s s' a c h = by_listing (has_word_changed s.store.bytes s'.store.bytes a && not (told a)) refl where
-  by_listing : (is_listed : Bool) → (has_word_changed s.store.bytes s'.store.bytes a && not (told a)) ≡ is_listed → IsWordChange s s' c
+at_word reported s s' a c h = by_listing (has_word_changed s.store.bytes s'.store.bytes a && not (reported a)) refl where
+  by_listing : (is_listed : Bool) → (has_word_changed s.store.bytes s'.store.bytes a && not (reported a)) ≡ is_listed → IsWordChange s s' c
   by_listing false is = absurd (none_in c (rw is at h))
   by_listing true is =
-      let parts = and_parts (has_word_changed s.store.bytes s'.store.bytes a) (not (told a)) is in
+      let parts = and_parts (has_word_changed s.store.bytes s'.store.bytes a) (not (reported a)) is in
       let changed = and_parts (s'.store.bytes.mapped a) (not (word_at s.store.bytes.at a == word_at s'.store.bytes.at a)) parts.0 in
       let e = one_in (word_change s.store.bytes s'.store.bytes a) c (rw is at h) in
       subst (λ (d : WordChange). IsWordChange s s' d) (sym e) (record {
@@ -115,15 +115,15 @@ at_word told s s' a c h = by_listing (has_word_changed s.store.bytes s'.store.by
         differs = unlike (word_at s.store.bytes.at a) (word_at s'.store.bytes.at a) changed.1;
       })
 
-true_below : (told : ℕ → Bool) (s s' : MachineState) (n : ℕ) (c : WordChange) → Contains (word_changes_below told s.store.bytes s'.store.bytes n) c
+true_below : (reported : ℕ → Bool) (s s' : MachineState) (n : ℕ) (c : WordChange) → Contains (word_changes_below reported s.store.bytes s'.store.bytes n) c
     → IsWordChange s s' c
-true_below told s s' zero c h = absurd (none_in c (rw (none_yet told s.store.bytes s'.store.bytes) at h))
-true_below told s s' (suc n) c h =
-    elim (Contains-append_cases (word_changes_below told s.store.bytes s'.store.bytes n) (word_change_at told s.store.bytes s'.store.bytes (4 * n)) c
-    (rw (suc_below told s.store.bytes s'.store.bytes n) at h)) [
-      | inl before ↦ true_below told s s' n c before
-      | inr now ↦ at_word told s s' (4 * n) c now
+true_below reported s s' zero c h = absurd (none_in c (rw (none_yet reported s.store.bytes s'.store.bytes) at h))
+true_below reported s s' (suc n) c h =
+    elim (Contains-append_cases (word_changes_below reported s.store.bytes s'.store.bytes n) (word_change_at reported s.store.bytes s'.store.bytes (4 * n)) c
+    (rw (suc_below reported s.store.bytes s'.store.bytes n) at h)) [
+      | inl before ↦ true_below reported s s' n c before
+      | inr now ↦ at_word reported s s' (4 * n) c now
     ]
 
 pub are_true : ListsChanges
-are_true s s' has_error c h = true_below (is_told has_error) s s' 16777216 c h
+are_true s s' has_error c h = true_below (is_shown_elsewhere has_error) s s' 16777216 c h

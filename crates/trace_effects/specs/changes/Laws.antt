@@ -64,7 +64,7 @@ core_after expected s c = record {
   pc = unwrap_or c.goes_to expected;
 }
 
--- So what is told of a step determines the core after it.
+-- So what is shown of a step determines the core after it.
 abbrev pub Replays : Type 0
 Replays = (expected : ℕ) (s s' : State) → IsCore s → IsCore s' →
     core_after expected s (core_changes expected s s') ≡ s'

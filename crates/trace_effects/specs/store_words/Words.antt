@@ -6,9 +6,9 @@ use Rattle.address_map.specs.Bytes.{Bytes, in_range, word_at}
 use Rattle.trace_effects.specs.declared.store_words.changes.WordChange.{WordChange}
 use Rattle.trace_effects.specs.declared.store_words.changes.WordChanges.{WordChanges}
 
--- Which words other lines of a step tell: those of the error block, where an error is told.
-abbrev pub is_told : Bool → ℕ → Bool
-is_told has_error a = has_error && in_range error_block_start 256 a
+-- Which words other lines of a step show: those of the error block, where an error is shown.
+abbrev pub is_shown_elsewhere : Bool → ℕ → Bool
+is_shown_elsewhere has_error a = has_error && in_range error_block_start 256 a
 
 -- a word that is mapped, and isn't what it was; one that wasn't mapped counts as 0
 abbrev pub has_word_changed : Bytes → Bytes → ℕ → Bool
@@ -17,18 +17,20 @@ has_word_changed b b' a = b'.mapped a && not (word_at b.at a == word_at b'.at a)
 abbrev pub word_change : Bytes → Bytes → ℕ → WordChange
 word_change b b' a = record { at = a; old = word_at b.at a; new = word_at b'.at a }
 
--- the change of a word, if it has one that isn't told elsewhere
+-- the change of a word, if it has one that isn't shown elsewhere
 abbrev pub word_change_at : (ℕ → Bool) → Bytes → Bytes → ℕ → List WordChange
-word_change_at told b b' a = if has_word_changed b b' a && not (told a) then word_change b b' a ∷ [] else []
+word_change_at reported b b' a = if has_word_changed b b' a && not (reported a) then word_change b b' a ∷ []
+    else []
 
 -- those of so many first words of memory
 unfoldable pub word_changes_below : (ℕ → Bool) → Bytes → Bytes → ℕ → List WordChange
-word_changes_below told b b' zero = []
-word_changes_below told b b' (suc n) = word_changes_below told b b' n ++ word_change_at told b b' (4 * n)
+word_changes_below reported b b' zero = []
+word_changes_below reported b b' (suc n) = word_changes_below reported b b' n ++ word_change_at reported b
+    b' (4 * n)
 
 -- those of all
 abbrev pub all_changes : (ℕ → Bool) → Bytes → Bytes → List WordChange
-all_changes told b b' = word_changes_below told b b' 16777216
+all_changes reported b b' = word_changes_below reported b b' 16777216
 
 -- what is kept of some changes: the first 16, and how many there are
 pub record IsSummary (kept : WordChanges) (all : List WordChange) : Type 0 where

@@ -1,5 +1,5 @@
 -- What an instruction loaded, as words of its line: where the first of its words stands, and how many
--- there are where they are more. Where LDR leaves its register as it was, which then isn't told, what
+-- there are where they are more. Where LDR leaves its register as it was, which then isn't shown, what
 -- stands in memory is.
 use Rattle.std.specs.Prelude.{ℕ, Bool, ◌&&◌, ◌==◌, nat_lt, List, [], ◌++◌, codes, Option, Some, None, if◌then◌else◌}
 use Rattle.std.specs.Fmt.{decimal}

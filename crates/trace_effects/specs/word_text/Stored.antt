@@ -1,5 +1,5 @@
 -- The words that an instruction stored to, as words of a line: where each stands, its new value and
--- its old one. One is told on the instruction's line, more each on a line below.
+-- its old one. One is shown on the instruction's line, more each on a line below.
 use Rattle.std.specs.Prelude.{ℕ, zero, suc, ◌==◌, List, [], ◌∷◌, ◌++◌, codes, length, slice_index, Result, Ok, Err, if◌then◌else◌}
 use Rattle.profile.specs.Digits.{hex_word}
 use Rattle.profile.specs.declared.fault.Fault.{Fault}
@@ -14,7 +14,8 @@ word_or_zero (Err fault) = 0
 -- so many words from an address on; addresses count modulo 2^32
 unfoldable pub word_values_from : Bytes → ℕ → ℕ → List ℕ
 word_values_from b at zero = []
-word_values_from b at (suc count) = word_or_zero (word_loaded b at) ∷ word_values_from b (address_further at 4) count
+word_values_from b at (suc count) = word_or_zero (word_loaded b at) ∷ word_values_from b
+    (address_further at 4) count
 
 -- ` [00008014]=00000000 was 00000005`
 abbrev pub stored_word : Bytes → ℕ → ℕ → List ℕ

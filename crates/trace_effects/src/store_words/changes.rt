@@ -4,8 +4,8 @@ ghost use Rattle.std.specs.Prelude.{◌≡◌, ◌≤◌, ◌<◌, ◌+◌, ◌*
 ghost use Rattle.address_map.specs.Bytes.{word_at};
 ghost use Rattle.address_map.specs.Lent.{IsLent};
 ghost use Rattle.address_map.specs.Memory.{byte_at, bytes_of};
-ghost use Rattle.swi_dispatch.specs.Parts.{state_of};
-ghost use Rattle.trace_effects.specs.store_words.Words.{IsSummary, all_changes, word_changes_below, is_told};
+ghost use Rattle.swi_dispatch.specs.GuestState.{state_of};
+ghost use Rattle.trace_effects.specs.store_words.Words.{IsSummary, all_changes, word_changes_below, is_shown_elsewhere};
 
 use crate::store_words::lanes::{LANE_WORDS, PAGE_WORDS, has_same_lane};
 use crate::store_words::pages::{PAGES, past_unmapped};
@@ -36,9 +36,9 @@ pub struct WordChanges {
 }
 
 /// The words of a machine's mapped memory that differ from those of another memory, in which a word that
-/// isn't mapped counts as 0; but not those of the error block where an error is told.
+/// isn't mapped counts as 0; but not those of the error block where an error is shown.
 pub fn changed_words(before: &AddressMap, machine: &Machine, has_error: bool) -> WordChanges
-    ensures { IsSummary result (all_changes (is_told has_error)
+    ensures { IsSummary result (all_changes (is_shown_elsewhere has_error)
         (bytes_of before.now) (state_of machine.now.guest).store.bytes) }
 {
     let after = machine.memory();
@@ -64,9 +64,9 @@ impl WordChanges {
     // The words of one page more.
     fn add_page(&mut self, before: &AddressMap, after: &AddressMap, has_error: bool, page: u32)
         requires page { page < 16384 }
-        requires summary { IsSummary self.old (word_changes_below (is_told has_error)
+        requires summary { IsSummary self.old (word_changes_below (is_shown_elsewhere has_error)
             (bytes_of before.now) (bytes_of after.now) (1024 * page)) }
-        ensures { IsSummary self.new (word_changes_below (is_told has_error)
+        ensures { IsSummary self.new (word_changes_below (is_shown_elsewhere has_error)
             (bytes_of before.now) (bytes_of after.now) (1024 * (page + 1))) }
     {
         let at = PAGE_SIZE * page;
@@ -92,9 +92,9 @@ impl WordChanges {
         requires page { page < 16384 }
         requires old { IsLent (bytes_of before.now) (4096 * page) 4096 old.now }
         requires new { IsLent (bytes_of after.now) (4096 * page) 4096 new.now }
-        requires summary { IsSummary self.old (word_changes_below (is_told has_error)
+        requires summary { IsSummary self.old (word_changes_below (is_shown_elsewhere has_error)
             (bytes_of before.now) (bytes_of after.now) (1024 * page)) }
-        ensures { IsSummary self.new (word_changes_below (is_told has_error)
+        ensures { IsSummary self.new (word_changes_below (is_shown_elsewhere has_error)
             (bytes_of before.now) (bytes_of after.now) (1024 * (page + 1))) }
     {
         for lane in 0..PAGE_WORDS / LANE_WORDS {
@@ -115,9 +115,9 @@ impl WordChanges {
         count: u32,
     )
         requires words { first + count ≤ 2 ^ 24 }
-        requires summary { IsSummary self.old (word_changes_below (is_told has_error)
+        requires summary { IsSummary self.old (word_changes_below (is_shown_elsewhere has_error)
             (bytes_of before.now) (bytes_of after.now) first) }
-        ensures { IsSummary self.new (word_changes_below (is_told has_error)
+        ensures { IsSummary self.new (word_changes_below (is_shown_elsewhere has_error)
             (bytes_of before.now) (bytes_of after.now) (first + count)) }
     {
         for index in 0..count {
@@ -128,15 +128,15 @@ impl WordChanges {
     // One word more, if it differs.
     fn add_word(&mut self, before: &AddressMap, after: &AddressMap, has_error: bool, number: u32)
         requires number { number < 2 ^ 24 }
-        requires summary { IsSummary self.old (word_changes_below (is_told has_error)
+        requires summary { IsSummary self.old (word_changes_below (is_shown_elsewhere has_error)
             (bytes_of before.now) (bytes_of after.now) number) }
-        ensures { IsSummary self.new (word_changes_below (is_told has_error)
+        ensures { IsSummary self.new (word_changes_below (is_shown_elsewhere has_error)
             (bytes_of before.now) (bytes_of after.now) (number + 1)) }
     {
         let at = 4 * number;
         let old = word_in(before, at);
         let new = word_in(after, at);
-        if old != new && after.translate(at).is_some() && !is_told(has_error, at) {
+        if old != new && after.translate(at).is_some() && !is_shown_elsewhere(has_error, at) {
             self.add(WordChange { at, old, new });
         }
     }
@@ -163,9 +163,9 @@ fn word_in(memory: &AddressMap, at: u32) -> u32
     }
 }
 
-// Whether other lines of a step tell a word.
-fn is_told(has_error: bool, at: u32) -> bool
-    ensures { result ≡ is_told has_error at }
+// Whether other lines of a step show a word.
+fn is_shown_elsewhere(has_error: bool, at: u32) -> bool
+    ensures { result ≡ is_shown_elsewhere has_error at }
 {
     has_error && at >= ERROR_BLOCK && at - ERROR_BLOCK < ERROR_BLOCK_BYTES
 }

@@ -3,12 +3,12 @@
 
 ghost use Rattle.trace_effects.specs.store_words.Laws.{ExplainsBytes, ListsChanges};
 
-/// Each mapped byte that differs lies in a word that is listed, or in one that other lines tell.
+/// Each mapped byte that differs lies in a word that is listed, or in one that other lines show.
 pub fn changes_explain_bytes()
     ensures { ExplainsBytes }
 {}
 
-/// Each word that is listed is mapped and differs, and has the old and the new value that it tells.
+/// Each word that is listed is mapped and differs, and has the old and the new value that it shows.
 pub fn changes_are_true()
     ensures { ListsChanges }
 {}

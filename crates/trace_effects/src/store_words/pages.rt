@@ -1,7 +1,7 @@
 //! The pages of a machine's memory that are mapped, found without a look at each that isn't.
 
 ghost use Rattle.std.specs.Prelude.{ℕ, ◌≡◌, ◌≤◌, ◌<◌, ◌*◌, ◌^◌, false};
-ghost use Rattle.dynamic_areas.specs.Areas.{Land};
+ghost use Rattle.dynamic_areas.specs.Areas.{AreaTable};
 ghost use Rattle.address_map.specs.Memory.{is_mapped};
 ghost use Rattle.trace_effects.specs.store_words.Pages.{AreUnmappedPages, IsNoStartBetween};
 

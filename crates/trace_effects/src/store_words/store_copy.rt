@@ -3,7 +3,7 @@
 ghost use Rattle.std.specs.Prelude.{◌≡◌, ◌≤◌, true, IfOk};
 ghost use Rattle.address_map.specs.Memory.{page_total};
 ghost use Rattle.os_heap.specs.Store.{IsSound, store_of};
-ghost use Rattle.swi_dispatch.specs.Parts.{state_of};
+ghost use Rattle.swi_dispatch.specs.GuestState.{state_of};
 ghost use Rattle.trace_effects.specs.store_words.Copies.{kept_in, kept_of};
 
 use crate::store_words::pages::{PAGES, past_unmapped};
@@ -75,14 +75,14 @@ impl StoreCopy {
     /// Where the host has no memory for it; none is asked for where the other copy is of a memory of
     /// as many pages.
     pub fn over(
-        spare: Option<Box<StoreCopy>>,
+        scratch: Option<Box<StoreCopy>>,
         alloc: Global,
         machine: &Machine,
     ) -> Result<Box<StoreCopy>, AllocError>
         ensures kept { IfOk result
             (λ copy. kept_in copy.value ≡ kept_of (state_of machine.now.guest)) }
     {
-        if let Some(mut copy) = spare {
+        if let Some(mut copy) = scratch {
             if copy.renew(machine) {
                 return Ok(copy);
             }

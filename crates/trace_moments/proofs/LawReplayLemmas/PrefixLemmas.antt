@@ -7,8 +7,8 @@ use Rattle.arm_core.specs.State.{State}
 use Rattle.flex_store.specs.declared.blocks.FlexBlock.{FlexBlock}
 use Rattle.trace_effects.specs.changes.Laws.{core_after}
 use Rattle.trace_effects.specs.declared.changes.status.Flag.TheVariants.{Negative, Zero, Carry, Overflow, InterruptsOff, FastInterruptsOff}
-use Rattle.trace_effects.specs.declared.told_words.words.ToldWord.{ToldWord}
-use Rattle.trace_effects.specs.told_words.Replay.{word_after, words_after}
+use Rattle.trace_effects.specs.declared.shown_words.words.ShownWord.{ShownWord}
+use Rattle.trace_effects.specs.shown_words.Replay.{word_after, words_after}
 use Rattle.trace_effects.proofs.ChangesLemmas.ReplayLemmas.{bools, modes, places}
 use Rattle.trace_store_text.specs.declared.items.changes.ItemChange.{ItemChange}
 use Rattle.trace_store_text.specs.declared.modules.marks.InstanceMark.{InstanceMark}
@@ -22,10 +22,10 @@ use Rattle.trace_moments.specs.declared.frames.ShownFrame.{ShownFrame}
 use Rattle.trace_moments.specs.law_replay.Laws.{IsSameMachine, IsRecordOf, PrefixesReplay, MachineSeen, MomentRecord, records_of, first_of_all, last_seen, seen_after, seen_after_all}
 
 -- what a list of words leaves at an address depends on what stood there alone
-word_alike : (c : ToldWord) (f g : ℕ → ℕ) (a : ℕ) → f a ≡ g a → word_after c f a ≡ word_after c g a
+word_alike : (c : ShownWord) (f g : ℕ → ℕ) (a : ℕ) → f a ≡ g a → word_after c f a ≡ word_after c g a
 word_alike c f g a h = rw h refl
 
-words_alike : (cs : List ToldWord) (f g : ℕ → ℕ) (a : ℕ) → f a ≡ g a → words_after cs f a ≡ words_after cs g a
+words_alike : (cs : List ShownWord) (f g : ℕ → ℕ) (a : ℕ) → f a ≡ g a → words_after cs f a ≡ words_after cs g a
 words_alike [] f g a h = h
 words_alike (c ∷ cs) f g a h = words_alike cs (word_after c f) (word_after c g) a (word_alike c f g a h)
 

@@ -18,8 +18,8 @@ use Rattle.profile.specs.Reasons.{module_reason}
 use Rattle.address_map.specs.Bytes.{Bytes}
 use Rattle.arm_core.specs.State.{State, register_in, register_of}
 use Rattle.arm_core.specs.declared.psr.Mode.TheVariants.{Supervisor}
-use Rattle.arm_core.specs.declared.turn.Turn.{Turn}
-use Rattle.arm_core.specs.declared.turn.Turn.TheVariants as turn
+use Rattle.arm_core.specs.declared.turn.StepEnd.{StepEnd}
+use Rattle.arm_core.specs.declared.turn.StepEnd.TheVariants as turn
 use Rattle.arm_step.specs.Step.{result_of_step}
 use Rattle.image_loader.specs.Entries.{Entry}
 use Rattle.instances_table.specs.declared.plans.code.Code.{Code}
@@ -41,16 +41,16 @@ use Rattle.swi_dispatch_plans.specs.ModulePlans.{clear_planned, delete_planned, 
 use Rattle.swi_dispatch_plans.specs.Openings.{opening_asked}
 use Rattle.swi_dispatch_plans.specs.Reading.{start_found}
 use Rattle.swi_dispatch_plans.specs.Start.{Start}
-use Rattle.swi_dispatch_plans.specs.Trials.{world_carried}
+use Rattle.swi_dispatch_plans.specs.Trials.{module_state_carried}
 use Rattle.swi_dispatch_plans.specs.declared.openings.Opening.{Opening}
-use Rattle.swi_dispatch_plans.specs.world.World.{World}
+use Rattle.swi_dispatch_plans.specs.module_state.ModuleState.{ModuleState}
 use Rattle.swi_dispatch_guest.specs.declared.halt.Halt.{Halt}
 use Rattle.swi_dispatch_guest.specs.declared.halt.Halt.TheVariants as halt
 use Rattle.swi_dispatch_guest.specs.Additions.{Planned, copy_planned, insertion_planned, load_planned, named_load_planned, plan_alone}
 use Rattle.swi_dispatch_guest.specs.Answers.{Answer, refusal_answer}
 use Rattle.swi_dispatch_guest.specs.Calls.{call_answer}
 use Rattle.swi_dispatch_guest.specs.Gates.{call_ended_by, carried_on, come_back, ended_of, entered_if, entered_with, entry_left, fault_ahead, frame_closed, frame_left, frames_by, gated_by, outcome_left, outcome_of_gate, plan_left, state_after_plan, state_with_code_entered, swi_left, unless_fault}
-use Rattle.swi_dispatch_guest.specs.MachineState.{MachineState, StepOutcome, machine_world, quiet, setting_of, with_world}
+use Rattle.swi_dispatch_guest.specs.MachineState.{MachineState, StepOutcome, machine_module_state, silent, setting_of, with_module_state}
 use Rattle.swi_dispatch_guest.specs.ModuleStart.{opened_at}
 use Rattle.swi_dispatch_guest.specs.Returns.{error_answered, gone_back, outcome_of_error, outcome_of_halt}
 use Rattle.swi_dispatch_guest.specs.Step.{begun_alone, call_of, call_refused, called_by, is_exit, machine_step, module_entered, module_loaded, os_module_called, os_module_called_for, outcome_of_answer, outcome_of_call, outcome_of_end, outcome_of_module_swi, outcome_of_planned, outcome_of_turn, result_of_instruction, store_called, unless_halted, without_x}
@@ -131,9 +131,9 @@ unfolding one_for
 few_for cpu call (Some code) = omega arith
 few_for cpu call None = omega arith
 
-carried_opens : (s t : MachineState) (call : Call) (p : Plan) → GoesOn s t → OpensOne s (quiet (carried_on t call p))
+carried_opens : (s t : MachineState) (call : Call) (p : Plan) → GoesOn s t → OpensOne s (silent (carried_on t call p))
 carried_opens s t call p same =
-    let c : Carried World = world_carried (machine_world t) p in
+    let c : Carried ModuleState = module_state_carried (machine_module_state t) p in
     record {
       opened = one_for t.cpu call c.code;
       are = (plan_goes_on (state_with_code_entered t call c) call (ended_of c)).frames
@@ -145,7 +145,7 @@ carried_opens s t call p same =
 planned_opens : (s : MachineState) (x : Bool) (next : ℕ) (enters : Bool) (r : Result Planned ErrorNumber) → OpensOne s (outcome_of_planned s x next enters r)
 unfolding outcome_of_planned
 planned_opens s x next enters (Ok w) =
-    carried_opens s (with_world s w.world) (call_of s x next enters) w.plan (record { frames = refl; halt = refl })
+    carried_opens s (with_module_state s w.module_state) (call_of s x next enters) w.plan (record { frames = refl; halt = refl })
 planned_opens s x next enters (Err e) = refused_opens s x next e
 
 module_opens : (s : MachineState) (x : Bool) (next : ℕ) (r : Result Opening ErrorNumber) → OpensOne s (module_entered s x next r)
@@ -204,7 +204,7 @@ record HasClosed (s : MachineState) (o : StepOutcome) : Type 0 where
 abbrev GateEnds : MachineState → StepOutcome → Type 0
 GateEnds s o = IsLeft s o ⊎ HasClosed s o
 
-closes_alone : (s : MachineState) (f : Frame) → HasClosed s (quiet (frame_closed s f))
+closes_alone : (s : MachineState) (f : Frame) → HasClosed s (silent (frame_closed s f))
 closes_alone s f = record { halt = refl; opened = []; are = sym (append-nil (frames_after_close s.tables.frames)); few = omega arith }
 
 error_ends : (s : MachineState) (x : Bool) (o : StepOutcome) → HasClosed s o → GateEnds s (outcome_of_error s x o)
@@ -212,17 +212,17 @@ error_ends s true o closed = inr closed
 error_ends s false o closed = inl refl
 
 swi_ends_by : (s : MachineState) (f : Frame) (refused : Bool)
-    → GateEnds s (if refused then outcome_of_error s f.call.is_x (quiet (frame_closed s f)) else quiet (frame_closed s f))
-swi_ends_by s f true = error_ends s f.call.is_x (quiet (frame_closed s f)) (closes_alone s f)
+    → GateEnds s (if refused then outcome_of_error s f.call.is_x (silent (frame_closed s f)) else silent (frame_closed s f))
+swi_ends_by s f true = error_ends s f.call.is_x (silent (frame_closed s f)) (closes_alone s f)
 swi_ends_by s f false = inr (closes_alone s f)
 
 swi_ends : (s : MachineState) (f : Frame) → GateEnds s (swi_left s f)
 swi_ends s f = swi_ends_by s f s.cpu.psr.overflow
 
-carried_closes : (s : MachineState) (f : Frame) (p : Plan) → HasClosed s (quiet (carried_on (come_back s f) f.call p))
+carried_closes : (s : MachineState) (f : Frame) (p : Plan) → HasClosed s (silent (carried_on (come_back s f) f.call p))
 carried_closes s f p =
     let t : MachineState = come_back s f in
-    let c : Carried World = world_carried (machine_world t) p in
+    let c : Carried ModuleState = module_state_carried (machine_module_state t) p in
     let on = plan_goes_on (state_with_code_entered t f.call c) f.call (ended_of c) in
     record {
       halt = on.halt;
@@ -239,7 +239,7 @@ plan_ends : (s : MachineState) (f : Frame) (p : Option Plan) → GateEnds s (pla
 plan_ends s f None = inl refl
 plan_ends s f (Some p) =
     let q : Plan = plan_after_code p (outcome_left s.cpu) in
-    fault_ends s f q (fault_ahead f.call (machine_world s) q)
+    fault_ends s f q (fault_ahead f.call (machine_module_state s) q)
 
 frame_ends : (s : MachineState) (f : Frame) (kind : FrameKind) (p : Option Plan) → GateEnds s (frame_left s f kind p)
 frame_ends s f (frame.Swi number) p = swi_ends s f
@@ -253,7 +253,7 @@ innermost_ends s (Some f) = elim (cases_Bool (register_in Supervisor s.cpu 13 ==
 ]
 
 -- a turn of the core
-abbrev TurnEnds : MachineState → Result (State × Bytes) Turn → StepOutcome → Type 0
+abbrev TurnEnds : MachineState → Result (State × Bytes) StepEnd → StepOutcome → Type 0
 TurnEnds s (Err turn.Gate) o = GateEnds s o
 TurnEnds s _ o = OpensOne s o
 
@@ -266,34 +266,34 @@ open_kept s o opens =
 
 gate_kept : (s : MachineState) (o : StepOutcome) → s.halt ≡ None → GateEnds s o
     → AreKept s.tables.frames o.now.tables.frames (if is_none o.now.halt then length s.tables.frames - 1 else count_open s o.now)
-gate_kept s o awake (inl same) =
+gate_kept s o unhalted (inl same) =
     let long : length o.now.tables.frames ≡ length s.tables.frames = ap (λ (fs : List Frame). length fs) same in
     elim (cases_Bool (is_none o.now.halt)) [
       | inl goes_on ↦ rw goes_on (kept_if_left s.tables.frames o.now.tables.frames (length s.tables.frames - 1) same (omega arith) (omega arith))
       | inr halted ↦ rw halted (kept_if_left s.tables.frames o.now.tables.frames (count_open s o.now) same (omega arith) (omega arith))
     ]
-gate_kept s o awake (inr closed) =
-    let goes_on : is_none o.now.halt ≡ true = ap (λ (h : Option Halt). is_none h) (closed.halt ∙ awake) in
+gate_kept s o unhalted (inr closed) =
+    let goes_on : is_none o.now.halt ≡ true = ap (λ (h : Option Halt). is_none h) (closed.halt ∙ unhalted) in
     rw goes_on (kept_if_closed s.tables.frames closed.opened o.now.tables.frames closed.are closed.few)
 
 -- so of each step, and of each call from outside
 halted_opens : (s : MachineState) (kept : Option Halt) (o : StepOutcome) → OpensOne s o → OpensOne s (unless_halted s kept o)
-halted_opens s (Some h) o opens = opens_none s (quiet s) refl
+halted_opens s (Some h) o opens = opens_none s (silent s) refl
 halted_opens s None o opens = opens
 
-turn_ends : (images : List Entry) (s : MachineState) (r : Result (State × Bytes) Turn) → TurnEnds s r (outcome_of_turn images s r)
+turn_ends : (images : List Entry) (s : MachineState) (r : Result (State × Bytes) StepEnd) → TurnEnds s r (outcome_of_turn images s r)
 turn_ends images s (Ok w) = opens_none s (outcome_of_turn images s (Ok w)) refl
-turn_ends images s (Err turn.Done) = opens_none s (quiet s) refl
+turn_ends images s (Err turn.Done) = opens_none s (silent s) refl
 turn_ends images s (Err (turn.Swi n)) = call_opens images s (bit_of n 17) ((s.cpu.pc + 4) % 2 ^ 26) (without_x n)
 turn_ends images s (Err turn.Gate) = innermost_ends s (innermost_frame s.tables.frames)
 turn_ends images s (Err (turn.Fault f)) = opens_none s (outcome_of_halt s (halt.Fault f)) refl
 
-awake_ends : (images : List Entry) (s : MachineState) (kept : Option Halt) (r : Result (State × Bytes) Turn) → kept ≡ None
+unhalted_ends : (images : List Entry) (s : MachineState) (kept : Option Halt) (r : Result (State × Bytes) StepEnd) → kept ≡ None
     → TurnEnds s r (unless_halted s kept (outcome_of_turn images s r))
-awake_ends images s None r awake = turn_ends images s r
-awake_ends images s (Some h) r awake = absurd (let no : Some h ≡ None = awake in cc)
+unhalted_ends images s None r unhalted = turn_ends images s r
+unhalted_ends images s (Some h) r unhalted = absurd (let no : Some h ≡ None = unhalted in cc)
 
-gate_turn : (s : MachineState) (r : Result (State × Bytes) Turn) (o : StepOutcome) → r ≡ Err turn.Gate → TurnEnds s r o → GateEnds s o
+gate_turn : (s : MachineState) (r : Result (State × Bytes) StepEnd) (o : StepOutcome) → r ≡ Err turn.Gate → TurnEnds s r o → GateEnds s o
 gate_turn s (Ok w) o is ends = absurd (let no : Ok w ≡ Err turn.Gate = is in cc)
 gate_turn s (Err turn.Done) o is ends = absurd (let no : Err turn.Done ≡ Err turn.Gate = is in cc)
 gate_turn s (Err (turn.Swi n)) o is ends = absurd (let no : Err (turn.Swi n) ≡ Err turn.Gate = is in cc)
@@ -306,8 +306,8 @@ at_gate s here = rw here refl
 
 gate_step : (images : List Entry) (s : MachineState) → s.halt ≡ None → s.cpu.pc == return_gate ≡ true → GateEnds s (machine_step images s)
 unfolding machine_step
-gate_step images s awake here =
-    gate_turn s (result_of_instruction s) (machine_step images s) (at_gate s here) (awake_ends images s s.halt (result_of_instruction s) awake)
+gate_step images s unhalted here =
+    gate_turn s (result_of_instruction s) (machine_step images s) (at_gate s here) (unhalted_ends images s s.halt (result_of_instruction s) unhalted)
 
 -- no more than one more is open, whatever the turn is
 few_opened : (s : MachineState) (o : StepOutcome) → OpensOne s o → length o.now.tables.frames ≤ length s.tables.frames + 1
@@ -323,7 +323,7 @@ few_at_gate s o (inr closed) =
     ap (λ (fs : List Frame). length fs) closed.are ∙ length-append (take (length s.tables.frames - 1) s.tables.frames) closed.opened in
     omega (arith, closed.few, length-take-le (length s.tables.frames - 1) s.tables.frames (omega arith))
 
-few_turned : (s : MachineState) (r : Result (State × Bytes) Turn) (o : StepOutcome) → TurnEnds s r o
+few_turned : (s : MachineState) (r : Result (State × Bytes) StepEnd) (o : StepOutcome) → TurnEnds s r o
     → length o.now.tables.frames ≤ length s.tables.frames + 1
 few_turned s (Ok w) o ends = few_opened s o ends
 few_turned s (Err turn.Done) o ends = few_opened s o ends
@@ -333,7 +333,7 @@ few_turned s (Err (turn.Fault f)) o ends = few_opened s o ends
 
 other_step : (images : List Entry) (s : MachineState) → s.halt ≡ None → s.cpu.pc == return_gate ≡ false → OpensOne s (machine_step images s)
 unfolding machine_step
-other_step images s awake other =
+other_step images s unhalted other =
     let elsewhere : s.cpu.pc ≢ return_gate = λ same. false≢true (sym other ∙ eq-eqb s.cpu.pc return_gate same) in
     let keeps : KeepsFrames s (machine_step images s) = only_the_gate_closes images s elsewhere in
     let long : length (machine_step images s).now.tables.frames ≡ length s.tables.frames + length keeps.opened =
@@ -341,15 +341,15 @@ other_step images s awake other =
     record {
       opened = keeps.opened;
       are = keeps.are;
-      few = omega (arith, few_turned s (result_of_instruction s) (machine_step images s) (awake_ends images s s.halt (result_of_instruction s) awake));
+      few = omega (arith, few_turned s (result_of_instruction s) (machine_step images s) (unhalted_ends images s s.halt (result_of_instruction s) unhalted));
     }
 
 step_kept : (images : List Entry) (s : MachineState) → s.halt ≡ None
     → AreKept s.tables.frames (machine_step images s).now.tables.frames (count_kept s (machine_step images s).now)
-step_kept images s awake =
+step_kept images s unhalted =
     elim (cases_Bool (s.cpu.pc == return_gate)) [
-      | inl here ↦ rw here (gate_kept s (machine_step images s) awake (gate_step images s awake here))
-      | inr other ↦ rw other (open_kept s (machine_step images s) (other_step images s awake other))
+      | inl here ↦ rw here (gate_kept s (machine_step images s) unhalted (gate_step images s unhalted here))
+      | inr other ↦ rw other (open_kept s (machine_step images s) (other_step images s unhalted other))
     ]
 
 call_from_outside : (images : List Entry) (s : MachineState) (number : ℕ) → OpensOne s (store_called images s number)
@@ -365,8 +365,8 @@ load_from_outside images s text =
     halted_opens s s.halt (outcome_of_planned s true s.cpu.pc false planned) (planned_opens s true s.cpu.pc false planned)
 
 pub steps_keep : StepsKeepFrames
-steps_keep images s awake = record {
-  step = kept_shown s.tables.frames (machine_step images s).now.tables.frames (count_kept s (machine_step images s).now) (step_kept images s awake);
+steps_keep images s unhalted = record {
+  step = kept_shown s.tables.frames (machine_step images s).now.tables.frames (count_kept s (machine_step images s).now) (step_kept images s unhalted);
   call = λ number. kept_shown s.tables.frames (store_called images s number).now.tables.frames (count_open s (store_called images s number).now)
       (open_kept s (store_called images s number) (call_from_outside images s number));
   load = λ text. kept_shown s.tables.frames (module_loaded images s text).now.tables.frames (count_open s (module_loaded images s text).now)

@@ -20,11 +20,11 @@ use Rattle.image_loader.specs.Entries.{Entry}
 use Rattle.address_map.specs.Bytes.{Bytes, in_range, with_word_at}
 use Rattle.address_map.proofs.Stores.{in_range-cases}
 use Rattle.arm_core.specs.State.{State, register_of, with_register}
-use Rattle.arm_core.specs.declared.turn.Turn.{Turn}
-use Rattle.arm_core.specs.declared.turn.Turn.TheVariants as turn
+use Rattle.arm_core.specs.declared.turn.StepEnd.{StepEnd}
+use Rattle.arm_core.specs.declared.turn.StepEnd.TheVariants as turn
 use Rattle.os_heap.specs.Calls.{block_sized, heap_description}
 use Rattle.os_heap.specs.Store.{Store}
-use Rattle.dynamic_areas.specs.Areas.{Land, area_in, areas_after_renumber, extent_asked, next_number, with_areas}
+use Rattle.dynamic_areas.specs.Areas.{AreaTable, area_in, areas_after_renumber, extent_asked, next_number, with_areas}
 use Rattle.flex_store.proofs.Holding.{bytes_beside, word_beside}
 use Rattle.flex_store.specs.Calls.{flex_block_size}
 use Rattle.instances.specs.Reading.{instance_info, instance_looked_up}
@@ -37,13 +37,13 @@ use Rattle.swi_dispatch_answers.specs.declared.refusal.Refusal.{Refusal}
 use Rattle.swi_dispatch_answers.specs.declared.refusal.Refusal.TheVariants as refusal
 use Rattle.swi_dispatch_answers.specs.flex.Calls.{flex_called, state_in}
 use Rattle.swi_dispatch_plans.specs.modules.Calls.{module_called_for, result_of_module_call}
-use Rattle.swi_dispatch_plans.specs.modules.Naming.{looked_for, place_asked, with_found, with_told}
-use Rattle.swi_dispatch_plans.specs.store.Areas.{area_called, area_called_for, area_read, with_area_told, with_extent}
+use Rattle.swi_dispatch_plans.specs.modules.Naming.{looked_for, place_asked, with_found, with_shown}
+use Rattle.swi_dispatch_plans.specs.store.Areas.{area_called, area_called_for, area_read, with_area_shown, with_extent}
 use Rattle.swi_dispatch_plans.specs.store.Heaps.{heap_called, heap_called_for}
 use Rattle.swi_dispatch_guest.proofs.Kept.{short_name}
 use Rattle.swi_dispatch_guest.specs.Answers.{Answer, refusal_answer, went_on}
-use Rattle.swi_dispatch_guest.specs.Calls.{call_answer, machine_flex, on_estate, on_flex, on_store, on_world, printable_at, wrote_text_after, wrote_text_at}
-use Rattle.swi_dispatch_guest.specs.MachineState.{MachineState, StepOutcome, machine_estate, machine_world, quiet}
+use Rattle.swi_dispatch_guest.specs.Calls.{call_answer, machine_flex, on_area_store, on_flex, on_store, on_module_state, printable_at, wrote_text_after, wrote_text_at}
+use Rattle.swi_dispatch_guest.specs.MachineState.{MachineState, StepOutcome, machine_area_store, machine_module_state, silent}
 use Rattle.swi_dispatch_guest.specs.Returns.{outcome_of_halt}
 use Rattle.swi_dispatch_guest.specs.Step.{call_of, call_refused, called_by, handler_entered, is_exit, machine_step, os_module_called, os_module_called_for, outcome_of_answer, outcome_of_call, outcome_of_end, outcome_of_module_swi, outcome_of_turn, result_of_instruction, swi_called, unless_halted, without_x}
 use Rattle.swi_dispatch_guest.specs.declared.halt.Halt.{Halt}
@@ -94,19 +94,19 @@ module _ (s : MachineState) where
   went next (Ok t) is = is
   went next (Err e) is = alike
 
-  -- a core that is told something, and all else as it was
+  -- a core that is shown something, and all else as it was
   of_store : {A : Type 0} (r : Result A ErrorNumber) (k : A → State) → Went (on_store s (bind (or_error r) (λ x. Ok (k x, s.store))))
   of_store (Ok x) k = record { store = refl; modules = refl; flex = refl; frames = refl }
   of_store (Err e) k = tt
 
-  of_estate : {A : Type 0} (r : Result A ErrorNumber) (k : A → State) (l : A → Land)
-      → Went (on_estate s (bind (or_error r) (λ x. Ok (k x, record (machine_estate s) { land = l x }))))
-  of_estate (Ok x) k l = record { store = refl; modules = refl; flex = refl; frames = refl }
-  of_estate (Err e) k l = tt
+  of_area_store : {A : Type 0} (r : Result A ErrorNumber) (k : A → State) (l : A → AreaTable)
+      → Went (on_area_store s (bind (or_error r) (λ x. Ok (k x, record (machine_area_store s) { area_table = l x }))))
+  of_area_store (Ok x) k l = record { store = refl; modules = refl; flex = refl; frames = refl }
+  of_area_store (Err e) k l = tt
 
-  of_world : {A : Type 0} (r : Result A ErrorNumber) (k : A → State) → Went (on_world s (bind (or_error r) (λ x. Ok (k x, machine_world s))))
-  of_world (Ok x) k = record { store = refl; modules = refl; flex = refl; frames = refl }
-  of_world (Err e) k = tt
+  of_module_state : {A : Type 0} (r : Result A ErrorNumber) (k : A → State) → Went (on_module_state s (bind (or_error r) (λ x. Ok (k x, machine_module_state s))))
+  of_module_state (Ok x) k = record { store = refl; modules = refl; flex = refl; frames = refl }
+  of_module_state (Err e) k = tt
 
   of_flex : {A : Type 0} (r : Result A ErrorNumber) (k : A → State) → Went (on_flex s (bind (or_error r) (λ x. Ok (k x, machine_flex s))))
   of_flex (Ok x) k = record { store = refl; modules = refl; flex = refl; frames = refl }
@@ -127,41 +127,41 @@ module _ (s : MachineState) where
   unfolding heap_called
   heap_answer next asks = went next (on_store s (heap_called s.cpu s.store)) (heap_for (heap_reason (register_of s.cpu 0)) asks)
 
-  area_for : (why : Option AreaReason) → area_asks why ≡ true → Went (on_estate s (area_called_for s.cpu (machine_estate s) why))
+  area_for : (why : Option AreaReason) → area_asks why ≡ true → Went (on_area_store s (area_called_for s.cpu (machine_area_store s) why))
   area_for (Some area.Create) asks = absurd (false≢true asks)
   area_for (Some area.Remove) asks = absurd (false≢true asks)
   area_for (Some area.Info) asks =
-      of_estate (area_in s.tables.land.areas (register_of s.cpu 1)) (λ a. with_area_told s.cpu a) (λ a. s.tables.land)
+      of_area_store (area_in s.tables.area_table.areas (register_of s.cpu 1)) (λ a. with_area_shown s.cpu a) (λ a. s.tables.area_table)
   area_for (Some area.Enumerate) asks =
-      of_estate (next_number s.tables.land.areas (register_of s.cpu 1)) (λ n. with_register s.cpu 1 n) (λ n. s.tables.land)
+      of_area_store (next_number s.tables.area_table.areas (register_of s.cpu 1)) (λ n. with_register s.cpu 1 n) (λ n. s.tables.area_table)
   area_for (Some area.Renumber) asks =
-      of_estate (areas_after_renumber s.tables.land.areas (register_of s.cpu 1) (register_of s.cpu 2)) (λ areas. s.cpu)
-      (λ areas. with_areas s.tables.land areas)
+      of_area_store (areas_after_renumber s.tables.area_table.areas (register_of s.cpu 1) (register_of s.cpu 2)) (λ areas. s.cpu)
+      (λ areas. with_areas s.tables.area_table areas)
   area_for None asks = tt
 
   area_answer : (next : ℕ) → area_asks (area_reason (register_of s.cpu 0)) ≡ true
-      → IsAlike s (went_on s next (on_estate s (area_called s.cpu (machine_estate s)))).left.now
+      → IsAlike s (went_on s next (on_area_store s (area_called s.cpu (machine_area_store s)))).left.now
   unfolding area_called
-  area_answer next asks = went next (on_estate s (area_called s.cpu (machine_estate s))) (area_for (area_reason (register_of s.cpu 0)) asks)
+  area_answer next asks = went next (on_area_store s (area_called s.cpu (machine_area_store s))) (area_for (area_reason (register_of s.cpu 0)) asks)
 
-  read_answer : (next : ℕ) → IsAlike s (went_on s next (on_estate s (area_read s.cpu (machine_estate s)))).left.now
+  read_answer : (next : ℕ) → IsAlike s (went_on s next (on_area_store s (area_read s.cpu (machine_area_store s)))).left.now
   unfolding area_read
   read_answer next =
-      went next (on_estate s (area_read s.cpu (machine_estate s)))
-      (of_estate (extent_asked s.tables.land.areas (register_of s.cpu 0)) (λ x. with_extent s.cpu x) (λ x. s.tables.land))
+      went next (on_area_store s (area_read s.cpu (machine_area_store s)))
+      (of_area_store (extent_asked s.tables.area_table.areas (register_of s.cpu 0)) (λ x. with_extent s.cpu x) (λ x. s.tables.area_table))
 
   found : (full : Result (List ℕ) ErrorNumber)
-      → Went (on_world s (bind (or_error full) (λ name. or_error (looked_for s.cpu (machine_world s) name))))
+      → Went (on_module_state s (bind (or_error full) (λ name. or_error (looked_for s.cpu (machine_module_state s) name))))
   found (Ok name) = found_by (instance_looked_up s.store.bytes.at s.tables.modules name) (with_found s.cpu) where
-    found_by : {A : Type 0} (r : Result A ErrorNumber) (k : A → State) → Went (on_world s (or_error (bind r (λ x. Ok (k x, machine_world s)))))
+    found_by : {A : Type 0} (r : Result A ErrorNumber) (k : A → State) → Went (on_module_state s (or_error (bind r (λ x. Ok (k x, machine_module_state s)))))
     found_by (Ok x) k = record { store = refl; modules = refl; flex = refl; frames = refl }
     found_by (Err e) k = tt
   found (Err e) = tt
 
-  module_for : (why : Option ModuleReason) → module_asks why ≡ true → Went (on_world s (module_called_for s.cpu (machine_world s) why))
+  module_for : (why : Option ModuleReason) → module_asks why ≡ true → Went (on_module_state s (module_called_for s.cpu (machine_module_state s) why))
   module_for None asks = tt
   module_for (Some reason.DescribeArea) asks = record { store = refl; modules = refl; flex = refl; frames = refl }
-  module_for (Some reason.Info) asks = of_world (instance_info s.store.bytes.at s.tables.modules (place_asked s.cpu)) (with_told s.cpu)
+  module_for (Some reason.Info) asks = of_module_state (instance_info s.store.bytes.at s.tables.modules (place_asked s.cpu)) (with_shown s.cpu)
   module_for (Some reason.Lookup) asks = found (string_in s.store.bytes s.cpu 1)
   module_for (Some reason.Run) asks = absurd (false≢true asks)
   module_for (Some reason.Load) asks = absurd (false≢true asks)
@@ -180,10 +180,10 @@ module _ (s : MachineState) where
   module_for (Some reason.Prefer) asks = absurd (false≢true asks)
 
   module_answer : (next : ℕ) → module_asks (module_reason (register_of s.cpu 0)) ≡ true
-      → IsAlike s (went_on s next (on_world s (result_of_module_call s.cpu (machine_world s)))).left.now
+      → IsAlike s (went_on s next (on_module_state s (result_of_module_call s.cpu (machine_module_state s)))).left.now
   unfolding result_of_module_call
   module_answer next asks =
-      went next (on_world s (result_of_module_call s.cpu (machine_world s))) (module_for (module_reason (register_of s.cpu 0)) asks)
+      went next (on_module_state s (result_of_module_call s.cpu (machine_module_state s))) (module_for (module_reason (register_of s.cpu 0)) asks)
 
   size_answer : (next : ℕ) → IsAlike s (went_on s next (on_flex s (flex_called s.cpu (machine_flex s) (Some swi.FlexSize)))).left.now
   unfolding flex_called
@@ -251,7 +251,7 @@ module _ (s : MachineState) where
 
   abbrev entered : Bool → ℕ → ℕ → Handler → Bool → StepOutcome
   entered x next number handler full =
-      if full then call_refused s x next FrameLimit else quiet (handler_entered s (call_of s x next false) number handler)
+      if full then call_refused s x next FrameLimit else silent (handler_entered s (call_of s x next false) number handler)
 
   entering : (x : Bool) (next number : ℕ) (handler : Handler) (full : Bool) → IsStoreLeft s (entered x next number handler full).now
   entering x next number handler true = refused x next FrameLimit
@@ -308,11 +308,11 @@ module _ (s : MachineState) where
   unfolding outcome_of_call
   called images x next number leaves = exit_or images x next number (swi_of number) (is_exit (swi_of number)) refl leaves
 
-  stepped : (images : List Entry) (n : ℕ) (o : Option Halt) (r : Result (State × Bytes) Turn) → o ≡ None → r ≡ Err (turn.Swi n)
+  stepped : (images : List Entry) (n : ℕ) (o : Option Halt) (r : Result (State × Bytes) StepEnd) → o ≡ None → r ≡ Err (turn.Swi n)
       → IsStoreLeft s (swi_called images s n).now → IsStoreLeft s (unless_halted s o (outcome_of_turn images s r)).now
-  stepped images n o r awake is done = rw (awake, is) done
+  stepped images n o r unhalted is done = rw (unhalted, is) done
 
 pub calls_leave : CallsLeaveStore
 unfolding machine_step
-calls_leave images s n awake is leaves =
-    stepped s images n s.halt (result_of_instruction s) awake is (called s images _ _ (without_x n) leaves)
+calls_leave images s n unhalted is leaves =
+    stepped s images n s.halt (result_of_instruction s) unhalted is (called s images _ _ (without_x n) leaves)

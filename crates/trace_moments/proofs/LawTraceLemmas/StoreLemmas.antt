@@ -1,4 +1,4 @@
--- A byte that is stored to lies in a word that is told.
+-- A byte that is stored to lies in a word that is shown.
 use Rattle.std.proofs.Common.{◌≡◌, ◌≢◌, ℕ, ◌+◌, ◌*◌, ◌%◌, ◌==◌, ◌&&◌, Bool, not, true, false, Option, Some, None, Result, Ok, Err, refl, sym, ap, subst, ◌∙◌, inl, inr, arith, if◌then◌else◌, List}
 use Rattle.std.proofs.lemmas.Bool.{cases_Bool, false≢true}
 use Rattle.std.proofs.lemmas.Bool.Decides.{nat_tests}
@@ -18,7 +18,7 @@ use Rattle.arm_step.specs.Step.{result_of_step}
 use Rattle.arm_step.specs.Transfers.{transfer_address}
 use Rattle.arm_core.specs.Conditions.{condition_holds}
 use Rattle.arm_core.specs.State.{State}
-use Rattle.arm_core.specs.declared.turn.Turn.{Turn}
+use Rattle.arm_core.specs.declared.turn.StepEnd.{StepEnd}
 use Rattle.os_heap.specs.Store.{owned_in}
 use Rattle.swi_dispatch_guest.specs.MachineState.{MachineState, StepOutcome}
 use Rattle.swi_dispatch_guest.specs.Step.{machine_step, moved_on, outcome_of_turn, result_of_instruction, unless_halted}
@@ -27,7 +27,7 @@ use Rattle.law_machine.specs.heap_alone.Storing.{StepsLeaveBytes, is_stored, is_
 use Rattle.trace_effects.specs.Cause.{cause_if_fetched, cause_of}
 use Rattle.trace_effects.specs.Stored.{stored_words, words_if_decoded, words_of_action, words_of_block, words_of_transfer}
 use Rattle.trace_effects.specs.declared.cause.Cause.{Cause}
-use Rattle.trace_moments.specs.law_trace.Laws.{IsInWords, StoresAreTold}
+use Rattle.trace_moments.specs.law_trace.Laws.{IsInWords, StoresAreShown}
 
 byte_in : (is_byte : Bool) (at a : ℕ) → is_stored_at is_byte at a ≡ true → in_range (word_start at) 4 a ≡ true
 byte_in true at a is = grind (arith, nat_tests)
@@ -77,14 +77,14 @@ stored_in_words s b a is = elim (cases_Bool (s.pc == return_gate)) [
 bytes_after : (images : List Entry) (s : MachineState) (w : State × Bytes) → s.halt ≡ None → result_of_instruction s ≡ Ok w
     → (machine_step images s).now.store.bytes ≡ w.1
 unfolding machine_step
-bytes_after images s w awake is =
-    ap (λ (h : Option Halt). (unless_halted s h (outcome_of_turn images s (result_of_instruction s))).now.store.bytes) awake
-    ∙ ap (λ (r : Result (State × Bytes) Turn). (outcome_of_turn images s r).now.store.bytes) is
+bytes_after images s w unhalted is =
+    ap (λ (h : Option Halt). (unless_halted s h (outcome_of_turn images s (result_of_instruction s))).now.store.bytes) unhalted
+    ∙ ap (λ (r : Result (State × Bytes) StepEnd). (outcome_of_turn images s r).now.store.bytes) is
 
-pub told : StepsLeaveBytes → StoresAreTold
-told past images s w a awake is differs = elim (cases_Bool (is_stored s.cpu s.store.bytes a)) [
+pub reported : StepsLeaveBytes → StoresAreShown
+reported past images s w a unhalted is differs = elim (cases_Bool (is_stored s.cpu s.store.bytes a)) [
   | inl stored ↦ stored_in_words s.cpu s.store.bytes a stored
   | inr other ↦
       let same : w.1.at a ≡ s.store.bytes.at a = past (owned_in s.store) s.cpu w.0 s.store.bytes w.1 a is other in
-      absurd (differs (ap (λ (b : Bytes). b.at a) (bytes_after images s w awake is) ∙ same))
+      absurd (differs (ap (λ (b : Bytes). b.at a) (bytes_after images s w unhalted is) ∙ same))
 ]

@@ -8,8 +8,8 @@ use Rattle.flex_store.specs.declared.blocks.FlexBlock.{FlexBlock}
 use Rattle.trace_effects.specs.changes.Laws.{CoreChanges, core_after, registers_after}
 use Rattle.trace_effects.specs.changes.Status.{flag_change, jump, mode_change}
 use Rattle.trace_effects.specs.declared.changes.status.Flag.{Flag}
-use Rattle.trace_effects.specs.declared.told_words.words.ToldWord.{ToldWord}
-use Rattle.trace_effects.specs.told_words.Replay.{words_after}
+use Rattle.trace_effects.specs.declared.shown_words.words.ShownWord.{ShownWord}
+use Rattle.trace_effects.specs.shown_words.Replay.{words_after}
 use Rattle.trace_store_text.specs.declared.items.changes.ItemChange.{ItemChange}
 use Rattle.trace_store_text.specs.declared.modules.marks.InstanceMark.{InstanceMark}
 use Rattle.trace_store_text.specs.items.Laws.{with_item_changes}
@@ -43,7 +43,7 @@ pub record MachineSeen : Type 0 where
 pub record MomentRecord : Type 0 where
   pub expected : ℕ
   pub core : CoreChanges
-  pub words : List ToldWord
+  pub words : List ShownWord
   pub items : ℕ → List ItemChange
   pub areas : Option ShownAreas
   pub modules : Option (ArrayVec InstanceMark)
@@ -83,7 +83,7 @@ pub record IsSameMachine (v w : MachineSeen) : Type 0 where
   pub frames : v.frames ≡ w.frames
   pub output : v.output ≡ w.output
 
--- A record of a machine before and after, as its parts are made: `told_registers`, `changed_flag`,
+-- A record of a machine before and after, as its parts are made: `shown_registers`, `changed_flag`,
 -- `changed_mode`, `jump_of`, `changed_words`, `all_changed_items`, `changed_areas`, `changed_modules`,
 -- `changed_blocks` and `changed_range` each promise one of these, and so does `changed_frames` where all
 -- open frames but one at most are of those before. Of the words that an instruction stores, which are
@@ -131,4 +131,5 @@ first_of_all (suc k) (m ∷ ms) = m ∷ first_of_all k ms
 -- behind the last of these.
 abbrev pub PrefixesReplay : Type 0
 PrefixesReplay = (start : MachineSeen) (moments : List Moment) (k : ℕ) → AreRecordsOf start moments →
-    IsSameMachine (seen_after_all (records_of (first_of_all k moments)) start) (last_seen start (first_of_all k moments))
+    IsSameMachine (seen_after_all (records_of (first_of_all k moments)) start)
+    (last_seen start (first_of_all k moments))

@@ -12,7 +12,8 @@ abbrev pub count_open : MachineState → MachineState → ℕ
 count_open s t = min (length s.tables.frames) (length t.tables.frames)
 
 abbrev pub count_kept : MachineState → MachineState → ℕ
-count_kept s t = if s.cpu.pc == return_gate && is_none t.halt then length s.tables.frames - 1 else count_open s t
+count_kept s t = if s.cpu.pc == return_gate && is_none t.halt then length s.tables.frames - 1 else
+    count_open s t
 
 -- So it is of each step, and of each call and each module from outside.
 abbrev pub Keeps : MachineState → MachineState → ℕ → Type 0
@@ -20,8 +21,10 @@ Keeps s t count = AreKept (shown_frames s.tables.frames) (shown_frames t.tables.
 
 pub record KeepsOpenFrames (images : List Entry) (s : MachineState) : Type 0 where
   pub step : Keeps s (machine_step images s).now (count_kept s (machine_step images s).now)
-  pub call : (number : ℕ) → Keeps s (store_called images s number).now (count_open s (store_called images s number).now)
-  pub load : (text : List ℕ) → Keeps s (module_loaded images s text).now (count_open s (module_loaded images s text).now)
+  pub call : (number : ℕ) → Keeps s (store_called images s number).now
+      (count_open s (store_called images s number).now)
+  pub load : (text : List ℕ) → Keeps s (module_loaded images s text).now
+      (count_open s (module_loaded images s text).now)
 
 abbrev pub StepsKeepFrames : Type 0
 StepsKeepFrames = (images : List Entry) (s : MachineState) → s.halt ≡ None → KeepsOpenFrames images s

@@ -1,11 +1,11 @@
--- What a trace tells of an instruction's stores is all that it changes in memory; and a call of which it
--- tells nothing of the store leaves that as it is.
+-- What a trace reports an instruction's stores is all that it changes in memory; and a call of which it
+-- shows nothing of the store leaves that as it is.
 use Rattle.std.specs.Prelude.{◌≡◌, ◌≢◌, ◌*◌, ℕ, true, None, Ok, Err, List, length}
 use Rattle.profile.specs.MemoryMap.{error_block_start}
 use Rattle.image_loader.specs.Entries.{Entry}
 use Rattle.address_map.specs.Bytes.{Bytes, in_range}
 use Rattle.arm_core.specs.State.{State, register_of}
-use Rattle.arm_core.specs.declared.turn.Turn.TheVariants as turn
+use Rattle.arm_core.specs.declared.turn.StepEnd.TheVariants as turn
 use Rattle.swi_dispatch_guest.specs.MachineState.{MachineState}
 use Rattle.swi_dispatch_guest.specs.Step.{machine_step, result_of_instruction, without_x}
 use Rattle.trace_effects.specs.Cause.{cause_of}
@@ -17,10 +17,11 @@ abbrev pub IsInWords : StoredWords → ℕ → Type 0
 IsInWords words a = in_range words.at (4 * words.count) a ≡ true
 
 -- An instruction that is carried out, or skipped: of the machine's memory only bytes of the words that
--- are told of it differ after the step.
-abbrev pub StoresAreTold : Type 0
-StoresAreTold =
-    (images : List Entry) (s : MachineState) (w : State × Bytes) (a : ℕ) → s.halt ≡ None → result_of_instruction s ≡ Ok w →
+-- are shown of it differ after the step.
+abbrev pub StoresAreShown : Type 0
+StoresAreShown =
+    (images : List Entry) (s : MachineState) (w : State × Bytes) (a : ℕ) → s.halt ≡ None →
+    result_of_instruction s ≡ Ok w →
     (machine_step images s).now.store.bytes.at a ≢ s.store.bytes.at a →
     IsInWords (stored_words (cause_of s.cpu s.store.bytes) s.cpu) a
 
@@ -43,5 +44,6 @@ pub record IsStoreLeft (s s' : MachineState) : Type 0 where
 -- A step that makes a call of which a trace keeps no copy of the store leaves the store as it is.
 abbrev pub CallsLeaveStore : Type 0
 CallsLeaveStore =
-    (images : List Entry) (s : MachineState) (n : ℕ) → s.halt ≡ None → result_of_instruction s ≡ Err (turn.Swi n) →
+    (images : List Entry) (s : MachineState) (n : ℕ) → s.halt ≡ None → result_of_instruction s ≡ Err
+    (turn.Swi n) →
     call_leaves (register_of s.cpu 0) (without_x n) ≡ true → IsStoreLeft s (machine_step images s).now

@@ -46,14 +46,14 @@ pub explains : ExplainsFlex
 explains before after b = record {
   was = λ h. elim (gone_by b (block_of_anchor b.anchor after)) [
     | inl there ↦ inl there
-    | inr told ↦ inr (Contains-append_left (flat_map (gone_block after) before) (flat_map (kept_block before) after) (record { was = Some b; is = None })
-        (in_all (gone_block after) before b (record { was = Some b; is = None }) h told))
+    | inr reported ↦ inr (Contains-append_left (flat_map (gone_block after) before) (flat_map (kept_block before) after) (record { was = Some b; is = None })
+        (in_all (gone_block after) before b (record { was = Some b; is = None }) h reported))
   ];
   is = λ h. elim (kept_by b (block_of_anchor b.anchor before) (λ old e. has_anchor_sought b.anchor before old e)) [
     | inl same ↦ inl same
-    | inr told ↦ inr (Contains-append_right (flat_map (gone_block after) before) (flat_map (kept_block before) after)
+    | inr reported ↦ inr (Contains-append_right (flat_map (gone_block after) before) (flat_map (kept_block before) after)
         (record { was = block_of_anchor b.anchor before; is = Some b })
-        (in_all (kept_block before) after b (record { was = block_of_anchor b.anchor before; is = Some b }) h told))
+        (in_all (kept_block before) after b (record { was = block_of_anchor b.anchor before; is = Some b }) h reported))
   ];
 }
 

@@ -3,7 +3,7 @@ use Rattle.std.proofs.Common.{◌≡◌, ℕ, zero, suc, ◌+◌, ◌*◌, ◌<�
 use Rattle.std.proofs.lemmas.List.{append-nil, length-take, take-append-le, take_all}
 use Rattle.address_map.specs.declared.item.Item.{Item}
 use Rattle.os_heap.specs.Store.{Store}
-use Rattle.trace_store_text.specs.items.Changes.{IsItemSummary, changes_between, is_same_item, item_change_at, item_changes, item_changes_below, item_told}
+use Rattle.trace_store_text.specs.items.Changes.{IsItemSummary, changes_between, is_same_item, item_change_at, item_changes, item_changes_below, item_shown}
 use Rattle.trace_store_text.specs.items.Places.{PlacedItems, item_there, placed_items}
 use Rattle.trace_store_text.specs.declared.items.changes.ItemChange.{ItemChange}
 use Rattle.trace_store_text.specs.declared.items.changes.ItemChanges.{ItemChanges}
@@ -16,14 +16,14 @@ pub suc_below : (old new : ℕ → Option Item) (a : ℕ) → item_changes_below
 unfolding item_changes_below
 suc_below old new a = refl
 
-few_told : (a : ℕ) (o : Option Item) (is_new : Bool) → length (item_told a o is_new) ≤ 1
-few_told a None is_new = omega arith
-few_told a (Some x) is_new = omega arith
+few_shown : (a : ℕ) (o : Option Item) (is_new : Bool) → length (item_shown a o is_new) ≤ 1
+few_shown a None is_new = omega arith
+few_shown a (Some x) is_new = omega arith
 
-few_here : (same : Bool) (a : ℕ) (old new : Option Item) → length (if same then [] else item_told a old false ++ item_told a new true) ≤ 2
+few_here : (same : Bool) (a : ℕ) (old new : Option Item) → length (if same then [] else item_shown a old false ++ item_shown a new true) ≤ 2
 few_here true a old new = omega arith
 few_here false a old new =
-    omega (arith, length-append (item_told a old false) (item_told a new true), few_told a old false, few_told a new true)
+    omega (arith, length-append (item_shown a old false) (item_shown a new true), few_shown a old false, few_shown a new true)
 
 few_below : (old new : ℕ → Option Item) (n : ℕ) → length (item_changes_below old new n) ≤ 2 * n
 few_below old new zero = let none = ap length (none_below old new) in omega (arith, none)

@@ -5,7 +5,7 @@ use Rattle.std.proofs.lemmas.List.Elements.{Contains-append_cases}
 use Rattle.address_map.specs.declared.item.Item.{Item}
 use Rattle.address_map.specs.declared.item.Item.TheVariants.{Free, Live}
 use Rattle.os_heap.specs.Store.{Store}
-use Rattle.trace_store_text.specs.items.Changes.{changes_between, is_same_item, item_change_at, item_changes, item_changes_below, item_told}
+use Rattle.trace_store_text.specs.items.Changes.{changes_between, is_same_item, item_change_at, item_changes, item_changes_below, item_shown}
 use Rattle.trace_store_text.specs.items.Laws.{ExplainsHeaps, IsItemChange, ListsItems, with_item_change, with_item_changes}
 use Rattle.trace_store_text.specs.items.Places.{PlacedItems, item_there, placed_items}
 use Rattle.trace_store_text.specs.declared.items.changes.ItemChange.{ItemChange}
@@ -34,32 +34,32 @@ replayed_after : (xs ys : List ItemChange) (items : ℕ → Option Item) → wit
 replayed_after [] ys items = refl
 replayed_after (c ∷ cs) ys items = replayed_after cs ys (with_item_change c items)
 
-told_here : (n : ℕ) (o o' : Option Item) (items : ℕ → Option Item) → items n ≡ o
-    → with_item_changes (item_told n o false ++ item_told n o' true) items n ≡ o'
-told_here n None None items is = is
-told_here n None (Some y) items is = rw (eq-eqb n n refl) refl
-told_here n (Some x) None items is = rw (eq-eqb n n refl) refl
-told_here n (Some x) (Some y) items is = rw (eq-eqb n n refl) refl
+shown_here : (n : ℕ) (o o' : Option Item) (items : ℕ → Option Item) → items n ≡ o
+    → with_item_changes (item_shown n o false ++ item_shown n o' true) items n ≡ o'
+shown_here n None None items is = is
+shown_here n None (Some y) items is = rw (eq-eqb n n refl) refl
+shown_here n (Some x) None items is = rw (eq-eqb n n refl) refl
+shown_here n (Some x) (Some y) items is = rw (eq-eqb n n refl) refl
 
-told_elsewhere : (n : ℕ) (o o' : Option Item) (items : ℕ → Option Item) (a : ℕ) → a ≢ n
-    → with_item_changes (item_told n o false ++ item_told n o' true) items a ≡ items a
-told_elsewhere n None None items a other = refl
-told_elsewhere n None (Some y) items a other = rw (ne_eqb a n other) refl
-told_elsewhere n (Some x) None items a other = rw (ne_eqb a n other) refl
-told_elsewhere n (Some x) (Some y) items a other = rw (ne_eqb a n other) refl
+shown_elsewhere : (n : ℕ) (o o' : Option Item) (items : ℕ → Option Item) (a : ℕ) → a ≢ n
+    → with_item_changes (item_shown n o false ++ item_shown n o' true) items a ≡ items a
+shown_elsewhere n None None items a other = refl
+shown_elsewhere n None (Some y) items a other = rw (ne_eqb a n other) refl
+shown_elsewhere n (Some x) None items a other = rw (ne_eqb a n other) refl
+shown_elsewhere n (Some x) (Some y) items a other = rw (ne_eqb a n other) refl
 
 replayed_here : (n : ℕ) (o o' : Option Item) (items : ℕ → Option Item) → items n ≡ o → with_item_changes (item_change_at n o o') items n ≡ o'
 replayed_here n o o' items is =
     elim (cases_Bool (is_same_item o o')) [
       | inl same ↦ rw same (is ∙ alike o o' same)
-      | inr differs ↦ rw differs (told_here n o o' items is)
+      | inr differs ↦ rw differs (shown_here n o o' items is)
     ]
 
 replayed_elsewhere : (n : ℕ) (o o' : Option Item) (items : ℕ → Option Item) (a : ℕ) → a ≢ n → with_item_changes (item_change_at n o o') items a ≡ items a
 replayed_elsewhere n o o' items a other =
     elim (cases_Bool (is_same_item o o')) [
       | inl same ↦ rw same refl
-      | inr differs ↦ rw differs (told_elsewhere n o o' items a other)
+      | inr differs ↦ rw differs (shown_elsewhere n o o' items a other)
     ]
 
 -- the changes of so many addresses are replayed
@@ -96,17 +96,17 @@ one_in d c h =
     let first : h.0 ≡ 0 = omega arith in
     sym (subst (λ (k : ℕ). slice_index_or (d ∷ []) k c ≡ c) first h.2)
 
-told_gone : (old new : ℕ → Option Item) (n : ℕ) (o : Option Item) (c : ItemChange) → old n ≡ o → o ≢ new n → Contains (item_told n o false) c
+shown_gone : (old new : ℕ → Option Item) (n : ℕ) (o : Option Item) (c : ItemChange) → old n ≡ o → o ≢ new n → Contains (item_shown n o false) c
     → IsItemChange old new c c.is_new
-told_gone old new n None c is differs h = absurd (none_in c h)
-told_gone old new n (Some x) c is differs h =
+shown_gone old new n None c is differs h = absurd (none_in c h)
+shown_gone old new n (Some x) c is differs h =
     let e = one_in (record { at = n; item = x; is_new = false }) c h in
     subst (λ (d : ItemChange). IsItemChange old new d d.is_new) (sym e) (is, λ same. differs (sym same))
 
-told_new : (old new : ℕ → Option Item) (n : ℕ) (o : Option Item) (c : ItemChange) → new n ≡ o → old n ≢ o → Contains (item_told n o true) c
+shown_new : (old new : ℕ → Option Item) (n : ℕ) (o : Option Item) (c : ItemChange) → new n ≡ o → old n ≢ o → Contains (item_shown n o true) c
     → IsItemChange old new c c.is_new
-told_new old new n None c is differs h = absurd (none_in c h)
-told_new old new n (Some y) c is differs h =
+shown_new old new n None c is differs h = absurd (none_in c h)
+shown_new old new n (Some y) c is differs h =
     let e = one_in (record { at = n; item = y; is_new = true }) c h in
     subst (λ (d : ItemChange). IsItemChange old new d d.is_new) (sym e) (is, λ same. differs same)
 
@@ -116,9 +116,9 @@ true_at old new n c h =
       | inl same ↦ absurd (none_in c (rw same at h))
       | inr differs ↦
           let unlike_here = unlike (old n) (new n) differs in
-          elim (Contains-append_cases (item_told n (old n) false) (item_told n (new n) true) c (rw differs at h)) [
-            | inl gone ↦ told_gone old new n (old n) c refl unlike_here gone
-            | inr made ↦ told_new old new n (new n) c refl unlike_here made
+          elim (Contains-append_cases (item_shown n (old n) false) (item_shown n (new n) true) c (rw differs at h)) [
+            | inl gone ↦ shown_gone old new n (old n) c refl unlike_here gone
+            | inr made ↦ shown_new old new n (new n) c refl unlike_here made
           ]
     ]
 

@@ -32,21 +32,21 @@ is_explained : (before after : List InstanceMark) (x : InstanceMark) → Contain
 is_explained before after x h =
     elim (kept_by x (old_address before x)) [
       | inl same ↦ inl same
-      | inr told ↦ inr (in_all (kept_instance before) after x (record { mark = x; was = old_address before x; is = Some x.at }) h told)
+      | inr reported ↦ inr (in_all (kept_instance before) after x (record { mark = x; was = old_address before x; is = Some x.at }) h reported)
     ]
 
 pub explains : ExplainsModules
 explains before after x = record {
   was = λ h. elim (was_explained (instance_marks before) (instance_marks after) x h) [
     | inl is ↦ inl is
-    | inr told ↦ inr (Contains-append_left (flat_map (gone_instance (instance_marks after)) (instance_marks before))
-        (flat_map (kept_instance (instance_marks before)) (instance_marks after)) (record { mark = x; was = Some x.at; is = None }) told)
+    | inr reported ↦ inr (Contains-append_left (flat_map (gone_instance (instance_marks after)) (instance_marks before))
+        (flat_map (kept_instance (instance_marks before)) (instance_marks after)) (record { mark = x; was = Some x.at; is = None }) reported)
   ];
   is = λ h. elim (is_explained (instance_marks before) (instance_marks after) x h) [
     | inl is ↦ inl is
-    | inr told ↦ inr (Contains-append_right (flat_map (gone_instance (instance_marks after)) (instance_marks before))
+    | inr reported ↦ inr (Contains-append_right (flat_map (gone_instance (instance_marks after)) (instance_marks before))
         (flat_map (kept_instance (instance_marks before)) (instance_marks after))
-        (record { mark = x; was = old_address (instance_marks before) x; is = Some x.at }) told)
+        (record { mark = x; was = old_address (instance_marks before) x; is = Some x.at }) reported)
   ];
 }
 

@@ -24,7 +24,7 @@ block_of_anchor a (b ∷ bs) = if b.anchor == a then Some b else block_of_anchor
 abbrev pub is_same_block : FlexBlock → FlexBlock → Bool
 is_same_block old new = old.at == new.at && old.size == new.size
 
--- A block that is told: what it was, and what it is.
+-- A block that is shown: what it was, and what it is.
 pub record BlockChange : Type 0 where
   pub was : Option FlexBlock
   pub is : Option FlexBlock

@@ -3,8 +3,8 @@ use Rattle.std.specs.Prelude.{◌≡◌, ◌≢◌, ◌⊎◌, ℕ, List, Contai
 use Rattle.flex_store.specs.declared.blocks.FlexBlock.{FlexBlock}
 use Rattle.trace_store_text.specs.flex.Changes.{BlockChange, block_changes, block_of_anchor}
 
--- Complete: the anchor of a block that was there has a block still, or the block is told as gone; and a
--- block that is there was there as it is, or is told with what its anchor's block was.
+-- Complete: the anchor of a block that was there has a block still, or the block is shown as gone; and a
+-- block that is there was there as it is, or is shown with what its anchor's block was.
 pub record IsBlockExplained (before after : List FlexBlock) (b : FlexBlock) : Type 0 where
   pub was : Contains before b → (block_of_anchor b.anchor after ≢ None)
       ⊎ Contains (block_changes before after) (record { was = Some b; is = None })
@@ -14,7 +14,7 @@ pub record IsBlockExplained (before after : List FlexBlock) (b : FlexBlock) : Ty
 abbrev pub ExplainsFlex : Type 0
 ExplainsFlex = (before after : List FlexBlock) (b : FlexBlock) → IsBlockExplained before after b
 
--- True: one that is told as gone was there, and its anchor has no block now; any other is there now, and
+-- True: one that is shown as gone was there, and its anchor has no block now; any other is there now, and
 -- isn't what its anchor's block was.
 pub record IsGoneBlock (before after : List FlexBlock) (c : BlockChange) : Type 0 where
   pub block : FlexBlock

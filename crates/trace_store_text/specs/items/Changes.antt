@@ -18,15 +18,15 @@ is_same_item (Some (Live old)) (Some (Free new)) = false
 is_same_item (Some (Free old)) (Some (Live new)) = false
 is_same_item (Some (Free old)) (Some (Free new)) = old == new
 
--- what is told of an item, if one stands there
-abbrev pub item_told : ℕ → Option Item → Bool → List ItemChange
-item_told a None is_new = []
-item_told a (Some x) is_new = record { at = a; item = x; is_new = is_new } ∷ []
+-- what is shown of an item, if one stands there
+abbrev pub item_shown : ℕ → Option Item → Bool → List ItemChange
+item_shown a None is_new = []
+item_shown a (Some x) is_new = record { at = a; item = x; is_new = is_new } ∷ []
 
--- what is told of an address: the item that is gone, and that which is new
+-- what is shown of an address: the item that is gone, and that which is new
 abbrev pub item_change_at : ℕ → Option Item → Option Item → List ItemChange
 item_change_at a old new = if is_same_item old new then []
-    else item_told a old false ++ item_told a new true
+    else item_shown a old false ++ item_shown a new true
 
 -- that of so many first addresses of memory
 unfoldable pub item_changes_below : (ℕ → Option Item) → (ℕ → Option Item) → ℕ → List ItemChange

@@ -14,13 +14,13 @@ abbrev pub with_item_changes : List ItemChange → (ℕ → Option Item) → ℕ
 with_item_changes [] items = items
 with_item_changes (c ∷ cs) items = with_item_changes cs (with_item_change c items)
 
--- Complete: the items after a call are those before it, with the items that are told gone and new.
+-- Complete: the items after a call are those before it, with the items that are shown gone and new.
 abbrev pub ExplainsHeaps : Type 0
 ExplainsHeaps = (s s' : Store) (heap a : ℕ) → a < 2 ^ 26
     → item_there (placed_items s' heap) a
     ≡ with_item_changes (item_changes s s' heap) (item_there (placed_items s heap)) a
 
--- True: what is told as gone stood there before and doesn't after, and the other way round.
+-- True: what is shown as gone stood there before and doesn't after, and the other way round.
 abbrev pub IsItemChange : (ℕ → Option Item) → (ℕ → Option Item) → ItemChange → Bool → Type 0
 IsItemChange old new c false = (old c.at ≡ Some c.item) × (new c.at ≢ Some c.item)
 IsItemChange old new c true = (new c.at ≡ Some c.item) × (old c.at ≢ Some c.item)

@@ -18,7 +18,8 @@ no_items = record { at = 0; items = [] }
 
 -- those of the heap that starts at an address, and none where none does
 unfoldable pub placed_items : Store → ℕ → PlacedItems
-placed_items s heap = unwrap_or (option_map (λ items. record { at = heap + 16; items = items }) (items_of s heap)) no_items
+placed_items s heap = unwrap_or (option_map (λ items. record { at = heap + 16; items = items })
+    (items_of s heap)) no_items
 
 -- the item that stands at an address, where the first is at `at`
 abbrev pub item_placed : ℕ → List Item → ℕ → Option Item

@@ -20,7 +20,7 @@ marked_address marks (Some n) = option_map (λ (y : InstanceMark). y.at) (slice_
 abbrev pub old_address : List InstanceMark → InstanceMark → Option ℕ
 old_address marks x = marked_address marks (position (is_same_instance x) marks)
 
--- An instance that is told: where its image stood, and where it stands now.
+-- An instance that is shown: where its image stood, and where it stands now.
 pub record InstanceChange : Type 0 where
   pub mark : InstanceMark
   pub was : Option ℕ

@@ -6,8 +6,8 @@ use Rattle.trace_store_text.specs.declared.modules.marks.InstanceMark.{InstanceM
 use Rattle.trace_store_text.specs.modules.Changes.{InstanceChange, instance_changes, is_same_instance, old_address}
 use Rattle.trace_store_text.specs.modules.Marks.{instance_marks}
 
--- Complete: an instance that was there is there still, or told as gone; and one that is there was
--- there, with its image at the same address, or is told with what was.
+-- Complete: an instance that was there is there still, or shown as gone; and one that is there was
+-- there, with its image at the same address, or is shown with what was.
 pub record IsInstanceExplained (before after : List Module) (x : InstanceMark) : Type 0 where
   pub was : Contains (instance_marks before) x → (list_any (is_same_instance x) (instance_marks after) ≡ true)
       ⊎ Contains (instance_changes before after) (record { mark = x; was = Some x.at; is = None })
@@ -18,7 +18,7 @@ pub record IsInstanceExplained (before after : List Module) (x : InstanceMark) :
 abbrev pub ExplainsModules : Type 0
 ExplainsModules = (before after : List Module) (x : InstanceMark) → IsInstanceExplained before after x
 
--- True: one that is told as gone was there, and none that is the same is there now; any other is there
+-- True: one that is shown as gone was there, and none that is the same is there now; any other is there
 -- now, and wasn't before, or stood elsewhere.
 pub record IsGoneInstance (before after : List Module) (c : InstanceChange) : Type 0 where
   pub there : Contains (instance_marks before) c.mark

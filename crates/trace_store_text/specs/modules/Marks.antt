@@ -2,14 +2,14 @@
 -- (RISC OS 3 Programmer's Reference Manual, "Modules", "Module instantiation").
 use Rattle.std.specs.Prelude.{ℕ, List, [], map, Option, Some, None, option_map, option_to_list, slice_get}
 use Rattle.std.specs.List.{flat_map}
-use Rattle.instances_table.specs.Lookup.{told_of_instance, told_of_module}
+use Rattle.instances_table.specs.Lookup.{shown_of_instance, shown_of_module}
 use Rattle.instances_table.specs.Modules.{Instance, Module}
 use Rattle.instances_table.specs.declared.parts.InstanceInfo.{InstanceInfo}
 use Rattle.instances_table.specs.declared.parts.ModuleInfo.{ModuleInfo}
 use Rattle.trace_store_text.specs.declared.modules.marks.InstanceMark.{InstanceMark}
 
-abbrev pub mark_told : ModuleInfo → InstanceInfo → InstanceMark
-mark_told m i = record {
+abbrev pub mark_shown : ModuleInfo → InstanceInfo → InstanceMark
+mark_shown m i = record {
   title = m.title;
   name = i.name;
   slot = i.slot;
@@ -19,7 +19,7 @@ mark_told m i = record {
 }
 
 abbrev pub mark_of : Module → Instance → InstanceMark
-mark_of m i = mark_told (told_of_module m) (told_of_instance m i)
+mark_of m i = mark_shown (shown_of_module m) (shown_of_instance m i)
 
 abbrev pub marks_in : Module → List InstanceMark
 marks_in m = map (mark_of m) m.instances

@@ -2,12 +2,12 @@
 
 ghost use Rattle.trace_store_text.specs.flex.Laws.{ExplainsFlex, ListsBlocks};
 
-/// A block that isn't there as it was is told: as gone, as new, or with what it was.
+/// A block that isn't there as it was is shown: as gone, as new, or with what it was.
 pub fn blocks_are_explained()
     ensures { ExplainsFlex }
 {}
 
-/// A block that is told was there before or is there after, and differs.
+/// A block that is shown was there before or is there after, and differs.
 pub fn blocks_are_true()
     ensures { ListsBlocks }
 {}

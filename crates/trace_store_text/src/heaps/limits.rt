@@ -8,7 +8,7 @@ ghost use Rattle.trace_store_text.specs.heaps.Limits.{limits_in};
 use address_map::AddressMap;
 use os_heap::Heaps;
 
-/// Where the words of a heap's descriptor stand that tell its base and its end.
+/// Where the words of a heap's descriptor stand that show its base and its end.
 const BASE: u32 = 8;
 
 const END: u32 = 12;

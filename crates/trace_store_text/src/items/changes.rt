@@ -2,7 +2,7 @@
 
 ghost use Rattle.std.specs.Prelude.{◌≡◌, ◌<◌, ◌≤◌, ◌^◌, ◌+◌, ◌∷◌, ◌++◌, [], List};
 ghost use Rattle.os_heap.specs.Store.{IsSound, store_of};
-ghost use Rattle.trace_store_text.specs.items.Changes.{IsItemSummary, is_same_item, item_change_at, item_changes, item_told};
+ghost use Rattle.trace_store_text.specs.items.Changes.{IsItemSummary, is_same_item, item_change_at, item_changes, item_shown};
 
 use crate::items::walk::{ItemWalk, lower_place};
 use address_map::{AddressMap, Item};
@@ -81,7 +81,7 @@ impl ItemChanges {
     fn add_item(&mut self, at: u32, item: Option<Item>, is_new: bool)
         requires { self.old.count < 2 ^ 29 }
         ensures summary { (all : List ItemChange) → IsItemSummary self.old all
-            → IsItemSummary self.new (all ++ item_told at item is_new) }
+            → IsItemSummary self.new (all ++ item_shown at item is_new) }
         ensures count { self.new.count ≤ self.old.count + 1 }
     {
         if let Some(item) = item {

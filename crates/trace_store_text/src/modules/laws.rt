@@ -2,12 +2,12 @@
 
 ghost use Rattle.trace_store_text.specs.modules.Laws.{ExplainsModules, ListsInstances};
 
-/// An instance that isn't there as it was is told: as gone, as new, or as moved.
+/// An instance that isn't there as it was is shown: as gone, as new, or as moved.
 pub fn instances_are_explained()
     ensures { ExplainsModules }
 {}
 
-/// An instance that is told was there before or is there after, and not the same in both places.
+/// An instance that is shown was there before or is there after, and not the same in both places.
 pub fn instances_are_true()
     ensures { ListsInstances }
 {}

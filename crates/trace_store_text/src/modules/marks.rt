@@ -2,8 +2,8 @@
 
 ghost use Rattle.std.specs.Prelude.{◌≡◌, ◌≤◌, ◌<◌, ◌+◌, ◌∷◌, ◌++◌, [], length, slice_get};
 ghost use Rattle.arrayvec.specs.ArrayVec.{array_vec_len};
-ghost use Rattle.instances_table.specs.Lookup.{told_of_place};
-ghost use Rattle.trace_store_text.specs.modules.Marks.{instance_marks, mark_told, marks_at, marks_in, one_mark};
+ghost use Rattle.instances_table.specs.Lookup.{shown_of_place};
+ghost use Rattle.trace_store_text.specs.modules.Marks.{instance_marks, mark_shown, marks_at, marks_in, one_mark};
 
 use arrayvec::ArrayVec;
 use instances_table::{MOST_INSTANCES, Name};
@@ -54,19 +54,19 @@ fn add_instance(marks: &mut InstanceMarks, modules: &Instances, number: u32, ins
     let Some(info) = modules.module(number) else {
         return;
     };
-    if let Some(told) = modules.instance(number, instance) {
-        marks.push(mark_told(info, told));
+    if let Some(reported) = modules.instance(number, instance) {
+        marks.push(mark_shown(info, reported));
     }
 }
 
-fn mark_told(info: ModuleInfo, told: InstanceInfo) -> InstanceMark
-    ensures { result ≡ mark_told info told }
+fn mark_shown(info: ModuleInfo, reported: InstanceInfo) -> InstanceMark
+    ensures { result ≡ mark_shown info reported }
 {
     InstanceMark {
         title: info.title,
-        name: told.name,
-        slot: told.slot,
-        preferred: told.preferred,
+        name: reported.name,
+        slot: reported.slot,
+        preferred: reported.preferred,
         at: info.image,
         len: info.len,
     }

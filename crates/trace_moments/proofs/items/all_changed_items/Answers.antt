@@ -33,7 +33,7 @@ returns c =
     let all = all_found c.loop-at.changes.items (changes_between c.loop-at.olds c.loop-at.news) (item_changes s s' c.args.heap)
     (ended_split c.loop-at.olds c.loop-at.news none) c.loop-at.invariant in
     record {
-      told = all;
+      reported = all;
       replays = λ a below. explains s s' c.args.heap a below
           ∙ ap (λ (xs : List ItemChange). with_item_changes xs (item_there (placed_items s c.args.heap)) a) (sym all);
     }

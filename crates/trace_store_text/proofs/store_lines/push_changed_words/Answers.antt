@@ -1,6 +1,6 @@
 use Rattle.std.proofs.Common.{refl}
 use Rattle.address_map.specs.Memory.{bytes_of}
-use Rattle.debugger.specs.Parts.{state_of}
+use Rattle.debugger.specs.GuestState.{state_of}
 use Rattle.trace_effects.specs.store_words.Copies.{kept_in}
 use Rattle.trace_store_text.proofs.LineLemmas.{store_lines_kept}
 use Rattle.trace_store_text.proofs.store_lines.push_changed_words.Goals as goal

@@ -1,7 +1,7 @@
 use Rattle.std.proofs.Common.{◌≡◌, ℕ, ◌+◌, ◌*◌, sym, ap, ◌∙◌, arith}
 use Rattle.address_map.specs.Memory.{bytes_of}
 use Rattle.trace_effects.specs.declared.store_words.changes.WordChanges.{WordChanges}
-use Rattle.trace_effects.specs.store_words.Words.{IsSummary, word_changes_below, is_told}
+use Rattle.trace_effects.specs.store_words.Words.{IsSummary, word_changes_below, is_shown_elsewhere}
 use Rattle.trace_effects.proofs.StoreWordsLemmas.ChangeLemmas.{kept_on, same_summary, unchanged_ahead}
 use Rattle.trace_effects.proofs.StoreWordsLemmas.WordLemmas.{same_in_lane}
 use Rattle.trace_effects.proofs.store_words.changes.WordChanges.add_lanes.Goals as goal
@@ -9,16 +9,16 @@ use Rattle.trace_effects.proofs.store_words.changes.WordChanges.add_lanes.Goals.
 
 pub loop-lane-init : goal.loop-lane-init
 loop-lane-init c =
-    let told = is_told c.args.has_error in
+    let reported = is_shown_elsewhere c.args.has_error in
     let old = bytes_of c.args.before.now in
     let new = bytes_of c.args.after.now in
     let e : 1024 * c.args.page + 16 * 0 ≡ 1024 * c.args.page = omega arith in
-    same_summary c.args.self.now (word_changes_below told old new (1024 * c.args.page)) (word_changes_below told old new (1024 * c.args.page + 16 * 0))
-    (ap (word_changes_below told old new) e) c.requires.summary
+    same_summary c.args.self.now (word_changes_below reported old new (1024 * c.args.page)) (word_changes_below reported old new (1024 * c.args.page + 16 * 0))
+    (ap (word_changes_below reported old new) e) c.requires.summary
 
 pub loop-lane-preserved : goal.loop-lane-preserved
 loop-lane-preserved c =
-    let told = is_told c.args.has_error in
+    let reported = is_shown_elsewhere c.args.has_error in
     let old = bytes_of c.args.before.now in
     let new = bytes_of c.args.after.now in
     let page = c.args.page in
@@ -28,21 +28,21 @@ loop-lane-preserved c =
     let few = c.loop-lane-test.true in
     elim c.if-not-has_same_lane.branch [
       | then-not-has_same_lane w ↦
-          kept_on told old new w.add_words.new.self c.if-not-has_same_lane.self (n + 16) (1024 * page + 16 * (lane + 1)) w.self-is next w.add_words.ensures
+          kept_on reported old new w.add_words.new.self c.if-not-has_same_lane.self (n + 16) (1024 * page + 16 * (lane + 1)) w.self-is next w.add_words.ensures
       | else-not-has_same_lane w ↦
-          kept_on told old new c.loop-lane.self c.if-not-has_same_lane.self (n + 16) (1024 * page + 16 * (lane + 1)) w.self-is next
-          (same_summary c.loop-lane.self (word_changes_below told old new n) (word_changes_below told old new (n + 16))
-          (unchanged_ahead told old new n 16 (λ j inside. same_in_lane old new page lane j c.args.old.now c.args.new.now c.requires.old c.requires.new few
+          kept_on reported old new c.loop-lane.self c.if-not-has_same_lane.self (n + 16) (1024 * page + 16 * (lane + 1)) w.self-is next
+          (same_summary c.loop-lane.self (word_changes_below reported old new n) (word_changes_below reported old new (n + 16))
+          (unchanged_ahead reported old new n 16 (λ j inside. same_in_lane old new page lane j c.args.old.now c.args.new.now c.requires.old c.requires.new few
           (c.has_same_lane.ensures w.if-not-has_same_lane.false) inside)) c.loop-lane.invariant)
     ]
 
 pub returns : goal.returns
 returns c =
-    let told = is_told c.args.has_error in
+    let reported = is_shown_elsewhere c.args.has_error in
     let old = bytes_of c.args.before.now in
     let new = bytes_of c.args.after.now in
     let past = c.loop-lane-test.false in
     let up = c.loop-lane.auto.lane-end in
     let e : 1024 * (c.args.page + 1) ≡ 1024 * c.args.page + 16 * c.loop-lane.lane = omega (arith, past, up) in
-    same_summary c.loop-lane.self (word_changes_below told old new (1024 * c.args.page + 16 * c.loop-lane.lane))
-    (word_changes_below told old new (1024 * (c.args.page + 1))) (ap (word_changes_below told old new) e) c.loop-lane.invariant
+    same_summary c.loop-lane.self (word_changes_below reported old new (1024 * c.args.page + 16 * c.loop-lane.lane))
+    (word_changes_below reported old new (1024 * (c.args.page + 1))) (ap (word_changes_below reported old new) e) c.loop-lane.invariant

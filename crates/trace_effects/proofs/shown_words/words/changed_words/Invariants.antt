@@ -1,0 +1,8 @@
+use Rattle.std.proofs.Common.{◌*◌}
+use Rattle.address_map.specs.Bytes.{word_at}
+use Rattle.address_map.specs.Memory.{byte_at}
+use Rattle.trace_effects.specs.shown_words.Replay.{AreShownBelow}
+use Rattle.trace_effects.proofs.shown_words.words.changed_words.Given as goal
+
+abbrev pub invariant-loop-page : goal.invariant-loop-page
+invariant-loop-page l = AreShownBelow (word_at (byte_at l.before)) (word_at (byte_at l.after)) (1024 * l.page) l.changes.items

@@ -1,9 +1,0 @@
-use Rattle.address_map.specs.Bytes.{word_at}
-use Rattle.address_map.specs.Memory.{byte_at}
-use Rattle.trace_effects.proofs.ToldWordsLemmas.ReplayLemmas.{page_more}
-use Rattle.trace_effects.proofs.told_words.words.add_page.Goals as goal
-
-pub returns-then-has_alike_page : goal.returns-then-has_alike_page
-returns-then-has_alike_page c =
-    page_more (word_at (byte_at c.args.before.now)) (word_at (byte_at c.args.after.now)) c.args.page c.args.changes.now.items
-    (c.has_alike_page.ensures c.if-has_alike_page.true) c.requires.told

@@ -1,8 +1,0 @@
-use Rattle.std.proofs.Common.{◌*◌}
-use Rattle.address_map.specs.Bytes.{word_at}
-use Rattle.address_map.specs.Memory.{byte_at}
-use Rattle.trace_effects.specs.told_words.Replay.{AreToldBelow}
-use Rattle.trace_effects.proofs.told_words.words.changed_words.Given as goal
-
-abbrev pub invariant-loop-page : goal.invariant-loop-page
-invariant-loop-page l = AreToldBelow (word_at (byte_at l.before)) (word_at (byte_at l.after)) (1024 * l.page) l.changes.items

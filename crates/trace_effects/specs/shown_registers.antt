@@ -1,0 +1,1 @@
+-- The registers that are shown of a step. Begin with changes' Laws, which says how they are replayed.

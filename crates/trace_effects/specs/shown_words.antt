@@ -1,0 +1,2 @@
+-- The words of memory that are shown, and how they are replayed. Begin with Replay.
+pub mod Replay

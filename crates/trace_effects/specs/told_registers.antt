@@ -1,1 +1,0 @@
--- The registers that are told of a step. Begin with changes' Laws, which says how they are replayed.
