@@ -5,6 +5,7 @@ pub mod Calls
 pub mod Columns
 pub mod Core
 pub mod Errors
+pub mod Instruction
 pub mod Start
 pub mod Step
 pub mod Strings

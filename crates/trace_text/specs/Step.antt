@@ -2,12 +2,11 @@
 -- step leaves. They are a function of the machine before the step and of what the step leaves.
 use Rattle.std.specs.Prelude.{ℕ, ◌%◌, ◌^◌, Bool, true, false, List, [], ◌∷◌, ◌++◌, codes, length, Option, Some, None, if◌then◌else◌}
 use Rattle.std.specs.Option.{option_map}
-use Rattle.profile.specs.Digits.{hex_number, hex_word}
+use Rattle.profile.specs.Digits.{hex_number}
 use Rattle.profile.specs.Word.{bit_of}
 use Rattle.profile.specs.declared.stop.Stop.{Stop}
 use Rattle.address_map.specs.Bytes.{Bytes}
 use Rattle.arm_core.specs.State.{State, register_of}
-use Rattle.assembler_text.specs.Printing.{print}
 use Rattle.swi_dispatch_answers.specs.frames.Frames.{innermost_frame}
 use Rattle.swi_dispatch_answers.specs.declared.frames.frame.Frame.{Frame}
 use Rattle.swi_dispatch_guest.specs.MachineState.{MachineState, StepOutcome, stop_of}
@@ -31,12 +30,13 @@ use Rattle.trace_text.specs.Calls.{call_words}
 use Rattle.trace_text.specs.Columns.{below_text, columns_text, words_behind}
 use Rattle.trace_text.specs.Core.{core_words}
 use Rattle.trace_text.specs.Errors.{stop_word}
+use Rattle.trace_text.specs.Instruction.{front_text, named_text}
 use Rattle.trace_effects.specs.word_text.Loaded.{loaded_words_text}
 use Rattle.trace_effects.specs.word_text.Stored.{stored_below, stored_here, word_values_from}
 use Rattle.trace_text.specs.declared.start.Taking.{Taking}
 use Rattle.trace_text.specs.declared.start.Taking.TheVariants as taking
 
--- how a step is told: an instruction, a store call and whether errors go back from it, the return gate
+-- how a step is shown: an instruction, a store call and whether errors go back from it, the return gate
 abbrev pub taking_swi : Option ℕ → Taking
 taking_swi (Some number) = taking.Call (bit_of number 17) (without_x number)
 taking_swi None = taking.Instruction
@@ -46,37 +46,22 @@ taking_of Gate = taking.Gate
 taking_of (Word word) = taking_swi (swi_of_cause (Word word))
 taking_of _ = taking.Instruction
 
-abbrev pub word_column : Cause → List ℕ
-word_column (Skipped word) = hex_word word
-word_column (Word word) = hex_word word
-word_column _ = codes "--------"
-
--- columns 1 to 18
-abbrev pub front_text : ℕ → Cause → List ℕ
-front_text pc cause = hex_word pc ++ (codes " " ++ (word_column cause ++ codes " "))
-
-abbrev pub what_text : ℕ → Cause → List ℕ
-what_text pc Gate = codes "return gate"
-what_text pc Unmapped = codes "unmapped"
-what_text pc (Skipped word) = print word pc
-what_text pc (Word word) = print word pc
-
--- A store call's own words are told before it, since it can change what it reads.
+-- A store call's own words are shown before it, since it can change what it reads.
 abbrev pub taking_text : State → Bytes → ℕ → Taking → List ℕ
 taking_text s b len taking.Instruction = []
 taking_text s b len (taking.Call is_x number) = words_behind len (call_words s b is_x number) ++ codes "\n"
 taking_text s b len taking.Gate = codes "\n"
 
--- what stands written before the step is taken
-unfoldable pub start_text : State → Bytes → List ℕ
-start_text s b = (let cause = cause_of s b in let text = what_text s.pc cause in
+-- what stands written before the step is taken, where a branch there goes to this label
+unfoldable pub start_text : Option (List ℕ) → State → Bytes → List ℕ
+start_text label s b = (let cause = cause_of s b in let text = named_text s.pc cause label in
     front_text s.pc cause ++ (text ++ taking_text s b (length text) (taking_of cause)))
 
 abbrev pub is_skipped : Cause → Bool
 is_skipped (Skipped word) = true
 is_skipped _ = false
 
--- What a trace knows of the machine before a step: its core, how the step is told, where it is
+-- What a trace knows of the machine before a step: its core, how the step is shown, where it is
 -- expected to go on, whether its instruction is skipped, how long the instruction's text is, the words
 -- that it stores to as they are, those that it loads and the register that LDR loads, the frames, the
 -- areas, unless it is an instruction, and the store, unless it is an instruction or a call that leaves the
@@ -108,26 +93,28 @@ store_before taking.Instruction r0 k = None
 store_before (taking.Call is_x number) r0 k = if call_leaves r0 number then None else Some k
 store_before taking.Gate r0 k = Some k
 
-abbrev pub known_by : MachineState → Cause → StoredWords → StoredWords → Known
-known_by s cause stored loaded = record {
+-- with a text that is so long
+abbrev pub known_by : ℕ → MachineState → Cause → StoredWords → StoredWords → Known
+known_by text_length s cause stored loaded = record {
   cpu = s.cpu;
   taking = taking_of cause;
   expected = following_word s.cpu;
   is_skipped = is_skipped cause;
-  text_length = length (what_text s.cpu.pc cause);
+  text_length = text_length;
   stored_at = stored.at;
   old_words = word_values_from s.store.bytes stored.at stored.count;
   loaded = loaded;
   target = loaded_register cause;
   frames = length s.tables.frames;
   innermost = innermost_frame s.tables.frames;
-  areas = areas_before (taking_of cause) s.tables.land.areas;
+  areas = areas_before (taking_of cause) s.tables.area_table.areas;
   before = store_before (taking_of cause) (register_of s.cpu 0) (kept_of s);
 }
 
-abbrev pub known_of : MachineState → Known
-known_of s = (let cause = cause_of s.cpu s.store.bytes in
-    known_by s cause (stored_words cause s.cpu) (loaded_words cause s.cpu))
+abbrev pub known_of : Option (List ℕ) → MachineState → Known
+known_of label s = (let cause = cause_of s.cpu s.store.bytes in
+    known_by (length (named_text s.cpu.pc cause label)) s cause
+    (stored_words cause s.cpu) (loaded_words cause s.cpu))
 
 -- behind an instruction: why it halted the machine, or what it leaves
 abbrev pub skipped_word : Bool → List ℕ
@@ -162,7 +149,7 @@ store_lines_below has_error (Some k) k' = store_lines has_error k k'
 
 -- the areas, and what is in them
 unfoldable pub memory_lines_below : ℕ → Known → MachineState → List ℕ
-memory_lines_below kept k now = area_lines k.areas now.tables.land.areas
+memory_lines_below kept k now = area_lines k.areas now.tables.area_table.areas
     ++ store_lines_below (has_error kept now) k.before (kept_of now)
 
 unfoldable pub lines_with : Bool → ℕ → Known → StepOutcome → List ℕ
@@ -186,8 +173,8 @@ abbrev pub step_end_text : Known → StepOutcome → List ℕ
 step_end_text k o = lines_after_step k k.taking o (option_map stop_of o.now.halt)
 
 -- the lines of a step
-abbrev pub step_text : MachineState → StepOutcome → List ℕ
-step_text s o = start_text s.cpu s.store.bytes ++ step_end_text (known_of s) o
+abbrev pub step_text : Option (List ℕ) → MachineState → StepOutcome → List ℕ
+step_text label s o = start_text label s.cpu s.store.bytes ++ step_end_text (known_of label s) o
 
 -- A call from outside: `CALL &1D` and the call's words, `LOAD name text` and those of OS_Module 1.
 abbrev pub outside_line : List ℕ → List ℕ → List ℕ
@@ -220,6 +207,6 @@ known_outside s = record {
   target = None;
   frames = length s.tables.frames;
   innermost = innermost_frame s.tables.frames;
-  areas = area_marks s.tables.land.areas;
+  areas = area_marks s.tables.area_table.areas;
   before = Some (kept_of s);
 }

@@ -1,10 +1,10 @@
-//! What a trace tells of a step once it is taken.
+//! What a trace reports a step once it is taken.
 
 ghost use Rattle.std.specs.Prelude.{◌≡◌, OnOk};
 ghost use Rattle.std.specs.Io.KnownBytes.{Appends};
 ghost use Rattle.profile.specs.Output.{Writes};
 ghost use Rattle.swi_dispatch_guest.specs.MachineState.{outcome_with};
-ghost use Rattle.swi_dispatch_guest.specs.Parts.{state_of};
+ghost use Rattle.swi_dispatch_guest.specs.GuestState.{state_of};
 ghost use Rattle.trace_store_text.specs.FrameWords.{entered_word};
 ghost use Rattle.trace_text.specs.Below.{error_words, frames_kept, has_error, left_word_kept, prints_word};
 ghost use Rattle.trace_text.specs.Columns.{below_text};
@@ -33,7 +33,7 @@ impl StepStart {
     /// # Errors
     ///
     /// Where the sink failed, or memory ran out.
-    pub fn tell_end<W: Sink>(
+    pub fn print_end<W: Sink>(
         &self,
         alloc: Global,
         machine: &Machine,

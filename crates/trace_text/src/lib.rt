@@ -10,6 +10,7 @@ pub mod columns;
 pub mod core_text;
 pub mod end;
 pub mod errors;
+pub mod instruction;
 mod outside;
 pub mod start;
 pub mod strings;

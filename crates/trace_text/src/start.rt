@@ -1,29 +1,28 @@
-//! What a trace tells of a step before it is taken, and what it keeps of the machine.
+//! What a trace reports a step before it is taken, and what it keeps of the machine.
 
-ghost use Rattle.std.specs.Prelude.{◌≡◌, ◌≤◌, length, true, Some, IfOk, OnOk};
+ghost use Rattle.std.specs.Prelude.{◌≡◌, ◌≤◌, length, option_map, true, Some, IfOk, OnOk};
 ghost use Rattle.std.specs.Io.KnownBytes.{Appends};
 ghost use Rattle.address_map.specs.Memory.{bytes_of};
 ghost use Rattle.arm_core.specs.State.{register_of};
-ghost use Rattle.profile.specs.Output.{Writes};
 ghost use Rattle.swi_dispatch_answers.specs.frames.Frames.{innermost_frame};
-ghost use Rattle.swi_dispatch_guest.specs.Parts.{state_of};
+ghost use Rattle.swi_dispatch_guest.specs.GuestState.{state_of};
 ghost use Rattle.trace_effects.specs.Cause.{cause_of, swi_of_cause};
 ghost use Rattle.trace_text.specs.Start.{store_kept};
-ghost use Rattle.trace_text.specs.Step.{areas_before, front_text, is_skipped, start_text, store_before, taking_of, taking_swi, taking_text, what_text, word_column};
+ghost use Rattle.trace_text.specs.Step.{areas_before, is_skipped, start_text, store_before, taking_of, taking_swi, taking_text};
+ghost use Rattle.trace_text.specs.Instruction.{named_text};
 ghost use Rattle.trace_store_text.specs.Copies.{kept_in, kept_of};
-ghost use Rattle.profile.specs.text_sink.TextSink.{sink_text_of};
 
 use crate::areas::{AreaMark, area_marks};
 use crate::calls::push_call;
 use crate::columns::{line_sink, push_behind};
-use crate::outside::{calling_text, loading_text, push_outside, words_of_call};
+use crate::instruction::{named_text, push_front};
+use crate::outside::{calling_text, loading_text, push_outside};
 use address_map::AddressMap;
 use arm_core::Cpu;
 use arrayvec::ArrayVec;
-use assembler_text::disassemble;
 use profile::text_sink::TextSink;
 use profile::word::is_bit_set;
-use profile::{HexText, Sink, WriteFault, push_all, push_parts};
+use profile::{Sink, WriteFault, push_all};
 use std::alloc::Global;
 use trace_effects::changes::following_word;
 use trace_effects::word_text::{MOST_STORED, old_words};
@@ -31,7 +30,7 @@ use trace_effects::{Cause, Effects, StoredWords, call_leaves, effects_of};
 use trace_store_text::frame_words::innermost;
 use trace_store_text::{Frame, Machine, StoreCopy, without_x_bit};
 
-/// How a step is told.
+/// How a step is shown.
 #[derive(Clone, Copy, Debug, PartialEq, Eq)]
 pub enum Taking {
     /// An instruction that is carried out or skipped, or can't be.
@@ -42,7 +41,7 @@ pub enum Taking {
     Gate,
 }
 
-// How a step is told at whose program counter this stands, which calls this software interrupt.
+// How a step is shown at whose program counter this stands, which calls this software interrupt.
 fn taking_of(cause: Cause, swi: Option<u32>) -> Taking
     requires { swi ≡ swi_of_cause cause }
     ensures { result ≡ taking_of cause }
@@ -81,11 +80,11 @@ pub struct StepStart {
     pub(crate) frames: usize,
     pub(crate) innermost: Option<Frame>,
     pub(crate) areas: Vec<AreaMark>,
-    /// The store as it was; an instruction's own words are told without it, and a call that leaves
+    /// The store as it was; an instruction's own words are stated without it, and a call that leaves
     /// the store as it is needs none.
     pub(crate) before: Option<Box<StoreCopy>>,
     /// Host memory that a later copy can use.
-    pub(crate) spare: Option<Box<StoreCopy>>,
+    pub(crate) scratch: Option<Box<StoreCopy>>,
 }
 
 impl StepStart {
@@ -94,29 +93,33 @@ impl StepStart {
     ghost use Rattle.trace_effects.specs.Loaded.{loaded_register, loaded_words};
     ghost use Rattle.trace_effects.specs.Stored.{stored_words};
 
-    /// Writes what stands at the program counter, and of a store call what it reads; and keeps what
-    /// the step may change, in host memory that an earlier step left, if it did.
+    /// Writes what stands at the program counter, with the label to which a branch goes, and of a
+    /// store call what it reads; and keeps what the step may change, in host memory that an earlier
+    /// step left, if it did.
     ///
     /// # Errors
     ///
     /// Where the sink failed, or memory ran out.
-    pub fn tell_step<W: Sink>(
+    pub fn print_step<W: Sink>(
         alloc: Global,
         machine: &Machine,
-        spare: Option<Box<StoreCopy>>,
+        label: Option<&[u8]>,
+        scratch: Option<Box<StoreCopy>>,
         sink: &mut W,
     ) -> Result<StepStart, WriteFault>
         ensures text { let s = state_of machine.now.guest in OnOk result
-            (Appends (W.contents sink.old) (W.contents sink.new) (start_text s.cpu s.store.bytes)) }
-        ensures known { IfOk result (λ start. known_in start ≡ known_of (state_of machine.now.guest)) }
+            (Appends (W.contents sink.old) (W.contents sink.new)
+            (start_text (option_map (λ l. l.now) label.entry) s.cpu s.store.bytes)) }
+        ensures known { IfOk result (λ start. known_in start
+            ≡ known_of (option_map (λ l. l.now) label.entry) (state_of machine.now.guest)) }
     {
         let cause = Cause::of(machine.cpu(), machine.memory());
         let effects = effects_of(cause, machine.cpu());
         let taking = taking_of(cause, effects.swi);
-        let text_length = push_start(alloc, machine, cause, taking, sink)?;
+        let text_length = push_start(alloc, machine, cause, taking, label, sink)?;
         let areas = areas_before(alloc, machine, taking)?;
-        let (before, spare) = store_before(alloc, machine, taking, spare)?;
-        Ok(StepStart::keeping(machine, cause, &effects, text_length, areas, before, spare))
+        let (before, rest) = store_before(alloc, machine, taking, scratch)?;
+        Ok(StepStart::keeping(machine, cause, &effects, text_length, areas, before, rest))
     }
 
     // What is kept of a machine where this stands at the program counter.
@@ -127,7 +130,7 @@ impl StepStart {
         text_length: usize,
         areas: Vec<AreaMark>,
         before: Option<Box<StoreCopy>>,
-        spare: Option<Box<StoreCopy>>,
+        scratch: Option<Box<StoreCopy>>,
     ) -> StepStart
         requires swi { effects.now.swi ≡ swi_of_cause cause }
         requires stored { effects.now.stored
@@ -136,13 +139,13 @@ impl StepStart {
             ≡ loaded_words cause (state_of machine.now.guest).cpu }
         requires target { effects.now.target ≡ loaded_register cause }
         requires few { effects.now.stored.count ≤ 16 }
-        requires length { text_length ≡ length (what_text (state_of machine.now.guest).cpu.pc cause) }
         requires areas { areas.items
-            ≡ areas_before (taking_of cause) (state_of machine.now.guest).tables.land.areas }
+            ≡ areas_before (taking_of cause) (state_of machine.now.guest).tables.area_table.areas }
         requires before { let s = state_of machine.now.guest in store_kept before
             ≡ store_before (taking_of cause) (register_of s.cpu 0) (kept_of s) }
         ensures { let s = state_of machine.now.guest in
-            known_in result ≡ known_by s cause (stored_words cause s.cpu) (loaded_words cause s.cpu) }
+            known_in result
+            ≡ known_by text_length s cause (stored_words cause s.cpu) (loaded_words cause s.cpu) }
     {
         let cpu = machine.cpu();
         let stored = effects.stored;
@@ -160,13 +163,13 @@ impl StepStart {
             innermost: innermost(machine.open_frames()),
             areas,
             before,
-            spare,
+            scratch,
         }
     }
 
     /// The host memory in which the store was kept, if it was.
-    pub fn into_spare(self) -> Option<Box<StoreCopy>> {
-        self.before.or(self.spare)
+    pub fn into_scratch(self) -> Option<Box<StoreCopy>> {
+        self.before.or(self.scratch)
     }
 
     /// Writes a store call that is made from outside, and what it reads; and keeps what it may
@@ -175,7 +178,7 @@ impl StepStart {
     /// # Errors
     ///
     /// Where the sink failed, or memory ran out.
-    pub fn tell_call<W: Sink>(
+    pub fn print_call<W: Sink>(
         alloc: Global,
         machine: &Machine,
         number: u32,
@@ -188,18 +191,15 @@ impl StepStart {
             (λ start. known_in start ≡ known_outside (state_of machine.now.guest)) }
     {
         let text = calling_text(alloc, number)?;
-        let words = words_of_call(
-            alloc,
-            machine.cpu(),
-            machine.memory(),
-            without_x_bit(number % (1 << 24)),
-        )?;
+        let called = without_x_bit(number % (1 << 24));
+        let mut words = TextSink::new(alloc);
+        push_call(&mut words, machine.cpu(), machine.memory(), true, called)?;
         push_outside(sink, text.bytes(), words.bytes())?;
         StepStart::outside(alloc, machine)
     }
 
-    /// Writes that a module is loaded from outside; keeps and fails as `tell_call` does.
-    pub fn tell_load<W: Sink>(
+    /// Writes that a module is loaded from outside; keeps and fails as `print_call` does.
+    pub fn print_load<W: Sink>(
         alloc: Global,
         machine: &Machine,
         words: &[u8],
@@ -239,7 +239,7 @@ impl StepStart {
             innermost: innermost(machine.open_frames()),
             areas,
             before: Some(kept_store(alloc, machine, None)?),
-            spare: None,
+            scratch: None,
         })
     }
 }
@@ -251,7 +251,7 @@ fn areas_before(
     taking: Taking,
 ) -> Result<Vec<AreaMark>, WriteFault>
     ensures { IfOk result (λ marks. marks.items
-        ≡ areas_before taking (state_of machine.now.guest).tables.land.areas) }
+        ≡ areas_before taking (state_of machine.now.guest).tables.area_table.areas) }
 {
     match taking {
         Taking::Instruction => Ok(Vec::new(alloc)),
@@ -259,33 +259,36 @@ fn areas_before(
     }
 }
 
-// A copy of the store, unless the step leaves it as it is; and the spare one, where it isn't used.
+// A copy of the store, unless the step leaves it as it is; and the scratch one, where it isn't used.
 fn store_before(
     alloc: Global,
     machine: &Machine,
     taking: Taking,
-    spare: Option<Box<StoreCopy>>,
+    scratch: Option<Box<StoreCopy>>,
 ) -> Result<(Option<Box<StoreCopy>>, Option<Box<StoreCopy>>), WriteFault>
     ensures { let s = state_of machine.now.guest in IfOk result (λ kept. store_kept kept.0
         ≡ store_before taking (register_of s.cpu 0) (kept_of s)) }
 {
     match taking {
-        Taking::Instruction => Ok((None, spare)),
+        Taking::Instruction => Ok((None, scratch)),
         Taking::Call { number, .. } if call_leaves(machine.cpu().register(0), number) => {
-            Ok((None, spare))
+            Ok((None, scratch))
         }
-        Taking::Call { .. } | Taking::Gate => Ok((Some(kept_store(alloc, machine, spare)?), None)),
+        Taking::Call { .. } | Taking::Gate => Ok((
+            Some(kept_store(alloc, machine, scratch)?),
+            None,
+        )),
     }
 }
 
 fn kept_store(
     alloc: Global,
     machine: &Machine,
-    spare: Option<Box<StoreCopy>>,
+    scratch: Option<Box<StoreCopy>>,
 ) -> Result<Box<StoreCopy>, WriteFault>
     ensures { IfOk result (λ copy. kept_in copy.value ≡ kept_of (state_of machine.now.guest)) }
 {
-    match StoreCopy::over(spare, alloc, machine) {
+    match StoreCopy::over(scratch, alloc, machine) {
         Ok(copy) => Ok(copy),
         Err(_) => Err(WriteFault),
     }
@@ -304,67 +307,25 @@ fn push_start<W: Sink>(
     machine: &Machine,
     cause: Cause,
     taking: Taking,
+    label: Option<&[u8]>,
     sink: &mut W,
 ) -> Result<usize, WriteFault>
     requires cause { let s = state_of machine.now.guest in cause ≡ cause_of s.cpu s.store.bytes }
     requires taking { taking ≡ taking_of cause }
     ensures text { let s = state_of machine.now.guest in OnOk result
-        (Appends (W.contents sink.old) (W.contents sink.new) (start_text s.cpu s.store.bytes)) }
+        (Appends (W.contents sink.old) (W.contents sink.new)
+        (start_text (option_map (λ l. l.now) label.entry) s.cpu s.store.bytes)) }
     ensures length { IfOk result
-        (λ len. len ≡ length (what_text (state_of machine.now.guest).cpu.pc cause)) }
+        (λ len. len ≡ length (named_text (state_of machine.now.guest).cpu.pc cause
+        (option_map (λ l. l.now) label.entry))) }
 {
     let cpu = machine.cpu();
-    let text = text_of(alloc, cpu.pc(), cause)?;
+    let text = named_text(alloc, cpu.pc(), cause, label)?;
     let len = text.bytes().len();
     push_front(sink, cpu.pc(), cause)?;
     push_all(sink, text.bytes())?;
     push_taking(alloc, cpu, machine.memory(), len, taking, sink)?;
     Ok(len)
-}
-
-/// Writes the columns before an instruction's text: the address and the word that stand there.
-///
-/// # Errors
-///
-/// Where the sink failed.
-pub fn push_front<W: Sink>(sink: &mut W, pc: u32, cause: Cause) -> Result<(), WriteFault>
-    ensures { Writes W.contents W.has_failed sink.old sink.new result (front_text pc cause) }
-{
-    push_parts(sink, &[HexText::word(pc).as_slice(), b" ".as_slice()])?;
-    push_word_column(sink, cause)?;
-    push_all(sink, b" ")
-}
-
-fn push_word_column<W: Sink>(sink: &mut W, cause: Cause) -> Result<(), WriteFault>
-    ensures { Writes W.contents W.has_failed sink.old sink.new result (word_column cause) }
-{
-    match cause {
-        Cause::Skipped(word) | Cause::Word(word) => push_all(sink, HexText::word(word).as_slice()),
-        Cause::Gate | Cause::Unmapped => push_all(sink, b"--------"),
-    }
-}
-
-/// The text of what stands at a program counter.
-///
-/// # Errors
-///
-/// Where memory ran out.
-pub fn text_of(alloc: Global, pc: u32, cause: Cause) -> Result<TextSink, WriteFault>
-    ensures { IfOk result (λ text. sink_text_of text ≡ what_text pc cause) }
-{
-    let mut text = line_sink(alloc)?;
-    push_what(&mut text, pc, cause)?;
-    Ok(text)
-}
-
-fn push_what<W: Sink>(sink: &mut W, pc: u32, cause: Cause) -> Result<(), WriteFault>
-    ensures { Writes W.contents W.has_failed sink.old sink.new result (what_text pc cause) }
-{
-    match cause {
-        Cause::Gate => push_all(sink, b"return gate"),
-        Cause::Unmapped => push_all(sink, b"unmapped"),
-        Cause::Skipped(word) | Cause::Word(word) => disassemble(word, pc, sink),
-    }
 }
 
 // Writes what follows on an instruction's text before it is carried out.

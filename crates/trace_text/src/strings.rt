@@ -11,7 +11,7 @@ use arrayvec::ArrayVec;
 use profile::{Sink, WriteFault, push_all};
 use trace_store_text::push_quoted;
 
-/// How many characters of a text are told.
+/// How many characters of a text are shown.
 const MOST_CHARACTERS: usize = 40;
 
 /// Writes the text at an address between double quotes, with a space before it: its characters up to
