@@ -9,7 +9,7 @@ use Rattle.profile.specs.Firsts.{first_of}
 use Rattle.profile.specs.Sums.{address_further}
 use Rattle.profile.specs.declared.fault.Fault.{Fault}
 use Rattle.address_map.specs.Bytes.{Bytes, word_loaded}
-use Rattle.instances_table.specs.Lookup.{told_of_module}
+use Rattle.instances_table.specs.Lookup.{shown_of_module}
 use Rattle.instances_table.specs.Modules.{Module}
 use Rattle.instances_table.specs.declared.parts.ModuleInfo.{ModuleInfo}
 use Rattle.swi_dispatch_answers.specs.Strings.{ends, text_at}
@@ -25,7 +25,8 @@ table_text b at = option_and_then if_some (text_at (ends end.Zero) 255 b at)
 
 abbrev pub number_by : List ℕ → ℕ → (ℕ → Option ℕ) → Option (List ℕ) → Option ℕ
 number_by name number others None = None
-number_by name number others (Some text) = if bytes_eq text name then Some number else others (length text + 1)
+number_by name number others (Some text) = if bytes_eq text name then Some number else others
+    (length text + 1)
 
 -- the number of the first text of that name, of so many from an address on, of which the first has that number
 unfoldable pub number_from : ℕ → Bytes → List ℕ → ℕ → ℕ → Option ℕ
@@ -66,8 +67,9 @@ table_of b m = if nat_le 40 m.len then table_by m (word_loaded b (address_furthe
 abbrev pub swi_of_module : Bytes → List ℕ → ModuleInfo → Option ℕ
 swi_of_module b name m =
     if m.chunk == 0 then None else
-    option_map (λ number. address_further m.chunk number) (option_and_then (number_in_table b name) (table_of b m))
+    option_map (λ number. address_further m.chunk number)
+    (option_and_then (number_in_table b name) (table_of b m))
 
 -- by the oldest module that has it
 abbrev pub swi_of_modules : Bytes → List Module → List ℕ → Option ℕ
-swi_of_modules b modules name = first_of (λ m. swi_of_module b name (told_of_module m)) modules
+swi_of_modules b modules name = first_of (λ m. swi_of_module b name (shown_of_module m)) modules

@@ -49,5 +49,5 @@ abbrev pub place_of : Naming → ℕ → Option LabelledPlace
 place_of n address = last_with (place_now_of n.modules address) n.labels
 
 -- as the code has it
-abbrev pub told_of_place_label : PlaceLabel → LabelledPlace
-told_of_place_label p = record { image = p.image.now; label = p.label.now; offset = p.offset }
+abbrev pub shown_of_place_label : PlaceLabel → LabelledPlace
+shown_of_place_label p = record { image = p.image.now; label = p.label.now; offset = p.offset }

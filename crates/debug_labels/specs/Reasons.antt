@@ -35,4 +35,5 @@ reason_by_word labels form (Some word) =
 -- why a tidy line is none of the language
 abbrev pub refusal_reason : LineNaming → List ℕ → List ℕ
 refusal_reason n line =
-    reason_by_word n.names.labels (form_text (form_of_line (words line))) (unnumbered_word (words (line_with_numbers n line)))
+    reason_by_word n.names.labels (form_text (form_of_line (words line)))
+    (unnumbered_word (words (line_with_numbers n line)))

@@ -5,7 +5,7 @@ use Rattle.std.specs.Option.{option_or}
 use Rattle.std.specs.Str.{bytes_eq}
 use Rattle.profile.specs.Firsts.{first_of}
 use Rattle.image_loader.specs.declared.module_header.header.Header.{Header}
-use Rattle.instances_table.specs.Lookup.{told_of_module}
+use Rattle.instances_table.specs.Lookup.{shown_of_module}
 use Rattle.instances_table.specs.Modules.{Module}
 use Rattle.instances_table.specs.declared.parts.ModuleInfo.{ModuleInfo}
 use Rattle.debug_labels.specs.Labels.{ImageLabels}
@@ -22,7 +22,7 @@ abbrev pub start_as : ImageLabels → ModuleInfo → Option ℕ
 start_as i m = if is_loaded_from i m then Some m.image else None
 
 abbrev pub module_start : List Module → ImageLabels → Option ℕ
-module_start modules i = first_of (λ m. start_as i (told_of_module m)) modules
+module_start modules i = first_of (λ m. start_as i (shown_of_module m)) modules
 
 -- where an image stands now
 abbrev pub start_now : List Module → ImageLabels → ℕ

@@ -3,7 +3,7 @@
 ghost use Rattle.std.specs.Prelude.{◌≡◌, ◌≤◌, ◌<◌, ◌+◌, ◌^◌, length, IfSome, slice_get};
 ghost use Rattle.std.specs.Option.{option_map, option_and_then};
 ghost use Rattle.address_map.specs.Memory.{bytes_of};
-ghost use Rattle.instances_table.specs.Lookup.{told_of_module};
+ghost use Rattle.instances_table.specs.Lookup.{shown_of_module};
 ghost use Rattle.debug_labels.specs.ModuleSwis.{number_from, number_in_table, own_name, swi_of_module, swi_of_modules, table_of, table_text};
 
 use address_map::AddressMap;
@@ -40,7 +40,7 @@ fn swi_of_numbered(
     name: &[u8],
     number: u32,
 ) -> Option<u32>
-    ensures { result ≡ option_and_then (λ m. swi_of_module (bytes_of memory.now) name.now (told_of_module m))
+    ensures { result ≡ option_and_then (λ m. swi_of_module (bytes_of memory.now) name.now (shown_of_module m))
         (slice_get modules.now number) }
 {
     swi_of_module(memory, name, &modules.module(number)?)

@@ -1,4 +1,4 @@
-//! Views for a debugger that tell places by their labels: where the machine stands, the stack, and
+//! Views for a debugger that show places by their labels: where the machine stands, the stack, and
 //! the open frames of module code.
 #![tactic(auto)]
 

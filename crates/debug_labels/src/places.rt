@@ -2,7 +2,7 @@
 
 ghost use Rattle.std.specs.Prelude.{◌≡◌, ◌≤◌, IfSome, None, option_map};
 ghost use Rattle.std.specs.Option.{option_copied};
-ghost use Rattle.debug_labels.specs.Places.{nearer_label, nearest_label, place_now_of, told_of_place_label};
+ghost use Rattle.debug_labels.specs.Places.{nearer_label, nearest_label, place_now_of, shown_of_place_label};
 ghost use Rattle.debug_labels.specs.Words.{last_with};
 
 use crate::labels::{Label, LabelledImage};
@@ -26,7 +26,7 @@ impl<'a> PlaceNames<'a> {
     /// The label that stands at an address, or nearest below it in the image that stands there: of
     /// two labels at one place the first, and of two images the one that was assembled last.
     pub fn label_at(&self, address: u32) -> Option<PlaceLabel<'a>>
-        ensures { option_map told_of_place_label result ≡ place_of self.now address }
+        ensures { option_map shown_of_place_label result ≡ place_of self.now address }
     {
         label_at(self.labels.images(), self.modules, address)
     }
@@ -38,7 +38,7 @@ fn label_at<'a>(
     modules: &Instances,
     address: u32,
 ) -> Option<PlaceLabel<'a>>
-    ensures { option_map told_of_place_label result
+    ensures { option_map shown_of_place_label result
         ≡ last_with (place_now_of modules.now address) images.now }
 {
     let mut found = None;
@@ -54,7 +54,7 @@ impl LabelledImage {
 
     // The label at an address or nearest below, where the image starts there.
     fn place_from(&self, start: u32, address: u32) -> Option<PlaceLabel<'_>>
-        ensures { option_map told_of_place_label result ≡ place_from start self.now address }
+        ensures { option_map shown_of_place_label result ≡ place_from start self.now address }
     {
         if self.is_inside(start, address) {
             self.place_at(address - start)
@@ -72,7 +72,7 @@ impl LabelledImage {
 
     // The label at a place or nearest below, so many bytes from the image's start.
     fn place_at(&self, at: u32) -> Option<PlaceLabel<'_>>
-        ensures { option_map told_of_place_label result ≡ place_in_image self.now at }
+        ensures { option_map shown_of_place_label result ≡ place_in_image self.now at }
     {
         let label = nearest_label(self.labels.as_slice(), at)?;
         Some(PlaceLabel {

@@ -3,7 +3,7 @@
 ghost use Rattle.std.specs.Prelude.{◌≡◌, slice_get};
 ghost use Rattle.std.specs.Option.{option_and_then};
 ghost use Rattle.debug_labels.specs.Standing.{is_titled};
-ghost use Rattle.instances_table.specs.Lookup.{told_of_module};
+ghost use Rattle.instances_table.specs.Lookup.{shown_of_module};
 
 use crate::labels::LabelledImage;
 use image_loader::module_header::Header;
@@ -34,7 +34,7 @@ impl LabelledImage {
 
     // Where the module of a number stands, if there is one and it is loaded from the image.
     fn start_as_numbered(&self, modules: &Instances, number: u32) -> Option<u32>
-        ensures { result ≡ option_and_then (λ m. start_as self.now (told_of_module m))
+        ensures { result ≡ option_and_then (λ m. start_as self.now (shown_of_module m))
             (slice_get modules.now number) }
     {
         self.start_as(&modules.module(number)?)

@@ -3,7 +3,7 @@
 ghost use Rattle.std.specs.Prelude.{◌≡◌, Some};
 ghost use Rattle.std.specs.List.{flat_map};
 ghost use Rattle.profile.specs.Output.{Writes};
-ghost use Rattle.debug_labels.specs.Places.{place_of, told_of_place_label};
+ghost use Rattle.debug_labels.specs.Places.{place_of, shown_of_place_label};
 ghost use Rattle.debug_labels.specs.Views.{label_line, labels_text, first_names_of, hinted_text, label_hint, last_names_text, last_two, labels_text_from, labels_text_of, no_label_text, place_line, spaced_name, spaced_place_text};
 
 use crate::labels::{Label, LabelledImage};
@@ -13,7 +13,7 @@ use instances::Instances;
 use itoa::Buffer;
 use profile::{HexText, Sink, WriteFault, push_all, push_parts};
 
-// Of so many images labels are told where a name is none, and so many of each.
+// Of so many images labels are shown where a name is none, and so many of each.
 const HINTED_IMAGES: usize = 2;
 
 const HINTED_LABELS: usize = 8;
@@ -193,7 +193,7 @@ fn show_label<W: Sink>(
 
 fn push_place_label<W: Sink>(place: PlaceLabel, sink: &mut W) -> Result<(), WriteFault>
     ensures { Writes W.contents W.has_failed sink.old sink.new result
-        (spaced_place_text (Some (told_of_place_label place.entry))) }
+        (spaced_place_text (Some (shown_of_place_label place.entry))) }
 {
     push_parts(
         sink,

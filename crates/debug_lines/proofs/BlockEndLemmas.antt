@@ -3,11 +3,11 @@ use Rattle.std.proofs.Common.{◌≡◌, ℕ, Bool, true, false, List, [], ◌�
 use Rattle.std.specs.Prelude.{not}
 use Rattle.profile.specs.text_lines.WholeLines.{unended_line, whole_lines}
 use Rattle.command_shell_lines.specs.Requests.{is_end_of_block, request_of}
-use Rattle.debug_lines.specs.BlockEnds.{BlocksRead, begins_if, blocks_after_line, blocks_after_lines, blocks_read, blocks_read_from, missing_ends_if, is_in_block, is_outside_blocks, one_line_more, place_after, place_at_opening, place_in_block, place_when_told}
+use Rattle.debug_lines.specs.BlockEnds.{BlocksRead, begins_if, blocks_after_line, blocks_after_lines, blocks_read, blocks_read_from, missing_ends_if, is_in_block, is_outside_blocks, one_line_more, place_after, place_at_opening, place_in_block, place_when_shown}
 use Rattle.debug_lines.specs.DebugRequests.{debug_opens_block, debug_request}
 use Rattle.debug_lines.specs.WholeDebugRequests.{is_debug_block_open_after}
 use Rattle.debug_lines.specs.declared.block_ends.BlockPlace.{BlockPlace}
-use Rattle.debug_lines.specs.declared.block_ends.BlockPlace.TheVariants.{Outside, Within, Told}
+use Rattle.debug_lines.specs.declared.block_ends.BlockPlace.TheVariants.{Outside, Within, Reported}
 use Rattle.debug_lines.specs.declared.block_ends.BlockReading.{BlockReading}
 
 -- a line more
@@ -44,16 +44,16 @@ goes_on_in_block true goes_on begin = refl
 goes_on_in_block false true begin = refl
 goes_on_in_block false false begin = refl
 
-told_in_block : (ends : Bool) → is_in_block (place_when_told ends) ≡ not ends
-told_in_block true = refl
-told_in_block false = refl
+shown_in_block : (ends : Bool) → is_in_block (place_when_shown ends) ≡ not ends
+shown_in_block true = refl
+shown_in_block false = refl
 
 in_block_after : (place : BlockPlace) (number : ℕ) (line : List ℕ)
     → is_in_block (place_after place number line) ≡ is_debug_block_open_after (is_in_block place) line
 in_block_after Outside number line = opening_in_block (debug_opens_block (debug_request line)) number
 in_block_after (Within begin) number line =
     goes_on_in_block (is_end_of_block line) (is_outside_blocks (request_of line)) begin
-in_block_after Told number line = told_in_block (is_end_of_block line)
+in_block_after Reported number line = shown_in_block (is_end_of_block line)
 
 pub in_block_then : (before after : BlockReading) (line : List ℕ)
     → blocks_read after ≡ blocks_after_line (blocks_read before) line

@@ -14,7 +14,7 @@ use Rattle.command_shell_lines.specs.debug_words.NamedBytes.{named_bytes}
 use Rattle.command_shell_lines.specs.debug_words.Texts.{text_behind}
 use Rattle.debug_lines.specs.ByteLines.{counted_bytes, word_and_rest}
 use Rattle.debug_lines.specs.Registers.{register_of_name}
-use Rattle.command_shell_lines.specs.debug_words.Values.{value_told}
+use Rattle.command_shell_lines.specs.debug_words.Values.{value_shown}
 use Rattle.debug_lines.specs.ModeRequests.{ModeRequest, Trace, mode_of_two, stub_request}
 use Rattle.debug_lines.specs.Status.{status_of_two, status_of_word}
 use Rattle.debug_lines.specs.SteppingRequests.{Finish}
@@ -133,7 +133,7 @@ unfolding asks_block
 own_set what value =
     own_if (is_same_word what (codes "PC")) _ _ (own_pc (origin_of value))
     (own_if (is_same_word what (codes "PSR")) _ _ (own_psr (status_of_word value))
-    (own_set_register (register_of_name what) (value_told value)))
+    (own_set_register (register_of_name what) (value_shown value)))
 
 own_three : (word first second : List ℕ) → asks_block (own_request_of_three word first second) ≡ false
 unfolding asks_block
@@ -173,7 +173,7 @@ own_poke_by None address text = own_write (script_number address) text
 
 own_poke_of : (o : Option (List ℕ × List ℕ)) → asks_block (poke_of o) ≡ false
 unfolding asks_block
-own_poke_of (Some parts) = own_poke_by (value_told parts.1) parts.0 parts.1
+own_poke_of (Some parts) = own_poke_by (value_shown parts.1) parts.0 parts.1
 own_poke_of None = refl
 
 own_fill : (o : Option (ℕ × (ℕ × List ℕ))) → asks_block (fill_of o) ≡ false

@@ -1,13 +1,13 @@
 -- Blocks that turn out to lack their line END: where a line stands in one that opens a block, boots,
 -- loads, calls or runs, as a line of a script; and where the script ends in one. What such a block is
--- answered stays as it is; this is what a user is told beside the answers.
+-- answered stays as it is; this is what a user is shown beside the answers.
 use Rattle.std.specs.Prelude.{ℕ, ◌+◌, ◌-◌, ◌^◌, min, Bool, true, false, List, [], ◌∷◌, ◌++◌, length, drop}
 use Rattle.profile.specs.text_lines.WholeLines.{whole_lines, unended_line, line_of_some}
 use Rattle.command_shell_lines.specs.Requests.{Request, Asm, Boot, Call, Load, Run, is_end_of_block, request_of}
 use Rattle.debug_lines.specs.DebugRequests.{debug_opens_block, debug_request}
 use Rattle.debug_lines.specs.declared.block_ends.BlockPlace.{BlockPlace}
 use Rattle.debug_lines.specs.declared.block_ends.BlockReading.{BlockReading}
-use Rattle.debug_lines.specs.declared.block_ends.BlockPlace.TheVariants.{Outside, Within, Told}
+use Rattle.debug_lines.specs.declared.block_ends.BlockPlace.TheVariants.{Outside, Within, Reported}
 
 -- how many lines were read, up to 2^64 - 1
 abbrev pub one_line_more : ℕ → ℕ
@@ -28,19 +28,19 @@ place_at_opening false number = Outside
 
 abbrev pub place_in_block : Bool → Bool → ℕ → BlockPlace
 place_in_block true goes_on begin = Outside
-place_in_block false true begin = Told
+place_in_block false true begin = Reported
 place_in_block false false begin = Within begin
 
-abbrev pub place_when_told : Bool → BlockPlace
-place_when_told true = Outside
-place_when_told false = Told
+abbrev pub place_when_shown : Bool → BlockPlace
+place_when_shown true = Outside
+place_when_shown false = Reported
 
 -- where the reading stands after a line of that number
 abbrev pub place_after : BlockPlace → ℕ → List ℕ → BlockPlace
 place_after Outside number line = place_at_opening (debug_opens_block (debug_request line)) number
 place_after (Within begin) number line =
     place_in_block (is_end_of_block line) (is_outside_blocks (request_of line)) begin
-place_after Told number line = place_when_told (is_end_of_block line)
+place_after Reported number line = place_when_shown (is_end_of_block line)
 
 abbrev pub begin_if : Bool → Bool → ℕ → List ℕ
 begin_if true goes_on begin = []
@@ -48,22 +48,22 @@ begin_if false true begin = begin ∷ []
 begin_if false false begin = []
 
 -- the line at which the block begins that turns out to lack its END at this line, if one does
-abbrev pub begins_told : BlockPlace → List ℕ → List ℕ
-begins_told Outside line = []
-begins_told (Within begin) line = begin_if (is_end_of_block line) (is_outside_blocks (request_of line)) begin
-begins_told Told line = []
+abbrev pub begins_shown : BlockPlace → List ℕ → List ℕ
+begins_shown Outside line = []
+begins_shown (Within begin) line = begin_if (is_end_of_block line) (is_outside_blocks (request_of line)) begin
+begins_shown Reported line = []
 
 -- the same at the script's end
 abbrev pub begins_at_end : BlockPlace → List ℕ
 begins_at_end Outside = []
 begins_at_end (Within begin) = begin ∷ []
-begins_at_end Told = []
+begins_at_end Reported = []
 
 -- whether a block is open there
 abbrev pub is_in_block : BlockPlace → Bool
 is_in_block Outside = false
 is_in_block (Within begin) = true
-is_in_block Told = true
+is_in_block Reported = true
 
 -- the lines at which blocks begin that lack their END; where the reading stands; how many lines were
 -- read
@@ -74,7 +74,7 @@ pub record BlocksRead : Type 0 where
 
 abbrev pub blocks_after_line : BlocksRead → List ℕ → BlocksRead
 blocks_after_line r line = record {
-  begins = r.begins ++ begins_told r.place line;
+  begins = r.begins ++ begins_shown r.place line;
   place = place_after r.place (one_line_more r.number) line;
   number = one_line_more r.number;
 }

@@ -8,7 +8,8 @@ use Rattle.debug_lines.specs.declared.byte_lines.CountedBytes.{CountedBytes}
 
 -- a word, and what stands behind its space (32)
 abbrev pub word_and_rest : List ℕ → Option (List ℕ × List ℕ)
-word_and_rest text = option_map (λ place. (take place text, drop (place + 1) text)) (position (λ b. b == 32) text)
+word_and_rest text = option_map (λ place. (take place text, drop (place + 1) text))
+    (position (λ b. b == 32) text)
 
 abbrev pub count_and_bytes : Option ℕ → Option ℕ → List ℕ → Option (ℕ × (ℕ × List ℕ))
 count_and_bytes (Some address) (Some count) text =

@@ -22,7 +22,7 @@ use Rattle.debug_lines.specs.Status.{status_of_word, status_of_two}
 use Rattle.debug_lines.specs.SteppingRequests.{SteppingRequest, Step, Finish, Gosub, RunLast, stepping_in, stepping_request_of}
 use Rattle.debug_lines.specs.Registers.{register_of_name}
 use Rattle.debug_lines.specs.Tidy.{tidied_line}
-use Rattle.command_shell_lines.specs.debug_words.Values.{value_told}
+use Rattle.command_shell_lines.specs.debug_words.Values.{value_shown}
 use Rattle.command_shell_lines.specs.debug_words.SwiNames.{swi_named}
 
 -- what only looks
@@ -44,7 +44,7 @@ pub data ViewRequest : Type 0 where
 pub data DebugRequest : Type 0 where
   -- what a line of a script asks for
   Script : Request → DebugRequest
-  -- steps, and whether they are told one by one; of a script's own lines only where they are
+  -- steps, and whether they are shown one by one; of a script's own lines only where they are
   Stepping : Bool → SteppingRequest → DebugRequest
   Mode : ModeRequest → DebugRequest
   Remark : DebugRequest
@@ -160,7 +160,7 @@ abbrev pub set_request : List ℕ → List ℕ → DebugRequest
 set_request what value =
     if is_same_word what (codes "PC") then set_pc_to (origin_of value) else (
     if is_same_word what (codes "PSR") then set_psr_to (status_of_word value) else
-    script_of_two (register_of_name what) (value_told value) Set)
+    script_of_two (register_of_name what) (value_shown value) Set)
 
 abbrev pub put_at : Bool → List ℕ → Option ℕ → DebugRequest
 put_at true name (Some address) = Put name address
@@ -208,7 +208,7 @@ poke_by (Some value) address text = script_of_two (word_address address) (Some v
 poke_by None address text = write_at (script_number address) text
 
 abbrev pub poke_at : List ℕ → List ℕ → DebugRequest
-poke_at address text = poke_by (value_told text) address text
+poke_at address text = poke_by (value_shown text) address text
 
 abbrev pub poke_of : Option (List ℕ × List ℕ) → DebugRequest
 poke_of (Some parts) = poke_at parts.0 parts.1
@@ -234,7 +234,8 @@ bytes_request line = bytes_request_by
     (text_behind (codes "POKE ") line) (text_behind (codes "FILL ") line) (text_behind (codes "FIND ") line)
 
 -- EXPECT, STUB and the lines that name bytes read what follows for themselves.
-abbrev pub own_request_behind : Option (List ℕ) → Option (List ℕ) → Option DebugRequest → List ℕ → DebugRequest
+abbrev pub own_request_behind : Option (List ℕ) → Option (List ℕ) → Option DebugRequest → List ℕ →
+    DebugRequest
 own_request_behind (Some expected) stub bytes line = expect_line (expect_request expected)
 own_request_behind None (Some stub) bytes line = mode_line (stub_request stub)
 own_request_behind None None (Some request) line = request
@@ -261,7 +262,7 @@ is_repeatable NotKnown = false
 is_repeatable (Repeat count line) = false
 is_repeatable _ = true
 
--- A line that takes steps has them told behind TRACE; another that may stand there asks for what it
+-- A line that takes steps has them shown behind TRACE; another that may stand there asks for what it
 -- asks for without it.
 abbrev pub traced_script : Option SteppingRequest → DebugRequest → DebugRequest
 traced_script (Some request) other = Stepping true request
@@ -368,7 +369,8 @@ view_request_of view.Help = Help
 
 abbrev pub debug_request_of_command : DebugCommand → DebugRequest
 debug_request_of_command (command.Script known) = Script (request_of_command known)
-debug_request_of_command (command.Stepping is_traced request) = Stepping is_traced (stepping_request_of request)
+debug_request_of_command (command.Stepping is_traced request) = Stepping is_traced
+    (stepping_request_of request)
 debug_request_of_command (command.Mode request) = Mode (mode_request_of request)
 debug_request_of_command command.Remark = Remark
 debug_request_of_command (command.View shown) = View (view_request_of shown)

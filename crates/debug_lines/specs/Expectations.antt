@@ -8,12 +8,12 @@ use Rattle.command_shell_lines.specs.Requests.{is_same_word, words}
 use Rattle.debug_lines.specs.declared.status.StatusPattern.{StatusPattern}
 use Rattle.debug_lines.specs.declared.expectations.Expectation.{Expectation}
 use Rattle.debug_lines.specs.declared.expectations.Expectation.TheVariants as expectation
-use Rattle.command_shell_lines.specs.debug_words.ErrorNumbers.{error_told}
+use Rattle.command_shell_lines.specs.debug_words.ErrorNumbers.{error_shown}
 use Rattle.debug_lines.specs.Registers.{register_of_name, banked_register_named}
 use Rattle.command_shell_lines.specs.debug_words.Spelling.{spelt_bytes}
 use Rattle.command_shell_lines.specs.debug_words.Texts.{between_quotes, byte_value, text_behind}
 use Rattle.debug_lines.specs.Status.{status_of_word, status_of_two}
-use Rattle.command_shell_lines.specs.debug_words.Values.{value_told}
+use Rattle.command_shell_lines.specs.debug_words.Values.{value_shown}
 
 pub data ExpectRequest : Type 0 where
   -- a register as the machine's mode has it, 0 to 14, and its value
@@ -55,9 +55,9 @@ expect_value what value = if is_same_word what (codes "PC") then Some (Pc value)
 abbrev pub expect_of_two : List ℕ → List ℕ → Option ExpectRequest
 expect_of_two what value =
     if is_same_word what (codes "FLAGS") then option_map Flags (status_of_word value) else (
-    if is_same_word what (codes "ERROR") then option_map Error (error_told value) else (
+    if is_same_word what (codes "ERROR") then option_map Error (error_shown value) else (
     if is_same_word what (codes "STEPS") then option_map Steps (script_number value) else
-    option_and_then (expect_value what) (value_told value)))
+    option_and_then (expect_value what) (value_shown value)))
 
 abbrev pub expect_steps : Bool → Option ℕ → Option ExpectRequest
 expect_steps true count = option_map StepsAtMost count
@@ -67,9 +67,10 @@ expect_steps false count = None
 abbrev pub expect_of_three : List ℕ → List ℕ → List ℕ → Option ExpectRequest
 expect_of_three what first second =
     if is_same_word what (codes "FLAGS") then option_map Flags (status_of_two first second) else (
-    if is_same_word what (codes "WORD") then expect_both (word_address first) (value_told second) Word else (
+    if is_same_word what (codes "WORD") then expect_both (word_address first) (value_shown second) Word else (
     if is_same_word what (codes "BYTE") then expect_both (script_number first) (byte_value second) Byte else (
-    if is_same_word what (codes "STEPS") then expect_steps (bytes_eq first (codes "<=")) (script_number second)
+    if is_same_word what (codes "STEPS") then expect_steps (bytes_eq first (codes "<="))
+    (script_number second)
     else
     None)))
 

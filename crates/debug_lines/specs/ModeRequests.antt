@@ -1,19 +1,19 @@
--- The lines that change how later lines are answered: whether steps are told, and how many; stubs,
+-- The lines that change how later lines are answered: whether steps are shown, and how many; stubs,
 -- which stand for SWIs that the machine doesn't have; words that are watched; whether steps are
 -- counted.
 use Rattle.std.specs.Prelude.{ℕ, Bool, true, false, nat_le, List, [], ◌∷◌, length, codes, Option, Some, None, option_map, if◌then◌else◌}
 use Rattle.command_shell_lines.specs.Numbers.{script_number}
 use Rattle.command_shell_lines.specs.Operands.{cpu_register_named, origin_of}
 use Rattle.command_shell_lines.specs.Requests.{is_same_word, words}
-use Rattle.command_shell_lines.specs.debug_words.Values.{swi_told}
+use Rattle.command_shell_lines.specs.debug_words.Values.{swi_shown}
 use Rattle.debug_lines.specs.declared.modes.ModeCommand.{ModeCommand}
 use Rattle.debug_lines.specs.declared.modes.ModeCommand.TheVariants as mode
 use Rattle.debug_lines.specs.declared.modes.StubSetting.{StubSetting}
 
 pub data ModeRequest : Type 0 where
-  -- whether the steps of all lines are told
+  -- whether the steps of all lines are shown
   Trace : Bool → ModeRequest
-  -- how many steps of a line are told
+  -- how many steps of a line are shown
   TraceLimit : ℕ → ModeRequest
   -- a SWI's number, and the registers that its stub sets, one after another
   Stub : ℕ → List StubSetting → ModeRequest
@@ -34,7 +34,7 @@ is_on_word word =
 -- a line of two words
 abbrev pub mode_of_two : List ℕ → List ℕ → Option ModeRequest
 mode_of_two word other =
-    if is_same_word word (codes "UNSTUB") then option_map Unstub (swi_told other) else (
+    if is_same_word word (codes "UNSTUB") then option_map Unstub (swi_shown other) else (
     if is_same_word word (codes "WATCH") then option_map Watch (origin_of other) else (
     if is_same_word word (codes "UNWATCH") then option_map Unwatch (origin_of other) else (
     if is_same_word word (codes "COUNT") then option_map Count (is_on_word other) else
@@ -70,7 +70,7 @@ stub_of None settings = None
 
 abbrev pub stub_of_words : List (List ℕ) → Option ModeRequest
 stub_of_words [] = None
-stub_of_words (number ∷ rest) = stub_of (swi_told number) (settings_in_limit (stub_settings rest))
+stub_of_words (number ∷ rest) = stub_of (swi_shown number) (settings_in_limit (stub_settings rest))
 
 -- what stands behind the word STUB: a number, and the registers
 abbrev pub stub_request : List ℕ → Option ModeRequest

@@ -19,10 +19,10 @@ any_status = record {
   mode = None;
 }
 
--- a flag that a letter tells, where no letter before it has
-abbrev pub flag_told_once : Option Bool → Bool → Option (Option Bool)
-flag_told_once None is_set = Some (Some is_set)
-flag_told_once (Some told) is_set = None
+-- a flag that a letter shows, where no letter before it has
+abbrev pub flag_shown_once : Option Bool → Bool → Option (Option Bool)
+flag_shown_once None is_set = Some (Some is_set)
+flag_shown_once (Some reported) is_set = None
 
 -- the letter in either case
 abbrev pub is_letter : ℕ → ℕ → Bool
@@ -32,17 +32,17 @@ is_letter capital b = b == capital || b == capital + 32
 abbrev pub with_letter : StatusPattern → ℕ → Option StatusPattern
 with_letter p b =
     if is_letter 78 b then option_map (λ flag. record p { negative = flag })
-    (flag_told_once p.negative (is_ascii_uppercase b)) else (
+    (flag_shown_once p.negative (is_ascii_uppercase b)) else (
     if is_letter 90 b then option_map (λ flag. record p { zero = flag })
-    (flag_told_once p.zero (is_ascii_uppercase b)) else (
+    (flag_shown_once p.zero (is_ascii_uppercase b)) else (
     if is_letter 67 b then option_map (λ flag. record p { carry = flag })
-    (flag_told_once p.carry (is_ascii_uppercase b)) else (
+    (flag_shown_once p.carry (is_ascii_uppercase b)) else (
     if is_letter 86 b then option_map (λ flag. record p { overflow = flag })
-    (flag_told_once p.overflow (is_ascii_uppercase b)) else (
+    (flag_shown_once p.overflow (is_ascii_uppercase b)) else (
     if is_letter 73 b then option_map (λ flag. record p { interrupts_off = flag })
-    (flag_told_once p.interrupts_off (is_ascii_uppercase b)) else (
+    (flag_shown_once p.interrupts_off (is_ascii_uppercase b)) else (
     if is_letter 70 b then option_map (λ flag. record p { fast_interrupts_off = flag })
-    (flag_told_once p.fast_interrupts_off (is_ascii_uppercase b)) else
+    (flag_shown_once p.fast_interrupts_off (is_ascii_uppercase b)) else
     None)))))
 
 abbrev pub with_letters : StatusPattern → List ℕ → Option StatusPattern

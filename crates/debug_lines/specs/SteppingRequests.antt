@@ -1,6 +1,6 @@
 -- The lines that take steps: those of a script; FINISH, which takes them until the innermost frame has
 -- gone back; GOSUB, which calls the routine at an address, a multiple of 4 below 2^26; and TRACE LAST,
--- a RUN of which the last steps are told.
+-- a RUN of which the last steps are shown.
 use Rattle.std.specs.Prelude.{ℕ, List, Option, Some, None}
 use Rattle.command_shell_lines.specs.Requests as script
 use Rattle.debug_lines.specs.declared.stepping.SteppingCommand.{SteppingCommand}
@@ -13,7 +13,7 @@ pub data SteppingRequest : Type 0 where
   Load : List ℕ → SteppingRequest
   Finish : SteppingRequest
   Gosub : ℕ → SteppingRequest
-  -- how many of its last steps are told at most
+  -- how many of its last steps are shown at most
   RunLast : ℕ → SteppingRequest
 
 -- what a line of a script asks for that takes steps

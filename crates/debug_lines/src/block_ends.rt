@@ -3,7 +3,7 @@
 ghost use Rattle.std.specs.Prelude.{◌≡◌, ◌++◌, IfOk, OnOk, option_to_list};
 ghost use Rattle.command_shell_lines.specs.Requests.{request_of};
 ghost use Rattle.debug_lines.specs.DebugRequests.{debug_opens_block, debug_request};
-ghost use Rattle.debug_lines.specs.BlockEnds.{begins_at_end, begins_told, is_outside_blocks, missing_ends_if, place_after, begin_if, place_at_opening, place_in_block, place_when_told};
+ghost use Rattle.debug_lines.specs.BlockEnds.{begins_at_end, begins_shown, is_outside_blocks, missing_ends_if, place_after, begin_if, place_at_opening, place_in_block, place_when_shown};
 
 use crate::openers::opens_block;
 use command_shell_lines::{ScriptCommand, command_of, is_block_end};
@@ -18,7 +18,7 @@ pub enum BlockPlace {
     /// In a block that begins at that line.
     Within(usize),
     /// In a block of which it is told that it lacks its END.
-    Told,
+    Reported,
 }
 
 /// Such a reading.
@@ -81,8 +81,8 @@ impl BlockReading {
                 self.place = place_in_block(ends, goes_on, begin);
                 self.push_begin(begin_if(ends, goes_on, begin))
             }
-            BlockPlace::Told => {
-                self.place = place_when_told(is_block_end(line));
+            BlockPlace::Reported => {
+                self.place = place_when_shown(is_block_end(line));
                 Ok(())
             }
         }
@@ -115,7 +115,7 @@ impl BlockReading {
         }
         let mut reading = self;
         reading.read_last(alloc, line)?;
-        let begin = reading.place.told_at_end();
+        let begin = reading.place.shown_at_end();
         reading.push_begin(begin)?;
         Ok(reading.begins)
     }
@@ -135,12 +135,12 @@ impl BlockReading {
 
 impl BlockPlace {
     // The line at which the block begins that is open at the script's end.
-    fn told_at_end(self) -> Option<usize>
+    fn shown_at_end(self) -> Option<usize>
         ensures { option_to_list result ≡ begins_at_end self }
     {
         match self {
             BlockPlace::Within(begin) => Some(begin),
-            BlockPlace::Outside | BlockPlace::Told => None,
+            BlockPlace::Outside | BlockPlace::Reported => None,
         }
     }
 }
@@ -160,18 +160,18 @@ fn place_in_block(ends: bool, goes_on: bool, begin: usize) -> BlockPlace
 {
     match (ends, goes_on) {
         (true, _) => BlockPlace::Outside,
-        (false, true) => BlockPlace::Told,
+        (false, true) => BlockPlace::Reported,
         (false, false) => BlockPlace::Within(begin),
     }
 }
 
-fn place_when_told(ends: bool) -> BlockPlace
-    ensures { result ≡ place_when_told ends }
+fn place_when_shown(ends: bool) -> BlockPlace
+    ensures { result ≡ place_when_shown ends }
 {
     if ends {
         BlockPlace::Outside
     } else {
-        BlockPlace::Told
+        BlockPlace::Reported
     }
 }
 

@@ -6,7 +6,7 @@ ghost use Rattle.debug_lines.specs.DebugRequests.{bytes_request, debug_request_o
 
 use crate::repeats::space_in;
 use crate::requests::DebugCommand;
-use command_shell_lines::debug_words::{names_bytes, text_behind, value_told};
+use command_shell_lines::debug_words::{names_bytes, text_behind, value_shown};
 use command_shell_lines::{ScriptCommand, WordAddress, count_up_to, number_of};
 
 /// The most bytes that a line FILL writes.
@@ -51,7 +51,7 @@ fn poke_command(text: &[u8]) -> DebugCommand<'_>
 fn poke_at<'a>(address: &[u8], named: &'a [u8]) -> DebugCommand<'a>
     ensures { debug_request_of_command result ≡ poke_at address.now named.now }
 {
-    if let Some(value) = value_told(named) {
+    if let Some(value) = value_shown(named) {
         match WordAddress::spelled(address) {
             Some(address) => DebugCommand::Script(ScriptCommand::Poke(address, value)),
             None => DebugCommand::Unknown,

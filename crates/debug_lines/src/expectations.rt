@@ -6,14 +6,14 @@ ghost use Rattle.command_shell_lines.specs.Operands.{word_address};
 ghost use Rattle.command_shell_lines.specs.Requests.{words};
 ghost use Rattle.command_shell_lines.specs.debug_words.Texts.{byte_value};
 ghost use Rattle.debug_lines.specs.Expectations.{Word as IsWord, Byte as IsByte, expect_both, expect_steps, expect_value, expect_of_two, expect_of_three, expect_of_words, expect_output, expect_request, expect_request_of};
-ghost use Rattle.command_shell_lines.specs.debug_words.Values.{value_told};
+ghost use Rattle.command_shell_lines.specs.debug_words.Values.{value_shown};
 
 use crate::few_words::{FewWords, few_words, has_letters};
 use crate::registers::{banked_register_named, register_of_name};
 use crate::status::StatusPattern;
 use arm_core::Mode;
 use command_shell_lines::debug_words::{
-    between_quotes, byte_value, error_told, is_well_spelt, text_behind, value_told,
+    between_quotes, byte_value, error_shown, is_well_spelt, text_behind, value_shown,
 };
 use command_shell_lines::{RegisterNumber, WordAddress, number_of};
 
@@ -88,11 +88,11 @@ fn of_two(what: &[u8], value: &[u8]) -> Option<Expectation<'static>>
     if has_letters(what, b"FLAGS") {
         Some(Expectation::Flags(StatusPattern::of_word(value)?))
     } else if has_letters(what, b"ERROR") {
-        Some(Expectation::Error(error_told(value)?))
+        Some(Expectation::Error(error_shown(value)?))
     } else if has_letters(what, b"STEPS") {
         Some(Expectation::Steps(number_of(value)?))
     } else {
-        of_value(what, value_told(value)?)
+        of_value(what, value_shown(value)?)
     }
 }
 
@@ -139,9 +139,9 @@ fn steps_of(is_at_most: bool, count: &[u8]) -> Option<Expectation<'static>>
 
 fn word_of(address: &[u8], value: &[u8]) -> Option<Expectation<'static>>
     ensures { option_map expect_request_of result
-        ≡ expect_both (word_address address.now) (value_told value.now) IsWord }
+        ≡ expect_both (word_address address.now) (value_shown value.now) IsWord }
 {
-    match (WordAddress::spelled(address), value_told(value)) {
+    match (WordAddress::spelled(address), value_shown(value)) {
         (Some(address), Some(value)) => Some(Expectation::Word(address, value)),
         _ => None,
     }

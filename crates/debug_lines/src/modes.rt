@@ -8,7 +8,7 @@ ghost use Rattle.debug_lines.specs.ModeRequests.{mode_of_two, mode_request_of, s
 
 use crate::few_words::has_letters;
 use arrayvec::ArrayVec;
-use command_shell_lines::debug_words::swi_told;
+use command_shell_lines::debug_words::swi_shown;
 use command_shell_lines::{RegisterNumber, WordAddress, number_of};
 use profile::memory_map::ADDRESS_LIMIT;
 use profile::text_lines::cut;
@@ -56,7 +56,7 @@ pub(crate) fn mode_of_two(word: &[u8], other: &[u8]) -> Option<ModeCommand>
     ensures { option_map mode_request_of result ≡ mode_of_two word.now other.now }
 {
     if has_letters(word, b"UNSTUB") {
-        Some(ModeCommand::Unstub(swi_told(other)?))
+        Some(ModeCommand::Unstub(swi_shown(other)?))
     } else if has_letters(word, b"WATCH") {
         Some(ModeCommand::Watch(watch_address(other)?))
     } else if has_letters(word, b"UNWATCH") {
@@ -98,7 +98,7 @@ pub(crate) fn stub_command(text: &[u8]) -> Option<ModeCommand>
     ensures { option_map mode_request_of result ≡ stub_request text.now }
 {
     let (number, rest) = cut(text, b' ');
-    let number = swi_told(number)?;
+    let number = swi_shown(number)?;
     let settings = match rest {
         Some(rest) => stub_settings(rest)?,
         None => ArrayVec::new(),

@@ -1,4 +1,4 @@
-//! Which lines of a debugging script open a block. Most that open none are told by one byte: a word
+//! Which lines of a debugging script open a block. Most that open none are shown by one byte: a word
 //! that opens one is named here by its first letter, too.
 
 ghost use Rattle.std.specs.Prelude.{◌≡◌, IfOk};

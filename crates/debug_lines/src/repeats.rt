@@ -22,7 +22,7 @@ pub struct RepeatedLine<'a> {
 /// opens no block, and is no REPEAT.
 #[tactic(auto, unfolding(crate::specs::DebugRequests::repeated_line))]
 pub fn repeated_line(tidied: &[u8]) -> Option<RepeatedLine<'_>>
-    ensures told { option_map count_and_line result ≡ repeated_line tidied.now }
+    ensures reported { option_map count_and_line result ≡ repeated_line tidied.now }
     ensures alone { IfSome result (λ repeated. is_repeatable (simple_request repeated.line.now) ≡ true) }
 {
     match text_behind(b"REPEAT ", tidied) {
@@ -33,7 +33,7 @@ pub fn repeated_line(tidied: &[u8]) -> Option<RepeatedLine<'_>>
 
 // A number, a space and a line.
 fn repeated_in(text: &[u8]) -> Option<RepeatedLine<'_>>
-    ensures told { option_map count_and_line result ≡ repeated_at
+    ensures reported { option_map count_and_line result ≡ repeated_at
         (position (λ b. b == 32) text.now) text.now }
     ensures alone { IfSome result (λ repeated. is_repeatable (simple_request repeated.line.now) ≡ true) }
 {
@@ -51,7 +51,7 @@ pub(crate) fn space_in(text: &[u8]) -> Option<usize>
 }
 
 fn repeated_if(count: Option<u32>, line: &[u8]) -> Option<RepeatedLine<'_>>
-    ensures told { option_map count_and_line result ≡ repeated_if count line.now }
+    ensures reported { option_map count_and_line result ≡ repeated_if count line.now }
     ensures alone { IfSome result (λ repeated. is_repeatable (simple_request repeated.line.now) ≡ true) }
 {
     match count {

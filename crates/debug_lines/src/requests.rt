@@ -28,7 +28,7 @@ const MAX_WORDS_SHOWN: u32 = 1024;
 /// The most bytes that a line shows.
 const MAX_BYTES_SHOWN: u32 = 4096;
 
-/// So many words of the stack are shown where a line tells no number.
+/// So many words of the stack are shown where a line shows no number.
 const STACK_WORDS: u32 = 8;
 
 /// What a line asks for that only looks.
@@ -59,7 +59,7 @@ pub enum DebugView {
 pub enum DebugCommand<'a> {
     /// A line of a script, as it stands or made tidy.
     Script(ScriptCommand<'a>),
-    /// A line that takes steps, and whether they are told one by one: FINISH and GOSUB, and behind
+    /// A line that takes steps, and whether they are shown one by one: FINISH and GOSUB, and behind
     /// TRACE the lines of a script too. `TRACE n` is `TRACE STEP n`, and `TRACE LAST n` a RUN.
     Stepping(bool, SteppingCommand<'a>),
     /// A line that changes how later lines are answered.
@@ -77,7 +77,7 @@ pub enum DebugCommand<'a> {
     /// `PUT name a`, with a name that an image can have.
     Put(&'a [u8], u32),
     /// `POKE a "text"` or `POKE a BYTES v ..`; `FILL a n v`, of 1 to 1,048,576 bytes: an address, how
-    /// many bytes, where that is told, and a text that names bytes.
+    /// many bytes, where that is shown, and a text that names bytes.
     Write(u32, Option<u32>, &'a [u8]),
     /// `FIND a n v`, of 1 to 2^26 addresses: the first of them, how many, and a text that names bytes.
     Find(u32, u32, &'a [u8]),

@@ -1,12 +1,12 @@
 //! Flags and modes by their letters, as PSR shows them.
 
 ghost use Rattle.std.specs.Prelude.{◌≡◌};
-ghost use Rattle.debug_lines.specs.Status.{any_status, flag_told_once, with_letter, with_letters, status_of_letters, mode_named, status_of_two, status_of_word};
+ghost use Rattle.debug_lines.specs.Status.{any_status, flag_shown_once, with_letter, with_letters, status_of_letters, mode_named, status_of_two, status_of_word};
 
 use crate::few_words::has_letters;
 use arm_core::Mode;
 
-/// Of a processor status the flags and the mode that a line tells; `None` where it doesn't.
+/// Of a processor status the flags and the mode that a line shows; `None` where it doesn't.
 #[derive(Clone, Copy, Debug, PartialEq, Eq)]
 pub struct StatusPattern {
     /// N, bit 31.
@@ -26,7 +26,7 @@ pub struct StatusPattern {
 }
 
 impl StatusPattern {
-    // The pattern that tells nothing.
+    // The pattern that shows nothing.
     fn any() -> StatusPattern
         ensures { result ≡ any_status }
     {
@@ -56,34 +56,34 @@ impl StatusPattern {
         Some(pattern)
     }
 
-    // The pattern that tells one flag more.
+    // The pattern that shows one flag more.
     fn with_letter(self, letter: u8) -> Option<StatusPattern>
         ensures { result ≡ with_letter self letter }
     {
         let is_set = letter.is_ascii_uppercase();
         match letter {
             b'N' | b'n' => Some(StatusPattern {
-                negative: told_once(self.negative, is_set)?,
+                negative: shown_once(self.negative, is_set)?,
                 ..self
             }),
             b'Z' | b'z' => Some(StatusPattern {
-                zero: told_once(self.zero, is_set)?,
+                zero: shown_once(self.zero, is_set)?,
                 ..self
             }),
             b'C' | b'c' => Some(StatusPattern {
-                carry: told_once(self.carry, is_set)?,
+                carry: shown_once(self.carry, is_set)?,
                 ..self
             }),
             b'V' | b'v' => Some(StatusPattern {
-                overflow: told_once(self.overflow, is_set)?,
+                overflow: shown_once(self.overflow, is_set)?,
                 ..self
             }),
             b'I' | b'i' => Some(StatusPattern {
-                interrupts_off: told_once(self.interrupts_off, is_set)?,
+                interrupts_off: shown_once(self.interrupts_off, is_set)?,
                 ..self
             }),
             b'F' | b'f' => Some(StatusPattern {
-                fast_interrupts_off: told_once(self.fast_interrupts_off, is_set)?,
+                fast_interrupts_off: shown_once(self.fast_interrupts_off, is_set)?,
                 ..self
             }),
             _ => None,
@@ -116,11 +116,11 @@ impl StatusPattern {
     }
 }
 
-// A flag that a letter tells, where no letter before it has.
-fn told_once(told: Option<bool>, is_set: bool) -> Option<Option<bool>>
-    ensures { result ≡ flag_told_once told is_set }
+// A flag that a letter shows, where no letter before it has.
+fn shown_once(reported: Option<bool>, is_set: bool) -> Option<Option<bool>>
+    ensures { result ≡ flag_shown_once reported is_set }
 {
-    match told {
+    match reported {
         None => Some(Some(is_set)),
         Some(_) => None,
     }

@@ -21,7 +21,7 @@ pub enum SteppingCommand<'a> {
     Finish,
     /// `GOSUB a`, with a multiple of 4 below 2^26.
     Gosub(Origin),
-    /// `TRACE LAST n`: RUN, of which the last steps are told, 1 to 64 of them.
+    /// `TRACE LAST n`: RUN, of which the last steps are shown, 1 to 64 of them.
     RunLast(u32),
 }
 

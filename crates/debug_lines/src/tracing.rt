@@ -11,7 +11,7 @@ use crate::stepping::{SteppingCommand, stepping_in};
 use command_shell_lines::debug_words::text_behind;
 use command_shell_lines::{count_up_to, number_of};
 
-/// The most of a run's last steps that a line tells.
+/// The most of a run's last steps that a line shows.
 const MAX_LAST_STEPS: u32 = 64;
 
 /// What a tidy line asks for that is no REPEAT.
@@ -73,7 +73,7 @@ fn trace_of_two(word: &[u8], count: &[u8]) -> Option<DebugCommand<'static>>
     }
 }
 
-// What a line asks for with TRACE before it: its steps are told, if it takes any.
+// What a line asks for with TRACE before it: its steps are shown, if it takes any.
 fn traced(command: DebugCommand<'_>) -> DebugCommand<'_>
     ensures { debug_request_of_command result ≡ traced_request (debug_request_of_command command.entry) }
 {

@@ -10,7 +10,7 @@ use Rattle.debugger.proofs.ModuleLemmas.{all_shown, next_shown}
 use Rattle.debug_labels.specs.place_views.Frames.{frame_lines, frame_text, full_name_at, full_name_if, full_name_within}
 use Rattle.debugger.specs.MachineState.{MachineState}
 
--- what the instances that are left tell of a slot
+-- what the instances that are left report a slot
 abbrev pub names_from : ℕ → ℕ → Option Module → List ℕ
 names_from slot n None = []
 names_from slot n (Some m) = flat_map (full_name_if slot m) (drop n m.instances)

@@ -89,7 +89,8 @@ frame_number_text number = codes "frame " ++ (decimal number ++ codes " ")
 
 -- ` in SVC, R13_svc 01C01FFC`
 abbrev pub entry_text : Frame → List ℕ
-entry_text f = codes " in " ++ (mode_text f.call.caller.mode ++ (codes ", R13_svc " ++ (hex_word f.stack ++ codes "\n")))
+entry_text f = codes " in " ++ (mode_text f.call.caller.mode ++
+    (codes ", R13_svc " ++ (hex_word f.stack ++ codes "\n")))
 
 -- `frame 2 SWI &40000 Low%Base called at &1800074 high:swi+4 in SVC, R13_svc 01C01FFC`
 abbrev pub frame_line : Naming → List Module → Bytes → ℕ → Frame → List ℕ

@@ -1,4 +1,4 @@
--- What places are told by on a machine, and where it stands: `at &8004 countdown:loop+4`.
+-- What places are shown by on a machine, and where it stands: `at &8004 countdown:loop+4`.
 use Rattle.std.specs.Prelude.{ℕ, List}
 use Rattle.debug_labels.specs.Labels.{ImageLabels}
 use Rattle.debug_labels.specs.Lines.{LineNaming}

@@ -6,7 +6,7 @@ ghost use Rattle.profile.specs.Output.{Writes};
 ghost use Rattle.debugger.specs.Modules.{one_text};
 ghost use Rattle.debug_labels.specs.place_views.Frames.{address_text, called_at_text, caller_address, caller_text, calls_entered, entry_text, frame_kind_text, frame_line, frame_lines, frame_number_text, open_frame_numbered, frame_text, frames_text, full_name_at, full_name_of_slot, full_name_text, full_name_within, is_call_entered, is_called_by_instruction};
 ghost use Rattle.debug_labels.specs.place_views.Places.{naming_on};
-ghost use Rattle.debugger.specs.Parts.{state_of};
+ghost use Rattle.debugger.specs.GuestState.{state_of};
 
 use crate::place_views::names::names_on;
 use crate::place_views::standing::show_where;
@@ -17,7 +17,7 @@ use itoa::Buffer;
 use profile::{Fault, HexText, Sink, SwiName, WriteFault, push_all, push_parts};
 
 /// Writes where the machine stands, and a line for each open frame, the innermost first. Frames are
-/// numbered from 1 on, the outermost first; a line tells what the frame's code was entered for, the
+/// numbered from 1 on, the outermost first; a line says what the frame's code was entered for, the
 /// instance whose code it is, where the call was made, with the label there or near below it, in
 /// which mode, and R13 of SVC as it was on entry,
 /// `frame 2 SWI &40000 Low%Base called at &1800074 high:swi+4 in SVC, R13_svc 01C01FFC`. A call that
@@ -164,18 +164,20 @@ fn show_name_if<W: Sink>(
         (full_name_at slot instance (slice_get modules.now number)) }
 {
     match (modules.module(number), modules.instance(number, instance)) {
-        (Some(module), Some(told)) if told.slot == slot => show_full_name(&module, &told, sink),
+        (Some(module), Some(reported)) if reported.slot == slot => show_full_name(
+            &module, &reported, sink,
+        ),
         _ => Ok(()),
     }
 }
 
 fn show_full_name<W: Sink>(
     module: &ModuleInfo,
-    told: &InstanceInfo,
+    reported: &InstanceInfo,
     sink: &mut W,
 ) -> Result<(), WriteFault>
     ensures { Writes W.contents W.has_failed sink.old sink.new result
-        (full_name_text module.now.title.items told.now.name.items) }
+        (full_name_text module.now.title.items reported.now.name.items) }
 {
     push_parts(
         sink,
@@ -183,7 +185,7 @@ fn show_full_name<W: Sink>(
             b" ".as_slice(),
             module.title.as_slice(),
             b"%".as_slice(),
-            told.name.as_slice(),
+            reported.name.as_slice(),
         ],
     )
 }

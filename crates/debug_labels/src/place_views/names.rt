@@ -1,15 +1,15 @@
-//! What places are told by on a machine.
+//! What places are shown by on a machine.
 
 ghost use Rattle.std.specs.Prelude.{◌≡◌, IfOk};
 ghost use Rattle.debug_labels.specs.Lines.{line_with_numbers};
 ghost use Rattle.debug_labels.specs.place_views.Places.{line_naming_on, naming_on};
-ghost use Rattle.debugger.specs.Parts.{state_of};
+ghost use Rattle.debugger.specs.GuestState.{state_of};
 
 use crate::{LabelTable, PlaceNames};
 use debugger::Machine;
 use std::alloc::{AllocError, Global};
 
-/// Words and places are told by these labels, by the modules of a machine and by its core.
+/// Words and places are shown by these labels, by the modules of a machine and by its core.
 pub fn names_on<'a>(labels: &'a LabelTable, machine: &'a Machine) -> PlaceNames<'a>
     ensures { result ≡ naming_on labels.now (state_of machine.now.guest) }
 {

@@ -5,7 +5,7 @@ ghost use Rattle.address_map.specs.Memory.{bytes_of};
 ghost use Rattle.profile.specs.Output.{Writes};
 ghost use Rattle.debug_labels.specs.place_views.Places.{naming_on};
 ghost use Rattle.debug_labels.specs.place_views.Stack.{stacked_address, stacked_place_text, stack_end_text, stack_words_text, stack_words_text_at, stacked_word_text};
-ghost use Rattle.debugger.specs.Parts.{state_of};
+ghost use Rattle.debugger.specs.GuestState.{state_of};
 
 use crate::place_views::names::names_on;
 use crate::{LabelTable, PlaceNames};

@@ -2,7 +2,7 @@
 
 ghost use Rattle.profile.specs.Output.{Writes};
 ghost use Rattle.debug_labels.specs.place_views.Places.{where_text};
-ghost use Rattle.debugger.specs.Parts.{state_of};
+ghost use Rattle.debugger.specs.GuestState.{state_of};
 
 use crate::LabelTable;
 use crate::place_views::names::names_on;

@@ -4,7 +4,7 @@ use Rattle.address_map.specs.Memory.{bytes_of}
 use Rattle.debugger.specs.Modules.{one_text}
 use Rattle.debug_labels.specs.place_views.Frames.{frame_line, open_frame_numbered, frame_text}
 use Rattle.debug_labels.proofs.place_views.frames.show_frame.Goals as goal
-use Rattle.debugger.specs.Parts.{state_of}
+use Rattle.debugger.specs.GuestState.{state_of}
 
 pub returns-in-Some : goal.returns-in-Some
 returns-in-Some g c =

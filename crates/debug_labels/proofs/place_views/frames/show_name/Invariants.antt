@@ -4,7 +4,7 @@ use Rattle.profile.specs.Output.{AddsAllBut}
 use Rattle.debug_labels.specs.place_views.Frames.{full_name_within}
 use Rattle.debug_labels.proofs.place_views.frames.show_name.Given as goal
 
--- what stands written, and what the modules that are left tell, is all
+-- what stands written, and what the modules that are left show, is all
 abbrev pub invariant-loop-number : goal.invariant-loop-number
 invariant-loop-number g l = record {
   text : AddsAllBut (g.W.Sink.contents l.fn.sink) (g.W.Sink.contents l.sink)

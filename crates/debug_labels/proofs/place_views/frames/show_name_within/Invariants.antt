@@ -6,7 +6,7 @@ use Rattle.debug_labels.specs.place_views.Frames.{full_name_within}
 use Rattle.debug_labels.proofs.PlaceViewsLemmas.FrameLemmas.{names_from}
 use Rattle.debug_labels.proofs.place_views.frames.show_name_within.Given as goal
 
--- what stands written, and what the instances that are left tell, is all
+-- what stands written, and what the instances that are left show, is all
 abbrev pub invariant-loop-instance : goal.invariant-loop-instance
 invariant-loop-instance g l = record {
   text : AddsAllBut (g.W.Sink.contents l.fn.sink) (g.W.Sink.contents l.sink)

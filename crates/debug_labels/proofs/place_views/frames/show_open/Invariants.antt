@@ -2,7 +2,7 @@ use Rattle.std.proofs.Common.{◌≡◌, length}
 use Rattle.profile.specs.Output.{AddsAllBut}
 use Rattle.debug_labels.specs.place_views.Frames.{frame_lines}
 use Rattle.debug_labels.proofs.place_views.frames.show_open.Given as goal
-use Rattle.debugger.specs.Parts.{state_of}
+use Rattle.debugger.specs.GuestState.{state_of}
 
 -- what stands written, and the lines of the frames that are left, is all
 abbrev pub invariant-loop-number : goal.invariant-loop-number
