@@ -10,7 +10,7 @@ use Rattle.address_map.specs.Bytes.{Bytes, word_loaded}
 use Rattle.arm_core.specs.Conditions.{condition_holds}
 use Rattle.arm_core.specs.Effect.{with_next_pc}
 use Rattle.arm_core.specs.State.{State}
-use Rattle.arm_core.specs.declared.turn.Turn.TheVariants as turn
+use Rattle.arm_core.specs.declared.turn.StepEnd.TheVariants as turn
 use Rattle.arm_core.specs.declared.psr.Psr.{Psr}
 use Rattle.arm_decode.specs.Decoded.{decoded_as, instruction_of_word, unless_refused}
 use Rattle.arm_decode.specs.Fields.{action_in, condition_in}
@@ -70,9 +70,9 @@ unfolding result_of_step
 swi_of_step owned s b = swi_unless_gate (s.pc == return_gate) owned s b (word_loaded b s.pc)
 
 -- by why the machine is halted, if it is
-pub awake : (o : Option Halt) (swi : Option ℕ) → None ≡ option_map stop_of o → swi_unless_halted o swi ≡ swi
-awake None swi none = refl
-awake (Some h) swi none = absurd (cc)
+pub unhalted : (o : Option Halt) (swi : Option ℕ) → None ≡ option_map stop_of o → swi_unless_halted o swi ≡ swi
+unhalted None swi none = refl
+unhalted (Some h) swi none = absurd (cc)
 
 pub halted : (o : Option Halt) (swi : Option ℕ) (stop : Stop) → Some stop ≡ option_map stop_of o → None ≡ swi_unless_halted o swi
 halted None swi stop some = absurd (cc)

@@ -2,7 +2,7 @@
 use Rattle.std.proofs.lemmas.List.{drop_more}
 use Rattle.std.proofs.Common.{◌≡◌, ℕ, ◌+◌, ◌-◌, ◌<◌, drop, get_or, length, Bool, true, false, List, [], ◌∷◌, Option, Some, None, if◌then◌else◌, refl, sym, ap, ◌∙◌}
 use Rattle.image_loader.specs.Entries.{Entry}
-use Rattle.command_shell.specs.MachineState.{MachineState, quiet}
+use Rattle.command_shell.specs.MachineState.{MachineState, silent}
 use Rattle.arm_core.specs.declared.psr.Psr.{Psr}
 use Rattle.command_shell.specs.Run.{count_after}
 use Rattle.command_shell.specs.Step.{machine_step, result_of_instruction, without_x}
@@ -26,29 +26,29 @@ registers_halt [] m = refl
 registers_halt (x ∷ xs) m = registers_halt xs (machine_with_register m x.register x.value)
 
 pub stub_is_step : (stub : Stub) (s : ScriptState) → s.machine.halt ≡ None
-    → script_after_stub stub s ≡ step_made s (quiet (machine_after_stub stub s.machine))
-stub_is_step stub s awake =
+    → script_after_stub stub s ≡ step_made s (silent (machine_after_stub stub s.machine))
+stub_is_step stub s unhalted =
     let xs : List StubRegister = stub.registers.items in
-    let halt : (machine_with_registers xs s.machine).halt ≡ None = registers_halt xs s.machine ∙ awake in
+    let halt : (machine_with_registers xs s.machine).halt ≡ None = registers_halt xs s.machine ∙ unhalted in
     registers_return xs (script_with_budget s (s.left - 1)) s.machine.cpu.psr (next_address s.machine)
     ∙ ap (λ (o : Option Halt). script_with_machine (script_with_budget s (s.left - count_after o)) (machine_after_stub stub s.machine))
     (sym halt)
 
 pub stub_steps : (stubs : List Stub) (images : List Entry) (m : MachineState) (stub : Stub) → stub_ahead stubs m ≡ Some stub
-    → stubbed_step stubs images m ≡ quiet (machine_after_stub stub m)
+    → stubbed_step stubs images m ≡ silent (machine_after_stub stub m)
 stub_steps stubs images m stub is = ap (step_or_stub images m) is
 
 pub real_steps : (stubs : List Stub) (images : List Entry) (m : MachineState) → stub_ahead stubs m ≡ None
     → stubbed_step stubs images m ≡ machine_step images m
 real_steps stubs images m is = ap (step_or_stub images m) is
 
-awake_by : (stubs : List Stub) (m : MachineState) (stub : Stub) (o : Option Halt) (swi : Option ℕ)
+unhalted_by : (stubs : List Stub) (m : MachineState) (stub : Stub) (o : Option Halt) (swi : Option ℕ)
     → stub_of_swi stubs m (swi_unless_halted o swi) ≡ Some stub → o ≡ None
-awake_by stubs m stub None swi is = refl
-awake_by stubs m stub (Some halt) swi is = absurd (cc)
+unhalted_by stubs m stub None swi is = refl
+unhalted_by stubs m stub (Some halt) swi is = absurd (cc)
 
-pub stub_awake : (stubs : List Stub) (m : MachineState) (stub : Stub) → stub_ahead stubs m ≡ Some stub → m.halt ≡ None
-stub_awake stubs m stub is = awake_by stubs m stub m.halt (swi_in_turn (result_of_instruction m)) is
+pub stub_unhalted : (stubs : List Stub) (m : MachineState) (stub : Stub) → stub_ahead stubs m ≡ Some stub → m.halt ≡ None
+stub_unhalted stubs m stub is = unhalted_by stubs m stub m.halt (swi_in_turn (result_of_instruction m)) is
 
 stub_if : (known : Bool) (number : ℕ) → (if known then None else stub_numbered number []) ≡ None
 stub_if true number = refl

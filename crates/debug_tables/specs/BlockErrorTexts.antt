@@ -35,7 +35,8 @@ error_text_if in_block number line e = if e.line == in_block then error_text num
 -- the errors of lines, of which so many stood before in the block and in the script
 unfoldable pub errors_text : List AsmError → ℕ → ℕ → List (List ℕ) → List ℕ
 errors_text errors in_block number [] = []
-errors_text errors in_block number (line ∷ others) = flat_map (error_text_if (in_block + 1) (number + 1) line) errors
+errors_text errors in_block number (line ∷ others) = flat_map
+    (error_text_if (in_block + 1) (number + 1) line) errors
     ++ errors_text errors (in_block + 1) (number + 1) others
 
 abbrev pub further_text : List AsmError → List ℕ

@@ -58,8 +58,10 @@ block_errors lines origin = further_errors 21 lines origin []
 -- Each error is that of its line where nothing is left of the lines before it in the list but their
 -- labels; and then no error is left, or 21 are found.
 pub record AreBlockErrors (lines : List (List ℕ)) (origin : ℕ) (errors : List AsmError) : Type 0 where
-  pub each : (n : ℕ) (e : AsmError) → slice_get errors n ≡ Some e → next_error (take n errors) lines origin ≡ Some e
+  pub each : (n : ℕ) (e : AsmError) → slice_get errors n ≡ Some e → next_error (take n errors) lines origin
+      ≡ Some e
   pub all : (next_error errors lines origin ≡ None) ⊎ (length errors ≡ 21)
 
 abbrev pub BlockErrorsAreTheirLines : Type 0
-BlockErrorsAreTheirLines = (lines : List (List ℕ)) (origin : ℕ) → AreBlockErrors lines origin (block_errors lines origin)
+BlockErrorsAreTheirLines = (lines : List (List ℕ)) (origin : ℕ) → AreBlockErrors lines origin
+    (block_errors lines origin)

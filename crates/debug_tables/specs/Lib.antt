@@ -2,6 +2,7 @@
 pub mod BlockErrors
 pub mod BlockErrorTexts
 pub mod Modes
+pub mod Routines
 pub mod StubNames
 pub mod Stubs
 pub mod WordWatches

@@ -11,8 +11,8 @@ use Rattle.arm_core.specs.Psr.{psr_bits}
 use Rattle.arm_core.specs.State.{State}
 use Rattle.arm_core.specs.declared.psr.Mode.TheVariants.{Supervisor}
 use Rattle.arm_core.specs.declared.psr.Psr.{Psr}
-use Rattle.arm_core.specs.declared.turn.Turn.{Turn}
-use Rattle.arm_core.specs.declared.turn.Turn.TheVariants as turn
+use Rattle.arm_core.specs.declared.turn.StepEnd.{StepEnd}
+use Rattle.arm_core.specs.declared.turn.StepEnd.TheVariants as turn
 use Rattle.arm_decode.specs.Decoded.{instruction_of_word}
 use Rattle.arm_decode.specs.Fields.{condition_in}
 use Rattle.arm_decode.specs.declared.action.Action.{Action}
@@ -22,7 +22,7 @@ use Rattle.arm_decode.specs.declared.form.Form.{Form}
 use Rattle.arm_decode.specs.declared.form.Form.TheVariants as form
 use Rattle.image_loader.specs.Entries.{Entry}
 use Rattle.instances_table.specs.Lookup.{handler_of}
-use Rattle.command_shell.specs.MachineState.{MachineState, StepOutcome, quiet}
+use Rattle.command_shell.specs.MachineState.{MachineState, StepOutcome, silent}
 use Rattle.command_shell.specs.Step.{machine_step, result_of_instruction, without_x}
 use Rattle.command_shell.specs.Writes.{machine_at, machine_with_bank_register, machine_with_register, machine_with_status}
 use Rattle.command_shell.specs.Halt.{Halt}
@@ -34,7 +34,7 @@ use Rattle.debug_tables.specs.declared.stubs.StubError.TheVariants.{Known, StubT
 use Rattle.debug_tables.specs.declared.stubs.StubRegister.{StubRegister}
 
 -- the SWI that the next step calls, if it calls one
-abbrev pub swi_in_turn : Result (State × Bytes) Turn → Option ℕ
+abbrev pub swi_in_turn : Result (State × Bytes) StepEnd → Option ℕ
 swi_in_turn (Err (turn.Swi number)) = Some number
 swi_in_turn _ = None
 
@@ -136,7 +136,7 @@ machine_after_stub stub s =
     machine_after_return s.cpu.psr (next_address s) (machine_with_registers stub.registers.items s)
 
 abbrev pub step_or_stub : List Entry → MachineState → Option Stub → StepOutcome
-step_or_stub images s (Some stub) = quiet (machine_after_stub stub s)
+step_or_stub images s (Some stub) = silent (machine_after_stub stub s)
 step_or_stub images s None = machine_step images s
 
 -- a step, with stubs for SWIs that the machine doesn't have

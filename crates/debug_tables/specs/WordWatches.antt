@@ -35,7 +35,7 @@ is_unchanged_word None None = true
 is_unchanged_word (Some x) (Some y) = x == y
 is_unchanged_word _ _ = false
 
--- what a watch tells of a word that was this, and is that
+-- what a watch reports a word that was this, and is that
 abbrev pub hit_unless_same : ℕ → Option ℕ → Option ℕ → Option WatchHit
 hit_unless_same address was now =
     if is_unchanged_word was now then None else Some (record { address = address; now = now; was = was })

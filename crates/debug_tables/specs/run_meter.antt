@@ -6,7 +6,7 @@ pub use Rattle.command_shell.specs.Error
 pub use Rattle.command_shell.specs.Images
 pub use Rattle.command_shell.specs.MachineState
 pub use Rattle.command_shell.specs.Memory
-pub use Rattle.command_shell.specs.Parts
+pub use Rattle.command_shell.specs.GuestState
 pub use Rattle.command_shell.specs.Script
 pub use Rattle.command_shell.specs.Session
 pub use Rattle.command_shell.specs.State

@@ -4,7 +4,7 @@ ghost use Rattle.std.specs.Prelude.{◌≡◌};
 ghost use Rattle.address_map.specs.Memory.{bytes_of};
 ghost use Rattle.arm_decode.specs.Table.{form_of};
 ghost use Rattle.debug_tables.specs.Stubs.{has_swi_form, is_known_swi, swi_ahead, swi_next, swi_in_action, swi_in_word};
-ghost use Rattle.command_shell.specs.Parts.{state_of};
+ghost use Rattle.command_shell.specs.GuestState.{state_of};
 
 use address_map::AddressMap;
 use arm_core::condition::is_met;

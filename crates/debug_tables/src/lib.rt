@@ -11,6 +11,7 @@ pub mod block_errors;
 pub mod byte_writes;
 pub mod counts;
 mod modes;
+pub mod routines;
 pub mod run_meter;
 mod stubbing;
 mod stubs;

@@ -6,7 +6,7 @@ ghost use Rattle.std.specs.List.{remove};
 ghost use Rattle.std.specs.Option.{option_copied};
 ghost use Rattle.profile.specs.Outcome.{Leaves};
 ghost use Rattle.debug_tables.specs.StubNames.{stub_error_name};
-ghost use Rattle.command_shell.specs.Parts.{state_of};
+ghost use Rattle.command_shell.specs.GuestState.{state_of};
 
 use crate::ahead::{is_known_swi, swi_ahead};
 use arrayvec::ArrayVec;

@@ -6,7 +6,7 @@ use Rattle.std.proofs.lemmas.Bool.Decides.{nat_tests}
 use Rattle.profile.proofs.OutputLemmas.{Appends-join}
 use Rattle.command_shell.specs.Answers.{stepped_text, stop_text}
 use Rattle.command_shell.specs.State.{IsAnswered, ScriptState}
-use Rattle.command_shell.specs.Stepping.{IsAfterRun, run_told, script_after_run, script_run, step_told}
+use Rattle.command_shell.specs.Stepping.{IsAfterRun, run_answer, script_after_run, script_run, step_answer}
 use Rattle.image_loader.specs.Entries.{Entry}
 use Rattle.profile.specs.declared.stop.Stop.{Stop}
 use Rattle.profile.specs.declared.stop.Stop.TheVariants as stop
@@ -190,34 +190,34 @@ rest_slice s now end most left k before mid after x slice ran_so =
     let all = subst (λ (m : ℕ). IsAfterRun now m end mid after k x) whole ran_so in
     slice.rest end after x (record { state = all.state; text = all.text; count = refl; stop = all.stop })
 
--- WHAT IS TOLD OF THEM
+-- WHAT IS Shown OF THEM
 
--- what a stop is told as, behind what the steps printed
-told_by : (s now : ScriptState) (n k pc : ℕ) (before mid after : Option (List ℕ)) (x : Stop) (ending : Stop → ℕ → List ℕ)
+-- what a stop is shown as, behind what the steps printed
+shown_by : (s now : ScriptState) (n k pc : ℕ) (before mid after : Option (List ℕ)) (x : Stop) (ending : Stop → ℕ → List ℕ)
     → IsAfterRun s n now before mid k x → pc ≡ now.machine.cpu.pc → Appends mid after (ending x pc)
     → (let r = script_run s n in Appends before after (r.printed ++ ending r.stop r.now.cpu.pc))
-told_by s now n k pc before mid after x ending done place told =
+shown_by s now n k pc before mid after x ending done place reported =
     let r : Run = script_run s n in
     Appends-join before mid after r.printed (ending r.stop r.now.cpu.pc) done.text
     (subst (λ (y : Stop). Appends mid after (ending y r.now.cpu.pc)) done.stop
-    (subst (λ (at : ℕ). Appends mid after (ending x at)) (place ∙ ap (λ (t : ScriptState). t.machine.cpu.pc) done.state) told))
+    (subst (λ (at : ℕ). Appends mid after (ending x at)) (place ∙ ap (λ (t : ScriptState). t.machine.cpu.pc) done.state) reported))
 
 pub run_answered : {A E : Type 0} (result : Result A E) (s now : ScriptState) (left k pc : ℕ) (before mid after : Option (List ℕ))
     (x : Stop) → left ≡ s.left → IsAfterRun s (min left s.left) now before mid k x → pc ≡ now.machine.cpu.pc
-    → OnOk result (Appends mid after (stop_text x pc)) → OnOk result (IsAnswered before after now (run_told s))
-run_answered (Err e) s now left k pc before mid after x all done place told = tt
-run_answered (Ok v) s now left k pc before mid after x all done place told =
+    → OnOk result (Appends mid after (stop_text x pc)) → OnOk result (IsAnswered before after now (run_answer s))
+run_answered (Err e) s now left k pc before mid after x all done place reported = tt
+run_answered (Ok v) s now left k pc before mid after x all done place reported =
     let whole : min left s.left ≡ s.left = omega (arith, all) in
     let ran_so = subst (λ (n : ℕ). IsAfterRun s n now before mid k x) whole done in
-    record { text = told_by s now s.left k pc before mid after x stop_text ran_so place told; state = ran_so.state }
+    record { text = shown_by s now s.left k pc before mid after x stop_text ran_so place reported; state = ran_so.state }
 
 pub step_answered : {A E : Type 0} (result : Result A E) (s now : ScriptState) (count k pc : ℕ) (could_all : Bool)
     (before mid after : Option (List ℕ)) (x : Stop) → could_all ≡ nat_le count s.left
     → IsAfterRun s (min count s.left) now before mid k x → pc ≡ now.machine.cpu.pc
-    → OnOk result (Appends mid after (stepped_text could_all x pc)) → OnOk result (IsAnswered before after now (step_told s count))
-step_answered (Err e) s now count k pc could_all before mid after x all done place told = tt
-step_answered (Ok v) s now count k pc could_all before mid after x all done place told = record {
-  text = told_by s now (min count s.left) k pc before mid after x (stepped_text (nat_le count s.left)) done place
-      (subst (λ (b : Bool). Appends mid after (stepped_text b x pc)) all told);
+    → OnOk result (Appends mid after (stepped_text could_all x pc)) → OnOk result (IsAnswered before after now (step_answer s count))
+step_answered (Err e) s now count k pc could_all before mid after x all done place reported = tt
+step_answered (Ok v) s now count k pc could_all before mid after x all done place reported = record {
+  text = shown_by s now (min count s.left) k pc before mid after x (stepped_text (nat_le count s.left)) done place
+      (subst (λ (b : Bool). Appends mid after (stepped_text b x pc)) all reported);
   state = done.state;
 }

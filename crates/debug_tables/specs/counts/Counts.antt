@@ -11,7 +11,7 @@ pub record CountTable : Type 0 where
 abbrev pub no_counts : CountTable
 no_counts = record { is_on = false; pages = [] }
 
--- the most that a count tells
+-- the most that a count shows
 abbrev pub most_times : ℕ
 most_times = 2 ^ 32 - 1
 

@@ -7,7 +7,7 @@ ghost use Rattle.address_map.specs.Bytes.{byte_loaded};
 ghost use Rattle.address_map.specs.Memory.{bytes_of};
 ghost use Rattle.profile.specs.Output.{Writes};
 ghost use Rattle.command_shell_lines.specs.debug_words.NamedBytes.{named_bytes, or_no_bytes};
-ghost use Rattle.command_shell.specs.Parts.{state_of};
+ghost use Rattle.command_shell.specs.GuestState.{state_of};
 ghost use Rattle.debug_tables.specs.byte_writes.Find.{find_text, is_byte, more_places_text, place_text, byte_places, shown_place, stand_at};
 
 use address_map::AddressMap;

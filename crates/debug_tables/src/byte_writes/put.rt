@@ -1,13 +1,13 @@
 //! The words that bytes lie in: where they refuse, and how they are stored.
 
 ghost use Rattle.std.specs.Prelude.{◌≡◌, ◌<◌, ◌≤◌, ◌+◌, ◌%◌, ◌^◌, None, List, length};
-ghost use Rattle.address_map.specs.Bytes.{store_fault as store_fault_told, with_bytes_at};
+ghost use Rattle.address_map.specs.Bytes.{store_fault as store_fault_shown, with_bytes_at};
 ghost use Rattle.address_map.specs.Memory.{byte_at, bytes_of, is_owned};
-ghost use Rattle.debug_tables.specs.byte_writes.Put.{IsWordOf, put_fault as put_fault_told, script_after_put, script_with_bytes, word_count as word_count_told, words_fault as words_fault_told};
+ghost use Rattle.debug_tables.specs.byte_writes.Put.{IsWordOf, put_fault as put_fault_shown, script_after_put, script_with_bytes, word_count as word_count_shown, words_fault as words_fault_shown};
 ghost use Rattle.command_shell.specs.Session.{script_state};
 ghost use Rattle.image_loader.specs.Entries.{Entry};
 ghost use Rattle.profile.specs.Outcome.{Leaves};
-ghost use Rattle.command_shell.specs.Parts.{state_of};
+ghost use Rattle.command_shell.specs.GuestState.{state_of};
 
 use address_map::AddressMap;
 use command_shell::Session;
@@ -39,7 +39,7 @@ pub fn put_bytes(session: &mut Session, at: u32, bytes: &[u8]) -> Result<(), Fau
 
 // The fault that bytes meet.
 fn put_fault(session: &Session, at: u32, bytes: &[u8]) -> Option<Fault>
-    ensures { result ≡ put_fault_told (state_of session.now.machine.guest).store at (length bytes.now) }
+    ensures { result ≡ put_fault_shown (state_of session.now.machine.guest).store at (length bytes.now) }
 {
     let machine = session.machine();
     machine.known();
@@ -49,7 +49,7 @@ fn put_fault(session: &Session, at: u32, bytes: &[u8]) -> Option<Fault>
 // The first fault that stores of so many words meet.
 #[tactic(auto, using(crate::proofs::ByteWritesLemmas::WordLemmas::fault_steps))]
 fn words_fault(map: &AddressMap, start: u32, count: u64) -> Option<Fault>
-    ensures { result ≡ words_fault_told (is_owned map.now) (bytes_of map.now) start count }
+    ensures { result ≡ words_fault_shown (is_owned map.now) (bytes_of map.now) start count }
 {
     let mut address = start;
     let mut left = count;
@@ -66,7 +66,7 @@ fn words_fault(map: &AddressMap, start: u32, count: u64) -> Option<Fault>
 // The fault that a store of a word meets.
 #[tactic(auto, unfolding(address_map::specs::Bytes::byte_loaded))]
 fn store_fault(map: &AddressMap, address: u32) -> Option<Fault>
-    ensures told { result ≡ store_fault_told (is_owned map.now) (bytes_of map.now) address }
+    ensures reported { result ≡ store_fault_shown (is_owned map.now) (bytes_of map.now) address }
     ensures inside { result ≡ None → address < 2 ^ 26 }
 {
     if let Err(fault) = map.load_byte(address) {
@@ -81,7 +81,7 @@ fn store_fault(map: &AddressMap, address: u32) -> Option<Fault>
 
 // How many words bytes lie in.
 fn word_count(at: u32, bytes: &[u8]) -> u64
-    ensures { result ≡ word_count_told at (length bytes.now) }
+    ensures { result ≡ word_count_shown at (length bytes.now) }
 {
     (u64::from(at % 4) + bytes.len() as u64 + 3) / 4
 }
@@ -89,7 +89,7 @@ fn word_count(at: u32, bytes: &[u8]) -> u64
 // Stores the words that bytes lie in, none of which refuses.
 fn store_words(session: &mut Session, at: u32, bytes: &[u8])
     requires some { 0 < length bytes.now }
-    requires free { put_fault_told (state_of session.old.machine.guest).store at (length bytes.now) ≡ None }
+    requires free { put_fault_shown (state_of session.old.machine.guest).store at (length bytes.now) ≡ None }
     ensures { (images : List Entry) → script_state session.new images
         ≡ script_with_bytes (script_state session.old images) at bytes.now }
 {

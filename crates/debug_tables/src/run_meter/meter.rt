@@ -1,4 +1,4 @@
-//! What a person is told of a run that goes on.
+//! What a person is shown of a run that goes on.
 
 ghost use Rattle.std.specs.Prelude.{◌≡◌};
 ghost use Rattle.debug_tables.specs.run_meter.Meters.{silent_meter};
@@ -7,14 +7,14 @@ use itoa::Buffer;
 use profile::{Device, push_all, push_parts};
 use std::rt::Stderr;
 
-/// Tells how far a run is, in one line of standard error that goes again.
+/// Says how far a run is, in one line of standard error that goes again.
 #[derive(Clone, Copy, Debug)]
 pub struct RunMeter {
     errors: Option<Stderr>,
 }
 
 impl RunMeter {
-    /// One that tells nothing.
+    /// One that shows nothing.
     pub fn silent() -> RunMeter
         ensures { result ≡ silent_meter }
     {
@@ -29,7 +29,7 @@ impl RunMeter {
     }
 
     // That so many steps are taken. Standard error may be closed: what it is told is no answer.
-    pub(crate) fn tell(self, taken: u64) {
+    pub(crate) fn print(self, taken: u64) {
         if let Some(errors) = self.errors {
             let mut digits = Buffer::new();
             let millions = digits.format(taken / 1_000_000).as_bytes();
@@ -40,7 +40,7 @@ impl RunMeter {
         }
     }
 
-    // The line that tells it goes.
+    // The line that shows it goes.
     pub(crate) fn clear(self) {
         if let Some(errors) = self.errors {
             let _ = push_all(&mut Device::new(errors), b"\r\x1B[K");

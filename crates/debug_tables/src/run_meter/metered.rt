@@ -3,26 +3,26 @@
 
 ghost use Rattle.std.specs.Prelude.{◌≡◌, ◌↔◌, ◌+◌, List, min, true, Err, IfOk, IfErr, IsTrue, OnOk, OnErr};
 ghost use Rattle.command_shell.specs.Error.{IsLineError};
-ghost use Rattle.command_shell.specs.Fronts.{AreOldOrTold};
-ghost use Rattle.command_shell.specs.Script.{request_told, takes_memory};
+ghost use Rattle.command_shell.specs.Fronts.{AreOldOrAnswer};
+ghost use Rattle.command_shell.specs.Script.{request_answer, takes_memory};
 ghost use Rattle.command_shell.specs.Session.{script_state};
 ghost use Rattle.command_shell.specs.State.{IsAnswered};
-ghost use Rattle.command_shell.specs.Stepping.{IsAfterRun, run_told, script_run, step_told};
+ghost use Rattle.command_shell.specs.Stepping.{IsAfterRun, run_answer, script_run, step_answer};
 ghost use Rattle.command_shell_lines.specs.Blocks.{block_lines, lines_after, lines_taken};
 ghost use Rattle.command_shell_lines.specs.Requests.{opens_block, request_of_command};
 ghost use Rattle.image_loader.specs.Entries.{Entry};
 
 use crate::run_meter::meter::RunMeter;
-use command_shell::{RunError, Session, tell_stepped, tell_stop};
+use command_shell::{RunError, Session, print_stepped, print_stop};
 use command_shell_lines::ScriptCommand;
 use image_loader::Images;
 use profile::text_lines::Lines;
 use profile::{Sink, Stop, WriteFault};
 
 /// So many steps are taken before the meter is told.
-const STEPS_TOLD: u64 = 20_000_000;
+const STEPS_SHOWN: u64 = 20_000_000;
 
-/// Answers a request as the session does; RUN and STEP tell the meter, each time that 20 million
+/// Answers a request as the session does; RUN and STEP show the meter, each time that 20 million
 /// steps are taken, how many they were.
 ///
 /// # Errors
@@ -36,9 +36,9 @@ pub fn answer_metered<W: Sink>(
     script: &mut Lines,
     meter: RunMeter,
 ) -> Result<(), RunError>
-    ensures told { OnOk result (IsAnswered (W.contents sink.old) (W.contents sink.new)
+    ensures reported { OnOk result (IsAnswered (W.contents sink.old) (W.contents sink.new)
         (script_state session.new images.new)
-        (request_told (script_state session.old images.old) script.old.number
+        (request_answer (script_state session.old images.old) script.old.number
         (request_of_command command.now) (block_lines script.old.left))) }
     ensures left { OnOk result (script.new.left
         ≡ lines_after (opens_block (request_of_command command.now)) script.old.left) }
@@ -48,8 +48,8 @@ pub fn answer_metered<W: Sink>(
     ensures taking { result ≡ Err RunError.Memory
         → takes_memory images.old (request_of_command command.now) ≡ true }
     ensures write_fault { result ≡ Err RunError.WriteFault → W.has_failed sink.new ≡ true }
-    ensures images { OnErr result (AreOldOrTold images.old images.new
-        (request_told (script_state session.old images.old) script.old.number
+    ensures images { OnErr result (AreOldOrAnswer images.old images.new
+        (request_answer (script_state session.old images.old) script.old.number
         (request_of_command command.now) (block_lines script.old.left))) }
     ensures errors { IfErr result IsLineError }
     ensures same_flag { OnOk result (W.has_failed sink.new ≡ W.has_failed sink.old) }
@@ -61,24 +61,24 @@ pub fn answer_metered<W: Sink>(
     }
 }
 
-// Takes all the steps that are left, and tells the stop.
+// Takes all the steps that are left, and shows the stop.
 fn run<W: Sink>(
     session: &mut Session,
     images: &Images,
     sink: &mut W,
     meter: RunMeter,
 ) -> Result<(), WriteFault>
-    ensures told { OnOk result (IsAnswered (W.contents sink.old) (W.contents sink.new)
-        (script_state session.new images.now) (run_told (script_state session.old images.now))) }
+    ensures reported { OnOk result (IsAnswered (W.contents sink.old) (W.contents sink.new)
+        (script_state session.new images.now) (run_answer (script_state session.old images.now))) }
     ensures flag { OnErr result (W.has_failed sink.new ≡ true) }
     ensures same_flag { OnOk result (W.has_failed sink.new ≡ W.has_failed sink.old) }
 {
     let left = session.left();
     let stop = take_steps(session, images, sink, left, meter)?;
-    tell_stop(sink, stop, place_of(session))
+    print_stop(sink, stop, place_of(session))
 }
 
-// Takes so many steps, or as many as are left, and tells where the machine stands.
+// Takes so many steps, or as many as are left, and says where the machine stands.
 fn step<W: Sink>(
     session: &mut Session,
     images: &Images,
@@ -86,16 +86,16 @@ fn step<W: Sink>(
     count: u32,
     meter: RunMeter,
 ) -> Result<(), WriteFault>
-    ensures told { OnOk result (IsAnswered (W.contents sink.old) (W.contents sink.new)
+    ensures reported { OnOk result (IsAnswered (W.contents sink.old) (W.contents sink.new)
         (script_state session.new images.now)
-        (step_told (script_state session.old images.now) count)) }
+        (step_answer (script_state session.old images.now) count)) }
     ensures flag { OnErr result (W.has_failed sink.new ≡ true) }
     ensures same_flag { OnOk result (W.has_failed sink.new ≡ W.has_failed sink.old) }
 {
     let count = u64::from(count);
     let could_all = count <= session.left();
     let stop = take_steps(session, images, sink, count, meter)?;
-    tell_stepped(sink, could_all, stop, place_of(session))
+    print_stepped(sink, could_all, stop, place_of(session))
 }
 
 // Takes so many steps, or as many as are left, and answers why they ended.
@@ -114,14 +114,14 @@ fn take_steps<W: Sink>(
 {
     let most = count.min(session.left());
     let mut left = most;
-    while left > STEPS_TOLD {
-        let ran = session.take_steps(images, sink, STEPS_TOLD)?;
+    while left > STEPS_SHOWN {
+        let ran = session.take_steps(images, sink, STEPS_SHOWN)?;
         if !is_used_up(ran.stop) {
             meter.clear();
             return Ok(ran.stop);
         }
-        left -= STEPS_TOLD;
-        meter.tell(most - left);
+        left -= STEPS_SHOWN;
+        meter.print(most - left);
     }
     let ran = session.take_steps(images, sink, left)?;
     if left < most {

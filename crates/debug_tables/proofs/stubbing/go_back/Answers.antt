@@ -3,7 +3,7 @@ use Rattle.arm_core.specs.State.{State}
 use Rattle.arm_core.specs.declared.psr.Mode.TheVariants.{Supervisor}
 use Rattle.arm_core.specs.declared.psr.Psr.{Psr}
 use Rattle.command_shell.specs.Value.{MachineValue}
-use Rattle.command_shell.specs.Parts.{state_of}
+use Rattle.command_shell.specs.GuestState.{state_of}
 use Rattle.command_shell.specs.Memory.{script_at, script_with_bank_register, script_with_status}
 use Rattle.command_shell.specs.Session.{script_state}
 use Rattle.command_shell.specs.State.{ScriptState}

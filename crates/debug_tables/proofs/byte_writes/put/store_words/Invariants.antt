@@ -5,7 +5,7 @@ use Rattle.debug_tables.specs.byte_writes.Put.{words_fault}
 use Rattle.command_shell.specs.Session.{script_state}
 use Rattle.image_loader.specs.Entries.{Entry}
 use Rattle.os_heap.specs.Store.{owned_in}
-use Rattle.command_shell.specs.Parts.{state_of}
+use Rattle.command_shell.specs.GuestState.{state_of}
 use Rattle.debug_tables.proofs.ByteWritesLemmas.PutLemmas.{script_put_below}
 use Rattle.debug_tables.proofs.byte_writes.put.store_words.Given as goal
 

@@ -1,7 +1,7 @@
 use Rattle.std.proofs.Common.{◌≡◌, ℕ, ◌+◌, ◌-◌, ◌%◌, ◌^◌, [], ap, ◌∙◌, arith}
 use Rattle.arm_core.specs.State.{State}
 use Rattle.command_shell.specs.Value.{MachineValue}
-use Rattle.command_shell.specs.Parts.{state_of}
+use Rattle.command_shell.specs.GuestState.{state_of}
 use Rattle.command_shell.specs.Memory.{script_with_budget}
 use Rattle.command_shell.specs.Session.{script_state}
 use Rattle.debug_tables.specs.Stubs.{script_after_return, script_with_registers}
