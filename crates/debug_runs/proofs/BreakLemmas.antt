@@ -10,15 +10,15 @@ use Rattle.profile.specs.declared.stop.Stop.{Stop}
 use Rattle.profile.specs.declared.stop.Stop.TheVariants as stop
 use Rattle.swi_dispatch_guest.proofs.RunLoop.{ran-none}
 use Rattle.swi_dispatch_guest.specs.MachineState.{MachineState}
-use Rattle.swi_dispatch_guest.specs.Parts.{AreCoreSteps}
-use Rattle.swi_dispatch_guest.specs.Run.{is_among, quiet_run, ran}
+use Rattle.swi_dispatch_guest.specs.GuestState.{AreCoreSteps}
+use Rattle.swi_dispatch_guest.specs.Run.{is_among, silent_run, ran}
 use Rattle.arm_core.specs.breaks.Breaks.{without_break, without_place}
 use Rattle.arm_core.specs.declared.breaks.breaks.BreakError.{BreakError}
 use Rattle.arm_core.specs.declared.breaks.breaks.BreakError.TheVariants as error
 use Rattle.command_shell.specs.State.{ScriptState}
-use Rattle.command_shell.specs.Stepping.{IsAfterQuietSteps, script_after_quiet, script_with_break, script_without_break}
+use Rattle.command_shell.specs.Stepping.{IsAfterSilentSteps, script_after_silent, script_with_break, script_without_break}
 use Rattle.debug_runs.proofs.PlainLemmas.{and_true}
-use Rattle.debug_runs.specs.Quiet.{IsAfterQuietUpTo}
+use Rattle.debug_runs.specs.Silent.{IsAfterSilentUpTo}
 
 -- AMONG BREAKS
 
@@ -100,8 +100,8 @@ removed r s now breaks a is other leaves =
 -- STEPS UP TO AN ADDRESS
 
 -- that is a break already
-pub up_to_its_break : (address n : ℕ) (s now : ScriptState) (x : Stop) → is_among s.breaks address ≡ true → IsAfterQuietSteps s now n x
-    → IsAfterQuietUpTo address s now n
+pub up_to_its_break : (address n : ℕ) (s now : ScriptState) (x : Stop) → is_among s.breaks address ≡ true → IsAfterSilentSteps s now n x
+    → IsAfterSilentUpTo address s now n
 up_to_its_break address n s now x ahead after = record {
   stops = s.breaks;
   breaks = λ at clear. clear;
@@ -110,13 +110,13 @@ up_to_its_break address n s now x ahead after = record {
   run = after.run;
   steps = after.steps;
   state = after.state;
-  awake = after.awake;
+  unhalted = after.unhalted;
 }
 
 -- that is one for these steps
 pub up_to_last_break : (address n : ℕ) (s mid now : ScriptState) (breaks : List ℕ) (x : Stop) → s.breaks ≡ breaks ++ address ∷ []
-    → IsAfterQuietSteps s mid n x → now ≡ record mid { breaks = breaks }
-    → IsAfterQuietUpTo address (record s { breaks = breaks }) now n
+    → IsAfterSilentSteps s mid n x → now ≡ record mid { breaks = breaks }
+    → IsAfterSilentUpTo address (record s { breaks = breaks }) now n
 up_to_last_break address n s mid now breaks x is after back =
     let same : now.machine ≡ mid.machine = ap (λ (w : ScriptState). w.machine) back in
     record {
@@ -125,37 +125,37 @@ up_to_last_break address n s mid now breaks x is after back =
       ahead = among_last breaks address;
       ends = x;
       run = ap (λ (xs : List ℕ). ran s.images xs n s.machine) (sym is) ∙ after.run
-          ∙ ap (λ (m : MachineState). quiet_run m n x) (sym same);
+          ∙ ap (λ (m : MachineState). silent_run m n x) (sym same);
       steps = subst (λ (m : MachineState). AreCoreSteps n s.machine m) (sym same) after.steps;
       state = back ∙ ap (λ (w : ScriptState). let v : ScriptState = record w { breaks = breaks } in v) after.state
-          ∙ ap (λ (m : MachineState). let v : ScriptState = record s { breaks = breaks } in script_after_quiet v m n) (sym same);
-      awake = ap (λ (m : MachineState). m.halt) same ∙ after.awake;
+          ∙ ap (λ (m : MachineState). let v : ScriptState = record s { breaks = breaks } in script_after_silent v m n) (sym same);
+      unhalted = ap (λ (m : MachineState). m.halt) same ∙ after.unhalted;
     }
 
 -- none, where it can't be one
-pub none_up_to : (address : ℕ) (s now : ScriptState) → s.machine.halt ≡ None → now ≡ s → IsAfterQuietUpTo address s now 0
+pub none_up_to : (address : ℕ) (s now : ScriptState) → s.machine.halt ≡ None → now ≡ s → IsAfterSilentUpTo address s now 0
 unfolding AreCoreSteps
-none_up_to address s now awake back =
+none_up_to address s now unhalted back =
     let same : now.machine ≡ s.machine = ap (λ (w : ScriptState). w.machine) back in
     let fresh : s.is_fresh ≡ (s.is_fresh && (0 == 0)) = and_true s.is_fresh in
     let left : s.left ≡ s.left - 0 = omega arith in
     let there : s.machine ≡ now.machine = sym same in
-    let start : s ≡ script_after_quiet s now.machine 0 = λ i. record s { machine = there i; is_fresh = fresh i; left = left i } in
+    let start : s ≡ script_after_silent s now.machine 0 = λ i. record s { machine = there i; is_fresh = fresh i; left = left i } in
     record {
       stops = s.breaks ++ address ∷ [];
       breaks = λ at clear. covers_last s.breaks address at clear;
       ahead = among_last s.breaks address;
       ends = stop.Budget;
-      run = ran-none s.images (s.breaks ++ address ∷ []) s.machine awake
-          ∙ ap (λ (m : MachineState). quiet_run m 0 stop.Budget) there;
+      run = ran-none s.images (s.breaks ++ address ∷ []) s.machine unhalted
+          ∙ ap (λ (m : MachineState). silent_run m 0 stop.Budget) there;
       steps = same;
       state = back ∙ start;
-      awake = ap (λ (m : MachineState). m.halt) same ∙ awake;
+      unhalted = ap (λ (m : MachineState). m.halt) same ∙ unhalted;
     }
 
 -- with its breaks as they were
 pub same_breaks : (address n : ℕ) (s mid now : ScriptState) (breaks : List ℕ) → mid ≡ record s { breaks = breaks }
-    → IsAfterQuietUpTo address (record mid { breaks = s.breaks }) now n → IsAfterQuietUpTo address s now n
+    → IsAfterSilentUpTo address (record mid { breaks = s.breaks }) now n → IsAfterSilentUpTo address s now n
 same_breaks address n s mid now breaks is after =
-    subst (λ (w : ScriptState). IsAfterQuietUpTo address w now n)
+    subst (λ (w : ScriptState). IsAfterSilentUpTo address w now n)
     (ap (λ (w : ScriptState). let v : ScriptState = record w { breaks = s.breaks } in v) is) after

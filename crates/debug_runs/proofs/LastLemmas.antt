@@ -1,5 +1,5 @@
--- A run whose last steps are told: what is kept of its steps is what is told of the last ones, and what it
--- leaves is what it leaves untold.
+-- A run whose last steps are shown: what is kept of its steps is what is shown of the last ones, and what it
+-- leaves is what it leaves not shown.
 use Rattle.std.proofs.Common.{◌≡◌, ◌≤◌, ◌<◌, ℕ, zero, suc, ◌+◌, ◌-◌, ◌++◌, Bool, true, false, List, [], ◌∷◌, Option, Some, None, Result, Ok, Err, if◌then◌else◌, take, drop, length, refl, sym, ap, subst, arith, append_assoc, ◌∙◌}
 use Rattle.std.proofs.lemmas.Bool.{le-ltb, lt-ltb, ltb-false, ltb-true}
 use Rattle.std.proofs.lemmas.List.{append-nil, length-append}
@@ -11,90 +11,90 @@ use Rattle.command_shell.specs.Calls.{step_made}
 use Rattle.command_shell.specs.State.{ScriptState}
 use Rattle.profile.specs.text_sink.TextSink.{sink_text_of}
 use Rattle.debug_runs.proofs.RunLemmas.{first_of_left, no_step, step_on, step_over}
-use Rattle.debug_runs.specs.LastSteps.{LastState, StepText, steps_before_text, last_run, last_told, last_text, no_last, printed_line, text_of_step, texts_of_run, texts_unless, whole_text, with_step, with_steps, without_first, last_ones_of}
+use Rattle.debug_runs.specs.LastSteps.{LastState, StepText, steps_before_text, last_run, last_answer, last_text, no_last, printed_line, text_of_step, texts_of_run, texts_unless, whole_text, with_step, with_steps, without_first, last_ones_of}
 use Rattle.debug_runs.specs.Runs.{SteppingRun, end_after, next_step, run_behind, run_ended, run_unless, steps_run, text_of_next}
-use Rattle.debug_runs.specs.Telling.{one_told}
-use Rattle.debug_runs.specs.Told.{IsAfterStepping, IsAfterUntold, IsToldOn}
+use Rattle.debug_runs.specs.TraceWriter.{one_answer}
+use Rattle.debug_runs.specs.Reported.{IsAfterStepping, IsAfterUntold, IsAnswerOn}
 use Rattle.debug_runs.specs.declared.running.RunEnd.{RunEnd}
 use Rattle.debug_runs.specs.declared.running.RunEnd.TheVariants as end
 use Rattle.debug_runs.specs.declared.running.RunGoal.TheVariants as goal
-use Rattle.debug_runs.specs.declared.telling.Telling.{Telling}
+use Rattle.debug_runs.specs.declared.writer.TraceWriter.{TraceWriter}
 use Rattle.debug_tables.specs.declared.modes.StepModes.{StepModes}
 
--- WHAT IS TOLD
+-- WHAT IS Shown
 
--- what is told of some steps, of which these are left, behind so many
-told_at : ℕ → ℕ → List StepText → List ℕ
-told_at before d all =
+-- what is shown of some steps, of which these are left, behind so many
+answer_at : ℕ → ℕ → List StepText → List ℕ
+answer_at before d all =
     flat_map printed_line (take d all) ++ (steps_before_text (before + d) ++ flat_map whole_text (drop d all))
 
-told_from : ℕ → ℕ → List StepText → List ℕ
-told_from count before all = told_at before (length all - count) all
+answer_from : ℕ → ℕ → List StepText → List ℕ
+answer_from count before all = answer_at before (length all - count) all
 
 -- as few as are kept
-few_told : (count before : ℕ) (all : List StepText) → length all ≤ count
-    → told_from count before all ≡ steps_before_text before ++ flat_map whole_text all
-unfolding told_from told_at
-few_told count before all few =
+few_answer : (count before : ℕ) (all : List StepText) → length all ≤ count
+    → answer_from count before all ≡ steps_before_text before ++ flat_map whole_text all
+unfolding answer_from answer_at
+few_answer count before all few =
     let none : length all - count ≡ 0 = omega (arith, few) in
     let same : before + 0 ≡ before = omega arith in
-    ap (λ (d : ℕ). told_at before d all) none
+    ap (λ (d : ℕ). answer_at before d all) none
     ∙ ap (λ (n : ℕ). steps_before_text n ++ flat_map whole_text all) same
 
 -- more than these
-more_told : (count before : ℕ) (t : StepText) (others : List StepText) → count ≤ length others
-    → told_from count before (t ∷ others) ≡ printed_line t ++ told_from count (before + 1) others
-unfolding told_from told_at
-more_told count before t others many =
+more_answer : (count before : ℕ) (t : StepText) (others : List StepText) → count ≤ length others
+    → answer_from count before (t ∷ others) ≡ printed_line t ++ answer_from count (before + 1) others
+unfolding answer_from answer_at
+more_answer count before t others many =
     let d : ℕ = length others - count in
     let one : suc (length others) - count ≡ suc d = omega (arith, many) in
     let next : before + suc d ≡ (before + 1) + d = omega arith in
-    ap (λ (n : ℕ). told_at before n (t ∷ others)) one
+    ap (λ (n : ℕ). answer_at before n (t ∷ others)) one
     ∙ (ap (λ (n : ℕ). (printed_line t ++ flat_map printed_line (take d others)) ++ (steps_before_text n ++ flat_map whole_text (drop d others))) next
     ∙ append_assoc (printed_line t) (flat_map printed_line (take d others)) (steps_before_text ((before + 1) + d) ++ flat_map whole_text (drop d others)))
 
--- steps that follow are told behind those that are kept
-abbrev TellsAll : List StepText → Type 0
-TellsAll more = (l : LastState) → length l.steps ≤ l.count
-    → last_text (with_steps l more) ≡ l.untold ++ told_from l.count l.before (l.steps ++ more)
+-- steps that follow are shown behind those that are kept
+abbrev ShowsAll : List StepText → Type 0
+ShowsAll more = (l : LastState) → length l.steps ≤ l.count
+    → last_text (with_steps l more) ≡ l.untold ++ answer_from l.count l.before (l.steps ++ more)
 
 without_one : (l : LastState) (steps more : List StepText) → l.steps ≡ steps → l.count < length steps → length steps ≤ l.count + 1
-    → TellsAll more
-    → last_text (with_steps (without_first l steps) more) ≡ l.untold ++ told_from l.count l.before (steps ++ more)
-without_one l [] more is many few tells = absurd (omega (arith, many))
-without_one l (t ∷ others) more is many few tells =
+    → ShowsAll more
+    → last_text (with_steps (without_first l steps) more) ≡ l.untold ++ answer_from l.count l.before (steps ++ more)
+without_one l [] more is many few shows = absurd (omega (arith, many))
+without_one l (t ∷ others) more is many few shows =
     let m : LastState = record l { before = l.before + 1; untold = l.untold ++ printed_line t; steps = others } in
     let fits : length others ≤ l.count = omega (arith, few) in
     let enough : l.count ≤ length (others ++ more) = omega (arith, many, length-append others more) in
-    tells m fits
-    ∙ (append_assoc l.untold (printed_line t) (told_from l.count (l.before + 1) (others ++ more))
-    ∙ ap (λ (xs : List ℕ). l.untold ++ xs) (sym (more_told l.count l.before t (others ++ more) enough)))
+    shows m fits
+    ∙ (append_assoc l.untold (printed_line t) (answer_from l.count (l.before + 1) (others ++ more))
+    ∙ ap (λ (xs : List ℕ). l.untold ++ xs) (sym (more_answer l.count l.before t (others ++ more) enough)))
 
 shortened_by : (b : Bool) (l : LastState) (more : List StepText) → nat_lt l.count (length l.steps) ≡ b → length l.steps ≤ l.count + 1
-    → TellsAll more
-    → last_text (with_steps (if b then without_first l l.steps else l) more) ≡ l.untold ++ told_from l.count l.before (l.steps ++ more)
-shortened_by true l more is few tells = without_one l l.steps more refl (ltb-true l.count (length l.steps) is) few tells
-shortened_by false l more is few tells = tells l (ltb-false l.count (length l.steps) is)
+    → ShowsAll more
+    → last_text (with_steps (if b then without_first l l.steps else l) more) ≡ l.untold ++ answer_from l.count l.before (l.steps ++ more)
+shortened_by true l more is few shows = without_one l l.steps more refl (ltb-true l.count (length l.steps) is) few shows
+shortened_by false l more is few shows = shows l (ltb-false l.count (length l.steps) is)
 
-tells_all : (more : List StepText) → TellsAll more
+shows_all : (more : List StepText) → ShowsAll more
 unfolding with_steps
-tells_all [] l fits =
+shows_all [] l fits =
     let same : l.steps ++ [] ≡ l.steps = append-nil l.steps in
     ap (λ (xs : List ℕ). l.untold ++ xs)
-    (sym (ap (told_from l.count l.before) same ∙ few_told l.count l.before l.steps fits))
-tells_all (t ∷ more) l fits =
+    (sym (ap (answer_from l.count l.before) same ∙ few_answer l.count l.before l.steps fits))
+shows_all (t ∷ more) l fits =
     let m : LastState = record l { steps = l.steps ++ (t ∷ []) } in
     let few : length (l.steps ++ (t ∷ [])) ≤ l.count + 1 = omega (arith, fits, length-append l.steps (t ∷ [])) in
-    shortened_by (nat_lt m.count (length m.steps)) m more refl few (tells_all more)
-    ∙ ap (λ (xs : List StepText). l.untold ++ told_from l.count l.before xs) (append_assoc l.steps (t ∷ []) more)
+    shortened_by (nat_lt m.count (length m.steps)) m more refl few (shows_all more)
+    ∙ ap (λ (xs : List StepText). l.untold ++ answer_from l.count l.before xs) (append_assoc l.steps (t ∷ []) more)
 
-pub last_is_told : (count : ℕ) (texts : List StepText) → last_text (with_steps (no_last count) texts) ≡ last_told count texts
-unfolding last_told told_from told_at
-last_is_told count texts =
+pub last_is_answer : (count : ℕ) (texts : List StepText) → last_text (with_steps (no_last count) texts) ≡ last_answer count texts
+unfolding last_answer answer_from answer_at
+last_is_answer count texts =
     let none : 0 ≤ count = omega arith in
     let d : ℕ = length texts - count in
     let same : 0 + d ≡ d = omega arith in
-    tells_all texts (no_last count) none
+    shows_all texts (no_last count) none
     ∙ ap (λ (n : ℕ). flat_map printed_line (take d texts) ++ (steps_before_text n ++ flat_map whole_text (drop d texts))) same
 
 -- one step at most goes from those that are kept
@@ -178,7 +178,7 @@ pub untold_goes_on : (old mid new : List ℕ) (modes : StepModes) (labels : List
 untold_goes_on old mid new modes labels left s next all is some made more none =
     let o = next_step modes s in
     let text = text_of_next modes labels None s in
-    let f : ScriptState → SteppingRun = steps_run modes labels goal.Nowhere (left - 1) (one_told None) in
+    let f : ScriptState → SteppingRun = steps_run modes labels goal.Nowhere (left - 1) (one_answer None) in
     let whole : steps_run modes labels goal.Nowhere left None s ≡ run_behind text o.printed (f next) =
     first_of_left modes labels goal.Nowhere left None s some ∙ step_on modes.watches goal.Nowhere s next o text f made none in
     untold_behind old mid new text o.printed (f next) all (subst (λ (r : SteppingRun). IsUntoldRest old mid r all) whole is) more
@@ -190,7 +190,7 @@ pub untold_stops : (old mid new : List ℕ) (modes : StepModes) (labels : List I
 untold_stops old mid new modes labels left s next all e is some made more over =
     let o = next_step modes s in
     let text = text_of_next modes labels None s in
-    let f : ScriptState → SteppingRun = steps_run modes labels goal.Nowhere (left - 1) (one_told None) in
+    let f : ScriptState → SteppingRun = steps_run modes labels goal.Nowhere (left - 1) (one_answer None) in
     let whole : steps_run modes labels goal.Nowhere left None s ≡ run_behind text o.printed (run_ended next e) =
     first_of_left modes labels goal.Nowhere left None s some ∙ step_over modes.watches goal.Nowhere s next o text f e made over in
     untold_ends old new next e all
@@ -203,18 +203,18 @@ untold_runs_out old new modes labels left s all is none =
     ap (λ (n : ℕ). steps_run modes labels goal.Nowhere n None s) none ∙ no_step modes labels goal.Nowhere None s in
     untold_ends old new s (end.Stopped stop.Budget) all (subst (λ (r : SteppingRun). IsUntoldRest old new r all) over is)
 
--- what is told behind it
-pub last_run_told : (old new : Telling) (modes : StepModes) (labels : List ImageLabels) (count most : ℕ) (s now : ScriptState) (first last : LastState) (e : RunEnd)
+-- what is shown behind it
+pub last_run_answer : (old new : TraceWriter) (modes : StepModes) (labels : List ImageLabels) (count most : ℕ) (s now : ScriptState) (first last : LastState) (e : RunEnd)
     → IsAfterUntold (steps_run modes labels goal.Nowhere most None s) now (sink_text_of old.printed) (sink_text_of new.printed) e
     → first ≡ no_last count → last ≡ with_steps first (texts_of_run modes labels most s)
     → sink_text_of new.text ≡ sink_text_of old.text ++ last_text last
     → IsAfterStepping (last_run modes labels count most s) now old new e
-last_run_told old new modes labels count most s now first last e ran begun kept told = record {
+last_run_answer old new modes labels count most s now first last e ran begun kept reported = record {
   state = ran.state;
-  told = record {
-    text_told = told ∙ ap (λ (xs : List ℕ). sink_text_of old.text ++ xs)
+  reported = record {
+    text_answer = reported ∙ ap (λ (xs : List ℕ). sink_text_of old.text ++ xs)
         (ap last_text (kept ∙ ap (λ (l : LastState). with_steps l (texts_of_run modes labels most s)) begun)
-        ∙ last_is_told count (texts_of_run modes labels most s));
+        ∙ last_is_answer count (texts_of_run modes labels most s));
     all_printed = ran.all_printed;
   };
   ended = ran.ended;
@@ -222,24 +222,24 @@ last_run_told old new modes labels count most s now first last e ran begun kept 
 
 -- THE STEPS THAT ARE KEPT
 
-next_told : (modes : StepModes) (labels : List ImageLabels) (limit : ℕ) (s : ScriptState) → 0 < limit
+next_answer : (modes : StepModes) (labels : List ImageLabels) (limit : ℕ) (s : ScriptState) → 0 < limit
     → text_of_next modes labels (Some limit) s ≡ (text_of_step modes labels s).whole
-next_told modes labels limit s some = rw (lt-ltb 0 limit some) refl
+next_answer modes labels limit s some = rw (lt-ltb 0 limit some) refl
 
--- a step that is told by itself
-pub kept_is : (modes : StepModes) (labels : List ImageLabels) (s : ScriptState) (first after : Telling) (t : StepText)
-    → first.told ≡ Some 1 → sink_text_of first.text ≡ [] → sink_text_of first.printed ≡ []
-    → IsToldOn first after (text_of_next modes labels first.told s) (next_step modes s).printed
+-- a step that is shown by itself
+pub kept_is : (modes : StepModes) (labels : List ImageLabels) (s : ScriptState) (first after : TraceWriter) (t : StepText)
+    → first.reported ≡ Some 1 → sink_text_of first.text ≡ [] → sink_text_of first.printed ≡ []
+    → IsAnswerOn first after (text_of_next modes labels first.reported s) (next_step modes s).printed
     → t.whole ≡ sink_text_of after.text → t.printed ≡ sink_text_of after.printed
     → t ≡ text_of_step modes labels s
-kept_is modes labels s first after t one none nothing told whole printed =
+kept_is modes labels s first after t one none nothing reported whole printed =
     let some : 0 < 1 = omega arith in
     let o = next_step modes s in
     let text : t.whole ≡ (text_of_step modes labels s).whole =
-    whole ∙ (told.text_told
-    ∙ (ap (λ (xs : List ℕ). xs ++ text_of_next modes labels first.told s) none
-    ∙ (ap (λ (x : Option ℕ). text_of_next modes labels x s) one ∙ next_told modes labels 1 s some))) in
-    let print : t.printed ≡ o.printed = printed ∙ (told.all_printed ∙ ap (λ (xs : List ℕ). xs ++ o.printed) nothing) in
+    whole ∙ (reported.text_answer
+    ∙ (ap (λ (xs : List ℕ). xs ++ text_of_next modes labels first.reported s) none
+    ∙ (ap (λ (x : Option ℕ). text_of_next modes labels x s) one ∙ next_answer modes labels 1 s some))) in
+    let print : t.printed ≡ o.printed = printed ∙ (reported.all_printed ∙ ap (λ (xs : List ℕ). xs ++ o.printed) nothing) in
     λ i. record { whole = text i; printed = print i }
 
 -- the same step, written another way
@@ -269,7 +269,7 @@ one_gone r l after t others is many gone =
     subst (λ (m : LastState). OnOk r (after ≡ m))
     (gone_if (nat_lt l.count (length l.steps)) l t others l.steps (lt-ltb l.count (length l.steps) many) is) gone
 
--- what is told of them is written
+-- what is shown of them is written
 pub last_pushed : {U E : Type 0} (r : Result U E) (t0 t1 t2 t3 bytes first second third : List ℕ) → bytes ≡ first → t1 ≡ t0 ++ bytes
     → t2 ≡ t1 ++ second → OnOk r (t3 ≡ t2 ++ third) → OnOk r (t3 ≡ t0 ++ (first ++ (second ++ third)))
 last_pushed (Err e) t0 t1 t2 t3 bytes first second third is one two three = tt
@@ -302,11 +302,11 @@ all_pushed t all steps none so_far =
 
 -- THEY ARE THOSE OF THE WHOLE TRACE
 
-told_unless : (limit : ℕ) (whole printed : List ℕ) (after : ScriptState) (e : Option RunEnd) (rest : SteppingRun) (t : StepText) (texts : List StepText)
+answer_unless : (limit : ℕ) (whole printed : List ℕ) (after : ScriptState) (e : Option RunEnd) (rest : SteppingRun) (t : StepText) (texts : List StepText)
     → whole ≡ t.whole → rest.text ≡ flat_map whole_text texts
     → (run_behind whole printed (run_unless after e rest)).text ≡ flat_map whole_text (t ∷ texts_unless e texts)
-told_unless limit whole printed after (Some e) rest t texts is same = ap (λ (xs : List ℕ). xs ++ []) is
-told_unless limit whole printed after None rest t texts is same =
+answer_unless limit whole printed after (Some e) rest t texts is same = ap (λ (xs : List ℕ). xs ++ []) is
+answer_unless limit whole printed after None rest t texts is same =
     ap (λ (xs : List ℕ). xs ++ rest.text) is ∙ ap (λ (xs : List ℕ). t.whole ++ xs) same
 
 pub texts_of_trace : (modes : StepModes) (labels : List ImageLabels) (most limit : ℕ) (s : ScriptState) → most ≤ limit
@@ -318,6 +318,6 @@ texts_of_trace modes labels (suc n) limit s few =
     let after = step_made s o in
     let some : 0 < limit = omega (arith, few) in
     let fewer : n ≤ limit - 1 = omega (arith, few) in
-    told_unless limit (text_of_next modes labels (Some limit) s) o.printed after (end_after modes.watches goal.Nowhere s after)
+    answer_unless limit (text_of_next modes labels (Some limit) s) o.printed after (end_after modes.watches goal.Nowhere s after)
     (steps_run modes labels goal.Nowhere n (Some (limit - 1)) after) (text_of_step modes labels s) (texts_of_run modes labels n after)
-    (next_told modes labels limit s some) (texts_of_trace modes labels n (limit - 1) after fewer)
+    (next_answer modes labels limit s some) (texts_of_trace modes labels n (limit - 1) after fewer)

@@ -4,7 +4,7 @@ pub mod LastLemmas
 pub mod LineLemmas
 pub mod PlaceLemmas
 pub mod PlainLemmas
-pub mod QuietLemmas
+pub mod SilentLemmas
 pub mod RunLemmas
-pub mod TellingLemmas
+pub mod TraceWriterLemmas
 pub mod TracedLemmas

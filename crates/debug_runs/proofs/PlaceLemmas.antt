@@ -9,9 +9,9 @@ use Rattle.command_shell.specs.State.{ScriptState}
 use Rattle.debug_tables.proofs.CountsLemmas.CountLemmas.{uncounted}
 use Rattle.debug_tables.specs.counts.Counts.{CountTable, step_counted, steps_counted}
 use Rattle.debug_lines.specs.SteppingRequests.{Run, Step, Call, Load, Finish, Gosub, RunLast}
-use Rattle.debug_runs.proofs.TellingLemmas.{whatever}
-use Rattle.debug_runs.specs.Places.{places_if_awake, places_of_call, places_of_finish, places_of_line, places_of_outside, places_of_run, places_unless, places_unless_stopped}
-use Rattle.debug_runs.specs.Routines.{script_at_routine}
+use Rattle.debug_runs.proofs.TraceWriterLemmas.{whatever}
+use Rattle.debug_runs.specs.Places.{places_if_unhalted, places_of_call, places_of_finish, places_of_line, places_of_outside, places_of_run, places_unless, places_unless_stopped}
+use Rattle.debug_tables.specs.Routines.{script_at_routine}
 use Rattle.debug_runs.specs.Runs.{end_after, next_step}
 use Rattle.debug_runs.specs.declared.running.RunEnd.{RunEnd}
 use Rattle.debug_runs.specs.declared.running.RunGoal.{RunGoal}
@@ -84,24 +84,24 @@ pub counts_same : {U E : Type 0} (r : Result U E) (places same : List ℕ) (c af
 counts_same r places same c after is counted = subst (λ (xs : List ℕ). OnOk r (after ≡ steps_counted xs c)) (sym is) counted
 
 pub counts_refused : {U E : Type 0} (r : Result U E) (s : ScriptState) (most : ℕ) (places : List ℕ) (c : CountTable) (x : Stop)
-    → stop_before_step_by s.machine.halt most ≡ Some x → OnOk r (c ≡ steps_counted (places_if_awake s most places) c)
+    → stop_before_step_by s.machine.halt most ≡ Some x → OnOk r (c ≡ steps_counted (places_if_unhalted s most places) c)
 counts_refused r s most places c x is =
     whatever r (sym (ap (λ (o : Option Stop). steps_counted (places_unless_stopped o places) c) is))
 
-pub counts_awake : {U E : Type 0} (r : Result U E) (s : ScriptState) (most : ℕ) (places : List ℕ) (c after : CountTable)
+pub counts_unhalted : {U E : Type 0} (r : Result U E) (s : ScriptState) (most : ℕ) (places : List ℕ) (c after : CountTable)
     → stop_before_step_by s.machine.halt most ≡ None → after ≡ steps_counted places c
-    → OnOk r (after ≡ steps_counted (places_if_awake s most places) c)
-counts_awake r s most places c after is counted =
+    → OnOk r (after ≡ steps_counted (places_if_unhalted s most places) c)
+counts_unhalted r s most places c after is counted =
     whatever r (counted ∙ sym (ap (λ (o : Option Stop). steps_counted (places_unless_stopped o places) c) is))
 
 -- each line's equation
 pub run_places : (modes : StepModes) (s : ScriptState)
-    → places_of_line modes s Run ≡ places_if_awake s s.left (places_of_run modes goal.Nowhere s.left s)
+    → places_of_line modes s Run ≡ places_if_unhalted s s.left (places_of_run modes goal.Nowhere s.left s)
 unfolding places_of_line
 run_places modes s = refl
 
 pub step_places : (modes : StepModes) (s : ScriptState) (count : ℕ)
-    → places_of_line modes s (Step count) ≡ places_if_awake s (min count s.left) (places_of_run modes goal.Nowhere (min count s.left) s)
+    → places_of_line modes s (Step count) ≡ places_if_unhalted s (min count s.left) (places_of_run modes goal.Nowhere (min count s.left) s)
 unfolding places_of_line
 step_places modes s count = refl
 
@@ -122,12 +122,12 @@ finish_places modes s = refl
 
 pub gosub_places : (modes : StepModes) (s : ScriptState) (address : ℕ)
     → places_of_line modes s (Gosub address)
-    ≡ places_if_awake s s.left (places_of_run modes (goal.Routine (length s.machine.tables.frames)) s.left (script_at_routine s address))
+    ≡ places_if_unhalted s s.left (places_of_run modes (goal.Routine (length s.machine.tables.frames)) s.left (script_at_routine s address))
 unfolding places_of_line
 gosub_places modes s address = refl
 
 pub last_places : (modes : StepModes) (s : ScriptState) (count : ℕ)
-    → places_of_line modes s (RunLast count) ≡ places_if_awake s s.left (places_of_run modes goal.Nowhere s.left s)
+    → places_of_line modes s (RunLast count) ≡ places_if_unhalted s s.left (places_of_run modes goal.Nowhere s.left s)
 unfolding places_of_line
 last_places modes s count = refl
 
@@ -138,8 +138,8 @@ finish_none_places r modes s frames c none =
     whatever r (sym (ap (λ (n : ℕ). steps_counted (places_of_finish modes s n) c) none))
 
 pub finish_some_places : (modes : StepModes) (s : ScriptState) (frames : ℕ) → 0 < frames
-    → places_of_finish modes s frames ≡ places_if_awake s s.left (places_of_run modes (goal.Frames (frames - 1)) s.left s)
+    → places_of_finish modes s frames ≡ places_if_unhalted s s.left (places_of_run modes (goal.Frames (frames - 1)) s.left s)
 finish_some_places modes s zero some = absurd (omega (arith, some))
 finish_some_places modes s (suc outer) some =
     let less : outer ≡ suc outer - 1 = omega arith in
-    ap (λ (n : ℕ). places_if_awake s s.left (places_of_run modes (goal.Frames n) s.left s)) less
+    ap (λ (n : ℕ). places_if_unhalted s s.left (places_of_run modes (goal.Frames n) s.left s)) less

@@ -16,14 +16,14 @@ use Rattle.command_shell.specs.Calls.{step_made}
 use Rattle.command_shell.specs.State.{ScriptState}
 use Rattle.profile.specs.text_sink.TextSink.{sink_text_of}
 use Rattle.debug_runs.specs.Runs.{SteppingRun, call_run, end_after, run_end_by, is_reached, next_step, run_behind, run_ended, run_step, run_unless, steps_run, text_of_next, watched_end}
-use Rattle.debug_runs.specs.Telling.{one_told, told_of_step}
-use Rattle.debug_runs.specs.Told.{IsAfterStepping, IsToldOn}
+use Rattle.debug_runs.specs.TraceWriter.{one_answer, answer_of_step}
+use Rattle.debug_runs.specs.Reported.{IsAfterStepping, IsAnswerOn}
 use Rattle.debug_tables.specs.WordWatches.{change_of_word, watch_hit, watched_change, watched_words}
 use Rattle.debug_tables.specs.declared.modes.StepModes.{StepModes}
 use Rattle.debug_runs.specs.declared.running.RunEnd.{RunEnd}
 use Rattle.debug_runs.specs.declared.running.RunEnd.TheVariants as end
 use Rattle.debug_runs.specs.declared.running.RunGoal.{RunGoal}
-use Rattle.debug_runs.specs.declared.telling.Telling.{Telling}
+use Rattle.debug_runs.specs.declared.writer.TraceWriter.{TraceWriter}
 use Rattle.debug_tables.specs.declared.watches.WatchHit.{WatchHit}
 
 -- a step after which a run ends, and one after which it goes on
@@ -40,132 +40,132 @@ step_on watches g s next o text f made is =
     ∙ ap (λ (x : Option RunEnd). run_behind text o.printed (run_unless next x (f next))) is
 
 -- the first of so many steps
-pub first_step_of : (modes : StepModes) (labels : List ImageLabels) (g : RunGoal) (n : ℕ) (told : Option ℕ) (s : ScriptState)
-    → steps_run modes labels g (suc n) told s
-    ≡ run_step modes.watches g s (next_step modes s) (text_of_next modes labels told s) (steps_run modes labels g n (one_told told))
+pub first_step_of : (modes : StepModes) (labels : List ImageLabels) (g : RunGoal) (n : ℕ) (reported : Option ℕ) (s : ScriptState)
+    → steps_run modes labels g (suc n) reported s
+    ≡ run_step modes.watches g s (next_step modes s) (text_of_next modes labels reported s) (steps_run modes labels g n (one_answer reported))
 unfolding steps_run
-first_step_of modes labels g n told s = refl
+first_step_of modes labels g n reported s = refl
 
-pub no_step : (modes : StepModes) (labels : List ImageLabels) (g : RunGoal) (told : Option ℕ) (s : ScriptState)
-    → steps_run modes labels g 0 told s ≡ run_ended s (end.Stopped stop.Budget)
+pub no_step : (modes : StepModes) (labels : List ImageLabels) (g : RunGoal) (reported : Option ℕ) (s : ScriptState)
+    → steps_run modes labels g 0 reported s ≡ run_ended s (end.Stopped stop.Budget)
 unfolding steps_run
-no_step modes labels g told s = refl
+no_step modes labels g reported s = refl
 
-pub first_of_left : (modes : StepModes) (labels : List ImageLabels) (g : RunGoal) (left : ℕ) (told : Option ℕ) (s : ScriptState) → 0 < left
-    → steps_run modes labels g left told s
-    ≡ run_step modes.watches g s (next_step modes s) (text_of_next modes labels told s) (steps_run modes labels g (left - 1) (one_told told))
-first_of_left modes labels g left told s some =
+pub first_of_left : (modes : StepModes) (labels : List ImageLabels) (g : RunGoal) (left : ℕ) (reported : Option ℕ) (s : ScriptState) → 0 < left
+    → steps_run modes labels g left reported s
+    ≡ run_step modes.watches g s (next_step modes s) (text_of_next modes labels reported s) (steps_run modes labels g (left - 1) (one_answer reported))
+first_of_left modes labels g left reported s some =
     let split : left ≡ suc (left - 1) = omega (arith, some) in
-    ap (λ (n : ℕ). steps_run modes labels g n told s) split ∙ first_step_of modes labels g (left - 1) told s
+    ap (λ (n : ℕ). steps_run modes labels g n reported s) split ∙ first_step_of modes labels g (left - 1) reported s
 
--- what is left of a run is all of it but what was told
-pub record IsRest (old new : Telling) (rest all : SteppingRun) : Type 0 where
+-- what is left of a run is all of it but what was shown
+pub record IsRest (old new : TraceWriter) (rest all : SteppingRun) : Type 0 where
   pub text : sink_text_of new.text ++ rest.text ≡ sink_text_of old.text ++ all.text
   pub printed : sink_text_of new.printed ++ rest.printed ≡ sink_text_of old.printed ++ all.printed
   pub now : rest.now ≡ all.now
   pub ended : rest.ended ≡ all.ended
 
-pub rest_start : (t : Telling) (all : SteppingRun) → IsRest t t all all
+pub rest_start : (t : TraceWriter) (all : SteppingRun) → IsRest t t all all
 rest_start t all = record { text = refl; printed = refl; now = refl; ended = refl }
 
-rest_behind : (old mid new : Telling) (text printed : List ℕ) (rest all : SteppingRun) → IsRest old mid (run_behind text printed rest) all
-    → IsToldOn mid new text printed → IsRest old new rest all
-rest_behind old mid new text printed rest all is told = record {
-  text = ap (λ (xs : List ℕ). xs ++ rest.text) told.text_told
+rest_behind : (old mid new : TraceWriter) (text printed : List ℕ) (rest all : SteppingRun) → IsRest old mid (run_behind text printed rest) all
+    → IsAnswerOn mid new text printed → IsRest old new rest all
+rest_behind old mid new text printed rest all is reported = record {
+  text = ap (λ (xs : List ℕ). xs ++ rest.text) reported.text_answer
       ∙ (append_assoc (sink_text_of mid.text) text rest.text ∙ is.text);
-  printed = ap (λ (xs : List ℕ). xs ++ rest.printed) told.all_printed
+  printed = ap (λ (xs : List ℕ). xs ++ rest.printed) reported.all_printed
       ∙ (append_assoc (sink_text_of mid.printed) printed rest.printed ∙ is.printed);
   now = is.now;
   ended = is.ended;
 }
 
-pub rest_ends : (old new : Telling) (s : ScriptState) (e : RunEnd) (all : SteppingRun) → IsRest old new (run_ended s e) all → IsAfterStepping all s old new e
+pub rest_ends : (old new : TraceWriter) (s : ScriptState) (e : RunEnd) (all : SteppingRun) → IsRest old new (run_ended s e) all → IsAfterStepping all s old new e
 rest_ends old new s e all is = record {
   state = is.now;
-  told = record {
-    text_told = sym (append-nil (sink_text_of new.text)) ∙ is.text;
+  reported = record {
+    text_answer = sym (append-nil (sink_text_of new.text)) ∙ is.text;
     all_printed = sym (append-nil (sink_text_of new.printed)) ∙ is.printed;
   };
   ended = is.ended;
 }
 
-pub goes_on : (old mid new : Telling) (modes : StepModes) (labels : List ImageLabels) (g : RunGoal) (left : ℕ) (s next : ScriptState) (all : SteppingRun)
-    → IsRest old mid (steps_run modes labels g left mid.told s) all → 0 < left → next ≡ step_made s (next_step modes s)
-    → IsToldOn mid new (text_of_next modes labels mid.told s) (next_step modes s).printed → new.told ≡ one_told mid.told
+pub goes_on : (old mid new : TraceWriter) (modes : StepModes) (labels : List ImageLabels) (g : RunGoal) (left : ℕ) (s next : ScriptState) (all : SteppingRun)
+    → IsRest old mid (steps_run modes labels g left mid.reported s) all → 0 < left → next ≡ step_made s (next_step modes s)
+    → IsAnswerOn mid new (text_of_next modes labels mid.reported s) (next_step modes s).printed → new.reported ≡ one_answer mid.reported
     → end_after modes.watches g s next ≡ None
-    → IsRest old new (steps_run modes labels g (left - 1) new.told next) all
-goes_on old mid new modes labels g left s next all is some made told fewer none =
+    → IsRest old new (steps_run modes labels g (left - 1) new.reported next) all
+goes_on old mid new modes labels g left s next all is some made reported fewer none =
     let o = next_step modes s in
-    let text = text_of_next modes labels mid.told s in
-    let f : ScriptState → SteppingRun = steps_run modes labels g (left - 1) (one_told mid.told) in
-    let whole : steps_run modes labels g left mid.told s ≡ run_behind text o.printed (f next) =
-    first_of_left modes labels g left mid.told s some ∙ step_on modes.watches g s next o text f made none in
+    let text = text_of_next modes labels mid.reported s in
+    let f : ScriptState → SteppingRun = steps_run modes labels g (left - 1) (one_answer mid.reported) in
+    let whole : steps_run modes labels g left mid.reported s ≡ run_behind text o.printed (f next) =
+    first_of_left modes labels g left mid.reported s some ∙ step_on modes.watches g s next o text f made none in
     let behind : IsRest old new (f next) all =
-    rest_behind old mid new text o.printed (f next) all (subst (λ (r : SteppingRun). IsRest old mid r all) whole is) told in
+    rest_behind old mid new text o.printed (f next) all (subst (λ (r : SteppingRun). IsRest old mid r all) whole is) reported in
     subst (λ (t : Option ℕ). IsRest old new (steps_run modes labels g (left - 1) t next) all) (sym fewer) behind
 
-pub stops : (old mid new : Telling) (modes : StepModes) (labels : List ImageLabels) (g : RunGoal) (left : ℕ) (s next : ScriptState) (all : SteppingRun) (e : RunEnd)
-    → IsRest old mid (steps_run modes labels g left mid.told s) all → 0 < left → next ≡ step_made s (next_step modes s)
-    → IsToldOn mid new (text_of_next modes labels mid.told s) (next_step modes s).printed
+pub stops : (old mid new : TraceWriter) (modes : StepModes) (labels : List ImageLabels) (g : RunGoal) (left : ℕ) (s next : ScriptState) (all : SteppingRun) (e : RunEnd)
+    → IsRest old mid (steps_run modes labels g left mid.reported s) all → 0 < left → next ≡ step_made s (next_step modes s)
+    → IsAnswerOn mid new (text_of_next modes labels mid.reported s) (next_step modes s).printed
     → end_after modes.watches g s next ≡ Some e
     → IsAfterStepping all next old new e
-stops old mid new modes labels g left s next all e is some made told over =
+stops old mid new modes labels g left s next all e is some made reported over =
     let o = next_step modes s in
-    let text = text_of_next modes labels mid.told s in
-    let f : ScriptState → SteppingRun = steps_run modes labels g (left - 1) (one_told mid.told) in
-    let whole : steps_run modes labels g left mid.told s ≡ run_behind text o.printed (run_ended next e) =
-    first_of_left modes labels g left mid.told s some ∙ step_over modes.watches g s next o text f e made over in
+    let text = text_of_next modes labels mid.reported s in
+    let f : ScriptState → SteppingRun = steps_run modes labels g (left - 1) (one_answer mid.reported) in
+    let whole : steps_run modes labels g left mid.reported s ≡ run_behind text o.printed (run_ended next e) =
+    first_of_left modes labels g left mid.reported s some ∙ step_over modes.watches g s next o text f e made over in
     rest_ends old new next e all
-    (rest_behind old mid new text o.printed (run_ended next e) all (subst (λ (r : SteppingRun). IsRest old mid r all) whole is) told)
+    (rest_behind old mid new text o.printed (run_ended next e) all (subst (λ (r : SteppingRun). IsRest old mid r all) whole is) reported)
 
-pub runs_out : (old new : Telling) (modes : StepModes) (labels : List ImageLabels) (g : RunGoal) (left : ℕ) (s : ScriptState) (all : SteppingRun)
-    → IsRest old new (steps_run modes labels g left new.told s) all → left ≡ 0 → IsAfterStepping all s old new (end.Stopped stop.Budget)
+pub runs_out : (old new : TraceWriter) (modes : StepModes) (labels : List ImageLabels) (g : RunGoal) (left : ℕ) (s : ScriptState) (all : SteppingRun)
+    → IsRest old new (steps_run modes labels g left new.reported s) all → left ≡ 0 → IsAfterStepping all s old new (end.Stopped stop.Budget)
 runs_out old new modes labels g left s all is none =
-    let over : steps_run modes labels g left new.told s ≡ run_ended s (end.Stopped stop.Budget) =
-    ap (λ (n : ℕ). steps_run modes labels g n new.told s) none ∙ no_step modes labels g new.told s in
+    let over : steps_run modes labels g left new.reported s ≡ run_ended s (end.Stopped stop.Budget) =
+    ap (λ (n : ℕ). steps_run modes labels g n new.reported s) none ∙ no_step modes labels g new.reported s in
     rest_ends old new s (end.Stopped stop.Budget) all (subst (λ (r : SteppingRun). IsRest old new r all) over is)
 
 -- a call from outside, and what follows
-pub call_stops : (old new : Telling) (modes : StepModes) (labels : List ImageLabels) (g : RunGoal) (most : ℕ) (s next : ScriptState) (text : List ℕ) (o : StepOutcome) (e : RunEnd)
-    → next ≡ step_made s o → IsToldOn old new (told_of_step old.told text o.printed) o.printed → end_after modes.watches g s next ≡ Some e
-    → IsAfterStepping (call_run modes labels g most old.told s text o) next old new e
-call_stops old new modes labels g most s next text o e made told over =
-    let whole = step_over modes.watches g s next o (told_of_step old.told text o.printed) (steps_run modes labels g (most - 1) (one_told old.told)) e made over in
-    let all = call_run modes labels g most old.told s text o in
+pub call_stops : (old new : TraceWriter) (modes : StepModes) (labels : List ImageLabels) (g : RunGoal) (most : ℕ) (s next : ScriptState) (text : List ℕ) (o : StepOutcome) (e : RunEnd)
+    → next ≡ step_made s o → IsAnswerOn old new (answer_of_step old.reported text o.printed) o.printed → end_after modes.watches g s next ≡ Some e
+    → IsAfterStepping (call_run modes labels g most old.reported s text o) next old new e
+call_stops old new modes labels g most s next text o e made reported over =
+    let whole = step_over modes.watches g s next o (answer_of_step old.reported text o.printed) (steps_run modes labels g (most - 1) (one_answer old.reported)) e made over in
+    let all = call_run modes labels g most old.reported s text o in
     rest_ends old new next e all
-    (rest_behind old old new (told_of_step old.told text o.printed) o.printed (run_ended next e) all
-    (subst (λ (r : SteppingRun). IsRest old old r all) whole (rest_start old all)) told)
+    (rest_behind old old new (answer_of_step old.reported text o.printed) o.printed (run_ended next e) all
+    (subst (λ (r : SteppingRun). IsRest old old r all) whole (rest_start old all)) reported)
 
-joined : (old mid new : Telling) (text printed : List ℕ) (rest : SteppingRun) (now : ScriptState) (e : RunEnd)
-    → IsToldOn old mid text printed → IsAfterStepping rest now mid new e → IsAfterStepping (run_behind text printed rest) now old new e
-joined old mid new text printed rest now e told after = record {
+joined : (old mid new : TraceWriter) (text printed : List ℕ) (rest : SteppingRun) (now : ScriptState) (e : RunEnd)
+    → IsAnswerOn old mid text printed → IsAfterStepping rest now mid new e → IsAfterStepping (run_behind text printed rest) now old new e
+joined old mid new text printed rest now e reported after = record {
   state = after.state;
-  told = record {
-    text_told = after.told.text_told
-        ∙ (ap (λ (xs : List ℕ). xs ++ rest.text) told.text_told ∙ append_assoc (sink_text_of old.text) text rest.text);
-    all_printed = after.told.all_printed
-        ∙ (ap (λ (xs : List ℕ). xs ++ rest.printed) told.all_printed ∙ append_assoc (sink_text_of old.printed) printed rest.printed);
+  reported = record {
+    text_answer = after.reported.text_answer
+        ∙ (ap (λ (xs : List ℕ). xs ++ rest.text) reported.text_answer ∙ append_assoc (sink_text_of old.text) text rest.text);
+    all_printed = after.reported.all_printed
+        ∙ (ap (λ (xs : List ℕ). xs ++ rest.printed) reported.all_printed ∙ append_assoc (sink_text_of old.printed) printed rest.printed);
   };
   ended = after.ended;
 }
 
-pub call_goes_on : {E : Type 0} (r : Result RunEnd E) (old mid new : Telling) (modes : StepModes) (labels : List ImageLabels) (g : RunGoal) (most fuel : ℕ)
+pub call_goes_on : {E : Type 0} (r : Result RunEnd E) (old mid new : TraceWriter) (modes : StepModes) (labels : List ImageLabels) (g : RunGoal) (most fuel : ℕ)
     (s next now : ScriptState) (text : List ℕ) (o : StepOutcome)
-    → next ≡ step_made s o → IsToldOn old mid (told_of_step old.told text o.printed) o.printed → mid.told ≡ one_told old.told → fuel ≡ most - 1
+    → next ≡ step_made s o → IsAnswerOn old mid (answer_of_step old.reported text o.printed) o.printed → mid.reported ≡ one_answer old.reported → fuel ≡ most - 1
     → end_after modes.watches g s next ≡ None
-    → IfOk r (λ e. IsAfterStepping (steps_run modes labels g fuel mid.told next) now mid new e)
-    → IfOk r (λ e. IsAfterStepping (call_run modes labels g most old.told s text o) now old new e)
-call_goes_on (Err x) old mid new modes labels g most fuel s next now text o made told fewer is none after = tt
-call_goes_on (Ok e) old mid new modes labels g most fuel s next now text o made told fewer is none after =
-    let f : ScriptState → SteppingRun = steps_run modes labels g (most - 1) (one_told old.told) in
-    let whole : call_run modes labels g most old.told s text o ≡ run_behind (told_of_step old.told text o.printed) o.printed (f next) =
-    step_on modes.watches g s next o (told_of_step old.told text o.printed) f made none in
-    let by_fuel : IsAfterStepping (steps_run modes labels g (most - 1) mid.told next) now mid new e =
-    subst (λ (n : ℕ). IsAfterStepping (steps_run modes labels g n mid.told next) now mid new e) is after in
-    let by_told : IsAfterStepping (f next) now mid new e =
+    → IfOk r (λ e. IsAfterStepping (steps_run modes labels g fuel mid.reported next) now mid new e)
+    → IfOk r (λ e. IsAfterStepping (call_run modes labels g most old.reported s text o) now old new e)
+call_goes_on (Err x) old mid new modes labels g most fuel s next now text o made reported fewer is none after = tt
+call_goes_on (Ok e) old mid new modes labels g most fuel s next now text o made reported fewer is none after =
+    let f : ScriptState → SteppingRun = steps_run modes labels g (most - 1) (one_answer old.reported) in
+    let whole : call_run modes labels g most old.reported s text o ≡ run_behind (answer_of_step old.reported text o.printed) o.printed (f next) =
+    step_on modes.watches g s next o (answer_of_step old.reported text o.printed) f made none in
+    let by_fuel : IsAfterStepping (steps_run modes labels g (most - 1) mid.reported next) now mid new e =
+    subst (λ (n : ℕ). IsAfterStepping (steps_run modes labels g n mid.reported next) now mid new e) is after in
+    let by_answer : IsAfterStepping (f next) now mid new e =
     subst (λ (t : Option ℕ). IsAfterStepping (steps_run modes labels g (most - 1) t next) now mid new e) fewer by_fuel in
     subst (λ (r : SteppingRun). IsAfterStepping r now old new e) (sym whole)
-    (joined old mid new (told_of_step old.told text o.printed) o.printed (f next) now e told by_told)
+    (joined old mid new (answer_of_step old.reported text o.printed) o.printed (f next) now e reported by_answer)
 
 -- a step counts once at most
 counts_once : (o : Option Halt) → count_after o ≤ 1

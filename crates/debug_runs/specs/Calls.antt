@@ -4,7 +4,7 @@ use Rattle.command_shell.specs.declared.calls.OutsideCall.{OutsideCall}
 use Rattle.command_shell.specs.declared.calls.OutsideCall.TheVariants as outside
 use Rattle.swi_dispatch_guest.specs.MachineState.{MachineState, StepOutcome}
 use Rattle.trace_text.specs.Step.{call_start_text, load_start_text}
-use Rattle.debug_runs.specs.Telling.{call_text_behind}
+use Rattle.debug_runs.specs.TraceWriter.{call_text_behind}
 
 abbrev pub outside_start_text : OutsideCall → MachineState → List ℕ
 outside_start_text (outside.Swi number) s = call_start_text s.cpu s.store.bytes number

@@ -1,4 +1,4 @@
--- A run of which the last steps are told, once it has ended: of the steps before them stands what they
+-- A run of which the last steps are shown, once it has ended: of the steps before them stands what they
 -- print alone, and how many they were.
 use Rattle.std.specs.Prelude.{ℕ, zero, suc, ◌+◌, ◌-◌, ◌++◌, nat_lt, List, [], ◌∷◌, codes, drop, take, length, Option, Some, None, if◌then◌else◌}
 use Rattle.std.specs.Fmt.{decimal}
@@ -9,12 +9,12 @@ use Rattle.command_shell.specs.State.{ScriptState}
 use Rattle.trace_text.specs.Below.{prints_word}
 use Rattle.trace_text.specs.Columns.{below_text}
 use Rattle.debug_runs.specs.Runs.{SteppingRun, end_after, next_step, steps_run}
-use Rattle.debug_runs.specs.Telling.{whole_step_text}
+use Rattle.debug_runs.specs.TraceWriter.{whole_step_text}
 use Rattle.debug_runs.specs.declared.running.RunEnd.{RunEnd}
 use Rattle.debug_runs.specs.declared.running.RunGoal.TheVariants as goal
 use Rattle.debug_tables.specs.declared.modes.StepModes.{StepModes}
 
--- all that can be told of a step, and what it prints
+-- all that can be shown of a step, and what it prints
 pub record StepText : Type 0 where
   pub whole : List ℕ
   pub printed : List ℕ
@@ -35,7 +35,7 @@ texts_of_run modes labels (suc n) s = (let after = step_made s (next_step modes 
     text_of_step modes labels s
     ∷ texts_unless (end_after modes.watches goal.Nowhere s after) (texts_of_run modes labels n after))
 
--- what is told of a step before the last ones
+-- what is shown of a step before the last ones
 abbrev pub printed_line : StepText → List ℕ
 printed_line t = below_text (prints_word t.printed)
 
@@ -47,20 +47,20 @@ abbrev pub steps_before_text : ℕ → List ℕ
 steps_before_text before =
     if nat_lt 0 before then codes ".. " ++ (decimal before ++ codes " steps before\n") else []
 
--- what is told where so many of some steps are told whole
-unfoldable pub last_told : ℕ → List StepText → List ℕ
-last_told count texts = (let before = length texts - count in
+-- what is shown where so many of some steps are shown whole
+unfoldable pub last_answer : ℕ → List StepText → List ℕ
+last_answer count texts = (let before = length texts - count in
     flat_map printed_line (take before texts)
     ++ (steps_before_text before ++ flat_map whole_text (drop before texts)))
 
--- a run of so many steps at most, of which so many are told
+-- a run of so many steps at most, of which so many are shown
 abbrev pub last_run : StepModes → List ImageLabels → ℕ → ℕ → ScriptState → SteppingRun
 last_run modes labels count most s = (let texts = texts_of_run modes labels most s in
-    record (steps_run modes labels goal.Nowhere most None s) { text = last_told count texts })
+    record (steps_run modes labels goal.Nowhere most None s) { text = last_answer count texts })
 
 -- WHILE A RUN GOES ON
 
--- How many steps are told, how many were taken before these, what is told of those, and the steps that are
+-- How many steps are shown, how many were taken before these, what is shown of those, and the steps that are
 -- the last ones so far.
 pub record LastState : Type 0 where
   pub count : ℕ
@@ -88,6 +88,6 @@ unfoldable pub with_steps : LastState → List StepText → LastState
 with_steps l [] = l
 with_steps l (t ∷ others) = with_steps (with_step l t) others
 
--- what is told of them
+-- what is shown of them
 abbrev pub last_text : LastState → List ℕ
 last_text l = l.untold ++ (steps_before_text l.before ++ flat_map whole_text l.steps)

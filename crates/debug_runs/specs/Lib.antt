@@ -1,9 +1,10 @@
--- What the lines of a debugging script that take steps tell. Begin with Lines, over the runs of Runs.
+-- What the lines of a debugging script that take steps show. Begin with Lines, over the runs of Runs.
 pub use Rattle.debug_labels.specs.Images
 pub use Rattle.debug_labels.specs.Labels
 pub use Rattle.debug_labels.specs.Words
 pub use Rattle.debug_labels.specs.declared.images.ImagePlace
 pub use Rattle.debug_tables.specs.Modes
+pub use Rattle.debug_tables.specs.Routines
 pub use Rattle.debug_tables.specs.StubNames
 pub use Rattle.debug_tables.specs.Stubs
 pub use Rattle.debug_tables.specs.WordWatches
@@ -18,8 +19,7 @@ pub mod LastSteps
 pub mod Laws
 pub mod Lines
 pub mod Places
-pub mod Quiet
-pub mod Routines
+pub mod Silent
 pub mod Runs
-pub mod Telling
-pub mod Told
+pub mod TraceWriter
+pub mod Reported

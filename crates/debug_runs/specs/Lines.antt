@@ -11,69 +11,76 @@ use Rattle.command_shell.specs.Answers.{refused_text}
 use Rattle.command_shell.specs.Calls.{stop_before_step_by}
 use Rattle.command_shell.specs.State.{ScriptState, Answered, answer}
 use Rattle.trace_text.specs.Step.{call_start_text, load_start_text}
-use Rattle.debug_runs.specs.Endings.{line_end_told}
+use Rattle.debug_runs.specs.Endings.{line_end_answer}
 use Rattle.debug_runs.specs.LastSteps.{last_run}
-use Rattle.debug_runs.specs.Routines.{caller_in, script_at_routine}
+use Rattle.debug_tables.specs.Routines.{caller_in, script_at_routine}
 use Rattle.debug_runs.specs.Runs.{SteppingRun, call_run, steps_run}
-use Rattle.debug_runs.specs.Telling.{call_text_behind, more_text}
+use Rattle.debug_runs.specs.TraceWriter.{call_text_behind, more_text}
 use Rattle.debug_runs.specs.declared.endings.EndKind.{EndKind}
 use Rattle.debug_runs.specs.declared.endings.EndKind.TheVariants as kind
 use Rattle.debug_tables.specs.declared.modes.StepModes.{StepModes}
 use Rattle.debug_runs.specs.declared.running.RunEnd.TheVariants as end
 use Rattle.debug_runs.specs.declared.running.RunGoal.TheVariants as goal
 
--- What a line leaves: the state, what is told of its steps, what the guest printed, and the line's
--- usual ending, which stands behind what is told.
-pub record SteppingTold : Type 0 where
+-- What a line leaves: the state, what is shown of its steps, what the guest printed, and the line's
+-- usual ending, which stands behind what is shown.
+pub record SteppingAnswer : Type 0 where
   pub now : ScriptState
   pub text : List ℕ
   pub printed : List ℕ
   pub ending : List ℕ
 
-abbrev pub told_at_once : Answered → SteppingTold
-told_at_once a = record { now = a.state; text = []; printed = []; ending = a.text }
+abbrev pub answer_at_once : Answered → SteppingAnswer
+answer_at_once a = record { now = a.state; text = []; printed = []; ending = a.text }
 
-abbrev pub told_with_ending : List ℕ → List ℕ → Answered → SteppingTold
-told_with_ending text printed a = record { now = a.state; text = text; printed = printed; ending = a.text }
+abbrev pub answer_with_ending : List ℕ → List ℕ → Answered → SteppingAnswer
+answer_with_ending text printed a = record { now = a.state; text = text; printed = printed; ending = a.text }
 
--- a line whose run is this: behind its steps stands how many more were taken than told
-abbrev pub steps_line_told : Option ℕ → ScriptState → EndKind → SteppingRun → SteppingTold
-steps_line_told told s k r =
-    told_with_ending (r.text ++ more_text told (s.left - r.now.left)) r.printed (line_end_told k r.now r.ended)
+-- a line whose run is this: behind its steps stands how many more were taken than shown
+abbrev pub steps_line_answer : Option ℕ → ScriptState → EndKind → SteppingRun → SteppingAnswer
+steps_line_answer reported s k r =
+    answer_with_ending (r.text ++ more_text reported (s.left - r.now.left)) r.printed
+    (line_end_answer k r.now r.ended)
 
-abbrev pub told_unless : Option ℕ → ScriptState → EndKind → SteppingRun → Option Stop → SteppingTold
-told_unless told s k r (Some stop) = told_at_once (line_end_told k s (end.Stopped stop))
-told_unless told s k r None = steps_line_told told s k r
+abbrev pub answer_unless : Option ℕ → ScriptState → EndKind → SteppingRun → Option Stop → SteppingAnswer
+answer_unless reported s k r (Some stop) = answer_at_once (line_end_answer k s (end.Stopped stop))
+answer_unless reported s k r None = steps_line_answer reported s k r
 
 -- unless none of so many steps can be taken
-abbrev pub told_if_awake : Option ℕ → ScriptState → EndKind → ℕ → SteppingRun → SteppingTold
-told_if_awake told s k most r = told_unless told s k r (stop_before_step_by s.machine.halt most)
+abbrev pub answer_if_unhalted : Option ℕ → ScriptState → EndKind → ℕ → SteppingRun → SteppingAnswer
+answer_if_unhalted reported s k most r = answer_unless reported s k r (stop_before_step_by s.machine.halt most)
 
 -- CALL and LOAD, whose first step leaves this
-abbrev pub call_line_told : StepModes → List ImageLabels → Option ℕ → ScriptState → List ℕ → StepOutcome → SteppingTold
-call_line_told modes labels told s start o = told_if_awake told s kind.Call s.left
-    (call_run modes labels (goal.Frames (length s.machine.tables.frames)) s.left told s
+abbrev pub call_line_answer : StepModes → List ImageLabels → Option ℕ → ScriptState → List ℕ → StepOutcome →
+    SteppingAnswer
+call_line_answer modes labels reported s start o = answer_if_unhalted reported s kind.Call s.left
+    (call_run modes labels (goal.Frames (length s.machine.tables.frames)) s.left reported s
     (call_text_behind start s.machine o) o)
 
 -- FINISH, where so many frames are open
-abbrev pub finish_told : StepModes → List ImageLabels → Option ℕ → ScriptState → ℕ → SteppingTold
-finish_told modes labels told s zero = told_at_once (answer s (refused_text (codes "NoFrame")))
-finish_told modes labels told s (suc outer) = told_if_awake told s kind.Call s.left
-    (steps_run modes labels (goal.Frames outer) s.left told s)
+abbrev pub finish_answer : StepModes → List ImageLabels → Option ℕ → ScriptState → ℕ → SteppingAnswer
+finish_answer modes labels reported s zero = answer_at_once (answer s (refused_text (codes "NoFrame")))
+finish_answer modes labels reported s (suc outer) = answer_if_unhalted reported s kind.Call s.left
+    (steps_run modes labels (goal.Frames outer) s.left reported s)
 
-unfoldable pub stepping_told : StepModes → List ImageLabels → Option ℕ → ScriptState → SteppingRequest → SteppingTold
-stepping_told modes labels told s Run =
-    told_if_awake told s (kind.Steps false) s.left (steps_run modes labels goal.Nowhere s.left told s)
-stepping_told modes labels told s (Step count) = (let most = min count s.left in
-    told_if_awake told s (kind.Steps (nat_le count s.left)) most (steps_run modes labels goal.Nowhere most told s))
-stepping_told modes labels told s (Call number) =
-    call_line_told modes labels told s (call_start_text s.machine.cpu s.machine.store.bytes number)
+unfoldable pub stepping_answer : StepModes → List ImageLabels → Option ℕ → ScriptState → SteppingRequest →
+    SteppingAnswer
+stepping_answer modes labels reported s Run =
+    answer_if_unhalted reported s (kind.Steps false) s.left
+    (steps_run modes labels goal.Nowhere s.left reported s)
+stepping_answer modes labels reported s (Step count) = (let most = min count s.left in
+    answer_if_unhalted reported s (kind.Steps (nat_le count s.left)) most
+    (steps_run modes labels goal.Nowhere most reported s))
+stepping_answer modes labels reported s (Call number) =
+    call_line_answer modes labels reported s (call_start_text s.machine.cpu s.machine.store.bytes number)
     (store_called s.images s.machine number)
-stepping_told modes labels told s (Load text) =
-    call_line_told modes labels told s (load_start_text text) (module_loaded s.images s.machine text)
-stepping_told modes labels told s Finish = finish_told modes labels told s (length s.machine.tables.frames)
-stepping_told modes labels told s (Gosub address) =
-    told_if_awake told s (kind.Routine (caller_in s)) s.left
-    (steps_run modes labels (goal.Routine (length s.machine.tables.frames)) s.left told (script_at_routine s address))
-stepping_told modes labels told s (RunLast count) =
-    told_if_awake None s (kind.Steps false) s.left (last_run modes labels count s.left s)
+stepping_answer modes labels reported s (Load text) =
+    call_line_answer modes labels reported s (load_start_text text) (module_loaded s.images s.machine text)
+stepping_answer modes labels reported s Finish = finish_answer modes labels reported s
+    (length s.machine.tables.frames)
+stepping_answer modes labels reported s (Gosub address) =
+    answer_if_unhalted reported s (kind.Routine (caller_in s)) s.left
+    (steps_run modes labels (goal.Routine (length s.machine.tables.frames)) s.left reported
+    (script_at_routine s address))
+stepping_answer modes labels reported s (RunLast count) =
+    answer_if_unhalted None s (kind.Steps false) s.left (last_run modes labels count s.left s)

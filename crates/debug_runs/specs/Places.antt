@@ -7,7 +7,7 @@ use Rattle.swi_dispatch_guest.specs.MachineState.{StepOutcome}
 use Rattle.swi_dispatch_guest.specs.Step.{module_loaded, store_called}
 use Rattle.command_shell.specs.Calls.{step_made, stop_before_step_by}
 use Rattle.command_shell.specs.State.{ScriptState}
-use Rattle.debug_runs.specs.Routines.{script_at_routine}
+use Rattle.debug_tables.specs.Routines.{script_at_routine}
 use Rattle.debug_runs.specs.Runs.{end_after, next_step}
 use Rattle.debug_runs.specs.declared.running.RunEnd.{RunEnd}
 use Rattle.debug_runs.specs.declared.running.RunGoal.{RunGoal}
@@ -34,26 +34,28 @@ abbrev pub places_unless_stopped : Option Stop → List ℕ → List ℕ
 places_unless_stopped (Some stop) places = []
 places_unless_stopped None places = places
 
-abbrev pub places_if_awake : ScriptState → ℕ → List ℕ → List ℕ
-places_if_awake s most places = places_unless_stopped (stop_before_step_by s.machine.halt most) places
+abbrev pub places_if_unhalted : ScriptState → ℕ → List ℕ → List ℕ
+places_if_unhalted s most places = places_unless_stopped (stop_before_step_by s.machine.halt most) places
 
 -- CALL and LOAD, whose first step leaves this
 abbrev pub places_of_outside : StepModes → ScriptState → StepOutcome → List ℕ
-places_of_outside modes s o = places_if_awake s s.left
+places_of_outside modes s o = places_if_unhalted s s.left
     (places_of_call modes (goal.Frames (length s.machine.tables.frames)) s.left s o)
 
 -- FINISH, where so many frames are open
 abbrev pub places_of_finish : StepModes → ScriptState → ℕ → List ℕ
 places_of_finish modes s zero = []
-places_of_finish modes s (suc outer) = places_if_awake s s.left (places_of_run modes (goal.Frames outer) s.left s)
+places_of_finish modes s (suc outer) = places_if_unhalted s s.left
+    (places_of_run modes (goal.Frames outer) s.left s)
 
 unfoldable pub places_of_line : StepModes → ScriptState → SteppingRequest → List ℕ
-places_of_line modes s Run = places_if_awake s s.left (places_of_run modes goal.Nowhere s.left s)
+places_of_line modes s Run = places_if_unhalted s s.left (places_of_run modes goal.Nowhere s.left s)
 places_of_line modes s (Step count) = (let most = min count s.left in
-    places_if_awake s most (places_of_run modes goal.Nowhere most s))
+    places_if_unhalted s most (places_of_run modes goal.Nowhere most s))
 places_of_line modes s (Call number) = places_of_outside modes s (store_called s.images s.machine number)
 places_of_line modes s (Load text) = places_of_outside modes s (module_loaded s.images s.machine text)
 places_of_line modes s Finish = places_of_finish modes s (length s.machine.tables.frames)
-places_of_line modes s (Gosub address) = places_if_awake s s.left
+places_of_line modes s (Gosub address) = places_if_unhalted s s.left
     (places_of_run modes (goal.Routine (length s.machine.tables.frames)) s.left (script_at_routine s address))
-places_of_line modes s (RunLast count) = places_if_awake s s.left (places_of_run modes goal.Nowhere s.left s)
+places_of_line modes s (RunLast count) = places_if_unhalted s s.left
+    (places_of_run modes goal.Nowhere s.left s)

@@ -7,11 +7,11 @@ ghost use Rattle.command_shell.specs.Session.{script_state};
 ghost use Rattle.debug_tables.specs.counts.Counts.{step_counted, steps_counted};
 ghost use Rattle.debug_runs.specs.Places.{places_of_run};
 ghost use Rattle.debug_runs.specs.Runs.{steps_run};
-ghost use Rattle.debug_runs.specs.Told.{IsAfterStepping};
+ghost use Rattle.debug_runs.specs.Reported.{IsAfterStepping};
 
 use crate::context::StepContext;
 use crate::running::{RunEnd, RunGoal, end_after, take_steps};
-use crate::telling::Telling;
+use crate::writer::TraceWriter;
 use command_shell::Session;
 use debug_tables::counts::StepCounts;
 use profile::{Stop, WriteFault};
@@ -20,7 +20,7 @@ use profile::{Stop, WriteFault};
 /// where steps are counted.
 #[tactic(auto, using(crate::proofs::PlaceLemmas::none_counted))]
 pub(crate) fn run_steps(
-    telling: &mut Telling,
+    writer: &mut TraceWriter,
     session: &mut Session,
     context: &StepContext<'_>,
     counts: &mut StepCounts,
@@ -30,22 +30,22 @@ pub(crate) fn run_steps(
     requires { most ≤ (script_state session.old context.now.images.now).left }
     ensures ran { let images = context.now.images.now in
         IfOk result (λ end. IsAfterStepping
-        (steps_run context.now.modes.now context.now.labels.now goal most telling.old.told
-        (script_state session.old images)) (script_state session.new images) telling.old telling.new end) }
+        (steps_run context.now.modes.now context.now.labels.now goal most writer.old.reported
+        (script_state session.old images)) (script_state session.new images) writer.old writer.new end) }
     ensures counted { OnOk result (counts.new ≡ steps_counted
         (places_of_run context.now.modes.now goal most (script_state session.old context.now.images.now))
         counts.old) }
 {
     if counts.is_on() {
-        take_counted(telling, session, context, counts, goal, most)
+        take_counted(writer, session, context, counts, goal, most)
     } else {
-        take_steps(telling, session, context, goal, most)
+        take_steps(writer, session, context, goal, most)
     }
 }
 
 // Takes them one by one, and counts each.
 fn take_counted(
-    telling: &mut Telling,
+    writer: &mut TraceWriter,
     session: &mut Session,
     context: &StepContext<'_>,
     counts: &mut StepCounts,
@@ -55,8 +55,8 @@ fn take_counted(
     requires { most ≤ (script_state session.old context.now.images.now).left }
     ensures ran { let images = context.now.images.now in
         IfOk result (λ end. IsAfterStepping
-        (steps_run context.now.modes.now context.now.labels.now goal most telling.old.told
-        (script_state session.old images)) (script_state session.new images) telling.old telling.new end) }
+        (steps_run context.now.modes.now context.now.labels.now goal most writer.old.reported
+        (script_state session.old images)) (script_state session.new images) writer.old writer.new end) }
     ensures counted { OnOk result (counts.new ≡ steps_counted
         (places_of_run context.now.modes.now goal most (script_state session.old context.now.images.now))
         counts.old) }
@@ -65,7 +65,7 @@ fn take_counted(
     while left > 0 {
         let words = context.modes.watches.words(session.machine().memory());
         let place = place_of(session);
-        telling.step(session, context)?;
+        writer.step(session, context)?;
         count_at(counts, place)?;
         left -= 1;
         if let Some(end) = end_after(session, goal, words.as_slice()) {

@@ -1,4 +1,4 @@
-//! How the end of a line that takes steps is told.
+//! How the end of a line that takes steps is shown.
 
 ghost use Rattle.std.specs.Prelude.{◌≡◌, List, OnOk};
 ghost use Rattle.image_loader.specs.Entries.{Entry};
@@ -6,11 +6,11 @@ ghost use Rattle.profile.specs.Output.{Writes};
 ghost use Rattle.command_shell.specs.Answers.{refused_text};
 ghost use Rattle.command_shell.specs.Session.{script_state};
 ghost use Rattle.command_shell.specs.State.{IsAnswered};
-ghost use Rattle.debug_runs.specs.Endings.{goal_told, line_end_told, line_stop_told, routine_told, steps_told, watch_told};
+ghost use Rattle.debug_runs.specs.Endings.{goal_answer, line_end_answer, line_stop_answer, routine_answer, answer_of_steps, watch_answer};
 
-use crate::routines::{Caller, go_back, tell_returned};
 use crate::running::RunEnd;
-use command_shell::{CallEnd, Session, tell_stepped};
+use command_shell::{CallEnd, Session, print_stepped};
+use debug_tables::routines::{Caller, go_back, print_returned};
 use debug_tables::{WatchHit, push_watch};
 use profile::{Sink, Stop, WriteFault, push_parts};
 
@@ -25,8 +25,8 @@ pub enum EndKind {
     Routine(Caller),
 }
 
-/// Tells how a line ended; where it was stopped, that is the last stop then.
-pub(crate) fn tell_line_end<W: Sink>(
+/// Says how a line ended; where it was stopped, that is the last stop then.
+pub(crate) fn print_line_end<W: Sink>(
     session: &mut Session,
     sink: &mut W,
     kind: EndKind,
@@ -35,29 +35,29 @@ pub(crate) fn tell_line_end<W: Sink>(
     ensures { (images : List Entry) → OnOk result
         (IsAnswered (W.contents sink.old) (W.contents sink.new)
         (script_state session.new images)
-        (line_end_told kind (script_state session.old images) end)) }
+        (line_end_answer kind (script_state session.old images) end)) }
 {
     match end {
-        RunEnd::Reached => tell_goal(session, sink, kind),
-        RunEnd::Watched(hit) => tell_watch(session, sink, hit),
-        RunEnd::Stopped(stop) => tell_line_stop(session, sink, kind, stop),
+        RunEnd::Reached => print_goal(session, sink, kind),
+        RunEnd::Watched(hit) => print_hit(session, sink, hit),
+        RunEnd::Stopped(stop) => print_line_stop(session, sink, kind, stop),
     }
 }
 
-fn tell_goal<W: Sink>(session: &mut Session, sink: &mut W, kind: EndKind) -> Result<(), WriteFault>
+fn print_goal<W: Sink>(session: &mut Session, sink: &mut W, kind: EndKind) -> Result<(), WriteFault>
     ensures { (images : List Entry) → OnOk result
         (IsAnswered (W.contents sink.old) (W.contents sink.new)
         (script_state session.new images)
-        (goal_told kind (script_state session.old images))) }
+        (goal_answer kind (script_state session.old images))) }
 {
     match kind {
-        EndKind::Steps(could_all) => tell_steps(session, sink, could_all, Stop::Budget),
-        EndKind::Call => session.tell_end(sink, CallEnd::Returned),
-        EndKind::Routine(caller) => tell_routine(session, sink, caller),
+        EndKind::Steps(could_all) => print_steps(session, sink, could_all, Stop::Budget),
+        EndKind::Call => session.print_end(sink, CallEnd::Returned),
+        EndKind::Routine(caller) => print_routine(session, sink, caller),
     }
 }
 
-fn tell_line_stop<W: Sink>(
+fn print_line_stop<W: Sink>(
     session: &mut Session,
     sink: &mut W,
     kind: EndKind,
@@ -66,15 +66,15 @@ fn tell_line_stop<W: Sink>(
     ensures { (images : List Entry) → OnOk result
         (IsAnswered (W.contents sink.old) (W.contents sink.new)
         (script_state session.new images)
-        (line_stop_told kind (script_state session.old images) stop)) }
+        (line_stop_answer kind (script_state session.old images) stop)) }
 {
     match kind {
-        EndKind::Steps(could_all) => tell_steps(session, sink, could_all, stop),
-        EndKind::Call | EndKind::Routine(_) => session.tell_end(sink, CallEnd::Stopped(stop)),
+        EndKind::Steps(could_all) => print_steps(session, sink, could_all, stop),
+        EndKind::Call | EndKind::Routine(_) => session.print_end(sink, CallEnd::Stopped(stop)),
     }
 }
 
-fn tell_steps<W: Sink>(
+fn print_steps<W: Sink>(
     session: &mut Session,
     sink: &mut W,
     could_all: bool,
@@ -83,25 +83,25 @@ fn tell_steps<W: Sink>(
     ensures { (images : List Entry) → OnOk result
         (IsAnswered (W.contents sink.old) (W.contents sink.new)
         (script_state session.new images)
-        (steps_told could_all (script_state session.old images) stop)) }
+        (answer_of_steps could_all (script_state session.old images) stop)) }
 {
     let at = session.machine().cpu().pc();
     session.set_last(stop);
-    tell_stepped(sink, could_all, stop, at)
+    print_stepped(sink, could_all, stop, at)
 }
 
-fn tell_watch<W: Sink>(session: &mut Session, sink: &mut W, hit: WatchHit) -> Result<(), WriteFault>
+fn print_hit<W: Sink>(session: &mut Session, sink: &mut W, hit: WatchHit) -> Result<(), WriteFault>
     ensures { (images : List Entry) → OnOk result
         (IsAnswered (W.contents sink.old) (W.contents sink.new)
         (script_state session.new images)
-        (watch_told (script_state session.old images) hit)) }
+        (watch_answer (script_state session.old images) hit)) }
 {
     let at = session.machine().cpu().pc();
     session.set_last(Stop::Break(at));
     push_watch(sink, hit)
 }
 
-fn tell_routine<W: Sink>(
+fn print_routine<W: Sink>(
     session: &mut Session,
     sink: &mut W,
     caller: Caller,
@@ -109,15 +109,15 @@ fn tell_routine<W: Sink>(
     ensures { (images : List Entry) → OnOk result
         (IsAnswered (W.contents sink.old) (W.contents sink.new)
         (script_state session.new images)
-        (routine_told caller (script_state session.old images))) }
+        (routine_answer caller (script_state session.old images))) }
 {
     let steps = caller.left().saturating_sub(session.left());
     go_back(session, caller);
-    tell_returned(sink, steps)
+    print_returned(sink, steps)
 }
 
 /// `refused NoFrame`, and the like.
-pub(crate) fn tell_refused<W: Sink>(sink: &mut W, reason: &[u8]) -> Result<(), WriteFault>
+pub(crate) fn print_refused<W: Sink>(sink: &mut W, reason: &[u8]) -> Result<(), WriteFault>
     ensures { Writes W.contents W.has_failed sink.old sink.new result (refused_text reason.now) }
 {
     push_parts(sink, &[b"refused ".as_slice(), reason, b"\n".as_slice()])

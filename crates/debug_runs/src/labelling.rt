@@ -1,14 +1,16 @@
-//! The line of a label, before a step of a trace.
+//! The labels of a trace: the line of one before a step, and the name of where a branch goes.
 
 ghost use Rattle.std.specs.Prelude.{◌≡◌, option_map};
-ghost use Rattle.debug_labels.specs.Places.{told_of_place_label};
+ghost use Rattle.debug_labels.specs.Places.{shown_of_place_label};
 ghost use Rattle.profile.specs.Output.{Writes};
-ghost use Rattle.debug_runs.specs.Telling.{step_label_line, label_line_in};
-ghost use Rattle.swi_dispatch_guest.specs.Parts.{state_of};
+ghost use Rattle.debug_runs.specs.TraceWriter.{label_ahead, label_itself, label_line_in, step_label_line};
+ghost use Rattle.swi_dispatch_guest.specs.GuestState.{state_of};
 
 use command_shell::Machine;
 use debug_labels::{LabelTable, PlaceLabel, PlaceNames};
 use profile::{Sink, WriteFault, push_parts};
+use trace_effects::Cause;
+use trace_text::instruction::branch_destination;
 
 /// Writes `image:label:` where a label stands at the program counter.
 pub(crate) fn push_label_line<W: Sink>(
@@ -25,7 +27,7 @@ pub(crate) fn push_label_line<W: Sink>(
 
 fn push_label<W: Sink>(place: Option<PlaceLabel>, sink: &mut W) -> Result<(), WriteFault>
     ensures { Writes W.contents W.has_failed sink.old sink.new result
-        (step_label_line (option_map told_of_place_label place.entry)) }
+        (step_label_line (option_map shown_of_place_label place.entry)) }
 {
     match place {
         Some(place) if place.offset == 0 => push_parts(
@@ -33,5 +35,25 @@ fn push_label<W: Sink>(place: Option<PlaceLabel>, sink: &mut W) -> Result<(), Wr
             &[place.image, b":".as_slice(), place.label, b":\n".as_slice()],
         ),
         _ => Ok(()),
+    }
+}
+
+/// The label to which the branch goes that stands at the program counter, if there is one.
+pub(crate) fn label_ahead<'a>(labels: &'a LabelTable, machine: &'a Machine) -> Option<&'a [u8]>
+    ensures { option_map (λ label. label.now) result
+        ≡ label_ahead labels.now (state_of machine.now.guest) }
+{
+    let cpu = machine.cpu();
+    let target = branch_destination(cpu.pc(), Cause::of(cpu, machine.memory()))?;
+    label_itself(PlaceNames::new(labels, machine.instances(), cpu).label_at(target))
+}
+
+fn label_itself<'a>(place: Option<PlaceLabel<'a>>) -> Option<&'a [u8]>
+    ensures { option_map (λ label. label.now) result
+        ≡ label_itself (option_map shown_of_place_label place.entry) }
+{
+    match place {
+        Some(place) if place.offset == 0 => Some(place.label),
+        _ => None,
     }
 }

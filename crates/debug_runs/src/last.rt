@@ -1,4 +1,4 @@
-//! A run whose last steps are told, once it has ended.
+//! A run whose last steps are shown, once it has ended.
 
 ghost use Rattle.std.specs.Prelude.{◌≡◌, ◌≤◌, ◌<◌, ◌+◌, ◌^◌, ◌++◌, None, List, IfOk, OnOk};
 ghost use Rattle.image_loader.specs.Entries.{Entry};
@@ -8,7 +8,7 @@ ghost use Rattle.debug_tables.specs.counts.Counts.{steps_counted};
 ghost use Rattle.debug_runs.specs.LastSteps.{last_run, text_of_step, texts_of_run, with_step, with_steps};
 ghost use Rattle.debug_runs.specs.Places.{places_of_run};
 ghost use Rattle.debug_runs.specs.Runs.{next_step, steps_run};
-ghost use Rattle.debug_runs.specs.Told.{IsAfterStepping, IsAfterUntold};
+ghost use Rattle.debug_runs.specs.Reported.{IsAfterStepping, IsAfterUntold};
 ghost use Rattle.debug_runs.specs.declared.running.RunGoal.TheVariants.{Nowhere};
 ghost use Rattle.profile.specs.text_sink.TextSink.{sink_text_of};
 
@@ -16,17 +16,17 @@ use crate::context::StepContext;
 use crate::counted::{count_at, place_of};
 use crate::last_steps::{KeptStep, LastSteps};
 use crate::running::{RunEnd, RunGoal, end_after};
-use crate::telling::Telling;
+use crate::writer::TraceWriter;
 use command_shell::Session;
 use debug_tables::counts::StepCounts;
 use profile::text_sink::TextSink;
 use profile::{Stop, WriteFault, push_all};
 use std::alloc::Global;
 
-/// Takes so many steps at most, until the run is stopped, and tells so many of them, the last ones.
+/// Takes so many steps at most, until the run is stopped, and shows so many of them, the last ones.
 /// Counts the steps where they are counted.
 pub(crate) fn run_last(
-    telling: &mut Telling,
+    writer: &mut TraceWriter,
     session: &mut Session,
     context: &StepContext<'_>,
     counts: &mut StepCounts,
@@ -37,16 +37,16 @@ pub(crate) fn run_last(
     ensures ran { let images = context.now.images.now in
         IfOk result (λ end. IsAfterStepping
         (last_run context.now.modes.now context.now.labels.now count most (script_state session.old images))
-        (script_state session.new images) telling.old telling.new end) }
+        (script_state session.new images) writer.old writer.new end) }
     ensures counted { OnOk result (counts.new ≡ steps_counted
         (places_of_run context.now.modes.now Nowhere most (script_state session.old context.now.images.now))
         counts.old) }
 {
-    let alloc = telling.alloc;
+    let alloc = writer.alloc;
     let mut last = LastSteps::new(alloc, count);
-    let printed = &mut telling.printed;
+    let printed = &mut writer.printed;
     let end = take_last(alloc, printed, session, context, counts, &mut last, most)?;
-    last.tell(&mut telling.text)?;
+    last.print(&mut writer.text)?;
     Ok(end)
 }
 

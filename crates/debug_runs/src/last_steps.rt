@@ -1,4 +1,4 @@
-//! The last steps of a run so far, and what can be told of each.
+//! The last steps of a run so far, and what can be shown of each.
 
 ghost use Rattle.std.specs.Prelude.{◌≡◌, ◌<◌, ◌+◌, ◌-◌, ◌^◌, ◌++◌, IfOk, OnOk};
 ghost use Rattle.std.specs.List.{flat_map};
@@ -8,7 +8,7 @@ ghost use Rattle.debug_runs.specs.LastSteps.{steps_before_text, whole_text};
 ghost use Rattle.profile.specs.text_sink.TextSink.{sink_text_of};
 
 use crate::context::StepContext;
-use crate::telling::Telling;
+use crate::writer::TraceWriter;
 use command_shell::Session;
 use itoa::Buffer;
 use profile::text_sink::TextSink;
@@ -18,7 +18,7 @@ use std::collections::VecDeque;
 use std::marker::Model;
 use trace_text::push_prints_line;
 
-/// All that can be told of a step, and what it printed.
+/// All that can be shown of a step, and what it printed.
 #[derive(Drop)]
 pub(crate) struct KeptStep {
     whole: Vec<u8>,
@@ -38,7 +38,7 @@ impl KeptStep {
     ghost use Rattle.debug_runs.specs.LastSteps.{text_of_step};
     ghost use Rattle.debug_runs.specs.Runs.{next_step};
 
-    /// Takes a step, or lets a stub answer it, and keeps what can be told of it.
+    /// Takes a step, or lets a stub answer it, and keeps what can be shown of it.
     pub(crate) fn take(
         alloc: Global,
         session: &mut Session,
@@ -51,15 +51,15 @@ impl KeptStep {
         ensures text { let s = script_state session.old context.now.images.now in IfOk result
             (λ kept. kept ≡ text_of_step context.now.modes.now context.now.labels.now s) }
     {
-        let mut telling = Telling::new(alloc, Some(1));
-        telling.step(session, context)?;
+        let mut writer = TraceWriter::new(alloc, Some(1));
+        writer.step(session, context)?;
         Ok(KeptStep {
-            whole: telling.text.into_bytes(),
-            printed: telling.printed.into_bytes(),
+            whole: writer.text.into_bytes(),
+            printed: writer.printed.into_bytes(),
         })
     }
 
-    // All that can be told of it.
+    // All that can be shown of it.
     fn whole(&self) -> &[u8]
         ensures { result.now ≡ self.now.whole }
     {
@@ -75,7 +75,7 @@ impl KeptStep {
 }
 
 /// The last steps of a run so far, at most so many; of those before them what they printed, as it is
-/// told, and how many they were.
+/// shown, and how many they were.
 #[derive(Drop)]
 pub(crate) struct LastSteps {
     alloc: Global,
@@ -136,12 +136,12 @@ impl LastSteps {
         }
         match self.steps.pop_front() {
             None => Ok(()),
-            Some(step) => self.tell_printed(&step),
+            Some(step) => self.print_printed(&step),
         }
     }
 
-    // Tells what a step printed that is not among the last ones.
-    fn tell_printed(&mut self, step: &KeptStep) -> Result<(), WriteFault>
+    // Says what a step printed that is not among the last ones.
+    fn print_printed(&mut self, step: &KeptStep) -> Result<(), WriteFault>
         requires { self.old.before < 2 ^ 64 - 1 }
         ensures { OnOk result (self.new ≡ record self.old {
           before = self.old.before + 1;
@@ -153,8 +153,8 @@ impl LastSteps {
         Ok(())
     }
 
-    /// Writes what is told of the run.
-    pub(crate) fn tell(self, text: &mut TextSink) -> Result<(), WriteFault>
+    /// Writes what is shown of the run.
+    pub(crate) fn print(self, text: &mut TextSink) -> Result<(), WriteFault>
         ensures { OnOk result (sink_text_of text.new ≡ sink_text_of text.old ++ last_text self) }
     {
         push_all(text, self.untold.bytes())?;

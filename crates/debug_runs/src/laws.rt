@@ -13,7 +13,7 @@ pub fn plain_lines_are_the_scripts()
 {}
 
 /// A line TRACE LAST leaves what RUN leaves, prints the same and has the same ending; and the steps of
-/// which it tells the last ones are those that a trace of the whole run tells.
+/// which it shows the last ones are those that a trace of the whole run shows.
 pub fn last_steps_are_of_the_run()
     ensures run { LastStepsAreOfTheRun }
     ensures texts { TextsAreOfTheTrace }

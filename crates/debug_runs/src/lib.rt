@@ -12,13 +12,12 @@ mod last;
 mod last_steps;
 pub mod laws;
 mod lines;
-mod quiet;
-mod routines;
 mod running;
+mod silent;
 mod stub_lines;
-mod telling;
+mod writer;
 
 pub use debug_labels::{ImagePlace, LabelTable, PlaceNames};
 pub use debug_tables::counts::StepCounts;
 pub use debug_tables::{MOST_STUB_REGISTERS, StepModes, Stub, StubRegister};
-pub use lines::{LineTold, answer_stepping};
+pub use lines::{LineAnswer, answer_stepping};

@@ -5,36 +5,36 @@ ghost use Rattle.image_loader.specs.Entries.{Entry};
 ghost use Rattle.command_shell.specs.Calls.{first_step, stop_before_step_by};
 ghost use Rattle.command_shell.specs.Session.{script_state};
 ghost use Rattle.debug_runs.specs.Calls.{outside_start_text};
-ghost use Rattle.debug_runs.specs.Endings.{line_end_told};
+ghost use Rattle.debug_runs.specs.Endings.{line_end_answer};
 ghost use Rattle.debug_lines.specs.SteppingRequests.{Gosub, RunLast, stepping_request_of};
-ghost use Rattle.debug_runs.specs.Lines.{call_line_told, finish_told, stepping_told, told_if_awake, told_with_ending};
-ghost use Rattle.debug_runs.specs.Places.{places_if_awake, places_of_finish, places_of_line, places_of_outside, places_of_run};
+ghost use Rattle.debug_runs.specs.Lines.{call_line_answer, finish_answer, stepping_answer, answer_if_unhalted, answer_with_ending};
+ghost use Rattle.debug_runs.specs.Places.{places_if_unhalted, places_of_finish, places_of_line, places_of_outside, places_of_run};
 ghost use Rattle.debug_runs.specs.Runs.{steps_run};
 ghost use Rattle.debug_tables.specs.counts.Counts.{steps_counted};
-ghost use Rattle.debug_runs.specs.Telling.{more_text};
-ghost use Rattle.debug_runs.specs.Told.{HasTold, IsSteppingTold};
+ghost use Rattle.debug_runs.specs.TraceWriter.{more_text};
+ghost use Rattle.debug_runs.specs.Reported.{HasAnswer, IsSteppingAnswer};
 
 use crate::context::StepContext;
 use crate::counted::run_steps;
-use crate::endings::{EndKind, tell_line_end, tell_refused};
+use crate::endings::{EndKind, print_line_end, print_refused};
 use crate::last::run_last;
-use crate::routines::{caller_of, enter};
 use crate::running::{RunEnd, RunGoal, take_call};
-use crate::telling::Telling;
+use crate::writer::TraceWriter;
 use command_shell::{OutsideCall, Session};
 use debug_labels::LabelTable;
 use debug_lines::SteppingCommand;
 use debug_tables::StepModes;
 use debug_tables::counts::StepCounts;
+use debug_tables::routines::{caller_of, enter};
 use image_loader::Images;
 use profile::text_sink::TextSink;
 use profile::{Stop, WriteFault};
 use std::alloc::{AllocError, Global};
 
-/// What a line left to write: what is told of its steps, and its usual ending behind that.
+/// What a line left to write: what is shown of its steps, and its usual ending behind that.
 #[derive(Drop)]
-pub struct LineTold {
-    /// What is told of the steps: what the guest printed where the line is not traced, else the
+pub struct LineAnswer {
+    /// What is shown of the steps: what the guest printed where the line is not traced, else the
     /// trace.
     pub text: Vec<u8>,
     /// What the guest printed.
@@ -47,9 +47,9 @@ pub struct LineTold {
 /// CALL and LOAD go on until the module code that they enter has gone back, FINISH until the innermost
 /// frame of module code has, and GOSUB until its routine has: R14 is &03FFFFFC in it, with the status;
 /// afterwards R14 and the program counter are as they were. TRACE LAST is a RUN, of which so many
-/// steps are told, the last ones: `.. 64540 steps before` stands before them, where there were more.
+/// steps are shown, the last ones: `.. 64540 steps before` stands before them, where there were more.
 ///
-/// With `Some`, traced, so many steps are told at most, and what is told ends with how many more
+/// With `Some`, traced, so many steps are shown at most, and what is shown ends with how many more
 /// were taken, `.. 64540 steps more`; with `None` what the guest prints stands as it is. A run
 /// ends where the machine is halted, else where what the line waits for has come, else after the
 /// step that changed a watched word, else at a break, else with the budget. A break where the run
@@ -66,12 +66,13 @@ pub fn answer_stepping(
     counts: &mut StepCounts,
     labels: &LabelTable,
     line: &SteppingCommand<'_>,
-    told: Option<u64>,
-) -> Result<LineTold, AllocError>
-    ensures told { let s = script_state session.old images.now in IfOk result (λ line_told. IsSteppingTold
-        (stepping_told modes.now labels.now told s (stepping_request_of line.now))
+    reported: Option<u64>,
+) -> Result<LineAnswer, AllocError>
+    ensures reported { let s = script_state session.old images.now in IfOk result
+        (λ line_answer. IsSteppingAnswer
+        (stepping_answer modes.now labels.now reported s (stepping_request_of line.now))
         (script_state session.new images.now)
-        line_told.text.items line_told.printed.items line_told.ending.items) }
+        line_answer.text.items line_answer.printed.items line_answer.ending.items) }
     ensures counted { OnOk result (counts.new ≡ steps_counted
         (places_of_line modes.now (script_state session.old images.now) (stepping_request_of line.now))
         counts.old) }
@@ -81,30 +82,30 @@ pub fn answer_stepping(
         modes,
         labels,
     };
-    let mut telling = Telling::new(alloc, told);
+    let mut writer = TraceWriter::new(alloc, reported);
     let mut ending = TextSink::new(alloc);
-    match tell_line(&mut telling, &mut ending, session, &context, counts, line) {
-        Ok(()) => Ok(LineTold {
-            text: telling.text.into_bytes(),
-            printed: telling.printed.into_bytes(),
+    match print_line(&mut writer, &mut ending, session, &context, counts, line) {
+        Ok(()) => Ok(LineAnswer {
+            text: writer.text.into_bytes(),
+            printed: writer.printed.into_bytes(),
             ending: ending.into_bytes(),
         }),
         Err(_) => Err(AllocError),
     }
 }
 
-fn tell_line(
-    telling: &mut Telling,
+fn print_line(
+    writer: &mut TraceWriter,
     ending: &mut TextSink,
     session: &mut Session,
     context: &StepContext<'_>,
     counts: &mut StepCounts,
     line: &SteppingCommand<'_>,
 ) -> Result<(), WriteFault>
-    ensures told { let s = script_state session.old context.now.images.now in OnOk result (HasTold
-        (stepping_told context.now.modes.now context.now.labels.now telling.old.told s
+    ensures reported { let s = script_state session.old context.now.images.now in OnOk result (HasAnswer
+        (stepping_answer context.now.modes.now context.now.labels.now writer.old.reported s
         (stepping_request_of line.now))
-        (script_state session.new context.now.images.now) telling.old telling.new ending.old ending.new) }
+        (script_state session.new context.now.images.now) writer.old writer.new ending.old ending.new) }
     ensures counted { OnOk result (counts.new ≡ steps_counted
         (places_of_line context.now.modes.now (script_state session.old context.now.images.now)
         (stepping_request_of line.now)) counts.old) }
@@ -114,36 +115,36 @@ fn tell_line(
         SteppingCommand::Run => {
             let kind = EndKind::Steps(false);
             let goal = RunGoal::Nowhere;
-            tell_steps(telling, ending, session, context, counts, kind, goal, left)
+            print_steps(writer, ending, session, context, counts, kind, goal, left)
         }
         SteppingCommand::Step(count) => {
             let count = u64::from(count);
             let kind = EndKind::Steps(count <= left);
             let most = count.min(left);
             let goal = RunGoal::Nowhere;
-            tell_steps(telling, ending, session, context, counts, kind, goal, most)
+            print_steps(writer, ending, session, context, counts, kind, goal, most)
         }
         SteppingCommand::Call(number) => {
             let call = OutsideCall::Swi(number);
-            tell_call(telling, ending, session, context, counts, call)
+            print_call(writer, ending, session, context, counts, call)
         }
         SteppingCommand::Load(text) => {
             let call = OutsideCall::Load(text);
-            tell_call(telling, ending, session, context, counts, call)
+            print_call(writer, ending, session, context, counts, call)
         }
-        SteppingCommand::Finish => tell_finish(telling, ending, session, context, counts),
+        SteppingCommand::Finish => print_finish(writer, ending, session, context, counts),
         SteppingCommand::Gosub(address) => {
-            tell_gosub(telling, ending, session, context, counts, address.address())
+            print_gosub(writer, ending, session, context, counts, address.address())
         }
         SteppingCommand::RunLast(count) => {
-            tell_last(telling, ending, session, context, counts, count)
+            print_last(writer, ending, session, context, counts, count)
         }
     }
 }
 
 // So many steps at most.
-fn tell_steps(
-    telling: &mut Telling,
+fn print_steps(
+    writer: &mut TraceWriter,
     ending: &mut TextSink,
     session: &mut Session,
     context: &StepContext<'_>,
@@ -153,81 +154,81 @@ fn tell_steps(
     most: u64,
 ) -> Result<(), WriteFault>
     requires { most ≤ (script_state session.old context.now.images.now).left }
-    ensures told { let s = script_state session.old context.now.images.now in
-        let modes = context.now.modes.now in OnOk result (HasTold
-        (told_if_awake telling.old.told s kind most
-        (steps_run modes context.now.labels.now goal most telling.old.told s))
-        (script_state session.new context.now.images.now) telling.old telling.new ending.old ending.new) }
+    ensures reported { let s = script_state session.old context.now.images.now in
+        let modes = context.now.modes.now in OnOk result (HasAnswer
+        (answer_if_unhalted writer.old.reported s kind most
+        (steps_run modes context.now.labels.now goal most writer.old.reported s))
+        (script_state session.new context.now.images.now) writer.old writer.new ending.old ending.new) }
     ensures counted { let s = script_state session.old context.now.images.now in
         OnOk result (counts.new ≡ steps_counted
-        (places_if_awake s most (places_of_run context.now.modes.now goal most s)) counts.old) }
+        (places_if_unhalted s most (places_of_run context.now.modes.now goal most s)) counts.old) }
 {
     if let Some(stop) = stop_within(session, most) {
-        return tell_line_end(session, ending, kind, RunEnd::Stopped(stop));
+        return print_line_end(session, ending, kind, RunEnd::Stopped(stop));
     }
-    let told = telling.told;
+    let reported = writer.reported;
     let left = session.left();
-    let end = run_steps(telling, session, context, counts, goal, most)?;
-    tell_run_end(telling, ending, session, told, left, kind, end)
+    let end = run_steps(writer, session, context, counts, goal, most)?;
+    print_run_end(writer, ending, session, reported, left, kind, end)
 }
 
 // CALL and LOAD.
-fn tell_call(
-    telling: &mut Telling,
+fn print_call(
+    writer: &mut TraceWriter,
     ending: &mut TextSink,
     session: &mut Session,
     context: &StepContext<'_>,
     counts: &mut StepCounts,
     call: OutsideCall,
 ) -> Result<(), WriteFault>
-    ensures told { let s = script_state session.old context.now.images.now in
-        OnOk result (HasTold
-        (call_line_told context.now.modes.now context.now.labels.now telling.old.told s
+    ensures reported { let s = script_state session.old context.now.images.now in
+        OnOk result (HasAnswer
+        (call_line_answer context.now.modes.now context.now.labels.now writer.old.reported s
         (outside_start_text call.entry s.machine) (first_step s call.entry))
-        (script_state session.new context.now.images.now) telling.old telling.new ending.old ending.new) }
+        (script_state session.new context.now.images.now) writer.old writer.new ending.old ending.new) }
     ensures counted { let s = script_state session.old context.now.images.now in
         OnOk result (counts.new ≡ steps_counted
         (places_of_outside context.now.modes.now s (first_step s call.entry)) counts.old) }
 {
     let left = session.left();
     if let Some(stop) = stop_within(session, left) {
-        return tell_line_end(session, ending, EndKind::Call, RunEnd::Stopped(stop));
+        return print_line_end(session, ending, EndKind::Call, RunEnd::Stopped(stop));
     }
-    let told = telling.told;
+    let reported = writer.reported;
     let goal = RunGoal::Frames(session.machine().frames());
-    let end = take_call(telling, session, context, counts, call, goal, left)?;
-    tell_run_end(telling, ending, session, told, left, EndKind::Call, end)
+    let end = take_call(writer, session, context, counts, call, goal, left)?;
+    print_run_end(writer, ending, session, reported, left, EndKind::Call, end)
 }
 
-fn tell_finish(
-    telling: &mut Telling,
+fn print_finish(
+    writer: &mut TraceWriter,
     ending: &mut TextSink,
     session: &mut Session,
     context: &StepContext<'_>,
     counts: &mut StepCounts,
 ) -> Result<(), WriteFault>
-    ensures told { let s = script_state session.old context.now.images.now in
-        OnOk result (HasTold
-        (finish_told context.now.modes.now context.now.labels.now telling.old.told s
+    ensures reported { let s = script_state session.old context.now.images.now in
+        OnOk result (HasAnswer
+        (finish_answer context.now.modes.now context.now.labels.now writer.old.reported s
         (length s.machine.tables.frames))
-        (script_state session.new context.now.images.now) telling.old telling.new ending.old ending.new) }
+        (script_state session.new context.now.images.now) writer.old writer.new ending.old ending.new) }
     ensures counted { let s = script_state session.old context.now.images.now in
         OnOk result (counts.new ≡ steps_counted
         (places_of_finish context.now.modes.now s (length s.machine.tables.frames)) counts.old) }
 {
     match session.machine().frames() {
-        0 => tell_refused(ending, b"NoFrame"),
+        0 => print_refused(ending, b"NoFrame"),
         frames => {
             let goal = RunGoal::Frames(frames - 1);
             let left = session.left();
             let kind = EndKind::Call;
-            tell_steps(telling, ending, session, context, counts, kind, goal, left)
+            print_steps(writer, ending, session, context, counts, kind, goal, left)
         }
     }
 }
 
-fn tell_gosub(
-    telling: &mut Telling,
+fn print_gosub(
+    writer: &mut TraceWriter,
     ending: &mut TextSink,
     session: &mut Session,
     context: &StepContext<'_>,
@@ -236,10 +237,10 @@ fn tell_gosub(
 ) -> Result<(), WriteFault>
     requires aligned { address % 4 ≡ 0 }
     requires inside { address < 2 ^ 26 }
-    ensures told { let s = script_state session.old context.now.images.now in
-        let modes = context.now.modes.now in OnOk result (HasTold
-        (stepping_told modes context.now.labels.now telling.old.told s (Gosub address))
-        (script_state session.new context.now.images.now) telling.old telling.new ending.old ending.new) }
+    ensures reported { let s = script_state session.old context.now.images.now in
+        let modes = context.now.modes.now in OnOk result (HasAnswer
+        (stepping_answer modes context.now.labels.now writer.old.reported s (Gosub address))
+        (script_state session.new context.now.images.now) writer.old writer.new ending.old ending.new) }
     ensures counted { OnOk result (counts.new ≡ steps_counted
         (places_of_line context.now.modes.now (script_state session.old context.now.images.now)
         (Gosub address)) counts.old) }
@@ -247,28 +248,28 @@ fn tell_gosub(
     let left = session.left();
     let kind = EndKind::Routine(caller_of(session));
     if let Some(stop) = stop_within(session, left) {
-        return tell_line_end(session, ending, kind, RunEnd::Stopped(stop));
+        return print_line_end(session, ending, kind, RunEnd::Stopped(stop));
     }
-    let told = telling.told;
+    let reported = writer.reported;
     let goal = RunGoal::Routine(session.machine().frames());
     enter(session, address);
-    let end = run_steps(telling, session, context, counts, goal, left)?;
-    tell_run_end(telling, ending, session, told, left, kind, end)
+    let end = run_steps(writer, session, context, counts, goal, left)?;
+    print_run_end(writer, ending, session, reported, left, kind, end)
 }
 
-// RUN, of which so many steps are told, the last ones.
-fn tell_last(
-    telling: &mut Telling,
+// RUN, of which so many steps are shown, the last ones.
+fn print_last(
+    writer: &mut TraceWriter,
     ending: &mut TextSink,
     session: &mut Session,
     context: &StepContext<'_>,
     counts: &mut StepCounts,
     count: u32,
 ) -> Result<(), WriteFault>
-    ensures told { let s = script_state session.old context.now.images.now in
-        let modes = context.now.modes.now in OnOk result (HasTold
-        (stepping_told modes context.now.labels.now telling.old.told s (RunLast count))
-        (script_state session.new context.now.images.now) telling.old telling.new ending.old ending.new) }
+    ensures reported { let s = script_state session.old context.now.images.now in
+        let modes = context.now.modes.now in OnOk result (HasAnswer
+        (stepping_answer modes context.now.labels.now writer.old.reported s (RunLast count))
+        (script_state session.new context.now.images.now) writer.old writer.new ending.old ending.new) }
     ensures counted { OnOk result (counts.new ≡ steps_counted
         (places_of_line context.now.modes.now (script_state session.old context.now.images.now)
         (RunLast count)) counts.old) }
@@ -276,29 +277,29 @@ fn tell_last(
     let left = session.left();
     let kind = EndKind::Steps(false);
     if let Some(stop) = stop_within(session, left) {
-        return tell_line_end(session, ending, kind, RunEnd::Stopped(stop));
+        return print_line_end(session, ending, kind, RunEnd::Stopped(stop));
     }
-    let end = run_last(telling, session, context, counts, count, left)?;
-    tell_run_end(telling, ending, session, None, left, kind, end)
+    let end = run_last(writer, session, context, counts, count, left)?;
+    print_run_end(writer, ending, session, None, left, kind, end)
 }
 
-// How a run ended of which so many steps were to be told, and before which so many were left.
-fn tell_run_end(
-    telling: &mut Telling,
+// How a run ended of which so many steps were to be shown, and before which so many were left.
+fn print_run_end(
+    writer: &mut TraceWriter,
     ending: &mut TextSink,
     session: &mut Session,
-    told: Option<u64>,
+    reported: Option<u64>,
     left: u64,
     kind: EndKind,
     end: RunEnd,
 ) -> Result<(), WriteFault>
     ensures { (images : List Entry) → let s = script_state session.old images in
-        let ended = line_end_told kind s end in OnOk result (HasTold
-        (told_with_ending (more_text told (left - s.left)) [] ended)
-        (script_state session.new images) telling.old telling.new ending.old ending.new) }
+        let ended = line_end_answer kind s end in OnOk result (HasAnswer
+        (answer_with_ending (more_text reported (left - s.left)) [] ended)
+        (script_state session.new images) writer.old writer.new ending.old ending.new) }
 {
-    telling.push_more(told, left.saturating_sub(session.left()))?;
-    tell_line_end(session, ending, kind, end)
+    writer.push_more(reported, left.saturating_sub(session.left()))?;
+    print_line_end(session, ending, kind, end)
 }
 
 // Why none of so many steps can be taken, if none can.

@@ -9,23 +9,20 @@ ghost use Rattle.command_shell.specs.State.{ScriptState};
 ghost use Rattle.debug_runs.specs.Runs.{are_unseen, call_run, end_after, end_of_unseen, is_reached, run_unless, steps_run, watched_end};
 ghost use Rattle.debug_runs.specs.Calls.{outside_text};
 ghost use Rattle.debug_runs.specs.Places.{places_of_call};
-ghost use Rattle.debug_runs.specs.Told.{IsAfterStepping};
+ghost use Rattle.debug_runs.specs.Reported.{IsAfterStepping};
 ghost use Rattle.debug_tables.specs.counts.Counts.{steps_counted};
 ghost use Rattle.debug_tables.specs.WordWatches.{watched_words};
-ghost use Rattle.swi_dispatch_guest.specs.Parts.{state_of};
+ghost use Rattle.swi_dispatch_guest.specs.GuestState.{state_of};
 
 use crate::context::StepContext;
 use crate::counted::run_steps;
-use crate::quiet::take_quietly;
-use crate::telling::{Telling, is_step_told};
+use crate::silent::take_silently;
+use crate::writer::{TraceWriter, is_step_shown};
 use command_shell::{Machine, OutsideCall, Session};
 use debug_tables::counts::StepCounts;
+use debug_tables::routines::ROUTINE_END;
 use debug_tables::{StepModes, WatchHit, WatchedWord, first_change};
-use profile::memory_map::ADDRESS_LIMIT;
 use profile::{Stop, WriteFault};
-
-/// Where a routine that was called from outside goes back to: nothing is fetched there.
-pub(crate) const ROUTINE_END: u32 = ADDRESS_LIMIT - 4;
 
 /// What a run is for.
 #[derive(Clone, Copy, Debug, PartialEq, Eq)]
@@ -51,7 +48,7 @@ pub enum RunEnd {
 
 /// Takes so many steps at most, until the goal is reached or the run is stopped, and counts none.
 pub(crate) fn take_steps(
-    telling: &mut Telling,
+    writer: &mut TraceWriter,
     session: &mut Session,
     context: &StepContext<'_>,
     goal: RunGoal,
@@ -60,18 +57,18 @@ pub(crate) fn take_steps(
     requires { most ≤ (script_state session.old context.now.images.now).left }
     ensures { let images = context.now.images.now in
         IfOk result (λ end. IsAfterStepping
-        (steps_run context.now.modes.now context.now.labels.now goal most telling.old.told
-        (script_state session.old images)) (script_state session.new images) telling.old telling.new end) }
+        (steps_run context.now.modes.now context.now.labels.now goal most writer.old.reported
+        (script_state session.old images)) (script_state session.new images) writer.old writer.new end) }
 {
     let mut left = most;
     while left > 0 {
         let words = context.modes.watches.words(session.machine().memory());
-        telling.step(session, context)?;
+        writer.step(session, context)?;
         left -= 1;
         if let Some(end) = end_after(session, goal, words.as_slice()) {
             return Ok(end);
         }
-        let (taken, end) = take_unseen(telling, session, context, goal, left);
+        let (taken, end) = take_unseen(writer, session, context, goal, left);
         left -= taken;
         if let Some(end) = end {
             return Ok(end);
@@ -83,38 +80,38 @@ pub(crate) fn take_steps(
 // Takes those of so many steps that come next and print nothing, as the machine's own run does, where
 // nothing looks at them. Answers how many, and why the run ends with them, if it does.
 fn take_unseen(
-    telling: &Telling,
+    writer: &TraceWriter,
     session: &mut Session,
     context: &StepContext<'_>,
     goal: RunGoal,
     most: u64,
 ) -> (u64, Option<RunEnd>)
     requires enough { most ≤ (script_state session.old context.now.images.now).left }
-    requires awake { (script_state session.old context.now.images.now).machine.halt ≡ None }
+    requires unhalted { (script_state session.old context.now.images.now).machine.halt ≡ None }
     ensures rest { let modes = context.now.modes.now in let labels = context.now.labels.now in
-        let told = telling.now.told in
+        let reported = writer.now.reported in
         let now = script_state session.new context.now.images.now in
-        steps_run modes labels goal most told (script_state session.old context.now.images.now)
-        ≡ run_unless now result.1 (steps_run modes labels goal (most - result.0) told now) }
+        steps_run modes labels goal most reported (script_state session.old context.now.images.now)
+        ≡ run_unless now result.1 (steps_run modes labels goal (most - result.0) reported now) }
     ensures count { result.0 ≤ most }
     ensures enough { most - result.0 ≤ (script_state session.new context.now.images.now).left }
 {
     if most == 0 {
         return (0, None);
     }
-    if !are_unseen(telling.told, context.modes) {
+    if !are_unseen(writer.reported, context.modes) {
         return (0, None);
     }
-    let taken = take_quietly(session, goal, most);
+    let taken = take_silently(session, goal, most);
     (taken, end_of_unseen(session, goal, taken))
 }
 
-// Whether nothing looks at the instructions of a run of which so many steps are told. A stub looks at
+// Whether nothing looks at the instructions of a run of which so many steps are shown. A stub looks at
 // software interrupts alone, which the machine's own run doesn't take by itself.
-fn are_unseen(told: Option<u64>, modes: &StepModes) -> bool
-    ensures { result ≡ are_unseen modes.now told }
+fn are_unseen(reported: Option<u64>, modes: &StepModes) -> bool
+    ensures { result ≡ are_unseen modes.now reported }
 {
-    !is_step_told(told) && modes.watches.is_empty()
+    !is_step_shown(reported) && modes.watches.is_empty()
 }
 
 // Why a run ends with so many steps at which nothing looked, if it does.
@@ -132,7 +129,7 @@ fn end_of_unseen(session: &Session, goal: RunGoal, taken: u64) -> Option<RunEnd>
 /// Takes so many steps at most, the first of which is a call from outside, and counts the others
 /// where steps are counted.
 pub(crate) fn take_call(
-    telling: &mut Telling,
+    writer: &mut TraceWriter,
     session: &mut Session,
     context: &StepContext<'_>,
     counts: &mut StepCounts,
@@ -145,18 +142,18 @@ pub(crate) fn take_call(
     ensures ran { let s = script_state session.old context.now.images.now in
         let o = first_step s call.entry in
         IfOk result (λ end. IsAfterStepping
-        (call_run context.now.modes.now context.now.labels.now goal most telling.old.told s
+        (call_run context.now.modes.now context.now.labels.now goal most writer.old.reported s
         (outside_text call.entry s.machine o) o)
-        (script_state session.new context.now.images.now) telling.old telling.new end) }
+        (script_state session.new context.now.images.now) writer.old writer.new end) }
     ensures counted { let s = script_state session.old context.now.images.now in
         OnOk result (counts.new ≡ steps_counted
         (places_of_call context.now.modes.now goal most s (first_step s call.entry)) counts.old) }
 {
     let words = context.modes.watches.words(session.machine().memory());
-    telling.begin(session, context, call)?;
+    writer.begin(session, context, call)?;
     match end_after(session, goal, words.as_slice()) {
         Some(end) => Ok(end),
-        None => run_steps(telling, session, context, counts, goal, most - 1),
+        None => run_steps(writer, session, context, counts, goal, most - 1),
     }
 }
 

@@ -3,8 +3,8 @@
 ghost use Rattle.std.specs.Prelude.{◌≡◌, IfOk, OnOk};
 ghost use Rattle.std.specs.Io.KnownBytes.{Appends};
 ghost use Rattle.profile.specs.Output.{Writes};
-ghost use Rattle.trace_text.specs.Step.{front_text};
-ghost use Rattle.debug_runs.specs.Telling.{stub_line, stub_words};
+ghost use Rattle.trace_text.specs.Instruction.{front_text};
+ghost use Rattle.debug_runs.specs.TraceWriter.{stub_line, stub_words};
 ghost use Rattle.profile.specs.text_sink.TextSink.{sink_text_of};
 
 use arm_core::Cpu;
@@ -15,7 +15,7 @@ use trace_effects::Cause;
 use trace_effects::changes::following_word;
 use trace_text::columns::push_line;
 use trace_text::core_text::push_core;
-use trace_text::start::{push_front, text_of};
+use trace_text::instruction::{push_front, text_of};
 
 /// Writes the line of a step that a stub answered, by the core before it and after it, and what
 /// stood at the program counter.

@@ -1,7 +1,7 @@
 -- By the lemmas that are named.
 use Rattle.std.proofs.Common.{◌≡◌, ◌<◌, None, Some, sym, ap, ◌∙◌, arith}
 use Rattle.command_shell.specs.Value.{MachineValue}
-use Rattle.swi_dispatch_guest.specs.Parts.{state_of}
+use Rattle.swi_dispatch_guest.specs.GuestState.{state_of}
 use Rattle.command_shell.specs.Session.{script_state}
 use Rattle.debug_runs.specs.Runs.{end_after, next_step, steps_run}
 use Rattle.debug_tables.specs.WordWatches.{watched_words}
@@ -17,14 +17,14 @@ loop-left-preserved c =
     let labels = c.args.context.now.labels.now in
     let s = script_state c.loop-left.session images in
     let next = script_state c.step.new.session images in
-    let all = steps_run modes labels c.args.goal c.args.most c.args.telling.now.told (script_state c.args.session.now images) in
+    let all = steps_run modes labels c.args.goal c.args.most c.args.writer.now.reported (script_state c.args.session.now images) in
     let some : 0 < c.loop-left.left = omega arith in
     let words = c.as_slice.ensures.value ∙ (c.words-words.ensures
     ∙ ap (watched_words modes.watches) (c.memory.ensures.bytes ∙ ap (λ (m : MachineValue). (state_of m.guest).store.bytes) c.machine.ensures)) in
     let none : end_after modes.watches c.args.goal s next ≡ None = sym (c.end_after.ensures images s modes.watches words) ∙ c.in_default.is in
     record {
-      rest = goes_on c.args.telling.now c.loop-left.telling c.step.new.self modes labels c.args.goal c.loop-left.left s next all
-          c.loop-left.invariant.rest some c.in_ok-step.ensures.state c.in_ok-step.ensures.told c.in_ok-step.ensures.one_told none;
+      rest = goes_on c.args.writer.now c.loop-left.writer c.step.new.self modes labels c.args.goal c.loop-left.left s next all
+          c.loop-left.invariant.rest some c.in_ok-step.ensures.state c.in_ok-step.ensures.reported c.in_ok-step.ensures.one_answer none;
       enough = enough_left c.loop-left.left s next (next_step modes s) c.loop-left.invariant.enough c.in_ok-step.ensures.state;
       counted = counts_on modes c.args.goal c.loop-left.left s next c.loop-left.counts c.count_at.new.counts some c.in_ok-step.ensures.state none
           (c.in_ok-count_at.ensures ∙ ap (step_counted c.loop-left.counts) (c.place_of-place.ensures images))
@@ -38,13 +38,13 @@ returns-in-Some-clause-ran c =
     let labels = c.args.context.now.labels.now in
     let s = script_state c.loop-left.session images in
     let next = script_state c.step.new.session images in
-    let all = steps_run modes labels c.args.goal c.args.most c.args.telling.now.told (script_state c.args.session.now images) in
+    let all = steps_run modes labels c.args.goal c.args.most c.args.writer.now.reported (script_state c.args.session.now images) in
     let some : 0 < c.loop-left.left = omega arith in
     let words = c.as_slice.ensures.value ∙ (c.words-words.ensures
     ∙ ap (watched_words modes.watches) (c.memory.ensures.bytes ∙ ap (λ (m : MachineValue). (state_of m.guest).store.bytes) c.machine.ensures)) in
     let over : end_after modes.watches c.args.goal s next ≡ Some c.in-Some.end = sym (c.end_after.ensures images s modes.watches words) ∙ c.in-Some.is in
-    stops c.args.telling.now c.loop-left.telling c.step.new.self modes labels c.args.goal c.loop-left.left s next all c.in-Some.end
-    c.loop-left.invariant.rest some c.in_ok-step.ensures.state c.in_ok-step.ensures.told over
+    stops c.args.writer.now c.loop-left.writer c.step.new.self modes labels c.args.goal c.loop-left.left s next all c.in-Some.end
+    c.loop-left.invariant.rest some c.in_ok-step.ensures.state c.in_ok-step.ensures.reported over
 
 pub returns-in-Some-clause-counted : goal.returns-in-Some-clause-counted
 returns-in-Some-clause-counted c =
@@ -65,9 +65,9 @@ returns-clause-ran c =
     let images = c.args.context.now.images.now in
     let modes = c.args.context.now.modes.now in
     let labels = c.args.context.now.labels.now in
-    let all = steps_run modes labels c.args.goal c.args.most c.args.telling.now.told (script_state c.args.session.now images) in
+    let all = steps_run modes labels c.args.goal c.args.most c.args.writer.now.reported (script_state c.args.session.now images) in
     let none : c.loop-left.left ≡ 0 = omega arith in
-    runs_out c.args.telling.now c.loop-left.telling modes labels c.args.goal c.loop-left.left (script_state c.loop-left.session images) all
+    runs_out c.args.writer.now c.loop-left.writer modes labels c.args.goal c.loop-left.left (script_state c.loop-left.session images) all
     c.loop-left.invariant.rest none
 
 pub returns-clause-counted : goal.returns-clause-counted

@@ -6,7 +6,7 @@ use Rattle.debug_runs.specs.Runs.{steps_run}
 use Rattle.debug_runs.proofs.RunLemmas.{IsRest}
 use Rattle.debug_runs.proofs.counted.take_counted.Given as goal
 
--- what is told, and what the steps that are left tell, are all that the run tells, and so are the counts
+-- what is shown, and what the steps that are left show, are all that the run shows, and so are the counts
 abbrev pub invariant-loop-left : goal.invariant-loop-left
 invariant-loop-left l =
     let images = l.context.images.now in
@@ -14,8 +14,8 @@ invariant-loop-left l =
     let labels = l.context.labels.now in
     let now = script_state l.session images in
     record {
-      rest : IsRest l.fn.telling l.telling (steps_run modes labels l.goal l.left l.telling.told now)
-          (steps_run modes labels l.goal l.most l.fn.telling.told (script_state l.fn.session images));
+      rest : IsRest l.fn.writer l.writer (steps_run modes labels l.goal l.left l.writer.reported now)
+          (steps_run modes labels l.goal l.most l.fn.writer.reported (script_state l.fn.session images));
       enough : l.left ≤ now.left;
       counted : steps_counted (places_of_run modes l.goal l.left now) l.counts
           ≡ steps_counted (places_of_run modes l.goal l.most (script_state l.fn.session images)) l.fn.counts;

@@ -1,7 +1,7 @@
 -- By the lemmas that are named.
 use Rattle.std.proofs.Common.{◌≡◌, ◌<◌, ◌-◌, ◌^◌, None, Some, sym, ap, ◌∙◌, arith}
 use Rattle.command_shell.specs.Value.{MachineValue}
-use Rattle.swi_dispatch_guest.specs.Parts.{state_of}
+use Rattle.swi_dispatch_guest.specs.GuestState.{state_of}
 use Rattle.command_shell.specs.Session.{script_state}
 use Rattle.debug_runs.specs.LastSteps.{text_of_step}
 use Rattle.debug_runs.specs.Runs.{end_after, next_step, steps_run}

@@ -4,7 +4,7 @@ use Rattle.command_shell.specs.Session.{script_state}
 use Rattle.debug_runs.specs.LastSteps.{StepText, text_of_step}
 use Rattle.profile.specs.text_sink.TextSink.{sink_text_of}
 use Rattle.debug_runs.proofs.LastLemmas.{one_kept}
-use Rattle.debug_runs.proofs.TellingLemmas.{whatever}
+use Rattle.debug_runs.proofs.TraceWriterLemmas.{whatever}
 use Rattle.debug_runs.proofs.last.take_one.Goals as goal
 
 pub returns-clause-printed : goal.returns-clause-printed

@@ -4,7 +4,7 @@ use Rattle.std.specs.Option.{option_map}
 use Rattle.profile.specs.Firsts.{first_of}
 use Rattle.command_shell.specs.Value.{MachineValue}
 use Rattle.swi_dispatch_guest.specs.MachineState.{stop_of}
-use Rattle.swi_dispatch_guest.specs.Parts.{state_of}
+use Rattle.swi_dispatch_guest.specs.GuestState.{state_of}
 use Rattle.command_shell.specs.Session.{script_state}
 use Rattle.debug_runs.specs.Runs.{end_after, is_reached, watched_end}
 use Rattle.debug_tables.specs.WordWatches.{change_of_word}

@@ -1,7 +1,7 @@
 -- By the lemmas that are named.
 use Rattle.std.proofs.Common.{◌≡◌, ◌-◌, None, Some, sym, ap, refl, ◌∙◌}
 use Rattle.command_shell.specs.Value.{MachineValue}
-use Rattle.swi_dispatch_guest.specs.Parts.{state_of}
+use Rattle.swi_dispatch_guest.specs.GuestState.{state_of}
 use Rattle.command_shell.specs.Calls.{first_step}
 use Rattle.command_shell.specs.Session.{script_state}
 use Rattle.debug_runs.specs.Calls.{outside_text}
@@ -23,8 +23,8 @@ returns-in-Some-clause-ran c =
     let words = c.as_slice.ensures.value ∙ (c.words-words.ensures
     ∙ ap (watched_words modes.watches) (c.memory.ensures.bytes ∙ ap (λ (m : MachineValue). (state_of m.guest).store.bytes) c.machine.ensures)) in
     let over : end_after modes.watches c.args.goal s next ≡ Some c.in-Some.end = sym (c.end_after.ensures images s modes.watches words) ∙ c.in-Some.is in
-    call_stops c.args.telling.now c.begin.new.self modes labels c.args.goal c.args.most s next (outside_text c.args.call s.machine o) o c.in-Some.end
-    c.in_ok-begin.ensures.state c.in_ok-begin.ensures.told over
+    call_stops c.args.writer.now c.begin.new.self modes labels c.args.goal c.args.most s next (outside_text c.args.call s.machine o) o c.in-Some.end
+    c.in_ok-begin.ensures.state c.in_ok-begin.ensures.reported over
 
 pub returns-in-None-clause-ran : goal.returns-in-None-clause-ran
 returns-in-None-clause-ran c =
@@ -37,9 +37,9 @@ returns-in-None-clause-ran c =
     let words = c.as_slice.ensures.value ∙ (c.words-words.ensures
     ∙ ap (watched_words modes.watches) (c.memory.ensures.bytes ∙ ap (λ (m : MachineValue). (state_of m.guest).store.bytes) c.machine.ensures)) in
     let none : end_after modes.watches c.args.goal s next ≡ None = sym (c.end_after.ensures images s modes.watches words) ∙ c.in-None.is in
-    call_goes_on c.run_steps.result c.args.telling.now c.begin.new.self c.run_steps.new.telling modes labels c.args.goal c.args.most _
+    call_goes_on c.run_steps.result c.args.writer.now c.begin.new.self c.run_steps.new.writer modes labels c.args.goal c.args.most _
     s next (script_state c.run_steps.new.session images) (outside_text c.args.call s.machine o) o
-    c.in_ok-begin.ensures.state c.in_ok-begin.ensures.told c.in_ok-begin.ensures.one_told refl none c.run_steps.ensures.ran
+    c.in_ok-begin.ensures.state c.in_ok-begin.ensures.reported c.in_ok-begin.ensures.one_answer refl none c.run_steps.ensures.ran
 
 pub run_steps-requires : goal.run_steps-requires
 run_steps-requires c =

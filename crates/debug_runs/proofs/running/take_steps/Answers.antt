@@ -1,11 +1,11 @@
 -- By the lemmas that are named.
 use Rattle.std.proofs.Common.{◌≡◌, ◌<◌, None, Some, sym, ap, ◌∙◌, arith}
 use Rattle.command_shell.specs.Value.{MachineValue}
-use Rattle.swi_dispatch_guest.specs.Parts.{state_of}
+use Rattle.swi_dispatch_guest.specs.GuestState.{state_of}
 use Rattle.command_shell.specs.Session.{script_state}
 use Rattle.debug_runs.specs.Runs.{end_after, next_step, steps_run}
 use Rattle.debug_tables.specs.WordWatches.{watched_words}
-use Rattle.debug_runs.proofs.QuietLemmas.{goes_on_awake, unseen_goes_on, unseen_stops}
+use Rattle.debug_runs.proofs.SilentLemmas.{goes_on_unhalted, unseen_goes_on, unseen_stops}
 use Rattle.debug_runs.proofs.RunLemmas.{enough_left, goes_on, runs_out, stops}
 use Rattle.debug_runs.proofs.running.take_steps.Goals as goal
 
@@ -16,21 +16,21 @@ loop-left-preserved c =
     let labels = c.args.context.now.labels.now in
     let s = script_state c.loop-left.session images in
     let next = script_state c.step.new.session images in
-    let all = steps_run modes labels c.args.goal c.args.most c.args.telling.now.told (script_state c.args.session.now images) in
+    let all = steps_run modes labels c.args.goal c.args.most c.args.writer.now.reported (script_state c.args.session.now images) in
     let some : 0 < c.loop-left.left = omega arith in
     let words = c.as_slice.ensures.value ∙ (c.words-words.ensures
     ∙ ap (watched_words modes.watches) (c.memory.ensures.bytes ∙ ap (λ (m : MachineValue). (state_of m.guest).store.bytes) c.machine.ensures)) in
     let none : end_after modes.watches c.args.goal s next ≡ None = sym (c.end_after.ensures images s modes.watches words) ∙ c.in_default.is in
     record {
-      rest = unseen_goes_on c.args.telling.now c.step.new.self modes labels c.args.goal _ _ next _ all _
-          (goes_on c.args.telling.now c.loop-left.telling c.step.new.self modes labels c.args.goal c.loop-left.left s next all
-          c.loop-left.invariant.rest some c.in_ok-step.ensures.state c.in_ok-step.ensures.told c.in_ok-step.ensures.one_told none)
+      rest = unseen_goes_on c.args.writer.now c.step.new.self modes labels c.args.goal _ _ next _ all _
+          (goes_on c.args.writer.now c.loop-left.writer c.step.new.self modes labels c.args.goal c.loop-left.left s next all
+          c.loop-left.invariant.rest some c.in_ok-step.ensures.state c.in_ok-step.ensures.reported c.in_ok-step.ensures.one_answer none)
           c.take_unseen-taken.ensures.rest c.in_default-end.is;
       enough = c.take_unseen-taken.ensures.enough;
     }
 
-pub take_unseen-taken-requires-clause-awake : goal.take_unseen-taken-requires-clause-awake
-take_unseen-taken-requires-clause-awake c =
+pub take_unseen-taken-requires-clause-unhalted : goal.take_unseen-taken-requires-clause-unhalted
+take_unseen-taken-requires-clause-unhalted c =
     let images = c.args.context.now.images.now in
     let modes = c.args.context.now.modes.now in
     let s = script_state c.loop-left.session images in
@@ -38,7 +38,7 @@ take_unseen-taken-requires-clause-awake c =
     let words = c.as_slice.ensures.value ∙ (c.words-words.ensures
     ∙ ap (watched_words modes.watches) (c.memory.ensures.bytes ∙ ap (λ (m : MachineValue). (state_of m.guest).store.bytes) c.machine.ensures)) in
     let none : end_after modes.watches c.args.goal s next ≡ None = sym (c.end_after.ensures images s modes.watches words) ∙ c.in_default.is in
-    goes_on_awake modes.watches c.args.goal s next none
+    goes_on_unhalted modes.watches c.args.goal s next none
 
 pub take_unseen-taken-requires-clause-enough : goal.take_unseen-taken-requires-clause-enough
 take_unseen-taken-requires-clause-enough c =
@@ -54,14 +54,14 @@ returns-in-Some-end c =
     let labels = c.args.context.now.labels.now in
     let s = script_state c.loop-left.session images in
     let next = script_state c.step.new.session images in
-    let all = steps_run modes labels c.args.goal c.args.most c.args.telling.now.told (script_state c.args.session.now images) in
+    let all = steps_run modes labels c.args.goal c.args.most c.args.writer.now.reported (script_state c.args.session.now images) in
     let some : 0 < c.loop-left.left = omega arith in
     let words = c.as_slice.ensures.value ∙ (c.words-words.ensures
     ∙ ap (watched_words modes.watches) (c.memory.ensures.bytes ∙ ap (λ (m : MachineValue). (state_of m.guest).store.bytes) c.machine.ensures)) in
     let none : end_after modes.watches c.args.goal s next ≡ None = sym (c.end_after.ensures images s modes.watches words) ∙ c.in_default.is in
-    unseen_stops c.args.telling.now c.step.new.self modes labels c.args.goal _ _ next _ all _ c.in-Some-end.end
-    (goes_on c.args.telling.now c.loop-left.telling c.step.new.self modes labels c.args.goal c.loop-left.left s next all
-    c.loop-left.invariant.rest some c.in_ok-step.ensures.state c.in_ok-step.ensures.told c.in_ok-step.ensures.one_told none)
+    unseen_stops c.args.writer.now c.step.new.self modes labels c.args.goal _ _ next _ all _ c.in-Some-end.end
+    (goes_on c.args.writer.now c.loop-left.writer c.step.new.self modes labels c.args.goal c.loop-left.left s next all
+    c.loop-left.invariant.rest some c.in_ok-step.ensures.state c.in_ok-step.ensures.reported c.in_ok-step.ensures.one_answer none)
     c.take_unseen-taken.ensures.rest c.in-Some-end.is
 
 pub returns-in-Some : goal.returns-in-Some
@@ -71,20 +71,20 @@ returns-in-Some c =
     let labels = c.args.context.now.labels.now in
     let s = script_state c.loop-left.session images in
     let next = script_state c.step.new.session images in
-    let all = steps_run modes labels c.args.goal c.args.most c.args.telling.now.told (script_state c.args.session.now images) in
+    let all = steps_run modes labels c.args.goal c.args.most c.args.writer.now.reported (script_state c.args.session.now images) in
     let some : 0 < c.loop-left.left = omega arith in
     let words = c.as_slice.ensures.value ∙ (c.words-words.ensures
     ∙ ap (watched_words modes.watches) (c.memory.ensures.bytes ∙ ap (λ (m : MachineValue). (state_of m.guest).store.bytes) c.machine.ensures)) in
     let over : end_after modes.watches c.args.goal s next ≡ Some c.in-Some.end = sym (c.end_after.ensures images s modes.watches words) ∙ c.in-Some.is in
-    stops c.args.telling.now c.loop-left.telling c.step.new.self modes labels c.args.goal c.loop-left.left s next all c.in-Some.end
-    c.loop-left.invariant.rest some c.in_ok-step.ensures.state c.in_ok-step.ensures.told over
+    stops c.args.writer.now c.loop-left.writer c.step.new.self modes labels c.args.goal c.loop-left.left s next all c.in-Some.end
+    c.loop-left.invariant.rest some c.in_ok-step.ensures.state c.in_ok-step.ensures.reported over
 
 pub returns : goal.returns
 returns c =
     let images = c.args.context.now.images.now in
     let modes = c.args.context.now.modes.now in
     let labels = c.args.context.now.labels.now in
-    let all = steps_run modes labels c.args.goal c.args.most c.args.telling.now.told (script_state c.args.session.now images) in
+    let all = steps_run modes labels c.args.goal c.args.most c.args.writer.now.reported (script_state c.args.session.now images) in
     let none : c.loop-left.left ≡ 0 = omega arith in
-    runs_out c.args.telling.now c.loop-left.telling modes labels c.args.goal c.loop-left.left (script_state c.loop-left.session images) all
+    runs_out c.args.writer.now c.loop-left.writer modes labels c.args.goal c.loop-left.left (script_state c.loop-left.session images) all
     c.loop-left.invariant.rest none

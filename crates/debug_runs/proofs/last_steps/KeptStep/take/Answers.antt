@@ -7,6 +7,6 @@ use Rattle.debug_runs.proofs.last_steps.KeptStep.take.Goals as goal
 pub returns-clause-text : goal.returns-clause-text
 returns-clause-text c =
     kept_is c.args.context.now.modes.now c.args.context.now.labels.now (script_state c.args.session.now c.args.context.now.images.now)
-    c.new-telling.result c.step.new.self (record { whole = c.into_bytes.result.items; printed = c.into_bytes-2.result.items })
-    c.new-telling.ensures.told c.new-telling.ensures.text c.new-telling.ensures.printed c.in_ok-step.ensures.told
+    c.new-writer.result c.step.new.self (record { whole = c.into_bytes.result.items; printed = c.into_bytes-2.result.items })
+    c.new-writer.ensures.reported c.new-writer.ensures.text c.new-writer.ensures.printed c.in_ok-step.ensures.reported
     c.into_bytes.ensures c.into_bytes-2.ensures

@@ -15,6 +15,6 @@ returns-in-Some c =
       steps = c.self.inside.steps.items;
     } in
     let many : c.self.inside.count < length c.self.inside.steps.items = omega (arith, c.self.inside.steps.ok.0) in
-    subst (λ (m : LastState). OnOk c.tell_printed.result (c.tell_printed.new.self ≡ last_ones_of m)) c.self.view_is
-    (one_gone c.tell_printed.result l c.tell_printed.new.self c.in-Some.step c.pop_front.new.self.items c.in-Some.ensures.items
-    many c.tell_printed.ensures)
+    subst (λ (m : LastState). OnOk c.print_printed.result (c.print_printed.new.self ≡ last_ones_of m)) c.self.view_is
+    (one_gone c.print_printed.result l c.print_printed.new.self c.in-Some.step c.pop_front.new.self.items c.in-Some.ensures.items
+    many c.print_printed.ensures)

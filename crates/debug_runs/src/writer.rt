@@ -1,0 +1,396 @@
+//! One step of a session, shown or not shown.
+
+ghost use Rattle.std.specs.Io.KnownBytes.{Appends};
+ghost use Rattle.std.specs.Prelude.{◌≡◌, ◌<◌, ◌++◌, [], List, Some, IfOk, OnOk};
+ghost use Rattle.command_shell.specs.Session.{script_state};
+ghost use Rattle.swi_dispatch_guest.specs.GuestState.{state_of};
+ghost use Rattle.trace_text.specs.Start.{known_in};
+ghost use Rattle.trace_text.specs.Step.{known_outside};
+ghost use Rattle.image_loader.specs.Entries.{Entry};
+ghost use Rattle.profile.specs.Output.{Writes};
+ghost use Rattle.debug_runs.specs.Calls.{outside_start_text};
+ghost use Rattle.debug_runs.specs.TraceWriter.{is_step_shown, more_text, one_answer, untold_text};
+ghost use Rattle.profile.specs.text_sink.TextSink.{sink_text_of};
+
+use crate::context::StepContext;
+use crate::labelling::{label_ahead, push_label_line};
+use crate::stub_lines::push_stub_line;
+use command_shell::{Machine, OutsideCall, Session};
+use debug_tables::Stub;
+use image_loader::Images;
+use itoa::Buffer;
+use profile::text_sink::TextSink;
+use profile::{Sink, WriteFault, push_all, push_parts};
+use std::alloc::Global;
+use trace_effects::Cause;
+use trace_text::{StepStart, StoreCopy, push_prints_line};
+
+/// What is shown of the steps of a line, and what the guest prints in them.
+#[derive(Drop)]
+pub(crate) struct TraceWriter {
+    pub(crate) alloc: Global,
+    /// How many steps more are shown, where steps are.
+    pub(crate) reported: Option<u64>,
+    pub(crate) text: TextSink,
+    pub(crate) printed: TextSink,
+    // The host memory in which a step that was shown kept the store.
+    scratch: Option<Box<StoreCopy>>,
+}
+
+impl TraceWriter {
+    ghost use Rattle.command_shell.specs.Calls.{first_step, step_made};
+    ghost use Rattle.swi_dispatch_guest.specs.Step.{machine_step};
+    ghost use Rattle.trace_text.specs.Step.{step_text};
+    ghost use Rattle.debug_runs.specs.Calls.{outside_text};
+    ghost use Rattle.debug_runs.specs.Runs.{next_step, text_of_next};
+    ghost use Rattle.debug_tables.specs.Stubs.{script_after_stub};
+    ghost use Rattle.debug_runs.specs.TraceWriter.{answer_of_step, label_ahead, stub_step_text, whole_step_text};
+    ghost use Rattle.debug_runs.specs.Reported.{IsAnswerOn};
+
+    /// A telling of so many steps, or of what is printed alone, before the first step.
+    pub(crate) fn new(alloc: Global, reported: Option<u64>) -> TraceWriter
+        ensures reported { result.reported ≡ reported }
+        ensures text { sink_text_of result.text ≡ [] }
+        ensures printed { sink_text_of result.printed ≡ [] }
+    {
+        TraceWriter {
+            alloc,
+            reported,
+            text: TextSink::new(alloc),
+            printed: TextSink::new(alloc),
+            scratch: None,
+        }
+    }
+
+    /// Takes a step, or lets a stub answer it, and shows it where it is one of those that are shown.
+    pub(crate) fn step(
+        &mut self,
+        session: &mut Session,
+        context: &StepContext<'_>,
+    ) -> Result<(), WriteFault>
+        requires { 0 < (script_state session.old context.now.images.now).left }
+        ensures state { let s = script_state session.old context.now.images.now in OnOk result
+            (script_state session.new context.now.images.now
+            ≡ step_made s (next_step context.now.modes.now s)) }
+        ensures reported { let s = script_state session.old context.now.images.now in
+            let modes = context.now.modes.now in OnOk result
+            (IsAnswerOn self.old self.new (text_of_next modes context.now.labels.now self.old.reported s)
+            (next_step modes s).printed) }
+        ensures one_answer { OnOk result (self.new.reported ≡ one_answer self.old.reported) }
+    {
+        self.take(session, context)?;
+        self.reported = one_answer(self.reported);
+        Ok(())
+    }
+
+    /// Takes the first step of a call from outside, and shows it where a step is shown.
+    pub(crate) fn begin(
+        &mut self,
+        session: &mut Session,
+        context: &StepContext<'_>,
+        call: OutsideCall,
+    ) -> Result<(), WriteFault>
+        requires { 0 < (script_state session.old context.now.images.now).left }
+        ensures state { let s = script_state session.old context.now.images.now in OnOk result
+            (script_state session.new context.now.images.now ≡ step_made s (first_step s call.entry)) }
+        ensures reported { let s = script_state session.old context.now.images.now in
+            let o = first_step s call.entry in OnOk result
+            (IsAnswerOn self.old self.new
+            (answer_of_step self.old.reported (outside_text call.entry s.machine o) o.printed) o.printed) }
+        ensures one_answer { OnOk result (self.new.reported ≡ one_answer self.old.reported) }
+    {
+        self.make(session, context.images, call)?;
+        self.reported = one_answer(self.reported);
+        Ok(())
+    }
+
+    // Takes a step, shown or not shown.
+    #[tactic(auto, using(crate::proofs::TraceWriterLemmas::trace_writer_steps))]
+    fn take(&mut self, session: &mut Session, context: &StepContext<'_>) -> Result<(), WriteFault>
+        requires { 0 < (script_state session.old context.now.images.now).left }
+        ensures state { let s = script_state session.old context.now.images.now in OnOk result
+            (script_state session.new context.now.images.now
+            ≡ step_made s (next_step context.now.modes.now s)) }
+        ensures reported { let s = script_state session.old context.now.images.now in
+            let modes = context.now.modes.now in OnOk result
+            (IsAnswerOn self.old self.new (text_of_next modes context.now.labels.now self.old.reported s)
+            (next_step modes s).printed) }
+        ensures same { self.new.reported ≡ self.old.reported }
+    {
+        if is_step_shown(self.reported) {
+            self.take_answer(session, context)
+        } else {
+            self.take_untold(session, context)
+        }
+    }
+
+    // Takes the first step of a call, shown or not shown.
+    #[tactic(auto, using(crate::proofs::TraceWriterLemmas::trace_writer_steps))]
+    fn make(
+        &mut self,
+        session: &mut Session,
+        images: &Images,
+        call: OutsideCall,
+    ) -> Result<(), WriteFault>
+        requires { 0 < (script_state session.old images.now).left }
+        ensures state { let s = script_state session.old images.now in OnOk result
+            (script_state session.new images.now ≡ step_made s (first_step s call.entry)) }
+        ensures reported { let s = script_state session.old images.now in
+            let o = first_step s call.entry in OnOk result
+            (IsAnswerOn self.old self.new
+            (answer_of_step self.old.reported (outside_text call.entry s.machine o) o.printed) o.printed) }
+        ensures same { self.new.reported ≡ self.old.reported }
+    {
+        if is_step_shown(self.reported) {
+            self.begin_answer(session, images, call)
+        } else {
+            self.begin_untold(session, images, call)
+        }
+    }
+
+    fn take_answer(
+        &mut self,
+        session: &mut Session,
+        context: &StepContext<'_>,
+    ) -> Result<(), WriteFault>
+        requires { 0 < (script_state session.old context.now.images.now).left }
+        ensures state { let s = script_state session.old context.now.images.now in OnOk result
+            (script_state session.new context.now.images.now
+            ≡ step_made s (next_step context.now.modes.now s)) }
+        ensures reported { let s = script_state session.old context.now.images.now in
+            let modes = context.now.modes.now in let o = next_step modes s in OnOk result
+            (IsAnswerOn self.old self.new
+            (whole_step_text modes.stubs context.now.labels.now s.machine o) o.printed) }
+        ensures same { self.new.reported ≡ self.old.reported }
+    {
+        push_label_line(context.labels, session.machine(), &mut self.text)?;
+        match context.modes.stubs.ahead(session.machine()) {
+            Some(stub) => self.take_stubbed(session, stub),
+            None => self.take_stepped(session, context),
+        }
+    }
+
+    // A step that is shown, and no stub answers.
+    fn take_stepped(
+        &mut self,
+        session: &mut Session,
+        context: &StepContext<'_>,
+    ) -> Result<(), WriteFault>
+        requires { 0 < (script_state session.old context.now.images.now).left }
+        ensures state { let images = context.now.images.now in
+            let s = script_state session.old images in OnOk result
+            (script_state session.new images ≡ step_made s (machine_step images s.machine)) }
+        ensures reported { let s = script_state session.old context.now.images.now in
+            let o = machine_step context.now.images.now s.machine in OnOk result
+            (IsAnswerOn self.old self.new
+            (step_text (label_ahead context.now.labels.now s.machine) s.machine o) o.printed) }
+        ensures same { self.new.reported ≡ self.old.reported }
+    {
+        let scratch = self.scratch.take();
+        let label = label_ahead(context.labels, session.machine());
+        let start = StepStart::print_step(
+            self.alloc,
+            session.machine(),
+            label,
+            scratch,
+            &mut self.text,
+        )?;
+        let mut printed = TextSink::new(self.alloc);
+        session.take_step(context.images, &mut printed)?;
+        start.print_end(
+            self.alloc,
+            session.machine(),
+            printed.bytes(),
+            &mut self.text,
+        )?;
+        self.scratch = start.into_scratch();
+        push_all(&mut self.printed, printed.bytes())
+    }
+
+    // A step that is shown, and that a stub answers.
+    fn take_stubbed(&mut self, session: &mut Session, stub: &Stub) -> Result<(), WriteFault>
+        requires left { (images : List Entry) → 0 < (script_state session.old images).left }
+        ensures state { (images : List Entry) → script_state session.new images
+            ≡ script_after_stub stub.now (script_state session.old images) }
+        ensures reported { (images : List Entry) → let s = (script_state session.old images).machine in
+            OnOk result (IsAnswerOn self.old self.new
+            (stub_step_text s (script_state session.new images).machine) []) }
+        ensures same { self.new.reported ≡ self.old.reported }
+    {
+        let core = *session.machine().cpu();
+        let cause = Cause::of(session.machine().cpu(), session.machine().memory());
+        stub.act(session);
+        push_stub_line(
+            self.alloc,
+            &core,
+            cause,
+            session.machine().cpu(),
+            &mut self.text,
+        )
+    }
+
+    // A step that is not shown, or what a stub does in its place.
+    fn take_untold(
+        &mut self,
+        session: &mut Session,
+        context: &StepContext<'_>,
+    ) -> Result<(), WriteFault>
+        requires { 0 < (script_state session.old context.now.images.now).left }
+        ensures state { let s = script_state session.old context.now.images.now in OnOk result
+            (script_state session.new context.now.images.now
+            ≡ step_made s (next_step context.now.modes.now s)) }
+        ensures reported { let s = script_state session.old context.now.images.now in
+            let o = next_step context.now.modes.now s in OnOk result
+            (IsAnswerOn self.old self.new (untold_text self.old.reported o.printed) o.printed) }
+        ensures same { self.new.reported ≡ self.old.reported }
+    {
+        let mut printed = TextSink::new(self.alloc);
+        context
+            .modes
+            .stubs
+            .take_step(session, context.images, &mut printed)?;
+        self.push_untold(printed.bytes())
+    }
+
+    // The first step of a call, which is shown.
+    fn begin_answer(
+        &mut self,
+        session: &mut Session,
+        images: &Images,
+        call: OutsideCall,
+    ) -> Result<(), WriteFault>
+        requires { 0 < (script_state session.old images.now).left }
+        ensures state { let s = script_state session.old images.now in OnOk result
+            (script_state session.new images.now ≡ step_made s (first_step s call.entry)) }
+        ensures reported { let s = script_state session.old images.now in
+            let o = first_step s call.entry in OnOk result
+            (IsAnswerOn self.old self.new (outside_text call.entry s.machine o) o.printed) }
+        ensures same { self.new.reported ≡ self.old.reported }
+    {
+        let start = print_outside(self.alloc, session.machine(), call, &mut self.text)?;
+        let mut printed = TextSink::new(self.alloc);
+        session.begin_call(images, &mut printed, call)?;
+        start.print_end(
+            self.alloc,
+            session.machine(),
+            printed.bytes(),
+            &mut self.text,
+        )?;
+        push_all(&mut self.printed, printed.bytes())
+    }
+
+    // The first step of a call, which is not shown.
+    fn begin_untold(
+        &mut self,
+        session: &mut Session,
+        images: &Images,
+        call: OutsideCall,
+    ) -> Result<(), WriteFault>
+        requires { 0 < (script_state session.old images.now).left }
+        ensures state { let s = script_state session.old images.now in OnOk result
+            (script_state session.new images.now ≡ step_made s (first_step s call.entry)) }
+        ensures reported { let s = script_state session.old images.now in
+            let o = first_step s call.entry in OnOk result
+            (IsAnswerOn self.old self.new (untold_text self.old.reported o.printed) o.printed) }
+        ensures same { self.new.reported ≡ self.old.reported }
+    {
+        let mut printed = TextSink::new(self.alloc);
+        session.begin_call(images, &mut printed, call)?;
+        self.push_untold(printed.bytes())
+    }
+
+    // What a step printed that is not shown: most print nothing.
+    fn push_untold(&mut self, printed: &[u8]) -> Result<(), WriteFault>
+        ensures reported { OnOk result
+            (IsAnswerOn self.old self.new (untold_text self.old.reported printed.now) printed.now) }
+        ensures same { self.new.reported ≡ self.old.reported }
+    {
+        if printed.is_empty() {
+            return Ok(());
+        }
+        push_untold_text(self.alloc, self.reported, printed, &mut self.text)?;
+        push_all(&mut self.printed, printed)
+    }
+
+    /// Says how many steps more were taken than shown, where so many were to be shown and so many
+    /// were taken.
+    pub(crate) fn push_more(&mut self, reported: Option<u64>, taken: u64) -> Result<(), WriteFault>
+        ensures { OnOk result (IsAnswerOn self.old self.new (more_text reported taken) []) }
+    {
+        match reported {
+            None => Ok(()),
+            Some(limit) => push_more_steps(&mut self.text, limit, taken),
+        }
+    }
+}
+
+/// Whether a step is shown, where so many are.
+pub(crate) fn is_step_shown(reported: Option<u64>) -> bool
+    ensures { result ≡ is_step_shown reported }
+{
+    match reported {
+        None => false,
+        Some(limit) => 0 < limit,
+    }
+}
+
+// How many are shown after it.
+fn one_answer(reported: Option<u64>) -> Option<u64>
+    ensures { result ≡ one_answer reported }
+{
+    match reported {
+        None => None,
+        Some(limit) => Some(limit.saturating_sub(1)),
+    }
+}
+
+// What a step printed, as it stands where steps are not shown, else on a line of its own.
+fn push_untold_text<W: Sink>(
+    alloc: Global,
+    reported: Option<u64>,
+    printed: &[u8],
+    sink: &mut W,
+) -> Result<(), WriteFault>
+    ensures { OnOk result (Appends (W.contents sink.old) (W.contents sink.new)
+        (untold_text reported printed.now)) }
+{
+    match reported {
+        None => push_all(sink, printed),
+        Some(_) => push_prints_line(alloc, printed, sink),
+    }
+}
+
+// `.. 64540 steps more`
+fn push_more_steps<W: Sink>(sink: &mut W, limit: u64, taken: u64) -> Result<(), WriteFault>
+    ensures { Writes W.contents W.has_failed sink.old sink.new result (more_text (Some limit) taken) }
+{
+    if taken <= limit {
+        return Ok(());
+    }
+    let mut digits = Buffer::new();
+    push_parts(
+        sink,
+        &[
+            b".. ".as_slice(),
+            digits.format(taken - limit).as_bytes(),
+            b" steps more\n".as_slice(),
+        ],
+    )
+}
+
+// Writes a call from outside, before it is made.
+fn print_outside(
+    alloc: Global,
+    machine: &Machine,
+    call: OutsideCall,
+    text: &mut TextSink,
+) -> Result<StepStart, WriteFault>
+    ensures text { OnOk result (sink_text_of text.new ≡ sink_text_of text.old
+        ++ outside_start_text call.entry (state_of machine.now.guest)) }
+    ensures known { IfOk result (λ start. known_in start ≡ known_outside (state_of machine.now.guest)) }
+{
+    match call {
+        OutsideCall::Swi(number) => StepStart::print_call(alloc, machine, number, text),
+        OutsideCall::Load(words) => StepStart::print_load(alloc, machine, words, text),
+    }
+}
