@@ -19,12 +19,12 @@ use Rattle.command_shell.specs.MachineState.{MachineState}
 use Rattle.command_shell.specs.Step.{without_x}
 
 -- the modes after a line, and its answer
-pub record ModeTold : Type 0 where
+pub record ModeAnswer : Type 0 where
   pub modes : DebugModes
   pub text : List ℕ
 
 -- a line left this
-pub record IsModeTold (t : ModeTold) (modes : DebugModes) (text : List ℕ) : Type 0 where
+pub record IsModeAnswer (t : ModeAnswer) (modes : DebugModes) (text : List ℕ) : Type 0 where
   pub state : modes ≡ t.modes
   pub answer : text ≡ t.text
 
@@ -32,7 +32,7 @@ pub record IsModeTold (t : ModeTold) (modes : DebugModes) (text : List ℕ) : Ty
 abbrev pub change_text : List ℕ → ℕ → List ℕ
 change_text word address = word ++ (at_address_text address ++ codes "\n")
 
-abbrev pub refused_in : DebugModes → List ℕ → ModeTold
+abbrev pub refused_in : DebugModes → List ℕ → ModeAnswer
 refused_in m reason = record { modes = m; text = refused_text reason }
 
 -- TRACE ON, TRACE OFF
@@ -40,15 +40,15 @@ abbrev pub trace_text : Bool → List ℕ
 trace_text true = codes "trace on\n"
 trace_text false = codes "trace off\n"
 
-abbrev pub trace_line_told : DebugModes → Bool → ModeTold
-trace_line_told m is_on = record { modes = record m { is_tracing = is_on }; text = trace_text is_on }
+abbrev pub trace_line_answer : DebugModes → Bool → ModeAnswer
+trace_line_answer m is_on = record { modes = record m { is_tracing = is_on }; text = trace_text is_on }
 
 -- TRACE LIMIT
 abbrev pub limit_text : ℕ → List ℕ
 limit_text limit = codes "trace limit " ++ (decimal limit ++ codes "\n")
 
-abbrev pub limit_line_told : DebugModes → ℕ → ModeTold
-limit_line_told m limit = record { modes = record m { limit = limit }; text = limit_text limit }
+abbrev pub limit_line_answer : DebugModes → ℕ → ModeAnswer
+limit_line_answer m limit = record { modes = record m { limit = limit }; text = limit_text limit }
 
 -- a SWI's number as CALL takes it, without its X bit
 abbrev pub stub_number : ℕ → ℕ
@@ -62,50 +62,51 @@ abbrev pub stub_with : ℕ → List StubSetting → Stub
 stub_with number settings =
     record { number = number; registers = record { items = map stub_register_of settings } }
 
-abbrev pub stubs_told : DebugModes → List ℕ → Result (List Stub) StubError → ModeTold
-stubs_told m text (Ok stubs) =
+abbrev pub stubs_answer : DebugModes → List ℕ → Result (List Stub) StubError → ModeAnswer
+stubs_answer m text (Ok stubs) =
     record { modes = record m { steps = record m.steps { stubs = stubs } }; text = text }
-stubs_told m text (Err e) = refused_in m (stub_error_name e)
+stubs_answer m text (Err e) = refused_in m (stub_error_name e)
 
-abbrev pub stub_line_told : MachineState → DebugModes → ℕ → List StubSetting → ModeTold
-stub_line_told s m number settings = stubs_told m (change_text (codes "stub") (stub_number number))
+abbrev pub stub_line_answer : MachineState → DebugModes → ℕ → List StubSetting → ModeAnswer
+stub_line_answer s m number settings = stubs_answer m (change_text (codes "stub") (stub_number number))
     (with_stub s m.steps.stubs (stub_with (stub_number number) settings))
 
 -- UNSTUB
-abbrev pub unstub_line_told : DebugModes → ℕ → ModeTold
-unstub_line_told m number = stubs_told m (change_text (codes "unstub") (stub_number number))
+abbrev pub unstub_line_answer : DebugModes → ℕ → ModeAnswer
+unstub_line_answer m number = stubs_answer m (change_text (codes "unstub") (stub_number number))
     (without_stub m.steps.stubs (stub_number number))
 
 -- WATCH
-abbrev pub watches_told : DebugModes → List ℕ → Result (List ℕ) WordWatchError → ModeTold
-watches_told m text (Ok watches) =
+abbrev pub watches_answer : DebugModes → List ℕ → Result (List ℕ) WordWatchError → ModeAnswer
+watches_answer m text (Ok watches) =
     record { modes = record m { steps = record m.steps { watches = watches } }; text = text }
-watches_told m text (Err e) = refused_in m (watch_error_name e)
+watches_answer m text (Err e) = refused_in m (watch_error_name e)
 
-abbrev pub watch_line_told : DebugModes → ℕ → ModeTold
-watch_line_told m address = watches_told m (change_text (codes "watch") address) (with_word_watch m.steps.watches address)
+abbrev pub watch_line_answer : DebugModes → ℕ → ModeAnswer
+watch_line_answer m address = watches_answer m (change_text (codes "watch") address)
+    (with_word_watch m.steps.watches address)
 
 -- UNWATCH
-abbrev pub unwatch_line_told : DebugModes → ℕ → ModeTold
-unwatch_line_told m address =
-    watches_told m (change_text (codes "unwatch") address) (without_word_watch m.steps.watches address)
+abbrev pub unwatch_line_answer : DebugModes → ℕ → ModeAnswer
+unwatch_line_answer m address =
+    watches_answer m (change_text (codes "unwatch") address) (without_word_watch m.steps.watches address)
 
 -- COUNT ON, COUNT OFF
 abbrev pub counting_text : Bool → List ℕ
 counting_text true = codes "count on\n"
 counting_text false = codes "count off\n"
 
-abbrev pub counting_line_told : DebugModes → Bool → ModeTold
-counting_line_told m true = record { modes = record m { counts = counts_begun }; text = counting_text true }
-counting_line_told m false =
+abbrev pub counting_line_answer : DebugModes → Bool → ModeAnswer
+counting_line_answer m true = record { modes = record m { counts = counts_begun }; text = counting_text true }
+counting_line_answer m false =
     record { modes = record m { counts = counts_stopped m.counts }; text = counting_text false }
 
 -- a line that changes modes, on a machine
-abbrev pub mode_told : MachineState → DebugModes → ModeRequest → ModeTold
-mode_told s m (Trace is_on) = trace_line_told m is_on
-mode_told s m (TraceLimit limit) = limit_line_told m limit
-mode_told s m (request.Stub number settings) = stub_line_told s m number settings
-mode_told s m (Unstub number) = unstub_line_told m number
-mode_told s m (request.Watch address) = watch_line_told m address
-mode_told s m (Unwatch address) = unwatch_line_told m address
-mode_told s m (Count is_on) = counting_line_told m is_on
+abbrev pub mode_answer : MachineState → DebugModes → ModeRequest → ModeAnswer
+mode_answer s m (Trace is_on) = trace_line_answer m is_on
+mode_answer s m (TraceLimit limit) = limit_line_answer m limit
+mode_answer s m (request.Stub number settings) = stub_line_answer s m number settings
+mode_answer s m (Unstub number) = unstub_line_answer m number
+mode_answer s m (request.Watch address) = watch_line_answer m address
+mode_answer s m (Unwatch address) = unwatch_line_answer m address
+mode_answer s m (Count is_on) = counting_line_answer m is_on

@@ -1,5 +1,5 @@
--- The modes of a debugger, and the lines that change them or are told in them. Begin with Modes.
-pub use Rattle.debug_runs.specs.Telling
+-- The modes of a debugger, and the lines that change them or are shown in them. Begin with Modes.
+pub use Rattle.debug_runs.specs.TraceWriter
 pub mod Changes
 pub mod Counting
 pub mod Modes

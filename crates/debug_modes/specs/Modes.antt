@@ -17,6 +17,6 @@ no_modes = record {
 abbrev pub takes_over : DebugModes → Bool
 takes_over m = m.is_tracing || (m.counts.is_on || not (are_plain m.steps))
 
--- how many steps of a line are told, where they are
-abbrev pub told_of_line : DebugModes → Bool → Option ℕ
-told_of_line m is_traced = if is_traced || m.is_tracing then Some m.limit else None
+-- how many steps of a line are shown, where they are
+abbrev pub answer_of_line : DebugModes → Bool → Option ℕ
+answer_of_line m is_traced = if is_traced || m.is_tracing then Some m.limit else None

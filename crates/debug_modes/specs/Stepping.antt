@@ -3,9 +3,9 @@ use Rattle.std.specs.Prelude.{Bool, List}
 use Rattle.command_shell.specs.State.{ScriptState}
 use Rattle.debug_runs.specs.Labels.{ImageLabels}
 use Rattle.debug_lines.specs.SteppingRequests.{SteppingRequest}
-use Rattle.debug_modes.specs.Modes.{told_of_line}
+use Rattle.debug_modes.specs.Modes.{answer_of_line}
 use Rattle.debug_modes.specs.declared.modes.DebugModes.{DebugModes}
-use Rattle.debug_runs.specs.Lines.{SteppingTold, stepping_told}
+use Rattle.debug_runs.specs.Lines.{SteppingAnswer, stepping_answer}
 use Rattle.debug_runs.specs.Places.{places_of_line}
 use Rattle.debug_runs.specs.counts.Counts.{steps_counted}
 
@@ -14,6 +14,7 @@ abbrev pub modes_after : DebugModes → ScriptState → SteppingRequest → Debu
 modes_after m s request = record m { counts = steps_counted (places_of_line m.steps s request) m.counts }
 
 -- a line, traced or not, in the modes that are set
-abbrev pub stepping_in_modes : DebugModes → List ImageLabels → Bool → ScriptState → SteppingRequest → SteppingTold
+abbrev pub stepping_in_modes : DebugModes → List ImageLabels → Bool → ScriptState → SteppingRequest →
+    SteppingAnswer
 stepping_in_modes m labels is_traced s request =
-    stepping_told m.steps labels (told_of_line m is_traced) s request
+    stepping_answer m.steps labels (answer_of_line m is_traced) s request

@@ -2,8 +2,8 @@
 
 ghost use Rattle.std.specs.Prelude.{◌≡◌, ◌≤◌, true, false, IfOk, OnErr, length};
 ghost use Rattle.debug_lines.specs.ModeRequests.{mode_request_of};
-ghost use Rattle.debug_modes.specs.Changes.{IsModeTold, counting_line_told, limit_line_told, mode_told, stub_line_told, trace_line_told, unstub_line_told, unwatch_line_told, watch_line_told};
-ghost use Rattle.command_shell.specs.Parts.{state_of};
+ghost use Rattle.debug_modes.specs.Changes.{IsModeAnswer, counting_line_answer, limit_line_answer, mode_answer, stub_line_answer, trace_line_answer, unstub_line_answer, unwatch_line_answer, watch_line_answer};
+ghost use Rattle.command_shell.specs.GuestState.{state_of};
 
 use crate::answers::{at_line, limit_line, refused_line};
 use crate::modes::DebugModes;
@@ -34,8 +34,8 @@ impl DebugModes {
         machine: &Machine,
         command: &ModeCommand,
     ) -> Result<Vec<u8>, AllocError>
-        ensures told { IfOk result (λ text. IsModeTold
-            (mode_told (state_of machine.now.guest) self.old (mode_request_of command.now))
+        ensures reported { IfOk result (λ text. IsModeAnswer
+            (mode_answer (state_of machine.now.guest) self.old (mode_request_of command.now))
             self.new text.items) }
         ensures same { OnErr result (self.new ≡ self.old) }
     {
@@ -54,8 +54,8 @@ impl DebugModes {
     }
 
     fn trace(&mut self, alloc: Global, is_on: bool) -> Result<Vec<u8>, AllocError>
-        ensures told { IfOk result (λ text.
-            IsModeTold (trace_line_told self.old is_on) self.new text.items) }
+        ensures reported { IfOk result (λ text.
+            IsModeAnswer (trace_line_answer self.old is_on) self.new text.items) }
         ensures same { OnErr result (self.new ≡ self.old) }
     {
         let text: &[u8] = if is_on { b"trace on\n" } else { b"trace off\n" };
@@ -65,8 +65,8 @@ impl DebugModes {
     }
 
     fn set_limit(&mut self, alloc: Global, limit: u32) -> Result<Vec<u8>, AllocError>
-        ensures told { IfOk result (λ text.
-            IsModeTold (limit_line_told self.old limit) self.new text.items) }
+        ensures reported { IfOk result (λ text.
+            IsModeAnswer (limit_line_answer self.old limit) self.new text.items) }
         ensures same { OnErr result (self.new ≡ self.old) }
     {
         let text = limit_line(alloc, limit)?;
@@ -75,8 +75,8 @@ impl DebugModes {
     }
 
     fn begin_counts(&mut self, alloc: Global) -> Result<Vec<u8>, AllocError>
-        ensures told { IfOk result (λ text.
-            IsModeTold (counting_line_told self.old true) self.new text.items) }
+        ensures reported { IfOk result (λ text.
+            IsModeAnswer (counting_line_answer self.old true) self.new text.items) }
         ensures same { OnErr result (self.new ≡ self.old) }
     {
         let text = Vec::from_slice(alloc, b"count on\n")?;
@@ -85,8 +85,8 @@ impl DebugModes {
     }
 
     fn stop_counts(&mut self, alloc: Global) -> Result<Vec<u8>, AllocError>
-        ensures told { IfOk result (λ text.
-            IsModeTold (counting_line_told self.old false) self.new text.items) }
+        ensures reported { IfOk result (λ text.
+            IsModeAnswer (counting_line_answer self.old false) self.new text.items) }
         ensures same { OnErr result (self.new ≡ self.old) }
     {
         let text = Vec::from_slice(alloc, b"count off\n")?;
@@ -102,8 +102,9 @@ impl DebugModes {
         settings: &[StubSetting],
     ) -> Result<Vec<u8>, AllocError>
         requires { length settings.now ≤ 8 }
-        ensures told { IfOk result (λ text. IsModeTold
-            (stub_line_told (state_of machine.now.guest) self.old number settings.now) self.new text.items) }
+        ensures reported { IfOk result (λ text. IsModeAnswer
+            (stub_line_answer (state_of machine.now.guest) self.old number settings.now) self.new
+            text.items) }
         ensures same { OnErr result (self.new ≡ self.old) }
     {
         let number = stub_number(number);
@@ -115,8 +116,8 @@ impl DebugModes {
     }
 
     fn remove_stub(&mut self, alloc: Global, number: u32) -> Result<Vec<u8>, AllocError>
-        ensures told { IfOk result (λ text.
-            IsModeTold (unstub_line_told self.old number) self.new text.items) }
+        ensures reported { IfOk result (λ text.
+            IsModeAnswer (unstub_line_answer self.old number) self.new text.items) }
         ensures same { OnErr result (self.new ≡ self.old) }
     {
         let number = stub_number(number);
@@ -128,8 +129,8 @@ impl DebugModes {
     }
 
     fn add_watch(&mut self, alloc: Global, address: WordAddress) -> Result<Vec<u8>, AllocError>
-        ensures told { IfOk result (λ text.
-            IsModeTold (watch_line_told self.old address) self.new text.items) }
+        ensures reported { IfOk result (λ text.
+            IsModeAnswer (watch_line_answer self.old address) self.new text.items) }
         ensures same { OnErr result (self.new ≡ self.old) }
     {
         let text = at_line(alloc, b"watch", address.address())?;
@@ -140,8 +141,8 @@ impl DebugModes {
     }
 
     fn remove_watch(&mut self, alloc: Global, address: WordAddress) -> Result<Vec<u8>, AllocError>
-        ensures told { IfOk result (λ text.
-            IsModeTold (unwatch_line_told self.old address) self.new text.items) }
+        ensures reported { IfOk result (λ text.
+            IsModeAnswer (unwatch_line_answer self.old address) self.new text.items) }
         ensures same { OnErr result (self.new ≡ self.old) }
     {
         let text = at_line(alloc, b"unwatch", address.address())?;

@@ -3,7 +3,7 @@
 ghost use Rattle.std.specs.Prelude.{◌≡◌, ◌≤◌, codes, take, IfOk};
 ghost use Rattle.profile.specs.Output.{Writes};
 ghost use Rattle.debug_modes.specs.Counting.{count_column, counted_line, counted_lines, counts_shown, counts_text, counts_text_from, one_if_taken, taken_line, ten_columns, words_of_size, words_taken};
-ghost use Rattle.command_shell.specs.Parts.{state_of};
+ghost use Rattle.command_shell.specs.GuestState.{state_of};
 
 use crate::answers::refused_line;
 use crate::modes::DebugModes;
@@ -18,7 +18,7 @@ use std::alloc::{AllocError, Global};
 const BLANKS: &[u8] = b"          ";
 
 impl DebugModes {
-    ghost use Rattle.debug_runs.specs.Telling.{naming_in};
+    ghost use Rattle.debug_runs.specs.TraceWriter.{naming_in};
 
     /// How often the steps of the words of an image of that name were taken, of those that were assembled:
     /// a line for each word, where the image stands now, with the line that CODE has for it, and behind

@@ -18,9 +18,9 @@ lines of a debugging script:
   FILL a n v, FIND a n v                     n bytes written; where a value or a text stands
   RESET                                      a fresh machine; images, labels, breaks, modes stay
   FORGET name, REPEAT n line                 an image goes; a line, n times
-  TRACE line, TRACE n, TRACE ON, TRACE OFF   steps told one by one; TRACE LIMIT n of a line
+  TRACE line, TRACE n, TRACE ON, TRACE OFF   steps shown one by one; TRACE LIMIT n of a line
   STEP                                       STEP 1
-  TRACE LAST n                               RUN, of which the last n steps are told
+  TRACE LAST n                               RUN, of which the last n steps are shown
   FINISH, GOSUB a                            until a frame has gone back; a routine called
   PUT name a                                 an image's bytes to an address
   STUB n R0 v .., UNSTUB n                   a SWI that the machine doesn't have

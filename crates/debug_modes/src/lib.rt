@@ -1,4 +1,4 @@
-//! The modes of a debugger, for `debug_session`: whether steps are told one by one, and how many,
+//! The modes of a debugger, for `debug_session`: whether steps are shown one by one, and how many,
 //! stubs, watches and counts; the lines that change them, and lines that take steps in them.
 //!
 //! Promise: a mode changes just what its line says, and steps are taken in the modes that are set.

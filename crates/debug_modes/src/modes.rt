@@ -1,12 +1,12 @@
 //! The modes of a debugger.
 
 ghost use Rattle.std.specs.Prelude.{◌≡◌};
-ghost use Rattle.debug_modes.specs.Modes.{no_modes, takes_over, told_of_line};
+ghost use Rattle.debug_modes.specs.Modes.{no_modes, takes_over, answer_of_line};
 
 use debug_runs::{StepCounts, StepModes};
 use std::alloc::Global;
 
-/// So many steps of a line are told where no line says otherwise.
+/// So many steps of a line are shown where no line says otherwise.
 const FIRST_LIMIT: u64 = 1000;
 
 /// How a debugger answers lines that take steps.
@@ -16,14 +16,14 @@ pub struct DebugModes {
     pub steps: StepModes,
     /// How often steps were taken at each word of memory.
     pub counts: StepCounts,
-    /// Whether the steps of all lines are told one by one.
+    /// Whether the steps of all lines are shown one by one.
     pub(crate) is_tracing: bool,
-    /// How many steps of a line are told at most.
+    /// How many steps of a line are shown at most.
     pub(crate) limit: u64,
 }
 
 impl DebugModes {
-    /// Steps go as in a script, untold and uncounted; 1,000 would be told of a line.
+    /// Steps go as in a script, not shown and uncounted; 1,000 would be shown of a line.
     pub fn new(alloc: Global) -> DebugModes
         ensures { result ≡ no_modes }
     {
@@ -43,10 +43,10 @@ impl DebugModes {
         self.is_tracing || self.counts.is_on() || !self.steps.is_plain()
     }
 
-    /// How many steps are told of a line, `None` where they are not told: told they are behind TRACE,
+    /// How many steps are shown of a line, `None` where they are not shown: shown they are behind TRACE,
     /// and where the steps of all lines are.
-    pub fn told(&self, is_traced: bool) -> Option<u64>
-        ensures { result ≡ told_of_line self.now is_traced }
+    pub fn reported(&self, is_traced: bool) -> Option<u64>
+        ensures { result ≡ answer_of_line self.now is_traced }
     {
         if is_traced || self.is_tracing {
             Some(self.limit)

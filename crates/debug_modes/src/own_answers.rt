@@ -6,7 +6,7 @@ ghost use Rattle.debug_modes.specs.OwnAnswers.{forget_text, put_text, reasoned_t
 ghost use Rattle.debug_modes.specs.expectations.Reasons.{reason_text};
 
 use crate::expectations::{Mismatch, push_reason};
-use command_shell::tell_unknown;
+use command_shell::print_unknown;
 use itoa::Buffer;
 use profile::HexText;
 use profile::text_sink::TextSink;
@@ -82,7 +82,7 @@ pub fn unknown_line(alloc: Global, number: usize) -> Result<Vec<u8>, AllocError>
     ensures { IfOk result (λ text. text.items ≡ unknown_text number) }
 {
     let mut text = TextSink::new(alloc);
-    match tell_unknown(&mut text, number) {
+    match print_unknown(&mut text, number) {
         Ok(()) => Ok(text.into_bytes()),
         Err(_) => Err(AllocError),
     }

@@ -4,12 +4,12 @@ ghost use Rattle.std.specs.Prelude.{◌≡◌, IfOk, OnOk};
 ghost use Rattle.command_shell.specs.Session.{script_state};
 ghost use Rattle.debug_lines.specs.SteppingRequests.{stepping_request_of};
 ghost use Rattle.debug_modes.specs.Stepping.{modes_after, stepping_in_modes};
-ghost use Rattle.debug_runs.specs.Told.{IsSteppingTold};
+ghost use Rattle.debug_runs.specs.Reported.{IsSteppingAnswer};
 
 use crate::modes::DebugModes;
 use command_shell::Session;
 use debug_lines::SteppingCommand;
-use debug_runs::{LabelTable, LineTold, answer_stepping};
+use debug_runs::{LabelTable, LineAnswer, answer_stepping};
 use image_loader::Images;
 use std::alloc::{AllocError, Global};
 
@@ -28,14 +28,16 @@ impl DebugModes {
         labels: &LabelTable,
         is_traced: bool,
         command: &SteppingCommand<'_>,
-    ) -> Result<LineTold, AllocError>
-        ensures told { let s = script_state session.old images.now in IfOk result (λ told. IsSteppingTold
+    ) -> Result<LineAnswer, AllocError>
+        ensures reported { let s = script_state session.old images.now in IfOk result
+            (λ reported. IsSteppingAnswer
             (stepping_in_modes self.old labels.now is_traced s (stepping_request_of command.now))
-            (script_state session.new images.now) told.text.items told.printed.items told.ending.items) }
+            (script_state session.new images.now) reported.text.items reported.printed.items
+            reported.ending.items) }
         ensures modes { OnOk result (self.new ≡ modes_after self.old
             (script_state session.old images.now) (stepping_request_of command.now)) }
     {
-        let told = self.told(is_traced);
+        let reported = self.reported(is_traced);
         answer_stepping(
             alloc,
             session,
@@ -44,7 +46,7 @@ impl DebugModes {
             &mut self.counts,
             labels,
             command,
-            told,
+            reported,
         )
     }
 }

@@ -8,7 +8,7 @@ use command_shell::without_x_bit;
 use debug_lines::StubSetting;
 use debug_runs::{MOST_STUB_REGISTERS, Stub, StubRegister};
 
-/// The number of a SWI that a line tells as CALL takes it, without its X bit.
+/// The number of a SWI that a line shows as CALL takes it, without its X bit.
 pub(crate) fn stub_number(number: u32) -> u32
     ensures { result ≡ stub_number number }
 {

@@ -88,7 +88,7 @@ steps_reason steps = decimal steps ++ codes " steps were taken"
 abbrev pub output_reason : List ℕ → List ℕ
 output_reason output = codes "the output is " ++ quoted_text output
 
--- a flag, where the pattern tells it
+-- a flag, where the pattern shows it
 abbrev pub is_flag : Option Bool → Bool → Bool
 is_flag None flag = true
 is_flag (Some true) flag = flag
@@ -101,39 +101,39 @@ is_mode Interrupt Interrupt = true
 is_mode Supervisor Supervisor = true
 is_mode one other = false
 
-abbrev pub is_mode_told : Option Mode → Mode → Bool
-is_mode_told None mode = true
-is_mode_told (Some told) mode = is_mode told mode
+abbrev pub is_mode_answer : Option Mode → Mode → Bool
+is_mode_answer None mode = true
+is_mode_answer (Some reported) mode = is_mode reported mode
 
 abbrev pub has_status : StatusPattern → Psr → Bool
 has_status p s = is_flag p.negative s.negative && (is_flag p.zero s.zero && (is_flag p.carry s.carry
     && (is_flag p.overflow s.overflow && (is_flag p.interrupts_off s.interrupts_off
-    && (is_flag p.fast_interrupts_off s.fast_interrupts_off && is_mode_told p.mode s.mode)))))
+    && (is_flag p.fast_interrupts_off s.fast_interrupts_off && is_mode_answer p.mode s.mode)))))
 
 -- why what should be so isn't; nothing where it is so
-abbrev pub check_told : Seen → ExpectRequest → Option (List ℕ)
-check_told s (Register n v) = reason_unless (register_of s.cpu n == v)
+abbrev pub check_answer : Seen → ExpectRequest → Option (List ℕ)
+check_answer s (Register n v) = reason_unless (register_of s.cpu n == v)
     (value_reason (register_name n) (register_of s.cpu n))
-check_told s (Pc v) = reason_unless (s.cpu.pc == v) (value_reason (codes "PC") s.cpu.pc)
-check_told s (Banked mode n v) = reason_unless (register_in mode s.cpu n == v)
+check_answer s (Pc v) = reason_unless (s.cpu.pc == v) (value_reason (codes "PC") s.cpu.pc)
+check_answer s (Banked mode n v) = reason_unless (register_in mode s.cpu n == v)
     (value_reason (banked_name mode n) (register_in mode s.cpu n))
-check_told s (Flags p) = reason_unless (has_status p s.cpu.psr) (status_reason s.cpu.psr)
-check_told s (Word address v) = reason_unless (is_loaded v (word_loaded s.bytes address))
+check_answer s (Flags p) = reason_unless (has_status p s.cpu.psr) (status_reason s.cpu.psr)
+check_answer s (Word address v) = reason_unless (is_loaded v (word_loaded s.bytes address))
     (place_reason address (loaded_or_unmapped hex_word (word_loaded s.bytes address)))
-check_told s (Byte address v) = reason_unless (is_loaded v (byte_loaded s.bytes address))
+check_answer s (Byte address v) = reason_unless (is_loaded v (byte_loaded s.bytes address))
     (place_reason address (loaded_or_unmapped hex_byte (byte_loaded s.bytes address)))
-check_told s (Answer text) = reason_unless (is_line_of_words text (last_line s.answer))
+check_answer s (Answer text) = reason_unless (is_line_of_words text (last_line s.answer))
     (answer_reason s.answer)
-check_told s (Line text) = reason_unless (list_any (is_line_of_words text) (lines s.answer))
+check_answer s (Line text) = reason_unless (list_any (is_line_of_words text) (lines s.answer))
     no_line_reason
-check_told s (Error number) = reason_unless (bytes_eq (last_line s.answer) (error_answer number))
+check_answer s (Error number) = reason_unless (bytes_eq (last_line s.answer) (error_answer number))
     (answer_reason s.answer)
-check_told s (Output raw) = reason_unless (is_spelling_of raw s.output)
+check_answer s (Output raw) = reason_unless (is_spelling_of raw s.output)
     (output_reason s.output)
-check_told s (Steps n) = reason_unless (s.steps == n) (steps_reason s.steps)
-check_told s (StepsAtMost n) = reason_unless (nat_le s.steps n) (steps_reason s.steps)
+check_answer s (Steps n) = reason_unless (s.steps == n) (steps_reason s.steps)
+check_answer s (StepsAtMost n) = reason_unless (nat_le s.steps n) (steps_reason s.steps)
 
--- a status with what a pattern tells; all else stays
+-- a status with what a pattern shows; all else stays
 abbrev pub status_after_pattern : StatusPattern → Psr → Psr
 status_after_pattern p s = record {
   negative = unwrap_or p.negative s.negative;

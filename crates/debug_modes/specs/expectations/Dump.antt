@@ -23,12 +23,14 @@ character_text b address = loaded_character (byte_loaded b address) ∷ []
 -- so many characters from an address on
 unfoldable pub characters_text : Bytes → ℕ → ℕ → List ℕ
 characters_text b address zero = []
-characters_text b address (suc count) = character_text b address ++ characters_text b (address_further address 1) count
+characters_text b address (suc count) = character_text b address ++ characters_text b
+    (address_further address 1) count
 
 -- `00009000: 48 65 61 70  Heap`
 abbrev pub dump_line : Bytes → ℕ → ℕ → List ℕ
 dump_line b address count = hex_word address
-    ++ (codes ":" ++ (bytes_text b address count ++ (codes "  " ++ (characters_text b address count ++ codes "\n"))))
+    ++ (codes ":" ++ (bytes_text b address count ++ (codes "  " ++
+    (characters_text b address count ++ codes "\n"))))
 
 -- so many lines, the last of them with what is left of the bytes
 unfoldable pub dump_lines : ℕ → Bytes → ℕ → ℕ → List ℕ

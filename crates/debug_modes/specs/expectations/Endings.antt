@@ -1,5 +1,5 @@
 -- What a guest printed in a line that takes steps: of the line's answer, what stands before its
--- ending, which tells how the steps ended. The answer is what was printed, and then its ending.
+-- ending, which says how the steps ended. The answer is what was printed, and then its ending.
 use Rattle.std.specs.Prelude.{ℕ, ◌==◌, ◌||◌, Bool, true, false, List, [], ◌∷◌, codes, drop, length, Option, Some, None, unwrap_or}
 use Rattle.std.specs.List.{starts_with}
 

@@ -1,2 +1,2 @@
--- What is told of lines that expect something and of refusals, and what stands after the last line.
+-- What is shown of lines that expect something and of refusals, and what stands after the last line.
 pub mod Reports

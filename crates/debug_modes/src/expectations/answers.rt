@@ -54,7 +54,7 @@ pub fn has_line_of_words(alloc: Global, text: &[u8], answer: &[u8]) -> Result<bo
     Ok(false)
 }
 
-/// Whether a line tells that a store call was refused with that error.
+/// Whether a line says that a store call was refused with that error.
 pub fn is_error_answer(number: u32, line: &[u8]) -> bool
     ensures { result ≡ bytes_eq line.now (error_answer number) }
 {

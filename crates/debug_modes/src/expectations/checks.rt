@@ -3,7 +3,7 @@
 ghost use Rattle.std.specs.Prelude.{◌≡◌, IfOk};
 ghost use Rattle.std.specs.Option.{option_map};
 ghost use Rattle.debug_lines.specs.Expectations.{expect_request_of};
-ghost use Rattle.debug_modes.specs.expectations.Checks.{check_told, reason_unless};
+ghost use Rattle.debug_modes.specs.expectations.Checks.{check_answer, reason_unless};
 ghost use Rattle.debug_modes.specs.expectations.Reasons.{reason_text, seen_on_machine};
 
 use crate::expectations::answers::{
@@ -67,7 +67,7 @@ pub fn check<'a>(
     expected: &Expectation<'_>,
 ) -> Result<Option<Mismatch<'a>>, AllocError>
     ensures { IfOk result (λ reason. option_map reason_text reason
-        ≡ check_told (seen_on_machine seen.entry) (expect_request_of expected.now)) }
+        ≡ check_answer (seen_on_machine seen.entry) (expect_request_of expected.now)) }
 {
     match *expected {
         Expectation::Answer(text) => seen.answer_reason(alloc, text),
@@ -99,7 +99,7 @@ impl<'a> SeenMachine<'a> {
 
     fn register_reason(self, register: RegisterNumber, value: u32) -> Option<Mismatch<'a>>
         ensures { option_map reason_text result
-            ≡ check_told (seen_on_machine self.entry) (Register register value) }
+            ≡ check_answer (seen_on_machine self.entry) (Register register value) }
     {
         let number = register.number();
         let found = self.machine.cpu().register(number);
@@ -107,7 +107,7 @@ impl<'a> SeenMachine<'a> {
     }
 
     fn pc_reason(self, value: u32) -> Option<Mismatch<'a>>
-        ensures { option_map reason_text result ≡ check_told (seen_on_machine self.entry) (Pc value) }
+        ensures { option_map reason_text result ≡ check_answer (seen_on_machine self.entry) (Pc value) }
     {
         let found = self.machine.cpu().pc();
         reason_unless(found == value, Mismatch::Pc(found))
@@ -115,7 +115,7 @@ impl<'a> SeenMachine<'a> {
 
     fn banked_reason(self, mode: Mode, register: RegisterNumber, value: u32) -> Option<Mismatch<'a>>
         ensures { option_map reason_text result
-            ≡ check_told (seen_on_machine self.entry) (Banked mode register value) }
+            ≡ check_answer (seen_on_machine self.entry) (Banked mode register value) }
     {
         let number = register.number();
         let found = self.machine.cpu().register_in(mode, number);
@@ -123,7 +123,7 @@ impl<'a> SeenMachine<'a> {
     }
 
     fn status_reason(self, pattern: StatusPattern) -> Option<Mismatch<'a>>
-        ensures { option_map reason_text result ≡ check_told (seen_on_machine self.entry) (Flags pattern) }
+        ensures { option_map reason_text result ≡ check_answer (seen_on_machine self.entry) (Flags pattern) }
     {
         let status = self.machine.cpu().psr();
         reason_unless(has_status(&pattern, status), Mismatch::Status(status))
@@ -131,7 +131,7 @@ impl<'a> SeenMachine<'a> {
 
     fn word_reason(self, address: WordAddress, value: u32) -> Option<Mismatch<'a>>
         ensures { option_map reason_text result
-            ≡ check_told (seen_on_machine self.entry) (Word address value) }
+            ≡ check_answer (seen_on_machine self.entry) (Word address value) }
     {
         let at = address.address();
         match self.machine.memory().load_word(at) {
@@ -142,7 +142,7 @@ impl<'a> SeenMachine<'a> {
 
     fn byte_reason(self, address: u32, value: u32) -> Option<Mismatch<'a>>
         ensures { option_map reason_text result
-            ≡ check_told (seen_on_machine self.entry) (Byte address value) }
+            ≡ check_answer (seen_on_machine self.entry) (Byte address value) }
     {
         match self.machine.memory().load_byte(address) {
             Ok(found) => reason_unless(
@@ -155,7 +155,7 @@ impl<'a> SeenMachine<'a> {
 
     fn answer_reason(self, alloc: Global, text: &[u8]) -> Result<Option<Mismatch<'a>>, AllocError>
         ensures { IfOk result (λ reason. option_map reason_text reason
-            ≡ check_told (seen_on_machine self.entry) (Answer text.now)) }
+            ≡ check_answer (seen_on_machine self.entry) (Answer text.now)) }
     {
         let line = last_line(self.answer);
         let is_so = is_line_of_words(alloc, text, line)?;
@@ -164,21 +164,21 @@ impl<'a> SeenMachine<'a> {
 
     fn line_reason(self, alloc: Global, text: &[u8]) -> Result<Option<Mismatch<'a>>, AllocError>
         ensures { IfOk result (λ reason. option_map reason_text reason
-            ≡ check_told (seen_on_machine self.entry) (Line text.now)) }
+            ≡ check_answer (seen_on_machine self.entry) (Line text.now)) }
     {
         let is_so = has_line_of_words(alloc, text, self.answer)?;
         Ok(reason_unless(is_so, Mismatch::NoLine))
     }
 
     fn error_reason(self, number: u32) -> Option<Mismatch<'a>>
-        ensures { option_map reason_text result ≡ check_told (seen_on_machine self.entry) (Error number) }
+        ensures { option_map reason_text result ≡ check_answer (seen_on_machine self.entry) (Error number) }
     {
         let line = last_line(self.answer);
         reason_unless(is_error_answer(number, line), Mismatch::Answer(line))
     }
 
     fn output_reason(self, raw: &[u8]) -> Option<Mismatch<'a>>
-        ensures { option_map reason_text result ≡ check_told (seen_on_machine self.entry) (Output raw.now) }
+        ensures { option_map reason_text result ≡ check_answer (seen_on_machine self.entry) (Output raw.now) }
     {
         reason_unless(is_spelt(raw, self.output), Mismatch::Output(self.output))
     }

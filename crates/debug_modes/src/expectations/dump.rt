@@ -5,7 +5,7 @@ ghost use Rattle.address_map.specs.Bytes.{byte_loaded};
 ghost use Rattle.address_map.specs.Memory.{bytes_of};
 ghost use Rattle.profile.specs.Output.{Writes};
 ghost use Rattle.debugger.specs.Memory.{byte_text, bytes_text};
-ghost use Rattle.debugger.specs.Parts.{state_of};
+ghost use Rattle.debugger.specs.GuestState.{state_of};
 ghost use Rattle.debug_modes.specs.expectations.Dump.{character_of, characters_text, dump_line, dump_text, loaded_character};
 
 use address_map::AddressMap;

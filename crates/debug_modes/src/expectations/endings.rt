@@ -9,7 +9,7 @@ use crate::expectations::reports::{ReportForm, push_answer};
 use profile::{Sink, WriteFault, push_all};
 
 /// What a guest printed in a line that takes steps, and how the steps ended, by the line's answer: what
-/// stands before the last place at which the end of steps is told, and what follows. None of the words
+/// stands before the last place at which the end of steps is shown, and what follows. None of the words
 /// that it begins with stands anywhere in it but at its beginning, so the first is all that was printed.
 #[tactic(auto, using(crate::proofs::ExpectationsLemmas::EndingLemmas::ending_behind))]
 pub fn answer_parts(answer: &[u8]) -> (&[u8], &[u8])
@@ -47,7 +47,7 @@ fn push_in_parts<W: Sink>(sink: &mut W, answer: &[u8]) -> Result<(), WriteFault>
     push_all(sink, ending)
 }
 
-// Where the last place is at which the end of steps is told; where it is told nowhere, after the
+// Where the last place is at which the end of steps is shown; where it is told nowhere, after the
 // answer.
 fn ending_place(answer: &[u8]) -> usize
     ensures inside { result ≤ length answer.now }
@@ -63,7 +63,7 @@ fn ending_place(answer: &[u8]) -> usize
     answer.len()
 }
 
-/// Whether a text begins as the end of steps is told: by a stop, by where the machine stands, or by
+/// Whether a text begins as the end of steps is shown: by a stop, by where the machine stands, or by
 /// how a call came back.
 pub fn begins_ending(text: &[u8]) -> bool
     ensures { result ≡ begins_ending text.now }

@@ -20,7 +20,7 @@ pub fn push_reason<W: Sink>(sink: &mut W, reason: &Mismatch<'_>) -> Result<(), W
         Mismatch::Register(number, value) => push_register(sink, number, value),
         Mismatch::Pc(value) => push_value(sink, b"PC", value),
         Mismatch::Banked(mode, number, value) => push_banked(sink, mode, number, value),
-        Mismatch::Status(status) => push_status_told(sink, status),
+        Mismatch::Status(status) => push_status_answer(sink, status),
         Mismatch::Word(address, Some(word)) => {
             push_place(sink, address, HexText::word(word).as_slice())
         }
@@ -95,7 +95,7 @@ fn push_steps<W: Sink>(sink: &mut W, count: u64) -> Result<(), WriteFault>
     )
 }
 
-fn push_status_told<W: Sink>(sink: &mut W, status: Psr) -> Result<(), WriteFault>
+fn push_status_answer<W: Sink>(sink: &mut W, status: Psr) -> Result<(), WriteFault>
     ensures { Writes W.contents W.has_failed sink.old sink.new result (status_reason status) }
 {
     push_all(sink, b"PSR is ")?;

@@ -1,4 +1,4 @@
-//! What is told of lines of a debugging script that expect something and of those that are refused, as
+//! What is shown of lines of a debugging script that expect something and of those that are refused, as
 //! answers or in the Test Anything Protocol, and what stands after the last line.
 #![tactic(auto)]
 

@@ -1,12 +1,12 @@
-//! A status beside a pattern of letters, which tells some of its parts.
+//! A status beside a pattern of letters, which shows some of its parts.
 
 ghost use Rattle.std.specs.Prelude.{◌≡◌, unwrap_or};
-ghost use Rattle.debug_modes.specs.expectations.Checks.{has_status, is_flag, is_mode, is_mode_told, status_after_pattern};
+ghost use Rattle.debug_modes.specs.expectations.Checks.{has_status, is_flag, is_mode, is_mode_answer, status_after_pattern};
 
 use arm_core::{Mode, Psr};
 use debug_lines::StatusPattern;
 
-/// Whether a status is as a pattern tells it.
+/// Whether a status is as a pattern shows it.
 pub fn has_status(pattern: &StatusPattern, status: Psr) -> bool
     ensures { result ≡ has_status pattern.now status }
 {
@@ -16,10 +16,10 @@ pub fn has_status(pattern: &StatusPattern, status: Psr) -> bool
         && is_flag(pattern.overflow, status.overflow)
         && is_flag(pattern.interrupts_off, status.interrupts_off)
         && is_flag(pattern.fast_interrupts_off, status.fast_interrupts_off)
-        && is_mode_told(pattern.mode, status.mode)
+        && is_mode_answer(pattern.mode, status.mode)
 }
 
-/// The status with what a pattern tells; all else stays.
+/// The status with what a pattern shows; all else stays.
 pub fn status_with(pattern: &StatusPattern, status: Psr) -> Psr
     ensures { result ≡ status_after_pattern pattern.now status }
 {
@@ -36,23 +36,23 @@ pub fn status_with(pattern: &StatusPattern, status: Psr) -> Psr
     }
 }
 
-// A flag, where the pattern tells it.
-fn is_flag(told: Option<bool>, flag: bool) -> bool
-    ensures { result ≡ is_flag told flag }
+// A flag, where the pattern shows it.
+fn is_flag(reported: Option<bool>, flag: bool) -> bool
+    ensures { result ≡ is_flag reported flag }
 {
-    match told {
+    match reported {
         None => true,
         Some(true) => flag,
         Some(false) => !flag,
     }
 }
 
-fn is_mode_told(told: Option<Mode>, mode: Mode) -> bool
-    ensures { result ≡ is_mode_told told mode }
+fn is_mode_answer(reported: Option<Mode>, mode: Mode) -> bool
+    ensures { result ≡ is_mode_answer reported mode }
 {
-    match told {
+    match reported {
         None => true,
-        Some(told) => is_mode(told, mode),
+        Some(reported) => is_mode(reported, mode),
     }
 }
 

@@ -1,6 +1,6 @@
 use Rattle.std.proofs.Common.{◌≡◌, ◌-◌}
 use Rattle.profile.specs.Output.{AddsAllBut}
-use Rattle.command_shell.specs.Parts.{state_of}
+use Rattle.command_shell.specs.GuestState.{state_of}
 use Rattle.debug_modes.specs.Counting.{counted_lines}
 use Rattle.debug_modes.proofs.counting.show_lines.Given as goal
 

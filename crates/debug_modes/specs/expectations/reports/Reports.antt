@@ -1,4 +1,4 @@
--- What is told of EXPECT lines and of refusals, as answers or in the Test Anything Protocol, and what
+-- What is shown of EXPECT lines and of refusals, as answers or in the Test Anything Protocol, and what
 -- stands after the last line.
 use Rattle.std.specs.Prelude.{ℕ, ◌+◌, ◌-◌, ◌^◌, min, ◌==◌, ◌&&◌, ◌||◌, Bool, true, false, List, [], ◌∷◌, ◌++◌, codes, if◌then◌else◌}
 use Rattle.std.specs.Fmt.{decimal}
@@ -43,10 +43,11 @@ abbrev pub tap_words : List ℕ → List ℕ
 tap_words [] = []
 tap_words (first ∷ rest) = codes " " ++ flat_map tap_byte_text (first ∷ rest)
 
--- `ok 1 - line 16 EXPECT R0 2`, where so many were told before
+-- `ok 1 - line 16 EXPECT R0 2`, where so many were shown before
 abbrev pub tap_line : List ℕ → ℕ → ℕ → List ℕ → List ℕ
 tap_line begin count number words =
-    begin ++ (decimal (count + 1) ++ (codes " - line " ++ (decimal number ++ (tap_words words ++ codes "\n"))))
+    begin ++ (decimal (count + 1) ++ (codes " - line " ++
+    (decimal number ++ (tap_words words ++ codes "\n"))))
 
 -- `# R1 is 00000000`
 abbrev pub tap_remark : List ℕ → List ℕ
@@ -68,7 +69,7 @@ fail_text Tap t number words reason =
 abbrev pub tap_remarks : List ℕ → List ℕ
 tap_remarks text = flat_map tap_remark (lines text)
 
--- a refusal, as the lines that tell it
+-- a refusal, as the lines that show it
 abbrev pub report_of_refusal : ReportForm → CheckTally → ℕ → List ℕ → List ℕ
 report_of_refusal Answers t number text = text
 report_of_refusal Tap t number text =
@@ -78,7 +79,7 @@ report_of_refusal Tap t number text =
 abbrev pub refused_words : ℕ → List ℕ
 refused_words n = if n == 0 then [] else codes ", " ++ (decimal n ++ codes " refused")
 
--- what a user is told of a block that lacks its line END, behind a text
+-- what a user is shown of a block that lacks its line END, behind a text
 abbrev pub missing_end_text : List ℕ → ℕ → List ℕ
 missing_end_text front begin = front ++ (NO_END.now ++ (decimal begin ++ BLOCK_GOES_ON.now))
 

@@ -1,4 +1,4 @@
-//! What is told of lines that expect something and of refusals, and what stands after the last line.
+//! What is shown of lines that expect something and of refusals, and what stands after the last line.
 
 ghost use Rattle.std.specs.Prelude.{◌≡◌, ◌++◌, codes};
 ghost use Rattle.std.specs.Fmt.{decimal};
@@ -10,7 +10,7 @@ use itoa::Buffer;
 use profile::text_lines::Lines;
 use profile::{Sink, WriteFault, push_all, push_parts};
 
-/// What is told of a block that lacks its line END stands before the line's number and behind it.
+/// What is shown of a block that lacks its line END stands before the line's number and behind it.
 pub const NO_END: &[u8] = b"no END: the block that begins at line ";
 /// See [`NO_END`].
 pub const BLOCK_GOES_ON: &[u8] = b" goes on up to a line END, or to the script's end\n";
@@ -144,7 +144,7 @@ pub fn push_fail<W: Sink>(
     }
 }
 
-/// Writes a refusal of the line of that number, as the lines that tell it.
+/// Writes a refusal of the line of that number, as the lines that show it.
 pub fn push_refusal<W: Sink>(
     sink: &mut W,
     form: ReportForm,

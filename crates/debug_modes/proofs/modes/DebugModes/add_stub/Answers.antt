@@ -2,15 +2,15 @@
 use Rattle.std.proofs.Common.{◌≡◌, ℕ, Ok, Err, ap, subst, ◌∙◌}
 use Rattle.std.specs.Prelude.{codes}
 use Rattle.profile.specs.Outcome.{Leaves}
-use Rattle.command_shell.specs.Parts.{state_of}
+use Rattle.command_shell.specs.GuestState.{state_of}
 use Rattle.debug_modes.specs.Changes.{change_text, stub_number, stub_with}
 use Rattle.debug_runs.specs.Stubs.{with_stub}
 use Rattle.debug_runs.specs.Stub.{Stub}
 use Rattle.debug_modes.proofs.ChangeLemmas.{on_err, stubs_changed, stubs_refused_if, stubs_stay}
 use Rattle.debug_modes.proofs.modes.DebugModes.add_stub.Goals as goal
 
-pub returns-in-Ok-clause-told : goal.returns-in-Ok-clause-told
-returns-in-Ok-clause-told c =
+pub returns-in-Ok-clause-reported : goal.returns-in-Ok-clause-reported
+returns-in-Ok-clause-reported c =
     let number : c.stub_number-number.result ≡ stub_number c.args.number = c.stub_number-number.ensures in
     let stub : c.stub_with.result ≡ stub_with (stub_number c.args.number) c.args.settings.now =
     c.stub_with.ensures ∙ ap (λ (n : ℕ). stub_with n c.args.settings.now) number in
@@ -22,8 +22,8 @@ returns-in-Ok-clause-told c =
     stub c.in-Ok.ensures)
     (c.in_ok-text.ensures ∙ ap (change_text (codes "stub")) number)
 
-pub returns-in-Err-clause-told : goal.returns-in-Err-clause-told
-returns-in-Err-clause-told c =
+pub returns-in-Err-clause-reported : goal.returns-in-Err-clause-reported
+returns-in-Err-clause-reported c =
     let number : c.stub_number-number.result ≡ stub_number c.args.number = c.stub_number-number.ensures in
     let stub : c.stub_with.result ≡ stub_with (stub_number c.args.number) c.args.settings.now =
     c.stub_with.ensures ∙ ap (λ (n : ℕ). stub_with n c.args.settings.now) number in

@@ -7,8 +7,8 @@ use Rattle.debug_runs.specs.Stubs.{without_stub}
 use Rattle.debug_modes.proofs.ChangeLemmas.{on_err, stubs_changed, stubs_refused_if, stubs_stay}
 use Rattle.debug_modes.proofs.modes.DebugModes.remove_stub.Goals as goal
 
-pub returns-in-Ok-clause-told : goal.returns-in-Ok-clause-told
-returns-in-Ok-clause-told c =
+pub returns-in-Ok-clause-reported : goal.returns-in-Ok-clause-reported
+returns-in-Ok-clause-reported c =
     let number : c.stub_number-number.result ≡ stub_number c.args.number = c.stub_number-number.ensures in
     stubs_changed c.args.self.now (change_text (codes "unstub") (stub_number c.args.number))
     (without_stub c.args.self.now.steps.stubs (stub_number c.args.number)) c.in-Ok.field-0 c.remove.new.self c.in_ok-text.text.items
@@ -16,8 +16,8 @@ returns-in-Ok-clause-told c =
     (Ok c.in-Ok.field-0) c.remove.new.self) number c.in-Ok.ensures)
     (c.in_ok-text.ensures ∙ ap (change_text (codes "unstub")) number)
 
-pub returns-in-Err-clause-told : goal.returns-in-Err-clause-told
-returns-in-Err-clause-told c =
+pub returns-in-Err-clause-reported : goal.returns-in-Err-clause-reported
+returns-in-Err-clause-reported c =
     let number : c.stub_number-number.result ≡ stub_number c.args.number = c.stub_number-number.ensures in
     stubs_refused_if c.args.self.now (change_text (codes "unstub") (stub_number c.args.number))
     (without_stub c.args.self.now.steps.stubs (stub_number c.args.number)) c.in-Err.error c.remove.new.self c.refused_line.result

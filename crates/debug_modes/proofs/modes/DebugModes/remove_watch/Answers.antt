@@ -6,15 +6,15 @@ use Rattle.debug_runs.specs.WordWatches.{without_word_watch}
 use Rattle.debug_modes.proofs.ChangeLemmas.{on_err, watches_changed, watches_refused_if, watches_stay}
 use Rattle.debug_modes.proofs.modes.DebugModes.remove_watch.Goals as goal
 
-pub returns-in-Ok-clause-told : goal.returns-in-Ok-clause-told
-returns-in-Ok-clause-told c =
+pub returns-in-Ok-clause-reported : goal.returns-in-Ok-clause-reported
+returns-in-Ok-clause-reported c =
     let address : c.address.result ≡ c.args.address = c.address.ensures.value in
     watches_changed c.args.self.now (change_text (codes "unwatch") c.args.address)
     (without_word_watch c.args.self.now.steps.watches c.args.address) c.in-Ok.field-0 c.remove.new.self c.in_ok-text.text.items c.in-Ok.ensures
     (c.in_ok-text.ensures ∙ ap (change_text (codes "unwatch")) address)
 
-pub returns-in-Err-clause-told : goal.returns-in-Err-clause-told
-returns-in-Err-clause-told c =
+pub returns-in-Err-clause-reported : goal.returns-in-Err-clause-reported
+returns-in-Err-clause-reported c =
     watches_refused_if c.args.self.now (change_text (codes "unwatch") c.args.address)
     (without_word_watch c.args.self.now.steps.watches c.args.address) c.in-Err.error c.remove.new.self c.refused_line.result
     c.name.result.now c.in-Err.ensures c.name.ensures c.refused_line.ensures
